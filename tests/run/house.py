@@ -39,7 +39,7 @@ PROOF_COLUMNS = 140
 NUMBERS = CRATES / "afdx_frame/src/tables.rt"
 # the functions, beside each `from`, that may name an AllocError or a fault's Memory as a value
 MEMORY = {
-    "crates/afdx/src/main.rt": {"memory"},
+    "crates/afdx/src/telling.rt": {"memory"},
     "crates/afdx_config/src/asked.rt": {"links_in"},
     "crates/afdx_config/src/read.rt": {"tree_of"},
     "crates/afdx_commands/src/refusing.rt": {"want_memory"},

@@ -4,12 +4,16 @@
 mod configs;
 mod devices;
 mod explaining;
+mod places;
 mod progress;
 mod running;
+mod telling;
 
 use crate::configs::{check_config, solve_tables};
 use crate::explaining::{Cause, explain, is_asked, line_of, print_lists, print_meaning};
+use crate::places::take_places;
 use crate::running::{Replaying, Run, run_inputs, run_sender};
+use crate::telling::{complain, end_with, memory, tell_text};
 use afdx_commands::status::{DONE, NO_DEVICE_OR_MEMORY, WRONG_WORDS};
 use afdx_explain::meaning_of;
 use afdx_replay::{CommandedRule, Policing, RunFault};
@@ -24,22 +28,6 @@ use std::process::ExitCode;
 
 /// The most bytes of a configuration.
 const LARGEST_CONFIG: u64 = 4_194_304;
-
-/// A line on standard error. There is nothing to be done where that fails too.
-fn complain(rt: &HostRuntime, line: &str) {
-    let _ = rt.eprintln(line);
-}
-
-/// A fault's one line on standard error, and its exit status.
-fn end_with(rt: &HostRuntime, fault: RunFault) -> u8 {
-    let status = fault.status();
-    let _ = rt.eprintln(fault);
-    status
-}
-
-fn memory(rt: &HostRuntime) -> u8 {
-    end_with(rt, RunFault::Memory)
-}
 
 /// What follows the line of a fault, if that is asked for.
 fn explain_if_asked(rt: &HostRuntime, matches: &ArgMatches<'_>, line: &str, cause: &Cause<'_>) {
@@ -205,11 +193,11 @@ fn answer_refusal(rt: &HostRuntime, refusal: &Error) -> u8 {
     if refusal.kind() == ErrorKind::OutOfMemory {
         return memory(rt);
     }
-    let printed = refusal.print(rt);
-    if refusal.exit_code() != 0 {
+    if refusal.use_stderr() {
+        tell_text(rt, refusal);
         return WRONG_WORDS;
     }
-    if printed.is_err() {
+    if refusal.print(rt).is_err() {
         return end_with(rt, RunFault::Write);
     }
     DONE
@@ -224,6 +212,10 @@ fn run_words(rt: &HostRuntime, given: &[String]) -> Result<u8, AllocError> {
 }
 
 fn main(rt: HostRuntime) -> ExitCode {
+    let _places = match take_places(&rt) {
+        Ok(places) => places,
+        Err(fault) => return ExitCode::from(end_with(&rt, fault)),
+    };
     let given = match std::env::args(&rt) {
         Ok(given) => given,
         Err(error) if error.kind() == std::io::ErrorKind::OutOfMemory => {

@@ -5,7 +5,8 @@ ghost use Rattle.std.specs.Prelude.{◌≡◌, false};
 use crate::devices::{Heard, Input, Traced, name_of_input};
 use crate::explaining::Cause;
 use crate::progress::{Cleared, Count, Counted, is_told};
-use crate::{complain, explain_if_asked, memory, no_file};
+use crate::telling::{complain, error_lines, memory};
+use crate::{explain_if_asked, no_file};
 use afdx_commands::status::{DONE, WRONG_WORDS};
 use afdx_frame::BySide;
 use afdx_inputs::Arrivals;
@@ -14,9 +15,10 @@ use afdx_replay::{
     Sink, Watched, finish, list_and_count, list_pair_and_count, police_input, replay_input,
     send_and_count,
 };
+use afdx_text::WholeLines;
 use afdx_words::{Refused, pair_options, recording_options};
 use clap::ArgMatches;
-use std::io::{IsTerminal, LineWriter, Read, Stderr, Write};
+use std::io::{IsTerminal, Read, Stderr, Write};
 
 const OUTPUT_BUFFER: usize = 65_536;
 
@@ -119,18 +121,12 @@ fn refuse(rt: &HostRuntime, matches: &ArgMatches<'_>, refused: Refused) -> u8 {
     WRONG_WORDS
 }
 
-/// Where lines go that tell of frames that came too early, if they are asked for. Err: the status
-/// where there is no memory for one.
-fn early_lines(
-    rt: &HostRuntime,
-    are_asked: bool,
-) -> Result<Option<Watched<LineWriter<Stderr>>>, u8> {
-    if !are_asked {
-        return Ok(None);
-    }
-    match LineWriter::new(rt.alloc(), rt.stderr()) {
-        Ok(early) => Ok(Some(Watched::new(early))),
-        Err(_) => Err(memory(rt)),
+/// Where lines go that tell of frames that came too early, if they are asked for.
+fn early_lines(rt: &HostRuntime, are_asked: bool) -> Option<Watched<WholeLines<Stderr>>> {
+    if are_asked {
+        Some(Watched::new(error_lines(rt)))
+    } else {
+        None
     }
 }
 
@@ -186,7 +182,7 @@ fn ended_of(listed: ListEnded) -> InputEnded {
     }
 }
 
-/// Makes the run over what an input gives, or gives the status where there is none.
+/// Makes the run over what an input gives.
 fn run_over<P: Drop, A: Recordings<P>, O: Sink, E: Write>(
     rt: &HostRuntime,
     run: &Run<'_>,
@@ -194,14 +190,14 @@ fn run_over<P: Drop, A: Recordings<P>, O: Sink, E: Write>(
     input: &mut A,
     lines: &mut O,
     faults: &mut Watched<E>,
-) -> Result<InputEnded, u8>
+) -> InputEnded
     requires new { A.IsNew input.old }
     requires sound_output { O.failed lines.old ≡ false }
 {
     match run {
-        Run::Police(rule) => { Ok(police_input(rt.alloc(), options, rule, input, lines, faults)) }
+        Run::Police(rule) => { police_input(rt.alloc(), options, rule, input, lines, faults) }
         Run::Replay(replaying) => {
-            let early = early_lines(rt, replaying.explains_drops)?;
+            let early = early_lines(rt, replaying.explains_drops);
             let (admission, config) = (replaying.admission, replaying.config);
             let ended = replay_input(
                 rt.alloc(),
@@ -213,9 +209,9 @@ fn run_over<P: Drop, A: Recordings<P>, O: Sink, E: Write>(
                 faults,
                 early,
             );
-            Ok(ended.0)
+            ended.0
         }
-        Run::List { config } => Ok(ended_of(input.list(rt, options, config, lines, faults))),
+        Run::List { config } => ended_of(input.list(rt, options, config, lines, faults)),
     }
 }
 
@@ -240,11 +236,8 @@ fn run_one(
     let count = Count::new(rt, told);
     let device = Traced::new(Counted::new(&count, input));
     let mut input = Watched::new(Peeked::new(device));
-    let mut errors = Watched::new(Heard::new(Cleared::new(rt, told, rt.stderr())));
-    let ended = match run_over(rt, run, options, &mut input, &mut output, &mut errors) {
-        Ok(ended) => ended,
-        Err(status) => return status,
-    };
+    let mut errors = Watched::new(Heard::new(Cleared::new(rt, told, error_lines(rt))));
+    let ended = run_over(rt, run, options, &mut input, &mut output, &mut errors);
     let read = Cause {
         config: run.config(),
         path: name_of_input(list),
@@ -296,11 +289,8 @@ fn run_two(
         a: Watched::new(Traced::new(Counted::new(&count, inputs.a))),
         b: Watched::new(Traced::new(Counted::new(&count, inputs.b))),
     };
-    let mut errors = Watched::new(Heard::new(Cleared::new(rt, told, rt.stderr())));
-    let ended = match run_over(rt, run, options, &mut inputs, &mut output, &mut errors) {
-        Ok(ended) => ended,
-        Err(status) => return status,
-    };
+    let mut errors = Watched::new(Heard::new(Cleared::new(rt, told, error_lines(rt))));
+    let ended = run_over(rt, run, options, &mut inputs, &mut output, &mut errors);
     let read = cause_in(run.config(), lists, inputs);
     end_run(rt, matches, ended, read, output, errors)
 }
@@ -348,7 +338,7 @@ pub fn run_sender(
     let told = is_told(rt, matches);
     let count = Count::new(rt, told);
     let mut input = Watched::new(Traced::new(Counted::new(&count, input)));
-    let mut errors = Watched::new(Heard::new(Cleared::new(rt, told, rt.stderr())));
+    let mut errors = Watched::new(Heard::new(Cleared::new(rt, told, error_lines(rt))));
     let ended = InputEnded {
         ended: send_and_count(
             rt.alloc(),

@@ -47,7 +47,8 @@ TakesRecorded whole AreCut past (Err fault) =
 -- of a list of these bytes, after which the input has `rest`
 abbrev pub TakesListed : List ℕ → (rest : Option (List ℕ)) → List Arrival →
     Result InputCount RunFault → Type 0
-TakesListed bytes rest past (Ok (count.Lines n)) = IsDone frames (λ all. all ≡ past) n (lines_of bytes)
+TakesListed bytes rest past (Ok (count.Lines n)) =
+    IsDone frames (λ all. all ≡ past) n (lines_of bytes)
 TakesListed bytes rest past (Ok (count.Recorded tally)) = ⊥
 TakesListed bytes rest past (Err fault) =
     StopsAt (λ all. all ≡ past) (λ all. all ≡ past) bytes rest fault

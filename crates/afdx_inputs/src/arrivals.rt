@@ -86,7 +86,8 @@ pub trait Arrivals<P>: Input {
             (O.written output.old) (O.written output.old) [] →
             IfSome (known self.old) (λ bytes. (items : List (Item Head))
             × Takes options (ports_unsaid unsaid.entry) bytes self.new (arrivals_of items) result
-            × By result (M.Done rules machine.new (O.written output.old) (O.written output.new) items)
+            × By result
+            (M.Done rules machine.new (O.written output.old) (O.written output.new) items)
             (M.Told rules machine.new (O.written output.old) (O.written output.new) items)
             (M.Told rules machine.new (O.written output.old) (O.written output.new) items
             ⊎ M.Begins rules machine.new (O.written output.old) (O.written output.new) items)) };

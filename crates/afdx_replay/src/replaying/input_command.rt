@@ -24,11 +24,11 @@ use std::io::Write;
 ///
 /// Nothing of the input is read before the tables are taken. Of one input the first four bytes are
 /// looked at then, in at most four reads: it is a recording if it begins as one; if an option of
-/// recordings is given, it has to be. Two have to be recordings; their arrivals come in the order of
-/// their moments, that of A first where two have the same, and each on the side of its network.
+/// recordings is given, it has to be. Two have to be recordings; their arrivals come in the order
+/// of their moments, that of A first where two have the same, and each on the side of its network.
 ///
-/// Where `early` is a device it is told, in a line each, by how much frames came too early that were
-/// dropped for their link's rate. It is handed back.
+/// Where `early` is a device it is told, in a line each, by how much frames came too early that
+/// were dropped for their link's rate. It is handed back.
 ///
 /// The exit status is 0 done, 1 a fault of the configuration or tables that are not admitted, 3 a
 /// fault of the list or a recording, 4 a device or memory.
