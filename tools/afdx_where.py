@@ -9,7 +9,7 @@ from afdx_counting import Counting
 from afdx_recorded import BILLION, Recording
 from afdx_running import Source
 from afdx_tables import Row
-from afdx_words import shown
+from afdx_tools import LONGEST_NAME, cut
 
 TABLES = ("silences", "dropped", "latency", "frames", "sides", "skews", "early_frames", "troubles")
 SHOWN = ("frames", "early_frames", "troubles")  # whose rows say it in columns of their own
@@ -83,8 +83,9 @@ class Where:
             if recording.has_interfaces:
                 for frame in recording.frames(numbers):
                     if frame.stamp is not None:
-                        name = shown(frame.interface.name.decode("utf-8", "surrogateescape"))
-                        self.found[side, frame.number] = frame.place, name, frame.stamp
+                        name = frame.interface.name.decode("utf-8", "surrogateescape")
+                        where = frame.place, cut(name, LONGEST_NAME), frame.stamp
+                        self.found[side, frame.number] = where
             elif self.time_0 is not None:
                 for number in numbers:
                     line = lines[side, number]
