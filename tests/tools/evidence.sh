@@ -89,11 +89,25 @@ where_tests() {
     )"
     launch tools/afdx-report --stamps start --reorder 100 examples/network.toml "$proof/A.pcap" \
         --out "$proof/starts"
-    tell 'and of a pcap, which is not read for them' "$(
+    tell 'also in a pcap' "$(
         is_status 0
         as_in_tshark starts '' "$proof/A.pcap"
         wants_number "$proof/starts/report.json" \
             '[row["stamp"] for row in r["troubles"]] != [] and r["troubles"][0]["interface"]' 0
+    )"
+    {
+        echo "R 0 A 1 $(frame_of A 0)$(printf '00%.0s' {1..2000})"
+        echo "F 9000000 A 1 $(frame_of A 1)"
+    } >"$proof/giant.list"
+    capture pcap --origin 1764210600123456789 "$proof/giant.list" "$proof/giant.pcap"
+    launch tools/afdx-report --stamps start examples/base.toml "$proof/giant.pcap" \
+        --out "$proof/giant"
+    tell 'a frame of which the list has not all bytes' "$(
+        is_status 0
+        wants_number "$proof/giant/report.json" \
+            '[row["epoch"] for row in r["where"]], r["run"]["time_0"]' \
+            "(['1764210600.123456789', '1764210600.132456789'], \
+'2025-11-27 02:30:00.123621589 UTC')"
     )"
 }
 
