@@ -3,10 +3,13 @@ interface and stamp, and what the program says of it as its comments."""
 from __future__ import annotations
 
 import contextlib
+import heapq
 import struct
 import subprocess
 import tempfile
 from dataclasses import dataclass, field
+from itertools import starmap
+from operator import itemgetter
 from typing import BinaryIO, Iterable, Iterator
 
 from afdx_reading import read_config
@@ -18,6 +21,7 @@ from afdx_words import Failed
 SIDES = ("A", "B")
 LINK = b"\x03\0\0\0"  # a destination address of a link begins with it
 COMMENT = 1  # an option of a frame
+LONGEST = 65_535  # bytes of an option
 Key = tuple[str, int]  # a side, empty where there is one recording, and a number
 
 
@@ -169,18 +173,16 @@ def of_side(options: list[str], side: str, recording: Recording) -> list[str]:
 # ---- the frames ----------------------------------------------------------------------------------
 
 
-def merged(recordings: dict[str, Recording]) -> Iterator[tuple[str, Frame]]:
-    """The frames of all recordings, each with its side; of two those that were stamped earlier
-    come first, each recording in its own order."""
-    frames = {side: recording.frames() for side, recording in recordings.items()}
-    heads = {side: next(each, None) for side, each in frames.items()}
-    while any(heads.values()):
-        stamps = {side: frame.stamp or 0 for side, frame in heads.items() if frame}
-        side = min(stamps, key=lambda side: (stamps[side], side))
-        frame = heads[side]
-        assert frame is not None
-        yield side, frame
-        heads[side] = next(frames[side], None)
+def frames_of(side: str, recording: Recording) -> Iterator[tuple[int, str, Frame]]:
+    """The frames of a recording, each behind its stamp and its side."""
+    for frame in recording.frames():
+        yield frame.stamp or 0, side, frame
+
+
+def merged(recordings: dict[str, Recording]) -> Iterator[tuple[int, str, Frame]]:
+    """The frames of all recordings; of two those that were stamped earlier come first, each
+    recording in its own order."""
+    return heapq.merge(*starmap(frames_of, recordings.items()), key=itemgetter(0))
 
 
 class Copied:
@@ -189,8 +191,9 @@ class Copied:
 
     def __init__(self, file: BinaryIO, is_pair: bool) -> None:
         self.file, self.is_pair = file, is_pair
-        self.numbers: dict[tuple[str, int, int], int] = {}
-        self.section = 0
+        # of the interfaces of each section of each recording the numbers here
+        self.numbers: dict[tuple[str, int], list[int]] = {}
+        self.section = self.described = 0
         self.begin()
 
     def block(self, kind: int, body: bytes) -> None:
@@ -201,7 +204,7 @@ class Copied:
 
     def begin(self) -> None:
         """The next section, by this tool."""
-        self.section += 1
+        self.section, self.described = self.section + 1, 0
         self.numbers.clear()
         head = struct.pack("<IHHq", 0x1A2B3C4D, 1, 0, -1)
         self.block(0x0A0D0D0A, head + option(WRITER_CODE, WRITER) + option(0, b""))
@@ -209,7 +212,7 @@ class Copied:
     def describe(self, side: str, interface: Interface) -> None:
         """An interface: its name, with the side where there are two recordings."""
         name = b" ".join(part for part in (side.encode(), interface.name) if part)
-        options = option(NAME, name) if name else b""
+        options = option(NAME, name[:LONGEST]) if name else b""
         options += option(RESOLUTION, bytes([interface.resolution]))
         if interface.check_sequence is not None:
             options += option(CHECK_SEQUENCE, bytes([interface.check_sequence]))
@@ -220,12 +223,12 @@ class Copied:
 
     def number_of(self, side: str, frame: Frame) -> int:
         """The number of a frame's interface, which is described with all that are known by now."""
-        for number, interface in enumerate(frame.interfaces):
-            key = side, frame.section, number
-            if key not in self.numbers:
-                self.numbers[key] = len(self.numbers)
-                self.describe(side, interface)
-        return self.numbers[side, frame.section, frame.place]
+        known = self.numbers.setdefault((side, frame.section), [])
+        for interface in frame.interfaces[len(known) :]:
+            known.append(self.described)
+            self.described += 1
+            self.describe(side, interface)
+        return known[frame.place]
 
     def write(self, side: str, frame: Frame, said: list[bytes]) -> None:
         """A frame with its own options, and with the lines of the program as comments; a block that
@@ -286,7 +289,7 @@ def annotated(
     why, file = Reasons(found), Copied(out, len(paths) > 1)
     with lines_of(words) as lines:
         followed = Followed(config, lines, len(paths) > 1)
-        for side, frame in merged(recordings):
+        for _, side, frame in merged(recordings):
             if arrivals.has(side, frame.number):
                 said = followed.of((side, frame.number), frame.content)
             else:

@@ -167,6 +167,20 @@ odd_tests() {
                 <(fields_of "$said/$name.said.pcapng" frame.section_number frame.interface_name)
         )"
     done
+    capture pcap --origin 1700000000000500000 "$said/left.list" "$said/later.pcap"
+    launch tools/afdx-capture annotate "$config" "$said/sections.pcapng" "$said/later.pcap" \
+        "$said/merged.pcapng"
+    tell 'two recordings, of which one has two sections' "$(
+        is_status 0
+        fields_of "$said/merged.pcapng" frame.interface_id frame.interface_name frame.time_epoch \
+            >"$work/got"
+        printf '%s\t%s\t1700000000.00%s\n' 0 'A eth0' 0000000 2 B 0500000 1 'A eth1' 1000000 \
+            2 B 1500000 3 'A eth2' 2000007 2 B 2500000 2 B 3500000 2 B 4500000 >"$work/wanted"
+        same "$work/wanted" "$work/got"
+    )"
+    launch tools/afdx-capture annotate "$config" "$said/long.pcapng" "$said/later.pcap" \
+        "$said/long.said.pcapng"
+    tell 'and one with a name of 65,535 bytes' "$(is_status 0)"
     cp "$said/left.pcap" "$said/"$'-a\n\xff.pcap'
     launch env -C "$said" "$top/tools/afdx-capture" annotate "$top/$config" -- $'-a\n\xff.pcap' \
         -o.pcapng

@@ -6,7 +6,7 @@ FOLDER/big.pcapng   high byte first, two interfaces with times in ns and in 2^-2
                     5 s on both, 4 bytes of check sequence said by one
 FOLDER/sections.pcapng  two sections, whose interfaces have other names and units; frames with
                         comments, flags and a drop count
-FOLDER/long.pcapng  an interface with a name of 60,000 bytes
+FOLDER/long.pcapng  an interface with a name of 65,535 bytes
 FOLDER/big.pcap     high byte first, times in us
 FOLDER/cut.pcap     the second frame was cut
 FOLDER/wifi.pcap    not Ethernet
@@ -118,7 +118,7 @@ def main() -> None:
         "big.pcapng": pcapng(frame),
         "sections.pcapng": sections(frame),
         "long.pcapng": section()
-        + interface(option(2, b"<\x1b>" * 20_000))
+        + interface(option(2, b"<\x1b>" * 21_845))
         + packet(0, SECOND * 10**6, frame),
         "big.pcap": pcap(frame, 1, len(frame)),
         "cut.pcap": pcap(frame, 1, 60),
