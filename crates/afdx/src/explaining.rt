@@ -204,7 +204,7 @@ fn tell_device(rt: &HostRuntime, line: &str, cause: &Cause<'_>) {
     };
     match &cause.reason {
         Some(reason) if path == INPUT_NAME && reason.kind() == ErrorKind::IsADirectory => {
-            tell_text(rt, &format_args!("{path}: closed, or a directory\n"));
+            tell_text(rt, &format_args!("{path}: {reason}, or closed\n"));
         }
         Some(reason) => {
             tell_text(rt, &format_args!("{path}: {reason}\n"));
