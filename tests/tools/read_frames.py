@@ -21,7 +21,7 @@ sys.dont_write_bytecode = True
 HERE = os.path.dirname(os.path.abspath(__file__))
 sys.path[:0] = [os.path.join(HERE, "..", where) for where in ("../tools", "lib", "recordings")]
 import afdx_recorded  # noqa: E402
-from afdx_annotated import Copied  # noqa: E402
+from afdx_annotated import MOST_LINK_TYPE, Copied  # noqa: E402
 from made_recordings import made, mutated  # noqa: E402
 from recorded import Frame, is_recording, recorded  # noqa: E402
 
@@ -53,12 +53,16 @@ def copied(frames: list[afdx_recorded.Frame]) -> bytes:
     return out.getvalue()
 
 
-def unstamped(frame: Frame | None, other: Frame | None) -> Frame | None:
-    """A frame; without a stamp where the other one has none, and with a wrong one where the other
-    has that."""
-    if frame is None or other is None or other.in_range:
+def unsaid(frame: Frame | None, other: Frame | None) -> Frame | None:
+    """A frame of a copy, with what no copy says as the other one has it: that there is no stamp, or
+    a wrong one; a link type that only a pcap can have."""
+    if frame is None or other is None:
         return frame
-    return frame._replace(stamp=None if other.stamp is None else frame.stamp, in_range=False)
+    link_type = other.link_type if frame.link_type == MOST_LINK_TYPE else frame.link_type
+    if other.in_range:
+        return frame._replace(link_type=link_type)
+    stamp = None if other.stamp is None else frame.stamp
+    return frame._replace(link_type=link_type, stamp=stamp, in_range=False)
 
 
 def fault_of(data: bytes, path: str, chance: random.Random) -> tuple[str, bool]:
@@ -83,7 +87,7 @@ def fault_of(data: bytes, path: str, chance: random.Random) -> tuple[str, bool]:
         return "" if wanted.fault else f"{len(frames)} frames, wanted {count}", False
     again = recorded(copied(frames))
     pairs = zip(again.numbers, wanted.numbers)
-    if again.fault or [unstamped(*pair) for pair in pairs] != wanted.numbers:
+    if again.fault or [unsaid(*pair) for pair in pairs] != wanted.numbers:
         return f"the copy says otherwise {again.fault}", False
     return "", True
 
