@@ -28,7 +28,8 @@ case_of 'a line feed is none of a line' 2 '' $'words UnknownText\n' explain $'me
 case_of 'an empty text' 2 '' $'words UnknownText\n' explain ''
 for line in ' ' 'config' 'config Twice link 1 key 7' 'config Missing link x key 7' \
     'config Missing link  key 7' 'config Missing link 1 key 7 ' ' config Missing link 1 key 7' \
-    'list BadHex' 'V 7 C drop over-rate' 'V 7 A drop overrate' '# 1 S6' 'n' '*' 'no|admit A1 3'; do
+    'list BadHex x' 'list over-rate' 'recording BadHex' 'BadHex 1' 'V 7 C drop over-rate' \
+    'V 7 A drop overrate' '# 1 S6' 'n' '*' 'no|admit A1 3'; do
     case_of "no line of the program: '$line'" 2 '' $'words UnknownText\n' explain "$line"
 done
 for line in 'recording Ended 4 C' 'recording Ended 4 A B' 'recording Ended A' 'recording Ended 4A' \
@@ -41,6 +42,12 @@ tell 'a fault is explained alike for each of two recordings' "$(
         [[ $("$program" explain recording Damaged 4 $side) == "$meant" ]] || echo "not for $side"
     done
 )"
+for name in OutOfRange 'config OutOfRange' TooManyLines BadHex 'list BadHex' 'recording Cut' \
+    NotToml NotText 'device Read' Config; do
+    text_case "the name of a fault: '$name'" 0 out ' ' explain "$name"
+done
+text_case 'a name of two faults' 0 out "'recording TimeBack'" explain TimeBack
+text_case 'the other fault of this name' 0 out 'arrivals in front' explain recording TimeBack
 text_case 'help of explain' 0 out 'afdx explain over-rate' explain --help
 text_case 'each word' 0 out 'drop over-rate' explain --list
 text_case 'neither a text nor each word' 2 err 'TEXT' explain

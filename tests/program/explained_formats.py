@@ -124,6 +124,30 @@ def wanted_of_recordings(texts: str) -> list[tuple[str, list[str]]]:
     return [*wanted, (SKIPPED_LINE, [meaning for _, meaning in counts])]
 
 
+def wanted_of_list(texts: str) -> list[tuple[str, list[str]]]:
+    """The lines of `list`, with what each stands for."""
+    wanted = []
+    for number, lines in rows_below("| Number | Line |", texts):
+        for kind in re.findall("`([RFB]) ", lines):
+            says = number if kind != "B" else "found wrong"
+            wanted += [(f"{kind} 6720 {side} 3 0300", [says]) for side in "AB"]
+    return wanted
+
+
+def wanted_names(lines: list[tuple[str, list[str]]]) -> list[tuple[str, list[str]]]:
+    """The names of faults, without a place or a number, of their whole lines; alone not those that
+    an earlier list has too."""
+    earlier = [("recording", "TimeBack"), ("recording", "TimeTooLarge"), ("config", "NoSuchSystem")]
+    wanted = []
+    for line, says in lines:
+        kind, *rest = line.split()
+        if kind in ("words", "device", "list", "recording", "config") and rest:
+            wanted.append((f"{kind} {rest[0]}", says[:1]))
+            if (kind, rest[0]) not in earlier:
+                wanted.append((rest[0], says[:1]))
+    return wanted
+
+
 def wanted_besides(texts: str) -> list[tuple[str, list[str]]]:
     """A line of `check` with its columns; letters and `accept`, alone; a receiver's line with the
     words that can't come in a replay; and what has no row."""
@@ -186,7 +210,9 @@ def faults(program: str) -> list[str]:
     texts = FORMATS.read_text(encoding="utf-8")
     found = []
     wanted = wanted_answers(texts) + wanted_besides(texts) + wanted_keys(texts)
-    for line, says in wanted + (wanted_of_recordings(texts) if READS else []):
+    wanted += wanted_of_list(texts)
+    names = wanted_names([row for row in wanted if can_come(row[0])])
+    for line, says in wanted + names + (wanted_of_recordings(texts) if READS else []):
         says = [] if line in UNKNOWN else says
         said = answer(program, line)
         if not can_come(line):

@@ -91,7 +91,7 @@ full_case() { # NAME STATUS ERR WORD..
     )"
 }
 
-for part in police check replay words explain send solve; do
+for part in police check replay words explain send solve standard_streams; do
     source "$top/tests/program/$part.sh"
 done
 

@@ -2,8 +2,9 @@
 
 use crate::devices::{Heard, Traced};
 use crate::explaining::Cause;
+use crate::telling::error_lines;
 use crate::{explain_if_asked, read_config};
-use afdx_replay::status::DONE;
+use afdx_commands::status::DONE;
 use afdx_replay::{CheckOptions, KeptKeys, SolveOptions, Watched, check_lines, solve_config};
 use clap::ArgMatches;
 use std::io::Write;
@@ -43,7 +44,7 @@ pub fn check_config(rt: &HostRuntime, matches: &ArgMatches<'_>) -> u8 {
     };
     let config = config.as_slice();
     let mut output = Watched::new(Heard::new(Traced::new(rt.stdout())));
-    let mut errors = Watched::new(Heard::new(rt.stderr()));
+    let mut errors = Watched::new(Heard::new(error_lines(rt)));
     let options = CheckOptions {
         all: matches.get_flag("all"),
         margins: matches.get_flag("margins"),
@@ -71,7 +72,7 @@ pub fn solve_tables(rt: &HostRuntime, matches: &ArgMatches<'_>) -> u8 {
     };
     let config = config.as_slice();
     let mut output = Watched::new(Heard::new(Traced::new(rt.stdout())));
-    let mut errors = Watched::new(Heard::new(rt.stderr()));
+    let mut errors = Watched::new(Heard::new(error_lines(rt)));
     let options = SolveOptions {
         kept: kept_keys(matches),
         raise_only: matches.get_flag("raise-only"),

@@ -5,10 +5,13 @@ use std::fs::File;
 use std::io;
 use std::io::{Read, Stdin, Write};
 
+/// What a person is told of standard input.
+pub const INPUT_NAME: &str = "standard input";
+
 /// What a person is told of the input that a word names.
 pub fn name_of_input(word: &str) -> &str {
     if word == STANDARD_INPUT {
-        return "standard input";
+        return INPUT_NAME;
     }
     word
 }

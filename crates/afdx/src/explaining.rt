@@ -1,18 +1,20 @@
 //! Explanations: the command `explain`, and what follows the line of a fault with `--explain`.
 
+use crate::devices::INPUT_NAME;
+use crate::telling::tell_text;
 use afdx_admit::ADMISSION;
-use afdx_arrivals::SKIPPED;
 use afdx_config::{CONFIG_FAULTS, Key, LINK_KEYS, PORT_KEYS, SYSTEM_KEYS, TOP_KEYS, UNKNOWN_KEYS};
 use afdx_explain::{FAULTS, LINES, kind_of, meaning_of};
 use afdx_frame::{IP_FAULTS, MAC_FAULTS};
 use afdx_lists::{RECORDING_FAULTS, RUN_FAULTS};
 use afdx_police::REASONS;
 use afdx_receive::DROP_REASONS;
+use afdx_recorded::SKIPPED;
 use afdx_send::SEND_FAULTS;
 use clap::ArgMatches;
 use std::alloc::{AllocError, Global};
 use std::io;
-use std::io::IsTerminal;
+use std::io::{ErrorKind, IsTerminal};
 
 /// What the program knows of a fault beside its line: the bytes of the configuration, and the path
 /// of a device and why it failed.
@@ -190,7 +192,7 @@ pub fn print_lists(rt: &HostRuntime) -> io::Result<()> {
 /// Where a configuration stops being TOML, and why.
 fn tell_place(rt: &HostRuntime, config: &[u8]) {
     if let Err(error) = toml::table_from_slice(rt.alloc(), config) {
-        let _ = rt.eprint(error);
+        tell_text(rt, &error);
     }
 }
 
@@ -201,11 +203,14 @@ fn tell_device(rt: &HostRuntime, line: &str, cause: &Cause<'_>) {
         _ => cause.path,
     };
     match &cause.reason {
+        Some(reason) if path == INPUT_NAME && reason.kind() == ErrorKind::IsADirectory => {
+            tell_text(rt, &format_args!("{path}: closed, or a directory\n"));
+        }
         Some(reason) => {
-            let _ = eprintln!(rt; "{path}: {reason}");
+            tell_text(rt, &format_args!("{path}: {reason}\n"));
         }
         None => {
-            let _ = eprintln!(rt; "{path}");
+            tell_text(rt, &format_args!("{path}\n"));
         }
     }
 }

@@ -4,17 +4,18 @@
 mod configs;
 mod devices;
 mod explaining;
-mod pair_running;
+mod places;
 mod progress;
 mod running;
+mod telling;
 
 use crate::configs::{check_config, solve_tables};
 use crate::explaining::{Cause, explain, is_asked, line_of, print_lists, print_meaning};
-use crate::pair_running::{PairRun, run_pair};
-use crate::running::{Replaying, Run, run_list};
+use crate::places::take_places;
+use crate::running::{Replaying, Run, run_inputs, run_sender};
+use crate::telling::{complain, end_with, memory, tell_text};
+use afdx_commands::status::{DONE, NO_DEVICE_OR_MEMORY, WRONG_WORDS};
 use afdx_explain::meaning_of;
-use afdx_frame::BySide;
-use afdx_replay::status::{DONE, NO_DEVICE_OR_MEMORY, WRONG_WORDS};
 use afdx_replay::{CommandedRule, Policing, RunFault};
 use afdx_words::afdx_command;
 use clap::error::ErrorKind;
@@ -27,22 +28,6 @@ use std::process::ExitCode;
 
 /// The most bytes of a configuration.
 const LARGEST_CONFIG: u64 = 4_194_304;
-
-/// A line on standard error. There is nothing to be done where that fails too.
-fn complain(rt: &HostRuntime, line: &str) {
-    let _ = rt.eprintln(line);
-}
-
-/// A fault's one line on standard error, and its exit status.
-fn end_with(rt: &HostRuntime, fault: RunFault) -> u8 {
-    let status = fault.status();
-    let _ = rt.eprintln(fault);
-    status
-}
-
-fn memory(rt: &HostRuntime) -> u8 {
-    end_with(rt, RunFault::Memory)
-}
 
 /// What follows the line of a fault, if that is asked for.
 fn explain_if_asked(rt: &HostRuntime, matches: &ArgMatches<'_>, line: &str, cause: &Cause<'_>) {
@@ -108,11 +93,18 @@ fn commanded_rule(matches: &ArgMatches<'_>) -> Option<CommandedRule> {
     })
 }
 
+/// The status with which a run ended, or why there was none.
+fn ended(status: Result<u8, u8>) -> u8 {
+    match status {
+        Ok(status) | Err(status) => status,
+    }
+}
+
 fn police_list(rt: &HostRuntime, matches: &ArgMatches<'_>) -> u8 {
     let (Some(list), Some(rule)) = (matches.get_str("LIST"), commanded_rule(matches)) else {
         return WRONG_WORDS;
     };
-    run_list(rt, matches, &Run::Police(rule), list)
+    ended(run_inputs(rt, matches, &Run::Police(rule), list, None))
 }
 
 fn replay_list(rt: &HostRuntime, matches: &ArgMatches<'_>) -> u8 {
@@ -128,15 +120,8 @@ fn replay_list(rt: &HostRuntime, matches: &ArgMatches<'_>) -> u8 {
         admission: !matches.get_flag("no-admission"),
         explains_drops: matches.get_flag("explain-drops"),
     };
-    match matches.get_str("LIST_B") {
-        Some(b) => run_pair(
-            rt,
-            matches,
-            &PairRun::Replay(replaying),
-            BySide { a: list, b },
-        ),
-        None => run_list(rt, matches, &Run::Replay(replaying), list),
-    }
+    let second = matches.get_str("LIST_B");
+    ended(run_inputs(rt, matches, &Run::Replay(replaying), list, second))
 }
 
 fn list_numbers(rt: &HostRuntime, matches: &ArgMatches<'_>) -> u8 {
@@ -147,16 +132,10 @@ fn list_numbers(rt: &HostRuntime, matches: &ArgMatches<'_>) -> u8 {
         Ok(config) => config,
         Err(status) => return status,
     };
-    let config = config.as_slice();
-    match matches.get_str("LIST_B") {
-        Some(b) => run_pair(
-            rt,
-            matches,
-            &PairRun::List { config },
-            BySide { a: list, b },
-        ),
-        None => run_list(rt, matches, &Run::List { config }, list),
-    }
+    let run = Run::List {
+        config: config.as_slice(),
+    };
+    ended(run_inputs(rt, matches, &run, list, matches.get_str("LIST_B")))
 }
 
 fn send_list(rt: &HostRuntime, matches: &ArgMatches<'_>) -> u8 {
@@ -168,11 +147,7 @@ fn send_list(rt: &HostRuntime, matches: &ArgMatches<'_>) -> u8 {
         Ok(config) => config,
         Err(status) => return status,
     };
-    let run = Run::Send {
-        config: config.as_slice(),
-        system,
-    };
-    run_list(rt, matches, &run, list)
+    ended(run_sender(rt, matches, config.as_slice(), system, list))
 }
 
 /// Says what a line means, or what each word of the closed lists means.
@@ -218,11 +193,11 @@ fn answer_refusal(rt: &HostRuntime, refusal: &Error) -> u8 {
     if refusal.kind() == ErrorKind::OutOfMemory {
         return memory(rt);
     }
-    let printed = refusal.print(rt);
-    if refusal.exit_code() != 0 {
+    if refusal.use_stderr() {
+        tell_text(rt, refusal);
         return WRONG_WORDS;
     }
-    if printed.is_err() {
+    if refusal.print(rt).is_err() {
         return end_with(rt, RunFault::Write);
     }
     DONE
@@ -237,6 +212,10 @@ fn run_words(rt: &HostRuntime, given: &[String]) -> Result<u8, AllocError> {
 }
 
 fn main(rt: HostRuntime) -> ExitCode {
+    let _places = match take_places(&rt) {
+        Ok(places) => places,
+        Err(fault) => return ExitCode::from(end_with(&rt, fault)),
+    };
     let given = match std::env::args(&rt) {
         Ok(given) => given,
         Err(error) if error.kind() == std::io::ErrorKind::OutOfMemory => {

@@ -10,10 +10,11 @@ use Rattle.afdx_config.specs.declared.key_tables.TheConstants.{PORT_KEYS, UNKNOW
 use Rattle.afdx_admit.specs.declared.fault.TheConstants.{ADMISSION}
 use Rattle.afdx_receive.specs.declared.reception.TheConstants.{DROP_REASONS}
 use Rattle.afdx_send.specs.declared.fault.TheConstants.{SEND_FAULTS}
-use Rattle.afdx_arrivals.specs.declared.skipped.TheConstants.{SKIPPED}
+use Rattle.afdx_recorded.specs.declared.skipped.TheConstants.{SKIPPED}
 use Rattle.afdx_lists.specs.declared.fault.TheConstants.{RUN_FAULTS}
 use Rattle.afdx_lists.specs.declared.recording_fault.TheConstants.{RECORDING_FAULTS}
 use Rattle.afdx_explain.specs.Forms.{text_among, row_among, formed_row, formed_among}
+use Rattle.afdx_explain.specs.Forms.{named_among, named_row}
 use Rattle.afdx_explain.specs.declared.faults.TheConstants.{FAULTS}
 use Rattle.afdx_explain.specs.declared.kinds.TheConstants.{KINDS}
 use Rattle.afdx_explain.specs.declared.lines.TheConstants.{LINES}
@@ -102,6 +103,27 @@ skipped line =
 unfoldable pub told : List ℕ → Option (List ℕ)
 told line = text_among (map (λ entry. (entry.0.now, entry.1.now)) LINES) line
 
+-- ---- names of faults, without a place or a number
+
+unfoldable pub named_fault : List ℕ → Option (List ℕ)
+named_fault line = named_among (map (λ entry. (entry.0.now, entry.1.now)) FAULTS) line
+
+unfoldable pub named_run_fault : List ℕ → Option (List ℕ)
+named_run_fault line = named_among (map (λ entry. (entry.0.now, entry.1.now)) RUN_FAULTS) line
+
+unfoldable pub named_recording_fault : List ℕ → Option (List ℕ)
+named_recording_fault line =
+    named_among (map (λ entry. (entry.0.now, entry.1.now)) RECORDING_FAULTS) line
+
+unfoldable pub named_config_fault : List ℕ → Option (List ℕ)
+named_config_fault line =
+    named_row (map (λ row. formed_row row.0.now row.1.now row.2.now) (take 8 CONFIG_FAULTS)) line
+
+unfoldable pub named : List ℕ → Option (List ℕ)
+named line =
+    or_else (named_fault line) (or_else (named_run_fault line)
+    (or_else (named_recording_fault line) (named_config_fault line)))
+
 -- ---- all of them
 
 unfoldable pub any_fault : List ℕ → Option (List ℕ)
@@ -116,7 +138,7 @@ any_line line =
 
 -- what the line itself means
 unfoldable pub meaning_of : List ℕ → Option (List ℕ)
-meaning_of line = or_else (any_fault line) (any_line line)
+meaning_of line = or_else (any_fault line) (or_else (any_line line) (named line))
 
 -- ---- what is said of all lines of its kind
 

@@ -36,6 +36,16 @@ all_stand_for own (one ∷ wanted) (word ∷ words) =
 abbrev pub has_form : (own line form : List ℕ) → Bool
 has_form own line form = all_stand_for own (between_spaces form) (between_spaces line)
 
+-- the second word of a form, which is its name, alone or behind its first one
+abbrev pub is_named : (own : List ℕ) (wanted words : List (List ℕ)) → Bool
+is_named own (kind ∷ name ∷ wanted) (word ∷ []) = stands_for own name word
+is_named own (kind ∷ name ∷ wanted) (first ∷ second ∷ []) =
+    stands_for own kind first && stands_for own name second
+is_named own wanted words = false
+
+abbrev pub has_name : (own line form : List ℕ) → Bool
+has_name own line form = is_named own (between_spaces form) (between_spaces line)
+
 -- `\n`
 abbrev pub feed : ℕ
 feed = 10
@@ -56,6 +66,12 @@ abbrev pub text_among : List Entry → (line : List ℕ) → Option (List ℕ)
 text_among [] line = None
 text_among (entry ∷ entries) line =
     if has_some_form [] line entry.0 then Some entry.1 else text_among entries line
+
+-- what the first entry says whose form has this name
+abbrev pub named_among : List Entry → (line : List ℕ) → Option (List ℕ)
+named_among [] line = None
+named_among (entry ∷ entries) line =
+    if has_name [] line entry.0 then Some entry.1 else named_among entries line
 
 -- a word of a closed list, and what it means
 abbrev pub Row : Type 0
@@ -81,3 +97,9 @@ abbrev pub formed_among : List FormedRow → (line : List ℕ) → Option (List 
 formed_among [] line = None
 formed_among (row ∷ rows) line =
     if has_some_form row.word line row.forms then Some row.text else formed_among rows line
+
+-- what the first row says whose form has this name
+abbrev pub named_row : List FormedRow → (line : List ℕ) → Option (List ℕ)
+named_row [] line = None
+named_row (row ∷ rows) line =
+    if has_name row.word line row.forms then Some row.text else named_row rows line

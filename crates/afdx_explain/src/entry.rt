@@ -4,8 +4,9 @@ ghost use Rattle.std.specs.Prelude.{◌≡◌, [], map};
 ghost use Rattle.std.specs.Option.{option_copied};
 ghost use Rattle.afdx_explain.specs.Forms.{has_form, has_some_form, text_among};
 ghost use Rattle.afdx_explain.specs.Forms.{row_among, formed_row, formed_among};
+ghost use Rattle.afdx_explain.specs.Forms.{named_among, named_row};
 
-use crate::forms::has_form;
+use crate::forms::{has_form, has_name};
 use afdx_config::Key;
 use afdx_lists::first_field;
 
@@ -45,6 +46,20 @@ pub fn text_among(mut entries: &'static [Entry], line: &[u8]) -> Option<&'static
     None
 }
 
+/// The text of the first entry whose form has this name.
+pub fn named_among(mut entries: &'static [Entry], line: &[u8]) -> Option<&'static str>
+    ensures { option_copied result ≡
+        named_among (map (λ entry. (entry.0.now, entry.1.now)) entries.entry.now) line.now }
+{
+    while let [(form, text), rest @ ..] = entries {
+        if has_name(b"", line, form.as_bytes()) {
+            return Some(text);
+        }
+        entries = rest;
+    }
+    None
+}
+
 /// The text of the first row in whose word the line has one of these forms.
 pub fn row_among<T>(
     mut rows: &'static [(T, &'static str, &'static str)],
@@ -73,6 +88,23 @@ pub fn formed_among(
 {
     while let [(word, forms, text), rest @ ..] = rows {
         if has_some_form(word.as_bytes(), line, forms.as_bytes()) {
+            return Some(text);
+        }
+        rows = rest;
+    }
+    None
+}
+
+/// The text of the first row whose form has this name, by its word, its form and its text.
+pub fn named_row(
+    mut rows: &'static [(&'static str, &'static str, &'static str)],
+    line: &[u8],
+) -> Option<&'static str>
+    ensures { option_copied result ≡ named_row
+        (map (λ row. formed_row row.0.now row.1.now row.2.now) rows.entry.now) line.now }
+{
+    while let [(word, form, text), rest @ ..] = rows {
+        if has_name(word.as_bytes(), line, form.as_bytes()) {
             return Some(text);
         }
         rows = rest;

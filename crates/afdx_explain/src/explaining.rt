@@ -4,17 +4,17 @@ ghost use Rattle.std.specs.Prelude.{◌≡◌};
 ghost use Rattle.std.specs.Option.{option_copied};
 ghost use Rattle.afdx_explain.specs.Explained as spec;
 
-use crate::entry::{formed_among, key_among, row_among, text_among};
+use crate::entry::{formed_among, key_among, named_among, named_row, row_among, text_among};
 use crate::faults::FAULTS;
 use crate::kinds::KINDS;
 use crate::lines::LINES;
 use afdx_admit::ADMISSION;
-use afdx_arrivals::SKIPPED;
 use afdx_config::{CONFIG_FAULTS, LINK_KEYS, PORT_KEYS, SYSTEM_KEYS, TOP_KEYS, UNKNOWN_KEYS};
 use afdx_frame::{IP_FAULTS, MAC_FAULTS};
 use afdx_lists::{RECORDING_FAULTS, RUN_FAULTS};
 use afdx_police::REASONS;
 use afdx_receive::DROP_REASONS;
+use afdx_recorded::SKIPPED;
 use afdx_send::SEND_FAULTS;
 
 /// The forms of a line that tells why a switch dropped a frame.
@@ -248,10 +248,60 @@ fn any_line(line: &[u8]) -> Option<&'static str>
     told(line)
 }
 
+/// What the fault of this name means, of the words or of a file that can't be opened.
+#[tactic(auto, unfolding(crate::specs::Explained::named_fault))]
+fn named_fault(line: &[u8]) -> Option<&'static str>
+    ensures { option_copied result ≡ spec.named_fault line.now }
+{
+    named_among(&FAULTS, line)
+}
+
+/// What the fault of this name means, of a run.
+#[tactic(auto, unfolding(crate::specs::Explained::named_run_fault))]
+fn named_run_fault(line: &[u8]) -> Option<&'static str>
+    ensures { option_copied result ≡ spec.named_run_fault line.now }
+{
+    named_among(&RUN_FAULTS, line)
+}
+
+/// What the fault of this name means, of a recording.
+#[tactic(auto, unfolding(crate::specs::Explained::named_recording_fault))]
+fn named_recording_fault(line: &[u8]) -> Option<&'static str>
+    ensures { option_copied result ≡ spec.named_recording_fault line.now }
+{
+    named_among(&RECORDING_FAULTS, line)
+}
+
+/// What the fault of this name means, of a configuration.
+#[tactic(auto, unfolding(crate::specs::Explained::named_config_fault))]
+fn named_config_fault(line: &[u8]) -> Option<&'static str>
+    ensures { option_copied result ≡ spec.named_config_fault line.now }
+{
+    named_row(&CONFIG_FAULTS[..8], line)
+}
+
+/// What the fault of this name means, without a place or a number.
+#[tactic(auto, unfolding(crate::specs::Explained::named))]
+fn named(line: &[u8]) -> Option<&'static str>
+    ensures { option_copied result ≡ spec.named line.now }
+{
+    if let Some(text) = named_fault(line) {
+        return Some(text);
+    }
+    if let Some(text) = named_run_fault(line) {
+        return Some(text);
+    }
+    if let Some(text) = named_recording_fault(line) {
+        return Some(text);
+    }
+    named_config_fault(line)
+}
+
 /// What a line of the program means, or None where it is none that the program writes.
 ///
 /// The line stands without its line feed. A word alone is one that stands in a line: why a frame
-/// was dropped, a line of admission, why a message was refused; or its letter, as `D`.
+/// was dropped, a line of admission, why a message was refused; its letter, as `D`; or the name of
+/// a fault, which may also stand behind its first word.
 #[tactic(auto, unfolding(crate::specs::Explained::meaning_of))]
 pub fn meaning_of(line: &str) -> Option<&'static str>
     ensures { option_copied result ≡ spec.meaning_of line.now }
@@ -260,7 +310,10 @@ pub fn meaning_of(line: &str) -> Option<&'static str>
     if let Some(text) = any_fault(line) {
         return Some(text);
     }
-    any_line(line)
+    if let Some(text) = any_line(line) {
+        return Some(text);
+    }
+    named(line)
 }
 
 /// What is said of all faults of the configuration of this one's kind.

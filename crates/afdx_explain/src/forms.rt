@@ -4,7 +4,7 @@ ghost use Rattle.std.specs.Prelude.{◌≡◌};
 ghost use Rattle.std.specs.List.{list_any};
 ghost use Rattle.std.specs.Str.{bytes_eq};
 ghost use Rattle.afdx_lists.specs.Splitting.{all_digits};
-ghost use Rattle.afdx_explain.specs.Forms.{between_bars, has_form, stands_for};
+ghost use Rattle.afdx_explain.specs.Forms.{between_bars, has_form, has_name, stands_for};
 
 use afdx_lists::first_field;
 
@@ -66,5 +66,26 @@ pub fn has_form(own: &[u8], line: &[u8], form: &[u8]) -> bool
         (None, None) => true,
         (None, Some(_)) => false,
         (Some(_), None) => false,
+    }
+}
+
+/// Whether the line is the name of a form, which is its second word, alone or behind its first one.
+#[tactic(auto, using(crate::proofs::FormLemmas::three_words))]
+pub fn has_name(own: &[u8], line: &[u8], form: &[u8]) -> bool
+    ensures { result ≡ has_name own.now line.now form.now }
+{
+    let (kind, rest) = first_field(form, b' ');
+    let Some(rest) = rest else {
+        return false;
+    };
+    let (name, _) = first_field(rest, b' ');
+    let (first, rest) = first_field(line, b' ');
+    let Some(rest) = rest else {
+        return stands_for(own, name, first);
+    };
+    let (second, rest) = first_field(rest, b' ');
+    match rest {
+        None => stands_for(own, kind, first) && stands_for(own, name, second),
+        Some(_) => false,
     }
 }

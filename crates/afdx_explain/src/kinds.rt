@@ -3,7 +3,7 @@
 use crate::entry::Entry;
 
 /// What the lines of a kind have in common.
-pub const KINDS: [Entry; 6] = [
+pub const KINDS: [Entry; 8] = [
     (
         "list * n",
         "\
@@ -18,6 +18,18 @@ recording * n A|B",
 The recording can't be replayed beyond this place; what the arrivals before it gave stands on
 standard output. Numbers are those of the frames in Wireshark, from 1. Of two recordings, A or
 B behind the number says which.",
+    ),
+    (
+        "NoSuchSystem",
+        "\
+The words and a configuration have a fault of this name. Here is that of the words; of a
+configuration ask for 'config NoSuchSystem'.",
+    ),
+    (
+        "TimeBack|TimeTooLarge",
+        "\
+A list and a recording have a fault of this name. Here is that of a list; of a recording ask for
+'recording TimeBack' or 'recording TimeTooLarge'.",
     ),
     (
         "\

@@ -3,7 +3,7 @@
 use crate::entry::Entry;
 
 /// Lines of the output.
-pub const LINES: [Entry; 14] = [
+pub const LINES: [Entry; 16] = [
     (
         "\
 accept
@@ -118,11 +118,32 @@ R
 R n A n *",
         "\
 R time A port HEX: the frame of a message left the system for switch A; its slot ended then.
-port is the system's port at the switches, HEX the whole frame.",
+port is the system's port at the switches, HEX the whole frame.
+Of 'list' it is an arrival with its check sequence, or an arrival of which over 2,000 bytes were
+recorded with the first 2,000, which every switch drops as too-long; port is the switch's.",
     ),
     (
         "R n B n *",
         "\
-R time B port HEX: its copy for switch B, always right behind it.",
+R time B port HEX: its copy for switch B, always right behind it.
+Of 'list' it is an arrival with its check sequence, or an arrival of which over 2,000 bytes were
+recorded with the first 2,000, which every switch drops as too-long.",
+    ),
+    (
+        "\
+F
+F n A|B n *",
+        "\
+F time side port HEX: of 'list' it is an arrival without its check sequence: a frame that came
+at that time, in ns, on that side, at that input port of the switch. In a frame list the program
+appends the check sequence.",
+    ),
+    (
+        "\
+B
+B n A|B n *",
+        "\
+B time side port HEX: of 'list' it is an arrival without its check sequence, which the recorder
+found wrong. In a frame list the program appends a bad one: each bit of the right one inverted.",
     ),
 ];

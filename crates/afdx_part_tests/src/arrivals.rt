@@ -1,12 +1,12 @@
 //! What numbers of a recording become: each line of the table decides once.
 
-use afdx_arrivals::{
-    Counts, Found, Interfaces, NoArrival, Place, RecordingOptions, SKIPPED, Skipped, SystemPorts,
-    Tally, UnsaidPort, becomes,
-};
 use afdx_config::ConfigFault;
 use afdx_frame::Side;
 use afdx_lists::{FrameKind, RecordingFault};
+use afdx_recorded::{
+    Counts, Found, Interfaces, NoArrival, Place, RecordingOptions, SKIPPED, Skipped, SystemPorts,
+    Tally, UnsaidPort, becomes,
+};
 use afdx_recordings::{CheckSequence, Recorded, RecordedFrame, Stamp};
 use afdx_samples::{HELLO, all_right, base_tables, equal, hello};
 use std::alloc::{AllocError, Global};

@@ -38,13 +38,27 @@ fn lines_are_explained() -> Result<(), Fail> {
         ("over-rate", "over-rate:"),
         ("X 6720 s3 2 redundant", "redundant:"),
         ("# 1 S5", "S5:"),
+        ("F 0 B 1 0300", "F time side port HEX"),
+        ("OutOfRange", "The configuration has a fault: the value"),
+        (
+            "config OutOfRange",
+            "The configuration has a fault: the value",
+        ),
+        ("TooManyLines", "It is line 1,000,001"),
+        ("recording TimeBack", "More arrivals"),
     ];
     all_right(otherwise_explained(&rows))
 }
 
 #[test]
 fn other_lines_are_not(rt: HostRuntime) {
-    assert!(rt; meaning_of("config Missing link 1 key 13").is_none());
+    for line in [
+        "config Missing link 1 key 13",
+        "recording BadHex",
+        "list BadHex x",
+    ] {
+        assert!(rt; meaning_of(line).is_none());
+    }
 }
 
 #[test]

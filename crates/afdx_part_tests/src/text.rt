@@ -1,6 +1,7 @@
 //! Lines that are put into a text, written and held, and faults that are told.
 
 mod digits;
+mod whole_lines;
 
 use afdx_frame::{IpFault, MacFault, Side, VlId};
 use afdx_lists::{FrameKind, RecordingFault, RunFault, Watched};
@@ -115,10 +116,13 @@ fn lines_are_held_and_handed_over(rt: HostRuntime) -> Result<(), Fail> {
     all_right(wrongly_held(rt.alloc(), rows.as_slice())?)
 }
 
-/// What is told of a fault.
+/// What is told of a fault; nothing, if not in one write.
 fn told(alloc: Global, fault: &RunFault) -> Vec<u8> {
     let mut errors = Watched::new(Vec::new(alloc));
     tell_fault(&mut errors, fault);
+    if errors.calls() != 1 {
+        return Vec::new(alloc);
+    }
     errors.into_inner()
 }
 

@@ -24,7 +24,7 @@ use Rattle.afdx_replay.specs.replaying.PromisedRun.{IsAsPromised, WritesPromised
 use Rattle.afdx_network.specs.Order.{events_of}
 use Rattle.afdx_replay.specs.replaying.Text.{replay_text, replay_counts}
 use Rattle.afdx_replay.specs.replaying.Replayed.{WritesSoFar, WritesSome, Answers}
-use Rattle.afdx_replay.specs.declared.summary.Summary.{Summary}
+use Rattle.afdx_commands.specs.declared.summary.Summary.{Summary}
 use Rattle.afdx_engine.proofs.RunLemmas.{stops-more}
 use Rattle.afdx_replay.proofs.PromisedLemmas.{replay-promised, so-far-told, none-counted}
 

@@ -13,7 +13,7 @@ use Rattle.afdx_replay.specs.replaying.DefinedRun.{WritesDefinedSoFar, WritesDef
 use Rattle.afdx_replay.specs.replaying.DefinedRun.{RunsAreByDefinition}
 use Rattle.afdx_engine.specs.Listed.{frames, arrivals_of}
 use Rattle.afdx_replay.specs.replaying.Replayed.{WritesSoFar, WritesSome, Answers}
-use Rattle.afdx_replay.specs.declared.summary.Summary.{Summary}
+use Rattle.afdx_commands.specs.declared.summary.Summary.{Summary}
 use Rattle.afdx_replay.proofs.AdmittedRunLemmas.{arrivals-timed, arrivals-listed}
 use Rattle.afdx_engine.proofs.RunLemmas.{stops-more}
 

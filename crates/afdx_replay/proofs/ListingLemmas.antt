@@ -3,14 +3,14 @@ use Rattle.std.proofs.Common.{ℕ, List, refl, Option, Some, None, Result, Err, 
 use Rattle.afdx_lists.specs.declared.fault.RunFault.{RunFault}
 use Rattle.afdx_lists.specs.declared.fault.RunFault.TheVariants as run
 use Rattle.afdx_engine.specs.Engine.{Bytes}
-use Rattle.afdx_arrivals.specs.Becoming.{Options}
-use Rattle.afdx_arrivals.specs.Claims.{Agree, Ports}
-use Rattle.afdx_arrivals.specs.ListText.{lines_themselves, ListingAnswers, WritesLines, WritesSomeLines}
-use Rattle.afdx_arrivals.specs.Taking.{AreCutOff, taken_of_bytes}
-use Rattle.afdx_arrivals.specs.declared.counts.Tally.{Tally}
-use Rattle.afdx_arrivals.proofs.InputLemmas.{taken-agree, cut-agree}
-use Rattle.afdx_arrivals.proofs.ListingLemmas.{lines-start}
-use Rattle.afdx_arrivals.proofs.TakenLemmas.{answers-same, taken-start}
+use Rattle.afdx_recorded.specs.Becoming.{Options}
+use Rattle.afdx_recorded.specs.Claims.{Agree, Ports}
+use Rattle.afdx_inputs.specs.ListText.{lines_themselves, ListingAnswers, WritesLines, WritesSomeLines}
+use Rattle.afdx_recorded.specs.Taking.{AreCutOff, taken_of_bytes}
+use Rattle.afdx_recorded.specs.declared.counts.Tally.{Tally}
+use Rattle.afdx_inputs.proofs.InputLemmas.{taken-agree, cut-agree}
+use Rattle.afdx_inputs.proofs.ListingLemmas.{lines-start}
+use Rattle.afdx_inputs.proofs.TakenLemmas.{answers-same, taken-start}
 
 -- memory was refused before anything was read
 pub listing-unread : (options : Options) (ports : Ports) (left : Option (List ℕ)) (old : Bytes)

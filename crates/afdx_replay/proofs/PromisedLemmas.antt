@@ -25,7 +25,7 @@ use Rattle.afdx_replay.specs.replaying.Promises.{text_of, ReplayIsAsPromised, Re
 use Rattle.afdx_replay.specs.replaying.Text.{handed_over, frames_left, loss_lines, departure_line}
 use Rattle.afdx_replay.specs.replaying.Text.{heard, lines_after, replay_text, replay_counts}
 use Rattle.afdx_replay.specs.replaying.Text.{with_admission, with_departure}
-use Rattle.afdx_replay.specs.declared.summary.Summary.{Summary}
+use Rattle.afdx_commands.specs.declared.summary.Summary.{Summary}
 
 -- ---- events of which no copy is lost and none is too old
 

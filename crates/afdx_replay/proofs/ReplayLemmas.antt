@@ -27,12 +27,13 @@ use Rattle.afdx_network.proofs.OrderedLemmas.{one-order, one-order-so-far, begin
 use Rattle.afdx_replay.specs.policing.Text.{verdict_line}
 use Rattle.afdx_replay.specs.replaying.Text.{handed_over, frames_left, departure_line, heard}
 use Rattle.afdx_replay.specs.replaying.Text.{lines_after, loss_lines, admission_lines, replay_text}
-use Rattle.afdx_replay.specs.replaying.Text.{no_counts, with_admission, with_departure, replay_counts}
-use Rattle.afdx_replay.specs.replaying.Text.{with_lines}
+use Rattle.afdx_commands.specs.Counts.{no_counts}
+use Rattle.afdx_replay.specs.replaying.Text.{with_admission, with_departure, replay_counts}
+use Rattle.afdx_commands.specs.Counts.{with_lines}
 use Rattle.afdx_replay.specs.replaying.Replayed.{WritesSoFar, WritesSome, WritesAll, HasTold, AreTold}
 use Rattle.afdx_replay.specs.replaying.Replayed.{ToldAll, TellsDeparture, HasRoom}
 use Rattle.afdx_engine.specs.Listed.{frames, arrivals_of}
-use Rattle.afdx_replay.specs.declared.summary.Summary.{Summary}
+use Rattle.afdx_commands.specs.declared.summary.Summary.{Summary}
 use Rattle.afdx_engine.specs.Stops.{StopsAt}
 use Rattle.afdx_engine.proofs.RunLemmas.{IsDone, GaveLines-start}
 use Rattle.afdx_replay.proofs.TextLemmas.{front-whole, front-more, front-longer}

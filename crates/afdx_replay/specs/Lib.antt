@@ -1,12 +1,4 @@
-pub mod Commands
-pub mod CheckText
-pub mod SolveText
-pub mod Refusals
-pub mod EndToEnd
 pub mod Inputs
 pub mod Listing
-pub mod Merged
-pub mod OneSide
 pub mod policing
 pub mod replaying
-pub mod sending

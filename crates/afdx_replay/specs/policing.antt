@@ -4,3 +4,4 @@ pub mod Told
 pub mod Policed
 pub mod Accounts
 pub mod Input
+pub mod Command

@@ -4,22 +4,20 @@ ghost use Rattle.std.specs.Prelude.{◌≡◌, ◌||◌, ◌⊎◌, ◌↔◌, I
 ghost use Rattle.std.specs.Result.{result_ok};
 ghost use Rattle.afdx_lists.specs.Calls.{is_failed_read, is_failed_write};
 ghost use Rattle.afdx_lists.specs.Watching.{device_of, has_ended, has_failed};
-ghost use Rattle.afdx_arrivals.specs.Becoming.{options_of};
-ghost use Rattle.afdx_arrivals.specs.Claims.{ports_of_senders};
-ghost use Rattle.afdx_arrivals.specs.ListText.{ListingAnswers};
+ghost use Rattle.afdx_recorded.specs.Becoming.{options_of};
+ghost use Rattle.afdx_recorded.specs.Claims.{ports_of_senders};
+ghost use Rattle.afdx_inputs.specs.ListText.{ListingAnswers};
 ghost use Rattle.afdx_text.specs.Telling.{TellsLine};
-ghost use Rattle.afdx_replay.specs.Commands.{one_has_failed};
-ghost use Rattle.afdx_replay.specs.Listing.{EndsListing, EndsPairListing, status_of_listing};
-ghost use Rattle.afdx_replay.specs.replaying.PairCommand.{IsAskedOnceFor};
+ghost use Rattle.afdx_commands.specs.Commands.{one_has_failed};
+ghost use Rattle.afdx_replay.specs.Listing.{EndsListing, EndsPairListing, IsAskedOnceFor, status_of_listing};
 
-use crate::refusing::refuse_config;
-use crate::status::DONE;
-use afdx_arrivals::{
-    PairOptions, RecordingOptions, SystemPorts, Tally, UnsaidPort, list_pair, list_recording,
-};
+use afdx_commands::refusing::refuse_config;
+use afdx_commands::status::DONE;
 use afdx_config::{Tables, read_tables};
 use afdx_frame::BySide;
+use afdx_inputs::{list_pair, list_recording};
 use afdx_lists::{RunFault, Watched};
+use afdx_recorded::{PairOptions, RecordingOptions, SystemPorts, Tally, UnsaidPort};
 use afdx_text::{Sink, tell_fault};
 use std::alloc::Global;
 use std::io::{Read, Write};

@@ -4,3 +4,4 @@ mod BlockLemmas
 mod WordLemmas
 pub mod OutputLemmas
 pub mod TellingLemmas
+pub mod WholeLineLemmas

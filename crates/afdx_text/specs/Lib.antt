@@ -3,3 +3,4 @@ pub mod Texts
 pub mod Sinks
 pub mod Telling
 pub mod Outputs
+pub mod WholeLines

@@ -6,12 +6,16 @@ ghost use Rattle.afdx_lists.specs.Watching.{has_failed};
 
 use crate::writing::write_text;
 use afdx_lists::{RunFault, Watched};
+use arrayvec::ArrayString;
 use itoa::Buffer;
 use std::fmt::InlineText;
 use std::io::Write;
 
 /// The most bytes of a fault's text: its longest word, and a number of 20 digits.
 const LONGEST_FAULT: usize = 48;
+
+/// The same with its line feed.
+const LONGEST_LINE: usize = 49;
 
 /// Hands a text to a device, or a beginning of it where that fails. A device that failed before is
 /// not asked.
@@ -31,12 +35,14 @@ pub fn tell_number<W: Write>(device: &mut Watched<W>, number: u64)
     tell(device, digits.format(number).as_bytes());
 }
 
-/// Hands the one line of a fault to a device, or a beginning of it where that fails. A device that
-/// failed before is not asked.
+/// Hands the one line of a fault to a device, in one write, or a beginning of it where that fails.
+/// A device that failed before is not asked.
 pub fn tell_fault<W: Write>(device: &mut Watched<W>, fault: &RunFault)
     ensures { TellsLine W.contents device.old device.new }
 {
     let text = InlineText::<LONGEST_FAULT>::of(fault);
-    tell(device, text.as_str().as_bytes());
-    tell(device, b"\n");
+    let mut line = ArrayString::<LONGEST_LINE>::new();
+    line.push_str(text.as_str());
+    line.push_str("\n");
+    tell(device, line.as_str().as_bytes());
 }

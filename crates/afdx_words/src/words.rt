@@ -338,10 +338,11 @@ const EXPLAIN_ABOUT: &str = "Says in plain words what a line of the program mean
 
 const EXPLAIN_AFTER: &str = "\
 TEXT is a line that the program printed, as it was printed: a fault on standard
-error, the line of --summary, a line of 'check', 'replay', 'police' or 'send'. Or it
-is a word of such a line: 'accept', why a frame was dropped, a line of admission,
-why a message was refused, or one of the letters D, L, M, m, P, R and T. With a text
-that is none of these the line is 'words UnknownText' and the status 2.
+error, the line of --summary, a line of 'check', 'list', 'replay', 'police' or
+'send'. Or it is a word of such a line: 'accept', why a frame was dropped, a line of
+admission, why a message was refused, one of the letters B, D, F, L, M, m, P, R and T,
+or the name of a fault, as 'OutOfRange'. With a text that is none of these the line is
+'words UnknownText' and the status 2.
 
 With --list each word and each form of a line is printed with what it means: the
 name of its list and the word, then the text, then an empty line. The lists are
@@ -354,6 +355,7 @@ Examples:
   afdx explain 'config Missing link 1 key 7'
   afdx explain no A2 3 252
   afdx explain over-rate
+  afdx explain TooManyLines
   afdx explain --list";
 
 const LIST_ALL_HELP: &str = "Prints each word and each form of a line, with what it means";

@@ -6,7 +6,7 @@ use Rattle.afdx_police.specs.Rule.{Rule}
 use Rattle.afdx_lists.specs.Lines.{lines_of}
 use Rattle.afdx_lists.specs.Calls.{AppendsFront}
 use Rattle.afdx_lists.specs.declared.fault.RunFault.{RunFault}
-use Rattle.afdx_replay.specs.declared.summary.Summary.{Summary}
+use Rattle.afdx_commands.specs.declared.summary.Summary.{Summary}
 use Rattle.afdx_engine.specs.Listed.{AreSound, arrivals_of}
 use Rattle.afdx_engine.specs.Stops.{StopsAt}
 use Rattle.afdx_replay.specs.policing.Text.{text_of, counts_of}

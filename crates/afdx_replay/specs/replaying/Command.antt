@@ -6,12 +6,12 @@ use Rattle.afdx_config.specs.Rows.{Rows}
 use Rattle.afdx_lists.specs.declared.fault.RunFault.{RunFault}
 use Rattle.afdx_lists.specs.declared.watched.Watched.{Watched}
 use Rattle.afdx_lists.specs.Watching.{device_of}
-use Rattle.afdx_replay.specs.Commands.{EndsAs}
+use Rattle.afdx_commands.specs.Commands.{EndsAs}
 use Rattle.afdx_replay.specs.replaying.PromisedRun.{PromisedAnswers}
-use Rattle.afdx_replay.specs.Refusals.{RefusesConfig, RefusesTables, WantsMemory}
+use Rattle.afdx_commands.specs.Refusals.{RefusesConfig, RefusesTables, WantsMemory}
 use Rattle.afdx_replay.specs.replaying.Replayed.{Answers}
-use Rattle.afdx_replay.specs.declared.ending.Ended.{Ended}
-use Rattle.afdx_replay.specs.declared.summary.Summary.{Summary}
+use Rattle.afdx_commands.specs.declared.ending.Ended.{Ended}
+use Rattle.afdx_commands.specs.declared.summary.Summary.{Summary}
 
 -- A list is replayed in the tables that the configuration spells, which are admitted if that is
 -- asked for. Where the list's bytes are known, what is written is what goes with this answer; and

@@ -13,9 +13,10 @@ use Rattle.afdx_promises.specs.ByDefinition.{AreByDefinition, AreByDefinitionSoF
 use Rattle.afdx_engine.specs.Listed.{AreSound, arrivals_of}
 use Rattle.afdx_replay.specs.replaying.Replayed.{Answers}
 use Rattle.afdx_replay.specs.replaying.Promises.{AreListed}
-use Rattle.afdx_replay.specs.replaying.Text.{replay_text, replay_counts, with_lines}
+use Rattle.afdx_commands.specs.Counts.{with_lines}
+use Rattle.afdx_replay.specs.replaying.Text.{replay_text, replay_counts}
 use Rattle.afdx_engine.specs.Stops.{StopsAt}
-use Rattle.afdx_replay.specs.declared.summary.Summary.{Summary}
+use Rattle.afdx_commands.specs.declared.summary.Summary.{Summary}
 
 -- all lines of the list were read, none has a fault, and the output, which held `old`, now holds
 -- after it the text of all events of its arrivals, by the definition, and they are counted

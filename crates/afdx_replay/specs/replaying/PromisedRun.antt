@@ -12,7 +12,7 @@ use Rattle.afdx_promises.specs.Promises.{KeepsPromises, KeepsPromisesSoFar, Each
 use Rattle.afdx_engine.specs.Listed.{AreSound, arrivals_of}
 use Rattle.afdx_replay.specs.replaying.Promises.{text_of, AreListed}
 use Rattle.afdx_engine.specs.Stops.{StopsAt}
-use Rattle.afdx_replay.specs.declared.summary.Summary.{Summary}
+use Rattle.afdx_commands.specs.declared.summary.Summary.{Summary}
 
 -- of these arrivals and of all that leaves the output, which held `old`, now holds after it the
 -- text of lines that keep the promises, and nothing is lost or too old

@@ -14,10 +14,11 @@ use Rattle.afdx_network.specs.Order.{IsAtArrival, events_of, events_so_far}
 use Rattle.afdx_network.specs.Network as network
 use Rattle.afdx_network.specs.declared.network.Network.{Network}
 use Rattle.afdx_engine.specs.Listed.{AreSound, arrivals_of}
-use Rattle.afdx_replay.specs.replaying.Text.{replay_text, replay_counts, frames_left, lines_after, with_lines}
+use Rattle.afdx_commands.specs.Counts.{with_lines}
+use Rattle.afdx_replay.specs.replaying.Text.{replay_text, replay_counts, frames_left, lines_after}
 use Rattle.afdx_engine.specs.Stops.{StopsAt}
 use Rattle.afdx_replay.specs.declared.replaying.run.Replay.{Replay}
-use Rattle.afdx_replay.specs.declared.summary.Summary.{Summary}
+use Rattle.afdx_commands.specs.declared.summary.Summary.{Summary}
 
 -- the bytes of a device, where they are known
 abbrev pub Known : Type 0

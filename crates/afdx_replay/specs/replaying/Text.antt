@@ -8,7 +8,8 @@ use Rattle.afdx_end_systems.specs.Handovers.{HandedOver}
 use Rattle.afdx_end_systems.specs.Receptions.{reception_line, is_delivered}
 use Rattle.afdx_network.specs.Events.{Event, Came, Left, Admission, Departure}
 use Rattle.afdx_replay.specs.policing.Text.{verdict_line}
-use Rattle.afdx_replay.specs.declared.summary.Summary.{Summary}
+use Rattle.afdx_commands.specs.Counts.{no_counts}
+use Rattle.afdx_commands.specs.declared.summary.Summary.{Summary}
 pub use Rattle.afdx_text.specs.OutLines.{loss_line, letter_of, departure_line}
 
 -- the frame of a departure, as its port's system gets it
@@ -53,17 +54,6 @@ unfoldable pub replay_text : Rows → List Event → List ℕ
 replay_text t [] = []
 replay_text t (e ∷ before) = replay_text t before ++ lines_after t before e
 
-abbrev pub no_counts : Summary
-no_counts = record {
-  lines = 0;
-  accepted = 0;
-  dropped = 0;
-  lost = 0;
-  departed = 0;
-  too_old = 0;
-  delivered = 0;
-}
-
 -- one more arrival is counted, and its lost copies
 abbrev pub with_admission : Summary → Option Reason → ℕ → Summary
 with_admission s None lost = record s { accepted = s.accepted + 1; lost = s.lost + lost }
@@ -83,6 +73,3 @@ replay_counts t (Came c ∷ before) = with_admission (replay_counts t before) c.
 replay_counts t (Left d ∷ before) =
     with_departure (replay_counts t before) d.turn.too_old
     (is_delivered t (frames_left before) (handed_over d))
-
-abbrev pub with_lines : Summary → ℕ → Summary
-with_lines s n = record s { lines = n }

@@ -14,13 +14,13 @@ ghost use Rattle.afdx_switch.specs.Departures.{as_given, giving_port};
 ghost use Rattle.afdx_replay.specs.policing.Text.{verdict_line};
 ghost use Rattle.afdx_replay.specs.replaying.Text.{loss_line, loss_lines, departure_line};
 
+use afdx_end_systems::{Handover, Systems};
 use afdx_frame::{LAST_PORT, Side};
 use afdx_lists::RunFault;
 use afdx_network::Departed;
 use afdx_police::Reason;
 use afdx_receive::Reception;
 use afdx_switch::{PortSet, Verdict};
-use afdx_end_systems::{Handover, Systems};
 use afdx_text::{OutLine, Sink, Text};
 
 /// Why the frame was dropped, if it was.

@@ -7,8 +7,8 @@ ghost use Rattle.afdx_config.specs.Reading.{Spells};
 ghost use Rattle.afdx_replay.specs.replaying.Command.{IsNotReplayed};
 ghost use Rattle.afdx_replay.specs.replaying.Tables.{tables_of};
 
-use crate::refusing::{refuse_config, refuse_tables};
 use afdx_admit::{Admitted, admit};
+use afdx_commands::refusing::{refuse_config, refuse_tables};
 use afdx_config::{Tables, read_tables};
 use afdx_lists::Watched;
 use std::alloc::Global;

@@ -1,5 +1,6 @@
 use Rattle.std.proofs.Common.{refl}
-use Rattle.afdx_replay.proofs.RefusalLemmas.{config-refused, tables-refused, config-not-replayed, tables-not-replayed}
+use Rattle.afdx_commands.proofs.RefusalLemmas.{config-refused, tables-refused}
+use Rattle.afdx_replay.proofs.NotReplayedLemmas.{config-not-replayed, tables-not-replayed}
 use Rattle.afdx_replay.proofs.replaying.tables.take_tables.Goals as goal
 
 pub returns-in-Err-clause-refused : goal.returns-in-Err-clause-refused

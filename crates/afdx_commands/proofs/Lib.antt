@@ -1,0 +1,3 @@
+pub mod CheckLemmas
+mod SolveLemmas
+pub mod RefusalLemmas

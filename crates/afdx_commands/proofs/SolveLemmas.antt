@@ -1,0 +1,86 @@
+-- What `solve` tells, line by line.
+use Rattle.std.proofs.Common.{◌≡◌, ℕ, ◌+◌, ◌*◌, ◌<◌, List, [], ◌++◌, length, Bool, false, is_some, refl, sym, ap, ◌∙◌}
+use Rattle.std.proofs.Common.{append_assoc, add-one, Option, Some, None, slice_get, true, ◌⊎◌, inl, inr}
+use Rattle.std.specs.Prelude.{if◌then◌else◌}
+use Rattle.std.specs.Option.{option_map_or}
+use Rattle.std.proofs.lemmas.List.{append-nil}
+use Rattle.afdx_config.specs.Rows.{LinkRow, Rows}
+use Rattle.afdx_config.specs.Reading.{system_at_port}
+use Rattle.afdx_admit.proofs.FirstFalseLemmas.{le-false}
+use Rattle.afdx_admit.proofs.PortLemmas.{not-some}
+use Rattle.afdx_commands.specs.SolveText.{told_need, need_over, need_at, asked_by}
+use Rattle.afdx_commands.specs.SolveText.{needs_of_first, needs_at, needs_at_first}
+
+-- one piece more
+more : (old pieces piece before after : List ℕ) → before ≡ old ++ pieces → after ≡ before ++ piece
+    → after ≡ old ++ (pieces ++ piece)
+more old pieces piece before after e f =
+    f ∙ ap (λ (text : List ℕ). text ++ piece) e ∙ append_assoc old pieces piece
+
+-- the bound is more than what was asked for
+pub over : (port vl bound asked : ℕ) → 1000 * asked < bound → told_need port vl bound asked ≡ need_over port vl bound asked
+over port vl bound asked more =
+    ap (λ (b : Bool). if b then [] else told_need port vl bound asked) (sym (le-false bound (1000 * asked) more))
+
+module _ (t : Rows) (asked : List (Option ℕ)) where
+  -- ---- the links at one port
+
+  pub no_link : (port place : ℕ) (text : List ℕ) → text ≡ text ++ needs_of_first t asked port place 0
+  unfolding needs_of_first
+  no_link port place text = sym (append-nil text)
+
+  with_link : (port place i : ℕ) (l : LinkRow) → slice_get t.links i ≡ Some l →
+      needs_of_first t asked port place (i + 1)
+      ≡ needs_of_first t asked port place i ++ need_at t port place l (asked_by asked i)
+  unfolding needs_of_first
+  with_link port place i l at =
+      rw add-one
+      (ap (λ (o : Option LinkRow). needs_of_first t asked port place i
+      ++ option_map_or (λ l. need_at t port place l (asked_by asked i)) o []) at)
+
+  pub link-next : (port place i : ℕ) (l : LinkRow) → slice_get t.links i ≡ Some l →
+      (old before after : List ℕ) → before ≡ old ++ needs_of_first t asked port place i →
+      after ≡ before ++ need_at t port place l (asked_by asked i)
+      → after ≡ old ++ needs_of_first t asked port place (i + 1)
+  link-next port place i l at old before after e f =
+      more old (needs_of_first t asked port place i) (need_at t port place l (asked_by asked i)) before after e f
+      ∙ ap (λ (text : List ℕ). old ++ text) (sym (with_link port place i l at))
+
+  pub at_system : (port place : ℕ) → Some place ≡ system_at_port t.systems port →
+      needs_of_first t asked port place (length t.links) ≡ needs_at t asked port
+  unfolding needs_at
+  at_system port place at =
+      ap (λ (o : Option ℕ). option_map_or (λ p. needs_of_first t asked port p (length t.links)) o []) at
+
+  pub at_no_system : (port : ℕ) (text : List ℕ) → None ≡ system_at_port t.systems port →
+      text ≡ text ++ needs_at t asked port
+  unfolding needs_at
+  at_no_system port text at =
+      sym (append-nil text)
+      ∙ ap (λ (o : Option ℕ). text ++ option_map_or (λ p. needs_of_first t asked port p (length t.links)) o []) at
+
+  pub at_unused : (port : ℕ) (text : List ℕ) → false ≡ is_some (system_at_port t.systems port) →
+      text ≡ text ++ needs_at t asked port
+  at_unused port text none = at_no_system port text (sym (not-some (system_at_port t.systems port) none))
+
+  -- ---- the ports
+
+  pub no_port : [] ≡ needs_at_first t asked 0
+  unfolding needs_at_first
+  no_port = refl
+
+  with_port : (count : ℕ) →
+      needs_at_first t asked (count + 1) ≡ needs_at_first t asked count ++ needs_at t asked (count + 1)
+  unfolding needs_at_first
+  with_port count = rw add-one refl
+
+  pub port-next : (count : ℕ) (before after : List ℕ) → before ≡ needs_at_first t asked count →
+      after ≡ before ++ needs_at t asked (count + 1) → after ≡ needs_at_first t asked (count + 1)
+  port-next count before after e f =
+      f ∙ ap (λ (text : List ℕ). text ++ needs_at t asked (count + 1)) e ∙ sym (with_port count)
+
+-- ---- what is written
+
+pub either : {A B : Type 0} (b : Bool) → (b ≡ true → A) → (b ≡ false → B) → A ⊎ B
+either true a b = inl (a refl)
+either false a b = inr (b refl)

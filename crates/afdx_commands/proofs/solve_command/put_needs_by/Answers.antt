@@ -1,0 +1,16 @@
+use Rattle.std.proofs.Common.{◌≡◌, ◌++◌, List, ℕ, subst}
+use Rattle.std.specs.Prelude.{OnOk, string_bytes}
+use Rattle.afdx_commands.proofs.SolveLemmas.{at_system, at_no_system}
+use Rattle.afdx_commands.proofs.solve_command.put_needs_by.Goals as goal
+
+pub returns-in-Some : goal.returns-in-Some
+returns-in-Some c =
+    subst (λ (more : List ℕ). OnOk c.put_needs_to.result
+    (string_bytes c.put_needs_to.new.text ≡ string_bytes c.args.text.now ++ more))
+    (at_system c.args.tables.now c.args.asked.now c.args.port c.in-Some.system.0 c.in-Some.ensures.place)
+    c.put_needs_to.ensures
+
+pub returns-in-None : goal.returns-in-None
+returns-in-None c =
+    at_no_system c.args.tables.now c.args.asked.now c.args.port (string_bytes c.args.text.now)
+    c.in-None.ensures.place

@@ -1,0 +1,145 @@
+-- What the command `check` writes of some tables: the bounds of each output port that has a system,
+-- with the margins of the links that go there if they are asked for, and the answer.
+use Rattle.std.specs.Prelude.{ℕ, zero, suc, ◌*◌, ◌≡◌, ◌⊎◌, Bool, true, false, List, [], ◌∷◌, ◌++◌}
+use Rattle.std.specs.Prelude.{Option, Some, None, is_some, if◌then◌else◌}
+use Rattle.std.specs.List.{flat_map}
+use Rattle.std.specs.Option.{option_map_or}
+use Rattle.std.specs.Io.KnownBytes.{Appends}
+use Rattle.afdx_frame.specs.declared.link.Priority.{Priority}
+use Rattle.afdx_frame.specs.declared.link.Priority.TheVariants.{High, Low}
+use Rattle.afdx_frame.specs.Ports.{last_port}
+use Rattle.afdx_config.specs.Rows.{LinkRow, Rows}
+use Rattle.afdx_config.specs.Reading.{system_at_port, Spells}
+use Rattle.afdx_config.specs.Admission.{IsAdmitted, links_to}
+use Rattle.afdx_config.specs.Lawful.{IsLawful}
+use Rattle.afdx_admit.specs.declared.fault.AdmitFault.{AdmitFault}
+use Rattle.afdx_admit.specs.FaultText.{fault_text}
+use Rattle.afdx_admit.specs.Known.{name_of}
+use Rattle.afdx_admit.specs.Lines.{high_bound_at, low_bound_at, buffer_need_at, first_false}
+use Rattle.afdx_admit.specs.Lines.{false_lines, lines}
+use Rattle.afdx_lists.specs.Calls.{AppendsFront}
+use Rattle.afdx_text.specs.OutLines.{bounds_line, margin_line, admitted_line, denied_line}
+use Rattle.afdx_text.specs.Telling.{TellsLine}
+use Rattle.afdx_lists.specs.declared.watched.Watched.{Watched}
+use Rattle.afdx_lists.specs.Watching.{device_of, has_failed}
+use Rattle.afdx_commands.specs.declared.check_command.CheckOptions.{CheckOptions}
+use Rattle.afdx_commands.specs.Refusals.{RefusesConfig, WantsMemory}
+
+-- the high and the low bound in ns, and the bytes of buffer that are needed, at a port of the
+-- switch
+abbrev pub port_line : Rows → ℕ → List ℕ
+port_line t port =
+    bounds_line port (high_bound_at t port) (low_bound_at t port) (buffer_need_at t port)
+
+abbrev pub line_if_used : Rows → ℕ → List ℕ
+line_if_used t port = if is_some (system_at_port t.systems port) then port_line t port else []
+
+-- the bound of a class at a port of the switch, and the line of a link that goes there
+abbrev pub class_bound_at : Rows → ℕ → Priority → Option ℕ
+class_bound_at t port High = Some (high_bound_at t port)
+class_bound_at t port Low = low_bound_at t port
+
+abbrev pub link_line : Rows → ℕ → LinkRow → List ℕ
+link_line t port l =
+    margin_line port l.vl (class_bound_at t port l.priority) (1000 * l.latency_us)
+
+-- the lines of the links that go to the system at a port of the switch, if there is one
+unfoldable pub margin_lines : Rows → ℕ → List ℕ
+margin_lines t port =
+    option_map_or (λ place. flat_map (link_line t port) (links_to t.links place))
+    (system_at_port t.systems port) []
+
+abbrev pub margin_lines_if : Bool → Rows → ℕ → List ℕ
+margin_lines_if margins t port = if margins then margin_lines t port else []
+
+-- the lines of the first ports of the switch, as many as this, that have a system; with the margins
+-- of its links behind each, or without
+unfoldable pub used_port_lines : (margins : Bool) → Rows → ℕ → List ℕ
+used_port_lines margins t zero = []
+used_port_lines margins t (suc count) =
+    used_port_lines margins t count
+    ++ (line_if_used t (suc count) ++ margin_lines_if margins t (suc count))
+
+-- admitted, or the first line of admission that is false
+abbrev pub fault_line : Rows → AdmitFault → List ℕ
+fault_line t fault = denied_line (fault_text (name_of t fault) fault)
+
+abbrev pub answer_line : Rows → Option AdmitFault → List ℕ
+answer_line t None = admitted_line
+answer_line t (Some fault) = fault_line t fault
+
+-- a line for each of several faults, and admitted where there is none
+abbrev pub fault_lines : Rows → List AdmitFault → List ℕ
+fault_lines t faults = flat_map (fault_line t) faults
+
+abbrev pub answer_lines : Rows → List AdmitFault → List ℕ
+answer_lines t [] = admitted_line
+answer_lines t (fault ∷ faults) = fault_lines t (fault ∷ faults)
+
+-- the first of the false lines, or all of them
+abbrev pub answer : Bool → Rows → List ℕ
+answer false t = answer_line t (first_false (lines t))
+answer true t = answer_lines t (false_lines (lines t))
+
+-- with what is asked for besides
+abbrev pub check_text_of : CheckOptions → Rows → List ℕ
+check_text_of options t = used_port_lines options.margins t last_port ++ answer options.all t
+
+abbrev pub check_text : Rows → List ℕ
+check_text t = check_text_of (record { all = false; margins = false }) t
+
+-- this text of the tables that these bytes spell, which are lawful, is written
+pub record WritesCheck (text : Rows → List ℕ) (config : List ℕ) (old new : Option (List ℕ))
+    (t : Rows) : Type 0 where
+  pub spelled : Spells config t
+  pub lawful : IsLawful t
+  pub written : Appends old new (text t)
+
+-- a beginning of it is written
+pub record BeginsCheck (text : Rows → List ℕ) (config : List ℕ) (old new : Option (List ℕ))
+    (t : Rows) : Type 0 where
+  pub spelled : Spells config t
+  pub written : AppendsFront old new (text t)
+
+-- how the command ends, by what its output and its error output were and are
+module _ {O E : Type 0} (text : Rows → List ℕ) (bytes : O → Option (List ℕ))
+    (error_bytes : E → Option (List ℕ)) (config : List ℕ)
+    (old new : Watched O) (old_errors new_errors : Watched E) where
+  -- the configuration is read, its tables are admitted, and that is written
+  pub record IsChecked : Type 0 where
+    pub tables : Rows
+    pub writes : WritesCheck text config (bytes (device_of old)) (bytes (device_of new)) tables
+    pub admitted : IsAdmitted tables
+    pub told : new_errors ≡ old_errors
+
+  -- it is read, its tables are not admitted, and that is written
+  pub record IsDenied : Type 0 where
+    pub tables : Rows
+    pub writes : WritesCheck text config (bytes (device_of old)) (bytes (device_of new)) tables
+    pub denied : IsAdmitted tables → ⊥
+    pub told : new_errors ≡ old_errors
+
+  -- it has a fault, and nothing is written
+  pub record IsFaulty : Type 0 where
+    pub refuses : RefusesConfig error_bytes old_errors new_errors config 1
+    pub written : new ≡ old
+
+  -- the output failed, and a beginning of the text is written
+  pub record IsCut : Type 0 where
+    pub failed : has_failed new ≡ true
+    pub tables : Rows
+    pub begins : BeginsCheck text config (bytes (device_of old)) (bytes (device_of new)) tables
+    pub told : TellsLine error_bytes old_errors new_errors
+
+  -- memory was refused, and nothing is written
+  pub record IsUnchecked : Type 0 where
+    pub wants : WantsMemory error_bytes old_errors new_errors 4
+    pub written : new ≡ old
+
+  -- and by its exit status
+  pub record Checks (status : ℕ) : Type 0 where
+    pub statuses : (status ≡ 0) ⊎ (status ≡ 1) ⊎ (status ≡ 4)
+    pub device : has_failed new ≡ true → status ≡ 4
+    pub checked : status ≡ 0 → IsChecked
+    pub refused : status ≡ 1 → IsDenied ⊎ IsFaulty
+    pub stopped : status ≡ 4 → IsCut ⊎ IsUnchecked

@@ -1,0 +1,5 @@
+pub mod Counts
+pub mod Commands
+pub mod CheckText
+pub mod SolveText
+pub mod Refusals

@@ -1,0 +1,48 @@
+-- What a command tells that refuses a configuration or its tables.
+use Rattle.std.specs.Prelude.{ℕ, ◌≡◌, List, ◌++◌, Option, Some, codes}
+use Rattle.afdx_config.specs.Admission.{IsAdmitted}
+use Rattle.afdx_config.specs.FaultText as config_fault
+use Rattle.afdx_config.specs.Reading.{Spells, IsFaultOf}
+use Rattle.afdx_config.specs.Rows.{Rows}
+use Rattle.afdx_config.specs.declared.fault.ConfigFault.{ConfigFault}
+use Rattle.afdx_admit.specs.FaultText as admit_fault
+use Rattle.afdx_admit.specs.Known.{name_of}
+use Rattle.afdx_admit.specs.Lines.{first_false, lines}
+use Rattle.afdx_admit.specs.declared.fault.AdmitFault.{AdmitFault}
+use Rattle.afdx_text.specs.Telling.{Tells, TellsLine}
+use Rattle.afdx_lists.specs.declared.watched.Watched.{Watched}
+
+-- the line of a configuration's fault
+abbrev pub config_line : ConfigFault → List ℕ
+config_line fault = codes "config " ++ config_fault.fault_text fault ++ codes "\n"
+
+-- the line of tables that are not admitted
+abbrev pub admit_line : Rows → AdmitFault → List ℕ
+admit_line t fault = codes "admit " ++ admit_fault.fault_text (name_of t fault) fault ++ codes "\n"
+
+-- what is told where no system has the name
+abbrev pub no_system_line : List ℕ
+no_system_line = codes "words NoSuchSystem\n"
+
+-- what an error output is told
+module _ {E : Type 0} (error_bytes : E → Option (List ℕ)) (old new : Watched E) where
+  -- memory was refused: status 4, and its line
+  pub record WantsMemory (status : ℕ) : Type 0 where
+    pub status_is : status ≡ 4
+    pub told : TellsLine error_bytes old new
+
+  -- this line with status 1
+  pub record IsToldRefused (status : ℕ) (line : List ℕ) : Type 0 where
+    pub status_is : status ≡ 1
+    pub told : Tells error_bytes old new line
+
+  -- the configuration has this fault
+  abbrev pub RefusesConfig : List ℕ → ℕ → Type 0
+  RefusesConfig config status = (fault : ConfigFault) × IsFaultOf config fault
+      × IsToldRefused status (config_line fault)
+
+  -- its tables are not admitted, and this line of admission is the first that is false
+  abbrev pub RefusesTables : List ℕ → ℕ → Type 0
+  RefusesTables config status = (t : Rows) × Spells config t × (IsAdmitted t → ⊥)
+      × ((fault : AdmitFault) × (first_false (lines t) ≡ Some fault)
+      × IsToldRefused status (admit_line t fault))

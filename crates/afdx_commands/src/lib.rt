@@ -1,0 +1,19 @@
+//! What the commands share: exit statuses, what a run counts, how a command ends and refuses; and
+//! the commands that read a configuration alone, `check` and `solve`.
+//!
+//! Its tests are in `afdx_run_tests`.
+#![tactic(auto)]
+
+mod check_command;
+mod ending;
+pub mod refusing;
+mod solve_command;
+pub mod status;
+mod summary;
+
+pub use afdx_config::KeptKeys;
+pub use afdx_solve::SolveOptions;
+pub use check_command::{CheckOptions, check, check_lines};
+pub use ending::{Ended, end, finish};
+pub use solve_command::solve_config;
+pub use summary::{NO_COUNTS, Summary};

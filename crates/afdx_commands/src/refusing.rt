@@ -1,0 +1,156 @@
+//! How a command refuses a configuration or its tables.
+
+ghost use Rattle.std.specs.Prelude.{◌≡◌, ◌++◌, Some, codes, decimal};
+ghost use Rattle.afdx_config.specs.FaultText.{behind, place_of};
+ghost use Rattle.afdx_admit.specs.FaultText.{low_bound_text, subject};
+ghost use Rattle.afdx_admit.specs.Known.{IsKnown};
+ghost use Rattle.afdx_text.specs.Telling.{Tells};
+ghost use Rattle.afdx_commands.specs.Refusals.{admit_line, config_line, IsToldRefused, WantsMemory, no_system_line};
+
+use crate::status::{REFUSED, WRONG_WORDS};
+use afdx_admit::{AdmitFault, AdmitText};
+use afdx_config::{ConfigFault, Place, Tables};
+use afdx_frame::VlId;
+use afdx_lists::{RunFault, Watched};
+use afdx_text::{tell, tell_fault, tell_number};
+use std::io::Write;
+
+/// Tells that memory was refused, and gives the exit status.
+pub fn want_memory<E: Write>(errors: &mut Watched<E>) -> u8
+    ensures { WantsMemory E.contents errors.old errors.new result }
+{
+    let fault = RunFault::Memory;
+    tell_fault(errors, &fault);
+    fault.status()
+}
+
+/// Tells a place, behind a word.
+fn tell_place<E: Write>(errors: &mut Watched<E>, place: Place)
+    ensures { Tells E.contents errors.old errors.new (behind (Some place)) }
+{
+    tell(errors, b" ");
+    tell(errors, place.part.word().as_bytes());
+    tell(errors, b" ");
+    tell_number(errors, place.index as u64);
+    tell(errors, b" key ");
+    tell_number(errors, u64::from(place.key));
+}
+
+/// Tells the place of the check that failed, if the fault has one.
+fn tell_place_of<E: Write>(errors: &mut Watched<E>, fault: ConfigFault)
+    ensures { Tells E.contents errors.old errors.new (behind (place_of fault)) }
+{
+    match fault.place() {
+        Some(place) => tell_place(errors, place),
+        None => tell(errors, b""),
+    }
+}
+
+/// Tells the line of a fault of a configuration.
+fn tell_config<E: Write>(errors: &mut Watched<E>, fault: ConfigFault)
+    ensures { Tells E.contents errors.old errors.new (config_line fault) }
+{
+    tell(errors, b"config ");
+    tell(errors, fault.word().as_bytes());
+    tell_place_of(errors, fault);
+    tell(errors, b"\n");
+}
+
+/// Tells why a configuration is refused, and gives the exit status.
+pub fn refuse_config<E: Write>(fault: ConfigFault, errors: &mut Watched<E>) -> u8
+    ensures told { (fault ≡ ConfigFault.Memory → ⊥) →
+        IsToldRefused E.contents errors.old errors.new result (config_line fault) }
+    ensures memory { fault ≡ ConfigFault.Memory →
+        WantsMemory E.contents errors.old errors.new result }
+{
+    if let ConfigFault::Memory = fault {
+        return want_memory(errors);
+    }
+    tell_config(errors, fault);
+    REFUSED
+}
+
+/// Tells two numbers, with a space between them.
+fn tell_both<E: Write>(errors: &mut Watched<E>, first: u64, second: u64)
+    ensures { Tells E.contents errors.old errors.new
+        (decimal first ++ codes " " ++ decimal second) }
+{
+    tell_number(errors, first);
+    tell(errors, b" ");
+    tell_number(errors, second);
+}
+
+/// Tells that a link has this bound at a port.
+fn tell_bound<E: Write>(errors: &mut Watched<E>, port: u8, vl: VlId, bound: u64)
+    ensures { Tells E.contents errors.old errors.new
+        (decimal port ++ codes " " ++ decimal vl.0 ++ codes " " ++ decimal bound) }
+{
+    tell_both(errors, u64::from(port), u64::from(vl.0));
+    tell(errors, b" ");
+    tell_number(errors, bound);
+}
+
+/// Tells the bound of a low link, which is `-` where there is none.
+fn tell_low_number<E: Write>(errors: &mut Watched<E>, bound: u64)
+    ensures { Tells E.contents errors.old errors.new (low_bound_text bound) }
+{
+    if bound == 0 {
+        tell(errors, b"-");
+    } else {
+        tell_number(errors, bound);
+    }
+}
+
+/// Tells that a low link has this bound at a port.
+fn tell_low_bound<E: Write>(errors: &mut Watched<E>, port: u8, vl: VlId, bound: u64)
+    ensures { Tells E.contents errors.old errors.new
+        (decimal port ++ codes " " ++ decimal vl.0 ++ codes " " ++ low_bound_text bound) }
+{
+    tell_both(errors, u64::from(port), u64::from(vl.0));
+    tell(errors, b" ");
+    tell_low_number(errors, bound);
+}
+
+/// Tells what a false line of admission speaks of.
+fn tell_subject<E: Write>(errors: &mut Watched<E>, text: &AdmitText<'_>)
+    ensures { Tells E.contents errors.old errors.new
+        (subject text.now.name.now text.now.fault) }
+{
+    match text.fault {
+        AdmitFault::Overload(port) => tell_number(errors, u64::from(port)),
+        AdmitFault::Buffer(port, needed) => tell_both(errors, u64::from(port), needed),
+        AdmitFault::HighLatency(port, vl, bound) => tell_bound(errors, port, vl, bound),
+        AdmitFault::LowLatency(port, vl, bound) => tell_low_bound(errors, port, vl, bound),
+        AdmitFault::SenderJitter(_, ns) => {
+            tell(errors, text.name.as_bytes());
+            tell(errors, b" ");
+            tell_number(errors, ns)
+        }
+        AdmitFault::LinkJitter(vl, needed) => tell_both(errors, u64::from(vl.0), needed),
+        AdmitFault::Skew(vl) => tell_number(errors, u64::from(vl.0)),
+    }
+}
+
+/// Tells why tables are not admitted, and gives the exit status.
+pub fn refuse_tables<E: Write>(tables: &Tables, fault: AdmitFault, errors: &mut Watched<E>) -> u8
+    requires { IsKnown tables.now fault }
+    ensures { IsToldRefused E.contents errors.old errors.new result
+        (admit_line tables.now fault) }
+{
+    let text = fault.text(tables);
+    tell(errors, b"admit ");
+    tell(errors, fault.word().as_bytes());
+    tell(errors, b" ");
+    tell_subject(errors, &text);
+    tell(errors, b"\n");
+    REFUSED
+}
+
+/// Tells that no system has the name, and gives the exit status.
+pub fn refuse_name<E: Write>(errors: &mut Watched<E>) -> u8
+    ensures status { result ≡ 2 }
+    ensures told { Tells E.contents errors.old errors.new no_system_line }
+{
+    tell(errors, b"words NoSuchSystem\n");
+    WRONG_WORDS
+}

@@ -1,0 +1,257 @@
+-- The lines of a sender's text, and those at its port.
+use Rattle.std.proofs.Common.{◌≡◌, ℕ, ◌-◌, ◌<◌, ◌≤◌, ◌&&◌, Bool, true, false}
+use Rattle.std.proofs.Common.{if◌then◌else◌, List, [], ◌∷◌, ◌++◌, length, Some, None, refl, sym, ap}
+use Rattle.std.proofs.Common.{◌∙◌, arith, append_assoc, append-nil}
+use Rattle.std.specs.Prelude.{Ok}
+use Rattle.std.proofs.lemmas.Grind.{common_steps}
+use Rattle.std.proofs.lemmas.List.Elements.{filter-append}
+use Rattle.std.specs.Fmt.{decimal}
+use Rattle.std.specs.List.{AllByRecursion, slice_index}
+use Rattle.std.specs.Str.Lines.{strip_carriage_return}
+use Rattle.hex.specs.Hex.{encode_lower}
+use Rattle.afdx_frame.specs.Sides.{is_side}
+use Rattle.afdx_frame.specs.declared.link.Side.{Side}
+use Rattle.afdx_frame.specs.declared.link.Side.TheVariants.{A, B}
+use Rattle.afdx_config.specs.Rows.{SystemRow}
+use Rattle.afdx_lists.specs.FrameLines.{line_says}
+use Rattle.afdx_lists.specs.Lines.{lines_of, HasNoFeed, most_lines}
+use Rattle.afdx_frame.specs.Times.{latest_listed}
+use Rattle.afdx_lists.proofs.FrameLemmas.{line_says_nothing}
+use Rattle.afdx_lists.proofs.LineLemmas.{lines_of_feed, lines_of_nothing}
+use Rattle.afdx_port.proofs.TurnLemmas.{eqb-same, eqb-other}
+use Rattle.afdx_port.specs.Schedule.{Turn}
+use Rattle.afdx_send.specs.Frames as send
+use Rattle.afdx_send.specs.Words.{refusal_word, refusal_words}
+use Rattle.afdx_send.specs.declared.fault.SendFault.{SendFault}
+use Rattle.afdx_send.specs.declared.fault.SendFault.TheVariants.{NotMyLink, NoSuchSub, Empty}
+use Rattle.afdx_send.specs.declared.fault.SendFault.TheVariants.{TooLarge, QueueFull, Memory}
+use Rattle.afdx_promises.specs.Sent.{frame_on}
+use Rattle.afdx_end_to_end.specs.EndToEnd.{says_at, lines_at}
+use Rattle.afdx_sending.specs.Events.{Event, Emitted, Submitted, turns_in}
+use Rattle.afdx_sending.specs.Text.{sent_line, refusal_line, event_lines, send_text}
+use Rattle.afdx_sending.proofs.SendLemmas.{text-none, text-more}
+use Rattle.afdx_end_to_end.proofs.SentLineLemmas.{AtLeast, append-least, lower-least, none-below}
+use Rattle.afdx_end_to_end.proofs.SentLineLemmas.{index-least, decimal-least, line_of, line-feed}
+use Rattle.afdx_end_to_end.proofs.SentLineLemmas.{AreOfFrame, line-least, says}
+
+-- ---- texts of whole lines
+
+-- the text of these lines
+abbrev fed : List (List ℕ) → List ℕ
+fed [] = []
+fed (line ∷ lines) = line ++ 10 ∷ fed lines
+
+fed-append : (xs ys : List (List ℕ)) → fed (xs ++ ys) ≡ fed xs ++ fed ys
+fed-append [] ys = refl
+fed-append (line ∷ lines) ys = ap (λ (z : List ℕ). line ++ 10 ∷ z) (fed-append lines ys)
+    ∙ sym (append_assoc line (10 ∷ fed lines) (fed ys))
+
+lines-of-fed : (lines : List (List ℕ)) → AllByRecursion HasNoFeed lines → lines_of (fed lines) ≡ lines
+lines-of-fed [] all = lines_of_nothing
+lines-of-fed (line ∷ lines) all = lines_of_feed line (fed lines) all.0
+    ∙ ap (λ (z : List (List ℕ)). line ∷ z) (lines-of-fed lines all.1)
+
+all-join : {Y : Type 0} (P : Y → Type 0) (xs ys : List Y) → AllByRecursion P xs
+    → AllByRecursion P ys → AllByRecursion P (xs ++ ys)
+all-join P [] ys a b = b
+all-join P (x ∷ xs) ys a b = (a.0, all-join P xs ys a.1 b)
+
+-- ---- a refusal's line
+
+abbrev pub refused : ℕ → SendFault → List ℕ
+refused n fault = 35 ∷ 32 ∷ (decimal n ++ 32 ∷ refusal_word fault)
+
+refused-feed : (n : ℕ) (fault : SendFault) → refused n fault ++ 10 ∷ [] ≡ refusal_line n fault
+refused-feed n fault = ap (λ (z : List ℕ). 35 ∷ 32 ∷ z)
+    (append_assoc (decimal n) (32 ∷ refusal_word fault) (10 ∷ [])) ∙ grind (arith, common_steps)
+
+word-least : (fault : SendFault) → AtLeast 48 (refusal_word fault)
+unfolding refusal_words
+word-least NotMyLink = (omega arith, (omega arith, tt))
+word-least NoSuchSub = (omega arith, (omega arith, tt))
+word-least Empty = (omega arith, (omega arith, tt))
+word-least TooLarge = (omega arith, (omega arith, tt))
+word-least QueueFull = (omega arith, (omega arith, tt))
+word-least Memory = (omega arith, (omega arith, tt))
+
+pub refused-least : (n : ℕ) (fault : SendFault) → n ≤ most_lines → AtLeast 32 (refused n fault)
+refused-least n fault few = (
+  omega arith,
+  (
+    omega arith,
+    append-least 32 (decimal n) (32 ∷ refusal_word fault)
+        (lower-least 32 48 (decimal n) (omega arith) (decimal-least n (omega (arith, few))))
+        (omega arith, lower-least 32 48 (refusal_word fault) (omega arith) (word-least fault)),
+  ),
+)
+
+-- no line that has no byte below a space ends with a carriage return
+pub no-return : (line : List ℕ) → 0 < length line → AtLeast 32 line → line ≡ strip_carriage_return line
+no-return line some least =
+    rw (eqb-other (slice_index line (length line - 1)) 13
+    (λ e. (let k = index-least 32 (length line - 1) line (omega (arith, some)) least in
+    absurd (omega (arith, e, k))))) refl
+
+refused-says : (n : ℕ) (fault : SendFault) → n ≤ most_lines → line_says 0 (refused n fault) ≡ Ok None
+refused-says n fault few =
+    line_says_nothing 0 (refused n fault) (refused n fault)
+    (no-return (refused n fault) (omega arith) (refused-least n fault few)) refl
+
+-- ---- the lines of events
+
+-- the line of an emission on a side
+abbrev pub line_on : SystemRow → Side → Turn send.Frame → List ℕ
+line_on s side turn = line_of side s.port turn.end (encode_lower (frame_on s side turn.entry.item))
+
+abbrev pub lines_in : SystemRow → Event → List (List ℕ)
+lines_in s (Emitted turn) = line_on s A turn ∷ line_on s B turn ∷ []
+lines_in s (Submitted x (Some fault)) = refused x.line fault ∷ []
+lines_in s (Submitted x None) = []
+
+abbrev pub all_lines : SystemRow → List Event → List (List ℕ)
+all_lines s [] = []
+all_lines s (e ∷ before) = all_lines s before ++ lines_in s e
+
+-- the lines of the emissions on a side
+abbrev pub lines_on : SystemRow → Side → List (Turn send.Frame) → List (List ℕ)
+lines_on s side [] = []
+lines_on s side (turn ∷ earlier) = lines_on s side earlier ++ line_on s side turn ∷ []
+
+feed-more : (line : List ℕ) (rest : List ℕ) → line ++ 10 ∷ rest ≡ (line ++ 10 ∷ []) ++ rest
+feed-more line rest = sym (append_assoc line (10 ∷ []) rest)
+
+event-fed : (s : SystemRow) (e : Event) → fed (lines_in s e) ≡ event_lines s e
+event-fed s (Emitted turn) =
+    feed-more (line_on s A turn) (fed (line_on s B turn ∷ []))
+    ∙ ap (λ (z : List ℕ). z ++ fed (line_on s B turn ∷ []))
+    (line-feed A s.port turn.end (frame_on s A turn.entry.item))
+    ∙ ap (λ (z : List ℕ). sent_line A s.port turn.end (frame_on s A turn.entry.item) ++ z)
+    (line-feed B s.port turn.end (frame_on s B turn.entry.item))
+event-fed s (Submitted x (Some fault)) = refused-feed x.line fault
+event-fed s (Submitted x None) = refl
+
+text-fed : (s : SystemRow) (events : List Event) → send_text s events ≡ fed (all_lines s events)
+text-fed s [] = text-none s
+text-fed s (e ∷ before) =
+    text-more s e before ∙ ap (λ (z : List ℕ). z ++ event_lines s e) (text-fed s before)
+    ∙ ap (λ (z : List ℕ). fed (all_lines s before) ++ z) (sym (event-fed s e))
+    ∙ sym (fed-append (all_lines s before) (lines_in s e))
+
+-- an emission whose frames a list can hold
+pub record CanBeRead (s : SystemRow) (turn : Turn send.Frame) : Type 0 where
+  pub early : turn.end ≤ latest_listed
+  pub frames : (side : Side) → AreOfFrame (frame_on s side turn.entry.item)
+
+abbrev pub IsFine : SystemRow → Event → Type 0
+IsFine s (Emitted turn) = CanBeRead s turn
+IsFine s (Submitted x fault) = x.line ≤ most_lines
+
+module _ (s : SystemRow) (one : 1 ≤ s.port) (most : s.port ≤ 24) where
+  turn-feed : (side : Side) (turn : Turn send.Frame) → CanBeRead s turn → HasNoFeed (line_on s side turn)
+  turn-feed side turn can =
+      none-below 32 10 (line_on s side turn) (omega arith)
+      (line-least side s.port turn.end (frame_on s side turn.entry.item) one most can.early
+      (can.frames side))
+
+  event-feed : (e : Event) → IsFine s e → AllByRecursion HasNoFeed (lines_in s e)
+  event-feed (Emitted turn) can = (turn-feed A turn can, (turn-feed B turn can, tt))
+  event-feed (Submitted x (Some fault)) few =
+      (none-below 32 10 (refused x.line fault) (omega arith) (refused-least x.line fault few), tt)
+  event-feed (Submitted x None) few = tt
+
+  no-feed : (events : List Event) → AllByRecursion (IsFine s) events → AllByRecursion HasNoFeed (all_lines s events)
+  no-feed [] all = tt
+  no-feed (e ∷ before) all =
+      all-join HasNoFeed (all_lines s before) (lines_in s e) (no-feed before all.1) (event-feed e all.0)
+
+  pub lines-of-text : (events : List Event) → AllByRecursion (IsFine s) events
+      → lines_of (send_text s events) ≡ all_lines s events
+  lines-of-text events all = ap lines_of (text-fed s events) ∙ lines-of-fed (all_lines s events) (no-feed events all)
+
+  -- ---- those at the system's port
+
+  pub turn-says : (side : Side) (turn : Turn send.Frame) → CanBeRead s turn
+      → line_says 0 (line_on s side turn)
+      ≡ Ok (Some (record {
+        time = turn.end;
+        side = side;
+        port = s.port;
+        bytes = frame_on s side turn.entry.item;
+      }))
+  turn-says side turn can = says side s.port turn.end (frame_on s side turn.entry.item) one most
+      can.early (can.frames side)
+
+  turn-test : (side own : Side) (turn : Turn send.Frame) → CanBeRead s turn
+      → says_at side s.port (line_says 0 (line_on s own turn)) ≡ is_side side own
+  turn-test side own turn can = ap (says_at side s.port) (turn-says own turn can)
+      ∙ ap (λ b. is_side side own && b) (eqb-same s.port s.port refl) ∙ and-true (is_side side own)
+    where
+      and-true : (b : Bool) → (b && true) ≡ b
+      and-true true = refl
+      and-true false = refl
+
+  turn-lines : (side : Side) (turn : Turn send.Frame) → CanBeRead s turn
+      → lines_at side s.port (lines_in s (Emitted turn)) ≡ line_on s side turn ∷ []
+  turn-lines side turn can = rw (turn-test side A turn can, turn-test side B turn can) (by side)
+    where
+      by : (own : Side) → (if is_side own A then line_on s A turn
+          ∷ (if is_side own B then line_on s B turn ∷ [] else []) else
+          (if is_side own B then line_on s B turn ∷ [] else [])) ≡ line_on s own turn ∷ []
+      by A = refl
+      by B = refl
+
+  event-lines : (side : Side) (e : Event) (before : List Event) → IsFine s e
+      → lines_on s side (turns_in before) ++ lines_at side s.port (lines_in s e)
+      ≡ lines_on s side (turns_in (e ∷ before))
+  event-lines side (Emitted turn) before can =
+      ap (λ (z : List (List ℕ)). lines_on s side (turns_in before) ++ z) (turn-lines side turn can)
+  event-lines side (Submitted x (Some fault)) before few =
+      ap (λ r. lines_on s side (turns_in before)
+      ++ (if says_at side s.port r then refused x.line fault ∷ [] else []))
+      (refused-says x.line fault few) ∙ append-nil (lines_on s side (turns_in before))
+  event-lines side (Submitted x None) before few = append-nil (lines_on s side (turns_in before))
+
+  lines-at-port : (side : Side) (events : List Event) → AllByRecursion (IsFine s) events
+      → lines_at side s.port (all_lines s events) ≡ lines_on s side (turns_in events)
+  lines-at-port side [] all = refl
+  lines-at-port side (e ∷ before) all =
+      filter-append (λ line. says_at side s.port (line_says 0 line)) (all_lines s before)
+      (lines_in s e) ∙ ap (λ (z : List (List ℕ)). z ++ lines_at side s.port (lines_in s e))
+      (lines-at-port side before all.1) ∙ event-lines side e before all.0
+
+  pub text-at-port : (side : Side) (events : List Event) → AllByRecursion (IsFine s) events
+      → lines_at side s.port (lines_of (send_text s events)) ≡ lines_on s side (turns_in events)
+  text-at-port side events all = ap (lines_at side s.port) (lines-of-text events all) ∙ lines-at-port side events all
+
+  -- ---- and at other ports
+
+  turn-off : (side own : Side) (port : ℕ) (turn : Turn send.Frame) → (port ≡ s.port → ⊥)
+      → CanBeRead s turn → says_at side port (line_says 0 (line_on s own turn)) ≡ false
+  turn-off side own port turn ne can = ap (says_at side port) (turn-says own turn can)
+      ∙ ap (λ b. is_side side own && b) (eqb-other port s.port ne) ∙ and-false (is_side side own)
+    where
+      and-false : (b : Bool) → (b && false) ≡ false
+      and-false true = refl
+      and-false false = refl
+
+  event-off : (side : Side) (port : ℕ) (e : Event) → (port ≡ s.port → ⊥) → IsFine s e
+      → lines_at side port (lines_in s e) ≡ []
+  event-off side port (Emitted turn) ne can =
+      rw (turn-off side A port turn ne can, turn-off side B port turn ne can) refl
+  event-off side port (Submitted x (Some fault)) ne few =
+      ap (λ r. if says_at side port r then refused x.line fault ∷ [] else [])
+      (refused-says x.line fault few)
+  event-off side port (Submitted x None) ne few = refl
+
+  lines-off : (side : Side) (port : ℕ) (events : List Event) → (port ≡ s.port → ⊥)
+      → AllByRecursion (IsFine s) events → lines_at side port (all_lines s events) ≡ []
+  lines-off side port [] ne all = refl
+  lines-off side port (e ∷ before) ne all =
+      filter-append (λ line. says_at side port (line_says 0 line)) (all_lines s before)
+      (lines_in s e) ∙ ap (λ (z : List (List ℕ)). z ++ lines_at side port (lines_in s e))
+      (lines-off side port before ne all.1) ∙ event-off side port e ne all.0
+
+  pub text-off-port : (side : Side) (port : ℕ) (events : List Event) → (port ≡ s.port → ⊥)
+      → AllByRecursion (IsFine s) events → lines_at side port (lines_of (send_text s events)) ≡ []
+  text-off-port side port events ne all = ap (lines_at side port) (lines-of-text events all)
+      ∙ lines-off side port events ne all

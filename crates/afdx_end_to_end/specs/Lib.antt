@@ -1,0 +1,5 @@
+pub mod SentLaws
+pub mod Stops
+pub mod EndToEnd
+pub mod Merged
+pub mod OneSide

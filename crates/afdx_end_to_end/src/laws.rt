@@ -1,0 +1,65 @@
+//! From what a sender takes to what a replay tells of it.
+
+ghost use Rattle.afdx_end_to_end.specs.EndToEnd.{TakenIsToldOnce, WrittenIsSent, RunsTellTakenOnce};
+ghost use Rattle.afdx_end_to_end.specs.EndToEnd.{TextsAreLists};
+ghost use Rattle.afdx_end_to_end.specs.Merged.{MergedAreToldOnce};
+ghost use Rattle.afdx_end_to_end.specs.OneSide.{TakenIsToldByOneSide, TakenIsToldSoFar};
+ghost use Rattle.afdx_end_to_end.specs.SentLaws.{SentLinesAreArrivals, EventsAreOne, SendsAreOne};
+ghost use Rattle.afdx_end_to_end.specs.Stops.{EventsSoFarAreOne, EventsSoFarBegin};
+ghost use Rattle.afdx_end_to_end.specs.Stops.{StoppedSendsAreOne};
+
+use afdx_frame::laws::built_is_computed;
+use afdx_promises::laws::sent_is_told_once;
+use afdx_send::laws::all_is_sent;
+
+/// Each R line of a sender's text whose time is at most 10^15 ns, read as a frame list of one line,
+/// is the arrival of its frame: with its bytes, at its time, on its side and at its port.
+///
+/// So it is with each emission among the events of the first lines of a list of submissions, as far
+/// as they have no fault.
+pub fn sent_lines_are_arrivals()
+    ensures { SentLinesAreArrivals }
+{
+    built_is_computed()
+}
+
+/// What a run that sends tells is determined by its list: there is one list of events of the
+/// submissions, after which all that was taken is emitted, and so one text and one summary.
+pub fn events_are_one()
+    ensures events { EventsAreOne }
+    ensures texts { SendsAreOne }
+{}
+
+/// Of a run that sends and stops, what it told up to a submission is so determined, too, and begins
+/// what a run over a list tells that goes on.
+pub fn stopped_events_are_one()
+    ensures events { EventsSoFarAreOne }
+    ensures begin { EventsSoFarBegin }
+    ensures texts { StoppedSendsAreOne }
+{}
+
+/// Exactly once, end to end: where what `run_send` writes for a system is merged into a list that
+/// `run` reads, in any way that keeps its order, and no other line of the list is at the system's
+/// port, the M lines that `run` writes for each receiver of each link of that system are the
+/// messages which the sender took for the link, of those to the receiver's UDP ports: each once,
+/// in order of their releases; so, of a sub-VL, in the order in which they were handed over.
+///
+/// So it is too where on one side only the first of these lines come, as when a network fails;
+/// where this is so on both sides, as far as one of them has come.
+///
+/// All tables that are lawful and admitted. The lists have no fault, and each emission ends by
+/// 10^15 ns, the last time of a list. What a system sends is such a list by itself, where it has at
+/// most a million lines.
+pub fn taken_is_told_once()
+    ensures lines { TakenIsToldOnce }
+    ensures written { WrittenIsSent }
+    ensures runs { RunsTellTakenOnce }
+    ensures merged { MergedAreToldOnce }
+    ensures one_side { TakenIsToldByOneSide }
+    ensures so_far { TakenIsToldSoFar }
+    ensures alone { TextsAreLists }
+{
+    all_is_sent();
+    sent_is_told_once();
+    built_is_computed()
+}

@@ -1,0 +1,52 @@
+-- What a run over a recording answers, and what that says of its arrivals.
+use Rattle.std.proofs.Common.{◌≡◌, ℕ, List, ap, ◌∙◌}
+use Rattle.std.proofs.Common.{Option, Some, None, Result, Ok, Err, IfSome}
+use Rattle.afdx_lists.specs.declared.frame_line.Heading.{Heading}
+use Rattle.afdx_lists.specs.declared.fault.RunFault.{RunFault}
+use Rattle.afdx_police.specs.Arrival.{Arrival}
+use Rattle.afdx_recordings.specs.Reading.{recorded}
+use Rattle.afdx_engine.specs.Engine.{Item}
+use Rattle.afdx_engine.specs.Items.{arrivals}
+use Rattle.afdx_recorded.specs.declared.counts.Tally.{Tally}
+use Rattle.afdx_recorded.specs.Becoming.{Options}
+use Rattle.afdx_recorded.specs.Claims.{Ports, Agree}
+use Rattle.afdx_recorded.specs.NumberLines.{Lines, arrivals_listed}
+use Rattle.afdx_inputs.specs.RecordingRun.{RecordingAnswers}
+use Rattle.afdx_recorded.specs.Ordering.{Sequence}
+use Rattle.afdx_recorded.specs.Taking.{AreCutOff, late_of_one, taken_of, taken_of_bytes}
+use Rattle.afdx_inputs.specs.TakenRun.{IsOver, StopsTaken}
+use Rattle.afdx_recorded.specs.Timing.{timed}
+use Rattle.afdx_recorded.proofs.LawLemmas.{sequences-agree}
+use Rattle.afdx_inputs.proofs.TakenLemmas.{answers-same}
+
+-- ---- by ports that agree
+
+module _ (options : Options) (p q : Ports) (a : Agree p q) where
+  -- what is taken is the same
+  pub taken-agree : (bytes : List ℕ) → taken_of_bytes options p bytes ≡ taken_of_bytes options q bytes
+  taken-agree bytes =
+      ap (λ (s : Sequence). taken_of options.origin s) (sequences-agree options p q (recorded bytes) a)
+
+  pub cut-agree : (bytes : List ℕ) (rest : Option (List ℕ)) (lines : Lines) → AreCutOff options p bytes rest lines
+      → AreCutOff options q bytes rest lines
+  cut-agree bytes rest lines h = (
+    h.0,
+    h.1,
+    h.2 ∙ ap (λ (s : Sequence). (timed late_of_one options.origin s.known).lines)
+        (sequences-agree options p q (recorded h.0) a),
+  )
+
+  module _ (done told begins : List (Item Heading) → Type 0) where
+    pub answers-agree : (bytes : List ℕ) (rest : Option (List ℕ)) (r : Result Tally RunFault)
+        → RecordingAnswers options p done told begins bytes rest r
+        → RecordingAnswers options q done told begins bytes rest r
+    answers-agree bytes rest r h =
+        answers-same (taken_of_bytes options p bytes) (taken_of_bytes options q bytes)
+        (AreCutOff options p bytes rest) (AreCutOff options q bytes rest) arrivals_listed done told begins r
+        (taken-agree bytes) (λ lines c. cut-agree bytes rest lines c) h
+
+    pub if-agree : (left rest : Option (List ℕ)) (r : Result Tally RunFault)
+        → IfSome left (λ bytes. RecordingAnswers options p done told begins bytes rest r)
+        → IfSome left (λ bytes. RecordingAnswers options q done told begins bytes rest r)
+    if-agree None rest r h = tt
+    if-agree (Some bytes) rest r h = answers-agree bytes rest r h

@@ -1,0 +1,11 @@
+pub mod ListingLemmas
+pub mod CutLemmas
+pub mod TakenLemmas
+pub mod PairRunLemmas
+pub mod RecordingRunLemmas
+pub mod OverLemmas
+pub mod PairAnswerLemmas
+pub mod InputLemmas
+pub mod LookLemmas
+pub mod ArrivalsLemmas
+pub mod TookLemmas

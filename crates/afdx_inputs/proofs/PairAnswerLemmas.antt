@@ -1,0 +1,348 @@
+-- What a run over two recordings answers, from what it hands from them to its machine.
+use Rattle.std.proofs.Common.{◌≡◌, ℕ, ◌≤◌, List, [], ◌∷◌, ◌++◌, length, refl, ap, sym, ◌∙◌, subst, arith}
+use Rattle.std.proofs.Common.{IfSome, Option, Some, None, Result, Err, Bool, false, ◌||◌, inl, inr}
+use Rattle.afdx_frame.specs.declared.by_side.BySide.{BySide}
+use Rattle.afdx_frame.specs.declared.link.Side.TheVariants.{A, B}
+use Rattle.afdx_lists.specs.Calls.{is_read}
+use Rattle.afdx_lists.specs.Watching.{device_of, has_ended, has_failed}
+use Rattle.afdx_lists.specs.declared.fault.RunFault.{RunFault}
+use Rattle.afdx_lists.specs.declared.fault.RunFault.TheVariants as run
+use Rattle.afdx_lists.specs.declared.watched.Watched.{Watched}
+use Rattle.afdx_recordings.specs.Holding.{standing, GivesSome}
+use Rattle.afdx_recordings.specs.Recordings.{most_numbers}
+use Rattle.afdx_engine.specs.Engine.{Item}
+use Rattle.afdx_recorded.specs.declared.ahead.Ahead.{Ahead}
+use Rattle.afdx_recorded.specs.declared.ahead.AtHead.{AtHead}
+use Rattle.afdx_recorded.specs.declared.ahead.AtHead.TheVariants as at
+use Rattle.afdx_recorded.specs.declared.counts.Tally.{Tally}
+use Rattle.afdx_recorded.specs.declared.pair_options.PairOptions.{PairOptions}
+use Rattle.afdx_recorded.specs.declared.timed_pair.TimedPair.{TimedPair}
+use Rattle.afdx_recorded.specs.Becoming.{Options}
+use Rattle.afdx_recorded.specs.Claims.{Ports, ports_of}
+use Rattle.afdx_recorded.specs.Counting.{IsFew, plus_tally}
+use Rattle.afdx_inputs.specs.ListText.{lines_themselves}
+use Rattle.afdx_recorded.specs.NumberLines.{Lines}
+use Rattle.afdx_inputs.specs.Over.{CutOfTwo, IsAsked, Takes, both, of_set, way_of_two, whole_of_two}
+use Rattle.afdx_recorded.specs.PairOptions.{options_of_a, options_of_b}
+use Rattle.afdx_recorded.specs.PairSource.{IsAhead, IsAheadBy, IsPaired, NoneIsBefore, StopsPairing, head_by}
+use Rattle.afdx_recorded.specs.OrderedRecording.{OrderedRecording, IsSetInOrder, HasTaken, HasTakenAll, HasStoppedTaking}
+use Rattle.afdx_recorded.specs.OrderedRecording.{number_taken, tally_of_source}
+use Rattle.afdx_recorded.specs.Ordering.{Sequence}
+use Rattle.afdx_inputs.specs.ReadPair.{IsNewPair}
+use Rattle.afdx_inputs.specs.RecordingRun.{AreCutOffInPair, IfBoth, of_a, of_b, taken_of_pair}
+use Rattle.afdx_recorded.specs.RecordingSource.{first_standing}
+use Rattle.afdx_recorded.specs.Sequences.{Numbers, latest_of, numbers_read}
+use Rattle.afdx_recorded.specs.Taking.{AreCutOffAtOne, sequence_of_bytes, side_of, taken_of_both}
+use Rattle.afdx_inputs.specs.TakenRun.{TakenAnswers}
+use Rattle.afdx_recorded.specs.TimedPairSource.{HasPaired, HasPairedAll, HasStoppedPairing}
+use Rattle.afdx_recorded.specs.Timing.{origin_in, timed}
+use Rattle.afdx_recorded.proofs.OrderedKnownLemmas.{ended-all, taken-sound, all-sound, stopped-sound}
+use Rattle.afdx_recorded.proofs.LawLemmas.{sequences-agree}
+use Rattle.afdx_inputs.proofs.PairRunLemmas.{pair-gave, pair-ended, pair-stopped, named-read, network-unread}
+use Rattle.afdx_inputs.proofs.PairRunLemmas.{either-false, either-left, either-right, sound-by}
+use Rattle.afdx_inputs.proofs.RecordingRunLemmas.{asked-by, gave-start}
+use Rattle.afdx_recorded.proofs.SourceLemmas.{few-claimed, few-skipped}
+use Rattle.afdx_inputs.proofs.TakenLemmas.{answers-same, taken-start}
+
+-- where the bytes of both are known
+pub if-both : (a b : Option (List ℕ)) (P : List ℕ → List ℕ → Type 0)
+    → ((x y : List ℕ) → a ≡ Some x → b ≡ Some y → P x y) → IfBoth a b P
+if-both (Some x) (Some y) P f = f x y refl refl
+if-both (Some x) None P f = tt
+if-both None (Some y) P f = tt
+if-both None None P f = tt
+
+pub both-more : (x y : Option (List ℕ)) (Q : List ℕ × List ℕ → Type 0) (P : List ℕ → List ℕ → Type 0)
+    → ((a b : List ℕ) → Q (a, b) → P a b) → IfSome (both x y) Q → IfBoth x y P
+both-more (Some a) (Some b) Q P f h = f a b h
+both-more (Some a) None Q P f h = tt
+both-more None (Some b) Q P f h = tt
+both-more None None Q P f h = tt
+
+first_in : Option (List ℕ × List ℕ) → List ℕ
+first_in None = []
+first_in (Some p) = p.0
+
+second_in : Option (List ℕ × List ℕ) → List ℕ
+second_in None = []
+second_in (Some p) = p.1
+
+pub both-a : (a b : Option (List ℕ)) (bytes : List ℕ × List ℕ) → both a b ≡ Some bytes → a ≡ Some bytes.0
+unfolding first_in
+both-a (Some a) (Some b) bytes e = ap (λ (o : Option (List ℕ × List ℕ)). Some (first_in o)) e
+both-a (Some a) None bytes e = absurd (cc)
+both-a None b bytes e = absurd (cc)
+
+pub both-b : (a b : Option (List ℕ)) (bytes : List ℕ × List ℕ) → both a b ≡ Some bytes → b ≡ Some bytes.1
+unfolding second_in
+both-b (Some a) (Some b) bytes e = ap (λ (o : Option (List ℕ × List ℕ)). Some (second_in o)) e
+both-b (Some a) None bytes e = absurd (cc)
+both-b None b bytes e = absurd (cc)
+
+same-tallies : (a b c d : Tally) → a ≡ c → b ≡ d → plus_tally a b ≡ plus_tally c d
+same-tallies a b c d e f = rw (e, f) refl
+
+-- what is taken of sequences that are the same
+same-taken : (said said' : Option ℕ) (a a' b b' : Sequence) → a ≡ a' → b ≡ b' → said ≡ said'
+    → taken_of_both said a b ≡ taken_of_both said' a' b'
+same-taken said said' a a' b b' e f g = rw (e, f, g) refl
+
+-- ---- one of the two
+
+module _ {R : Type 0} (remaining : R → Option (List ℕ)) (start input : Watched R) (source : OrderedRecording) where
+  gives-by : (head : AtHead) (taken : Numbers)
+      → IsAheadBy (HasTaken remaining start source input) (HasTakenAll remaining start source input) (number_taken source) head
+      taken → GivesSome (first_standing remaining start) (standing remaining source.source.reader.held input)
+  gives-by at.Unknown taken h = (taken-sound remaining start input source taken h).1
+  gives-by (at.Arrival moment) taken h = (taken-sound remaining start input source (number_taken source ∷ taken) h.0).1
+  gives-by at.Over taken h = (all-sound remaining start input source taken h).2
+
+  pub few-of : (taken : Numbers) → HasTakenAll remaining start source input taken → IsFew (tally_of_source source)
+  few-of taken all =
+      let h = all.ended_so in
+      let skipped = few-skipped (numbers_read all.read) in
+      let claimed = few-claimed (numbers_read all.read) in record {
+        numbers = omega (arith, h.remembers.numbers, h.few);
+        counts = record {
+          skipped = rw h.remembers.counts (omega (arith, skipped, h.few));
+          claimed = rw h.remembers.counts (omega (arith, claimed, h.few));
+        };
+      }
+
+module _ {R : Type 0} (remaining : R → Option (List ℕ)) (start inputs : BySide (Watched R))
+    (source : TimedPair OrderedRecording) where
+  abbrev pub Gave : Lines → Type 0
+  Gave lines = HasPaired number_taken (HasTaken remaining) (HasTakenAll remaining) start source inputs lines
+
+  abbrev pub Ended : Lines → Type 0
+  Ended lines = HasPairedAll number_taken (HasTaken remaining) (HasTakenAll remaining) start source inputs lines
+
+  abbrev pub Stopped : Lines → RunFault → Type 0
+  Stopped lines fault =
+      HasStoppedPairing number_taken (HasTaken remaining) (HasTakenAll remaining) (HasStoppedTaking remaining) start source inputs lines
+      fault
+
+  -- ---- whether a device failed
+
+  abbrev AheadA : ℕ → Numbers → Type 0
+  AheadA latest taken =
+      IsAhead number_taken (HasTaken remaining) (HasTakenAll remaining) latest start.a source.pair.a inputs.a taken
+
+  abbrev AheadB : ℕ → Numbers → Type 0
+  AheadB latest taken =
+      IsAhead number_taken (HasTaken remaining) (HasTakenAll remaining) latest start.b source.pair.b inputs.b taken
+
+  sound-a : (latest : ℕ) (taken : Numbers) → AheadA latest taken → inputs.a.failed ≡ false
+  sound-a latest taken h =
+      sound-by remaining start.a inputs.a source.pair.a.source source.pair.a.head taken h.known
+
+  sound-b : (latest : ℕ) (taken : Numbers) → AheadB latest taken → inputs.b.failed ≡ false
+  sound-b latest taken h =
+      sound-by remaining start.b inputs.b source.pair.b.source source.pair.b.head taken h.known
+
+  pub paired-sound : (past : Numbers) → IsPaired number_taken (HasTaken remaining) (HasTakenAll remaining) start source.pair inputs past
+      → (inputs.a.failed || inputs.b.failed) ≡ false
+  paired-sound past h =
+      either-false inputs.a.failed inputs.b.failed (sound-a (latest_of past) h.taken_a h.a)
+      (sound-b (latest_of past) h.taken_b h.b)
+
+  stops-failed : (past : Numbers) (fault : RunFault)
+      → StopsPairing number_taken (HasTaken remaining) (HasTakenAll remaining) (HasStoppedTaking remaining) start source.pair inputs past
+      fault → (inputs.a.failed || inputs.b.failed) ≡ is_read fault
+  stops-failed past fault (inl h) =
+      either-left inputs.a.failed inputs.b.failed (is_read fault)
+      ((stopped-sound remaining start.a inputs.a source.pair.a.source h.taken_a h.fault_a h.stopped_a).0
+      ∙ sym (named-read A h.fault_a) ∙ sym (ap is_read h.fault_is))
+      (sound-b (latest_of past) h.taken_b h.b)
+  stops-failed past fault (inr h) =
+      either-right inputs.a.failed inputs.b.failed (is_read fault) (sound-a (latest_of past) h.taken_a h.a)
+      ((stopped-sound remaining start.b inputs.b source.pair.b.source h.taken_b h.fault_b h.stopped_b).0
+      ∙ sym (named-read B h.fault_b) ∙ sym (ap is_read h.fault_is))
+
+  pub stopped-failed : (lines : Lines) (fault : RunFault) → Stopped lines fault
+      → (inputs.a.failed || inputs.b.failed) ≡ is_read fault
+  stopped-failed lines fault (inl h) = stops-failed h.past fault h.stops
+  stopped-failed lines fault (inr h) =
+      paired-sound (h.x ∷ h.before) h.is_paired
+      ∙ sym (ap is_read h.fault_is ∙ network-unread (side_of h.x.head) _)
+
+  -- ---- how often each was asked
+
+  abbrev GivesA : Type 0
+  GivesA =
+      GivesSome (first_standing remaining start.a) (standing remaining source.pair.a.source.source.reader.held inputs.a)
+
+  abbrev GivesB : Type 0
+  GivesB =
+      GivesSome (first_standing remaining start.b) (standing remaining source.pair.b.source.source.reader.held inputs.b)
+
+  ahead-gives-a : (latest : ℕ) (taken : Numbers) → AheadA latest taken → GivesA
+  ahead-gives-a latest taken h =
+      gives-by remaining start.a inputs.a source.pair.a.source source.pair.a.head taken h.known
+
+  ahead-gives-b : (latest : ℕ) (taken : Numbers) → AheadB latest taken → GivesB
+  ahead-gives-b latest taken h =
+      gives-by remaining start.b inputs.b source.pair.b.source source.pair.b.head taken h.known
+
+  pub paired-gives : (past : Numbers) → IsPaired number_taken (HasTaken remaining) (HasTakenAll remaining) start source.pair inputs past
+      → GivesA × GivesB
+  paired-gives past h =
+      (ahead-gives-a (latest_of past) h.taken_a h.a, ahead-gives-b (latest_of past) h.taken_b h.b)
+
+  stops-gives : (past : Numbers) (fault : RunFault)
+      → StopsPairing number_taken (HasTaken remaining) (HasTakenAll remaining) (HasStoppedTaking remaining) start source.pair inputs past
+      fault → GivesA × GivesB
+  stops-gives past fault (inl h) = (
+    (stopped-sound remaining start.a inputs.a source.pair.a.source h.taken_a h.fault_a h.stopped_a).1,
+    ahead-gives-b (latest_of past) h.taken_b h.b,
+  )
+  stops-gives past fault (inr h) = (
+    ahead-gives-a (latest_of past) h.taken_a h.a,
+    (stopped-sound remaining start.b inputs.b source.pair.b.source h.taken_b h.fault_b h.stopped_b).1,
+  )
+
+  pub stopped-gives : (lines : Lines) (fault : RunFault) → Stopped lines fault → GivesA × GivesB
+  stopped-gives lines fault (inl h) = stops-gives h.past fault h.stops
+  stopped-gives lines fault (inr h) = paired-gives (h.x ∷ h.before) h.is_paired
+
+  pub ended-gives : (lines : Lines) → Ended lines → GivesA × GivesB
+  ended-gives lines h = (
+    (all-sound remaining start.a inputs.a source.pair.a.source h.is_paired.taken_a h.is_paired.ended_a).2,
+    (all-sound remaining start.b inputs.b source.pair.b.source h.is_paired.taken_b h.is_paired.ended_b).2,
+  )
+
+  pub asked-both : GivesA × GivesB → IsAsked remaining start.a inputs.a × IsAsked remaining start.b inputs.b
+  asked-both (a, b) = (
+    λ fresh. asked-by remaining start.a inputs.a source.pair.a.source.source.reader.held a fresh,
+    λ fresh. asked-by remaining start.b inputs.b source.pair.b.source.source.reader.held b fresh,
+  )
+
+  module _ (set_a : IsSetInOrder source.pair.a.source) (set_b : IsSetInOrder source.pair.b.source)
+      (bytes_a bytes_b : List ℕ) (known_a : remaining start.a.inner ≡ Some bytes_a)
+      (known_b : remaining start.b.inner ≡ Some bytes_b) where
+    tally-of-two : (lines : Lines) → Ended lines
+        → plus_tally (tally_of_source source.pair.a.source) (tally_of_source source.pair.b.source)
+        ≡ (whole_of_two (way_of_two source) (bytes_a, bytes_b)).tally
+    tally-of-two lines k =
+        let a = ended-all remaining start.a inputs.a source.pair.a.source set_a k.is_paired.taken_a bytes_a known_a
+        k.is_paired.ended_a in
+        let b = ended-all remaining start.b inputs.b source.pair.b.source set_b k.is_paired.taken_b bytes_b known_b
+        k.is_paired.ended_b in
+        same-tallies _ _ _ _ a.tally b.tally
+
+    pub two-take : Takes lines_themselves (whole_of_two (way_of_two source) (bytes_a, bytes_b))
+        (CutOfTwo remaining (way_of_two source) (bytes_a, bytes_b) inputs) Gave Ended Stopped
+        (plus_tally (tally_of_source source.pair.a.source) (tally_of_source source.pair.b.source))
+    two-take = record {
+      first = λ lines k. record {
+        lines = lines;
+        known_so = pair-gave remaining start inputs source set_a set_b bytes_a bytes_b known_a known_b lines k;
+        items_are = refl;
+      };
+      all = λ lines k. record {
+        lines = lines;
+        known_so = pair-ended remaining start inputs source set_a set_b bytes_a bytes_b known_a known_b lines k;
+        items_are = refl;
+      };
+      tally = λ lines k. tally-of-two lines k;
+      stops = λ lines fault k. record {
+        lines = lines;
+        known_so = pair-stopped remaining start inputs source set_a set_b bytes_a bytes_b known_a known_b lines fault k;
+        items_are = refl;
+      };
+    }
+
+-- ---- by the options and the ports that they were made with
+
+cut-same : (said said' : Option ℕ) (a a' b b' : List ℕ → Sequence) → said ≡ said'
+    → ((bytes : List ℕ) → a bytes ≡ a' bytes) → ((bytes : List ℕ) → b bytes ≡ b' bytes)
+    → (fa fb : Bool) (bytes_a bytes_b : List ℕ) (rest_a rest_b : Option (List ℕ)) (lines : Lines)
+    → AreCutOffAtOne said a b fa fb bytes_a bytes_b rest_a rest_b lines
+    → AreCutOffAtOne said' a' b' fa fb bytes_a bytes_b rest_a rest_b lines
+cut-same said said' a a' b b' e f g fa fb bytes_a bytes_b rest_a rest_b lines (inl (failed, (read, gave, is))) =
+    inl (failed, (read, gave, rw (← e, ← f read, ← g bytes_b) is))
+cut-same said said' a a' b b' e f g fa fb bytes_a bytes_b rest_a rest_b lines (inr (failed, (read, gave, is))) =
+    inr (failed, (read, gave, rw (← e, ← f bytes_a, ← g read) is))
+
+module _ (options : PairOptions) (ports : Ports) (source : TimedPair OrderedRecording)
+    (new : IsNewPair options ports source) where
+  same-a : (bytes : List ℕ) → of_set (way_of_two source).0 bytes ≡ of_a options ports bytes
+  same-a bytes =
+      let of_a = source.pair.a.source.source in
+      ap (λ (o : Options). sequence_of_bytes o (ports_of of_a.ports) bytes) new.options_a
+      ∙ sequences-agree (options_of_a options) (ports_of of_a.ports) ports _ new.ports_a
+
+  same-b : (bytes : List ℕ) → of_set (way_of_two source).1 bytes ≡ of_b options ports bytes
+  same-b bytes =
+      let of_b = source.pair.b.source.source in
+      ap (λ (o : Options). sequence_of_bytes o (ports_of of_b.ports) bytes) new.options_b
+      ∙ sequences-agree (options_of_b options) (ports_of of_b.ports) ports _ new.ports_b
+
+  pub two-by : {H : Type 0} (items_of : Lines → List (Item H)) (done told begins : List (Item H) → Type 0)
+      (r : Result Tally RunFault) {R : Type 0} (remaining : R → Option (List ℕ)) (start rest : BySide (Watched R))
+      → IfSome (both (remaining start.a.inner) (remaining start.b.inner)) (λ bytes.
+      TakenAnswers (whole_of_two (way_of_two source) bytes) (CutOfTwo remaining (way_of_two source) bytes rest)
+      items_of done told begins r)
+      → IfBoth (remaining start.a.inner) (remaining start.b.inner) (λ a b.
+      TakenAnswers (taken_of_pair options ports a b) (AreCutOffInPair options ports remaining a b rest)
+      items_of done told begins r)
+  two-by items_of done told begins r remaining start rest =
+      both-more (remaining start.a.inner) (remaining start.b.inner)
+      (λ bytes. TakenAnswers (whole_of_two (way_of_two source) bytes) (CutOfTwo remaining (way_of_two source) bytes rest)
+      items_of done told begins r)
+      (λ a b. TakenAnswers (taken_of_pair options ports a b) (AreCutOffInPair options ports remaining a b rest)
+      items_of done told begins r)
+      (λ a b h. answers-same (whole_of_two (way_of_two source) (a, b)) (taken_of_pair options ports a b)
+      (CutOfTwo remaining (way_of_two source) (a, b) rest) (AreCutOffInPair options ports remaining a b rest)
+      items_of done told begins r (same-taken _ _ _ _ _ _ (same-a a) (same-b b) new.said)
+      (λ lines k. cut-same source.clock.said options.origin
+      (of_set (way_of_two source).0) (of_a options ports) (of_set (way_of_two source).1) (of_b options ports)
+      new.said same-a same-b (has_failed rest.a) (has_failed rest.b) a b (remaining (device_of rest.a))
+      (remaining (device_of rest.b)) lines k) h)
+
+-- ---- before the first read
+
+ahead-start : {R : Type 0} (remaining : R → Option (List ℕ)) (input : Watched R) (ahead : Ahead OrderedRecording)
+    → ahead.head ≡ at.Unknown → HasTaken remaining input ahead.source input []
+    → IsAhead number_taken (HasTaken remaining) (HasTakenAll remaining) (latest_of []) input ahead input []
+ahead-start remaining input ahead e gave = record {
+  known = subst (λ (h : AtHead). IsAheadBy (HasTaken remaining input ahead.source input)
+      (HasTakenAll remaining input ahead.source input) (number_taken ahead.source) h []) (sym e) gave;
+  order = subst (λ (h : AtHead). NoneIsBefore (latest_of []) h []) (sym e) (omega arith);
+  few = subst (λ (h : AtHead). length (head_by (number_taken ahead.source) h ++ []) ≤ most_numbers) (sym e) (omega arith);
+}
+
+pub pair-start : {R : Type 0} (remaining : R → Option (List ℕ)) (inputs : BySide (Watched R))
+    (source : TimedPair OrderedRecording) (options : PairOptions) (ports : Ports) → inputs.a.failed ≡ false
+    → inputs.b.failed ≡ false → has_ended inputs.a ≡ false → has_ended inputs.b ≡ false
+    → IsNewPair options ports source
+    → HasPaired number_taken (HasTaken remaining) (HasTakenAll remaining) inputs source inputs []
+unfolding timed origin_in
+pair-start remaining inputs source options ports sound_a sound_b ended_a ended_b new = record {
+  past = [];
+  is_paired = record {
+    taken_a = [];
+    taken_b = [];
+    a = ahead-start remaining inputs.a source.pair.a new.head_a
+        (gave-start remaining inputs.a source.pair.a.source sound_a ended_a new.unread_a);
+    b = ahead-start remaining inputs.b source.pair.b new.head_b
+        (gave-start remaining inputs.b source.pair.b.source sound_b ended_b new.unread_b);
+    sum = refl;
+    joins = λ xs ys fx fy ca cb. refl;
+  };
+  are_timed = record { timed_as = refl; zero = new.zero ∙ sym new.said };
+}
+
+-- memory ran out before anything was read
+pub pair-unread : {R : Type 0} (remaining : R → Option (List ℕ)) (inputs : BySide (Watched R)) (options : PairOptions)
+    (ports : Ports) {H : Type 0} (items_of : Lines → List (Item H)) (done told begins : List (Item H) → Type 0)
+    → items_of [] ≡ [] → told []
+    → IfBoth (remaining inputs.a.inner) (remaining inputs.b.inner)
+    (λ a b. TakenAnswers (taken_of_pair options ports a b) (AreCutOffInPair options ports remaining a b inputs)
+    items_of done told begins (Err run.Memory))
+pair-unread remaining inputs options ports items_of done told begins e t =
+    if-both (remaining inputs.a.inner) (remaining inputs.b.inner)
+    (λ a b. TakenAnswers (taken_of_pair options ports a b) (AreCutOffInPair options ports remaining a b inputs)
+    items_of done told begins (Err run.Memory))
+    (λ a b known_a known_b. taken-start (taken_of_pair options ports a b)
+    (AreCutOffInPair options ports remaining a b inputs) items_of done told begins e t)

@@ -1,0 +1,41 @@
+use Rattle.std.proofs.Common.{rules, refl}
+use Rattle.afdx_recorded.specs.Becoming.{options_of}
+use Rattle.afdx_recorded.specs.Claims.{ports_of}
+use Rattle.afdx_inputs.specs.ListText.{WritesLines, WritesSomeLines, lines_themselves}
+use Rattle.afdx_inputs.proofs.ListingLemmas.{lines-start}
+use Rattle.afdx_inputs.proofs.RecordingRunLemmas.{answers-start, one-by, one-set, timed-start, unasked}
+use Rattle.afdx_inputs.proofs.listing.list_recording.Goals as goal
+
+pub returns-in_err-lines-clause-calls : goal.returns-in_err-lines-clause-calls
+returns-in_err-lines-clause-calls g c =
+    unasked (g.R.Read.remaining c.args.input.now.inner) c.args.input.now.calls
+
+pub returns-in_err-lines-clause-answer : goal.returns-in_err-lines-clause-answer
+returns-in_err-lines-clause-answer g c =
+    let old = g.O.Sink.written c.args.output.now in
+    let stop = answers-start (options_of c.args.options) (ports_of c.args.ports) lines_themselves
+    (WritesLines old old) (WritesLines old old) (WritesSomeLines old old)
+    (g.R.Read.remaining c.args.input.now.inner) (g.R.Read.remaining c.args.input.now.inner) refl (lines-start old) in
+    search rules
+
+pub run_over-requires-clause-gave : goal.run_over-requires-clause-gave
+run_over-requires-clause-gave g c =
+    timed-start c.args.options c.args.ports c.in_ok-lines.lines c.in_ok-lines.ensures g.R.Read.remaining c.args.input.now
+    c.requires.sound_input c.requires.unended
+
+pub run_over-requires-clause-set : goal.run_over-requires-clause-set
+run_over-requires-clause-set g c = one-set c.args.options c.args.ports c.in_ok-lines.lines c.in_ok-lines.ensures
+
+pub run_over-requires-clause-told : goal.run_over-requires-clause-told
+run_over-requires-clause-told g c = (tt, lines-start (g.O.Sink.written c.args.output.now))
+
+pub returns-clause-calls : goal.returns-clause-calls
+returns-clause-calls g c = c.run_over.ensures.calls (rw (c.requires.sound_input, c.requires.unended) refl)
+
+pub returns-clause-answer : goal.returns-clause-answer
+returns-clause-answer g c =
+    let old = g.O.Sink.written c.args.output.now in
+    let new = g.O.Sink.written c.run_over.new.output in
+    one-by c.args.options c.args.ports c.in_ok-lines.lines c.in_ok-lines.ensures lines_themselves
+    (WritesLines old new) (WritesLines old new) (WritesSomeLines old new) c.run_over.result (g.R.Read.remaining c.args.input.now.inner)
+    (g.R.Read.remaining c.run_over.new.input.inner) (c.run_over.ensures.answer tt (lines-start old))

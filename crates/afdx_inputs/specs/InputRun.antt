@@ -1,0 +1,51 @@
+-- What a run over an input answers that is a list of frames, or a recording.
+use Rattle.std.specs.Prelude.{ℕ, ◌≤◌, ◌+◌, ◌||◌, Bool, true, false, List, take, Option, Some, None}
+use Rattle.std.specs.Prelude.{Result, Ok, Err}
+use Rattle.afdx_lists.specs.Peeking.{looked_at}
+use Rattle.afdx_lists.specs.Lines.{most_reads}
+use Rattle.afdx_lists.specs.declared.frame_line.Heading.{Heading}
+use Rattle.afdx_lists.specs.declared.fault.RunFault.{RunFault}
+use Rattle.afdx_lists.specs.FrameLines.{listed_frame}
+use Rattle.afdx_recordings.specs.Beginning.{is_recording}
+use Rattle.afdx_engine.specs.Engine.{Item}
+use Rattle.afdx_engine.specs.Items.{thing_of}
+use Rattle.afdx_engine.specs.Listed.{frames}
+use Rattle.afdx_engine.specs.ListRun.{ListAnswers}
+use Rattle.afdx_recorded.specs.declared.becoming.RecordingOptions.{RecordingOptions}
+use Rattle.afdx_inputs.specs.declared.input_run.InputCount.{InputCount}
+use Rattle.afdx_inputs.specs.declared.input_run.InputCount.TheVariants.{Lines, Recorded}
+use Rattle.afdx_recorded.specs.Becoming.{Options}
+use Rattle.afdx_recorded.specs.Claims.{Ports}
+use Rattle.afdx_inputs.specs.RecordingRun.{IsAskedOnce, RecordingAnswers}
+
+-- an input whose first bytes are these is read as a recording: it has to be one, or begins as one
+abbrev pub is_recorded : RecordingOptions → List ℕ → Bool
+is_recorded options seen = options.are_given || is_recording seen
+
+-- so is one that gives this, by its true first bytes; one that gives nobody knows what may be one
+abbrev pub is_read_recorded : RecordingOptions → (left : Option (List ℕ)) → Bool
+is_read_recorded options None = true
+is_read_recorded options (Some bytes) = is_recorded options (take looked_at bytes)
+
+-- how often an input may be asked: a recording at most once for each byte, and once more
+abbrev pub IsAskedBy : Bool → (left rest : Option (List ℕ)) → (old new : ℕ) → Type 0
+IsAskedBy true left rest old new = IsAskedOnce left rest old new
+IsAskedBy false left rest old new = new ≤ old + most_reads
+
+-- and that often more to look at its first bytes
+abbrev pub IsAskedFew : RecordingOptions → (left rest : Option (List ℕ)) → (old new : ℕ) → Type 0
+IsAskedFew options left rest old new =
+    IsAskedBy (is_read_recorded options left) left rest (old + looked_at) new
+
+module _ (options : Options) (ports : Ports) (done told begins : List (Item Heading) → Type 0) where
+  -- what a run answers whose input has these bytes, and then has `rest`, as a recording or a list
+  abbrev pub InputAnswers : Bool → List ℕ → Option (List ℕ) → Result InputCount RunFault → Type 0
+  InputAnswers true bytes rest (Ok (Recorded tally)) =
+      RecordingAnswers options ports done told begins bytes rest (Ok tally)
+  InputAnswers true bytes rest (Err fault) =
+      RecordingAnswers options ports done told begins bytes rest (Err fault)
+  InputAnswers false bytes rest (Ok (Lines n)) =
+      ListAnswers frames (thing_of frames listed_frame) done told begins bytes rest (Ok n)
+  InputAnswers false bytes rest (Err fault) =
+      ListAnswers frames (thing_of frames listed_frame) done told begins bytes rest (Err fault)
+  InputAnswers _ bytes rest (Ok _) = ⊥

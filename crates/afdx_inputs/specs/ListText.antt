@@ -1,0 +1,58 @@
+-- The text of the frame list that says the same as a recording.
+use Rattle.std.specs.Prelude.{ℕ, List, [], ◌∷◌, ◌++◌, Option, Result}
+use Rattle.std.specs.Io.KnownBytes.{Appends}
+use Rattle.afdx_frame.specs.declared.by_side.BySide.{BySide}
+use Rattle.afdx_lists.specs.declared.fault.RunFault.{RunFault}
+use Rattle.afdx_lists.specs.declared.watched.Watched.{Watched}
+use Rattle.afdx_lists.specs.Calls.{AppendsFront}
+use Rattle.afdx_engine.specs.Engine.{Bytes, Item}
+use Rattle.afdx_text.specs.OutLines.{frame_line, remark_line}
+use Rattle.afdx_recorded.specs.declared.number_line.NumberLine.{NumberLine}
+use Rattle.afdx_recorded.specs.declared.number_line.NumberLine.TheVariants.{Arrival, Skipped}
+use Rattle.afdx_recorded.specs.declared.counts.Tally.{Tally}
+use Rattle.afdx_recorded.specs.declared.pair_options.PairOptions.{PairOptions}
+use Rattle.afdx_recorded.specs.Becoming.{Options}
+use Rattle.afdx_recorded.specs.Claims.{Ports}
+use Rattle.afdx_recorded.specs.NumberLines.{Lines}
+use Rattle.afdx_inputs.specs.RecordingRun.{AreCutOffInPair, taken_of_pair}
+use Rattle.afdx_recorded.specs.Taking.{AreCutOff, taken_of_bytes}
+use Rattle.afdx_inputs.specs.TakenRun.{TakenAnswers}
+use Rattle.afdx_recorded.specs.Words.{skipped_word}
+
+-- the line of a number, with its recorded bytes
+abbrev pub number_text : NumberLine → List ℕ → List ℕ
+number_text (Arrival kind time side port) bytes =
+    frame_line kind side port time bytes
+number_text (Skipped reason) bytes = remark_line (skipped_word reason)
+
+-- all lines; the latest stands first in the list of them, and last in the text
+unfoldable pub list_text : List (Item NumberLine) → List ℕ
+list_text [] = []
+list_text (x ∷ past) = list_text past ++ number_text x.head x.bytes
+
+-- the output, which held `old`, now holds these lines after it
+abbrev pub WritesLines : Bytes → Bytes → List (Item NumberLine) → Type 0
+WritesLines old new past = Appends old new (list_text past)
+
+-- or a beginning of them
+abbrev pub WritesSomeLines : Bytes → Bytes → List (Item NumberLine) → Type 0
+WritesSomeLines old new past = AppendsFront old new (list_text past)
+
+-- ---- what a run answers that writes the lines of a recording, or of two, of these bytes
+
+abbrev pub lines_themselves : Lines → Lines
+lines_themselves lines = lines
+
+abbrev pub ListingAnswers : Options → Ports → List ℕ → Option (List ℕ) → (old new : Bytes) →
+    Result Tally RunFault → Type 0
+ListingAnswers options ports bytes rest old new result =
+    TakenAnswers (taken_of_bytes options ports bytes) (AreCutOff options ports bytes rest)
+    lines_themselves (WritesLines old new) (WritesLines old new) (WritesSomeLines old new) result
+
+abbrev pub PairListingAnswers : PairOptions → Ports → {R : Type 0} → (R → Option (List ℕ)) →
+    (a b : List ℕ) → (rest : BySide (Watched R)) → (old new : Bytes) →
+    Result Tally RunFault → Type 0
+PairListingAnswers options ports remaining a b rest old new result =
+    TakenAnswers (taken_of_pair options ports a b)
+    (AreCutOffInPair options ports remaining a b rest) lines_themselves
+    (WritesLines old new) (WritesLines old new) (WritesSomeLines old new) result

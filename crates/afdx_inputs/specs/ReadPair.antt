@@ -1,0 +1,38 @@
+-- A recording, or two that are read at once, before the first read.
+use Rattle.std.specs.Prelude.{◌≡◌}
+use Rattle.afdx_recorded.specs.declared.ahead.AtHead.TheVariants.{Unknown}
+use Rattle.afdx_recorded.specs.declared.becoming.RecordingOptions.{RecordingOptions}
+use Rattle.afdx_recorded.specs.declared.pair_options.PairOptions.{PairOptions}
+use Rattle.afdx_recorded.specs.declared.senders.SystemPorts.{SystemPorts}
+use Rattle.afdx_recorded.specs.declared.timed_numbers.TimedNumbers.{TimedNumbers}
+use Rattle.afdx_recorded.specs.declared.timed_pair.TimedPair.{TimedPair}
+use Rattle.afdx_recorded.specs.Becoming.{options_of}
+use Rattle.afdx_recorded.specs.Claims.{Agree, Ports, ports_of}
+use Rattle.afdx_recorded.specs.OrderedRecording.{IsSetInOrder, IsUnread, OrderedRecording}
+use Rattle.afdx_recorded.specs.PairOptions.{options_of_a, options_of_b}
+
+-- nothing of one was read, by these options and ports
+pub record IsNewOne (options : RecordingOptions) (ports : SystemPorts)
+    (source : TimedNumbers OrderedRecording) : Type 0 where
+  pub options_are : source.numbers.source.options ≡ options
+  pub ports_are : source.numbers.source.ports ≡ ports
+  pub order : IsSetInOrder source.numbers
+  pub unread : IsUnread source.numbers
+  pub said : source.clock.said ≡ options.origin
+  pub zero : source.clock.zero ≡ options.origin
+
+-- nothing of either of two was read, by these options and ports that agree with these
+pub record IsNewPair (options : PairOptions) (ports : Ports) (source : TimedPair OrderedRecording)
+    : Type 0 where
+  pub options_a : options_of source.pair.a.source.source.options ≡ options_of_a options
+  pub options_b : options_of source.pair.b.source.source.options ≡ options_of_b options
+  pub ports_a : Agree (ports_of source.pair.a.source.source.ports) ports
+  pub ports_b : Agree (ports_of source.pair.b.source.source.ports) ports
+  pub order_a : IsSetInOrder source.pair.a.source
+  pub order_b : IsSetInOrder source.pair.b.source
+  pub unread_a : IsUnread source.pair.a.source
+  pub unread_b : IsUnread source.pair.b.source
+  pub head_a : source.pair.a.head ≡ Unknown
+  pub head_b : source.pair.b.head ≡ Unknown
+  pub said : source.clock.said ≡ options.origin
+  pub zero : source.clock.zero ≡ options.origin

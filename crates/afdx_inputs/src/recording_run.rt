@@ -1,0 +1,106 @@
+//! A run over a recording, or over two: a machine tells its arrivals, one by one.
+
+ghost use Rattle.std.specs.Prelude.{◌≡◌, ◌||◌, [], IfSome, OnOk, true, false};
+ghost use Rattle.afdx_lists.specs.Calls.{is_failed_read, is_failed_write};
+ghost use Rattle.afdx_lists.specs.Watching.{calls_of, device_of, has_ended, has_failed};
+ghost use Rattle.afdx_recorded.specs.Becoming.{options_of};
+ghost use Rattle.afdx_recorded.specs.Claims.{ports_of, ports_unsaid};
+ghost use Rattle.afdx_inputs.specs.RecordingRun.{IfBothKnown, IsAskedOnce, PairAnswers, RecordingAnswers};
+
+use crate::over::run_over;
+use crate::read_pair::{read_one, read_pair};
+use afdx_engine::Machine;
+use afdx_frame::BySide;
+use afdx_lists::{Heading, RunFault, Watched};
+use afdx_recorded::{Arriving, PairOptions, RecordingOptions, SystemPorts, Tally, UnsaidPort};
+use afdx_text::Sink;
+use std::alloc::Global;
+use std::io::Read;
+
+/// Lets a machine tell the arrivals of a recording, and counts what is no arrival.
+///
+/// Arrivals are told by their moments. One is told once `reorder` others were read that come behind
+/// it, or the end or a fault was; its whole text is handed to `output` before the next frame is
+/// read. The first fault ends the run; the text of the arrivals before it stands written, but for
+/// those that are held where a device or memory fails. `RunFault::Read` and
+/// `RunFault::Write` come exactly where the input's or the output's device failed; neither is tried
+/// again.
+pub fn run_recording<R: Read, M: Machine<Heading>, O: Sink>(
+    alloc: Global,
+    options: RecordingOptions,
+    ports: SystemPorts,
+    machine: &mut M,
+    input: &mut Watched<R>,
+    output: &mut O,
+) -> Result<Tally, RunFault>
+    requires sound_input { has_failed input.old ≡ false }
+    requires unended { has_ended input.old ≡ false }
+    requires sound_output { O.failed output.old ≡ false }
+    requires told { (rules : M.Rules) × M.Told rules machine.old
+        (O.written output.old) (O.written output.old) [] }
+    ensures ended { OnOk result (has_ended input.new ≡ true) }
+    ensures read { has_failed input.new ≡ is_failed_read result }
+    ensures write { O.failed output.new ≡ is_failed_write result }
+    ensures calls { IsAskedOnce (R.remaining (device_of input.old))
+        (R.remaining (device_of input.new)) (calls_of input.old) (calls_of input.new) }
+
+    // Where the input's bytes are known: what is answered and written for the recording that they
+    // are.
+    ensures answer { (rules : M.Rules) → M.Told rules machine.old
+        (O.written output.old) (O.written output.old) [] →
+        IfSome (R.remaining (device_of input.old)) (λ bytes.
+        RecordingAnswers (options_of options) (ports_of ports)
+        (M.Done rules machine.new (O.written output.old) (O.written output.new))
+        (M.Told rules machine.new (O.written output.old) (O.written output.new))
+        (M.Begins rules machine.new (O.written output.old) (O.written output.new))
+        bytes (R.remaining (device_of input.new)) result) }
+{
+    let mut arrivals = Arriving::new(read_one(alloc, options, ports)?);
+    run_over(&mut arrivals, machine, input, output)
+}
+
+/// Lets a machine tell the arrivals of two recordings that are read at once, of network A and of
+/// network B, and counts what is no arrival.
+///
+/// The heads of both are looked for, that of A first: the earlier arrival is told, that of A where
+/// both have the same moment. The whole text of an arrival is handed to `output` before the next
+/// frame is read. The first fault of either, as it is found, ends the run; the text of the arrivals
+/// before it stands written. `RunFault::Read` and `RunFault::Write` come exactly where the device
+/// of an input, or the output's, failed; none is tried again.
+pub fn run_pair<R: Read, M: Machine<Heading>, O: Sink>(
+    alloc: Global,
+    options: PairOptions,
+    unsaid: UnsaidPort<'_>,
+    machine: &mut M,
+    inputs: &mut BySide<Watched<R>>,
+    output: &mut O,
+) -> Result<Tally, RunFault>
+    requires sound_a { has_failed inputs.old.a ≡ false }
+    requires sound_b { has_failed inputs.old.b ≡ false }
+    requires unended_a { has_ended inputs.old.a ≡ false }
+    requires unended_b { has_ended inputs.old.b ≡ false }
+    requires sound_output { O.failed output.old ≡ false }
+    requires told { (rules : M.Rules) × M.Told rules machine.old
+        (O.written output.old) (O.written output.old) [] }
+    ensures ended { OnOk result (has_ended inputs.new.a ≡ true × has_ended inputs.new.b ≡ true) }
+    ensures read { (has_failed inputs.new.a || has_failed inputs.new.b) ≡ is_failed_read result }
+    ensures write { O.failed output.new ≡ is_failed_write result }
+    ensures calls_a { IsAskedOnce (R.remaining (device_of inputs.old.a))
+        (R.remaining (device_of inputs.new.a)) (calls_of inputs.old.a) (calls_of inputs.new.a) }
+    ensures calls_b { IsAskedOnce (R.remaining (device_of inputs.old.b))
+        (R.remaining (device_of inputs.new.b)) (calls_of inputs.old.b) (calls_of inputs.new.b) }
+
+    // Where the bytes of both are known: what is answered and written for the recordings that they
+    // are.
+    ensures answer { (rules : M.Rules) → M.Told rules machine.old
+        (O.written output.old) (O.written output.old) [] →
+        IfBothKnown R.remaining inputs.old (λ a b.
+        PairAnswers options (ports_unsaid unsaid.entry)
+        (M.Done rules machine.new (O.written output.old) (O.written output.new))
+        (M.Told rules machine.new (O.written output.old) (O.written output.new))
+        (M.Begins rules machine.new (O.written output.old) (O.written output.new))
+        R.remaining a b inputs.new result) }
+{
+    let mut arrivals = Arriving::new(read_pair(alloc, options, unsaid)?);
+    run_over(&mut arrivals, machine, inputs, output)
+}

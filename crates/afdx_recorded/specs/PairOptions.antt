@@ -1,0 +1,28 @@
+-- What the options say of each of two recordings.
+use Rattle.std.specs.Prelude.{Some}
+use Rattle.afdx_frame.specs.declared.link.Side.TheVariants.{A, B}
+use Rattle.afdx_recorded.specs.declared.pair_options.PairOptions.{PairOptions}
+use Rattle.afdx_recorded.specs.Becoming.{Options}
+use Rattle.afdx_recorded.specs.Places.{place_of}
+
+-- of that of network A
+abbrev pub options_of_a : PairOptions → Options
+options_of_a options = record {
+  place = place_of options.interfaces.a;
+  fcs = options.fcs;
+  origin = options.origin;
+  network = Some A;
+  reorder = options.reorder;
+  from_start = options.from_start;
+}
+
+-- of that of network B
+abbrev pub options_of_b : PairOptions → Options
+options_of_b options = record {
+  place = place_of options.interfaces.b;
+  fcs = options.fcs;
+  origin = options.origin;
+  network = Some B;
+  reorder = options.reorder;
+  from_start = options.from_start;
+}

@@ -1,0 +1,30 @@
+-- Where the frames of each interface came in, where that is said.
+use Rattle.std.specs.Prelude.{ℕ, Bool, true, false, ◌==◌, Option, Some, None, slice_get, if◌then◌else◌}
+use Rattle.afdx_frame.specs.declared.link.Side.{Side}
+use Rattle.afdx_recorded.specs.Tables.{known}
+use Rattle.afdx_recorded.specs.declared.places.Place.{Place}
+use Rattle.afdx_recorded.specs.declared.places.Place.TheVariants.{LeftOut, OnSide, AtPort}
+use Rattle.afdx_recorded.specs.declared.places.Interfaces.{Interfaces}
+
+-- the place of an interface
+unfoldable pub place_of : Interfaces → ℕ → Option Place
+place_of interfaces interface = known (slice_get interfaces.places.items interface)
+
+-- these places, but of one interface this one
+abbrev pub places_but : (ℕ → Option Place) → ℕ → Place → ℕ → Option Place
+places_but places interface place k = if k == interface then Some place else places k
+
+-- its frames are left out
+abbrev pub is_left_out : Option Place → Bool
+is_left_out (Some LeftOut) = true
+is_left_out _ = false
+
+-- the side that it says, and the port
+abbrev pub side_of : Option Place → Option Side
+side_of (Some (OnSide side)) = Some side
+side_of (Some (AtPort side port)) = Some side
+side_of _ = None
+
+abbrev pub port_said : Option Place → Option ℕ
+port_said (Some (AtPort side port)) = Some port
+port_said _ = None

@@ -1,0 +1,29 @@
+//! What the list that says the same as a recording has for each number.
+
+ghost use Rattle.afdx_recorded.specs.NumberLines.{LineFollows};
+
+use crate::skipped::Skipped;
+use afdx_engine::Head;
+use afdx_frame::Side;
+use afdx_lists::FrameKind;
+
+/// What the line of a number says.
+#[derive(Clone, Copy, Debug, PartialEq, Eq)]
+pub enum NumberLine {
+    /// It is an arrival, of which this is done with the recorded bytes.
+    Arrival {
+        kind: FrameKind,
+        /// When it comes, in ns, at most 10^15.
+        time: u64,
+        /// The network by which it comes.
+        side: Side,
+        /// The port at which it comes in, 1 to 24.
+        port: u8,
+    },
+    /// It is skipped.
+    Skipped(Skipped),
+}
+
+impl Head for NumberLine {
+    ghost can_follow = { LineFollows };
+}

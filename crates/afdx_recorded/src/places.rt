@@ -1,0 +1,63 @@
+//! Where the frames of each interface came in.
+
+ghost use Rattle.std.specs.Prelude.{◌≡◌, ◌<◌, ℕ, IfOk, OnOk, OnErr, Ok, Some, None, true, false};
+ghost use Rattle.std.specs.Prelude.{vec_len};
+
+use afdx_frame::Side;
+use std::alloc::{AllocError, Global};
+
+/// How many interfaces a recording may have in a section.
+pub const INTERFACES: usize = 4_096;
+
+/// Where the frames of an interface came in.
+#[derive(Clone, Copy, Debug, PartialEq, Eq)]
+pub enum Place {
+    /// Nowhere: they are left out.
+    LeftOut,
+    /// At this side's switch.
+    OnSide(Side),
+    /// At this side's switch, at this of its ports, 1 to 24.
+    AtPort(Side, u8),
+}
+
+/// Where the frames of each interface came in, where that is said.
+#[derive(Debug, Drop)]
+pub struct Interfaces {
+    places: Vec<Option<Place>>,
+    ghost room: { vec_len places ≡ 4096 },
+}
+
+impl Interfaces {
+    ghost use Rattle.afdx_recorded.specs.Places.{place_of, places_but};
+
+    /// Nothing is said of any interface.
+    #[tactic(auto, unfolding(crate::specs::Places::place_of))]
+    pub fn new(alloc: Global) -> Result<Interfaces, AllocError>
+        ensures { IfOk result (λ interfaces. (k : ℕ) → place_of interfaces k ≡ None) }
+    {
+        Ok(Interfaces {
+            places: vec![in alloc; None; INTERFACES]?,
+        })
+    }
+
+    /// Where the frames of this interface came in, if that is said.
+    #[tactic(auto, unfolding(crate::specs::Places::place_of))]
+    pub fn place(&self, interface: u16) -> Option<Place>
+        ensures { result ≡ place_of self.now interface }
+    {
+        match self.places.get(usize::from(interface)) {
+            Some(place) => *place,
+            None => None,
+        }
+    }
+
+    /// Says where the frames of this interface came in, in the place of what was said before.
+    #[tactic(auto, unfolding(crate::specs::Places::place_of))]
+    pub fn put(&mut self, interface: u16, place: Place)
+        requires { interface < 4096 }
+        ensures { (k : ℕ) →
+            place_of self.new k ≡ places_but (place_of self.old) interface place k }
+    {
+        self.places[usize::from(interface)] = Some(place);
+    }
+}

@@ -1,0 +1,508 @@
+-- What a run that sends has told, one event more, and what it answers then.
+use Rattle.std.proofs.Common.{◌≡◌, ℕ, zero, suc, ◌+◌, ◌<◌, ◌≤◌, ◌==◌, true, false, if◌then◌else◌}
+use Rattle.std.proofs.Common.{List, [], ◌∷◌, ◌++◌, map, length, Option, Some, None, refl, ap, sym}
+use Rattle.std.proofs.Common.{◌∙◌, subst, arith, replicate, slice_set, slice_index_or}
+use Rattle.std.specs.Prelude.{IfSome, IfNone, Result, Ok, Err, IsOk}
+use Rattle.std.specs.List.{slice_get}
+use Rattle.std.specs.Io.KnownBytes.{Appends}
+use Rattle.std.proofs.KnownBytes.{Appends-trans, Appends-nil}
+use Rattle.afdx_config.specs.Admission.{IsAdmitted, links_from}
+use Rattle.afdx_config.specs.Reading.{Spells, system_named}
+use Rattle.afdx_config.specs.Lawful.{AreDistinct}
+use Rattle.afdx_config.specs.LawfulStream.{Sending}
+use Rattle.afdx_config.specs.Rows.{SystemRow, LinkRow, Rows}
+use Rattle.afdx_lists.specs.Calls.{AppendsFront}
+use Rattle.afdx_lists.specs.Lines.{lines_of}
+use Rattle.afdx_lists.specs.declared.fault.RunFault.{RunFault}
+use Rattle.afdx_port.proofs.TurnLemmas.{eqb-same, eqb-other}
+use Rattle.afdx_promises.specs.Sent.{sent_in}
+use Rattle.afdx_send.specs.Releases as send
+use Rattle.afdx_send.specs.Sender.{StandsFor, Gives, IsTaken, IsRefused, LinkTakes, AreAllEmitted, no_calls}
+use Rattle.afdx_send.specs.Sender.{at, with_submission, with_emission, sending_of, last_time}
+use Rattle.afdx_send.specs.declared.fault.SendFault.{SendFault}
+use Rattle.afdx_send.specs.declared.fault.SendFault.TheVariants.{NotMyLink, NoSuchSub, Empty}
+use Rattle.afdx_send.specs.declared.fault.SendFault.TheVariants.{TooLarge, QueueFull, Memory}
+use Rattle.afdx_send.specs.declared.sender.Emission.{Emission}
+use Rattle.afdx_send.specs.declared.sender_state.SenderState.{SenderState}
+use Rattle.afdx_commands.specs.Counts.{no_counts, with_lines}
+use Rattle.afdx_engine.specs.Listed.{Handed, submissions}
+use Rattle.afdx_sending.specs.Events.{message_of, Event, Emitted, Submitted}
+use Rattle.afdx_sending.specs.Events.{submissions_in, turns_in, taken_by, calls_in, EachFollows}
+use Rattle.afdx_sending.specs.Events.{AreDone}
+use Rattle.afdx_sending.specs.Text.{emission_lines, event_lines, send_text, with_event, send_counts}
+use Rattle.afdx_sending.specs.Sent.{Source, source_at, WritesSoFar, WritesSome, WritesEvents, WritesAll, Answers}
+use Rattle.afdx_sending.specs.Command.{Sends}
+use Rattle.afdx_sending.specs.Progress.{HasTold, AreTold, ToldUntil, TellsSubmission, HasRoom}
+use Rattle.afdx_commands.specs.declared.summary.Summary.{Summary}
+use Rattle.afdx_engine.proofs.RunLemmas.{IsDone}
+use Rattle.afdx_text.proofs.OutputLemmas.{whole_front as front-whole, front-more}
+
+pub text-none : (s : SystemRow) → send_text s [] ≡ []
+unfolding send_text
+text-none s = refl
+
+pub text-more : (s : SystemRow) (e : Event) (before : List Event) → send_text s (e ∷ before)
+    ≡ send_text s before ++ event_lines s e
+unfolding send_text
+text-more s e before = refl
+
+counts-none : send_counts [] ≡ no_counts
+unfolding send_counts
+counts-none = refl
+
+pub counts-more : (e : Event) (before : List Event) → send_counts (e ∷ before) ≡ with_event (send_counts before) e
+unfolding send_counts
+counts-more e before = refl
+
+-- one more is counted
+abbrev pub one_emitted : Summary → Summary
+one_emitted c = record c { departed = c.departed + 1 }
+
+abbrev pub one_taken : Summary → Summary
+one_taken c = record c { accepted = c.accepted + 1 }
+
+abbrev pub one_refused : Summary → Summary
+one_refused c = record c { dropped = c.dropped + 1 }
+
+-- ---- what the links took
+
+abbrev the_empty : List send.Submission
+the_empty = []
+
+-- a message more for the link with this identifier
+abbrev more_of : ℕ → send.Submission → ℕ → List send.Submission → List send.Submission
+more_of vl m own taken = if vl == own then taken ++ m ∷ [] else taken
+
+no_link : (f : ℕ → List send.Submission) (vl : ℕ) (m : send.Submission) (links : List LinkRow)
+    → ((i : ℕ) (l : LinkRow) → slice_get links i ≡ Some l → l.vl ≡ vl → ⊥) →
+    map (λ l. more_of vl m l.vl (f l.vl)) links ≡ map (λ l. f l.vl) links
+no_link f vl m [] none = refl
+no_link f vl m (l ∷ links) none =
+    let other : (vl == l.vl) ≡ false = eqb-other vl l.vl (λ e. none 0 l refl (sym e)) in
+    let rest = no_link f vl m links (λ i. none (suc i)) in
+    ap (λ b. (if b then f l.vl ++ m ∷ [] else f l.vl) ∷ map (λ l. more_of vl m l.vl (f l.vl)) links)
+    other ∙ ap (λ z. f l.vl ∷ z) rest
+
+abbrev set_at : List (List send.Submission) → ℕ → send.Submission → List (List send.Submission)
+set_at lists place m = slice_set lists place (slice_index_or lists place [] ++ m ∷ [])
+
+-- only the link at its place takes it
+one_link : (f : ℕ → List send.Submission) (vl : ℕ) (m : send.Submission) (links : List LinkRow)
+    (place : ℕ) (l : LinkRow) → AreDistinct (λ l. l.vl) links → slice_get links place ≡ Some l
+    → l.vl ≡ vl →
+    map (λ l. more_of vl m l.vl (f l.vl)) links ≡ set_at (map (λ l. f l.vl) links) place m
+unfolding AreDistinct
+one_link f vl m [] place l distinct h e = absurd (cc h)
+one_link f vl m (x ∷ links) zero l distinct h e =
+    let here : x ≡ l = cc h in
+    let same : (vl == x.vl) ≡ true = eqb-same vl x.vl (sym (ap (λ z. z.vl) here ∙ e)) in
+    let none : (i : ℕ) (y : LinkRow) → slice_get links i ≡ Some y → y.vl ≡ vl → ⊥ =
+    λ i y stands is. (let e : 0 ≡ suc i =
+    distinct 0 (suc i) x y refl stands (ap (λ z. z.vl) here ∙ e ∙ sym is) in
+    absurd (omega (arith, e))) in
+    ap (λ b. (if b then f x.vl ++ m ∷ [] else f x.vl) ∷ map (λ l. more_of vl m l.vl (f l.vl)) links)
+    same ∙ ap (λ z. (f x.vl ++ m ∷ []) ∷ z) (no_link f vl m links none)
+one_link f vl m (x ∷ links) (suc place) l distinct h e =
+    let other : (vl == x.vl) ≡ false =
+    eqb-other vl x.vl (λ is. (let k : 0 ≡ suc place =
+    distinct 0 (suc place) x l refl h (sym is ∙ sym e) in absurd (omega (arith, k)))) in
+    let rest = one_link f vl m links place l
+    (λ i j a b ha hb is. (let k : suc i ≡ suc j = distinct (suc i) (suc j) a b ha hb is in
+    omega (arith, k))) h e in
+    ap (λ b. (if b then f x.vl ++ m ∷ [] else f x.vl) ∷ map (λ l. more_of vl m l.vl (f l.vl)) links)
+    other ∙ ap (λ z. f x.vl ∷ z) rest
+
+-- the sender's calls after a message that was taken
+pub calls-taken : (s : Source) (w : SenderState) (before : List Event) (x : Handed) (time place : ℕ)
+    (l : LinkRow) → AreDistinct (λ l. l.vl) s.links → slice_get s.links place ≡ Some l
+    → l.vl ≡ x.submission.vl →
+    StandsFor w (with_submission (calls_in s.row s.links before time) place
+    (message_of x.submission)) → StandsFor w
+    (calls_in s.row s.links (Submitted x None ∷ before) x.submission.time)
+calls-taken s w before x time place l distinct h e stands =
+    subst (λ (z : List (List send.Submission)).
+    StandsFor w (record {
+      system = s.row;
+      links = s.links;
+      taken = z;
+      emitted = turns_in before;
+      time = x.submission.time;
+    }))
+    (sym (one_link (λ vl. taken_by vl before) x.submission.vl (message_of x.submission) s.links
+    place l distinct h e)) stands
+
+-- the time of the last call says nothing of what is admitted and what is refused
+pub takes-at : (s : Source) (before : List Event) (time later t place vl sub n : ℕ)
+    → LinkTakes (calls_in s.row s.links before time) t place vl sub n
+    → LinkTakes (calls_in s.row s.links before later) t place vl sub n
+takes-at s before time later t place vl sub n k =
+    record {
+      row = k.row;
+      link = k.link;
+      sub = k.sub;
+      some = k.some;
+      fits = k.fits;
+      count = k.count;
+      unreleased = k.unreleased;
+      room = k.room;
+    }
+
+pub refused-at : (s : Source) (before : List Event) (time later t vl sub n : ℕ) (fault : SendFault)
+    → IsRefused (calls_in s.row s.links before time) t vl sub n fault
+    → IsRefused (calls_in s.row s.links before later) t vl sub n fault
+refused-at s before time later t vl sub n NotMyLink h = h
+refused-at s before time later t vl sub n NoSuchSub h = h
+refused-at s before time later t vl sub n Empty h = h
+refused-at s before time later t vl sub n TooLarge h = h
+refused-at s before time later t vl sub n QueueFull h = h
+refused-at s before time later t vl sub n Memory h = (h.0, takes-at s before time later t h.0 vl sub n h.1)
+
+pub tells-taken : (s : Source) (w after : SenderState) (counts counts_after : Summary)
+    (before : List Event) (x : Handed) (time place : ℕ)
+    → StandsFor w (calls_in s.row s.links before time) →
+    IsTaken (calls_in s.row s.links before time) place x.submission.vl (message_of x.submission)
+    → StandsFor after (with_submission (calls_in s.row s.links before time) place
+    (message_of x.submission)) →
+    counts ≡ send_counts before → counts_after ≡ one_taken counts → TellsSubmission s after counts_after before x None
+tells-taken s w after counts counts_after before x time place st k stands counted more = record {
+  stands = calls-taken s after before x time place k.row st.are_sent.distinct k.link.0 k.link.1 stands;
+  answered = (
+    place,
+    takes-at s before time x.submission.time x.submission.time place x.submission.vl
+        x.submission.sub (length x.submission.payload) k,
+  );
+  counted = more ∙ ap one_taken counted ∙ sym (counts-more (Submitted x None) before);
+}
+
+pub tells-refused : (s : Source) (w after : SenderState) (counts counts_after : Summary)
+    (before : List Event) (x : Handed) (time : ℕ) (fault : SendFault)
+    → StandsFor after (at (calls_in s.row s.links before time) x.submission.time) →
+    (fault ≡ Memory → ⊥) → IsRefused (calls_in s.row s.links before time) x.submission.time
+    x.submission.vl x.submission.sub (length x.submission.payload) fault →
+    counts ≡ send_counts before → counts_after ≡ one_refused counts
+    → TellsSubmission s after counts_after before x (Some fault)
+tells-refused s w after counts counts_after before x time fault stands other refused counted more = record {
+  stands = stands;
+  answered = (
+    other,
+    refused-at s before time x.submission.time x.submission.time x.submission.vl
+        x.submission.sub (length x.submission.payload) fault refused,
+  );
+  counted = more ∙ ap one_refused counted ∙ sym (counts-more (Submitted x (Some fault)) before);
+}
+
+pub done-at : (s : Source) (events : List Event) (time : ℕ)
+    → AreAllEmitted (calls_in s.row s.links events time) → AreDone s.row s.links events
+done-at s events time k =
+    record {
+      released = k.released;
+      are_releases = k.are_releases;
+      all_released = k.all_released;
+      schedule = k.schedule;
+    }
+
+-- a new sender's calls are no events
+none_taken : (links : List LinkRow) → replicate (length links) (the_empty) ≡ map (λ l. taken_by l.vl []) links
+none_taken [] = refl
+none_taken (l ∷ links) = ap (λ (z : List (List send.Submission)). [] ∷ z) (none_taken links)
+
+pub stands-start : (t : Rows) (system : ℕ) (row : SystemRow) (w : SenderState)
+    → StandsFor w (no_calls t system row) → StandsFor w (calls_in row (links_from t.links system) [] 0)
+stands-start t system row w stands =
+    subst (λ (z : List (List send.Submission)).
+    StandsFor w (record {
+      system = row;
+      links = links_from t.links system;
+      taken = z;
+      emitted = [];
+      time = 0;
+    })) (none_taken (links_from t.links system)) stands
+
+-- ---- an event more
+
+abbrev sent : ℕ → List ℕ → List ℕ → Sending
+sent time a b = record { time = time; a = a; b = b }
+
+-- its lines are those of the event
+lines-emitted : (s : Source) (w after : SenderState) (port until : ℕ) (before : List Event)
+    (e : Emission) → port ≡ s.row.port
+    → (g : Gives (calls_in s.row s.links before (last_time w)) until e after) →
+    emission_lines port (sending_of e) ≡ event_lines s.row (Emitted g.slot)
+lines-emitted s w after port until before e is g =
+    let y = sent_in s.row g.slot in
+    let sending : sending_of e ≡ y = ap (λ t. sent t e.a.items e.b.items) g.time
+    ∙ ap (λ a. sent g.slot.end a e.b.items) g.a ∙ ap (λ b. sent g.slot.end y.a b) g.b in
+    ap (λ z. emission_lines port z) sending ∙ ap (λ p. emission_lines p y) is
+
+-- an emission more is told
+pub told-emitted : (s : Source) (w after : SenderState) (port until : ℕ) (counts counts_after : Summary)
+    (old middle new : Option (List ℕ)) (before : List Event) (e : Emission) (lines : List ℕ) →
+    HasTold s w port counts old middle before
+    → (g : Gives (calls_in s.row s.links before (last_time w)) until e after)
+    → last_time after ≡ until → lines ≡ emission_lines port (sending_of e) →
+    counts_after ≡ one_emitted counts → Appends middle new lines
+    → HasTold s after port counts_after old new (Emitted g.slot ∷ before)
+told-emitted s w after port until counts counts_after old middle new before e lines h g clock is
+    count written = record {
+      stands = subst (λ (z : ℕ).
+          StandsFor after (with_emission (calls_in s.row s.links before (last_time w)) g.slot z))
+          (sym clock) g.stands;
+      port_is = h.port_is;
+      follow = (g.next, h.follow);
+      in_time = rw clock g.in_time;
+      counted = count ∙ ap one_emitted h.counted ∙ sym (counts-more (Emitted g.slot) before);
+      written = subst (λ z. Appends old new z) (sym (text-more s.row (Emitted g.slot) before))
+          (Appends-trans old middle new (send_text s.row before) (event_lines s.row (Emitted g.slot))
+          h.written (subst (λ z. Appends middle new z)
+          (is ∙ lines-emitted s w after port until before e h.port_is g) written));
+    }
+
+some-of : (s : Source) (old new : Option (List ℕ)) (events : List Event)
+    → EachFollows s.row s.links events → AppendsFront old new (send_text s.row events)
+    → WritesSome s old new (submissions_in events)
+some-of s old new events follow written =
+    record {
+      events = events;
+      are_events = record { submissions_are = refl; follow = follow };
+      written = written;
+    }
+
+pub told-some : (s : Source) (w : SenderState) (port : ℕ) (counts : Summary) (old new : Option (List ℕ))
+    (events : List Event) → HasTold s w port counts old new events
+    → WritesSome s old new (submissions_in events)
+told-some s w port counts old new events h =
+    some-of s old new events h.follow (front-whole old new (send_text s.row events) h.written)
+
+-- a beginning of its lines is written
+pub begun-emitted : (s : Source) (w after : SenderState) (port until : ℕ) (counts : Summary)
+    (old middle new : Option (List ℕ)) (before : List Event) (e : Emission) (lines : List ℕ) →
+    HasTold s w port counts old middle before
+    → Gives (calls_in s.row s.links before (last_time w)) until e after
+    → lines ≡ emission_lines port (sending_of e) →
+    AppendsFront middle new lines → WritesSome s old new (submissions_in before)
+begun-emitted s w after port until counts old middle new before e lines h g is written =
+    some-of s old new (Emitted g.slot ∷ before) (g.next, h.follow)
+    (subst (λ z. AppendsFront old new z) (sym (text-more s.row (Emitted g.slot) before))
+    (front-more old middle new (send_text s.row before) (event_lines s.row (Emitted g.slot))
+    h.written (subst (λ z. AppendsFront middle new z)
+    (is ∙ lines-emitted s w after port until before e h.port_is g) written)))
+
+-- nothing more is emitted by then
+pub told-later : (s : Source) (w after : SenderState) (port until : ℕ) (counts : Summary)
+    (old new : Option (List ℕ)) (events : List Event) → HasTold s w port counts old new events →
+    StandsFor after (at (calls_in s.row s.links events (last_time w)) until)
+    → last_time after ≡ until → last_time w ≤ until → HasTold s after port counts old new events
+told-later s w after port until counts old new events h stands clock le = record {
+  stands = subst (λ (z : ℕ). StandsFor after (calls_in s.row s.links events z)) (sym clock) stands;
+  port_is = h.port_is;
+  follow = h.follow;
+  in_time = (let early = h.in_time in omega (arith, early, clock, le));
+  counted = h.counted;
+  written = h.written;
+}
+
+-- ---- a submission more
+
+-- its line, if it has one, is written
+follow-submitted : (s : Source) (w after : SenderState) (port : ℕ) (counts counts_after : Summary)
+    (old middle : Option (List ℕ)) (events : List Event) (x : Handed) (fault : Option SendFault) →
+    (u : ToldUntil s x.submission.time w port counts old middle events)
+    → last_time w ≡ x.submission.time → TellsSubmission s after counts_after u.told.more x fault →
+    EachFollows s.row s.links (Submitted x fault ∷ u.told.more)
+follow-submitted s w after port counts counts_after old middle events x fault u clock tells = (
+  record {
+    in_time = (let early = u.told.told.in_time in omega (arith, early, clock));
+    no_more = u.no_more;
+    answered = tells.answered;
+  },
+  u.told.told.follow,
+)
+
+pub told-submitted : (s : Source) (w after : SenderState) (port port_after : ℕ)
+    (counts counts_after : Summary) (old middle new : Option (List ℕ)) (events : List Event)
+    (past : List Handed) (x : Handed) (fault : Option SendFault) →
+    (u : ToldUntil s x.submission.time w port counts old middle events)
+    → submissions_in events ≡ past → last_time w ≡ x.submission.time
+    → TellsSubmission s after counts_after u.told.more x fault → last_time after ≡ x.submission.time →
+    port_after ≡ port → Appends middle new (event_lines s.row (Submitted x fault))
+    → AreTold s after port_after counts_after old new (x ∷ past)
+told-submitted s w after port port_after counts counts_after old middle new events past x fault u
+    are clock tells after_clock same written = record {
+      events = Submitted x fault ∷ u.told.more;
+      submissions_are = ap (λ (p : List Handed). x ∷ p) (u.told.submissions_are ∙ are);
+      at_submission = tt;
+      told = record {
+        stands = subst (λ (z : ℕ).
+            StandsFor after (calls_in s.row s.links (Submitted x fault ∷ u.told.more) z))
+            (sym after_clock) tells.stands;
+        port_is = same ∙ u.told.told.port_is;
+        follow = follow-submitted s w after port counts counts_after old middle events x fault u clock tells;
+        in_time = (let early = u.told.told.in_time in omega (arith, early, clock, after_clock));
+        counted = tells.counted;
+        written = subst (λ z. Appends old new z) (sym (text-more s.row (Submitted x fault) u.told.more))
+            (Appends-trans old middle new (send_text s.row u.told.more)
+            (event_lines s.row (Submitted x fault)) u.told.told.written written);
+      };
+    }
+
+-- a beginning of it is
+pub begun-submitted : (s : Source) (w after : SenderState) (port : ℕ) (counts counts_after : Summary)
+    (old middle new : Option (List ℕ)) (events : List Event) (past : List Handed) (x : Handed)
+    (fault : Option SendFault) →
+    (u : ToldUntil s x.submission.time w port counts old middle events)
+    → submissions_in events ≡ past → last_time w ≡ x.submission.time
+    → TellsSubmission s after counts_after u.told.more x fault →
+    AppendsFront middle new (event_lines s.row (Submitted x fault)) → WritesSome s old new (x ∷ past)
+begun-submitted s w after port counts counts_after old middle new events past x fault u are clock
+    tells written = record {
+      events = Submitted x fault ∷ u.told.more;
+      are_events = record {
+        submissions_are =
+            ap (λ (p : List Handed). x ∷ p) (u.told.submissions_are ∙ are);
+        follow = follow-submitted s w after port counts counts_after old middle events x fault u clock
+            tells;
+      };
+      written = subst (λ z. AppendsFront old new z) (sym (text-more s.row (Submitted x fault) u.told.more))
+          (front-more old middle new (send_text s.row u.told.more)
+          (event_lines s.row (Submitted x fault)) u.told.told.written written);
+    }
+
+-- what is told of the emissions up to then
+pub until-some : (s : Source) (time : ℕ) (w : SenderState) (port : ℕ) (counts : Summary)
+    (old new : Option (List ℕ)) (events : List Event) (past : List Handed)
+    → ToldUntil s time w port counts old new events → submissions_in events ≡ past
+    → WritesSome s old new past
+until-some s time w port counts old new events past u are =
+    subst (λ p. WritesSome s old new p) (u.told.submissions_are ∙ are)
+    (told-some s w port counts old new u.told.more u.told.told)
+
+-- ---- the start, the end, and between
+
+pub are-told-start : (s : Source) (w : SenderState) (port : ℕ) (output : Option (List ℕ))
+    → StandsFor w (calls_in s.row s.links [] 0) → last_time w ≡ 0 → port ≡ s.row.port
+    → AreTold s w port no_counts output output []
+are-told-start s w port output stands clock same = record {
+  events = [];
+  submissions_are = refl;
+  at_submission = tt;
+  told = record {
+    stands = subst (λ (z : ℕ). StandsFor w (calls_in s.row s.links [] z)) (sym clock) stands;
+    port_is = same;
+    follow = tt;
+    in_time = omega arith;
+    counted = sym counts-none;
+    written = subst (λ z. Appends output output z) (sym (text-none s.row)) (Appends-nil output);
+  };
+}
+
+pub are-so-far : (s : Source) (w : SenderState) (port : ℕ) (counts : Summary)
+    (old new : Option (List ℕ)) (past : List Handed) → AreTold s w port counts old new past
+    → WritesSoFar s old new past
+are-so-far s w port counts old new past h = record {
+  events = h.events;
+  are_events = record { submissions_are = h.submissions_are; follow = h.told.follow };
+  at_submission = h.at_submission;
+  written = h.told.written;
+}
+
+pub are-some : (s : Source) (w : SenderState) (port : ℕ) (counts : Summary) (old new : Option (List ℕ))
+    (past : List Handed) → AreTold s w port counts old new past → WritesSome s old new past
+are-some s w port counts old new past h =
+    subst (λ p. WritesSome s old new p) h.submissions_are
+    (told-some s w port counts old new h.events h.told)
+
+pub start-some : (s : Source) (output : Option (List ℕ)) → WritesSome s output output []
+start-some s output = record {
+  events = [];
+  are_events = record { submissions_are = refl; follow = tt };
+  written = subst (λ z. AppendsFront output output z) (sym (text-none s.row))
+      (front-whole output output [] (Appends-nil output));
+}
+
+-- all is told
+pub told-all : (s : Source) (until : ℕ) (w : SenderState) (port : ℕ) (counts : Summary)
+    (old new : Option (List ℕ)) (events : List Event) (past : List Handed)
+    → ToldUntil s until w port counts old new events → submissions_in events ≡ past →
+    1200000000000000 ≤ until → WritesEvents s counts old new past
+told-all s until w port counts old new events past u are late = record {
+  events = u.told.more;
+  are_events = record { submissions_are = u.told.submissions_are ∙ are; follow = u.told.told.follow };
+  are_done = u.done late;
+  written = u.told.told.written;
+  counted = u.told.told.counted;
+}
+
+done-all : (s : Source) (told : List Handed → Type 0) (counts summary : Summary) (n : ℕ)
+    (lines : List (List ℕ)) (old new : Option (List ℕ)) → IsDone submissions told n lines
+    → ((past : List Handed) → told past → WritesEvents s counts old new past) →
+    summary ≡ with_lines counts n → WritesAll s lines old new summary
+done-all s told counts summary n lines old new h all e = record {
+  sound = h.sound;
+  counts = counts;
+  writes = all _ h.are_told;
+  counted = e ∙ ap (λ k. with_lines counts k) h.all;
+}
+
+pub told-done : (s : Source) (told : List Handed → Type 0) (counts summary : Summary) (n : ℕ)
+    (input old new : Option (List ℕ))
+    → IfSome input (λ bytes. IsDone submissions told n (lines_of bytes)) →
+    ((past : List Handed) → told past → WritesEvents s counts old new past)
+    → summary ≡ with_lines counts n
+    → IfSome input (λ bytes. WritesAll s (lines_of bytes) old new summary)
+told-done s told counts summary n None old new h all e = tt
+told-done s told counts summary n (Some bytes) old new h all e =
+    done-all s told counts summary n (lines_of bytes) old new h all e
+
+-- ---- counts
+
+pub room-start : (held n : ℕ) → held ≡ 0 → n ≡ 0 → HasRoom no_counts held n
+room-start held n h k = record { submissions = omega (arith, k); emissions = omega (arith, h) }
+
+pub room-more : (counts : Summary) (held n m : ℕ) → m ≡ n + 1 → HasRoom counts held n → HasRoom counts held m
+room-more counts held n m e h =
+    record { submissions = (let k = h.submissions in omega (arith, e, k)); emissions = h.emissions }
+
+-- ---- answers of calls
+
+pub if-none : {T : Type 0} (o : Option T) (P : Type 0) → ((x : T) → o ≡ Some x → ⊥) → IfNone o P → P
+if-none None P none h = h
+if-none (Some x) P none h = absurd (none x refl)
+
+pub none-of : {T : Type 0} (o : Option T) → ((x : T) → o ≡ Some x → ⊥) → o ≡ None
+none-of None h = refl
+none-of (Some x) h = absurd (h x refl)
+
+-- ---- the command
+
+element : {T : Type 0} (xs : List T) (i : ℕ) → i < length xs → (x : T) × (slice_get xs i ≡ Some x)
+element [] i within = absurd (omega arith)
+element (x ∷ xs) zero within = (x, refl)
+element (x ∷ xs) (suc i) within = element xs i (omega arith)
+
+-- what a run answers, for the row of its system, is what the command does
+pub sends-in : (config name : List ℕ) (t : Rows) (place : ℕ) (input rest old new : Option (List ℕ))
+    (answer : Result Summary RunFault) →
+    Spells config t → system_named t.systems name ≡ Some place → IsAdmitted t → place < length t.systems →
+    ((row : SystemRow) → slice_get t.systems place ≡ Some row
+    → IfSome input (λ bytes. Answers (source_at t place row) bytes rest old new answer)) →
+    Sends config name input rest old new answer
+sends-in config name t place input rest old new answer spelled named admitted within h =
+    let e = element t.systems place within in
+    record {
+      tables = t;
+      spelled = spelled;
+      system = place;
+      named = named;
+      admitted = admitted;
+      row = e.0;
+      stands = e.1;
+      answers = h e.0 e.1;
+    }
+
+pub is-ok : {V E : Type 0} (r : Result V E) (v : V) → r ≡ Ok v → IsOk r
+is-ok (Ok w) v is = refl
+is-ok (Err e) v is = absurd (cc is)
+
+pub not-ok : {V E : Type 0} (r : Result V E) (e : E) → r ≡ Err e → IsOk r → ⊥
+not-ok (Ok v) e is h = absurd (cc is)
+not-ok (Err f) e is h = cc h

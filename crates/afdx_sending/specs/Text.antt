@@ -1,0 +1,43 @@
+-- The text of a run that sends: the lines of each event, in the order of the events.
+-- A list of events has the latest first.
+use Rattle.std.specs.Prelude.{ℕ, ◌+◌, List, [], ◌∷◌, ◌++◌, Some, None}
+use Rattle.afdx_frame.specs.declared.link.Side.TheVariants.{A, B}
+use Rattle.afdx_config.specs.LawfulStream.{Sending}
+use Rattle.afdx_config.specs.Rows.{SystemRow}
+use Rattle.afdx_promises.specs.Sent.{sent_in}
+use Rattle.afdx_send.specs.declared.fault.SendFault.{SendFault}
+use Rattle.afdx_send.specs.Words.{refusal_word}
+use Rattle.afdx_commands.specs.Counts.{no_counts}
+use Rattle.afdx_sending.specs.Events.{Event, Emitted, Submitted}
+use Rattle.afdx_commands.specs.declared.summary.Summary.{Summary}
+use Rattle.afdx_text.specs.OutLines.{refused_line}
+pub use Rattle.afdx_text.specs.OutLines.{sent_line}
+
+-- the two lines of an emission
+abbrev pub emission_lines : ℕ → Sending → List ℕ
+emission_lines port y = sent_line A port y.time y.a ++ sent_line B port y.time y.b
+
+-- the line of a message, on line n, that isn't taken
+abbrev pub refusal_line : ℕ → SendFault → List ℕ
+refusal_line n fault = refused_line n (refusal_word fault)
+
+-- the lines of an event: a submission has one only where it is refused
+abbrev pub event_lines : SystemRow → Event → List ℕ
+event_lines s (Emitted turn) = emission_lines s.port (sent_in s turn)
+event_lines s (Submitted x (Some fault)) = refusal_line x.line fault
+event_lines s (Submitted x None) = []
+
+unfoldable pub send_text : SystemRow → List Event → List ℕ
+send_text s [] = []
+send_text s (e ∷ before) = send_text s before ++ event_lines s e
+
+-- one more event is counted: an emission, a message that is taken, or one that is refused
+abbrev pub with_event : Summary → Event → Summary
+with_event c (Emitted turn) = record c { departed = c.departed + 1 }
+with_event c (Submitted x None) = record c { accepted = c.accepted + 1 }
+with_event c (Submitted x (Some fault)) = record c { dropped = c.dropped + 1 }
+
+-- how many events there are of each kind, in no lines
+unfoldable pub send_counts : List Event → Summary
+send_counts [] = no_counts
+send_counts (e ∷ before) = with_event (send_counts before) e

@@ -1,0 +1,94 @@
+//! The command `send`.
+
+ghost use Rattle.std.specs.Prelude.{◌≡◌, ◌≤◌, ◌+◌, ◌||◌, ◌⊎◌, ◌↔◌, IsSome, false, true};
+ghost use Rattle.afdx_lists.specs.Lines.{most_reads};
+ghost use Rattle.afdx_lists.specs.Watching.{calls_of, device_of, has_ended, has_failed};
+ghost use Rattle.afdx_sending.specs.Command.{EndsSend};
+ghost use Rattle.afdx_commands.specs.declared.ending.Ended.{Ended as End};
+
+use crate::run::send_into;
+use afdx_admit::admit;
+use afdx_commands::refusing::{refuse_config, refuse_name, refuse_tables};
+use afdx_commands::{Ended, end};
+use afdx_config::read_tables;
+use afdx_lists::Watched;
+use afdx_text::Sink;
+use std::alloc::Global;
+use std::io::{Read, Write};
+
+/// Sends the messages of a list from the system of this name in the tables of a configuration.
+///
+/// Its frames for both networks go to `output`, as a list that `replay` reads, with a remark for
+/// each message that was refused; a fault's one line goes to `errors`. It also gives what the run
+/// counted. The exit status is
+/// 0 done, 1 a fault of the configuration or tables that are not admitted, 2 no system has the
+/// name, 3 a fault of the list, 4 a device or memory. Of several causes the first is answered: a
+/// fault of the configuration, the system's name, admission, the list.
+pub fn send_and_count<R: Read, O: Sink, E: Write>(
+    alloc: Global,
+    config: &[u8],
+    system: &str,
+    input: &mut Watched<R>,
+    output: &mut O,
+    errors: &mut Watched<E>,
+) -> Ended
+    requires sound_input { has_failed input.old ≡ false }
+    requires unended { has_ended input.old ≡ false }
+    requires sound_output { O.failed output.old ≡ false }
+
+    // 0 comes only where the list came to its end, 4 wherever a device failed; counts come with 0.
+    ensures statuses { let status = result.status in
+        (status ≡ 0) ⊎ (status ≡ 1) ⊎ (status ≡ 2) ⊎ (status ≡ 3) ⊎ (status ≡ 4) }
+    ensures counts { IsSome result.summary ↔ (result.status ≡ 0) }
+    ensures done { result.status ≡ 0 →
+        (has_ended input.new ≡ true) × (has_failed input.new ≡ false)
+        × (O.failed output.new ≡ false) }
+    ensures device { (has_failed input.new || O.failed output.new) ≡ true → result.status ≡ 4 }
+    ensures calls { calls_of input.new ≤ calls_of input.old + most_reads }
+
+    // The command ends as a run over the list answered, or nothing is read and nothing is written.
+    ensures sends { EndsSend R.remaining O.written O.failed E.contents config.now system.now
+        input.old input.new output.old output.new errors.old errors.new result }
+{
+    let tables = match read_tables(alloc, config) {
+        Ok(tables) => tables,
+        Err(fault) => return Ended::without_counts(refuse_config(fault, errors)),
+    };
+    let Some(place) = tables.system_named(system) else {
+        return Ended::without_counts(refuse_name(errors));
+    };
+    match admit(tables) {
+        Ok(admitted) => {
+            let answer = send_into(alloc, &admitted, place, input, output);
+            end(answer, errors)
+        }
+        Err((tables, fault)) => { Ended::without_counts(refuse_tables(&tables, fault, errors)) }
+    }
+}
+
+/// Sends the messages of a list from the system of this name, as `send_and_count` does, and gives
+/// the exit status alone.
+pub fn send<R: Read, O: Write, E: Write>(
+    alloc: Global,
+    config: &[u8],
+    system: &str,
+    input: &mut Watched<R>,
+    output: &mut Watched<O>,
+    errors: &mut Watched<E>,
+) -> u8
+    requires sound_input { has_failed input.old ≡ false }
+    requires unended { has_ended input.old ≡ false }
+    requires sound_output { has_failed output.old ≡ false }
+    ensures statuses { (result ≡ 0) ⊎ (result ≡ 1) ⊎ (result ≡ 2) ⊎ (result ≡ 3) ⊎ (result ≡ 4) }
+    ensures done { result ≡ 0 → (has_ended input.new ≡ true) × (has_failed input.new ≡ false)
+        × (has_failed output.new ≡ false) }
+    ensures device { (has_failed input.new || has_failed output.new) ≡ true → result ≡ 4 }
+    ensures calls { calls_of input.new ≤ calls_of input.old + most_reads }
+    ensures sends { (ended : End) × (ended.status ≡ result)
+        × EndsSend R.remaining (λ w. O.contents (device_of w)) has_failed
+        E.contents config.now system.now
+        input.old input.new output.old output.new errors.old errors.new ended }
+{
+    let ended = send_and_count(alloc, config, system, input, output, errors);
+    ended.status
+}
