@@ -10,7 +10,7 @@ from afdx_checked import Checked
 from afdx_counting import SHARES, Counting, Path, sorted_by
 from afdx_events import ACCEPT, DELIVERED, FATES, LEFT, LOST, OLD, REDUNDANT, side_name
 from afdx_listing import NO_LINK
-from afdx_tables import Row
+from afdx_tables import Row, in_us
 from afdx_traffic import Traffic, traffic_of
 
 MOST_TROUBLES = 10_000
@@ -271,9 +271,9 @@ def early_frames(counting: Counting, most: int) -> list[Row]:
     early = counting.events.early
     rows = []
     for place in largest(early.amounts, min(most, len(early.amounts))):
-        line, amount = int(early.lines[place]), int(early.amounts[place])
+        line, amount = int(early.lines[place]), in_us(int(early.amounts[place]))
         key = frame_key(counting, line)
-        rows.append({**key, "line": named(counting, line), "early_ns": amount})
+        rows.append({**key, "line": named(counting, line), "early_us": amount})
     return rows
 
 

@@ -76,7 +76,7 @@ fi
 parts="recordings report hardening criteria early page capture_faults wireshark icd"
 parts+=" explained icd_faults icd_documents icd_growth traffic taps fill completion"
 parts+=" hostile_completion safe_outputs hostile_files around campaigns recorded_reports absence"
-parts+=" evidence annotated package"
+parts+=" package"
 for part in $parts; do
     # shellcheck source=/dev/null
     source "$top/tests/tools/$part.sh"

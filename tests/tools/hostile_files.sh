@@ -226,35 +226,6 @@ icd_tests() {
     )"
 }
 
-table_tests() { # tables that would take hours
-    local name
-    {
-        head -n 1 examples/messages.csv
-        sed -n 2p examples/messages.csv | sed "s/^/$(printf 'x %.0s' {1..2001})/"
-    } >"$work/cell.csv"
-    { cat examples/systems.csv; yes 'adc,1,1,1,100' | head -n 10000; } >"$work/rows.csv"
-    {
-        head -n 1 examples/systems.csv
-        for name in a{-,_}{-,_}{-,_}{-,_}{-,_}{-,_}{-,_}{-,_}{-,_}{-,_}{-,_}{-,_}b; do
-            echo "$name,1,1,1,100"
-        done
-    } >"$work/alike.csv"
-    launch timeout 30 tools/afdx-icd examples/systems.csv "$work/cell.csv" "$work/heads.toml"
-    tell 'a cell of a table that is too long' "$(
-        is_status 2
-        one_plain_line
-        says err 'a cell has more than 4,000 characters'
-    )"
-    launch timeout 30 tools/afdx-icd "$work/rows.csv" examples/messages.csv "$work/heads.toml"
-    tell 'a table that is too long' "$(
-        is_status 2
-        one_plain_line
-        says err 'it has more than 10,000 rows'
-    )"
-    launch timeout 30 tools/afdx-icd "$work/alike.csv" examples/messages.csv "$work/heads.toml"
-    tell 'thousands of names that become one' "$(is_status 2)"
-}
-
 new_toml() { # FILE : base.toml's first tables in TOML 1.1
     cat >"$1" <<'TOML'
 profile = 1
@@ -333,7 +304,6 @@ if [[ -n $reporting && -n $dpkt ]] && has parallel; then
     campaign_name_tests
     odd_run_tests
     icd_tests
-    table_tests
     reading_tests
 else
     skip 'hostile files' "there is no program $program, or no numpy, dpkt or GNU parallel"
