@@ -63,8 +63,9 @@ closed_case 'closed standard input before a recording' 4 '' "$no_read" 0 \
 closed_case 'closed standard input by its path' 4 '' $'device Config\n' 0 check /dev/stdin
 closed_case 'closed standard input that is not read' 0 "$accepted" '' 0 \
     "${police[@]}" examples/one_link.list
+reason='Is a directory (os error 21), or closed'
 closed_case 'closed standard input is explained' 4 '' \
-    "$no_read$("$program" explain device Read)"$'\nstandard input: closed, or a directory\n' \
+    "$no_read$("$program" explain device Read)"$'\n'"standard input: $reason"$'\n' \
     0 "${police[@]}" --explain -
 closed_case 'closed standard output' 4 '' "$no_write" 1 "${police[@]}" examples/one_link.list
 closed_case 'closed standard output of check' 4 '' "$no_write" 1 check examples/network.toml

@@ -91,7 +91,7 @@ full_case() { # NAME STATUS ERR WORD..
     )"
 }
 
-for part in explain; do
+for part in check explain standard_streams; do
     source "$top/tests/program/$part.sh"
 done
 
