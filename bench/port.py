@@ -4,8 +4,8 @@
     bench/port.py [PROGRAM]
 
 PROGRAM is the built program of crates/afdx_port_bench, made by `rt run` there:
-crates/afdx_port_bench/out/afdx_port_bench where it isn't given. It puts and takes 10,000,000 frames in turn,
-and fills a queue of 4 MiB with 65,536 frames of 64 bytes and drains it.
+crates/afdx_port_bench/out/afdx_port_bench where it isn't given. It puts and takes 10,000,000
+frames in turn, and fills a queue of 4 MiB with 65,536 frames of 64 bytes and drains it.
 """
 import os
 import sys

@@ -17,8 +17,8 @@ function __afdx_given --description 'Words behind the command that belong to no 
 end
 
 set -g __afdx_valued --vl --port --lmin --policing --keep --interface --config --origin --reorder \
-    --stamps --fcs --side -o --out --split --link --from --rows --title --cover -j --jobs -S \
-    --sshlogin
+    --stamps --fcs --side -o --out --split --link --from --rows --worst --compare --title --cover \
+    --fail-on --junit -j --jobs -S --sshlogin
 
 function __afdx_at --description 'Is the word the one of that number behind COMMAND (- for none)?'
     set -l given (__afdx_given $__afdx_valued)
@@ -158,7 +158,8 @@ complete -c afdx-report -x -l rows -d 'Links in the picture of latencies'
 complete -c afdx-report -x -l worst -d 'Frames nearest to their latency'
 complete -c afdx-report -r -l compare -d 'The report.json of a run to compare with'
 complete -c afdx-report -x -l title -d 'The title of the page'
-complete -c afdx-report -r -l cover -d 'A cover: title, fields, parts, signatures'
+complete -c afdx-report -x -l cover -a '(__afdx_files toml)' \
+    -d 'A cover: title, fields, parts, signatures'
 complete -c afdx-report -l json -d 'Print the JSON instead of the text'
 complete -c afdx-campaign -n '__afdx_at - 1 1000000' -a '(__afdx_files list pcap pcapng)'
 complete -c afdx-campaign -l pages -d 'A page for each run too'

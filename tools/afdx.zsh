@@ -116,7 +116,7 @@ case $service in
             '--worst[frames in the table of those nearest to their latency]:number:' \
             '--compare[the report.json of a run to compare with]:file:_files' \
             '--title[the title of the page]:title:' \
-            '--cover[a cover: title, fields, parts, signatures]:file:_files -g "*.toml"' \
+            '--cover[a cover: title, fields, parts, signatures]:file:_files -g "*.toml(-.)"' \
             '--fail-on[status 6 where one of these is not 0]:words:' \
             '--junit[write each criterion as a JUnit test case]:file:_files' \
             '--json[print the JSON instead of the text]' ":$config" ":$input" "::$recording"

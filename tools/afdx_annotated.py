@@ -2,22 +2,26 @@
 interface and stamp, and what the program says of it as its comments."""
 from __future__ import annotations
 
-import re
+import contextlib
+import heapq
 import struct
 import subprocess
 import tempfile
 from dataclasses import dataclass, field
+from itertools import starmap
+from operator import itemgetter
 from typing import BinaryIO, Iterable, Iterator
 
 from afdx_reading import read_config
-from afdx_recorded import COMMENT, FLAGS, Frame, Interface, Recording
+from afdx_recorded import CHECK_SEQUENCE, NAME, OFFSET, RESOLUTION, Frame, Interface, Recording
+from afdx_recordings import WRITER, WRITER_CODE
 from afdx_tools import Refused, program
 from afdx_words import Failed
 
 SIDES = ("A", "B")
 LINK = b"\x03\0\0\0"  # a destination address of a link begins with it
-LEFT_OUT = re.compile(rb"# ([a-z-]+) ([0-9]+)( [AB])?\n?")
-NAME, RESOLUTION, CHECK_SEQUENCE = 2, 9, 13  # options of an interface
+COMMENT = 1  # an option of a frame
+LONGEST = 65_535  # bytes of an option
 Key = tuple[str, int]  # a side, empty where there is one recording, and a number
 
 
@@ -32,6 +36,28 @@ class Told:
 
 
 # ---- what the program says -----------------------------------------------------------------------
+
+
+@contextlib.contextmanager
+def lines_of(words: list[str]) -> Iterator[Iterator[bytes]]:
+    """The lines that the program writes, of which all have to be read; Failed where it had a
+    fault."""
+    with tempfile.TemporaryFile() as errors:
+        with subprocess.Popen(words, stdout=subprocess.PIPE, stderr=errors) as run:
+            assert run.stdout is not None
+            yield run.stdout
+        errors.seek(0)
+        said, status = errors.read().decode("utf-8", "replace").strip(), run.returncode
+    if status < 0:
+        raise Failed(said or f"signal {-status} ended the program", 128 - status)
+    if status:
+        raise Failed(said or f"the program ended with status {status}", status)
+
+
+def none_of_this(line: bytes) -> Refused:
+    """The fault where the program wrote something else."""
+    said = line[:60].decode("ascii", "replace").rstrip()
+    return Refused(f"the program's line '{said}' is none of this replay")
 
 
 class Followed:
@@ -55,7 +81,7 @@ class Followed:
         elif kind == b"X":
             self.last.lines.append(text)
         elif kind in (b"V", b"L", b"D", b"T"):
-            side = fields[0 if kind in (b"V", b"L") else 1].decode("ascii", "replace")
+            side = fields[0 if kind in (b"V", b"L") else 1].decode("ascii")
             one = self.told.setdefault((side if self.is_pair else "", int(number)), Told())
             one.lines.append(text)
             if kind == b"V":
@@ -66,7 +92,7 @@ class Followed:
             raise ValueError
 
     def more(self) -> None:
-        """Takes the next line, and those of the receiver behind it."""
+        """Takes the next line, if there is one."""
         line = next(self.lines, None)
         if line is None:
             self.has_ended = True
@@ -74,56 +100,61 @@ class Followed:
         try:
             self.take(line)
         except (ValueError, IndexError) as error:
-            said = line[:60].decode("ascii", "replace").rstrip()
-            raise Refused(f"the program's line '{said}' is none of this replay") from error
+            raise none_of_this(line) from error
 
-    def is_done(self, key: Key, frame: Frame) -> bool:
+    def is_done(self, key: Key, content: bytes) -> bool:
         """Was all said of a frame?"""
         one = self.told.get(key)
         if one is None or one.accepted is None:
             return False
-        content = frame.content
         vl = int.from_bytes(content[4:6], "big") if content.startswith(LINK) else -1
         wanted = self.copies.get(vl, 0) if one.accepted else 0
         # the line behind its last departure says what the receiver did, so that has to be here too
         return one.ended >= wanted and self.last is not one
 
-    def of(self, key: Key, frame: Frame) -> list[bytes]:
-        """What is said of a frame, once all of it is."""
-        while not self.has_ended and not self.is_done(key, frame):
+    def of(self, key: Key, content: bytes) -> list[bytes]:
+        """What is said of a frame with these bytes, once all of it is."""
+        while not self.has_ended and not self.is_done(key, content):
             self.more()
         return self.told.pop(key, Told()).lines
 
 
-def left_out(config: str, path: str, options: list[str]) -> dict[int, bytes]:
-    """The numbers of a recording that are no arrivals, and why, by `afdx list`."""
-    words = [program(), "list", *options, config, path]
-    found = {}
-    with tempfile.TemporaryFile() as errors:
-        with subprocess.Popen(words, stdout=subprocess.PIPE, stderr=errors) as run:
-            assert run.stdout is not None
-            for line in run.stdout:
-                if line.startswith(b"#"):
-                    match = LEFT_OUT.fullmatch(line)
-                    if match is None:
-                        run.kill()
-                        raise Refused("this afdx doesn't say which numbers it leaves out")
-                    found[int(match[2])] = b"# " + match[1]
-        errors.seek(0)
-        fail(run.returncode, errors.read())
-    return found
+# ---- which numbers are no arrivals, and why ------------------------------------------------------
 
 
-def fail(status: int, said: bytes) -> None:
-    """Failed where the program had a fault."""
-    text = said.decode("utf-8", "replace").strip()
-    if status < 0:
-        raise Failed(text or f"signal {-status} ended the program", 128 - status)
-    if status:
-        raise Failed(text or f"the program ended with status {status}", status)
+class Arrivals:
+    """The numbers of each recording that are arrivals: each of these has a V line."""
+
+    def __init__(self, lines: Iterable[bytes], sides: Iterable[str]) -> None:
+        self.known = {side: bytearray() for side in sides}
+        for line in lines:
+            if line.startswith(b"V "):
+                self.take(line)
+
+    def take(self, line: bytes) -> None:
+        """Takes a V line."""
+        try:
+            number, side = line.split(b" ", 3)[1:3]
+            known = self.known[side.decode("ascii") if len(self.known) > 1 else ""]
+            place = int(number)
+        except (ValueError, KeyError) as error:
+            raise none_of_this(line) from error
+        known.extend(bytes(max(place + 1 - len(known), 0)))
+        known[place] = 1
+
+    def has(self, side: str, number: int) -> bool:
+        """Is the number an arrival?"""
+        known = self.known[side]
+        return number < len(known) and bool(known[number])
 
 
-# ---- the frames ----------------------------------------------------------------------------------
+def reasons(config: str, path: str, options: list[str]) -> list[bytes]:
+    """Why numbers of a recording are no arrivals, in the order of these numbers: lines `# WORD` of
+    `afdx list`, which writes each where it reads its frame."""
+    known: dict[bytes, bytes] = {}
+    with lines_of([program(), "list", *options, config, path]) as lines:
+        words = (b" ".join(line.split()[:2]) for line in lines if line.startswith(b"#"))
+        return [known.setdefault(word, word) for word in words]
 
 
 def of_side(options: list[str], side: str, recording: Recording) -> list[str]:
@@ -139,27 +170,31 @@ def of_side(options: list[str], side: str, recording: Recording) -> list[str]:
     return kept + [f"--interface={n}={places.get(n, side)}" for n in range(count)]
 
 
-def merged(recordings: dict[str, Recording]) -> Iterator[tuple[str, Frame]]:
-    """The frames of all recordings, each with its side; of two those that were stamped earlier
-    come first, each recording in its own order."""
-    frames = {side: recording.frames() for side, recording in recordings.items()}
-    heads = {side: next(each, None) for side, each in frames.items()}
-    while any(heads.values()):
-        stamps = {side: frame.stamp or 0 for side, frame in heads.items() if frame}
-        side = min(stamps, key=lambda side: (stamps[side], side))
-        frame = heads[side]
-        assert frame is not None
-        yield side, frame
-        heads[side] = next(frames[side], None)
+# ---- the frames ----------------------------------------------------------------------------------
+
+
+def frames_of(side: str, recording: Recording) -> Iterator[tuple[int, str, Frame]]:
+    """The frames of a recording, each behind its stamp and its side."""
+    for frame in recording.frames():
+        yield frame.stamp or 0, side, frame
+
+
+def merged(recordings: dict[str, Recording]) -> Iterator[tuple[int, str, Frame]]:
+    """The frames of all recordings; of two those that were stamped earlier come first, each
+    recording in its own order."""
+    return heapq.merge(*starmap(frames_of, recordings.items()), key=itemgetter(0))
 
 
 class Copied:
-    """A pcapng with frames as they were recorded. Interfaces keep their numbers; of two recordings
-    those of the second come behind those of the first that are known by then."""
+    """A pcapng with frames as they were recorded. Sections and interfaces keep their numbers; two
+    recordings become one section, in which interfaces are numbered as they come."""
 
-    def __init__(self, file: BinaryIO) -> None:
-        self.file, self.numbers = file, dict[tuple[str, int], int]()
-        self.block(0x0A0D0D0A, struct.pack("<IHHq", 0x1A2B3C4D, 1, 0, -1))
+    def __init__(self, file: BinaryIO, is_pair: bool) -> None:
+        self.file, self.is_pair = file, is_pair
+        # of the interfaces of each section of each recording the numbers here
+        self.numbers: dict[tuple[str, int], list[int]] = {}
+        self.section = self.described = 0
+        self.begin()
 
     def block(self, kind: int, body: bytes) -> None:
         """A block."""
@@ -167,38 +202,48 @@ class Copied:
         size = struct.pack("<I", len(body) + 12)
         self.file.write(struct.pack("<I", kind) + size + body + size)
 
-    def interface(self, side: str, place: int, interfaces: list[Interface]) -> int:
-        """The number of an interface, which is described with all before it when it is first
-        used."""
-        for number in range(place + 1):
-            if (side, number) not in self.numbers:
-                self.numbers[side, number] = len(self.numbers)
-                self.describe(side, interfaces[number])
-        return self.numbers[side, place]
+    def begin(self) -> None:
+        """The next section, by this tool."""
+        self.section, self.described = self.section + 1, 0
+        self.numbers.clear()
+        head = struct.pack("<IHHq", 0x1A2B3C4D, 1, 0, -1)
+        self.block(0x0A0D0D0A, head + option(WRITER_CODE, WRITER) + option(0, b""))
 
     def describe(self, side: str, interface: Interface) -> None:
-        """An interface: its name, with the side where there are two recordings; stamps in ns."""
-        options = option(RESOLUTION, b"\x09")
-        if name := f"{side} {interface.name}".strip():
-            options = option(NAME, name.encode()) + options
+        """An interface: its name, with the side where there are two recordings."""
+        name = b" ".join(part for part in (side.encode(), interface.name) if part)
+        options = option(NAME, name[:LONGEST]) if name else b""
+        options += option(RESOLUTION, bytes([interface.resolution]))
         if interface.check_sequence is not None:
             options += option(CHECK_SEQUENCE, bytes([interface.check_sequence]))
-        self.block(1, struct.pack("<HHI", interface.link_type, 0, 0) + options + option(0, b""))
+        if interface.offset:
+            options += option(OFFSET, struct.pack("<q", interface.offset))
+        head = struct.pack("<HHI", interface.link_type, 0, interface.most)
+        self.block(1, head + options + option(0, b""))
 
-    def write(
-        self, side: str, frame: Frame, interfaces: list[Interface], said: list[bytes]
-    ) -> None:
-        """A frame with its own comments and those of the program; a block that is no frame."""
+    def number_of(self, side: str, frame: Frame) -> int:
+        """The number of a frame's interface, which is described with all that are known by now."""
+        known = self.numbers.setdefault((side, frame.section), [])
+        for interface in frame.interfaces[len(known) :]:
+            known.append(self.described)
+            self.described += 1
+            self.describe(side, interface)
+        return known[frame.place]
+
+    def write(self, side: str, frame: Frame, said: list[bytes]) -> None:
+        """A frame with its own options, and with the lines of the program as comments; a block that
+        is no frame."""
+        while self.section < frame.section and not self.is_pair:
+            self.begin()
         if frame.kind:
             self.block(frame.kind, frame.content)
             return
-        number = self.interface(side, frame.interface, interfaces)
-        stamp, captured = frame.stamp or 0, len(frame.content)
-        head = struct.pack(
-            "<5I", number, stamp >> 32, stamp & 0xFFFF_FFFF, captured, frame.original
-        )
-        options = b"".join(option(COMMENT, text) for text in frame.options.get(COMMENT, []) + said)
-        options += b"".join(option(FLAGS, flags) for flags in frame.options.get(FLAGS, [])[:1])
+        ticks, captured = frame.ticks or 0, len(frame.content)
+        high, low = ticks >> 32, ticks & 0xFFFF_FFFF
+        place = self.number_of(side, frame)
+        head = struct.pack("<5I", place, high, low, captured, frame.original)
+        lines = [(COMMENT, text) for text in said]
+        options = b"".join(option(code, value) for code, value in [*frame.options, *lines])
         end = option(0, b"") if options else b""
         self.block(6, head + frame.content + bytes(-captured % 4) + options + end)
 
@@ -208,31 +253,50 @@ def option(code: int, value: bytes) -> bytes:
     return struct.pack("<HH", code, len(value)) + value + bytes(-len(value) % 4)
 
 
+class Reasons:
+    """Why numbers of the recordings are no arrivals."""
+
+    def __init__(self, lines: dict[str, list[bytes]]) -> None:
+        self.lines = lines
+        self.told = dict.fromkeys(lines, 0)
+
+    def of(self, side: str, number: int) -> bytes:
+        """The line about the next such number of a recording."""
+        place = self.told[side]
+        self.told[side] += 1
+        at = f" {number} {side}".rstrip()
+        return b"".join(self.lines[side][place : place + 1]) + at.encode()
+
+    def are_told(self) -> bool:
+        """As many were told as there are."""
+        return self.told == {side: len(lines) for side, lines in self.lines.items()}
+
+
 def annotated(
     config: str, paths: list[str], options: list[str], no_admission: bool, out: BinaryIO
 ) -> Iterator[None]:
     """Writes the frames of one recording, or of two, with what becomes of them; gives one None for
     each. Failed where the program had a fault."""
-    sides = SIDES if len(paths) == 2 else ("",)
-    recordings = {side: Recording(path) for side, path in zip(sides, paths)}
-    skipped = {
-        side: left_out(config, path, of_side(options, side, recordings[side]) if side else options)
-        for side, path in zip(sides, paths)
-    }
-    words = [program(), "replay", *(["--no-admission"] if no_admission else []), *options]
-    file = Copied(out)
-    with tempfile.TemporaryFile() as errors:
-        with subprocess.Popen(
-            [*words, config, *paths], stdout=subprocess.PIPE, stderr=errors
-        ) as run:
-            assert run.stdout is not None
-            followed = Followed(config, run.stdout, bool(sides[0]))
-            for side, frame in merged(recordings):
-                why = skipped[side].get(frame.number)
-                said = [why] if why else followed.of((side, frame.number), frame)
-                file.write(side, frame, recordings[side].interfaces, said)
-                yield None
-            while not followed.has_ended:
-                followed.more()
-        errors.seek(0)
-        fail(run.returncode, errors.read())
+    recordings = dict(zip(SIDES if len(paths) == 2 else ("",), map(Recording, paths)))
+    words = [program(), "replay", *(["--no-admission"] if no_admission else [])]
+    words += [*options, config, *paths]
+    with lines_of(words) as lines:
+        arrivals = Arrivals(lines, recordings)
+    found = {}
+    for path, (side, recording) in zip(paths, recordings.items()):
+        of_one = of_side(options, side, recording) if side else options
+        found[side] = reasons(config, path, of_one)
+    why, file = Reasons(found), Copied(out, len(paths) > 1)
+    with lines_of(words) as lines:
+        followed = Followed(config, lines, len(paths) > 1)
+        for _, side, frame in merged(recordings):
+            if arrivals.has(side, frame.number):
+                said = followed.of((side, frame.number), frame.content)
+            else:
+                said = [why.of(side, frame.number)]
+            file.write(side, frame, said)
+            yield None
+        while not followed.has_ended:
+            followed.more()
+    if followed.told or not why.are_told():
+        raise Refused("replay and list of this afdx don't agree on which frames are arrivals")

@@ -13,15 +13,19 @@ from html import escape
 
 import numpy as np
 
+from afdx_compare import LONGEST_TITLE
 from afdx_counting import Counting
 from afdx_cover import Cover
 from afdx_running import Source
 from afdx_tables import Row
+from afdx_tools import LONGEST_NAME, cut
 from afdx_version import number
 from afdx_where import Where, utc
 from afdx_words import shown
 
 TAP = "--interface="
+LONGEST_ROW = 1_000  # characters of a row on the page; report.json has all
+FOOT = "font: 7px system-ui, sans-serif; color: #444a52;"
 
 
 def digest(path: str) -> str:
@@ -43,8 +47,9 @@ def files_of(
         ("Configuration", shown(args.config), digest(source.config)),
         *zip(heads, map(shown, paths), sums),
     ]
-    if args.taps and os.path.isfile(args.taps):
-        files.append(("Taps", shown(args.taps), digest(args.taps)))
+    for head, path in (("Taps", args.taps), ("Compared with", args.compare)):
+        if path and os.path.isfile(path):
+            files.append((head, shown(path), digest(path)))
     return files + ([("Cover", cover.path, cover.digest)] if cover else [])
 
 
@@ -58,11 +63,11 @@ def header(
 ) -> Row:
     """What the run was, and what made its report."""
     paths = [args.list] if args.other is None else [args.list, args.other]
-    names = [shown(os.path.basename(path)) for path in (*paths, args.config)]
+    names = [cut(os.path.basename(path), LONGEST_NAME) for path in (*paths, args.config)]
     time_0 = where.time_0
     now = datetime.datetime.now(datetime.timezone.utc)
     return {
-        "title": shown(args.title) if args.title else f"{' and '.join(names[:-1])} on {names[-1]}",
+        "title": cut(args.title or f"{' and '.join(names[:-1])} on {names[-1]}", LONGEST_TITLE),
         "files": files_of(args, source, counting.listing.digest, cover),
         "words": [shown(word) for word in ("afdx-report", *sys.argv[1:])],
         "taps": [word.removeprefix(TAP) for word in source.options if word.startswith(TAP)],
@@ -81,26 +86,44 @@ def header(
     }
 
 
-def made_section(run: Row) -> str:
-    """The same for a reader."""
+def made_of(run: Row) -> list[tuple[str, str]]:
+    """The same for a reader, in rows."""
     taps = ", ".join(run["taps"]) or "none named: the frames' own addresses say where they came in"
-    rows = [
+    is_list = run["files"][1][0] == "List"
+    return [
         ("Words", shlex.join(run["words"])),
-        *((head, f"{path}, SHA-256 {digest}") for head, path, digest in run["files"]),
-        ("Taps", taps if any(head.startswith("Rec") for head, _, _ in run["files"]) else "a list"),
+        *((head, f"SHA-256 {digest}, {path}") for head, path, digest in run["files"]),
+        ("Taps", "a list" if is_list else taps),
         ("Time 0", run["time_0"] or "a list has no date"),
         ("Program", run["program"]),
         ("Tool", f"{run['tool']}, Python {run['python']}, numpy {run['numpy']}"),
         ("Host", f"{run['host']}, {run['system']}"),
         ("Written", run["written"]),
     ]
+
+
+def made_table(run: Row) -> str:
+    """These rows as a table."""
     body = "".join(
         f'<tr><th scope="row"><span>{escape(name)}</span></th><td class="words"><code>'
-        f"{escape(words)}</code></td></tr>"
-        for name, words in rows
+        f"{escape(cut(words, LONGEST_ROW))}</code></td></tr>"
+        for name, words in made_of(run)
     )
     head = '<tr><th scope="col">what</th><th scope="col">which</th></tr>'
+    caption = "<caption>What made this report</caption>"
+    return f'<table id="made">{caption}<thead>{head}</thead><tbody>{body}</tbody></table>'
+
+
+def made_section(run: Row) -> str:
+    """The table in a section of its own."""
+    return f"<section>{made_table(run)}</section>"
+
+
+def sheet_style(run: Row) -> str:
+    """What stands at the foot of each sheet of paper: which files the report is of, and its
+    number."""
+    files = ", ".join(f"{head} {digest[:12]}" for head, _, digest in run["files"])
     return (
-        f'<section id="made"><table><caption>What made this report</caption><thead>{head}</thead>'
-        f"<tbody>{body}</tbody></table></section>"
+        f'@page {{ @bottom-left {{ content: "{files}; written {run["written"]}"; {FOOT} }} '
+        f'@bottom-right {{ content: "sheet " counter(page) " of " counter(pages); {FOOT} }} }}'
     )

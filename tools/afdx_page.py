@@ -12,7 +12,7 @@ from afdx_counting import Counting
 from afdx_cover import cover_section
 from afdx_head import answer, cards, words_section
 from afdx_lanes import lanes
-from afdx_made import made_section
+from afdx_made import made_section, made_table, sheet_style
 from afdx_parts import paper_rows, section, table, table_section
 from afdx_ranking import FEWEST, ranked
 from afdx_style import POLICY, SCRIPT, STYLE
@@ -216,8 +216,9 @@ def page(report: Row, counting: Counting, where: Where, args: argparse.Namespace
         "<!doctype html><html lang='en'><head><meta charset='utf-8'>",
         f'<meta http-equiv="Content-Security-Policy" content="{POLICY}">',
         "<meta name='viewport' content='width=device-width, initial-scale=1'>",
-        f"<title>{escape(title)}</title><style>{STYLE}</style></head><body><main>",
-        cover_section(report["cover"]),
+        f"<title>{escape(title)}</title><style>{STYLE}{sheet_style(report['run'])}</style></head>",
+        "<body><main>",
+        cover_section(report["cover"], made_table(report["run"])),
         f"<header><h1>{escape(title)}</h1><p>{escape(words)}</p></header>",
         answer(report),
         links_to(report),
@@ -225,7 +226,7 @@ def page(report: Row, counting: Counting, where: Where, args: argparse.Namespace
         words_section(report),
         pictures(report, counting, args),
         table_sections(report, where),
-        made_section(report["run"]),
+        "" if report["cover"] else made_section(report["run"]),
         foot(),
         f"</main><script>{SCRIPT}</script></body></html>\n",
     ]

@@ -58,9 +58,10 @@ def share_of(row: Row) -> float:
 
 
 def needed(rows: Sequence[Row]) -> set[int]:
-    """The places of the rows that stand on paper in any case: those that aren't as they should be,
-    and the nearest to their latency, or the first ones."""
-    bad = [n for n, row in enumerate(rows) if is_over(row)]
+    """The places of the rows that stand on paper in any case: those that aren't as they should be
+    or are about frames that were dropped and the like, and the nearest to their latency, or the
+    first ones."""
+    bad = [n for n, row in enumerate(rows) if is_over(row) or "reason" in row or "what" in row]
     top = sorted(range(len(rows)), key=lambda n: (-share_of(rows[n]), n))[:LEAST_TOP]
     return {*sorted(bad, key=lambda n: -share_of(rows[n]))[:MOST_BAD], *top}
 

@@ -9,6 +9,7 @@ from afdx_tools import Refused
 HEADS = frozenset(
     bytes.fromhex(head) for head in ("d4c3b2a1", "a1b2c3d4", "4d3cb2a1", "a1b23c4d", "0a0d0d0a")
 )
+WRITER_CODE, WRITER = 4, b"afdx-capture annotate"  # an option of a section: who wrote it
 
 
 def add_recording_words(parser: argparse.ArgumentParser) -> None:
@@ -54,6 +55,15 @@ def is_recording(path: str) -> bool:
     """The program takes the file for a recording, by its first four bytes."""
     with open(path, "rb") as file:
         return file.read(4) in HEADS
+
+
+def is_foreign(path: str) -> bool:
+    """A recording stands there that `afdx-capture annotate` didn't write."""
+    if not os.path.isfile(path):
+        return False
+    with open(path, "rb") as file:
+        head = file.read(256)
+    return head[:4] in HEADS and WRITER not in head
 
 
 def files_of(word: str) -> tuple[str, ...]:

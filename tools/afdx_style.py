@@ -33,7 +33,7 @@ section { background: var(--sheet); border: 1px solid var(--rule); border-radius
   padding: 3px 10px; margin: 0 0 4px; overflow-wrap: anywhere; }
 .findings b { display: inline-block; min-width: 8.2em; }
 @media (max-width: 720px) { .findings b { display: block; } #words .where { display: none; }
-  #words td.words { min-width: 0; } caption { white-space: normal; } }
+  #words td.words { min-width: 0; } caption { max-width: calc(100vw - 84px); } }
 .late-row { color: var(--bad); }
 .cards { display: grid; grid-template-columns: repeat(6, 1fr); gap: 10px; margin: 16px 0 0; }
 @media (max-width: 720px) { .cards { grid-template-columns: repeat(2, 1fr); } }
@@ -45,8 +45,12 @@ section { background: var(--sheet); border: 1px solid var(--rule); border-radius
 .card dt { color: var(--muted); font-size: 12.5px; }
 .on-paper { display: none; } #cover { margin-bottom: 24px; }
 #cover table { margin-top: 12px; font-size: 13.5px; }
-#cover td:last-child { min-width: 14em; } #cover td, #cover tbody th { padding: 7px 10px 7px 0; }
-#made td { white-space: normal; } #made code { overflow-wrap: anywhere; }
+#cover td, #cover tbody th { padding: 5px 10px 5px 0; white-space: pre-line;
+  overflow-wrap: anywhere; }
+#cover .signatures td, #cover .signatures tbody th { padding-top: 26px; }
+#cover .signatures td:last-child { min-width: 14em; }
+#cover #made, #made { font-size: 12.5px; } #made td { white-space: normal; }
+#made code { overflow-wrap: anywhere; } #cover #made th { white-space: nowrap; }
 .find { margin-top: 16px; } .find input { font: inherit; padding: 4px 8px; width: 22em;
   max-width: 100%; }
 .box { max-height: 560px; overflow: auto; } #words .box { max-height: none; }

@@ -8,7 +8,7 @@ from typing import NamedTuple
 from afdx_cells import Cells
 from afdx_interfaces import Interface
 from afdx_sheets import Row, read_sheet
-from afdx_tools import Refused
+from afdx_tools import LONGEST_NAME, Refused, cut
 from afdx_words import shown
 
 COLUMNS = dict.fromkeys(("interface", "side", "port", "direction"), True)
@@ -127,7 +127,8 @@ def read_taps(path: str) -> list[Tap]:
 
 def called(number: int, name: str | None) -> str:
     """An interface by its number and its name."""
-    return f"interface {number}" if name is None else f"interface {number} ({shown(name)})"
+    named = "" if name is None else f" ({cut(name, LONGEST_NAME)})"
+    return f"interface {number}{named}"
 
 
 def taps_for(taps: list[Tap], number: int, name: str | None) -> list[Tap]:
@@ -139,7 +140,7 @@ def taps_for(taps: list[Tap], number: int, name: str | None) -> list[Tap]:
 def tap_for(taps: list[Tap], recording: Recording, number: int, interface: Interface) -> Tap | str:
     """The row of an interface, or why it has none."""
     if interface.other is not None:
-        other = shown(interface.other)
+        other = cut(interface.other, LONGEST_NAME)
         return f"is {other} in a later section of the file; mergecap makes one section of them"
     rows = taps_for(taps, number, interface.name)
     here = [tap for tap in rows if tap.is_at(recording.side)]
@@ -150,7 +151,7 @@ def tap_for(taps: list[Tap], recording: Recording, number: int, interface: Inter
     if rows:
         row, side = rows[0].row.place, recording.side
         return f"is {rows[0].says} by {row}, and this is given as the recording of {side}"
-    named = f"#{number}" if interface.name is None else shown(interface.name)
+    named = f"#{number}" if interface.name is None else cut(interface.name, LONGEST_NAME)
     return f"has no row in the table; one named {named} with direction none leaves it out"
 
 

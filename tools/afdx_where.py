@@ -5,14 +5,18 @@ from __future__ import annotations
 import datetime
 from typing import Iterator
 
+import numpy as np
+
 from afdx_counting import Counting
 from afdx_recorded import BILLION, Recording
 from afdx_running import Source
 from afdx_tables import Row
+from afdx_tools import LONGEST_NAME, cut
 
 TABLES = ("silences", "dropped", "latency", "frames", "sides", "skews", "early_frames", "troubles")
 SHOWN = ("frames", "early_frames", "troubles")  # whose rows say it in columns of their own
 SIDES = ("A", "B")
+MOST_LISTED = 2000  # bytes of a frame that a list has of a recording
 Place = tuple[str, int]  # a side, which is empty where there is one recording, and a number
 
 
@@ -38,6 +42,7 @@ class Where:
     def __init__(self, source: Source, counting: Counting) -> None:
         self.is_recorded, self.is_pair = source.is_recorded, source.is_pair
         self.options, self.counting = source.options, counting
+        self.are_starts = "--stamps=start" in source.options
         sides = SIDES if source.is_pair else ("",)
         paths = source.paths if source.is_recorded else []
         self.recordings = {side: Recording(path) for side, path in zip(sides, paths)}
@@ -54,18 +59,20 @@ class Where:
         that it takes on its line."""
         listing = self.counting.listing
         system = self.counting.by_port.get(int(listing.port[line]))
-        if "--stamps=start" not in self.options or system is None:
+        if not self.are_starts or system is None:
             return 0
         return int(listing.length[line]) * system.byte_ns
 
     def origin(self) -> int | None:
-        """The moment of time 0 in ns since 1970: that of the first arrival, less its time."""
+        """The moment of time 0 in ns since 1970: that of an arrival, less its time. The list has
+        no more than the first bytes of a frame that is too long, so another one says it."""
         for option in self.options:
             if option.startswith("--origin="):
                 return int(option.removeprefix("--origin="))
-        if not self.is_recorded or not len(self.counting.arrived):
+        arrived = self.counting.arrived
+        if not self.is_recorded or not len(arrived):
             return None
-        line = int(self.counting.arrived[0])
+        line = int(arrived[np.argmax(self.counting.listing.length[arrived] < MOST_LISTED)])
         side, number = self.place_of(line)
         for frame in self.recordings[side].frames([number]):
             if frame.stamp is not None:
@@ -74,20 +81,19 @@ class Where:
         return None
 
     def look(self, wanted: set[Place]) -> None:
-        """Finds these frames. A pcap has one interface, and stamps follow from times; so only a
-        pcapng is read for them."""
-        lines = {place: self.line_at(place) for place in wanted}
+        """Finds these frames. A pcap has one interface, and stamps of the last bit follow from
+        times; so it isn't read for them."""
         for side, recording in self.recordings.items():
             numbers = [number for each, number in wanted if each == side]
-            if recording.has_interfaces:
+            if recording.has_interfaces or self.are_starts:
                 for frame in recording.frames(numbers):
                     if frame.stamp is not None:
-                        name = recording.interfaces[frame.interface].name
-                        self.found[side, frame.number] = frame.interface, name, frame.stamp
+                        name = frame.interface.name.decode("utf-8", "surrogateescape")
+                        where = frame.place, cut(name, LONGEST_NAME), frame.stamp
+                        self.found[side, frame.number] = where
             elif self.time_0 is not None:
                 for number in numbers:
-                    line = lines[side, number]
-                    time = int(self.counting.listing.time[line]) - self.sending(line)
+                    time = int(self.counting.listing.time[self.line_at((side, number))])
                     self.found[side, number] = 0, "", self.time_0 + time
 
     def line_at(self, place: Place) -> int:

@@ -23,7 +23,7 @@ FILES = [
     "afdx_send/src/fault.rt",
     "afdx_lists/src/fault.rt",
     "afdx_lists/src/recording_fault.rt",
-    "afdx_arrivals/src/skipped.rt",
+    "afdx_recorded/src/skipped.rt",
 ]
 SOURCES = "\n".join((CRATES / file).read_text(encoding="utf-8") for file in FILES)
 

@@ -42,9 +42,9 @@ MEMORY = {
     "crates/afdx/src/telling.rt": {"memory"},
     "crates/afdx_config/src/asked.rt": {"links_in"},
     "crates/afdx_config/src/read.rt": {"tree_of"},
-    "crates/afdx_replay/src/refusing.rt": {"want_memory"},
+    "crates/afdx_commands/src/refusing.rt": {"want_memory"},
     "crates/afdx_send/src/fault.rt": {""},  # the row of a table
-    "crates/afdx_replay/src/sending/run.rt": {"refusal_of"},
+    "crates/afdx_sending/src/run.rt": {"refusal_of"},
     "crates/afdx_send/src/sender_state.rt": {"accept"},
     "crates/afdx_end_systems/src/end_system.rt": {"pass_on"},
     "crates/afdx_text/src/line.rt": {"room_wanted"},

@@ -86,52 +86,115 @@ two_tests() {
     )"
 }
 
-# The program, or one in its place that says the numbers of what it leaves out: those of its lines
-# with `--reorder 0`.
-numbering() {
-    printf 'F 0 A 1 %s\nF 1 A 1 %s\n' "$(frame_of A 0)" "$(printf 'ff%.0s' {1..60})" \
-        >"$said/other.list"
-    capture pcap "$said/other.list" "$said/other.pcap"
-    if "$program" list examples/base.toml "$said/other.pcap" | grep -qE '^# [a-z-]+ [0-9]'; then
-        echo "$program"
-        return
-    fi
-    cat >"$said/numbering" <<END_OF_FILE
-#!/bin/bash
-if [[ \$1 != list ]]; then exec "$program" "\$@"; fi
-"$program" "\$@" --reorder 0 | awk '/^#/ {print \$0, NR; next} {print}'
-END_OF_FILE
-    chmod +x "$said/numbering"
-    echo "$said/numbering"
+first_comments() { # RECORDING : number, interface and first comment of each frame
+    fields_of "$1" frame.number frame.interface_id frame.comment | cut -d ';' -f 1
+}
+
+left_out_lists() { # writes $said/left.pcap, and that of the other network
+    local other
+    other=ffffffffffff0200000001200806$(printf '00%.0s' {1..50})
+    {
+        echo "F 0 A 1 $(frame_of A 0)"
+        echo "F 1000000 A 1 $other"
+        echo "F 2000000 A 1 $(frame_of A 1)"
+        echo "F 3000000 A 1 $(frame_of A 2 | sed 's/0200000001/0200000099/')"
+        echo "F 4000000 A 1 $(frame_of A 3)"
+    } >"$said/left.list"
+    capture pcap "$said/left.list" "$said/left.pcap"
+    printf 'F 1500000 B 1 %s\nF 2500000 B 1 %s\n' "$other" "$(frame_of B 1)" >"$said/right.list"
+    capture pcap "$said/right.list" "$said/right.pcap"
 }
 
 left_out_tests() {
-    local config=examples/base.toml run=$said/left.pcap program_of_numbers
-    program_of_numbers=$(numbering)
-    {
-        echo "F 0 A 1 $(frame_of A 0)"
-        echo "F 1000000 A 1 ffffffffffff0200000001200806$(printf '00%.0s' {1..50})"
-        echo "F 2000000 A 1 $(frame_of A 1)"
-        echo "F 3000000 A 1 $(frame_of A 2 | sed 's/ 020000000 / /; s/0200000001/0200000099/')"
-        echo "F 4000000 A 1 $(frame_of A 3)"
-    } >"$said/left.list"
-    capture pcap "$said/left.list" "$run"
-    launch env AFDX="$program_of_numbers" tools/afdx-capture annotate "$config" "$run" \
-        "$said/left.pcapng"
+    local config=examples/base.toml
+    left_out_lists
+    launch tools/afdx-capture annotate "$config" "$said/left.pcap" "$said/left.pcapng"
     tell 'frames that were left out say why' "$(
         is_status 0
-        as_recorded "$said/left.pcapng" "$run"
-        fields_of "$said/left.pcapng" frame.number frame.comment | cut -d ';' -f 1 >"$work/got"
-        printf '%s\t%s\n' 1 'V 1 A accept' 2 '# not-afdx' 3 'V 3 A accept' 4 '# unknown-sender' \
-            5 'V 5 A accept' >"$work/wanted"
+        as_recorded "$said/left.pcapng" "$said/left.pcap"
+        first_comments "$said/left.pcapng" | cut -f 1,3 >"$work/got"
+        printf '%s\t%s\n' 1 'V 1 A accept' 2 '# not-afdx 2' 3 'V 3 A accept' \
+            4 '# unknown-sender 4' 5 'V 5 A accept' >"$work/wanted"
         same "$work/wanted" "$work/got"
     )"
-    "$python" tests/tools/odd_recordings.py "$said" "$(frame_of A 0)5d0b5f3c"
-    launch env AFDX="$program_of_numbers" tools/afdx-capture annotate "$config" \
-        "$said/big.pcapng" "$said/small.pcapng"
-    tell 'the other order of bytes, stamps of other units, blocks that are no frames' "$(
+    mergecap -a -F pcapng -I none -w "$said/back.pcapng" "$said/right.pcap" "$said/left.pcap" \
+        2>"$work/said"
+    launch tools/afdx-capture annotate --fcs yes "$config" "$said/back.pcapng" \
+        "$said/back.said.pcapng"
+    tell 'also where frames are out of order' "$(
         is_status 0
-        as_recorded "$said/small.pcapng" "$said/big.pcapng"
+        as_recorded "$said/back.said.pcapng" "$said/back.pcapng"
+        first_comments "$said/back.said.pcapng" | cut -f 3 >"$work/got"
+        printf '%s\n' '# not-afdx 1' 'V 2 B accept' 'V 3 A accept' '# not-afdx 4' \
+            'V 5 A accept' '# unknown-sender 6' 'V 7 A accept' >"$work/wanted"
+        same "$work/wanted" "$work/got"
+    )"
+    launch tools/afdx-capture annotate "$config" "$said/left.pcap" "$said/right.pcap" \
+        "$said/both.pcapng"
+    tell 'and in two recordings, with number and side' "$(
+        is_status 0
+        first_comments "$said/both.pcapng" >"$work/got"
+        paste <(seq 7) <(printf '%s\t%s\n' 0 'V 1 A accept' 0 '# not-afdx 2 A' \
+            1 '# not-afdx 1 B' 0 'V 3 A accept' 1 'V 2 B accept' 0 '# unknown-sender 4 A' \
+            0 'V 5 A accept') >"$work/wanted"
+        same "$work/wanted" "$work/got"
+    )"
+    cat >"$said/silent" <<END_OF_FILE
+#!/bin/bash
+if [[ \$1 != list ]]; then exec "$program" "\$@"; fi
+"$program" "\$@" | sed '/^# not-afdx/d'
+END_OF_FILE
+    chmod +x "$said/silent"
+    launch env AFDX="$said/silent" tools/afdx-capture annotate "$config" "$said/left.pcap" \
+        "$said/no.pcapng"
+    tell 'a program whose list does not say all reasons' "$(
+        is_status 2
+        one_line
+        says err "don't agree on which frames are arrivals"
+        if [[ -e $said/no.pcapng ]]; then echo 'there is a recording'; fi
+    )"
+}
+
+odd_tests() {
+    local config=examples/base.toml name
+    "$python" tests/tools/odd_recordings.py "$said" "$(frame_of A 0)5d0b5f3c"
+    for name in big sections; do
+        launch tools/afdx-capture annotate "$config" "$said/$name.pcapng" "$said/$name.said.pcapng"
+        tell "frames of odd recordings: $name" "$(
+            is_status 0
+            as_recorded "$said/$name.said.pcapng" "$said/$name.pcapng"
+            same <(fields_of "$said/$name.pcapng" frame.section_number frame.interface_name) \
+                <(fields_of "$said/$name.said.pcapng" frame.section_number frame.interface_name)
+        )"
+    done
+    capture pcap --origin 1700000000000500000 "$said/left.list" "$said/later.pcap"
+    launch tools/afdx-capture annotate "$config" "$said/sections.pcapng" "$said/later.pcap" \
+        "$said/merged.pcapng"
+    tell 'two recordings, of which one has two sections' "$(
+        is_status 0
+        fields_of "$said/merged.pcapng" frame.interface_id frame.interface_name frame.time_epoch \
+            >"$work/got"
+        printf '%s\t%s\t1700000000.00%s\n' 0 'A eth0' 0000000 2 B 0500000 1 'A eth1' 1000000 \
+            2 B 1500000 3 'A eth2' 2000007 2 B 2500000 2 B 3500000 2 B 4500000 >"$work/wanted"
+        same "$work/wanted" "$work/got"
+    )"
+    launch tools/afdx-capture annotate "$config" "$said/long.pcapng" "$said/later.pcap" \
+        "$said/long.said.pcapng"
+    tell 'and one with a name of 65,535 bytes' "$(is_status 0)"
+    cp "$said/left.pcap" "$said/"$'-a\n\xff.pcap'
+    launch env -C "$said" "$top/tools/afdx-capture" annotate "$top/$config" -- $'-a\n\xff.pcap' \
+        -o.pcapng
+    tell 'a name that begins with a dash, has a line feed and is no text' "$(
+        is_status 0
+        same "$said/left.pcapng" "$said/-o.pcapng"
+    )"
+    cp "$said/right.pcap" "$said/kept.pcap"
+    launch tools/afdx-capture annotate "$config" "$said/left.pcap" "$said/kept.pcap"
+    tell 'no recording is lost where the last word was forgotten' "$(
+        is_status 2
+        one_line
+        says err "is a recording that annotate didn't write"
+        same "$said/right.pcap" "$said/kept.pcap"
     )"
 }
 
@@ -168,6 +231,7 @@ if [[ -x $program && -n $dpkt && $reads == *two* ]] && has tshark; then
     one_tests
     two_tests
     left_out_tests
+    odd_tests
     fault_tests_of_recordings
 else
     skip 'annotated recordings' 'there is no program that reads two, no dpkt, or no tshark'

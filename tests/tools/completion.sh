@@ -93,6 +93,8 @@ offer_tests() { # SHELL
         offers "$1" "afdx-report $files/" one.toml
         offers "$1" "afdx-report --rows 7 $files/one.toml $files/" two.list four.pcap
         offers "$1" "afdx-report --fcs no $files/one.toml $files/four.pcap $files/" four.pcap
+        offers "$1" "afdx-report --cover $files/" one.toml
+        offers "$1" "afdx-report --cover c.toml --worst 5 --fail-on late $files/" one.toml
         offers "$1" "afdx-report --reorder 0 --stamps end $files/" one.toml
         offers "$1" "afdx-report --out $files/"
         offers "$1" "afdx-report --taps $files/seven.csv $files/" one.toml

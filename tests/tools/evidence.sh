@@ -72,13 +72,42 @@ where_tests() {
         is_status 0
         as_in_tshark us '' "$proof/us.pcapng"
     )"
+    "$python" tests/tools/odd_recordings.py "$proof" "$(frame_of A 0)5d0b5f3c"
+    launch tools/afdx-report examples/base.toml "$proof/sections.pcapng" --out "$proof/sections"
+    tell 'interfaces of a later section by their own names' "$(
+        is_status 0
+        cut -d , -f 2-4,6 "$proof/sections/where.csv" >"$work/got"
+        printf '%s\n' number,interface,name,epoch 1,0,eth0,1700000000.000000000 \
+            2,1,eth1,1700000000.001000000 3,0,eth2,1700000000.002000007 >"$work/wanted"
+        same "$work/wanted" "$work/got"
+    )"
+    launch tools/afdx-report examples/base.toml "$proof/long.pcapng" --out "$proof/long"
+    tell 'a name that is too long is cut' "$(
+        is_status 0
+        wants_number "$proof/long/report.json" 'len(r["where"][0]["name"])' 66
+        if [[ $(stat -c %s "$proof/long/report.html") -gt 200000 ]]; then echo 'it is long'; fi
+    )"
     launch tools/afdx-report --stamps start --reorder 100 examples/network.toml "$proof/A.pcap" \
         --out "$proof/starts"
-    tell 'and of a pcap, which is not read for them' "$(
+    tell 'also in a pcap' "$(
         is_status 0
         as_in_tshark starts '' "$proof/A.pcap"
         wants_number "$proof/starts/report.json" \
             '[row["stamp"] for row in r["troubles"]] != [] and r["troubles"][0]["interface"]' 0
+    )"
+    {
+        echo "R 0 A 1 $(frame_of A 0)$(printf '00%.0s' {1..2000})"
+        echo "F 9000000 A 1 $(frame_of A 1)"
+    } >"$proof/giant.list"
+    capture pcap --origin 1764210600123456789 "$proof/giant.list" "$proof/giant.pcap"
+    launch tools/afdx-report --stamps start examples/base.toml "$proof/giant.pcap" \
+        --out "$proof/giant"
+    tell 'a frame of which the list has not all bytes' "$(
+        is_status 0
+        wants_number "$proof/giant/report.json" \
+            '[row["epoch"] for row in r["where"]], r["run"]["time_0"]' \
+            "(['1764210600.123456789', '1764210600.132456789'], \
+'2025-11-27 02:30:00.123621589 UTC')"
     )"
 }
 
@@ -88,6 +117,9 @@ title = "Acceptance of <the network>"
 [fields]
 Procedure = "TP-4711"
 Date = 2026-11-27
+"<i>Remarks\u001b" = """
+first
+</main>second\u001b"""
 [[part]]
 name = "Switch A"
 number = "AX-100-01"
@@ -107,16 +139,26 @@ END_OF_FILE
         wants_number "$proof/cover/report.json" \
             'r["cover"]["parts"][0]["serial"], r["cover"]["signatures"][0]["role"]' \
             "('=0042', 'Tester')"
+        wants_number "$proof/cover/report.json" 'r["cover"]["fields"][2]' \
+            "{'field': '<i>Remarks\\\\x1b', 'content': 'first\\n</main>second\\\\x1b'}"
         wants_number "$proof/cover/report.json" 'r["run"]["files"][-1][0]' Cover
+        wants_number "$proof/cover/report.json" 'r["run"]["files"][-1][2]' \
+            "$(sha256sum "$proof/cover.toml" | cut -d ' ' -f 1)"
+        if ! sed 's/Signatures.*//' "$proof/cover/report.html" | grep -q 'What made this'; then
+            echo 'what made it stands behind the signatures'
+        fi
         "$python" tests/tools/html_tags.py "$proof/cover/report.html"
         "$python" tests/tools/html_access.py "$proof/cover/report.html"
     )"
     local content
     for content in 'title = ' 'colour = "red"' '[[part]]\ncolour = "red"' 'fields = 1' 'part = 1' \
-        'part = ["one"]' 'title = ["one"]' '\xff' "$(printf '[%.0s' {1..3000})"; do
+        'part = ["one"]' 'title = ["one"]' 'title = true' '\xff' "$(printf '[%.0s' {1..3000})" \
+        "title = 0x$(printf 'f%.0s' {1..5000})" "$(printf '[[part]]\n%.0s' {1..41})" \
+        "title = \"$(printf 'f%.0s' {1..10000})\""; do
         printf '%b\n' "$content" >"$proof/bad.toml"
         launch tools/afdx-report examples/base.toml examples/one_link.list --json \
             --cover "$proof/bad.toml"
+        content=${content//$'\n'/ }
         tell "a cover with a fault: ${content:0:20}" "$(
             is_status 2
             one_line
@@ -147,7 +189,9 @@ large_test() { # on paper the largest network is some sheets
         sheets=$(pdfinfo "$proof/large.pdf" | awk '/^Pages/ {print $2}')
         if [[ ! $sheets -gt 10 || $sheets -gt 40 ]]; then echo "$sheets sheets"; fi
         pdftotext -layout "$proof/large.pdf" "$work/page.txt"
-        for words in 'wrong-port' 'came in at port' 'What made this report' 'on paper'; do
+        for words in 'wrong-port' 'came in at port' 'What made this report' 'on paper' \
+            "sheet $sheets of $sheets" \
+            "Configuration $(sha256sum "$proof/large.toml" | cut -c 1-12), List "; do
             if ! grep -qF "$words" "$work/page.txt"; then echo "no '$words'"; fi
         done
     )"

@@ -305,7 +305,7 @@ END_OF_FILE
         same "$work/one.pcapng" "$work/piped.pcapng"
     )"
     launch tools/afdx-capture annotate - examples/one_link.list "$work/no.png"
-    tell 'annotate where the configuration is not there' "$(is_status 4; says err 'device Config')"
+    tell 'annotate where the configuration is not there' "$(is_status 4; says err './-: No such')"
 }
 
 if [[ -z $dpkt ]]; then

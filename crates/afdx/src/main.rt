@@ -5,7 +5,6 @@ mod configs;
 mod devices;
 mod explaining;
 mod locating;
-mod pair_running;
 mod places;
 mod progress;
 mod running;
@@ -14,13 +13,11 @@ mod toml_pieces;
 
 use crate::configs::{check_config, solve_tables};
 use crate::explaining::{Cause, explain, is_asked, line_of, print_lists, print_meaning};
-use crate::pair_running::{PairRun, run_pair};
 use crate::places::take_places;
-use crate::running::{Replaying, Run, run_list};
+use crate::running::{Replaying, Run, run_inputs, run_sender};
 use crate::telling::{complain, end_with, memory, tell_text};
 use afdx_commands::status::{DONE, NO_DEVICE_OR_MEMORY, WRONG_WORDS};
 use afdx_explain::meaning_of;
-use afdx_frame::BySide;
 use afdx_replay::{CommandedRule, Policing, RunFault};
 use afdx_words::afdx_command;
 use clap::error::ErrorKind;
@@ -98,11 +95,18 @@ fn commanded_rule(matches: &ArgMatches<'_>) -> Option<CommandedRule> {
     })
 }
 
+/// The status with which a run ended, or why there was none.
+fn ended(status: Result<u8, u8>) -> u8 {
+    match status {
+        Ok(status) | Err(status) => status,
+    }
+}
+
 fn police_list(rt: &HostRuntime, matches: &ArgMatches<'_>) -> u8 {
     let (Some(list), Some(rule)) = (matches.get_str("LIST"), commanded_rule(matches)) else {
         return WRONG_WORDS;
     };
-    run_list(rt, matches, &Run::Police(rule), list)
+    ended(run_inputs(rt, matches, &Run::Police(rule), list, None))
 }
 
 fn replay_list(rt: &HostRuntime, matches: &ArgMatches<'_>) -> u8 {
@@ -118,15 +122,8 @@ fn replay_list(rt: &HostRuntime, matches: &ArgMatches<'_>) -> u8 {
         admission: !matches.get_flag("no-admission"),
         explains_drops: matches.get_flag("explain-drops"),
     };
-    match matches.get_str("LIST_B") {
-        Some(b) => run_pair(
-            rt,
-            matches,
-            &PairRun::Replay(replaying),
-            BySide { a: list, b },
-        ),
-        None => run_list(rt, matches, &Run::Replay(replaying), list),
-    }
+    let second = matches.get_str("LIST_B");
+    ended(run_inputs(rt, matches, &Run::Replay(replaying), list, second))
 }
 
 fn list_numbers(rt: &HostRuntime, matches: &ArgMatches<'_>) -> u8 {
@@ -137,16 +134,10 @@ fn list_numbers(rt: &HostRuntime, matches: &ArgMatches<'_>) -> u8 {
         Ok(config) => config,
         Err(status) => return status,
     };
-    let config = config.as_slice();
-    match matches.get_str("LIST_B") {
-        Some(b) => run_pair(
-            rt,
-            matches,
-            &PairRun::List { config },
-            BySide { a: list, b },
-        ),
-        None => run_list(rt, matches, &Run::List { config }, list),
-    }
+    let run = Run::List {
+        config: config.as_slice(),
+    };
+    ended(run_inputs(rt, matches, &run, list, matches.get_str("LIST_B")))
 }
 
 fn send_list(rt: &HostRuntime, matches: &ArgMatches<'_>) -> u8 {
@@ -158,11 +149,7 @@ fn send_list(rt: &HostRuntime, matches: &ArgMatches<'_>) -> u8 {
         Ok(config) => config,
         Err(status) => return status,
     };
-    let run = Run::Send {
-        config: config.as_slice(),
-        system,
-    };
-    run_list(rt, matches, &run, list)
+    ended(run_sender(rt, matches, config.as_slice(), system, list))
 }
 
 /// Says what a line means, or what each word of the closed lists means.

@@ -1,29 +1,30 @@
 //! Runs over lists and recordings: their devices, and how they end.
 
 ghost use Rattle.std.specs.Prelude.{◌≡◌, false};
-ghost use Rattle.afdx_lists.specs.Peeking.{is_untouched};
-ghost use Rattle.afdx_lists.specs.Watching.{device_of, has_ended, has_failed};
 
-use crate::devices::{Heard, Traced, name_of_input};
+use crate::devices::{Heard, Input, Traced, name_of_input};
 use crate::explaining::Cause;
 use crate::progress::{Cleared, Count, Counted, is_told};
 use crate::telling::{complain, error_lines, memory};
 use crate::{explain_if_asked, no_file};
 use afdx_commands::status::{DONE, WRONG_WORDS};
+use afdx_frame::BySide;
+use afdx_inputs::Arrivals;
 use afdx_replay::{
-    CommandedRule, Ended, InputEnded, ListEnded, Output, Peeked, RecordingOptions, Sink, Watched,
-    finish, list_and_count, police_input, replay_input, replay_input_and_explain, send_and_count,
+    CommandedRule, Ended, InputEnded, ListEnded, Output, PairOptions, Peeked, RecordingOptions,
+    Sink, Watched, finish, list_and_count, list_pair_and_count, police_input, replay_input,
+    send_and_count,
 };
-use afdx_words::{Refused, STANDARD_INPUT, recording_options};
+use afdx_text::WholeLines;
+use afdx_words::{Refused, pair_options, recording_options};
 use clap::ArgMatches;
-use std::fs::File;
-use std::io::{IsTerminal, Read, Write};
+use std::io::{IsTerminal, Read, Stderr, Write};
 
 const OUTPUT_BUFFER: usize = 65_536;
 
 /// How many bytes are gathered before they go to standard output: none if each line is to be seen
 /// at once, or a person reads.
-pub fn output_room(rt: &HostRuntime, matches: &ArgMatches<'_>) -> usize {
+fn output_room(rt: &HostRuntime, matches: &ArgMatches<'_>) -> usize {
     if matches.get_flag("line-buffered") || rt.stdout().is_terminal() {
         0
     } else {
@@ -44,7 +45,7 @@ fn print_counts(rt: &HostRuntime, ended: &InputEnded) {
 /// Ends a command that ran over lists or recordings: hands over what its output still holds,
 /// explains its fault or prints its counts, if that is asked for, and gives the exit status. `read`
 /// says why reading failed, if it did.
-pub fn end_run<W: Write + Drop, E: Write + Drop>(
+fn end_run<W: Write + Drop, E: Write + Drop>(
     rt: &HostRuntime,
     matches: &ArgMatches<'_>,
     ended: InputEnded,
@@ -76,13 +77,12 @@ pub struct Replaying<'a> {
     pub explains_drops: bool,
 }
 
-/// What is done with the items of an input, and with what it is done.
+/// What is done with the arrivals of an input, and with what it is done.
 #[derive(Drop)]
 pub enum Run<'a> {
     Police(CommandedRule),
     Replay(Replaying<'a>),
     List { config: &'a [u8] },
-    Send { config: &'a [u8], system: &'a str },
 }
 
 impl Run<'_> {
@@ -91,7 +91,6 @@ impl Run<'_> {
             Run::Police(_) => &[],
             Run::Replay(replaying) => replaying.config,
             Run::List { config } => config,
-            Run::Send { config, .. } => config,
         }
     }
 
@@ -99,13 +98,13 @@ impl Run<'_> {
     fn explains_drops(&self) -> bool {
         match self {
             Run::Replay(replaying) => replaying.explains_drops,
-            Run::Police(_) | Run::List { .. } | Run::Send { .. } => false,
+            Run::Police(_) | Run::List { .. } => false,
         }
     }
 }
 
 /// Tells why the words of a run over recordings are refused, and gives the status.
-pub fn refuse(rt: &HostRuntime, matches: &ArgMatches<'_>, refused: Refused) -> u8 {
+fn refuse(rt: &HostRuntime, matches: &ArgMatches<'_>, refused: Refused) -> u8 {
     let line = match refused {
         Refused::Memory => return memory(rt),
         Refused::BadInterface => "words BadInterface",
@@ -122,16 +121,58 @@ pub fn refuse(rt: &HostRuntime, matches: &ArgMatches<'_>, refused: Refused) -> u
     WRONG_WORDS
 }
 
-/// What the words say of a recording, or the status where they are refused.
-fn options_in(rt: &HostRuntime, matches: &ArgMatches<'_>) -> Result<RecordingOptions, u8> {
-    match recording_options(rt.alloc(), matches) {
-        Ok(options) => Ok(options),
-        Err(refused) => Err(refuse(rt, matches, refused)),
+/// Where lines go that tell of frames that came too early, if they are asked for.
+fn early_lines(rt: &HostRuntime, are_asked: bool) -> Option<Watched<WholeLines<Stderr>>> {
+    if are_asked {
+        Some(Watched::new(error_lines(rt)))
+    } else {
+        None
+    }
+}
+
+/// What `list` takes: a recording, or two that are read at once.
+trait Recordings<P>: Arrivals<P> {
+    /// Writes what they say as a list.
+    fn list<O: Sink, E: Write>(
+        &mut self,
+        rt: &HostRuntime,
+        options: P,
+        config: &[u8],
+        lines: &mut O,
+        faults: &mut Watched<E>,
+    ) -> ListEnded
+        requires new { Self.IsNew self.old }
+        requires sound_output { O.failed lines.old ≡ false };
+}
+
+impl<R: Read> Recordings<RecordingOptions> for Watched<Peeked<R>> {
+    fn list<O: Sink, E: Write>(
+        &mut self,
+        rt: &HostRuntime,
+        options: RecordingOptions,
+        config: &[u8],
+        lines: &mut O,
+        faults: &mut Watched<E>,
+    ) -> ListEnded {
+        list_and_count(rt.alloc(), options, config, self, lines, faults)
+    }
+}
+
+impl<R: Read> Recordings<PairOptions> for BySide<Watched<R>> {
+    fn list<O: Sink, E: Write>(
+        &mut self,
+        rt: &HostRuntime,
+        options: PairOptions,
+        config: &[u8],
+        lines: &mut O,
+        faults: &mut Watched<E>,
+    ) -> ListEnded {
+        list_pair_and_count(rt.alloc(), options, config, self, lines, faults)
     }
 }
 
 /// How a run over recordings ended that `list` made.
-pub fn ended_of(listed: ListEnded) -> InputEnded {
+fn ended_of(listed: ListEnded) -> InputEnded {
     InputEnded {
         ended: Ended {
             status: listed.status,
@@ -141,88 +182,62 @@ pub fn ended_of(listed: ListEnded) -> InputEnded {
     }
 }
 
-/// Replays an input.
-fn replay_from<R: Read, O: Sink, E: Write>(
+/// Makes the run over what an input gives.
+fn run_over<P: Drop, A: Recordings<P>, O: Sink, E: Write>(
     rt: &HostRuntime,
-    replaying: &Replaying<'_>,
-    options: RecordingOptions,
-    input: &mut Watched<Peeked<R>>,
+    run: &Run<'_>,
+    options: P,
+    input: &mut A,
     lines: &mut O,
     faults: &mut Watched<E>,
 ) -> InputEnded
-    requires untouched { is_untouched (device_of input.old) }
-    requires sound_input { has_failed input.old ≡ false }
-    requires unended { has_ended input.old ≡ false }
-    requires sound_output { O.failed lines.old ≡ false }
-{
-    let (alloc, admission, config) = (rt.alloc(), replaying.admission, replaying.config);
-    if !replaying.explains_drops {
-        return replay_input(alloc, admission, options, config, input, lines, faults);
-    }
-    let drops = Watched::new(error_lines(rt));
-    let told = replay_input_and_explain(
-        alloc, admission, options, config, input, lines, faults, drops,
-    );
-    told.0
-}
-
-/// Makes the run over what an input gives, or gives the status where there is none.
-fn run_over<R: Read, O: Sink, E: Write>(
-    rt: &HostRuntime,
-    matches: &ArgMatches<'_>,
-    run: &Run<'_>,
-    input: &mut Watched<Peeked<R>>,
-    lines: &mut O,
-    faults: &mut Watched<E>,
-) -> Result<InputEnded, u8>
-    requires untouched { is_untouched (device_of input.old) }
-    requires sound_input { has_failed input.old ≡ false }
-    requires unended { has_ended input.old ≡ false }
+    requires new { A.IsNew input.old }
     requires sound_output { O.failed lines.old ≡ false }
 {
     match run {
-        Run::Police(rule) => {
-            let options = options_in(rt, matches)?;
-            Ok(police_input(rt.alloc(), options, rule, input, lines, faults))
-        }
+        Run::Police(rule) => { police_input(rt.alloc(), options, rule, input, lines, faults) }
         Run::Replay(replaying) => {
-            let options = options_in(rt, matches)?;
-            Ok(replay_from(rt, replaying, options, input, lines, faults))
+            let early = early_lines(rt, replaying.explains_drops);
+            let (admission, config) = (replaying.admission, replaying.config);
+            let ended = replay_input(
+                rt.alloc(),
+                admission,
+                options,
+                config,
+                input,
+                lines,
+                faults,
+                early,
+            );
+            ended.0
         }
-        Run::List { config } => {
-            let options = options_in(rt, matches)?;
-            let listed = list_and_count(rt.alloc(), options, config, input, lines, faults);
-            Ok(ended_of(listed))
-        }
-        Run::Send { config, system } => Ok(InputEnded {
-            ended: send_and_count(rt.alloc(), config, system, input, lines, faults),
-            tally: None,
-        }),
+        Run::List { config } => ended_of(input.list(rt, options, config, lines, faults)),
     }
 }
 
-/// Makes the run over what `input` gives, which the word `list` names, and hands all its lines to
+/// Makes the run over what an input gives, which the word `list` names, and hands all its lines to
 /// standard output.
-fn run_from<R: Read + Drop>(
+fn run_one(
     rt: &HostRuntime,
     matches: &ArgMatches<'_>,
     run: &Run<'_>,
     list: &str,
-    input: R,
+    input: Input,
 ) -> u8 {
     let device = Traced::new(rt.stdout());
     let Ok(mut output) = Output::new(rt.alloc(), output_room(rt, matches), device) else {
         return memory(rt);
+    };
+    let options = match recording_options(rt.alloc(), matches) {
+        Ok(options) => options,
+        Err(refused) => return refuse(rt, matches, refused),
     };
     let told = is_told(rt, matches) && !run.explains_drops();
     let count = Count::new(rt, told);
     let device = Traced::new(Counted::new(&count, input));
     let mut input = Watched::new(Peeked::new(device));
     let mut errors = Watched::new(Heard::new(Cleared::new(rt, told, error_lines(rt))));
-    let ended = match run_over(rt, matches, run, &mut input, &mut output, &mut errors) {
-        Ok(ended) => ended,
-        Err(status) => return status,
-    };
+    let ended = run_over(rt, run, options, &mut input, &mut output, &mut errors);
     let read = Cause {
         config: run.config(),
         path: name_of_input(list),
@@ -231,13 +246,114 @@ fn run_from<R: Read + Drop>(
     end_run(rt, matches, ended, read, output, errors)
 }
 
-/// Makes the run over a file, or over standard input, which is `-`.
-pub fn run_list(rt: &HostRuntime, matches: &ArgMatches<'_>, run: &Run<'_>, list: &str) -> u8 {
-    if list == STANDARD_INPUT {
-        return run_from(rt, matches, run, list, rt.stdin());
+/// Why reading failed, if it did, and of which input. Behind a failure neither is read, so at most
+/// one has failed.
+fn cause_in<'a, R: Drop>(
+    config: &'a [u8],
+    lists: BySide<&'a str>,
+    inputs: BySide<Watched<Traced<R>>>,
+) -> Cause<'a> {
+    let BySide { a, b } = inputs;
+    let (list, input) = if b.failed() {
+        (lists.b, b)
+    } else {
+        (lists.a, a)
+    };
+    Cause {
+        config,
+        path: name_of_input(list),
+        reason: input.into_inner().reason(),
     }
-    match File::open(rt, list) {
-        Ok(file) => run_from(rt, matches, run, list, file),
-        Err(reason) => no_file(rt, matches, "device List", list, reason),
+}
+
+/// Makes the run over what two inputs give, which these words name, and hands all its lines to
+/// standard output.
+fn run_two(
+    rt: &HostRuntime,
+    matches: &ArgMatches<'_>,
+    run: &Run<'_>,
+    lists: BySide<&str>,
+    inputs: BySide<Input>,
+) -> u8 {
+    let device = Traced::new(rt.stdout());
+    let Ok(mut output) = Output::new(rt.alloc(), output_room(rt, matches), device) else {
+        return memory(rt);
+    };
+    let options = match pair_options(rt.alloc(), matches, lists) {
+        Ok(options) => options,
+        Err(refused) => return refuse(rt, matches, refused),
+    };
+    let told = is_told(rt, matches) && !run.explains_drops();
+    let count = Count::new(rt, told);
+    let mut inputs = BySide {
+        a: Watched::new(Traced::new(Counted::new(&count, inputs.a))),
+        b: Watched::new(Traced::new(Counted::new(&count, inputs.b))),
+    };
+    let mut errors = Watched::new(Heard::new(Cleared::new(rt, told, error_lines(rt))));
+    let ended = run_over(rt, run, options, &mut inputs, &mut output, &mut errors);
+    let read = cause_in(run.config(), lists, inputs);
+    end_run(rt, matches, ended, read, output, errors)
+}
+
+/// The input that a word names, a file, or standard input, which is `-`. Err: the status where it
+/// can't be had.
+fn open(rt: &HostRuntime, matches: &ArgMatches<'_>, list: &str) -> Result<Input, u8> {
+    match Input::open(rt, list) {
+        Ok(input) => Ok(input),
+        Err(reason) => Err(no_file(rt, matches, "device List", list, reason)),
     }
+}
+
+/// Makes the run over the inputs that the words name: one, or with `second` two, that of network A
+/// and that of network B. Err: the status where one can't be had.
+pub fn run_inputs(
+    rt: &HostRuntime,
+    matches: &ArgMatches<'_>,
+    run: &Run<'_>,
+    list: &str,
+    second: Option<&str>,
+) -> Result<u8, u8> {
+    let a = open(rt, matches, list)?;
+    let Some(second) = second else {
+        return Ok(run_one(rt, matches, run, list, a));
+    };
+    let b = open(rt, matches, second)?;
+    let lists = BySide { a: list, b: second };
+    Ok(run_two(rt, matches, run, lists, BySide { a, b }))
+}
+
+/// Sends the messages of a list from a system. Err: the status where the list can't be had.
+pub fn run_sender(
+    rt: &HostRuntime,
+    matches: &ArgMatches<'_>,
+    config: &[u8],
+    system: &str,
+    list: &str,
+) -> Result<u8, u8> {
+    let input = open(rt, matches, list)?;
+    let device = Traced::new(rt.stdout());
+    let Ok(mut output) = Output::new(rt.alloc(), output_room(rt, matches), device) else {
+        return Err(memory(rt));
+    };
+    let told = is_told(rt, matches);
+    let count = Count::new(rt, told);
+    let mut input = Watched::new(Traced::new(Counted::new(&count, input)));
+    let mut errors = Watched::new(Heard::new(Cleared::new(rt, told, error_lines(rt))));
+    let ended = InputEnded {
+        ended: send_and_count(
+            rt.alloc(),
+            config,
+            system,
+            &mut input,
+            &mut output,
+            &mut errors,
+        ),
+        tally: None,
+    };
+    let read = Cause {
+        config,
+        path: name_of_input(list),
+        reason: input.into_inner().reason(),
+    };
+    Ok(end_run(rt, matches, ended, read, output, errors))
 }

@@ -17,7 +17,7 @@ use Rattle.afdx_recorded.specs.Taking.{AreCutOff, late_of_one, taken_of, taken_o
 use Rattle.afdx_inputs.specs.TakenRun.{IsOver, StopsTaken}
 use Rattle.afdx_recorded.specs.Timing.{timed}
 use Rattle.afdx_recorded.proofs.LawLemmas.{sequences-agree}
-use Rattle.afdx_inputs.proofs.TakenLemmas.{answers-same, says-ok, says-err}
+use Rattle.afdx_inputs.proofs.TakenLemmas.{answers-same}
 
 -- ---- by ports that agree
 
@@ -50,26 +50,3 @@ module _ (options : Options) (p q : Ports) (a : Agree p q) where
         → IfSome left (λ bytes. RecordingAnswers options q done told begins bytes rest r)
     if-agree None rest r h = tt
     if-agree (Some bytes) rest r h = answers-agree bytes rest r h
-
--- ---- what that says of the arrivals
-
-module _ (options : Options) (ports : Ports) (done told begins : List (Item Heading) → Type 0) where
-  pub recorded-ok : (all : List Arrival → Type 0) (left rest : Option (List ℕ)) (tally : Tally)
-      → ((past : List (Item Heading)) → done past → all (arrivals past))
-      → IfSome left (λ bytes. RecordingAnswers options ports done told begins bytes rest (Ok tally))
-      → IfSome left (λ bytes. IsOver (taken_of_bytes options ports bytes) all tally)
-  recorded-ok all None rest tally f h = tt
-  recorded-ok all (Some bytes) rest tally f h =
-      says-ok (taken_of_bytes options ports bytes) (AreCutOff options ports bytes rest) done told begins all tally f h
-
-  pub recorded-err : (all beginning : List Arrival → Type 0)
-      → ((past : List (Item Heading)) → told past → all (arrivals past) × beginning (arrivals past))
-      → ((past : List (Item Heading)) → begins past → beginning (arrivals past))
-      → (left rest : Option (List ℕ)) (fault : RunFault)
-      → IfSome left (λ bytes. RecordingAnswers options ports done told begins bytes rest (Err fault))
-      → IfSome left (λ bytes. StopsTaken (taken_of_bytes options ports bytes)
-      (AreCutOff options ports bytes rest) all beginning fault)
-  recorded-err all beginning f g None rest fault h = tt
-  recorded-err all beginning f g (Some bytes) rest fault h =
-      says-err (taken_of_bytes options ports bytes) (AreCutOff options ports bytes rest) done told begins
-      all beginning f g fault h

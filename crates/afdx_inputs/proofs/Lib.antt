@@ -6,5 +6,6 @@ pub mod RecordingRunLemmas
 pub mod OverLemmas
 pub mod PairAnswerLemmas
 pub mod InputLemmas
-pub mod InputSaysLemmas
 pub mod LookLemmas
+pub mod ArrivalsLemmas
+pub mod TookLemmas

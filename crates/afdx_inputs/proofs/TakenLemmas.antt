@@ -17,7 +17,7 @@ use Rattle.afdx_inputs.specs.ListText.{lines_themselves}
 use Rattle.afdx_inputs.specs.Over.{AreFirstLines, AreAllLines, StopsBehindLines, Takes}
 use Rattle.afdx_recorded.specs.NumberLines.{AreItems, CanBePeeled, Lines, WithoutNewest, arrivals_listed, as_arrival}
 use Rattle.afdx_recorded.specs.Taking.{Taken, arrivals_in}
-use Rattle.afdx_inputs.specs.TakenRun.{TakenAnswers, FirstAreBegun, IsOver, FirstAreTold, StopsTaken}
+use Rattle.afdx_inputs.specs.TakenRun.{TakenAnswers, FirstAreBegun}
 
 -- ---- without the newest item
 
@@ -149,81 +149,13 @@ listed-append (x ∷ later) past =
     by n bytes (line.Arrival kind time side port) xs ys = refl
     by n bytes (line.Skipped reason) xs ys = refl
 
-module _ (whole : Taken) (AreCut : Lines → Type 0) where
-  module _ (done told begins : List (Item Heading) → Type 0) where
-    pub says-ok : (all : List Arrival → Type 0) (tally : Tally)
-        → ((past : List (Item Heading)) → done past → all (arrivals past))
-        → TakenAnswers whole AreCut arrivals_listed done told begins (Ok tally) → IsOver whole all tally
-    says-ok all tally f h = record {
-      over = h.over;
-      are_told = f (arrivals_listed whole.lines) h.are_told;
-      tally_is = h.tally_is;
-    }
-
-    first-of : (beginning : List Arrival → Type 0)
-        → ((past : List (Item Heading)) → told past → beginning (arrivals past))
-        → ((past : List (Item Heading)) → begins past → beginning (arrivals past))
-        → FirstAreBegun whole AreCut arrivals_listed done told begins → FirstAreTold whole beginning
-    first-of beginning f g s = record {
-      past = arrivals (arrivals_listed s.past);
-      later = arrivals (arrivals_listed s.later);
-      parts = ap (λ (xs : Lines). arrivals (arrivals_listed xs)) s.parts
-          ∙ ap arrivals (listed-append s.later s.past)
-          ∙ arrivals-append (arrivals_listed s.later) (arrivals_listed s.past);
-      are_told = by s.begun;
-    }
-      where
-        by : told (arrivals_listed s.past) ⊎ begins (arrivals_listed s.past)
-            → beginning (arrivals (arrivals_listed s.past))
-        by (inl t) = f (arrivals_listed s.past) t
-        by (inr b) = g (arrivals_listed s.past) b
-
-    module _ (all beginning : List Arrival → Type 0)
-        (f : (past : List (Item Heading)) → told past → all (arrivals past) × beginning (arrivals past))
-        (g : (past : List (Item Heading)) → begins past → beginning (arrivals past)) where
-      pub says-err : (fault : RunFault) → TakenAnswers whole AreCut arrivals_listed done told begins (Err fault)
-          → StopsTaken whole AreCut all beginning fault
-      says-err run.Read h = (h.0, h.1, (f _ h.2).0)
-      says-err run.Write h = first-of beginning (λ past t. (f past t).1) g h
-      says-err run.Memory h = first-of beginning (λ past t. (f past t).1) g h
-      says-err (run.Recording fault) h = (h.0, (f _ h.1).0)
-      says-err (run.RecordingOfA fault) h = (h.0, (f _ h.1).0)
-      says-err (run.RecordingOfB fault) h = (h.0, (f _ h.1).0)
-      says-err run.TooManyLines h = (h.0, (f _ h.1).0)
-      says-err (run.LineTooLong m) h = (h.0, (f _ h.1).0)
-      says-err (run.BadLine m) h = (h.0, (f _ h.1).0)
-      says-err (run.BadHex m) h = (h.0, (f _ h.1).0)
-      says-err (run.TimeBack m) h = (h.0, (f _ h.1).0)
-      says-err (run.TimeTooLarge m) h = (h.0, (f _ h.1).0)
-      says-err (run.BadPort m) h = (h.0, (f _ h.1).0)
-
-  -- what is told of more words
-  module _ (all beginning all' beginning' : List Arrival → Type 0) (f : all (arrivals_in whole) → all' (arrivals_in whole))
-      (k : (lines : Lines) → AreCut lines → all (arrivals (arrivals_listed lines)) → all' (arrivals (arrivals_listed lines)))
-      (g : (past later : List Arrival) → arrivals_in whole ≡ later ++ past → beginning past → beginning' past) where
-    first-more : FirstAreTold whole beginning → FirstAreTold whole beginning'
-    first-more s = record {
-      past = s.past;
-      later = s.later;
-      parts = s.parts;
-      are_told = g s.past s.later s.parts s.are_told;
-    }
-
-    pub taken-more : (fault : RunFault) → StopsTaken whole AreCut all beginning fault
-        → StopsTaken whole AreCut all' beginning' fault
-    taken-more run.Read h = (h.0, h.1, k h.0 h.1 h.2)
-    taken-more run.Write h = first-more h
-    taken-more run.Memory h = first-more h
-    taken-more (run.Recording fault) h = (h.0, f h.1)
-    taken-more (run.RecordingOfA fault) h = (h.0, f h.1)
-    taken-more (run.RecordingOfB fault) h = (h.0, f h.1)
-    taken-more run.TooManyLines h = (h.0, f h.1)
-    taken-more (run.LineTooLong m) h = (h.0, f h.1)
-    taken-more (run.BadLine m) h = (h.0, f h.1)
-    taken-more (run.BadHex m) h = (h.0, f h.1)
-    taken-more (run.TimeBack m) h = (h.0, f h.1)
-    taken-more (run.TimeTooLarge m) h = (h.0, f h.1)
-    taken-more (run.BadPort m) h = (h.0, f h.1)
+-- what some first lines stand for are the first of the arrivals
+pub first-arrivals : (whole : Taken) (later past : Lines) → whole.lines ≡ later ++ past
+    → arrivals_in whole ≡ arrivals (arrivals_listed later) ++ arrivals (arrivals_listed past)
+first-arrivals whole later past parts =
+    ap (λ (xs : Lines). arrivals (arrivals_listed xs)) parts
+    ∙ ap arrivals (listed-append later past)
+    ∙ arrivals-append (arrivals_listed later) (arrivals_listed past)
 
 -- ---- the same of another whole
 

@@ -4,3 +4,4 @@ pub mod ReadPair
 pub mod RecordingRun
 pub mod ListText
 pub mod InputRun
+pub mod Arrivals

@@ -1,5 +1,6 @@
-//! What `bench/port.py` measures of the output port: `afdx_port_bench COUNT` puts and takes COUNT frames
-//! in turn; `afdx_port_bench fill` fills a queue of 4 MiB with frames of 64 bytes and drains it.
+//! What `bench/port.py` measures of the output port: `afdx_port_bench COUNT` puts and takes COUNT
+//! frames in turn; `afdx_port_bench fill` fills a queue of 4 MiB with frames of 64 bytes and drains
+//! it.
 #![tactic(auto)]
 
 ghost use Rattle.std.specs.Prelude.{◌≡◌, ◌≤◌, ◌*◌};

@@ -6,16 +6,13 @@ use Rattle.afdx_police.specs.Arrival.{Arrival}
 use Rattle.afdx_police.specs.declared.shape.Reason.{Reason}
 use Rattle.afdx_police.specs.declared.shape.Reason.TheVariants.{TooShort, TooLong, BadFcs, BadAddress, UnknownLink}
 use Rattle.afdx_police.specs.declared.shape.Reason.TheVariants.{WrongPort, OverLmax, UnderLmin, OverRate}
-use Rattle.afdx_lists.specs.Lines.{lines_of}
 use Rattle.afdx_lists.specs.declared.watched.Watched.{Watched}
-use Rattle.afdx_engine.specs.ListRun.{IsDone}
-use Rattle.afdx_engine.specs.Listed.{arrivals_of, frames}
 use Rattle.afdx_switch.specs.Early.{IsEarlyBy}
 use Rattle.afdx_switch.specs.Verdicts.{reason_of, shape_fault}
 use Rattle.afdx_switch.proofs.EarlyLemmas.{early-dropped, over-rate-sound}
 use Rattle.afdx_text.specs.Telling.{Tells}
 use Rattle.afdx_text.proofs.TellingLemmas.{Tells-more, Tells-none}
-use Rattle.afdx_replay.specs.replaying.Early.{TellsEarly, IsLineOn, early_line, is_over_rate}
+use Rattle.afdx_replay.specs.replaying.Early.{HearsEarly, TellsEarly, IsLineOn, early_line, is_over_rate}
 
 over-rate : (reason : Option Reason) → is_over_rate reason ≡ true → reason ≡ Some OverRate
 over-rate None is = absurd (cc)
@@ -67,12 +64,15 @@ module _ {D : Type 0} (contents : D → Option (List ℕ)) (t : Rows) where
   early-same start drops past x reason h is kept =
       more start drops drops past x false [] h (ap is_over_rate (sym is) ∙ kept) refl (Tells-none contents drops)
 
--- what is true of all that the lines of a list say
-pub done-told : (told : List Arrival → Type 0) (n : ℕ) (input : Option (List ℕ))
-    → IfSome input (λ bytes. IsDone frames told n (lines_of bytes))
-    → IfSome input (λ bytes. told (arrivals_of (lines_of bytes) (length (lines_of bytes))))
-done-told told n None h = tt
-done-told told n (Some bytes) h = h.are_told
+-- a device is told one arrival more, if there is one
+pub heard-more : {D : Type 0} (contents : D → Option (List ℕ)) (t : Rows) (start before : Option (Watched D))
+    (drops after : Watched D) (past : List Arrival) (x : Arrival) → before ≡ Some drops
+    → ((first : Watched D) → TellsEarly contents t first drops past → TellsEarly contents t first after (x ∷ past))
+    → HearsEarly contents t start before past → HearsEarly contents t start (Some after) (x ∷ past)
+heard-more {D} contents t None before drops after past x is f h =
+    absurd (subst (λ (b : Option (Watched D)). HearsEarly contents t None b past) is h)
+heard-more {D} contents t (Some first) before drops after past x is f h =
+    f first (subst (λ (b : Option (Watched D)). HearsEarly contents t (Some first) b past) is h)
 
 -- an arrival wasn't told whole: the device was told of those before it
 pub begun-early : {A B C D E : Type 0} → A ⊎ B → C → (A × (C ⊎ D)) ⊎ (B × (E ⊎ C))

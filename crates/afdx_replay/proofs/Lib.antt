@@ -7,9 +7,6 @@ pub mod LossLemmas
 pub mod AdmittedRunLemmas
 pub mod DefinedLemmas
 mod AccountLemmas
-mod InputLemmas
-mod PairLemmas
-mod PromisedInputLemmas
-mod InputStartLemmas
 mod ListingLemmas
 mod NotReplayedLemmas
+mod ReplaysLemmas

@@ -7,13 +7,13 @@ use Rattle.afdx_config.specs.Reading.{Spells}
 use Rattle.afdx_config.specs.Rows.{Rows}
 use Rattle.afdx_lists.specs.Calls.{is_failed_read, is_failed_write}
 use Rattle.afdx_lists.specs.Faults.{status_of}
-use Rattle.afdx_lists.specs.Watching.{device_of, has_ended, has_failed}
+use Rattle.afdx_lists.specs.Watching.{calls_of, device_of, has_ended, has_failed}
 use Rattle.afdx_lists.specs.declared.fault.RunFault.{RunFault}
 use Rattle.afdx_lists.specs.declared.watched.Watched.{Watched}
 use Rattle.afdx_recorded.specs.Becoming.{options_of}
 use Rattle.afdx_recorded.specs.Claims.{ports_of_senders}
 use Rattle.afdx_inputs.specs.ListText.{ListingAnswers, PairListingAnswers}
-use Rattle.afdx_inputs.specs.RecordingRun.{IfBothKnown}
+use Rattle.afdx_inputs.specs.RecordingRun.{IfBothKnown, IsAskedOnce}
 use Rattle.afdx_recorded.specs.declared.becoming.RecordingOptions.{RecordingOptions}
 use Rattle.afdx_recorded.specs.declared.pair_options.PairOptions.{PairOptions}
 use Rattle.afdx_recorded.specs.declared.counts.Tally.{Tally}
@@ -21,6 +21,13 @@ use Rattle.afdx_text.specs.Telling.{TellsLine}
 use Rattle.afdx_commands.specs.Commands.{have_ended, one_has_failed}
 use Rattle.afdx_commands.specs.Refusals.{RefusesConfig, WantsMemory}
 use Rattle.afdx_replay.specs.declared.listing.ListEnded.{ListEnded}
+
+-- an input that becomes `rest` is asked at most once for each byte that it gives, and once more
+abbrev pub IsAskedOnceFor : {R : Type 0} → (R → Option (List ℕ)) → (input rest : Watched R) →
+    Type 0
+IsAskedOnceFor remaining input rest =
+    IsAskedOnce (remaining (device_of input)) (remaining (device_of rest))
+    (calls_of input) (calls_of rest)
 
 -- the exit status of what a listing answers
 abbrev pub status_of_listing : Result Tally RunFault → ℕ

@@ -7,9 +7,5 @@ pub mod Command
 pub mod Promises
 pub mod PromisedRun
 pub mod DefinedRun
-pub mod Taken
 pub mod Input
-pub mod InputCommand
-pub mod Pair
-pub mod PairCommand
 pub mod Tables

@@ -9,8 +9,7 @@ ghost use Rattle.afdx_recorded.specs.Claims.{ports_of_senders};
 ghost use Rattle.afdx_inputs.specs.ListText.{ListingAnswers};
 ghost use Rattle.afdx_text.specs.Telling.{TellsLine};
 ghost use Rattle.afdx_commands.specs.Commands.{one_has_failed};
-ghost use Rattle.afdx_replay.specs.Listing.{EndsListing, EndsPairListing, status_of_listing};
-ghost use Rattle.afdx_replay.specs.replaying.PairCommand.{IsAskedOnceFor};
+ghost use Rattle.afdx_replay.specs.Listing.{EndsListing, EndsPairListing, IsAskedOnceFor, status_of_listing};
 
 use afdx_commands::refusing::refuse_config;
 use afdx_commands::status::DONE;

@@ -3,10 +3,8 @@
 pub mod admitted;
 pub mod command;
 mod explained;
-pub mod input;
 pub mod input_command;
 mod lines;
-pub mod pair;
-pub mod pair_command;
+mod over;
 pub mod run;
 mod tables;

@@ -3,10 +3,10 @@
 
 use crate::texts::short_text;
 use afdx_config::Tables;
+use afdx_end_systems::{Handover, Systems};
 use afdx_frame::{Checked, Side};
 use afdx_receive::Reception;
 use afdx_samples::{HELLO, ShortText, all_right, base_tables, hello, sealed, world};
-use afdx_end_systems::{Handover, Systems};
 use afdx_text::{OutLine, Text};
 use std::alloc::{AllocError, Global};
 use std::test::Fail;

@@ -2,8 +2,8 @@
 
 ghost use Rattle.std.specs.Prelude.{◌<◌, IfSome};
 
-use afdx_recorded::{Interfaces, PairOptions, Place, RecordingOptions};
 use afdx_frame::{BySide, LAST_PORT, Side};
+use afdx_recorded::{Interfaces, PairOptions, Place, RecordingOptions};
 use clap::{Arg, ArgAction, ArgMatches, value_parser};
 use std::alloc::{AllocError, Global};
 

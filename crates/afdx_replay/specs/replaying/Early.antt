@@ -1,13 +1,11 @@
 -- What is told of the frames that were dropped for their link's rate: by how much each came too
 -- early. A list of arrivals has the newest first.
-use Rattle.std.specs.Prelude.{ℕ, ◌≡◌, Bool, true, false, Option, Some, List, [], ◌∷◌, ◌++◌, ◌⊎◌, drop, length}
-use Rattle.std.specs.Prelude.{Result, Ok, Err, codes, decimal}
+use Rattle.std.specs.Prelude.{ℕ, ◌≡◌, Bool, true, false, Option, Some, None, List, [], ◌∷◌, ◌++◌, ◌⊎◌, drop}
+use Rattle.std.specs.Prelude.{codes, decimal}
 use Rattle.afdx_config.specs.Rows.{Rows}
 use Rattle.afdx_police.specs.Arrival.{Arrival}
 use Rattle.afdx_police.specs.declared.shape.Reason.{Reason}
 use Rattle.afdx_police.specs.declared.shape.Reason.TheVariants.{OverRate}
-use Rattle.afdx_lists.specs.Lines.{lines_of}
-use Rattle.afdx_lists.specs.declared.fault.RunFault.{RunFault}
 use Rattle.afdx_lists.specs.declared.frame_line.Heading.{Heading}
 use Rattle.afdx_lists.specs.declared.watched.Watched.{Watched}
 use Rattle.afdx_switch.specs.Early.{IsEarlyBy}
@@ -15,12 +13,9 @@ use Rattle.afdx_switch.specs.Verdicts.{reason_of}
 use Rattle.afdx_text.specs.Telling.{Tells}
 use Rattle.afdx_engine.specs.Engine.{Item}
 use Rattle.afdx_engine.specs.Items.{arrivals}
-use Rattle.afdx_engine.specs.Listed.{arrivals_of}
-use Rattle.afdx_engine.specs.Stops.{StopsAt}
 use Rattle.afdx_replay.specs.replaying.Replayed.{Known}
 use Rattle.afdx_replay.specs.replaying.Told.{TellsItems, TellsAll, BeginsItems}
 use Rattle.afdx_replay.specs.declared.replaying.run.Replay.{Replay}
-use Rattle.afdx_commands.specs.declared.summary.Summary.{Summary}
 
 abbrev pub is_over_rate : Option Reason → Bool
 is_over_rate (Some OverRate) = true
@@ -58,34 +53,30 @@ module _ {D : Type 0} (contents : D → Option (List ℕ)) where
     pub lines : AreEarlyLines t past text
     pub told : Tells contents old new text
 
-  -- a device was told of these arrivals, or of all but the newest
-  abbrev pub TellsMost : Rows → (old new : Watched D) → List Arrival → Type 0
-  TellsMost t old new past = TellsEarly t old new past ⊎ TellsEarly t old new (drop 1 past)
+  -- the same of a device, if there is one
+  abbrev pub HearsEarly : Rows → (old new : Option (Watched D)) → List Arrival → Type 0
+  HearsEarly t None None past = Unit {0}
+  HearsEarly t (Some old) (Some new) past = TellsEarly t old new past
+  HearsEarly t old new past = ⊥
+
+  -- of these arrivals, or of all but the newest
+  abbrev pub HearsMost : Rows → (old new : Option (Watched D)) → List Arrival → Type 0
+  HearsMost t old new past = HearsEarly t old new past ⊎ HearsEarly t old new (drop 1 past)
 
   -- a replay has told of the items of a source, and a device of those that came too early
-  abbrev pub ExplainsItems : Rows × Watched D → Replay → Watched D → Known → Known →
-      List (Item Heading) → Type 0
-  ExplainsItems rules replay drops old new past =
-      TellsItems rules.0 replay old new past × TellsEarly rules.0 rules.1 drops (arrivals past)
+  abbrev pub ExplainsItems : Rows × Option (Watched D) → Replay → Option (Watched D) → Known →
+      Known → List (Item Heading) → Type 0
+  ExplainsItems rules replay early old new past =
+      TellsItems rules.0 replay old new past × HearsEarly rules.0 rules.1 early (arrivals past)
 
   -- a replay has told of a beginning of the items, and a device of all or all but the newest
-  abbrev pub ExplainsSome : Rows × Watched D → Watched D → Known → Known → List (Item Heading) →
-      Type 0
-  ExplainsSome rules drops old new past =
-      BeginsItems rules.0 old new past × TellsMost rules.0 rules.1 drops (arrivals past)
+  abbrev pub ExplainsSome : Rows × Option (Watched D) → Option (Watched D) → Known → Known →
+      List (Item Heading) → Type 0
+  ExplainsSome rules early old new past =
+      BeginsItems rules.0 old new past × HearsMost rules.0 rules.1 early (arrivals past)
 
   -- the same with all that is told at the end
-  abbrev pub ExplainsAll : Rows × Watched D → Replay → Watched D → Known → Known →
-      List (Item Heading) → Type 0
-  ExplainsAll rules replay drops old new past =
-      TellsAll rules.0 replay old new past × TellsEarly rules.0 rules.1 drops (arrivals past)
-
-  -- what a device is told by a replay with this answer that is given a list of these bytes, after
-  -- which the input has `rest`; after a failed write, or want of memory, it may lack the newest of
-  -- the arrivals that were read
-  abbrev pub ExplainsAnswer : Rows → List ℕ → Option (List ℕ) → (old new : Watched D) →
-      Result Summary RunFault → Type 0
-  ExplainsAnswer t bytes rest old new (Ok summary) =
-      TellsEarly t old new (arrivals_of (lines_of bytes) (length (lines_of bytes)))
-  ExplainsAnswer t bytes rest old new (Err fault) =
-      StopsAt (TellsEarly t old new) (TellsMost t old new) bytes rest fault
+  abbrev pub ExplainsAll : Rows × Option (Watched D) → Replay → Option (Watched D) → Known →
+      Known → List (Item Heading) → Type 0
+  ExplainsAll rules replay early old new past =
+      TellsAll rules.0 replay old new past × HearsEarly rules.0 rules.1 early (arrivals past)

@@ -1,51 +1,71 @@
--- What a replay writes and answers whose input is a list of frames, or a recording.
-use Rattle.std.specs.Prelude.{ℕ, ◌≡◌, Bool, true, false, List, Option, None, Result}
+-- What a replay answers, writes and tells, whatever gives it its arrivals.
+use Rattle.std.specs.Prelude.{ℕ, ◌≡◌, Bool, true, List, Option, Some, None, Result, Ok, Err}
+use Rattle.std.specs.Io.KnownBytes.{Appends}
+use Rattle.afdx_config.specs.Admission.{IsAdmitted}
+use Rattle.afdx_config.specs.Lawful.{IsLawful}
+use Rattle.afdx_config.specs.Reading.{Spells}
 use Rattle.afdx_config.specs.Rows.{Rows}
+use Rattle.afdx_police.specs.Arrival.{Arrival}
 use Rattle.afdx_lists.specs.declared.fault.RunFault.{RunFault}
 use Rattle.afdx_lists.specs.declared.watched.Watched.{Watched}
-use Rattle.afdx_recorded.specs.Becoming.{Options}
-use Rattle.afdx_recorded.specs.Claims.{ports_of_senders}
-use Rattle.afdx_recorded.specs.NumberLines.{Lines}
-use Rattle.afdx_recorded.specs.Taking.{Taken, AreCutOff, taken_of_bytes}
-use Rattle.afdx_replay.specs.Inputs.{summary_in, tally_in}
-use Rattle.afdx_replay.specs.replaying.Early.{ExplainsAnswer}
-use Rattle.afdx_replay.specs.replaying.PromisedRun.{PromisedAnswers}
-use Rattle.afdx_replay.specs.replaying.Replayed.{Known, Answers}
-use Rattle.afdx_replay.specs.replaying.Taken.{AnswersTaken, PromisedTaken, ExplainsTaken}
+use Rattle.afdx_network.specs.Order.{events_of}
+use Rattle.afdx_inputs.specs.Arrivals.{By}
+use Rattle.afdx_inputs.specs.declared.input_run.InputCount.{InputCount}
+use Rattle.afdx_commands.specs.declared.summary.Summary.{Summary}
+use Rattle.afdx_replay.specs.Inputs.{answer_of}
+use Rattle.afdx_replay.specs.replaying.Early.{HearsEarly, HearsMost}
+use Rattle.afdx_replay.specs.replaying.PromisedRun.{IsAsPromised, WritesPromisedSoFar, WritesPromisedSome}
+use Rattle.afdx_replay.specs.replaying.Replayed.{Known, WritesSoFar, WritesSome}
+use Rattle.afdx_replay.specs.replaying.Text.{replay_text, replay_counts}
 use Rattle.afdx_replay.specs.declared.input_ending.InputSummary.{InputSummary}
 
--- what a run takes of the recording of these bytes: where no option says at which port a frame came
--- in, it is that of the system which its source address names
-abbrev pub taken_of : Options → Rows → List ℕ → Taken
-taken_of options t bytes = taken_of_bytes options (ports_of_senders t.systems) bytes
+-- with this answer a run has taken these arrivals
+abbrev pub Taking : Type 1
+Taking = List Arrival → Result InputCount RunFault → Type 0
 
--- what it takes of what was read until a read failed
-abbrev pub are_cut_of : Options → Rows → List ℕ → (rest : Known) → Lines → Type 0
-are_cut_of options t bytes rest lines =
-    AreCutOff options (ports_of_senders t.systems) bytes rest lines
+module _ (t : Rows) (past : List Arrival) where
+  -- the counts of all their events
+  abbrev pub counts_of : Summary
+  counts_of = replay_counts t (events_of t past)
 
--- what a replay answers that is given these bytes, as a recording (true) or as a list, after which
--- the input has `rest` and the output `new`
-abbrev pub AnswersInput : Bool → Options → Rows → List ℕ → (rest old new : Known) →
-    Result InputSummary RunFault → Type 0
-AnswersInput true options t bytes rest old new answer =
-    AnswersTaken t (taken_of options t bytes) (are_cut_of options t bytes rest) old new answer
-AnswersInput false options t bytes rest old new answer =
-    Answers t bytes rest old new (summary_in answer) × (tally_in answer ≡ None)
+  module _ (count : Result InputCount RunFault) where
+    -- the output, which held `old`, now holds after it the text of all events of these arrivals;
+    -- after a fault of the input, up to the last arrival; where a device fails, or memory is
+    -- refused, a beginning of that text
+    abbrev pub Writes : (old new : Known) → Type 0
+    Writes old new =
+        By count (Appends old new (replay_text t (events_of t past))) (WritesSoFar t old new past)
+        (WritesSome t old new past)
 
--- the same on admitted tables: what is written is the text of lines that keep the promises
-abbrev pub PromisedInput : Bool → Options → Rows → List ℕ → (rest old new : Known) →
-    Result InputSummary RunFault → Type 0
-PromisedInput true options t bytes rest old new answer =
-    PromisedTaken t (taken_of options t bytes) (are_cut_of options t bytes rest) old new answer
-PromisedInput false options t bytes rest old new answer =
-    PromisedAnswers t bytes rest old new (summary_in answer)
+    -- and this is the text of lines that keep the promises
+    abbrev pub WritesPromised : (old new : Known) → Type 0
+    WritesPromised old new =
+        By count (IsAsPromised t past old new counts_of) (WritesPromisedSoFar t old new past)
+        (WritesPromisedSome t old new past)
 
--- what a device is told of frames that came too early, as `ExplainsAnswer` says of a list
-abbrev pub ExplainsInput : {D : Type 0} → (D → Option (List ℕ)) → Bool → Options → Rows →
-    List ℕ → Known → (old new : Watched D) → Result InputSummary RunFault → Type 0
-ExplainsInput contents true options t bytes rest old new answer =
-    ExplainsTaken t (taken_of options t bytes) (are_cut_of options t bytes rest) contents old new
-    answer
-ExplainsInput contents false options t bytes rest old new answer =
-    ExplainsAnswer contents t bytes rest old new (summary_in answer)
+    -- a device, if there is one, was told of those that came too early, or of all but the newest
+    abbrev pub Hears : {D : Type 0} → (D → Option (List ℕ)) → (old new : Option (Watched D)) →
+        Type 0
+    Hears contents old new =
+        By count (HearsEarly contents t old new past) (HearsEarly contents t old new past)
+        (HearsMost contents t old new past)
+
+-- What a replay does in the tables `t` that answers so: it has taken some arrivals, and counts and
+-- writes what they mean; if the tables are admitted, as promised.
+pub record Replays (t : Rows) (takes hears : Taking) (old new : Known)
+    (answer : Result InputSummary RunFault) : Type 0 where
+  pub past : List Arrival
+  pub count : Result InputCount RunFault
+  pub taken : takes past count
+  pub answered : answer ≡ answer_of (counts_of t past) count
+  pub written : Writes t past count old new
+  pub promised : IsLawful t → IsAdmitted t → WritesPromised t past count old new
+  pub heard : hears past count
+
+-- a run in the tables that the configuration spells, which are admitted if that is asked for
+pub record RunsIn (config : List ℕ) (admission : Bool) (holds : Rows → Type 0) : Type 0 where
+  pub tables : Rows
+  pub spelled : Spells config tables
+  pub lawful : IsLawful tables
+  pub admitted : admission ≡ true → IsAdmitted tables
+  pub so : holds tables

@@ -11,13 +11,13 @@ ghost use Rattle.afdx_commands.specs.declared.summary.Summary.{Summary};
 ghost use Rattle.afdx_lists.specs.declared.fault.RunFault.{RunFault};
 ghost use Rattle.afdx_lists.specs.Watching.{calls_of, device_of, has_ended, has_failed};
 
-use crate::policing::run::police_into;
+use crate::policing::run::run_police;
+use afdx_commands::end;
 use afdx_commands::status::WRONG_WORDS;
-use afdx_commands::{Ended, end};
 use afdx_frame::{LAST_PORT, LEAST_FRAME, Policing, VlId};
 use afdx_lists::Watched;
 use afdx_police::LinkRule;
-use afdx_text::{Sink, tell};
+use afdx_text::tell;
 use std::alloc::Global;
 use std::io::{Read, Write};
 
@@ -62,58 +62,10 @@ impl CommandedRule {
     }
 }
 
-/// Polices the frames of a list for one virtual link: verdicts go to `output`, a fault's one line
-/// to `errors`. It also gives what the run counted. The exit status is 0 done, 2 a value out of
-/// range, 3 a fault of the list, 4 a device or memory.
-pub fn police_and_count<R: Read, O: Sink, E: Write>(
-    alloc: Global,
-    given: &CommandedRule,
-    input: &mut Watched<R>,
-    output: &mut O,
-    errors: &mut Watched<E>,
-) -> Ended
-    requires sound_input { has_failed input.old ≡ false }
-    requires unended { has_ended input.old ≡ false }
-    requires sound_output { O.failed output.old ≡ false }
-
-    // 0 comes only where the list came to its end, 4 wherever a device failed; counts come with 0.
-    ensures statuses { let status = result.status in
-        (status ≡ 0) ⊎ (status ≡ 2) ⊎ (status ≡ 3) ⊎ (status ≡ 4) }
-    ensures counts { IsSome result.summary ↔ (result.status ≡ 0) }
-    ensures done { result.status ≡ 0 → (has_ended input.new ≡ true) × (has_failed input.new ≡ false)
-        × (O.failed output.new ≡ false) }
-    ensures device { (has_failed input.new || O.failed output.new) ≡ true → result.status ≡ 4 }
-    ensures calls { calls_of input.new ≤ calls_of input.old + most_reads }
-
-    // A value out of range: nothing is read and nothing is written.
-    ensures out_of_range { (IsCommanded given.now → ⊥) → result.status ≡ 2 }
-    ensures words { (IsCommanded given.now → ⊥) →
-        Tells E.contents errors.old errors.new (codes "words BadRule\n") }
-    ensures nothing_read { (IsCommanded given.now → ⊥) →
-        input.new ≡ input.old }
-    ensures nothing_written { (IsCommanded given.now → ⊥) →
-        output.new ≡ output.old }
-
-    // Else the command ends as a run over the list answered, and where the list's bytes are known
-    // what is written is what goes with that answer.
-    ensures polices { IsCommanded given.now →
-        (answer : Result Summary RunFault)
-        × EndsAs E.contents input.new (O.failed output.new) errors.old errors.new result answer
-        × IfSome (R.remaining (device_of input.old)) (λ bytes.
-        Answers (commanded_rule given.now) bytes (R.remaining (device_of input.new))
-        (O.written output.old) (O.written output.new) answer) }
-{
-    let Some(rule) = given.rule() else {
-        tell(errors, b"words BadRule\n");
-        return Ended::without_counts(WRONG_WORDS);
-    };
-    let answer = police_into(alloc, &rule, input, output);
-    end(answer, errors)
-}
-
 /// Polices the frames of link 1 at port 1, of 64 to `lmax` bytes, by bytes, with a gap of `bag_ms`
-/// milliseconds and a jitter of `jitter_us` microseconds, as `police_and_count` does, and gives the
-/// exit status alone.
+/// milliseconds and a jitter of `jitter_us` microseconds: verdicts go to `output`, a fault's one
+/// line to `errors`. The exit status is 0 done, 2 a value out of range, 3 a fault of the list, 4 a
+/// device or memory.
 pub fn police<R: Read, O: Write, E: Write>(
     alloc: Global,
     bag_ms: u64,
@@ -151,6 +103,10 @@ pub fn police<R: Read, O: Write, E: Write>(
         jitter_us,
         policing: Policing::Byte,
     };
-    let ended = police_and_count(alloc, &given, input, output, errors);
-    ended.status
+    let Some(rule) = given.rule() else {
+        tell(errors, b"words BadRule\n");
+        return WRONG_WORDS;
+    };
+    let answer = run_police(alloc, &rule, input, output);
+    end(answer, errors).status
 }

@@ -136,37 +136,6 @@ impl Machine<Heading> for Police {
     }
 }
 
-/// Polices the frames of a list for one virtual link, as `run_police` does, and puts the lines to a
-/// sink.
-pub(crate) fn police_into<R: Read, O: Sink>(
-    alloc: Global,
-    rule: &LinkRule,
-    input: &mut Watched<R>,
-    output: &mut O,
-) -> Result<Summary, RunFault>
-    requires sound_input { has_failed input.old ≡ false }
-    requires unended { has_ended input.old ≡ false }
-    requires sound_output { O.failed output.old ≡ false }
-    ensures ended { OnOk result (has_ended input.new ≡ true) }
-    ensures read { has_failed input.new ≡ is_failed_read result }
-    ensures write { O.failed output.new ≡ is_failed_write result }
-    ensures calls { calls_of input.new ≤ calls_of input.old + most_reads }
-
-    // Where the input's bytes are known: what is answered and written for the list that they are.
-    ensures answer { IfSome (R.remaining (device_of input.old)) (λ bytes.
-        Answers (rule_of rule.now) bytes (R.remaining (device_of input.new))
-        (O.written output.old) (O.written output.new) result) }
-{
-    let mut police = Police::new(alloc, rule);
-    let lines = run_list(alloc, &mut police, input, output)?;
-    Ok(Summary {
-        lines,
-        accepted: police.accepted,
-        dropped: police.dropped,
-        ..NO_COUNTS
-    })
-}
-
 /// Polices the frames of a list for one virtual link, and writes a line for each.
 ///
 /// Each switch, A and B, has an account of its own. The whole text of a line is handed to `output`
@@ -193,5 +162,12 @@ pub fn run_police<R: Read, W: Write>(
         Answers (rule_of rule.now) bytes (R.remaining (device_of input.new))
         (W.contents (device_of output.old)) (W.contents (device_of output.new)) result) }
 {
-    police_into(alloc, rule, input, output)
+    let mut police = Police::new(alloc, rule);
+    let lines = run_list(alloc, &mut police, input, output)?;
+    Ok(Summary {
+        lines,
+        accepted: police.accepted,
+        dropped: police.dropped,
+        ..NO_COUNTS
+    })
 }

@@ -7,42 +7,12 @@ ghost use Rattle.afdx_lists.specs.Watching.{calls_of, device_of, has_ended, has_
 ghost use Rattle.afdx_replay.specs.replaying.Replayed.{Answers};
 ghost use Rattle.afdx_replay.specs.replaying.PromisedRun.{PromisedAnswers};
 
-use crate::replaying::run::replay_into;
+use crate::replaying::run::run_unadmitted;
 use afdx_admit::Admitted;
 use afdx_commands::Summary;
 use afdx_lists::{RunFault, Watched};
-use afdx_text::Sink;
 use std::alloc::Global;
 use std::io::{Read, Write};
-
-/// Replays a list of frames in tables that were admitted, as `run` does, and puts the lines of all
-/// events to a sink.
-pub(crate) fn replay_admitted_into<R: Read, O: Sink>(
-    alloc: Global,
-    admitted: &Admitted,
-    input: &mut Watched<R>,
-    output: &mut O,
-) -> Result<Summary, RunFault>
-    requires sound_input { has_failed input.old ≡ false }
-    requires unended { has_ended input.old ≡ false }
-    requires sound_output { O.failed output.old ≡ false }
-    ensures ended { OnOk result (has_ended input.new ≡ true) }
-    ensures read { has_failed input.new ≡ is_failed_read result }
-    ensures write { O.failed output.new ≡ is_failed_write result }
-    ensures calls { calls_of input.new ≤ calls_of input.old + most_reads }
-
-    // Where the input's bytes are known: what is answered and written for the list that they are.
-    ensures answer { IfSome (R.remaining (device_of input.old)) (λ bytes.
-        Answers admitted.now bytes (R.remaining (device_of input.new))
-        (O.written output.old) (O.written output.new) result) }
-
-    // And what is written is the text of lines that keep the promises.
-    ensures promised { IfSome (R.remaining (device_of input.old)) (λ bytes.
-        PromisedAnswers admitted.now bytes (R.remaining (device_of input.new))
-        (O.written output.old) (O.written output.new) result) }
-{
-    replay_into(alloc, admitted.tables(), input, output)
-}
 
 /// Replays a list of frames through the switches of both sides and the systems behind them, of
 /// tables that were admitted.
@@ -85,5 +55,5 @@ pub fn run<R: Read, W: Write>(
         PromisedAnswers admitted.now bytes (R.remaining (device_of input.new))
         (W.contents (device_of output.old)) (W.contents (device_of output.new)) result) }
 {
-    replay_admitted_into(alloc, admitted, input, output)
+    run_unadmitted(alloc, admitted.tables(), input, output)
 }

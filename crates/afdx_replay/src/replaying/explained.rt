@@ -1,23 +1,31 @@
 //! A replay that also tells by how much frames came too early.
 
-ghost use Rattle.std.specs.Prelude.{◌≡◌};
+ghost use Rattle.std.specs.Prelude.{◌≡◌, ◌∷◌, List, Option};
 ghost use Rattle.afdx_config.specs.Rows.{Rows};
+ghost use Rattle.afdx_frame.specs.Seals.{IsSealedAs};
+ghost use Rattle.afdx_police.specs.Arrival.{Arrival};
+ghost use Rattle.afdx_lists.specs.FrameLines.{listed_frame};
+ghost use Rattle.afdx_switch.specs.Verdicts.{reason_of};
+ghost use Rattle.afdx_network.specs.Events.{Event, arrivals_in};
+ghost use Rattle.afdx_network.specs.Network as network_stands;
+ghost use Rattle.afdx_engine.specs.Listed.{arrival_at};
 ghost use Rattle.afdx_lists.specs.declared.watched.Watched.{Watched as Device};
-ghost use Rattle.afdx_replay.specs.replaying.Early.{early_line, is_over_rate as over_rate};
+ghost use Rattle.afdx_replay.specs.replaying.Early.{HearsEarly, early_line, is_over_rate as over_rate};
 ghost use Rattle.afdx_text.specs.Telling.{Tells};
 
 use crate::replaying::run::Replay;
 use afdx_engine::Machine;
 use afdx_lists::{Heading, RunFault, Watched};
+use afdx_network::Network;
 use afdx_police::Reason;
 use afdx_text::{Sink, tell, tell_number};
 use std::io::Write;
 
-/// A replay, and the device that is told by how much frames came too early.
+/// A replay, and the device that is told by how much frames came too early, if there is one.
 #[derive(Drop)]
 pub(crate) struct Explaining<D> {
     pub(crate) replay: Replay,
-    pub(crate) drops: Watched<D>,
+    pub(crate) early: Option<Watched<D>>,
 }
 
 /// Whether a frame was dropped for its link's rate.
@@ -41,19 +49,50 @@ fn tell_early<D: Write>(drops: &mut Watched<D>, n: u64, wait: u64)
     tell(drops, b"\n");
 }
 
+/// Tells of an arrival, if it was dropped for its link's rate and there is whom to tell.
+fn explain<D: Write>(
+    early: &mut Option<Watched<D>>,
+    network: &Network,
+    n: u64,
+    heading: &Heading,
+    message: &[u8],
+    reason: Option<Reason>,
+)
+    requires clock { network_stands.IsUntil network.now heading.now.time }
+    requires known { IsSealedAs heading.now.seal message.now }
+    ensures { (t : Rows) (events : List Event) (start : Option (Device D)) (past : List Arrival) →
+        network_stands.StandsFor t network.now events →
+        arrivals_in events ≡ arrival_at n (listed_frame heading.now message.now) ∷ past →
+        reason ≡ reason_of t past (arrival_at n (listed_frame heading.now message.now)) →
+        HearsEarly D.contents t start early.old past →
+        HearsEarly D.contents t start early.new
+        (arrival_at n (listed_frame heading.now message.now) ∷ past) }
+{
+    match early {
+        Some(drops) => {
+            if is_over_rate(reason) {
+                let frame = heading.frame(message);
+                let wait = network.early(heading.side, heading.time, heading.port, frame);
+                tell_early(drops, n, wait);
+            }
+        }
+        None => {}
+    }
+}
+
 impl<D: Write> Machine<Heading> for Explaining<D> {
     ghost use Rattle.afdx_replay.specs.replaying.Early.{ExplainsItems, ExplainsSome, ExplainsAll};
 
-    ghost Rules = { Rows × Device D };
+    ghost Rules = { Rows × Option (Device D) };
 
     ghost Told = { λ rules all old new past.
-        ExplainsItems D.contents rules all.replay all.drops old new past };
+        ExplainsItems D.contents rules all.replay all.early old new past };
 
     ghost Begins = { λ rules all old new past.
-        ExplainsSome D.contents rules all.drops old new past };
+        ExplainsSome D.contents rules all.early old new past };
 
     ghost Done = { λ rules all old new past.
-        ExplainsAll D.contents rules all.replay all.drops old new past };
+        ExplainsAll D.contents rules all.replay all.early old new past };
 
     fn tell<O: Sink>(
         &mut self,
@@ -63,12 +102,14 @@ impl<D: Write> Machine<Heading> for Explaining<D> {
         output: &mut O,
     ) -> Result<(), RunFault> {
         let reason = self.replay.tell_arrival(n, heading, message, output)?;
-        if is_over_rate(reason) {
-            let (side, time, port) = (heading.side, heading.time, heading.port);
-            let frame = heading.frame(message);
-            let wait = self.replay.network.early(side, time, port, frame);
-            tell_early(&mut self.drops, n, wait);
-        }
+        explain(
+            &mut self.early,
+            &self.replay.network,
+            n,
+            heading,
+            message,
+            reason,
+        );
         Ok(())
     }
 

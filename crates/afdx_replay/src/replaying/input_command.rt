@@ -1,102 +1,79 @@
-//! The command `replay` on a list of frames, or on a recording.
+//! The command `replay`, whatever gives it its arrivals.
 
-ghost use Rattle.std.specs.Prelude.{◌≡◌, ◌||◌, ◌⊎◌, ◌↔◌, IsSome, false, true};
-ghost use Rattle.afdx_lists.specs.Peeking.{is_untouched};
-ghost use Rattle.afdx_lists.specs.Watching.{device_of, has_ended, has_failed};
-ghost use Rattle.afdx_replay.specs.replaying.InputCommand.{EndsInput, EndsInputExplained};
+ghost use Rattle.std.specs.Prelude.{◌≡◌, ◌||◌, ◌⊎◌, ◌↔◌, Result, IsSome, IfSome, None, false, true};
+ghost use Rattle.afdx_lists.specs.declared.fault.RunFault.{RunFault};
+ghost use Rattle.afdx_recorded.specs.Claims.{ports_of_senders};
+ghost use Rattle.afdx_replay.specs.Inputs.{EndsInputAs};
+ghost use Rattle.afdx_replay.specs.replaying.Command.{IsNotReplayed};
+ghost use Rattle.afdx_replay.specs.replaying.Input.{Hears, Replays, RunsIn};
+ghost use Rattle.afdx_replay.specs.declared.input_ending.InputSummary.{InputSummary};
 
 use crate::input_ending::{InputEnded, end_input};
-use crate::replaying::input::{explain_input_into, replay_input_into};
+use crate::replaying::over::replay_over;
 use crate::replaying::tables::take_tables;
-use afdx_lists::{Peeked, Watched};
-use afdx_recorded::RecordingOptions;
+use afdx_inputs::Arrivals;
+use afdx_lists::Watched;
 use afdx_text::Sink;
 use std::alloc::Global;
-use std::io::{Read, Write};
+use std::io::Write;
 
-/// Replays an input in the tables of a configuration, a list of frames as `replay_and_count` does,
-/// or a recording. The lines of all events go to `output`, a fault's one line to `errors`. It also
-/// gives what the run counted.
+/// Replays an input in the tables of a configuration: a list of frames or a recording (`Watched` of
+/// `Peeked`, with `RecordingOptions`), or two recordings that are read at once, of network A and of
+/// network B (`BySide` of `Watched`, with `PairOptions`). The lines of all events go to `output`, a
+/// fault's one line to `errors`. It also gives what the run counted.
 ///
-/// Nothing of the input is read before the tables are taken; then its first four bytes are looked
-/// at, in at most four reads. It is a recording if it begins as one; if an option of recordings is
-/// given, it has to be.
+/// Nothing of the input is read before the tables are taken. Of one input the first four bytes are
+/// looked at then, in at most four reads: it is a recording if it begins as one; if an option of
+/// recordings is given, it has to be. Two have to be recordings; their arrivals come in the order
+/// of their moments, that of A first where two have the same, and each on the side of its network.
+///
+/// Where `early` is a device it is told, in a line each, by how much frames came too early that
+/// were dropped for their link's rate. It is handed back.
 ///
 /// The exit status is 0 done, 1 a fault of the configuration or tables that are not admitted, 3 a
-/// fault of the list or the recording, 4 a device or memory.
-pub fn replay_input<R: Read, O: Sink, E: Write>(
+/// fault of the list or a recording, 4 a device or memory.
+pub fn replay_input<P: Drop, A: Arrivals<P>, O: Sink, E: Write, D: Write + Drop>(
     alloc: Global,
     admission: bool,
-    options: RecordingOptions,
+    options: P,
     config: &[u8],
-    input: &mut Watched<Peeked<R>>,
+    input: &mut A,
     output: &mut O,
     errors: &mut Watched<E>,
-) -> InputEnded
-    requires untouched { is_untouched (device_of input.old) }
-    requires sound_input { has_failed input.old ≡ false }
-    requires unended { has_ended input.old ≡ false }
+    early: Option<Watched<D>>,
+) -> (InputEnded, Option<Watched<D>>)
+    requires new { A.IsNew input.old }
     requires sound_output { O.failed output.old ≡ false }
 
     // 0 comes only where the input came to its end, 4 wherever a device failed; counts come with 0.
-    ensures statuses { let status = result.ended.status in
-        (status ≡ 0) ⊎ (status ≡ 1) ⊎ (status ≡ 3) ⊎ (status ≡ 4) }
-    ensures counts { IsSome result.ended.summary ↔ (result.ended.status ≡ 0) }
-    ensures done { result.ended.status ≡ 0 →
-        (has_ended input.new ≡ true) × (has_failed input.new ≡ false)
-        × (O.failed output.new ≡ false) }
-    ensures device { (has_failed input.new || O.failed output.new) ≡ true →
-        result.ended.status ≡ 4 }
-
-    // The command ends as a run over the list, or the recording, answered, or nothing is read and
-    // nothing is written.
-    ensures replays { EndsInput R.remaining O.written O.failed E.contents config.now admission
-        options input.old input.new output.old output.new errors.old errors.new result }
-{
-    let taken = match take_tables(alloc, admission, config, errors) {
-        Ok(taken) => taken,
-        Err(status) => return InputEnded::without_counts(status),
-    };
-    let answer = replay_input_into(alloc, options, taken.tables(), input, output);
-    end_input(answer, errors)
-}
-
-/// Replays an input as `replay_input` does, and tells `drops`, in a line each, by how much frames
-/// came too early that were dropped for their link's rate. `drops` is handed back.
-pub fn replay_input_and_explain<R: Read, O: Sink, E: Write, D: Write + Drop>(
-    alloc: Global,
-    admission: bool,
-    options: RecordingOptions,
-    config: &[u8],
-    input: &mut Watched<Peeked<R>>,
-    output: &mut O,
-    errors: &mut Watched<E>,
-    drops: Watched<D>,
-) -> (InputEnded, Watched<D>)
-    requires untouched { is_untouched (device_of input.old) }
-    requires sound_input { has_failed input.old ≡ false }
-    requires unended { has_ended input.old ≡ false }
-    requires sound_output { O.failed output.old ≡ false }
     ensures statuses { let status = result.0.ended.status in
         (status ≡ 0) ⊎ (status ≡ 1) ⊎ (status ≡ 3) ⊎ (status ≡ 4) }
     ensures counts { IsSome result.0.ended.summary ↔ (result.0.ended.status ≡ 0) }
     ensures done { result.0.ended.status ≡ 0 →
-        (has_ended input.new ≡ true) × (has_failed input.new ≡ false)
-        × (O.failed output.new ≡ false) }
-    ensures device { (has_failed input.new || O.failed output.new) ≡ true →
+        A.ended input.new × (A.failed input.new ≡ false) × (O.failed output.new ≡ false) }
+    ensures device { (A.failed input.new || O.failed output.new) ≡ true →
         result.0.ended.status ≡ 4 }
+    ensures calls { A.IsAskedFew options input.old input.new }
 
-    // The command ends as a run over the list, or the recording, answered, which told `drops` what
-    // it should, or nothing is read, nothing is written and `drops` isn't told anything.
-    ensures explains { EndsInputExplained R.remaining O.written O.failed E.contents config.now
-        admission options input.old input.new output.old output.new errors.old errors.new
-        D.contents drops result.1 result.0 }
+    // The command ends as a run over the input answered, or nothing is read, nothing is written and
+    // nothing is told `early`.
+    ensures replays { ((answer : Result InputSummary RunFault)
+        × EndsInputAs E.contents (A.ended input.new) (A.failed input.new) (O.failed output.new)
+        errors.old errors.new result.0 answer
+        × RunsIn config.now admission (λ t. IfSome (A.known input.old) (λ bytes.
+        Replays t (A.Takes options (ports_of_senders t.systems) bytes input.new)
+        (λ past count. Hears t past count D.contents early result.1)
+        (O.written output.old) (O.written output.new) answer)))
+        ⊎ (IsNotReplayed E.contents config.now admission errors.old errors.new
+        result.0.ended.status × (result.0.tally ≡ None) × (input.new ≡ input.old)
+        × (output.new ≡ output.old) × (result.1 ≡ early)) }
 {
+    A::starts();
     let taken = match take_tables(alloc, admission, config, errors) {
         Ok(taken) => taken,
-        Err(status) => return (InputEnded::without_counts(status), drops),
+        Err(status) => return (InputEnded::without_counts(status), early),
     };
     let tables = taken.tables();
-    let (answer, drops) = explain_input_into(alloc, options, tables, input, output, drops);
-    (end_input(answer, errors), drops)
+    let (answer, early) = replay_over(alloc, options, tables, input, output, early);
+    (end_input(answer, errors), early)
 }

@@ -241,38 +241,6 @@ impl Machine<Heading> for Replay {
     }
 }
 
-/// Replays a list of frames as `run_unadmitted` does, and puts the lines of all events to a sink.
-pub(crate) fn replay_into<R: Read, O: Sink>(
-    alloc: Global,
-    tables: &Tables,
-    input: &mut Watched<R>,
-    output: &mut O,
-) -> Result<Summary, RunFault>
-    requires sound_input { has_failed input.old ≡ false }
-    requires unended { has_ended input.old ≡ false }
-    requires sound_output { O.failed output.old ≡ false }
-    ensures ended { OnOk result (has_ended input.new ≡ true) }
-    ensures read { has_failed input.new ≡ is_failed_read result }
-    ensures write { O.failed output.new ≡ is_failed_write result }
-    ensures calls { calls_of input.new ≤ calls_of input.old + most_reads }
-
-    // Where the input's bytes are known: what is answered and written for the list that they are.
-    ensures answer { IfSome (R.remaining (device_of input.old)) (λ bytes.
-        Answers tables.now bytes (R.remaining (device_of input.new))
-        (O.written output.old) (O.written output.new) result) }
-
-    // And what is written is the text of events that are those of the definition of an output port.
-    ensures defined { IsLawful tables.now → IfSome (R.remaining (device_of input.old)) (λ bytes.
-        DefinedAnswers tables.now bytes (R.remaining (device_of input.new))
-        (O.written output.old) (O.written output.new) result) }
-{
-    let mut replay = Replay::new(alloc, tables)?;
-    let lines = run_list(alloc, &mut replay, input, output)?;
-    let mut summary = replay.counts;
-    summary.lines = lines;
-    Ok(summary)
-}
-
 /// Replays a list of frames through the switches of both sides and the systems behind them.
 ///
 /// Each line's events are handed to `output` before the next line is read: the frames that leave
@@ -307,5 +275,9 @@ pub fn run_unadmitted<R: Read, W: Write>(
         DefinedAnswers tables.now bytes (R.remaining (device_of input.new))
         (W.contents (device_of output.old)) (W.contents (device_of output.new)) result) }
 {
-    replay_into(alloc, tables, input, output)
+    let mut replay = Replay::new(alloc, tables)?;
+    let lines = run_list(alloc, &mut replay, input, output)?;
+    let mut summary = replay.counts;
+    summary.lines = lines;
+    Ok(summary)
 }

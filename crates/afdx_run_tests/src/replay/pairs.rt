@@ -3,12 +3,10 @@
 ghost use Rattle.std.specs.Prelude.{◌≡◌, false};
 ghost use Rattle.afdx_lists.specs.Watching.{has_ended, has_failed};
 
-use crate::replay::recordings::{Told, claimed, recording, told};
+use crate::replay::recordings::{Told, claimed, early_text, recording, told};
 use crate::texts::short_text;
 use afdx_frame::BySide;
-use afdx_replay::{
-    Interfaces, PairOptions, Watched, list_pair_and_count, replay_pair, replay_pair_and_explain,
-};
+use afdx_replay::{Interfaces, PairOptions, Watched, list_pair_and_count, replay_input};
 use afdx_samples::{ShortText, base, equal, spelled};
 use std::alloc::{AllocError, Global};
 use std::test::Fail;
@@ -46,8 +44,9 @@ fn replayed(alloc: Global, a: &[u8], b: &[u8]) -> Result<Told, Fail> {
     let mut inputs = inputs(a, b);
     let mut output = Watched::new(Vec::new(alloc));
     let mut errors = Watched::new(Vec::new(alloc));
+    let early: Option<Watched<Vec<u8>>> = None;
     let config = base().as_bytes();
-    let ended = replay_pair(
+    let (ended, _) = replay_input(
         alloc,
         true,
         options,
@@ -55,6 +54,7 @@ fn replayed(alloc: Global, a: &[u8], b: &[u8]) -> Result<Told, Fail> {
         &mut inputs,
         &mut output,
         &mut errors,
+        early,
     );
     told(ended, output, errors)
 }
@@ -92,9 +92,9 @@ fn early(alloc: Global, a: &[u8], b: &[u8]) -> Result<ShortText, Fail> {
     let mut inputs = inputs(a, b);
     let mut output = Watched::new(Vec::new(alloc));
     let mut errors = Watched::new(Vec::new(alloc));
-    let drops = Watched::new(Vec::new(alloc));
+    let drops = Some(Watched::new(Vec::new(alloc)));
     let config = base().as_bytes();
-    let (_ended, drops) = replay_pair_and_explain(
+    let (_ended, drops) = replay_input(
         alloc,
         true,
         options,
@@ -104,7 +104,7 @@ fn early(alloc: Global, a: &[u8], b: &[u8]) -> Result<ShortText, Fail> {
         &mut errors,
         drops,
     );
-    short_text(drops.into_inner().as_slice())
+    early_text(drops)
 }
 
 #[test]

@@ -4,7 +4,6 @@ use crate::texts::short_text;
 use afdx_frame::Policing;
 use afdx_replay::{
     CommandedRule, InputEnded, Peeked, RecordingOptions, Watched, police_input, replay_input,
-    replay_input_and_explain,
 };
 use afdx_samples::{HELLO, ShortText, base, equal};
 use std::alloc::{AllocError, Global};
@@ -54,8 +53,9 @@ fn replayed_behind(alloc: Global, reorder: u32, input: &[u8]) -> Result<Told, Fa
     let mut input = Watched::new(Peeked::new(input));
     let mut output = Watched::new(Vec::new(alloc));
     let mut errors = Watched::new(Vec::new(alloc));
+    let early: Option<Watched<Vec<u8>>> = None;
     let config = base().as_bytes();
-    let ended = replay_input(
+    let (ended, _) = replay_input(
         alloc,
         true,
         options,
@@ -63,6 +63,7 @@ fn replayed_behind(alloc: Global, reorder: u32, input: &[u8]) -> Result<Told, Fa
         &mut input,
         &mut output,
         &mut errors,
+        early,
     );
     told(ended, output, errors)
 }
@@ -172,15 +173,21 @@ fn a_recording_is_policed(rt: HostRuntime) -> Result<(), Fail> {
     equal((text.as_str(), line.as_str()), (wanted, ""))
 }
 
+/// What a device was told of the frames that came too early.
+pub fn early_text(drops: Option<Watched<Vec<u8>>>) -> Result<ShortText, Fail> {
+    let drops = drops.ok_or("a device")?;
+    short_text(drops.into_inner().as_slice())
+}
+
 /// What is told of the frames that came too early.
 fn early(alloc: Global, input: &[u8]) -> Result<ShortText, Fail> {
     let options = RecordingOptions::none(alloc)?;
     let mut input = Watched::new(Peeked::new(input));
     let mut output = Watched::new(Vec::new(alloc));
     let mut errors = Watched::new(Vec::new(alloc));
-    let drops = Watched::new(Vec::new(alloc));
+    let drops = Some(Watched::new(Vec::new(alloc)));
     let config = base().as_bytes();
-    let (_ended, drops) = replay_input_and_explain(
+    let (_ended, drops) = replay_input(
         alloc,
         true,
         options,
@@ -190,7 +197,7 @@ fn early(alloc: Global, input: &[u8]) -> Result<ShortText, Fail> {
         &mut errors,
         drops,
     );
-    short_text(drops.into_inner().as_slice())
+    early_text(drops)
 }
 
 #[test]

@@ -2,9 +2,9 @@
 
 use super::receive;
 use afdx_config::Tables;
+use afdx_end_systems::{Handover, Systems};
 use afdx_frame::{Address, Checked, Side, VlId, build};
 use afdx_samples::{all_right, base_tables};
-use afdx_end_systems::{Handover, Systems};
 use afdx_text::Text;
 use std::alloc::{AllocError, Global};
 use std::test::Fail;

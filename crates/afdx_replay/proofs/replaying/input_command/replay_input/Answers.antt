@@ -1,34 +1,35 @@
-use Rattle.std.proofs.Common.{◌≡◌, true, refl, inl, inr}
-use Rattle.afdx_lists.specs.Watching.{has_ended, has_failed}
+use Rattle.std.proofs.Common.{refl, inl, inr}
 use Rattle.afdx_replay.specs.replaying.Tables.{tables_of}
-use Rattle.afdx_replay.proofs.InputStartLemmas.{ends-in, replays-input}
+use Rattle.afdx_replay.proofs.ReplaysLemmas.{ends-in}
 use Rattle.afdx_replay.proofs.replaying.input_command.replay_input.Goals as goal
 
+pub returns-in-Err-clause-calls : goal.returns-in-Err-clause-calls
+returns-in-Err-clause-calls g c = c.starts.ensures.asked c.args.options c.args.input.now c.requires.new
+
 pub returns-in-Err-clause-replays : goal.returns-in-Err-clause-replays
-returns-in-Err-clause-replays g c = inr (record {
-  refused = rw c.without_counts.ensures.status c.in-Err.ensures.refused;
-  tally = c.without_counts.ensures.tally;
-  unread = refl;
-  unwritten = refl;
-})
+returns-in-Err-clause-replays g c = inr (
+  rw c.without_counts.ensures.status c.in-Err.ensures.refused,
+  c.without_counts.ensures.tally,
+  refl,
+  refl,
+  refl,
+)
 
 pub returns-clause-replays : goal.returns-clause-replays
 returns-clause-replays g c = inl (
-  c.replay_input_into-answer.result,
+  c.replay_over-answer.result.0,
+  ends-in g.E.Write.contents (g.A.Input.ended c.replay_over-answer.new.input)
+      (g.A.Input.failed c.replay_over-answer.new.input) (g.O.Sink.failed c.replay_over-answer.new.output)
+      c.args.errors.now c.end_input.new.errors c.end_input.result c.replay_over-answer.result.0
+      c.end_input.ensures.status c.end_input.ensures.summary c.end_input.ensures.tally
+      (rw c.in-Ok.ensures.silent at c.end_input.ensures.told)
+      (rw c.in-Ok.ensures.silent at c.end_input.ensures.silent) c.replay_over-answer.ensures.ended
+      c.replay_over-answer.ensures.read c.replay_over-answer.ensures.write,
   record {
-    ends = ends-in g.E.Write.contents (has_ended c.replay_input_into-answer.new.input ≡ true)
-        (has_failed c.replay_input_into-answer.new.input)
-        (g.O.Sink.failed c.replay_input_into-answer.new.output) c.args.errors.now c.end_input.new.errors
-        c.end_input.result.ended c.replay_input_into-answer.result c.end_input.ensures.status
-        c.end_input.ensures.summary (rw c.in-Ok.ensures.silent at c.end_input.ensures.told)
-        (rw c.in-Ok.ensures.silent at c.end_input.ensures.silent) c.replay_input_into-answer.ensures.ended
-        c.replay_input_into-answer.ensures.read c.replay_input_into-answer.ensures.write;
-    tally = c.end_input.ensures.tally;
-    replays = replays-input g.R.Read.remaining c.args.config.now c.args.admission c.args.options c.args.input.now
-        c.replay_input_into-answer.new.input
-        (g.O.Sink.written c.args.output.now) (g.O.Sink.written c.replay_input_into-answer.new.output)
-        c.replay_input_into-answer.result (tables_of c.in-Ok.taken) c.in-Ok.ensures.spelled
-        c.in-Ok.ensures.admitted c.in-Ok.ensures.lawful c.replay_input_into-answer.ensures.calls
-        (rw c.tables.ensures at c.replay_input_into-answer.ensures.answer);
+    tables = tables_of c.in-Ok.taken;
+    spelled = c.in-Ok.ensures.spelled;
+    lawful = c.in-Ok.ensures.lawful;
+    admitted = c.in-Ok.ensures.admitted;
+    so = rw c.tables-tables.ensures at c.replay_over-answer.ensures.replays;
   },
 )

@@ -1,18 +1,15 @@
-use Rattle.std.proofs.Common.{rules, ◌≡◌, Err, List, sym, subst, arith, add-one, length}
+use Rattle.std.proofs.Common.{rules, ◌≡◌, Err, arith, add-one, length}
 use Rattle.afdx_lists.specs.FrameLines.{listed_frame}
-use Rattle.afdx_police.specs.Arrival.{Arrival}
 use Rattle.afdx_engine.specs.Items.{arrivals}
 use Rattle.afdx_engine.specs.Listed.{arrival_at}
-use Rattle.afdx_switch.specs.Early.{IsEarlyBy}
-use Rattle.afdx_replay.proofs.EarlyLemmas.{begun-early, early-more, early-same}
+use Rattle.afdx_replay.proofs.EarlyLemmas.{begun-early}
 use Rattle.afdx_replay.proofs.replaying.explained.ExplainingMachineHeading.tell.Goals as goal
 
-pub returns-then-is_over_rate-clause-told : goal.returns-then-is_over_rate-clause-told
-returns-then-is_over_rate-clause-told g c = λ rules start past h follows.
+pub returns-clause-told : goal.returns-clause-told
+returns-clause-told g c = λ rules start past h follows.
     let t = rules.0 in
     let x = arrival_at c.args.n (listed_frame c.args.heading.now c.args.message.now) in
-    let now = c.in_ok-reason.ensures.told t start (arrivals past) h.0.told in
-    let early = rw c.frame-frame.ensures at (c.early-wait.ensures t now.events c.args.n now.told.switches_are) in (
+    let now = c.in_ok-reason.ensures.told t start (arrivals past) h.0.told in (
       record {
         told = now;
         early = follows.in_order.early;
@@ -20,26 +17,8 @@ returns-then-is_over_rate-clause-told g c = λ rules start past h follows.
         few = omega (arith, follows.in_order.few);
         room = rw add-one at (c.in_ok-reason.ensures.room (length past) h.0.room);
       },
-      early-more g.D.Write.contents t rules.1 c.args.self.now.drops c.tell_early.new.drops (arrivals past) x
-          c.in_ok-reason.reason c.early-wait.result h.1
-          (c.in_ok-reason.ensures.reason t start (arrivals past) h.0.told) (sym c.if-is_over_rate.ensures)
-          (λ sound. subst (λ (past : List Arrival). IsEarlyBy t past x c.early-wait.result) now.arrivals_are (early sound))
-          c.tell_early.ensures,
-    )
-
-pub returns-else-is_over_rate-clause-told : goal.returns-else-is_over_rate-clause-told
-returns-else-is_over_rate-clause-told g c = λ rules start past h follows.
-    let t = rules.0 in
-    let x = arrival_at c.args.n (listed_frame c.args.heading.now c.args.message.now) in (
-      record {
-        told = c.in_ok-reason.ensures.told t start (arrivals past) h.0.told;
-        early = follows.in_order.early;
-        clock = c.in_ok-reason.ensures.clock;
-        few = omega (arith, follows.in_order.few);
-        room = rw add-one at (c.in_ok-reason.ensures.room (length past) h.0.room);
-      },
-      early-same g.D.Write.contents t rules.1 c.args.self.now.drops (arrivals past) x c.in_ok-reason.reason h.1
-          (c.in_ok-reason.ensures.reason t start (arrivals past) h.0.told) (sym c.if-is_over_rate.ensures),
+      c.explain.ensures t now.events rules.1 (arrivals past) now.told.switches_are now.arrivals_are
+          (c.in_ok-reason.ensures.reason t start (arrivals past) h.0.told) h.1,
     )
 
 pub returns-in_err-reason-clause-begins : goal.returns-in_err-reason-clause-begins

@@ -1,0 +1,166 @@
+-- Of the items that a machine was handed: what a run took, and how much was told of it.
+use Rattle.std.proofs.Common.{◌≡◌, ℕ, List, [], ◌∷◌, ◌++◌, refl, sym, append-nil, ap, ◌∙◌, map}
+use Rattle.std.proofs.Common.{Bool, true, false, Option, Some, None, Result, Ok, Err, IfSome, ◌⊎◌}
+use Rattle.afdx_lists.specs.Lines.{lines_of}
+use Rattle.afdx_lists.specs.FrameLines.{listed_frame}
+use Rattle.afdx_lists.specs.declared.frame_line.Heading.{Heading}
+use Rattle.afdx_lists.specs.declared.fault.RunFault.{RunFault}
+use Rattle.afdx_lists.specs.declared.fault.RunFault.TheVariants as run
+use Rattle.afdx_police.specs.Arrival.{Arrival}
+use Rattle.afdx_engine.specs.Engine.{Item}
+use Rattle.afdx_engine.specs.Items.{arrivals, thing_of}
+use Rattle.afdx_engine.specs.Listed.{frames}
+use Rattle.afdx_engine.specs.ListRun.{Of, ListAnswers}
+use Rattle.afdx_engine.specs.Stops.{StopsAtFault}
+use Rattle.afdx_recorded.specs.Becoming.{Options}
+use Rattle.afdx_recorded.specs.Claims.{Ports}
+use Rattle.afdx_recorded.specs.NumberLines.{Lines, arrivals_listed}
+use Rattle.afdx_recorded.specs.Taking.{Taken, AreCutOff, taken_of_bytes}
+use Rattle.afdx_recorded.specs.declared.counts.Tally.{Tally}
+use Rattle.afdx_recorded.specs.declared.becoming.RecordingOptions.{RecordingOptions}
+use Rattle.afdx_inputs.specs.Arrivals.{By, TakesAs, TakesListed, TakesRecorded}
+use Rattle.afdx_inputs.specs.InputRun.{InputAnswers, is_read_recorded}
+use Rattle.afdx_inputs.specs.Over.{both}
+use Rattle.afdx_inputs.specs.RecordingRun.{IfBoth}
+use Rattle.afdx_inputs.specs.TakenRun.{FirstAreBegun, FirstAreTold, TakenAnswers}
+use Rattle.afdx_inputs.specs.declared.input_run.InputCount.{InputCount}
+use Rattle.afdx_inputs.specs.declared.input_run.InputCount.TheVariants as count
+use Rattle.afdx_inputs.proofs.TakenLemmas.{first-arrivals}
+
+-- what was read of recordings
+abbrev pub counted : Result Tally RunFault → Result InputCount RunFault
+counted (Ok tally) = Ok (count.Recorded tally)
+counted (Err fault) = Err fault
+
+abbrev pub lines_counted : Result ℕ RunFault → Result InputCount RunFault
+lines_counted (Ok n) = Ok (count.Lines n)
+lines_counted (Err fault) = Err fault
+
+module _ (done told begins : List (Item Heading) → Type 0) where
+  -- a run took the arrivals of some items, and told of them what its answer says
+  abbrev pub Took : (takes : List Arrival → Result InputCount RunFault → Type 0) →
+      Result InputCount RunFault → Type 0
+  Took takes answer =
+      (items : List (Item Heading)) × takes (arrivals items) answer
+      × By answer (done items) (told items) (told items ⊎ begins items)
+
+  -- ---- of recordings
+
+  module _ (whole : Taken) (AreCut : Lines → Type 0) where
+    first : FirstAreBegun whole AreCut arrivals_listed done told begins
+        → (items : List (Item Heading)) × FirstAreTold whole (λ all. all ≡ arrivals items)
+        × (told items ⊎ begins items)
+    first s = (
+      arrivals_listed s.past,
+      record {
+        past = arrivals (arrivals_listed s.past);
+        later = arrivals (arrivals_listed s.later);
+        parts = first-arrivals whole s.later s.past s.parts;
+        are_told = refl;
+      },
+      s.begun,
+    )
+
+    pub recorded-took : (r : Result Tally RunFault)
+        → TakenAnswers whole AreCut arrivals_listed done told begins r
+        → Took (TakesRecorded whole AreCut) (counted r)
+    recorded-took (Ok tally) h = (
+      arrivals_listed whole.lines,
+      record { over = h.over; are_told = refl; tally_is = h.tally_is },
+      h.are_told,
+    )
+    recorded-took (Err run.Read) h = (arrivals_listed h.0, (h.0, h.1, refl), h.2)
+    recorded-took (Err run.Write) h = first h
+    recorded-took (Err run.Memory) h = first h
+    recorded-took (Err (run.Recording fault)) h = (arrivals_listed whole.lines, (h.0, refl), h.1)
+    recorded-took (Err (run.RecordingOfA fault)) h = (arrivals_listed whole.lines, (h.0, refl), h.1)
+    recorded-took (Err (run.RecordingOfB fault)) h = (arrivals_listed whole.lines, (h.0, refl), h.1)
+    recorded-took (Err (run.LineTooLong m)) h = (arrivals_listed whole.lines, (h.0, refl), h.1)
+    recorded-took (Err (run.BadLine m)) h = (arrivals_listed whole.lines, (h.0, refl), h.1)
+    recorded-took (Err (run.BadHex m)) h = (arrivals_listed whole.lines, (h.0, refl), h.1)
+    recorded-took (Err (run.TimeBack m)) h = (arrivals_listed whole.lines, (h.0, refl), h.1)
+    recorded-took (Err (run.TimeTooLarge m)) h = (arrivals_listed whole.lines, (h.0, refl), h.1)
+    recorded-took (Err (run.BadPort m)) h = (arrivals_listed whole.lines, (h.0, refl), h.1)
+    recorded-took (Err run.TooManyLines) h = (arrivals_listed whole.lines, (h.0, refl), h.1)
+
+  -- ---- of a list
+
+  module _ (bytes : List ℕ) (rest : Option (List ℕ)) where
+    abbrev Said : (List (Item Heading) → Type 0) → List Arrival → Type 0
+    Said said xs = Of (thing_of frames listed_frame) said xs
+
+    at-fault : (fault : RunFault) → StopsAtFault frames (Said told) bytes rest fault
+        → (items : List (Item Heading)) × StopsAtFault frames (λ all. all ≡ arrivals items) bytes rest fault
+        × told items
+    at-fault fault h = (
+      h.are_told.0,
+      record { line = h.line; read = h.read; first = h.first; are_told = h.are_told.1 },
+      h.are_told.2,
+    )
+
+    pub listed-took : (r : Result ℕ RunFault)
+        → ListAnswers frames (thing_of frames listed_frame) done told begins bytes rest r
+        → Took (TakesListed bytes rest) (lines_counted r)
+    listed-took (Ok n) h = (
+      h.are_told.0,
+      record { all = h.all; sound = h.sound; are_told = h.are_told.1 },
+      h.are_told.2,
+    )
+    listed-took (Err run.Read) (n, gave, h) = (
+      h.are_told.0,
+      (n, gave, record { within = h.within; sound = h.sound; are_told = h.are_told.1 }),
+      h.are_told.2,
+    )
+    listed-took (Err run.Write) (n, gave, h) = (
+      h.are_told.0,
+      (n, gave, record { within = h.within; sound = h.sound; are_told = h.are_told.1 }),
+      h.are_told.2,
+    )
+    listed-took (Err run.Memory) (n, gave, h) = (
+      h.are_told.0,
+      (n, gave, record { within = h.within; sound = h.sound; are_told = h.are_told.1 }),
+      h.are_told.2,
+    )
+    listed-took (Err (run.Recording fault)) h = at-fault (run.Recording fault) h
+    listed-took (Err (run.RecordingOfA fault)) h = at-fault (run.RecordingOfA fault) h
+    listed-took (Err (run.RecordingOfB fault)) h = at-fault (run.RecordingOfB fault) h
+    listed-took (Err (run.LineTooLong m)) h = at-fault (run.LineTooLong m) h
+    listed-took (Err (run.BadLine m)) h = at-fault (run.BadLine m) h
+    listed-took (Err (run.BadHex m)) h = at-fault (run.BadHex m) h
+    listed-took (Err (run.TimeBack m)) h = at-fault (run.TimeBack m) h
+    listed-took (Err (run.TimeTooLarge m)) h = at-fault (run.TimeTooLarge m) h
+    listed-took (Err (run.BadPort m)) h = at-fault (run.BadPort m) h
+    listed-took (Err run.TooManyLines) h = at-fault run.TooManyLines h
+
+  -- ---- of an input, which is one or the other
+
+  pub input-took : (options : Options) (ports : Ports) (is : Bool) (bytes : List ℕ)
+      (rest : Option (List ℕ)) (r : Result InputCount RunFault)
+      → InputAnswers options ports done told begins is bytes rest r
+      → Took (TakesAs is options ports bytes rest) r
+  input-took options ports true bytes rest (Ok (count.Recorded tally)) h =
+      recorded-took (taken_of_bytes options ports bytes) (AreCutOff options ports bytes rest) (Ok tally) h
+  input-took options ports true bytes rest (Ok (count.Lines n)) h = absurd h
+  input-took options ports true bytes rest (Err fault) h =
+      recorded-took (taken_of_bytes options ports bytes) (AreCutOff options ports bytes rest) (Err fault) h
+  input-took options ports false bytes rest (Ok (count.Recorded tally)) h = absurd h
+  input-took options ports false bytes rest (Ok (count.Lines n)) h = listed-took bytes rest (Ok n) h
+  input-took options ports false bytes rest (Err fault) h = listed-took bytes rest (Err fault) h
+
+  pub one-took : (options : Options) (ports : Ports) (is : Option (List ℕ) → Bool)
+      (left rest : Option (List ℕ)) (r : Result InputCount RunFault)
+      → IfSome left (λ bytes. InputAnswers options ports done told begins (is left) bytes rest r)
+      → IfSome left (λ bytes. Took (TakesAs (is (Some bytes)) options ports bytes rest) r)
+  one-took options ports is None rest r h = tt
+  one-took options ports is (Some bytes) rest r h =
+      input-took options ports (is (Some bytes)) bytes rest r h
+
+  -- ---- of two
+
+  pub two-took : (whole : (a b : List ℕ) → Taken) (AreCut : (a b : List ℕ) → Lines → Type 0)
+      (a b : Option (List ℕ)) (r : Result Tally RunFault)
+      → IfBoth a b (λ a b. TakenAnswers (whole a b) (AreCut a b) arrivals_listed done told begins r)
+      → IfSome (both a b) (λ of. Took (TakesRecorded (whole of.0 of.1) (AreCut of.0 of.1)) (counted r))
+  two-took whole AreCut None b r h = tt
+  two-took whole AreCut (Some a) None r h = tt
+  two-took whole AreCut (Some a) (Some b) r h = recorded-took (whole a b) (AreCut a b) r h

@@ -1,0 +1,219 @@
+-- What a replay, or a run that polices one link, does with the arrivals that it has taken.
+use Rattle.std.proofs.Common.{◌≡◌, ℕ, List, [], ◌∷◌, Option, Some, None, Result, Ok, Err, refl, ap, arith, Bool, ◌⊎◌, inl, inr}
+use Rattle.std.proofs.KnownBytes.{Appends-nil}
+use Rattle.std.specs.Io.KnownBytes.{Appends}
+use Rattle.std.specs.Prelude.{OnErr, OnOk}
+use Rattle.std.specs.Result.{result_ok}
+use Rattle.afdx_config.proofs.AmongOthersLemmas.{among-others, admitted-serving}
+use Rattle.afdx_config.specs.Admission.{IsAdmitted}
+use Rattle.afdx_config.specs.Lawful.{IsLawful}
+use Rattle.afdx_config.specs.Rows.{Rows}
+use Rattle.afdx_police.specs.Arrival.{Arrival}
+use Rattle.afdx_police.specs.Rule.{Rule}
+use Rattle.afdx_bounds.specs.Outputs.{AreTimed}
+use Rattle.afdx_lists.specs.Calls.{is_failed_read, is_failed_write}
+use Rattle.afdx_lists.specs.declared.fault.RunFault.{RunFault}
+use Rattle.afdx_lists.specs.declared.fault.RunFault.TheVariants as run
+use Rattle.afdx_lists.specs.declared.watched.Watched.{Watched}
+use Rattle.afdx_text.specs.Telling.{TellsLine}
+use Rattle.afdx_network.specs.Order.{events_of}
+use Rattle.afdx_switch.specs.Admitted.{IsAdmittedRun}
+use Rattle.afdx_inputs.specs.Arrivals.{By, DontGoBack}
+use Rattle.afdx_inputs.specs.declared.input_run.InputCount.{InputCount}
+use Rattle.afdx_inputs.proofs.ArrivalsLemmas.{by-more}
+use Rattle.afdx_inputs.proofs.TookLemmas.{Took}
+use Rattle.afdx_engine.specs.Engine.{Item}
+use Rattle.afdx_engine.specs.Items.{arrivals}
+use Rattle.afdx_lists.specs.declared.frame_line.Heading.{Heading}
+use Rattle.afdx_replay.specs.declared.replaying.run.Replay.{Replay}
+use Rattle.afdx_replay.proofs.ReplayLemmas.{are-some, are-so-far}
+use Rattle.afdx_commands.specs.Commands.{EndsWith, status_of_answer}
+use Rattle.afdx_commands.specs.declared.summary.Summary.{Summary}
+use Rattle.afdx_replay.specs.Inputs.{answer_of, summary_in, tally_in, EndsInputAs}
+use Rattle.afdx_replay.specs.declared.input_ending.InputEnded.{InputEnded}
+use Rattle.afdx_replay.specs.declared.input_ending.InputSummary.{InputSummary}
+use Rattle.afdx_replay.specs.policing.Input.{Polices}
+use Rattle.afdx_replay.specs.policing.Policed.{WritesText, WritesBeginning}
+use Rattle.afdx_replay.specs.policing.Text as policing
+use Rattle.afdx_replay.specs.policing.Told as police_told
+use Rattle.afdx_replay.specs.declared.policing.run.Police.{Police}
+use Rattle.afdx_replay.proofs.TextLemmas.{front-whole}
+use Rattle.afdx_replay.specs.replaying.Early.{ExplainsAll, ExplainsItems, ExplainsSome, HearsEarly, HearsMost}
+use Rattle.afdx_replay.specs.replaying.Input.{Hears, Replays, Taking, Writes, WritesPromised, counts_of}
+use Rattle.afdx_replay.specs.replaying.PromisedRun.{IsAsPromised, WritesPromisedSoFar, WritesPromisedSome}
+use Rattle.afdx_replay.specs.replaying.Replayed.{Known, ToldAll, WritesSoFar, WritesSome}
+use Rattle.afdx_replay.specs.replaying.Text.{replay_text}
+use Rattle.afdx_replay.proofs.AdmittedRunLemmas.{latest-most, as-promised, so-far-promised, some-promised}
+use Rattle.afdx_replay.proofs.EarlyLemmas.{early-start}
+
+-- ---- the arrivals are a run of admitted tables
+
+timed-of : (past : List Arrival) → DontGoBack past → AreTimed past
+timed-of [] h = tt
+timed-of (x ∷ past) (later, rest) =
+    let timed = timed-of past rest in
+    ((λ k d lt. let most = latest-most past timed k d lt in omega (arith, most, later)), timed)
+
+module _ (t : Rows) (past : List Arrival) (ordered : DontGoBack past) where
+  run-of : IsLawful t → IsAdmitted t → IsAdmittedRun t past
+  run-of lawful admitted = record {
+    lawful = among-others t lawful;
+    admitted = admitted-serving t admitted;
+    timed = timed-of past ordered;
+  }
+
+  promised-of : (count : Result InputCount RunFault) (old new : Known) → IsLawful t → IsAdmitted t
+      → Writes t past count old new → WritesPromised t past count old new
+  promised-of count old new lawful admitted h =
+      let run = run-of lawful admitted in
+      by-more count (Appends old new (replay_text t (events_of t past))) (WritesSoFar t old new past)
+      (WritesSome t old new past) (IsAsPromised t past old new (counts_of t past))
+      (WritesPromisedSoFar t old new past) (WritesPromisedSome t old new past)
+      (λ written. as-promised t past old new (counts_of t past) lawful run written refl refl)
+      (λ written. so-far-promised t past old new run written)
+      (λ written. some-promised t past old new lawful run written) h
+
+-- ---- a replay
+
+answers-so : (t : Rows) (past : List Arrival) (counts : Summary) (old new : Known) (A B C : Type 0)
+    (count : Result InputCount RunFault)
+    → By count (ToldAll t counts old new past × A) B C → answer_of counts count ≡ answer_of (counts_of t past) count
+answers-so t past counts old new A B C (Ok n) h =
+    ap (λ (c : Summary). answer_of c (Ok n)) h.0.counted
+answers-so t past counts old new A B C (Err fault) h = refl
+
+module _ {D : Type 0} (contents : D → Option (List ℕ)) (t : Rows) (takes : Taking) (early now : Option (Watched D))
+    (old new : Known) where
+  abbrev pub Heard : Taking
+  Heard past count = Hears t past count contents early now
+
+  pub replays-by : (past : List Arrival) (count : Result InputCount RunFault) (counts : Summary) → takes past count
+      → DontGoBack past
+      → By count (ToldAll t counts old new past × HearsEarly contents t early now past)
+      (WritesSoFar t old new past × HearsEarly contents t early now past)
+      (WritesSome t old new past × HearsMost contents t early now past)
+      → Replays t takes Heard old new (answer_of counts count)
+  replays-by past count counts taken ordered h =
+      let written : Writes t past count old new =
+      by-more count (ToldAll t counts old new past × HearsEarly contents t early now past)
+      (WritesSoFar t old new past × HearsEarly contents t early now past)
+      (WritesSome t old new past × HearsMost contents t early now past)
+      (Appends old new (replay_text t (events_of t past))) (WritesSoFar t old new past) (WritesSome t old new past)
+      (λ a. a.0.written) (λ a. a.0) (λ a. a.0) h in
+      record {
+        past = past;
+        count = count;
+        taken = taken;
+        answered = answers-so t past counts old new (HearsEarly contents t early now past)
+            (WritesSoFar t old new past × HearsEarly contents t early now past)
+            (WritesSome t old new past × HearsMost contents t early now past) count h;
+        written = written;
+        promised = λ lawful admitted. promised-of t past ordered count old new lawful admitted written;
+        heard = by-more count (ToldAll t counts old new past × HearsEarly contents t early now past)
+            (WritesSoFar t old new past × HearsEarly contents t early now past)
+            (WritesSome t old new past × HearsMost contents t early now past)
+            (HearsEarly contents t early now past) (HearsEarly contents t early now past)
+            (HearsMost contents t early now past) (λ a. a.1) (λ a. a.1) (λ a. a.1) h;
+      }
+
+-- what the machine has told of the items that it was handed
+module _ {D : Type 0} (contents : D → Option (List ℕ)) (t : Rows) (takes : Taking) (early now : Option (Watched D))
+    (replay : Replay) (old new : Known) where
+  either : (items : List (Item Heading))
+      → ExplainsItems contents (t, early) replay now old new items
+      ⊎ ExplainsSome contents (t, early) now old new items
+      → WritesSome t old new (arrivals items) × HearsMost contents t early now (arrivals items)
+  either items (inl a) = (are-some _ _ _ _ _ _ _ a.0.told, inl a.1)
+  either items (inr b) = b
+
+  pub replays-told : (r : Result InputCount RunFault)
+      → ((past : List Arrival) (answer : Result InputCount RunFault) → takes past answer → DontGoBack past)
+      → Took (ExplainsAll contents (t, early) replay now old new)
+      (ExplainsItems contents (t, early) replay now old new) (ExplainsSome contents (t, early) now old new) takes r
+      → Replays t takes (Heard contents t takes early now old new) old new (answer_of replay.counts r)
+  replays-told r orders (items, taken, told) =
+      replays-by contents t takes early now old new (arrivals items) r replay.counts taken
+      (orders (arrivals items) r taken)
+      (by-more r (ExplainsAll contents (t, early) replay now old new items)
+      (ExplainsItems contents (t, early) replay now old new items)
+      (ExplainsItems contents (t, early) replay now old new items
+      ⊎ ExplainsSome contents (t, early) now old new items)
+      (ToldAll t replay.counts old new (arrivals items) × HearsEarly contents t early now (arrivals items))
+      (WritesSoFar t old new (arrivals items) × HearsEarly contents t early now (arrivals items))
+      (WritesSome t old new (arrivals items) × HearsMost contents t early now (arrivals items))
+      (λ a. a) (λ a. (are-so-far _ _ _ _ _ _ _ a.0.told, a.1)) (λ a. either items a) told)
+
+-- ---- nothing was told yet
+
+pub hears-start : {D : Type 0} (contents : D → Option (List ℕ)) (t : Rows) (early : Option (Watched D))
+    → HearsEarly contents t early early []
+hears-start contents t None = tt
+hears-start contents t (Some drops) = early-start contents t drops
+
+pub replays-none : {D : Type 0} (contents : D → Option (List ℕ)) (t : Rows) (takes : Taking)
+    (early : Option (Watched D)) (output : Known) → takes [] (Err run.Memory)
+    → Replays t takes (Heard contents t takes early early output output) output output (Err run.Memory)
+replays-none contents t takes early output taken =
+    replays-by contents t takes early early output output [] (Err run.Memory) (counts_of t []) taken tt
+    (([], replay_text t (events_of t []), refl, Appends-nil output), inl (hears-start contents t early))
+
+-- ---- a command ends as its run answered
+
+pub ends-in : {E : Type 0} (error_bytes : E → Option (List ℕ)) (all_read : Type 0) (input_failed failed : Bool)
+    (old new : Watched E) (ended : InputEnded) (r : Result InputSummary RunFault)
+    → ended.ended.status ≡ status_of_answer (summary_in r) → ended.ended.summary ≡ result_ok (summary_in r)
+    → ended.tally ≡ tally_in r
+    → OnErr (summary_in r) (TellsLine error_bytes old new) → OnOk (summary_in r) (new ≡ old)
+    → OnOk r all_read → input_failed ≡ is_failed_read r → failed ≡ is_failed_write r
+    → EndsInputAs error_bytes all_read input_failed failed old new ended r
+ends-in error_bytes all_read input_failed failed old new ended (Ok all) a b t c d e f g = record {
+  ends = record { status_is = a; summary_is = b; told = c; silent = d; ended = e; read = f; write = g };
+  tally = t;
+}
+ends-in error_bytes all_read input_failed failed old new ended (Err fault) a b t c d e f g = record {
+  ends = record { status_is = a; summary_is = b; told = c; silent = d; ended = e; read = f; write = g };
+  tally = t;
+}
+
+-- ---- a run that polices one link
+
+module _ (rule : Rule) (takes : Taking) (police : Police) (old new : Known) where
+  abbrev pub Counts : Summary
+  Counts = record {
+    lines = 0;
+    accepted = police.accepted;
+    dropped = police.dropped;
+    lost = 0;
+    departed = 0;
+    too_old = 0;
+    delivered = 0;
+  }
+
+  policed-so : (items : List (Item Heading)) (B C : Type 0) (count : Result InputCount RunFault)
+      → By count (police_told.TellsItems rule police old new items) B C
+      → answer_of Counts count ≡ answer_of (policing.counts_of rule 0 (arrivals items)) count
+  policed-so items B C (Ok n) h = rw (h.told.accepted_is, h.told.dropped_is) refl
+  policed-so items B C (Err fault) h = refl
+
+  begun : (items : List (Item Heading))
+      → police_told.TellsItems rule police old new items ⊎ police_told.BeginsItems rule old new items
+      → WritesBeginning rule old new (arrivals items)
+  begun items (inl a) = front-whole _ _ _ a.told.written
+  begun items (inr b) = b
+
+  pub polices-told : (r : Result InputCount RunFault)
+      → Took (police_told.TellsItems rule police old new) (police_told.TellsItems rule police old new)
+      (police_told.BeginsItems rule old new) takes r
+      → Polices rule takes old new (answer_of Counts r)
+  polices-told r (items, taken, told) = record {
+    past = arrivals items;
+    count = r;
+    taken = taken;
+    answered = policed-so items _ _ r told;
+    written = by-more r (police_told.TellsItems rule police old new items)
+        (police_told.TellsItems rule police old new items)
+        (police_told.TellsItems rule police old new items ⊎ police_told.BeginsItems rule old new items)
+        (WritesText rule old new (arrivals items)) (WritesText rule old new (arrivals items))
+        (WritesBeginning rule old new (arrivals items))
+        (λ a. a.told.written) (λ a. a.told.written) (λ a. begun items a) told;
+  }

@@ -1,0 +1,57 @@
+//! A replay over whatever gives it its arrivals.
+
+ghost use Rattle.std.specs.Prelude.{◌≡◌, IfSome, OnOk, false};
+ghost use Rattle.afdx_lists.specs.Calls.{is_failed_read, is_failed_write};
+ghost use Rattle.afdx_recorded.specs.Claims.{ports_of_senders};
+ghost use Rattle.afdx_replay.specs.replaying.Input.{Hears, Replays};
+
+use crate::input_ending::InputSummary;
+use crate::replaying::explained::Explaining;
+use crate::replaying::run::Replay;
+use afdx_config::Tables;
+use afdx_inputs::Arrivals;
+use afdx_lists::{RunFault, Watched};
+use afdx_recorded::UnsaidPort;
+use afdx_text::Sink;
+use std::alloc::Global;
+use std::io::Write;
+
+/// Replays the arrivals of an input through the switches of both sides and the systems behind them,
+/// and tells `early`, if there is such a device, by how much each frame came too early that was
+/// dropped for its link's rate. `early` is handed back.
+pub(crate) fn replay_over<P: Drop, A: Arrivals<P>, O: Sink, D: Write + Drop>(
+    alloc: Global,
+    options: P,
+    tables: &Tables,
+    input: &mut A,
+    output: &mut O,
+    early: Option<Watched<D>>,
+) -> (Result<InputSummary, RunFault>, Option<Watched<D>>)
+    requires new { A.IsNew input.old }
+    requires sound_output { O.failed output.old ≡ false }
+    ensures ended { OnOk result.0 (A.ended input.new) }
+    ensures read { A.failed input.new ≡ is_failed_read result.0 }
+    ensures write { O.failed output.new ≡ is_failed_write result.0 }
+    ensures calls { A.IsAskedFew options input.old input.new }
+
+    // Where its bytes are known: what is answered, written and told for the arrivals that it takes.
+    ensures replays { IfSome (A.known input.old) (λ bytes. Replays tables.now
+        (A.Takes options (ports_of_senders tables.now.systems) bytes input.new)
+        (λ past count. Hears tables.now past count D.contents early result.1)
+        (O.written output.old) (O.written output.new) result.0) }
+{
+    A::starts();
+    A::orders();
+    let replay = match Replay::new(alloc, tables) {
+        Ok(replay) => replay,
+        Err(error) => return (Err(RunFault::from(error)), early),
+    };
+    let mut explaining = Explaining { replay, early };
+    let unsaid = UnsaidPort::OfSender(tables);
+    let count = input.tell_all(alloc, options, unsaid, &mut explaining, output);
+    let Explaining { replay, early } = explaining;
+    match count {
+        Ok(count) => (Ok(InputSummary::of(replay.counts, count)), early),
+        Err(fault) => (Err(fault), early),
+    }
+}
