@@ -75,3 +75,16 @@ closed_case 'closed standard output beside a fault' 3 '' $'list BadLine 1\n' 1 \
 closed_case 'closed standard error' 3 '' '' 2 "${police[@]}" "$work/wrong.list"
 closed_case 'no standard stream' 3 '' '' 012 "${police[@]}" "$work/wrong.list"
 closed_case 'no standard stream to read and write' 4 '' '' 012 "${police[@]}" -
+
+status=0
+(
+    trap '' XFSZ
+    ulimit -f 1
+    exec "$program" replay examples/network.toml examples/bench.list
+) >"$work/limited" 2>"$work/err" || status=$?
+tell 'a limit on the size of files, whose signal is ignored' "$(
+    has_status 4
+    differs 'standard error' "$no_write" "$work/err"
+    "$program" replay examples/network.toml examples/bench.list 2>/dev/null | head -c 1024 |
+        cmp - "$work/limited" 2>&1
+)"
