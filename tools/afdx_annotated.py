@@ -22,6 +22,7 @@ SIDES = ("A", "B")
 LINK = b"\x03\0\0\0"  # a destination address of a link begins with it
 COMMENT = 1  # an option of a frame
 LONGEST = 65_535  # bytes of an option
+MOST_LINK_TYPE = 65_535
 Key = tuple[str, int]  # a side, empty where there is one recording, and a number
 
 
@@ -218,7 +219,8 @@ class Copied:
             options += option(CHECK_SEQUENCE, bytes([interface.check_sequence]))
         if interface.offset:
             options += option(OFFSET, struct.pack("<q", interface.offset))
-        head = struct.pack("<HHI", interface.link_type, 0, interface.most)
+        link_type = min(interface.link_type, MOST_LINK_TYPE)  # that of a pcap may be greater
+        head = struct.pack("<HHI", link_type, 0, interface.most)
         self.block(1, head + options + option(0, b""))
 
     def number_of(self, side: str, frame: Frame) -> int:

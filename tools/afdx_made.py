@@ -94,7 +94,7 @@ def made_of(run: Row) -> list[tuple[str, str]]:
         ("Words", shlex.join(run["words"])),
         *((head, f"SHA-256 {digest}, {path}") for head, path, digest in run["files"]),
         ("Taps", "a list" if is_list else taps),
-        ("Time 0", run["time_0"] or "a list has no date"),
+        ("Time 0", run["time_0"] or ("a list has no date" if is_list else "no frame arrived")),
         ("Program", run["program"]),
         ("Tool", f"{run['tool']}, Python {run['python']}, numpy {run['numpy']}"),
         ("Host", f"{run['host']}, {run['system']}"),

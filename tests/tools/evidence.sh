@@ -184,9 +184,9 @@ large_test() { # on paper the largest network is some sheets
     )"
     launch timeout 300 chromium --headless --no-sandbox --disable-gpu --no-pdf-header-footer \
         --print-to-pdf="$proof/large.pdf" "file://$proof/large/report.html"
+    local sheets
+    sheets=$(pdfinfo "$proof/large.pdf" | awk '/^Pages/ {print $2}')
     tell 'it is at most 40 sheets' "$(
-        local sheets
-        sheets=$(pdfinfo "$proof/large.pdf" | awk '/^Pages/ {print $2}')
         if [[ ! $sheets -gt 10 || $sheets -gt 40 ]]; then echo "$sheets sheets"; fi
         pdftotext -layout "$proof/large.pdf" "$work/page.txt"
         for words in 'wrong-port' 'came in at port' 'What made this report' 'on paper' \
@@ -194,7 +194,7 @@ large_test() { # on paper the largest network is some sheets
             "Configuration $(sha256sum "$proof/large.toml" | cut -c 1-12), List "; do
             if ! grep -qF "$words" "$work/page.txt"; then echo "no '$words'"; fi
         done
-    )"
+    )" "$sheets sheets"
 }
 
 mkdir -p "$proof"

@@ -204,12 +204,17 @@ fn tell_place(rt: &HostRuntime, line: &str, config: &[u8]) {
     }
 }
 
-/// Which device failed, and why.
-fn tell_device(rt: &HostRuntime, line: &str, cause: &Cause<'_>) {
-    let path = match line {
+/// What a person is told of the device that failed.
+fn device_in<'a>(line: &str, cause: &Cause<'a>) -> &'a str {
+    match line {
         "device Write" => "standard output",
         _ => cause.path,
-    };
+    }
+}
+
+/// Which device failed, and why.
+fn tell_device(rt: &HostRuntime, line: &str, cause: &Cause<'_>) {
+    let path = device_in(line, cause);
     match &cause.reason {
         Some(reason) if path == INPUT_NAME && reason.kind() == ErrorKind::IsADirectory => {
             tell_text(rt, &format_args!("{path}: {reason}, or closed\n"));
