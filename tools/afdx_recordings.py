@@ -11,6 +11,9 @@ HEADS = frozenset(
 )
 WRITER_CODE, WRITER = 4, b"afdx-capture annotate"  # an option of a section: who wrote it
 
+# packed files, by gzip, bzip2, zstd, xz and zip: a fault of a recording
+PACKED = tuple(bytes.fromhex(head) for head in ("1f8b", "425a68", "28b52ffd", "fd377a58", "504b0304"))
+
 
 def add_recording_words(parser: argparse.ArgumentParser) -> None:
     """The options of recordings, which are handed on to the program."""
@@ -52,9 +55,10 @@ def handed_on(args: argparse.Namespace) -> list[str]:
 
 
 def is_recording(path: str) -> bool:
-    """The program takes the file for a recording, by its first four bytes."""
+    """The program takes the file for a recording, by its first four bytes, or for a packed one."""
     with open(path, "rb") as file:
-        return file.read(4) in HEADS
+        head = file.read(4)
+    return head in HEADS or (len(head) == 4 and head.startswith(PACKED))
 
 
 def is_foreign(path: str) -> bool:
