@@ -1,21 +1,17 @@
 -- The text of the frame list that says the same as a recording.
 use Rattle.std.specs.Prelude.{ℕ, List, [], ◌∷◌, ◌++◌, Option, Result}
 use Rattle.std.specs.Io.KnownBytes.{Appends}
-use Rattle.afdx_frame.specs.declared.by_side.BySide.{BySide}
 use Rattle.afdx_lists.specs.declared.fault.RunFault.{RunFault}
-use Rattle.afdx_lists.specs.declared.watched.Watched.{Watched}
 use Rattle.afdx_lists.specs.Calls.{AppendsFront}
 use Rattle.afdx_engine.specs.Engine.{Bytes, Item}
 use Rattle.afdx_text.specs.OutLines.{frame_line, remark_line}
 use Rattle.afdx_recorded.specs.declared.number_line.NumberLine.{NumberLine}
 use Rattle.afdx_recorded.specs.declared.number_line.NumberLine.TheVariants.{Arrival, Skipped}
 use Rattle.afdx_recorded.specs.declared.counts.Tally.{Tally}
-use Rattle.afdx_recorded.specs.declared.pair_options.PairOptions.{PairOptions}
 use Rattle.afdx_recorded.specs.Becoming.{Options}
 use Rattle.afdx_recorded.specs.Claims.{Ports}
 use Rattle.afdx_recorded.specs.NumberLines.{Lines}
-use Rattle.afdx_inputs.specs.RecordingRun.{AreCutOffInPair, taken_of_pair}
-use Rattle.afdx_recorded.specs.Taking.{AreCutOff, taken_of_bytes}
+use Rattle.afdx_recorded.specs.Taking.{Taken, AreCutOff, taken_of_bytes}
 use Rattle.afdx_inputs.specs.TakenRun.{TakenAnswers}
 use Rattle.afdx_recorded.specs.Words.{skipped_word}
 
@@ -43,16 +39,15 @@ WritesSomeLines old new past = AppendsFront old new (list_text past)
 abbrev pub lines_themselves : Lines → Lines
 lines_themselves lines = lines
 
+-- of the whole `whole`; `AreCut` says what was read until a read failed
+abbrev pub ListsTaken : (whole : Taken) → (AreCut : Lines → Type 0) → (old new : Bytes) →
+    Result Tally RunFault → Type 0
+ListsTaken whole AreCut old new result =
+    TakenAnswers whole AreCut lines_themselves (WritesLines old new) (WritesLines old new)
+    (WritesSomeLines old new) result
+
 abbrev pub ListingAnswers : Options → Ports → List ℕ → Option (List ℕ) → (old new : Bytes) →
     Result Tally RunFault → Type 0
 ListingAnswers options ports bytes rest old new result =
-    TakenAnswers (taken_of_bytes options ports bytes) (AreCutOff options ports bytes rest)
-    lines_themselves (WritesLines old new) (WritesLines old new) (WritesSomeLines old new) result
-
-abbrev pub PairListingAnswers : PairOptions → Ports → {R : Type 0} → (R → Option (List ℕ)) →
-    (a b : List ℕ) → (rest : BySide (Watched R)) → (old new : Bytes) →
-    Result Tally RunFault → Type 0
-PairListingAnswers options ports remaining a b rest old new result =
-    TakenAnswers (taken_of_pair options ports a b)
-    (AreCutOffInPair options ports remaining a b rest) lines_themselves
-    (WritesLines old new) (WritesLines old new) (WritesSomeLines old new) result
+    ListsTaken (taken_of_bytes options ports bytes) (AreCutOff options ports bytes rest) old new
+    result

@@ -57,11 +57,3 @@ module _ (options : PairOptions) (ports : Ports) where
   AreCutOffInPair remaining a b rest lines =
       AreCutOffAtOne options.origin of_a of_b (has_failed rest.a) (has_failed rest.b) a b
       (remaining (device_of rest.a)) (remaining (device_of rest.b)) lines
-
-  -- what a run answers that is given recordings of these bytes, after which the inputs are `rest`
-  abbrev pub PairAnswers : (done told begins : List (Item Heading) → Type 0) → {R : Type 0} →
-      (R → Option (List ℕ)) → (a b : List ℕ) → (rest : BySide (Watched R)) →
-      Result Tally RunFault → Type 0
-  PairAnswers done told begins remaining a b rest result =
-      TakenAnswers (taken_of_pair a b) (AreCutOffInPair remaining a b rest) arrivals_listed
-      done told begins result

@@ -8,8 +8,8 @@ ghost use Rattle.afdx_text.specs.Sinks.{IsOfOutput};
 ghost use Rattle.afdx_recorded.specs.Becoming.{options_of};
 ghost use Rattle.afdx_recorded.specs.Claims.{ports_of, ports_unsaid};
 ghost use Rattle.afdx_inputs.specs.ListText as text;
-ghost use Rattle.afdx_inputs.specs.ListText.{PairListingAnswers, ListingAnswers};
-ghost use Rattle.afdx_inputs.specs.RecordingRun.{IfBothKnown, IsAskedOnce};
+ghost use Rattle.afdx_inputs.specs.ListText.{ListingAnswers, ListsTaken};
+ghost use Rattle.afdx_inputs.specs.RecordingRun.{AreCutOffInPair, IfBothKnown, IsAskedOnce, taken_of_pair};
 
 use crate::over::run_over;
 use crate::read_pair::{read_one, read_pair};
@@ -167,7 +167,8 @@ pub fn list_pair<R: Read, O: Sink>(
     // Where the bytes of both are known: what is answered and written for the recordings that they
     // are.
     ensures answer { IfBothKnown R.remaining inputs.old (λ a b.
-        PairListingAnswers options (ports_unsaid unsaid.entry) R.remaining a b inputs.new
+        ListsTaken (taken_of_pair options (ports_unsaid unsaid.entry) a b)
+        (AreCutOffInPair options (ports_unsaid unsaid.entry) R.remaining a b inputs.new)
         (O.written output.old) (O.written output.new) result) }
 {
     let mut lines = read_pair(alloc, options, unsaid)?;

@@ -5,7 +5,10 @@ ghost use Rattle.afdx_lists.specs.Calls.{is_failed_read, is_failed_write};
 ghost use Rattle.afdx_lists.specs.Watching.{calls_of, device_of, has_ended, has_failed};
 ghost use Rattle.afdx_recorded.specs.Becoming.{options_of};
 ghost use Rattle.afdx_recorded.specs.Claims.{ports_of, ports_unsaid};
-ghost use Rattle.afdx_inputs.specs.RecordingRun.{IfBothKnown, IsAskedOnce, PairAnswers, RecordingAnswers};
+ghost use Rattle.afdx_inputs.specs.RecordingRun.{AreCutOffInPair, IfBothKnown, IsAskedOnce};
+ghost use Rattle.afdx_inputs.specs.RecordingRun.{RecordingAnswers, taken_of_pair};
+ghost use Rattle.afdx_inputs.specs.TakenRun.{TakenAnswers};
+ghost use Rattle.afdx_recorded.specs.NumberLines.{arrivals_listed};
 
 use crate::over::run_over;
 use crate::read_pair::{read_one, read_pair};
@@ -95,11 +98,12 @@ pub fn run_pair<R: Read, M: Machine<Heading>, O: Sink>(
     ensures answer { (rules : M.Rules) → M.Told rules machine.old
         (O.written output.old) (O.written output.old) [] →
         IfBothKnown R.remaining inputs.old (λ a b.
-        PairAnswers options (ports_unsaid unsaid.entry)
+        TakenAnswers (taken_of_pair options (ports_unsaid unsaid.entry) a b)
+        (AreCutOffInPair options (ports_unsaid unsaid.entry) R.remaining a b inputs.new)
+        arrivals_listed
         (M.Done rules machine.new (O.written output.old) (O.written output.new))
         (M.Told rules machine.new (O.written output.old) (O.written output.new))
-        (M.Begins rules machine.new (O.written output.old) (O.written output.new))
-        R.remaining a b inputs.new result) }
+        (M.Begins rules machine.new (O.written output.old) (O.written output.new)) result) }
 {
     let mut arrivals = Arriving::new(read_pair(alloc, options, unsaid)?);
     run_over(&mut arrivals, machine, inputs, output)

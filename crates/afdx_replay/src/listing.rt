@@ -1,15 +1,18 @@
 //! The command `list`.
 
-ghost use Rattle.std.specs.Prelude.{◌≡◌, ◌||◌, ◌⊎◌, ◌↔◌, IsSome, IfSome, OnOk, OnErr, false, true};
+ghost use Rattle.std.specs.Prelude.{◌≡◌, ◌||◌, ◌⊎◌, ◌↔◌, Result, None, IsSome, IfSome, OnOk, OnErr, false, true};
 ghost use Rattle.std.specs.Result.{result_ok};
 ghost use Rattle.afdx_lists.specs.Calls.{is_failed_read, is_failed_write};
 ghost use Rattle.afdx_lists.specs.Watching.{device_of, has_ended, has_failed};
 ghost use Rattle.afdx_recorded.specs.Becoming.{options_of};
 ghost use Rattle.afdx_recorded.specs.Claims.{ports_of_senders};
-ghost use Rattle.afdx_inputs.specs.ListText.{ListingAnswers};
+ghost use Rattle.afdx_inputs.specs.ListText.{ListingAnswers, ListsTaken};
+ghost use Rattle.afdx_inputs.specs.RecordingRun.{AreCutOffInPair, IfBothKnown, taken_of_pair};
+ghost use Rattle.afdx_lists.specs.declared.fault.RunFault.{RunFault as Fault};
+ghost use Rattle.afdx_recorded.specs.declared.counts.Tally.{Tally as Counted};
 ghost use Rattle.afdx_text.specs.Telling.{TellsLine};
-ghost use Rattle.afdx_commands.specs.Commands.{one_has_failed};
-ghost use Rattle.afdx_replay.specs.Listing.{EndsListing, EndsPairListing, IsAskedOnceFor, status_of_listing};
+ghost use Rattle.afdx_commands.specs.Commands.{have_ended, one_has_failed};
+ghost use Rattle.afdx_replay.specs.Listing.{EndsListed, IsAskedOnceFor, IsNotListed, ListsIn, status_of_listing};
 
 use afdx_commands::refusing::refuse_config;
 use afdx_commands::status::DONE;
@@ -116,8 +119,14 @@ pub fn list_and_count<R: Read, O: Sink, E: Write>(
     ensures calls { IsAskedOnceFor R.remaining input.old input.new }
 
     // The command ends as the listing answered, or nothing is read and nothing is written.
-    ensures lists { EndsListing R.remaining O.written O.failed E.contents config.now options
-        input.old input.new output.old output.new errors.old errors.new result }
+    ensures lists { ((answer : Result Counted Fault)
+        × EndsListed E.contents (has_ended input.new ≡ true) (has_failed input.new)
+        (O.failed output.new) errors.old errors.new result answer
+        × ListsIn config.now (λ t. IfSome (R.remaining (device_of input.old)) (λ bytes.
+        ListingAnswers (options_of options) (ports_of_senders t.systems) bytes
+        (R.remaining (device_of input.new)) (O.written output.old) (O.written output.new) answer)))
+        ⊎ (IsNotListed E.contents config.now errors.old errors.new result.status
+        × (result.tally ≡ None) × (input.new ≡ input.old) × (output.new ≡ output.old)) }
 {
     let tables = match read_tables(alloc, config) {
         Ok(tables) => tables,
@@ -165,8 +174,15 @@ pub fn list_pair_and_count<R: Read, O: Sink, E: Write>(
     ensures calls_b { IsAskedOnceFor R.remaining inputs.old.b inputs.new.b }
 
     // The command ends as the listing answered, or nothing is read and nothing is written.
-    ensures lists { EndsPairListing R.remaining O.written O.failed E.contents config.now options
-        inputs.old inputs.new output.old output.new errors.old errors.new result }
+    ensures lists { ((answer : Result Counted Fault)
+        × EndsListed E.contents (have_ended inputs.new) (one_has_failed inputs.new)
+        (O.failed output.new) errors.old errors.new result answer
+        × ListsIn config.now (λ t. IfBothKnown R.remaining inputs.old (λ a b.
+        ListsTaken (taken_of_pair options (ports_of_senders t.systems) a b)
+        (AreCutOffInPair options (ports_of_senders t.systems) R.remaining a b inputs.new)
+        (O.written output.old) (O.written output.new) answer)))
+        ⊎ (IsNotListed E.contents config.now errors.old errors.new result.status
+        × (result.tally ≡ None) × (inputs.new ≡ inputs.old) × (output.new ≡ output.old)) }
 {
     let tables = match read_tables(alloc, config) {
         Ok(tables) => tables,

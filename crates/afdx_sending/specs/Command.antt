@@ -6,11 +6,8 @@ use Rattle.afdx_config.specs.Rows.{SystemRow, Rows}
 use Rattle.afdx_text.specs.Telling.{Tells}
 use Rattle.afdx_lists.specs.declared.fault.RunFault.{RunFault}
 use Rattle.afdx_lists.specs.declared.watched.Watched.{Watched}
-use Rattle.afdx_lists.specs.Watching.{device_of}
-use Rattle.afdx_commands.specs.Commands.{EndsAs}
 use Rattle.afdx_commands.specs.Refusals.{no_system_line, RefusesConfig, RefusesTables, WantsMemory}
 use Rattle.afdx_sending.specs.Sent.{source_at, Answers}
-use Rattle.afdx_commands.specs.declared.ending.Ended.{Ended}
 use Rattle.afdx_commands.specs.declared.summary.Summary.{Summary}
 
 -- A list is sent from the system of this name in the tables that the configuration spells, which
@@ -52,17 +49,3 @@ IsNotSent error_bytes config name old_errors new_errors status =
     ⊎ RefusesName error_bytes old_errors new_errors config name status
     ⊎ (NamesSystem config name × RefusesTables error_bytes old_errors new_errors config status)
     ⊎ WantsMemory error_bytes old_errors new_errors status
-
--- the command ends as a run over the list answered, or nothing is read and nothing is written
-abbrev pub EndsSend : {R O E : Type 0} → (R → Option (List ℕ)) → (written : O → Option (List ℕ)) →
-    (failed : O → Bool) → (E → Option (List ℕ)) → (config name : List ℕ) →
-    (old_input new_input : Watched R) → (old_output new_output : O) →
-    (old_errors new_errors : Watched E) → Ended → Type 0
-EndsSend remaining written failed error_bytes config name old_input new_input
-    old_output new_output old_errors new_errors ended =
-    ((answer : Result Summary RunFault)
-    × EndsAs error_bytes new_input (failed new_output) old_errors new_errors ended answer
-    × Sends config name (remaining (device_of old_input)) (remaining (device_of new_input))
-    (written old_output) (written new_output) answer)
-    ⊎ (IsNotSent error_bytes config name old_errors new_errors ended.status
-    × (new_input ≡ old_input) × (new_output ≡ old_output))

@@ -1,9 +1,12 @@
 //! The command `send`.
 
-ghost use Rattle.std.specs.Prelude.{◌≡◌, ◌≤◌, ◌+◌, ◌||◌, ◌⊎◌, ◌↔◌, IsSome, false, true};
+ghost use Rattle.std.specs.Prelude.{◌≡◌, ◌≤◌, ◌+◌, ◌||◌, ◌⊎◌, ◌↔◌, Result, IsSome, false, true};
 ghost use Rattle.afdx_lists.specs.Lines.{most_reads};
 ghost use Rattle.afdx_lists.specs.Watching.{calls_of, device_of, has_ended, has_failed};
-ghost use Rattle.afdx_sending.specs.Command.{EndsSend};
+ghost use Rattle.afdx_lists.specs.declared.fault.RunFault.{RunFault};
+ghost use Rattle.afdx_commands.specs.Commands.{EndsAs};
+ghost use Rattle.afdx_commands.specs.declared.summary.Summary.{Summary};
+ghost use Rattle.afdx_sending.specs.Command.{IsNotSent, Sends};
 ghost use Rattle.afdx_commands.specs.declared.ending.Ended.{Ended as End};
 
 use crate::run::send_into;
@@ -47,8 +50,12 @@ pub fn send_and_count<R: Read, O: Sink, E: Write>(
     ensures calls { calls_of input.new ≤ calls_of input.old + most_reads }
 
     // The command ends as a run over the list answered, or nothing is read and nothing is written.
-    ensures sends { EndsSend R.remaining O.written O.failed E.contents config.now system.now
-        input.old input.new output.old output.new errors.old errors.new result }
+    ensures sends { ((answer : Result Summary RunFault)
+        × EndsAs E.contents input.new (O.failed output.new) errors.old errors.new result answer
+        × Sends config.now system.now (R.remaining (device_of input.old))
+        (R.remaining (device_of input.new)) (O.written output.old) (O.written output.new) answer)
+        ⊎ (IsNotSent E.contents config.now system.now errors.old errors.new result.status
+        × (input.new ≡ input.old) × (output.new ≡ output.old)) }
 {
     let tables = match read_tables(alloc, config) {
         Ok(tables) => tables,
@@ -85,9 +92,13 @@ pub fn send<R: Read, O: Write, E: Write>(
     ensures device { (has_failed input.new || has_failed output.new) ≡ true → result ≡ 4 }
     ensures calls { calls_of input.new ≤ calls_of input.old + most_reads }
     ensures sends { (ended : End) × (ended.status ≡ result)
-        × EndsSend R.remaining (λ w. O.contents (device_of w)) has_failed
-        E.contents config.now system.now
-        input.old input.new output.old output.new errors.old errors.new ended }
+        × (((answer : Result Summary RunFault)
+        × EndsAs E.contents input.new (has_failed output.new) errors.old errors.new ended answer
+        × Sends config.now system.now (R.remaining (device_of input.old))
+        (R.remaining (device_of input.new)) (O.contents (device_of output.old))
+        (O.contents (device_of output.new)) answer)
+        ⊎ (IsNotSent E.contents config.now system.now errors.old errors.new ended.status
+        × (input.new ≡ input.old) × (output.new ≡ output.old))) }
 {
     let ended = send_and_count(alloc, config, system, input, output, errors);
     ended.status

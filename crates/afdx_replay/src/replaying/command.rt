@@ -1,9 +1,12 @@
 //! The command `replay`.
 
-ghost use Rattle.std.specs.Prelude.{◌≡◌, ◌≤◌, ◌+◌, ◌||◌, ◌⊎◌, false, true};
+ghost use Rattle.std.specs.Prelude.{◌≡◌, ◌≤◌, ◌+◌, ◌||◌, ◌⊎◌, Result, false, true};
 ghost use Rattle.afdx_lists.specs.Lines.{most_reads};
 ghost use Rattle.afdx_lists.specs.Watching.{calls_of, device_of, has_ended, has_failed};
-ghost use Rattle.afdx_replay.specs.replaying.Command.{EndsReplay};
+ghost use Rattle.afdx_lists.specs.declared.fault.RunFault.{RunFault};
+ghost use Rattle.afdx_commands.specs.Commands.{EndsAs};
+ghost use Rattle.afdx_commands.specs.declared.summary.Summary.{Summary};
+ghost use Rattle.afdx_replay.specs.replaying.Command.{IsNotReplayed, Replays};
 ghost use Rattle.afdx_commands.specs.declared.ending.Ended.{Ended as End};
 
 use crate::replaying::run::run_unadmitted;
@@ -34,10 +37,15 @@ pub fn replay<R: Read, O: Write, E: Write>(
         × (has_failed output.new ≡ false) }
     ensures device { (has_failed input.new || has_failed output.new) ≡ true → result ≡ 4 }
     ensures calls { calls_of input.new ≤ calls_of input.old + most_reads }
+    // The command ends as a run over the list answered, or nothing is read and nothing is written.
     ensures replays { (ended : End) × (ended.status ≡ result)
-        × EndsReplay R.remaining (λ w. O.contents (device_of w)) has_failed
-        E.contents config.now admission
-        input.old input.new output.old output.new errors.old errors.new ended }
+        × (((answer : Result Summary RunFault)
+        × EndsAs E.contents input.new (has_failed output.new) errors.old errors.new ended answer
+        × Replays config.now admission (R.remaining (device_of input.old))
+        (R.remaining (device_of input.new)) (O.contents (device_of output.old))
+        (O.contents (device_of output.new)) answer)
+        ⊎ (IsNotReplayed E.contents config.now admission errors.old errors.new ended.status
+        × (input.new ≡ input.old) × (output.new ≡ output.old))) }
 {
     let taken = match take_tables(alloc, admission, config, errors) {
         Ok(taken) => taken,

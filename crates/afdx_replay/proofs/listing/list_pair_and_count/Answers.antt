@@ -4,13 +4,13 @@ use Rattle.afdx_commands.proofs.RefusalLemmas.{config-refused}
 use Rattle.afdx_replay.proofs.listing.list_pair_and_count.Goals as goal
 
 pub returns-in-Err-clause-lists : goal.returns-in-Err-clause-lists
-returns-in-Err-clause-lists g c = inr (record {
-  refused = rw c.without_counts.ensures.status (config-refused _ _ _ _ _ _ c.refuse_config.ensures.told
-      c.refuse_config.ensures.memory c.in-Err.ensures.fault);
-  tally = c.without_counts.ensures.tally;
-  unread = refl;
-  unwritten = refl;
-})
+returns-in-Err-clause-lists g c = inr (
+  rw c.without_counts.ensures.status (config-refused _ _ _ _ _ _ c.refuse_config.ensures.told
+      c.refuse_config.ensures.memory c.in-Err.ensures.fault),
+  c.without_counts.ensures.tally,
+  refl,
+  refl,
+)
 
 pub returns-clause-lists : goal.returns-clause-lists
 returns-clause-lists g c = inl (
@@ -23,6 +23,8 @@ returns-clause-lists g c = inl (
     ended = c.list_pair-answer.ensures.ended;
     read = c.list_pair-answer.ensures.read;
     write = c.list_pair-answer.ensures.write;
+  },
+  record {
     tables = c.in-Ok.tables;
     spelled = c.in-Ok.ensures.ok;
     answered = c.list_pair-answer.ensures.answer;
