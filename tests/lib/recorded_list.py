@@ -82,7 +82,7 @@ class Run:
         look = next(source.looks)
         for number, word in look.skipped:
             self.counts[word] += 1
-            self.tell(number, f"# {word}\n".encode())
+            self.tell(number, f"# {word} {number}\n".encode())
         if look.fault:
             source.end(look.fault)
         return look.arrival

@@ -100,7 +100,8 @@ def origin_row() -> Row:
         summary="lines 5 accepted 1 ..",
         skipped="no-frame 0 left-out 0 not-afdx 1 unknown-sender 1 no-network 1 before-origin 1"
         " recorder-lost 0 claimed 1",
-        listed=f"# before-origin / # not-afdx / # unknown-sender / # no-network / F 3000 A 1 {H1}",
+        listed="# before-origin 1 / # not-afdx 2 / # unknown-sender 3 / # no-network 4"
+        f" / F 3000 A 1 {H1}",
     )
 
 

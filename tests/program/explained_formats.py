@@ -107,7 +107,7 @@ def wanted_answers(texts: str) -> list[tuple[str, list[str]]]:
         wanted.append((word, [when]))
     for word, when in rows_below("| WORD of a skipped number | When |", texts):
         word = word.strip("`")
-        wanted += [(f"# {word}", [when]), (word, [when])]
+        wanted += [(f"# {word} 7", [when]), (word, [when])]
     for line, meaning in lines_with_meaning(texts):
         if "WORD" not in line and "Sk" not in line:
             wanted.append((example_of(line), [meaning]))

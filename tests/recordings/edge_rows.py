@@ -109,14 +109,14 @@ def length_rows() -> list[Row]:
 
 def block_rows() -> list[Row]:
     """Blocks of all types, and sections."""
-    begin, after = SL + IL, f"# no-frame / {ARRIVAL}"
+    begin, after = SL + IL, f"# no-frame 1 / {ARRIVAL}"
     one, section = E(US, H1), SL.replace("0a0d0d0a", low(SECTION))
     return [
         # tshark refuses the first two, and numbers the third
         edge("a custom block of 12 bytes", begin + block(0x0BAD) + one, after),
         edge("a journal of 12 bytes", begin + block(9) + one, after),
         edge("an event of sysdig", begin + block(0x204, "00" * 24) + one, ARRIVAL),
-        edge("a custom block alone", SL + block(0x4000_0BAD, ONE), "# no-frame", "NoArrival 1"),
+        edge("a custom block alone", SL + block(0x4000_0BAD, ONE), "# no-frame 1", "NoArrival 1"),
         # tshark looks at these options
         edge("a section with damaged options", section_with("0400ffff") + IL + one, ARRIVAL),
         edge("names with damaged options", begin + block(4, "0000ffff 0400ffff") + one, ARRIVAL),

@@ -81,15 +81,15 @@ def count_rows() -> list[Row]:
 def skipped_rows() -> list[Row]:
     """Those that are skipped neither count nor go back."""
     between = PL + at(5) + at(7, FOREIGN) + at(8, ROGUE) + at(3, H2)
-    remarks = f"# not-afdx / # unknown-sender / {lines((0, 2), (2000, 1))}"
+    remarks = f"# not-afdx 2 / # unknown-sender 3 / {lines((0, 2), (2000, 1))}"
     back = PL + at(5) + at(0, FOREIGN)
     ns = N(ZERO, NS, H1) + N(ONE, "ffff2936", H1) + N(ZERO, "01002a36", H2)
-    left, out = f"{ARRIVAL} / # left-out / {lines((1, 2))}", Options({1: "-"}, reorder=0)
+    left, out = f"{ARRIVAL} / # left-out 2 / {lines((1, 2))}", Options({1: "-"}, reorder=0)
     early, later = PL + at(5) + at(1) + at(6, H2), Options(origin=FIRST_NS + 2000, reorder=0)
-    shown = f"{lines((3000, 1))} / # before-origin / {lines((4000, 2))}"
+    shown = f"{lines((3000, 1))} / # before-origin 2 / {lines((4000, 2))}"
     return [
         edge("skipped between two", between, remarks, "", held(1)),
-        edge("a skipped one goes back", back, f"{ARRIVAL} / # not-afdx", "", held(0)),
+        edge("a skipped one goes back", back, f"{ARRIVAL} / # not-afdx 2", "", held(0)),
         edge("one that is left out goes back", SL + IL9 + IW + ns, left, "", out),
         edge("one before the origin", early, shown, "", later),
     ]
@@ -99,7 +99,7 @@ def remark_rows() -> list[Row]:
     """Skipped numbers stand where they are read, arrivals where they are taken."""
     data = PL + at(0) + at(1, FOREIGN) + at(2, H2) + at(3, ROGUE) + at(4) + at(5, NOWHERE)
     one, three, five = lines((0, 1)), lines((2000, 2)), lines((4000, 1))
-    two, four, six = "# not-afdx", "# unknown-sender", "# no-network"
+    two, four, six = "# not-afdx 2", "# unknown-sender 4", "# no-network 6"
     texts = {
         0: [one, two, three, four, five, six],
         1: [two, one, four, three, six, five],
@@ -208,7 +208,7 @@ def start_limits() -> list[Row]:
     latest = STARTS._replace(origin=LATEST)
     return [
         edge("starts: an origin at the end", F1, ARRIVAL, "", at_end),
-        edge("starts: an origin behind it", F1, "# before-origin", "NoArrival 1", behind),
+        edge("starts: an origin behind it", F1, "# before-origin 1", "NoArrival 1", behind),
         edge("starts: the last moment", last, ARRIVAL, "", latest),
         edge("starts: the last moment alone", last, ARRIVAL, "", Options(stamps="start")),
         edge("starts: a moment behind it", stamped_last, f"F 5120 A 1 {H1}", "", latest),

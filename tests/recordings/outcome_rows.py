@@ -30,18 +30,18 @@ def sent_by(address: str) -> str:
 
 def place_rows() -> list[Row]:
     """Sides and ports."""
-    unknown, at_2, left = "# unknown-sender", Options({1: "B:2"}), "# no-network"
+    unknown, at_2, left = "# unknown-sender 1", Options({1: "B:2"}), "# no-network 1"
     of_b, second = from_sender("020000000140"), SL + IL + IL + packet(place=1)
     again = second + SL + IL + IL + packet(place=1, ticks=FIRST_NS // 1000 + 1)
     return [
-        edge("5 bytes at a port", short(5), "# not-afdx", NONE, AT_1),
+        edge("5 bytes at a port", short(5), "# not-afdx 1", NONE, AT_1),
         edge("6 bytes at a port", short(6), left, NONE, Options(port=1)),
         edge("6 bytes at a side and port", short(6), f"F 0 A 1 {H1[:12]}", "", AT_1),
         edge("10 bytes", short(10), unknown, NONE),
         edge("11 bytes", short(11), left, NONE),
         edge("11 bytes of a side", short(11), f"F 0 B 1 {H1[:22]}", "", SIDE_B),
         edge("12 bytes", short(12), f"F 0 A 1 {H1[:24]}"),
-        edge("no bytes", short(0), "# not-afdx", NONE),
+        edge("no bytes", short(0), "# not-afdx 1", NONE),
         edge("another constant field", sent_by("020001000120"), unknown, NONE),
         edge("a system's low byte", sent_by("020000010120"), unknown, NONE),
         edge("network 40", sent_by("020000000140"), f"F 0 B 1 {of_b}"),
@@ -61,7 +61,7 @@ def order_rows() -> list[Row]:
     snapped = SL + interface(snap=low(40)) + block(3, "3c000000" + H1[:80])
     odd_time, odd_cut = R("40420f00", FOREIGN), R("40420f00", H1[:80], CUT)
     early = R(ZERO, CLOSED, "40000000 40000000", "fff05365")
-    nowhere, left = PL + R(ZERO, from_sender("020000000160")), "# left-out"
+    nowhere, left = PL + R(ZERO, from_sender("020000000160")), "# left-out 1"
     return [
         edge("left out before NotEthernet", wifi + E(US, H1), left, NONE, LEFT_OUT),
         edge("left out before NoTime", SL + IL + simple, left, NONE, LEFT_OUT),
@@ -70,11 +70,11 @@ def order_rows() -> list[Row]:
         edge("BadTime before Cut", PL + odd_cut, fault="BadTime 1"),
         edge("BadTime before not-afdx", PL + odd_time, fault="BadTime 1"),
         edge("Cut before not-afdx", PL + cut, fault="Cut 1"),
-        edge("no-network before the origin", nowhere, "# no-network", NONE, LATER),
-        edge("before the origin, and unclear", PL + early, "# before-origin", NONE, AT_START),
+        edge("no-network before the origin", nowhere, "# no-network 1", NONE, LATER),
+        edge("before the origin, and unclear", PL + early, "# before-origin 1", NONE, AT_START),
         edge("FcsUnclear before TimeBack", F1 + early, ARRIVAL, "FcsUnclear 2", AS_READ),
         edge("Cut before Ended", PL + cut + "00", fault="Cut 1"),
-        edge("Ended before NoArrival", PL + R(ZERO, FOREIGN) + "00", "# not-afdx", "Ended 1"),
+        edge("Ended before NoArrival", PL + R(ZERO, FOREIGN) + "00", "# not-afdx 1", "Ended 1"),
         edge("the first of two faults", PL + odd_time + cut, fault="BadTime 1"),
     ]
 
@@ -82,21 +82,22 @@ def order_rows() -> list[Row]:
 def time_rows() -> list[Row]:
     """Moments, the origin, and times."""
     one, late, foreign = PL + R(ZERO, H1), R("02000000", H2), R("09000000", FOREIGN)
-    early, before = R(ZERO, H1, seconds="fff05365"), "# before-origin"
+    early, before = R(ZERO, H1, seconds="fff05365"), "# before-origin 1"
     shown, early_as_read = f"F 2000 A 2 {H2}", AT_START._replace(reorder=0)
-    between = f"{ARRIVAL} / # not-afdx / {shown}"
+    between = f"{ARRIVAL} / # not-afdx 2 / {shown}"
+    second = f"{ARRIVAL} / # before-origin 2 / {shown}"
     least, last = Options(origin=FIRST_NS - 10**15), Options(origin=2**63 - 1)
     return [
         edge("equal times", F1 + R(ZERO, H2), f"{ARRIVAL} / F 0 A 2 {H2}"),
         edge("a skipped frame between", F1 + foreign + late, between, "", AS_READ),
         edge("back", F1 + late + R(ONE, H1), f"{ARRIVAL} / {shown}", "TimeBack 3", AS_READ),
-        edge("early", F1 + early + late, f"{ARRIVAL} / {before} / {shown}", "", early_as_read),
+        edge("early", F1 + early + late, second, "", early_as_read),
         edge("the origin later than all", one, before, NONE, LATER),
         edge("the origin a ns before", one, f"F 1 A 1 {H1}", "", Options(origin=FIRST_NS - 1)),
         edge("the origin 1970", one, "", "TimeTooLarge 1", Options(origin=0)),
         edge("the greatest time", one, f"F {10**15} A 1 {H1}", "", least),
         edge("the greatest origin", one, before, NONE, last),
-        edge("the first arrival is time 0", PL + foreign + late, f"# not-afdx / F 0 A 2 {H2}"),
+        edge("the first arrival is time 0", PL + foreign + late, f"# not-afdx 1 / F 0 A 2 {H2}"),
     ]
 
 

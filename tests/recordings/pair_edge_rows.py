@@ -65,10 +65,13 @@ def fault_rows() -> list[PairRow]:
 
 def no_arrival_rows() -> list[PairRow]:
     """Recordings of which nothing is left."""
-    rogue, unknown = PL + R(ZERO, ROGUE), "# unknown-sender"
+    rogue, unknown = PL + R(ZERO, ROGUE), "# unknown-sender 1"
     rogues, foreign = rogue + R(ONE, ROGUE), PL + R(ZERO, FOREIGN)
+    second = "# unknown-sender 2"
     return [
-        faulty("NoArrival of both", rogues, foreign, "NoArrival 2 A", "", f"{unknown} / {unknown}"),
+        faulty(
+            "NoArrival of both", rogues, foreign, "NoArrival 2 A", "", f"{unknown} / {second}"
+        ),
         faulty("NoArrival of B", F1, rogue, "NoArrival 1 B", "", unknown),
         faulty("NoArrival of B, A has no number", PL, rogue, "NoArrival 1 B", "", unknown),
         faulty("NoArrival of A, B ends within", foreign, PL + "00", "NoArrival 1 A"),
@@ -91,7 +94,7 @@ def time_rows() -> list[PairRow]:
 
 def origin_rows() -> list[PairRow]:
     """The moment that is time 0."""
-    one, two, early = F1 + R(FIVE, H1), F1 + R(SIX, H1), "# before-origin"
+    one, two, early = F1 + R(FIVE, H1), F1 + R(SIX, H1), "# before-origin 1"
     shown = f"F 7 A 1 {H1} / F 7 B 1 {H1}"
     between = PairOptions(origin=FIRST_NS + 1000)
     before, zero = PairOptions(origin=FIRST_NS - 7), PairOptions(origin=0)
@@ -132,7 +135,7 @@ def place_rows() -> list[PairRow]:
         PairRow(name, F1, G1, options=at_places(*words), listed=lines, skipped=f".. claimed {n}")
         for name, words, lines, n in tries
     ]
-    left, known = "# left-out", f"{ARRIVAL} / F 0 B 1 {ROGUE}"
+    left, known = "# left-out 1", f"{ARRIVAL} / F 0 B 1 {ROGUE}"
     return [
         *rows,
         PairRow("left out of both", F1, G1, "", "NoArrival 1 A", at_places("0=-"), left),
@@ -142,7 +145,7 @@ def place_rows() -> list[PairRow]:
             SL + IL + IL + E(US, H1) + of_interface(1),
             SL + IL + IW + of_interface(1) + E(US, H1),
             options=at_places("1=-", "0=B:2")._replace(reorder=0),
-            listed=f"{left} / {ARRIVAL} / {left} / {at_2}",
+            listed=f"{left} / {ARRIVAL} / # left-out 2 / {at_2}",
             skipped="no-frame 0 left-out 2 .. claimed 1",
         ),
     ]

@@ -11,7 +11,6 @@ from recording_rows import F1, FIRST_NS, G1, H1, H2, ONE, PL, ZERO, R
 AS_READ, ONE_HELD = PairOptions(reorder=0), PairOptions(reorder=1)
 STARTS_OF_BOTH = PairOptions(origin=FIRST_NS, stamps="start")
 A, B = PL + at(5) + at(3, H2), PL + at(4) + at(6, H2)
-UNKNOWN, FOREIGNER = "# unknown-sender", "# not-afdx"
 
 
 def line(text: str) -> str:
@@ -64,7 +63,7 @@ def fault_rows() -> list[PairRow]:
         pair("a fault of both", (A + CUT, cut_b), ["A2 0", "B1 1"], "Cut 2 B"),
         pair("a fault of B's head", (A, PL + CUT), [], "Cut 1 B"),
         pair("B is a list", (A, LIST), [], "NotRecording 0 B"),
-        pair("no arrival of B", (A, PL + at(1, FOREIGN)), [FOREIGNER], "NoArrival 1 B"),
+        pair("no arrival of B", (A, PL + at(1, FOREIGN)), ["# not-afdx 1"], "NoArrival 1 B"),
         pair("a late one of A", (late, PL + at(1)), ["A2 0", "B1 1"], "TimeTooLarge 1 A"),
     ]
 
@@ -74,16 +73,18 @@ def remark_rows() -> list[PairRow]:
     before any of B's."""
     a = PL + at(0) + at(1, FOREIGN) + at(2, H2) + at(3, FOREIGN)
     b = PL + at(0, ROGUE) + at(1) + at(2, ROGUE) + at(3, H2)
-    f, u = FOREIGNER, UNKNOWN
-    as_read = [u, "A1 0", f, "B1 1", u, "A2 2", f, "B2 3"]
-    one_held = [f, u, u, "A1 0", f, "B1 1", "A2 2", "B2 3"]
-    beside_list = PL + at(1, FOREIGN) + at(0) + at(2, FOREIGN)
+    f = ["", *(f"# not-afdx {n}" for n in range(1, 5))]
+    u = ["", *(f"# unknown-sender {n}" for n in range(1, 4))]
+    as_read = [u[1], "A1 0", f[2], "B1 1", u[3], "A2 2", f[4], "B2 3"]
+    one_held = [f[2], u[1], u[3], "A1 0", f[4], "B1 1", "A2 2", "B2 3"]
+    held = [f[2], f[4], u[1], u[3], "A1 0", "B1 1", "A2 2", "B2 3"]
+    beside_list, no_b = PL + at(1, FOREIGN) + at(0) + at(2, FOREIGN), "NotRecording 0 B"
     return [
         pair("remarks, --reorder 0", (a, b), as_read, "", AS_READ),
         pair("remarks, --reorder 1", (a, b), one_held, "", ONE_HELD),
-        pair("remarks", (a, b), [f, f, u, u, "A1 0", "B1 1", "A2 2", "B2 3"]),
-        pair("remarks of A, B is a list", (beside_list, LIST), [f, f], "NotRecording 0 B"),
-        pair("a remark of A, B is a list", (beside_list, LIST), [f], "NotRecording 0 B", AS_READ),
+        pair("remarks", (a, b), held),
+        pair("remarks of A, B is a list", (beside_list, LIST), [f[1], f[3]], no_b),
+        pair("a remark of A, B is a list", (beside_list, LIST), [f[1]], no_b, AS_READ),
     ]
 
 

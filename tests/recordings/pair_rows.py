@@ -117,8 +117,8 @@ def reading_rows() -> list[PairRow]:
             a,
             b,
             options=AS_READ,
-            listed=f"# no-frame / # not-afdx / {ARRIVAL} / # no-frame / F 1000 B 1 {H1}"
-            f" / # not-afdx / F 5000 A 2 {H2}",
+            listed=f"# no-frame 1 / # not-afdx 1 / {ARRIVAL} / # no-frame 3 / F 1000 B 1 {H1}"
+            f" / # not-afdx 3 / F 5000 A 2 {H2}",
             summary="lines 7 accepted 3 ..",
             skipped="no-frame 2 left-out 0 not-afdx 2 unknown-sender 0 no-network 0"
             " before-origin 0 recorder-lost 0 claimed 3",
@@ -129,7 +129,7 @@ def reading_rows() -> list[PairRow]:
             PL + R(ZERO, FOREIGN) + CUT,
             "",
             "Cut 2 B",
-            listed="# no-frame / # not-afdx",
+            listed="# no-frame 1 / # not-afdx 1",
         ),
         PairRow(
             "what is lost, of both",

@@ -98,12 +98,12 @@ def lines_of(frames: list[dict]) -> list[str]:
     """The lines of a list that say what tshark says of frames, where interface K is at A:K+1; first
     letters aside."""
     lines, origin = list[str](), None
-    for layers in frames:
+    for number, layers in enumerate(frames, 1):
         told, content = layers["frame"], layers.get("frame_raw", [""])[0]
         if "frame.encap_type" not in told:
-            lines.append("# no-frame")
+            lines.append(f"# no-frame {number}")
         elif not content.startswith("03000000"):
-            lines.append("# not-afdx")
+            lines.append(f"# not-afdx {number}")
         else:
             moment = nanoseconds(told["frame.time_epoch"])
             origin = moment if origin is None else origin

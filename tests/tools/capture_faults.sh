@@ -172,7 +172,7 @@ ROWS
     to_list --origin 9223372036854775807 "$work/two.pcap"
     tell 'a list whose origin lies far ahead has no arrival' "$(
         is_fault 3 'recording NoArrival 2'
-        printf '# before-origin\n# before-origin\n' >"$work/wanted"
+        printf '# before-origin 1\n# before-origin 2\n' >"$work/wanted"
         same "$work/wanted" "$work/out"
     )"
 }

@@ -142,7 +142,7 @@ numbers_test() {
     cat >"$fake" <<END_OF_FILE
 #!/bin/bash
 case \$1 in
-    list) printf '# not-afdx\nF 0 A 1 $(frame_of A 0)\nF 5000 A 1 $(frame_of A 1)\n' ;;
+    list) printf '# not-afdx 1\nF 0 A 1 $(frame_of A 0)\nF 5000 A 1 $(frame_of A 1)\n' ;;
     replay)
         printf 'V 7 A accept\nV 3 A drop over-rate\nD 7 6720 A 3\nM 6720 s3 1 00\n'
         echo 'early 3 70' >&2

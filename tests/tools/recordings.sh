@@ -77,7 +77,7 @@ capture_tests() {
     tell 'frames that are no AFDX frames are counted' "$(
         is_status 0
         says err 'not-afdx 1'
-        says out '# not-afdx'
+        says out '# not-afdx 1'
         if [[ $(grep -c '^R ' "$work/out") -ne 1 ]]; then cut -c 1-30 "$work/out"; fi
     )"
 

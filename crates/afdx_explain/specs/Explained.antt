@@ -98,7 +98,7 @@ refused line =
 
 unfoldable pub skipped : List ℕ → Option (List ℕ)
 skipped line =
-    row_among (codes "?\n# ?") (map (λ row. (row.1.now, row.2.now)) SKIPPED) line
+    row_among (codes "?\n# ? n") (map (λ row. (row.1.now, row.2.now)) SKIPPED) line
 
 unfoldable pub told : List ℕ → Option (List ℕ)
 told line = text_among (map (λ entry. (entry.0.now, entry.1.now)) LINES) line

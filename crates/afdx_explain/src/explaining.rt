@@ -27,7 +27,7 @@ const RECEIVER_FORMS: &[u8] = b"?\nX n * n ?";
 const REFUSAL_FORMS: &[u8] = b"?\n# n ?";
 
 /// The forms of a line that tells why a number of a recording is skipped.
-const SKIPPED_FORMS: &[u8] = b"?\n# ?";
+const SKIPPED_FORMS: &[u8] = b"?\n# ? n";
 
 /// What a fault of the words means, or of a file that can't be opened.
 #[tactic(auto, unfolding(crate::specs::Explained::fault))]

@@ -15,15 +15,15 @@ lines-start old = Appends-nil old
 
 -- one line more
 pub lines-told : (start old new : Bytes) (past : List (Item NumberLine)) (x : Item NumberLine)
-    → WritesLines start old past → Appends old new (number_text x.head x.bytes) → WritesLines start new (x ∷ past)
+    → WritesLines start old past → Appends old new (number_text x.number x.head x.bytes) → WritesLines start new (x ∷ past)
 unfolding list_text
 lines-told start old new past x told line =
-    Appends-trans start old new (list_text past) (number_text x.head x.bytes) told line
+    Appends-trans start old new (list_text past) (number_text x.number x.head x.bytes) told line
 
 -- or a beginning of it
 pub lines-begun : (start old new : Bytes) (past : List (Item NumberLine)) (x : Item NumberLine)
-    → WritesLines start old past → AppendsFront old new (number_text x.head x.bytes)
+    → WritesLines start old past → AppendsFront old new (number_text x.number x.head x.bytes)
     → WritesSomeLines start new (x ∷ past)
 unfolding list_text
 lines-begun start old new past x told line =
-    front-more start old new (list_text past) (number_text x.head x.bytes) told line
+    front-more start old new (list_text past) (number_text x.number x.head x.bytes) told line

@@ -15,16 +15,16 @@ use Rattle.afdx_recorded.specs.Taking.{Taken, AreCutOff, taken_of_bytes}
 use Rattle.afdx_inputs.specs.TakenRun.{TakenAnswers}
 use Rattle.afdx_recorded.specs.Words.{skipped_word}
 
--- the line of a number, with its recorded bytes
-abbrev pub number_text : NumberLine → List ℕ → List ℕ
-number_text (Arrival kind time side port) bytes =
+-- the line of number n of a recording, with its recorded bytes; one that is skipped is named
+abbrev pub number_text : (n : ℕ) → NumberLine → List ℕ → List ℕ
+number_text n (Arrival kind time side port) bytes =
     frame_line kind side port time bytes
-number_text (Skipped reason) bytes = remark_line (skipped_word reason)
+number_text n (Skipped reason) bytes = remark_line (skipped_word reason) n
 
 -- all lines; the latest stands first in the list of them, and last in the text
 unfoldable pub list_text : List (Item NumberLine) → List ℕ
 list_text [] = []
-list_text (x ∷ past) = list_text past ++ number_text x.head x.bytes
+list_text (x ∷ past) = list_text past ++ number_text x.number x.head x.bytes
 
 -- the output, which held `old`, now holds these lines after it
 abbrev pub WritesLines : Bytes → Bytes → List (Item NumberLine) → Type 0

@@ -21,10 +21,11 @@ use afdx_text::{OutLine, Sink, Text};
 use std::alloc::Global;
 use std::io::Read;
 
-/// Puts the line of a number.
+/// Puts the line of number n.
 fn put_number<O: Sink>(
     output: &mut O,
     scratch: &mut Text,
+    n: u64,
     line: &NumberLine,
     bytes: &[u8],
 ) -> Result<(), RunFault>
@@ -32,9 +33,9 @@ fn put_number<O: Sink>(
     ensures failed { O.failed output.new ≡ is_failed_write result }
     ensures fault { IfErr result IsOfOutput }
     ensures whole { OnOk result (Appends (O.written output.old) (O.written output.new)
-        (text.number_text line.now bytes.now)) }
+        (text.number_text n line.now bytes.now)) }
     ensures front { OnErr result (AppendsFront (O.written output.old) (O.written output.new)
-        (text.number_text line.now bytes.now)) }
+        (text.number_text n line.now bytes.now)) }
 {
     match line {
         NumberLine::Arrival {
@@ -55,6 +56,7 @@ fn put_number<O: Sink>(
         NumberLine::Skipped(reason) => {
             let line = OutLine::Remark {
                 word: reason.word(),
+                n,
             };
             output.put(&line, scratch)
         }
@@ -94,7 +96,7 @@ impl Machine<NumberLine> for Lister {
         bytes: &[u8],
         output: &mut O,
     ) -> Result<(), RunFault> {
-        put_number(output, &mut self.scratch, head, bytes)?;
+        put_number(output, &mut self.scratch, n, head, bytes)?;
         Ok(())
     }
 
@@ -104,8 +106,8 @@ impl Machine<NumberLine> for Lister {
 }
 
 /// Writes a recording as the frame list that says the same: a line for each number, that of its
-/// arrival where it is taken, or a remark, `#` with the word of the reason, where it is skipped as
-/// soon as it is read. Counts what is no arrival.
+/// arrival where it is taken, or a remark, `#` with the word of the reason and the number, where it
+/// is skipped as soon as it is read. Counts what is no arrival.
 ///
 /// Each line is handed to `output` before the next frame is read. The first fault ends it; the
 /// lines of the numbers before it stand written, but for arrivals that are held where a device or
@@ -139,7 +141,8 @@ pub fn list_recording<R: Read, O: Sink>(
 
 /// Writes two recordings that are read at once, of network A and of network B, as the frame list
 /// that says the same, and counts what is no arrival of both. The lines stand in the order in which
-/// `run_pair` takes the arrivals; a number that is skipped stands where it is read.
+/// `run_pair` takes the arrivals; a number that is skipped stands where it is read, with its number
+/// in its own recording.
 ///
 /// Each line is handed to `output` before the next frame is read. The first fault of either, as it
 /// is found, ends it; the lines before it stand written. `RunFault::Read` and `RunFault::Write`

@@ -46,6 +46,7 @@ fn lines_are_explained() -> Result<(), Fail> {
         ),
         ("TooManyLines", "It is line 1,000,001"),
         ("recording TimeBack", "More arrivals"),
+        ("# not-afdx 2", "not-afdx:"),
     ];
     all_right(otherwise_explained(&rows))
 }

@@ -336,7 +336,10 @@ fn what_is_sent_and_what_is_checked(rt: HostRuntime) -> Result<(), Fail> {
         port: 24,
         bytes: &[3, 255],
     };
-    let remark = OutLine::Remark { word: "not-afdx" };
+    let remark = OutLine::Remark {
+        word: "not-afdx",
+        n: u64::MAX,
+    };
     let refused = OutLine::Refused {
         n: 3,
         word: "too-large",
@@ -370,7 +373,7 @@ fn what_is_sent_and_what_is_checked(rt: HostRuntime) -> Result<(), Fail> {
         (no_bound, "m 3 2 - 18446744073709551615\n"),
         (sent, "R 5 B 1 \n"),
         (bad, "B 1000000000000000 A 24 03ff\n"),
-        (remark, "# not-afdx\n"),
+        (remark, "# not-afdx 18446744073709551615\n"),
         (refused, "# 3 too-large\n"),
         (bounds, "P 24 0 18446744073709551615 1518\n"),
         (no_low, "P 1 13440 - 64\n"),

@@ -89,9 +89,9 @@ fn end_listing<E: Write>(answer: Result<Tally, RunFault>, errors: &mut Watched<E
 }
 
 /// Writes a recording as the frame list that says the same, a line for each number: that of its
-/// arrival, or a remark with the word of the reason where it is skipped. A frame of which over
-/// 2,000 bytes were recorded stands as its first 2,000. The lines go to `output`, a fault's one
-/// line to `errors`. It also gives what it counted.
+/// arrival, or a remark with the word of the reason, and the number, where it is skipped. A frame
+/// of which over 2,000 bytes were recorded stands as its first 2,000. The lines go to `output`, a
+/// fault's one line to `errors`. It also gives what it counted.
 ///
 /// Where no option says at which port a frame came in, it is that of the system of the tables that
 /// the frame's source address names. The tables need not be admitted. The exit status is 0 done, 1

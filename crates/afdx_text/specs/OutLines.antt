@@ -72,9 +72,9 @@ frame_line kind side port time bytes =
 abbrev pub sent_line : Side → ℕ → ℕ → List ℕ → List ℕ
 sent_line side port time bytes = frame_line Raw side port time bytes
 
--- a remark in a list
-abbrev pub remark_line : List ℕ → List ℕ
-remark_line word = codes "# " ++ word ++ codes "\n"
+-- the number n of a recording is skipped: a remark in a list
+abbrev pub remark_line : List ℕ → ℕ → List ℕ
+remark_line word n = codes "# " ++ word ++ codes " " ++ decimal n ++ codes "\n"
 
 -- the line of a message, on line n, that isn't taken
 abbrev pub refused_line : ℕ → List ℕ → List ℕ
@@ -111,7 +111,7 @@ line_text (Left n time side port is_too_old) = departure_line is_too_old n time 
 line_text (Message time system vl bytes) = message_line time system.now vl.0 bytes.now
 line_text (Unread time system n why) = drop_line time system.now n (drop_word why)
 line_text (Listed kind time side port bytes) = frame_line kind side port time bytes.now
-line_text (Remark word) = remark_line word.now
+line_text (Remark word n) = remark_line word.now n
 line_text (Refused n word) = refused_line n word.now
 line_text (Bounds port high low buffer) = bounds_line port high low buffer
 line_text (Margin port vl bound latency) = margin_line port vl.0 bound latency
@@ -126,7 +126,7 @@ longest (Left n time side port is_too_old) = 128
 longest (Message time system vl bytes) = 128 + length system.now + 2 * length bytes.now
 longest (Unread time system n why) = 128 + length system.now
 longest (Listed kind time side port bytes) = 128 + 2 * length bytes.now
-longest (Remark word) = 128 + length word.now
+longest (Remark word n) = 128 + length word.now
 longest (Refused n word) = 128 + length word.now
 longest (Bounds port high low buffer) = 128
 longest (Margin port vl bound latency) = 128

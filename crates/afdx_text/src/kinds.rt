@@ -296,15 +296,17 @@ impl Kept {
     }
 }
 
-/// `# WORD`.
+/// `# WORD n`.
 #[inline(never)]
-pub(crate) fn put_remark(room: &mut [u8], at: usize, word: &str) -> usize
+pub(crate) fn put_remark(room: &mut [u8], at: usize, word: &str, n: u64) -> usize
     requires { at + 128 + length word.now ≤ length room.old }
     ensures within { result ≤ at + 128 + length word.now }
-    ensures text { take result room.new ≡ take at room.old ++ remark_line word.now }
+    ensures text { take result room.new ≡ take at room.old ++ remark_line word.now n }
 {
     let at = put(room, at, b"# ");
     let at = put_piece(room, at, word.as_bytes());
+    let at = put(room, at, b" ");
+    let at = put_number(room, at, n);
     put(room, at, b"\n")
 }
 

@@ -57,9 +57,10 @@ pub enum OutLine<'a> {
         port: u8,
         bytes: &'a [u8],
     },
-    /// A remark in a list: `# WORD`.
+    /// A number of a recording that is skipped, a remark in a list: `# WORD n`.
     Remark {
         word: &'a str,
+        n: u64,
     },
     /// The message of line `n` wasn't taken: `# n WORD`.
     Refused {
@@ -111,7 +112,7 @@ impl OutLine<'_> {
             }
             OutLine::Unread { system, .. } => MOST_FIXED.checked_add(system.len()),
             OutLine::Listed { bytes, .. } => MOST_FIXED.checked_add(2 * bytes.len()),
-            OutLine::Remark { word } => MOST_FIXED.checked_add(word.len()),
+            OutLine::Remark { word, .. } => MOST_FIXED.checked_add(word.len()),
             OutLine::Refused { word, .. } => MOST_FIXED.checked_add(word.len()),
             OutLine::Denied { line } => MOST_FIXED.checked_add(line.len()),
             _ => Some(MOST_FIXED),
@@ -166,7 +167,7 @@ impl OutLine<'_> {
                 port,
                 bytes,
             } => kept.put_listed(room, at, *kind, *time, *side, *port, bytes),
-            OutLine::Remark { word } => put_remark(room, at, word),
+            OutLine::Remark { word, n } => put_remark(room, at, word, *n),
             OutLine::Refused { n, word } => put_refusal(room, at, *n, word),
             OutLine::Bounds {
                 port,

@@ -18,7 +18,7 @@ Line n of the list is what has number n in the recording, as Wireshark counts, w
   R time side port HEX    a frame that ends with its check sequence
   F time side port HEX    one that has none: 'replay' adds the right one
   B time side port HEX    one whose recorder found a wrong one: 'replay' adds a wrong one
-  # WORD                  it is no arrival; 'afdx explain --list' has each WORD
+  # WORD n                number n is no arrival; 'afdx explain --list' has each WORD
 
 Times are in ns from the first arrival, or from --origin. A frame's port is that of the
 system of CONFIG that its source address names, and its side the network that it names,
@@ -29,8 +29,8 @@ arrivals, in the line 'skipped ..'.
 
 With a second LIST the first is the recording of network A, the second that of network
 B, and both are read at once: arrivals come as 'replay' takes them, remarks where their
-frames are read, and line n is no number. --interface K=A.. is about interface K of the
-first, K=B.. of the second, K=- of both.
+frames are read, each with the number in its own recording, and line n is no number.
+--interface K=A.. is about interface K of the first, K=B.. of the second, K=- of both.
 
 A closed pipe, as with '| head', is the fault 'device Write', status 4.
 

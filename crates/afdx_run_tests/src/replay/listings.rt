@@ -48,7 +48,7 @@ fn listed(alloc: Global, bytes: &[u8]) -> Result<(u8, ShortText, ShortText), Fai
 fn each_number_has_its_line(rt: HostRuntime) -> Result<(), Fail> {
     let whole = recording(rt.alloc())?;
     let (status, text, line) = listed(rt.alloc(), whole.as_slice())?;
-    let wanted = spelled(rt.alloc(), "F 0 A 1 H1\n# not-afdx\nF 3000 A 1 H1\n")?;
+    let wanted = spelled(rt.alloc(), "F 0 A 1 H1\n# not-afdx 2\nF 3000 A 1 H1\n")?;
     equal(
         (status, text.as_str(), line.as_str()),
         (0, wanted.as_str(), ""),

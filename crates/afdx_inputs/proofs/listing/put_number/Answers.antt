@@ -6,7 +6,7 @@ use Rattle.afdx_inputs.proofs.listing.put_number.Goals as goal
 
 pub returns-in-Arrival-clause-front : goal.returns-in-Arrival-clause-front
 returns-in-Arrival-clause-front g c =
-    let e : number_text c.args.line.now c.args.bytes.now
+    let e : number_text c.args.n c.args.line.now c.args.bytes.now
     ≡ frame_line c.in-Arrival.kind c.in-Arrival.side c.in-Arrival.port c.in-Arrival.time c.args.bytes.now =
     rw c.in-Arrival.is refl in
     subst (λ (x : List ℕ). OnErr c.put.result (AppendsFront (g.O.Sink.written c.args.output.now)
