@@ -10,6 +10,9 @@ HEADS = frozenset(
     bytes.fromhex(head) for head in ("d4c3b2a1", "a1b2c3d4", "4d3cb2a1", "a1b23c4d", "0a0d0d0a")
 )
 
+# packed files, by gzip, bzip2, zstd, xz and zip: a fault of a recording
+PACKED = tuple(bytes.fromhex(head) for head in ("1f8b", "425a68", "28b52ffd", "fd377a58", "504b0304"))
+
 
 def add_recording_words(parser: argparse.ArgumentParser) -> None:
     """The options of recordings, which are handed on to the program."""
@@ -51,9 +54,10 @@ def handed_on(args: argparse.Namespace) -> list[str]:
 
 
 def is_recording(path: str) -> bool:
-    """The program takes the file for a recording, by its first four bytes."""
+    """The program takes the file for a recording, by its first four bytes, or for a packed one."""
     with open(path, "rb") as file:
-        return file.read(4) in HEADS
+        head = file.read(4)
+    return head in HEADS or (len(head) == 4 and head.startswith(PACKED))
 
 
 def files_of(word: str) -> tuple[str, ...]:

@@ -10,7 +10,7 @@ import sys
 
 sys.dont_write_bytecode = True
 sys.path.insert(0, os.path.dirname(os.path.abspath(__file__)))
-from recorded import PCAPS, is_recording  # noqa: E402
+from recorded import PCAPS, is_packed, is_recording  # noqa: E402
 
 # the two forms, the command that makes a list of one, two recordings at once, and the options
 # `--reorder` and `--stamps`
@@ -35,8 +35,9 @@ def is_pcap(data: bytes) -> bool:
 
 
 def is_read(data: bytes) -> bool:
-    """The program takes it for a recording."""
-    return is_recording(data) and ("pcap" if is_pcap(data) else "pcapng") in READS
+    """The program takes it for a recording, or for a packed one."""
+    kind = "pcap" if is_packed(data) or is_pcap(data) else "pcapng"
+    return (is_packed(data) or is_recording(data)) and kind in READS
 
 
 if __name__ == "__main__":

@@ -16,6 +16,8 @@ PCAPS = {
     "4d3cb2a1": ("little", 1),
     "a1b23c4d": ("big", 1),
 }
+# first bytes of packed files: gzip, bzip2, zstd, xz, zip
+PACKED = tuple(bytes.fromhex(each) for each in ("1f8b", "425a68", "28b52ffd", "fd377a58", "504b0304"))
 SECTION, INTERFACE, OLD_PACKET, SIMPLE_PACKET, STATISTICS, PACKET = 0x0A0D0D0A, 1, 2, 3, 5, 6
 NO_FRAMES = (0x0BAD, 0x4000_0BAD, 9)  # custom blocks and journals: numbered, but no frames
 LEAST = {SECTION: 28, INTERFACE: 20, OLD_PACKET: 32, SIMPLE_PACKET: 16, STATISTICS: 24, PACKET: 32}
@@ -222,6 +224,11 @@ def numbered(data: bytes, sections: list[Section]) -> Iterator[Frame | None]:
 def is_recording(data: bytes) -> bool:
     """Its first four bytes are those of a recording."""
     return data[:4].hex() in PCAPS or data[:4] == SECTION.to_bytes(4, "big")
+
+
+def is_packed(data: bytes) -> bool:
+    """Its first four bytes are those of a packed file."""
+    return len(data) >= 4 and data.startswith(PACKED)
 
 
 def recorded(data: bytes) -> Recording:

@@ -8,7 +8,7 @@ from collections.abc import Iterator
 from typing import NamedTuple
 
 from reads import HELD, ORDERS
-from recorded import Frame, is_recording, recorded
+from recorded import Frame, is_packed, is_recording, recorded
 
 MAGIC = 4  # bytes that say whether it is a recording
 SEALED = 0x2144DF1C  # the check sequence of bytes that end with that of the others
@@ -195,6 +195,8 @@ def standing_in(
     asks for more."""
     if is_open and len(data) < MAGIC:
         return Standing([], [], BROKEN, 0)
+    if is_packed(data):
+        return Standing([], [], "Packed", 0)
     if not is_recording(data):
         return Standing([], [], "NotRecording 0", 0)
     arrivals, skipped, moments = list[Arrival](), list[Skipped](), list[int]()

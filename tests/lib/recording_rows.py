@@ -210,6 +210,25 @@ def empty_rows() -> list[Row]:
     ]
 
 
+def packed_rows() -> list[Row]:
+    """Packed files, by their first bytes; gzip and bzip2 have two and three of four."""
+    heads = {
+        "gzip": "1f8b0800",
+        "bzip2": "425a6839",
+        "zstd": "28b52ffd",
+        "xz": "fd377a58",
+        "zip": "504b0304",
+        "gzip, whatever follows": "1f8bffff",
+        "bzip2, whatever follows": "425a6800",
+    }
+    more, of_police = "00" * 20, Options(port=1)
+    return [
+        *(Row(f"packed by {name}", head + more, "", "Packed") for name, head in heads.items()),
+        Row("four packed bytes", "1f8b0800", "", "Packed", Options(fcs=True)),
+        Row("police: packed", "1f8b0800" + more, "", "Packed", of_police, rule="1 64 500"),
+    ]
+
+
 def police_rows() -> list[Row]:
     """Of `police`."""
     found_wrong = f"06000000 68000000 {ZERO} fe9c9717 {NS} {LENGTHS} {H1}"
@@ -238,7 +257,7 @@ def police_rows() -> list[Row]:
 def rows() -> list[Row]:
     """All."""
     groups = form_rows() + check_sequence_rows() + interface_rows()
-    return groups + fault_rows() + empty_rows() + police_rows()
+    return groups + fault_rows() + empty_rows() + packed_rows() + police_rows()
 
 
 # F1 with words that are wrong, and the line that says so

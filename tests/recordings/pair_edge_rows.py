@@ -8,7 +8,7 @@ from recorded_pair import PairOptions
 from recording_rows import ACCEPT, F1, FIRST_NS, G1, H1, H2, IL, IW, OK, ONE, PL, SL, US, ZERO
 from recording_rows import E, R, from_sender
 
-LIST = b"F 0 A 1 -\n".hex()
+LIST, PACKED = b"F 0 A 1 -\n".hex(), "1f8b0800" + "00" * 20
 ROGUE = from_sender("020000000920")  # of no system
 LATE = "40336365"  # the seconds of a frame, 1,000,000 s later
 TWO = f"{ACCEPT} / V 1 B accept"
@@ -31,6 +31,9 @@ def no_recording_rows() -> list[PairRow]:
         faulty("B has no byte", F1, "", "NotRecording 0 B", lines=""),
         faulty("A has three bytes", "d4c3b2", F1, "NotRecording 0 A", lines=""),
         faulty("neither has a byte", "", "", "NotRecording 0 A", lines=""),
+        faulty("A is packed", PACKED, F1, "Packed A", lines=""),
+        faulty("B is packed", F1, PACKED, "Packed B", lines=""),
+        faulty("both are packed", PACKED, PACKED, "Packed A", lines=""),
     ]
 
 

@@ -192,7 +192,7 @@ def word_order(program: Program) -> None:
 def no_recordings(program: Program) -> None:
     """What is no recording: a fault for `list` and with an option, else a list."""
     pieces = [b"", b"\xd4\xc3\xb2", b"\n\r\r", b"\x0a\x0d\x0d\x0b" + b"\0" * 24, LIST]
-    pieces += [bytes.fromhex(f"34cdb2a1{PL[8:]}"), b"\x1f\x8b\x08\0" + b"\0" * 20]
+    pieces += [bytes.fromhex(f"34cdb2a1{PL[8:]}"), b"\x1f\x8b\x08", b"BZ09", b"PK\5\6"]
     pieces += [] if "pcapng" in READS else [SPELLED["pcapng"]]
     fault = 3, b"", b"recording NotRecording 0\n"
     for data in pieces:

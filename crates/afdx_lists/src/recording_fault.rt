@@ -45,17 +45,20 @@ pub enum RecordingFault {
     /// The arrival of this number has a time over 10^15 ns.
     #[error("recording TimeTooLarge {0}")]
     TimeTooLarge(u64),
+    /// It begins as a packed file does.
+    #[error("recording Packed")]
+    Packed,
 }
 
 /// Each fault of a recording, in the order of `RecordingFault`: the form of its line (`n` is the
 /// number of a frame, or a count of numbers), and what it means, with what may be done.
-pub const RECORDING_FAULTS: [(&str, &str); 12] = [
+pub const RECORDING_FAULTS: [(&str, &str); 13] = [
     (
         "recording NotRecording n",
         "\
 The input isn't a recording: its first four bytes are those of no pcap and no pcapng. The
-option that was given, or the command, needs one; two LISTs both have to be recordings. Unpack
-a compressed recording (gunzip); make one of another format by: editcap -F pcapng IN OUT.",
+option that was given, or the command, needs one; two LISTs both have to be recordings. Make
+one of another format by: editcap -F pcapng IN OUT.",
     ),
     (
         "recording BadVersion n",
@@ -128,5 +131,13 @@ later. reordercap IN OUT puts a file in order. A clock that was set back also lo
 The frame came too late: its moment is more than 10^15 ns behind the origin, about eleven days
 and a half. The origin is the moment of the first arrival, or that of --origin.
 Cut the recording in pieces by: editcap -A START -B STOP IN OUT.",
+    ),
+    (
+        "recording Packed",
+        "\
+The input isn't read: its first four bytes are those of a packed file: gzip, zstd, bzip2, xz or
+zip. Unpack it on the way, with - in the place of FILE: zcat FILE | afdx .. -
+So do zstdcat, bzcat and xzcat, and unzip -p for zip. Of two LISTs, A or B behind the word says
+which, and one alone may be -.",
     ),
 ];

@@ -34,6 +34,14 @@ const LATE: [u8; 16] = [
 const BIG: [u8; 16] = [
     0x65, 0x53, 0xf1, 0, 0, 7, 0xa1, 0x20, 0, 0, 0, 60, 0, 0, 0, 64,
 ];
+/// The first bytes of packed files: gzip, bzip2, zstd, xz and zip.
+const PACKED: [&[u8]; 5] = [
+    &[0x1f, 0x8b, 8, 0],
+    b"BZh9",
+    &[0x28, 0xb5, 0x2f, 0xfd],
+    &[0xfd, 0x37, 0x7a, 0x58],
+    b"PK\x03\x04",
+];
 /// 1,700,000,000 s in ns.
 const SECONDS: u64 = 1_700_000_000_000_000_000;
 
@@ -169,6 +177,10 @@ fn a_pcap_that_is_wrong_is_so_behind_its_frames(rt: HostRuntime) -> Result<(), F
             (faulted(RecordingFault::NotRecording(0)), 0),
         )?;
         equal(
+            said(alloc, &[PACKED[0]], most, &[])?,
+            (faulted(RecordingFault::Packed), 0),
+        )?;
+        equal(
             said(alloc, &[], most, &[])?,
             (faulted(RecordingFault::NotRecording(0)), 0),
         )?;
@@ -178,9 +190,16 @@ fn a_pcap_that_is_wrong_is_so_behind_its_frames(rt: HostRuntime) -> Result<(), F
 
 /// Bytes, and whether a recording begins so.
 fn wrong_beginning() -> Option<usize> {
-    let beginnings: [(&[u8], bool); 5] = [
+    let beginnings: [(&[u8], bool); 12] = [
         (LOW.as_slice(), true),
         (&HIGH[..4], true),
+        (PACKED[0], true),
+        (PACKED[1], true),
+        (PACKED[2], true),
+        (PACKED[3], true),
+        (PACKED[4], true),
+        (&[0x1f, 0x8b, 8], false),
+        (b"BZ09", false),
         (&LOW[..3], false),
         (b"F 0 A 1 -", false),
         (b"", false),

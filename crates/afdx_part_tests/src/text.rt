@@ -132,11 +132,6 @@ const FAULTS: [(RunFault, &str, u8); 25] = [
     (RunFault::BadHex(1), "list BadHex 1\n", 3),
     (RunFault::TimeBack(2), "list TimeBack 2\n", 3),
     (RunFault::TimeTooLarge(3), "list TimeTooLarge 3\n", 3),
-    (
-        RunFault::TimeTooLarge(u64::MAX),
-        "list TimeTooLarge 18446744073709551615\n",
-        3,
-    ),
     (RunFault::BadPort(1_000_000), "list BadPort 1000000\n", 3),
     (RunFault::LineTooLong(4), "list LineTooLong 4\n", 3),
     (RunFault::TooManyLines, "list TooManyLines\n", 3),
@@ -201,13 +196,18 @@ const FAULTS: [(RunFault, &str, u8); 25] = [
         3,
     ),
     (
-        RunFault::RecordingOfA(RecordingFault::Cut(8)),
-        "recording Cut 8 A\n",
+        RunFault::Recording(RecordingFault::Packed),
+        "recording Packed\n",
         3,
     ),
     (
         RunFault::RecordingOfB(RecordingFault::NotRecording(0)),
         "recording NotRecording 0 B\n",
+        3,
+    ),
+    (
+        RunFault::RecordingOfA(RecordingFault::Packed),
+        "recording Packed A\n",
         3,
     ),
     (RunFault::Read, "device Read\n", 4),

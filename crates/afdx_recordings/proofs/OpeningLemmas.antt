@@ -6,7 +6,7 @@ use Rattle.std.proofs.lemmas.Grind.{common_steps}
 use Rattle.afdx_lists.specs.declared.fault.RunFault.{RunFault}
 use Rattle.afdx_lists.specs.declared.fault.RunFault.TheVariants as run
 use Rattle.afdx_lists.specs.declared.recording_fault.RecordingFault.{RecordingFault}
-use Rattle.afdx_lists.specs.declared.recording_fault.RecordingFault.TheVariants.{NotRecording, BadVersion, Ended}
+use Rattle.afdx_lists.specs.declared.recording_fault.RecordingFault.TheVariants.{NotRecording, BadVersion, Ended, Packed}
 use Rattle.afdx_recordings.specs.declared.form.Form.{Form}
 use Rattle.afdx_recordings.specs.declared.form.Form.TheVariants as form
 use Rattle.afdx_recordings.specs.declared.form.Magic.TheVariants as magic
@@ -42,6 +42,15 @@ opening-unknown xs more within unknown = rw (
   not_less (length (xs ++ more)) 4 (longer 4 xs more within),
   number_in-append HighFirst 4 xs more within,
   unknown,
+) refl
+
+opening-packed : (xs more : List ℕ) → 4 ≤ length xs
+    → magic_of (number_in HighFirst 4 xs) ≡ Some magic.Packed → opening (xs ++ more) ≡ Refused Packed
+unfolding opening
+opening-packed xs more within known = rw (
+  not_less (length (xs ++ more)) 4 (longer 4 xs more within),
+  number_in-append HighFirst 4 xs more within,
+  known,
 ) refl
 
 opening-cut : (xs : List ℕ) (order : Order) (nanoseconds : Bool) → 4 ≤ length xs
@@ -138,6 +147,13 @@ pub SaysEnding-unknown : (old new : Standing) (before : State) → before.form �
 SaysEnding-unknown old new before h passes within unknown =
     SaysEnding-refused old new before (NotRecording 0) h passes
     (λ more _. opening-unknown new.held more within unknown)
+
+pub SaysEnding-packed : (old new : Standing) (before : State) → before.form ≡ None → Passes old new []
+    → 4 ≤ length new.held → magic_of (number_in HighFirst 4 new.held) ≡ Some magic.Packed
+    → SaysEnding old new before (Faulted Packed) (lost_by before)
+SaysEnding-packed old new before h passes within known =
+    SaysEnding-refused old new before Packed h passes
+    (λ more _. opening-packed new.held more within known)
 
 -- the magic is the same when more is held
 pub magic_of-later : (old new : Standing) → Passes old new [] → 4 ≤ length old.held

@@ -4,6 +4,6 @@ use Rattle.afdx_recordings.specs.declared.order.Order.TheVariants.{HighFirst}
 use Rattle.afdx_recordings.specs.Orders.{number_in}
 use Rattle.afdx_recordings.specs.Reading.{magic_of}
 
--- the first four bytes name a form of a recording
+-- the first four bytes name a form of a recording, or a packed file
 unfoldable pub is_recording : List ℕ → Bool
 is_recording bytes = nat_le 4 (length bytes) && is_some (magic_of (number_in HighFirst 4 bytes))

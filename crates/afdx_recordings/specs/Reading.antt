@@ -1,9 +1,9 @@
 -- All that a recording says, from its bytes.
-use Rattle.std.specs.Prelude.{ℕ, zero, suc, Bool, true, false, ◌≡◌, ◌+◌, ◌==◌, ◌++◌, List, [], length, drop, nat_lt, Option, Some, None, Result, Ok, Err, if◌then◌else◌}
+use Rattle.std.specs.Prelude.{ℕ, zero, suc, Bool, true, false, ◌≡◌, ◌+◌, ◌/◌, ◌==◌, ◌||◌, ◌++◌, List, [], length, drop, nat_lt, Option, Some, None, Result, Ok, Err, if◌then◌else◌}
 use Rattle.afdx_lists.specs.declared.fault.RunFault.{RunFault}
 use Rattle.afdx_lists.specs.declared.fault.RunFault.TheVariants as run
 use Rattle.afdx_lists.specs.declared.recording_fault.RecordingFault.{RecordingFault}
-use Rattle.afdx_lists.specs.declared.recording_fault.RecordingFault.TheVariants.{NotRecording, BadVersion, Ended}
+use Rattle.afdx_lists.specs.declared.recording_fault.RecordingFault.TheVariants.{NotRecording, BadVersion, Ended, Packed}
 use Rattle.afdx_recordings.specs.declared.order.Order.{Order}
 use Rattle.afdx_recordings.specs.declared.order.Order.TheVariants.{LowFirst, HighFirst}
 use Rattle.afdx_recordings.specs.declared.form.Form.{Form}
@@ -19,6 +19,12 @@ use Rattle.afdx_recordings.specs.Recordings.{state_of_known}
 use Rattle.afdx_recordings.specs.Pcapng.{block_head, block_rest, block_meaning}
 use Rattle.afdx_recordings.specs.Pcap.{packet_head, pcap_head, captured_by, packet_meaning, pcap_form, is_pcap_version}
 
+-- the first four bytes are those of a packed file: gzip, bzip2, zstd, xz or zip
+unfoldable pub is_packed : ℕ → Bool
+is_packed number =
+    number / 0x10000 == 0x1f8b || number / 0x100 == 0x425a68 || number == 0x28b52ffd
+    || number == 0xfd377a58 || number == 0x504b0304
+
 -- what the first four bytes name, the highest first
 unfoldable pub magic_of : ℕ → Option Magic
 magic_of number =
@@ -27,6 +33,7 @@ magic_of number =
     else if number == 0xa1b23c4d then Some (magic.Pcap HighFirst true)
     else if number == 0x4d3cb2a1 then Some (magic.Pcap LowFirst true)
     else if number == 0x0a0d0d0a then Some magic.Pcapng
+    else if is_packed number then Some magic.Packed
     else None
 
 -- how a recording begins: with a fault, or with so many bytes before its first block
@@ -43,6 +50,7 @@ opening_by (Some (magic.Pcap order nanoseconds)) bytes =
     else Refused (BadVersion 0)
 -- a pcapng begins with a block
 opening_by (Some magic.Pcapng) bytes = Opens form.Pcapng LowFirst 0
+opening_by (Some magic.Packed) bytes = Refused Packed
 
 unfoldable pub opening : List ℕ → Opening
 opening bytes =

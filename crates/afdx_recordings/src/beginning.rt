@@ -9,7 +9,8 @@ use crate::order::Order;
 /// The bytes that tell what a recording is.
 const MAGIC: usize = 4;
 
-/// Whether bytes begin as a recording does: the first four name a form of one.
+/// Whether bytes are read as a recording: the first four name a form of one, or are those of a
+/// packed file, which is a fault of a recording.
 #[tactic(auto, unfolding(crate::specs::Beginning::is_recording))]
 pub fn is_recording(bytes: &[u8]) -> bool
     ensures { result ≡ spec.is_recording bytes.now }

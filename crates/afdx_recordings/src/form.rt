@@ -2,7 +2,7 @@
 
 ghost use Rattle.std.specs.Prelude.{◌≡◌, ◌≤◌, length};
 ghost use Rattle.afdx_recordings.specs.Pcap.{check_sequence_of, is_pcap_version, pcap_check, pcap_form};
-ghost use Rattle.afdx_recordings.specs.Reading.{magic_of};
+ghost use Rattle.afdx_recordings.specs.Reading.{is_packed, magic_of};
 
 use crate::order::Order;
 use crate::recorded::CheckSequence;
@@ -34,6 +34,21 @@ pub enum Magic {
     Pcap(Order, bool),
     /// A pcapng.
     Pcapng,
+    /// A packed file.
+    Packed,
+}
+
+/// Whether this number, the first four bytes, the highest first, is that of a packed file: gzip,
+/// bzip2, zstd, xz or zip.
+#[tactic(auto, unfolding(crate::specs::Reading::is_packed))]
+fn is_packed(number: u32) -> bool
+    ensures { result ≡ is_packed number }
+{
+    number / 0x1_0000 == 0x1f8b
+        || number / 0x100 == 0x0042_5a68
+        || number == 0x28b5_2ffd
+        || number == 0xfd37_7a58
+        || number == 0x504b_0304
 }
 
 /// What this number names: the first four bytes, the highest first.
@@ -47,6 +62,7 @@ pub fn magic_named(number: u32) -> Option<Magic>
         0xa1b2_3c4d => Some(Magic::Pcap(Order::HighFirst, true)),
         0x4d3c_b2a1 => Some(Magic::Pcap(Order::LowFirst, true)),
         0x0a0d_0d0a => Some(Magic::Pcapng),
+        _ if is_packed(number) => Some(Magic::Packed),
         _ => None,
     }
 }

@@ -161,6 +161,7 @@ impl FrameReader {
                 self.known.form = Some(Form::Pcapng);
                 Ok(Form::Pcapng)
             }
+            Some(Magic::Packed) => Err(RunFault::Recording(RecordingFault::Packed)),
             None => Err(RunFault::Recording(RecordingFault::NotRecording(0))),
         }
     }

@@ -146,21 +146,22 @@ fn sent(alloc: Global, config: &[u8], system: &str) -> u8 {
     status
 }
 
-/// The number in the fault of a recording.
-fn number_in(fault: RecordingFault) -> u64 {
+/// The number in the fault of a recording, if it has one.
+fn number_in(fault: RecordingFault) -> Option<u64> {
     match fault {
-        RecordingFault::NotRecording(n) => n,
-        RecordingFault::BadVersion(n) => n,
-        RecordingFault::Damaged(n) => n,
-        RecordingFault::Ended(n) => n,
-        RecordingFault::NoArrival(n) => n,
-        RecordingFault::NotEthernet(n) => n,
-        RecordingFault::NoTime(n) => n,
-        RecordingFault::BadTime(n) => n,
-        RecordingFault::Cut(n) => n,
-        RecordingFault::FcsUnclear(n) => n,
-        RecordingFault::TimeBack(n) => n,
-        RecordingFault::TimeTooLarge(n) => n,
+        RecordingFault::NotRecording(n) => Some(n),
+        RecordingFault::BadVersion(n) => Some(n),
+        RecordingFault::Damaged(n) => Some(n),
+        RecordingFault::Ended(n) => Some(n),
+        RecordingFault::NoArrival(n) => Some(n),
+        RecordingFault::NotEthernet(n) => Some(n),
+        RecordingFault::NoTime(n) => Some(n),
+        RecordingFault::BadTime(n) => Some(n),
+        RecordingFault::Cut(n) => Some(n),
+        RecordingFault::FcsUnclear(n) => Some(n),
+        RecordingFault::TimeBack(n) => Some(n),
+        RecordingFault::TimeTooLarge(n) => Some(n),
+        RecordingFault::Packed => None,
     }
 }
 
@@ -173,9 +174,9 @@ fn number_of(fault: &RunFault) -> Option<u64> {
         RunFault::TimeTooLarge(n) => Some(*n),
         RunFault::BadPort(n) => Some(*n),
         RunFault::LineTooLong(n) => Some(*n),
-        RunFault::Recording(fault) => Some(number_in(*fault)),
-        RunFault::RecordingOfA(fault) => Some(number_in(*fault)),
-        RunFault::RecordingOfB(fault) => Some(number_in(*fault)),
+        RunFault::Recording(fault) => number_in(*fault),
+        RunFault::RecordingOfA(fault) => number_in(*fault),
+        RunFault::RecordingOfB(fault) => number_in(*fault),
         RunFault::TooManyLines | RunFault::Read | RunFault::Write | RunFault::Memory => None,
     }
 }

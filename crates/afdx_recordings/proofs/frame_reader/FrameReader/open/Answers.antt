@@ -7,7 +7,7 @@ use Rattle.afdx_recordings.specs.Holding.{unread}
 use Rattle.afdx_recordings.specs.Recordings.{lost_by}
 use Rattle.afdx_recordings.specs.Reading.{state_of, magic_of}
 use Rattle.afdx_recordings.proofs.HeldLemmas.{Passes-gives}
-use Rattle.afdx_recordings.proofs.OpeningLemmas.{SaysNothing-too_short, SaysEnding-too_short, SaysEnding-unknown}
+use Rattle.afdx_recordings.proofs.OpeningLemmas.{SaysNothing-too_short, SaysEnding-too_short, SaysEnding-unknown, SaysEnding-packed}
 use Rattle.afdx_recordings.proofs.OpeningLemmas.{SaysSame-blocks, SaysSame-held, SaysSame-then, Tells-then}
 use Rattle.afdx_recordings.proofs.ReadingLemmas.{Tells-of_reading}
 use Rattle.afdx_recordings.proofs.frame_reader.FrameReader.open.Goals as goal
@@ -41,6 +41,15 @@ returns-in-None-clause-tells g c =
     ap magic_of (sym (c.word-number.ensures ∙ ap (number_in HighFirst 4) c.bytes.ensures)) ∙ sym c.in-None.ensures in (
       lost_by (state_of c.args.self.now),
       SaysEnding-unknown _ _ _ c.requires.form c.fill.ensures.passes (c.fill.ensures.enough (search rules)) unknown,
+    )
+
+pub returns-in-Some-Packed-clause-tells : goal.returns-in-Some-Packed-clause-tells
+returns-in-Some-Packed-clause-tells g c =
+    let known : magic_of (number_in HighFirst 4 (unread c.fill.new.self)) ≡ Some magic.Packed =
+    ap magic_of (sym (c.word-number.ensures ∙ ap (number_in HighFirst 4) c.bytes.ensures)) ∙ sym c.in-Some-Packed.ensures
+    ∙ ap Some c.in-Some-Packed.field-0-is in (
+      lost_by (state_of c.args.self.now),
+      SaysEnding-packed _ _ _ c.requires.form c.fill.ensures.passes (c.fill.ensures.enough (search rules)) known,
     )
 
 pub returns-in-Some-Pcapng-clause-opens : goal.returns-in-Some-Pcapng-clause-opens
