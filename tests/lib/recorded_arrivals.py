@@ -70,6 +70,7 @@ class Place(NamedTuple):
     side: str | None
     port: int | None
     is_claimed: bool  # the frame's own bytes say one of them
+    is_contradicted: bool  # its source address names another side than the options say
 
 
 class Arrival(NamedTuple):
@@ -123,6 +124,7 @@ def place_of(options: Options, systems: Systems, frame: Frame) -> Place:
         side or claimed_side,
         claimed_port if known is None else known,
         side == "" or known is None,
+        side != "" and claimed_side not in (None, side),
     )
 
 

@@ -70,7 +70,7 @@ class Run:
         self.origin = origin
         self.lines: list[bytes] = []
         self.numbers: list[int] = []
-        self.counts = dict.fromkeys([*SKIPS, "recorder-lost", "claimed"], 0)
+        self.counts = dict.fromkeys([*SKIPS, "recorder-lost", "claimed", "contradicted"], 0)
 
     def tell(self, number: int, line: bytes) -> None:
         """One line more."""
@@ -95,6 +95,7 @@ class Run:
             source.end(f"TimeTooLarge {arrival.number}")
         self.tell(arrival.number, line_of(source.options, arrival, time))
         self.counts["claimed"] += arrival.place.is_claimed
+        self.counts["contradicted"] += arrival.place.is_contradicted
 
     def take_all(self, sources: list[Source]) -> None:
         """Takes the arrivals of all recordings, up to a fault or to all ends: always the earliest

@@ -99,7 +99,7 @@ def origin_row() -> Row:
         options=Options(origin=FIRST_NS),
         summary="lines 5 accepted 1 ..",
         skipped="no-frame 0 left-out 0 not-afdx 1 unknown-sender 1 no-network 1 before-origin 1"
-        " recorder-lost 0 claimed 1",
+        " recorder-lost 0 claimed 1 ..",
         listed="# before-origin 1 / # not-afdx 2 / # unknown-sender 3 / # no-network 4"
         f" / F 3000 A 1 {H1}",
     )
@@ -160,7 +160,7 @@ def interface_rows() -> list[Row]:
             "V 1 B accept / D 1 6720 B 3 / M 6720 s3 1 68656c6c6f",
             options=Options({0: "B:1", 1: "-"}),
             summary="lines 2 accepted 1 ..",
-            skipped="no-frame 0 left-out 1 .. recorder-lost 39 claimed 0",
+            skipped="no-frame 0 left-out 1 .. recorder-lost 39 claimed 0 ..",
         ),
         Row("an interface that isn't Ethernet", data, ACCEPT, "NotEthernet 2"),
     ]
@@ -248,7 +248,7 @@ def police_rows() -> list[Row]:
             ACCEPT,
             options=Options(port=1),
             summary="lines 1 accepted 1 ..",
-            skipped=".. claimed 1",
+            skipped=".. claimed 1 ..",
             rule="1 64 500",
         ),
     ]

@@ -49,7 +49,7 @@ def told_rows() -> list[Row]:
     return [
         Row("back, --reorder 0", BACK, ACCEPT, "TimeBack 2", held(0), listed=ARRIVAL),
         Row("back, --reorder 1", BACK, TOLD, "", held(1), listed=listed, summary="lines 2 .."),
-        Row("back, no option", BACK, TOLD, "", listed=listed, skipped=".. claimed 2"),
+        Row("back, no option", BACK, TOLD, "", listed=listed, skipped=".. claimed 2 .."),
         Row("back, --reorder 1, --line-buffered", BACK, TOLD, "", at_once, listed=listed),
         Row("held at a fault", more, "V 2 A accept / V 1 A accept", "Ended 2", listed=listed),
         Row(

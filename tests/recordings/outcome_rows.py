@@ -10,6 +10,7 @@ AS_READ = Options(reorder=0)
 AT_START = Options(origin=FIRST_NS)
 AT_1 = Options({0: "A:1"})
 SIDE_B = Options({0: "B"})
+AT_A, AT_B, RULE = Options({0: "A"}, port=1), Options({0: "B"}, port=1), "1 64 500"
 LEFT_OUT = Options({0: "-"})
 LATER = Options(origin=FIRST_NS + 1)
 NONE = "NoArrival 1"
@@ -124,19 +125,26 @@ def lost(drops: str, system_drops: str) -> str:
 
 
 def claim_rows() -> list[Row]:
-    """Arrivals whose side or port is taken from their bytes."""
-    second = F1 + R(ONE, H2)
+    """Arrivals whose side or port is taken from their bytes, and those whose address names another
+    side."""
+    second, of_none, b_1 = F1 + R(ONE, H2), sent_by("020000000160"), Options({0: "B:1"})
     tries = [
-        ("both", Options(), 2, ""),
-        ("their ports", SIDE_B, 2, ""),
-        ("neither", AT_1, 0, ""),
-        ("police: their sides", Options(port=1), 2, "1 64 500"),
-        ("police: neither", Options({0: "A"}, port=1), 0, "1 64 500"),
-        ("of another interface", Options({1: "A:1"}), 2, ""),
+        ("both", second, Options(), "claimed 2 contradicted 0", ""),
+        ("their ports", second, SIDE_B, "claimed 2 contradicted 2", ""),
+        ("neither", second, AT_1, "claimed 0 contradicted 0", ""),
+        ("police: their sides", second, Options(port=1), "claimed 2 contradicted 0", RULE),
+        ("police: neither", second, AT_A, "claimed 0 contradicted 0", RULE),
+        ("police: of A at B", second, AT_B, "claimed 0 contradicted 2", RULE),
+        ("of another interface", second, Options({1: "A:1"}), "claimed 2 contradicted 0", ""),
+        ("of A at B's port", second, b_1, "claimed 0 contradicted 2", ""),
+        ("of B at A's port", sent_by("020000000140"), AT_1, "claimed 0 contradicted 1", ""),
+        ("of no network", of_none, b_1, "claimed 0 contradicted 0", ""),
+        ("of 11 bytes", short(11), b_1, "claimed 0 contradicted 0", ""),
+        ("of B, no system's", sent_by("ff00ff00ff40"), AT_1, "claimed 0 contradicted 1", ""),
     ]
     return [
-        Row(f"claimed: {name}", second, "..", "", given, skipped=f".. claimed {count}", rule=rule)
-        for name, given, count, rule in tries
+        Row(f"claimed: {name}", data, "..", "", given, skipped=f".. {counts}", rule=rule)
+        for name, data, given, counts, rule in tries
     ]
 
 

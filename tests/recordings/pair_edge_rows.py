@@ -110,7 +110,7 @@ def origin_rows() -> list[PairRow]:
             " / X 11720 s3 2 redundant",
             options=between,
             listed=f"{early} / {early} / F 4000 A 1 {H1} / F 5000 B 1 {H1}",
-            skipped=".. before-origin 2 recorder-lost 0 claimed 2",
+            skipped=".. before-origin 2 recorder-lost 0 claimed 2 ..",
         ),
         PairRow("an origin behind all of A", F1, two, "", "NoArrival 1 A", between, early),
         listed("an origin before both", F1, G1, shown, before),
@@ -135,7 +135,7 @@ def place_rows() -> list[PairRow]:
         ("other interfaces", ["1=-", "2=A:3", "2=B:3"], f"{ARRIVAL} / {OF_B}", 2),
     ]
     rows = [
-        PairRow(name, F1, G1, options=at_places(*words), listed=lines, skipped=f".. claimed {n}")
+        PairRow(name, F1, G1, options=at_places(*words), listed=lines, skipped=f".. claimed {n} ..")
         for name, words, lines, n in tries
     ]
     left, known = "# left-out 1", f"{ARRIVAL} / F 0 B 1 {ROGUE}"
@@ -149,7 +149,7 @@ def place_rows() -> list[PairRow]:
             SL + IL + IW + of_interface(1) + E(US, H1),
             options=at_places("1=-", "0=B:2")._replace(reorder=0),
             listed=f"{left} / {ARRIVAL} / # left-out 2 / {at_2}",
-            skipped="no-frame 0 left-out 2 .. claimed 1",
+            skipped="no-frame 0 left-out 2 .. claimed 1 ..",
         ),
     ]
 
@@ -159,13 +159,19 @@ def side_rows() -> list[PairRow]:
     none, of_b = from_sender("020000000160"), from_sender("020000000140")
     short, yes = PL + R(ZERO, H1[:22], low(11) * 2), PairOptions(fcs=True)
     return [
-        listed("A's frame says B", PL + R(ZERO, of_b), PL, f"F 0 A 1 {of_b}"),
+        PairRow(
+            "both frames say the other side",
+            PL + R(ZERO, of_b),
+            F1,
+            listed=f"F 0 A 1 {of_b} / {OF_B}",
+            skipped=".. claimed 2 contradicted 2",
+        ),
         PairRow(
             "frames that say no network",
             PL + R(ZERO, none),
             short,
             listed=f"F 0 A 1 {none} / F 0 B 1 {H1[:22]}",
-            skipped=".. no-network 0 before-origin 0 recorder-lost 0 claimed 2",
+            skipped=".. no-network 0 before-origin 0 recorder-lost 0 claimed 2 ..",
         ),
         listed("--fcs yes, for both", UNCLEAR, UNCLEAR, f"{RAW} / {RAW.replace('A', 'B')}", yes),
     ]

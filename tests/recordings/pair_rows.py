@@ -91,7 +91,7 @@ def told_rows() -> list[PairRow]:
             " / X 6720 s3 1 redundant",
             listed=f"{ARRIVAL} / {OF_B}",
             summary="lines 2 accepted 2 dropped 0 ..",
-            skipped=".. recorder-lost 0 claimed 2",
+            skipped=".. recorder-lost 0 claimed 2 ..",
         ),
         PairRow(
             "A ends first",
@@ -102,7 +102,7 @@ def told_rows() -> list[PairRow]:
             options=at_places("0=B:1"),
             listed=f"{ARRIVAL} / F 6000 B 1 {H1} / F 8000 B 1 {H2}",
             summary="lines 3 accepted 2 dropped 1 ..",
-            skipped=".. claimed 1",
+            skipped=".. claimed 1 ..",
         ),
     ]
 
@@ -121,7 +121,7 @@ def reading_rows() -> list[PairRow]:
             f" / # not-afdx 3 / F 5000 A 2 {H2}",
             summary="lines 7 accepted 3 ..",
             skipped="no-frame 2 left-out 0 not-afdx 2 unknown-sender 0 no-network 0"
-            " before-origin 0 recorder-lost 0 claimed 3",
+            " before-origin 0 recorder-lost 0 claimed 3 ..",
         ),
         PairRow(
             "what is skipped before a fault of B's head",
@@ -135,7 +135,7 @@ def reading_rows() -> list[PairRow]:
             "what is lost, of both",
             G1 + Z(ZERO, "07000000", ONE),
             G1 + Z(ZERO, "25000000", "02000000"),
-            skipped=".. recorder-lost 47 claimed 2",
+            skipped=".. recorder-lost 47 claimed 2 ..",
         ),
         PairRow(
             "no more is lost than 2^64 - 1",

@@ -41,7 +41,7 @@ use Rattle.afdx_recorded.proofs.LawLemmas.{sequences-agree}
 use Rattle.afdx_inputs.proofs.PairRunLemmas.{pair-gave, pair-ended, pair-stopped, named-read, network-unread}
 use Rattle.afdx_inputs.proofs.PairRunLemmas.{either-false, either-left, either-right, sound-by}
 use Rattle.afdx_inputs.proofs.RecordingRunLemmas.{asked-by, gave-start}
-use Rattle.afdx_recorded.proofs.SourceLemmas.{few-claimed, few-skipped}
+use Rattle.afdx_recorded.proofs.SourceLemmas.{few-claimed, few-contradicted, few-skipped}
 use Rattle.afdx_inputs.proofs.TakenLemmas.{answers-same, taken-start}
 
 -- where the bytes of both are known
@@ -101,11 +101,13 @@ module _ {R : Type 0} (remaining : R → Option (List ℕ)) (start input : Watch
   few-of taken all =
       let h = all.ended_so in
       let skipped = few-skipped (numbers_read all.read) in
-      let claimed = few-claimed (numbers_read all.read) in record {
+      let claimed = few-claimed (numbers_read all.read) in
+      let contradicted = few-contradicted (numbers_read all.read) in record {
         numbers = omega (arith, h.remembers.numbers, h.few);
         counts = record {
           skipped = rw h.remembers.counts (omega (arith, skipped, h.few));
           claimed = rw h.remembers.counts (omega (arith, claimed, h.few));
+          contradicted = rw h.remembers.counts (omega (arith, contradicted, h.few));
         };
       }
 

@@ -185,15 +185,16 @@ fn what_is_said_and_claimed_decides(rt: HostRuntime) -> Result<(), Fail> {
     all_right(wrong_claim(rt.alloc()))
 }
 
-/// The side of a frame of network A in the recording of B, and whether something is claimed.
-fn side_in_b(alloc: Global) -> Result<Option<(Side, bool)>, ConfigFault> {
+/// The side of a frame of network A in the recording of B, whether something is claimed, and
+/// whether that is contradicted.
+fn side_in_b(alloc: Global) -> Result<Option<(Side, bool, bool)>, ConfigFault> {
     let options = RecordingOptions {
         network: Some(Side::B),
         ..RecordingOptions::none(alloc)?
     };
     let ports = ports(alloc)?;
     match seventh(&options, &ports, FRAME, HELLO.as_slice()) {
-        Ok(found) => Ok(Some((found.side, found.is_claimed))),
+        Ok(found) => Ok(Some((found.side, found.is_claimed, found.is_contradicted))),
         Err(_) => Ok(None),
     }
 }
@@ -222,7 +223,7 @@ fn a_frame_whose_first_bit_is_stamped_lasts(rt: HostRuntime) -> Result<(), Fail>
 
 #[test]
 fn a_recording_of_a_network_says_the_side(rt: HostRuntime) -> Result<(), Fail> {
-    equal(side_in_b(rt.alloc())?, Some((Side::B, true)))
+    equal(side_in_b(rt.alloc())?, Some((Side::B, true, true)))
 }
 
 /// What an arrival ends with, of bytes with a check sequence or without it.
@@ -310,6 +311,7 @@ fn counts_line(alloc: Global) -> Result<String, AllocError> {
         no_network: 5,
         before_origin: 6,
         claimed: 8,
+        contradicted: 9,
     };
     let tally = Tally {
         numbers: 22,
@@ -324,6 +326,6 @@ fn a_recording_is_counted_in_a_line(rt: HostRuntime) -> Result<(), Fail> {
     let line = counts_line(rt.alloc())?;
     let wanted = "\
 skipped no-frame 1 left-out 2 not-afdx 3 unknown-sender 4 no-network 5 before-origin 6 \
-recorder-lost 7 claimed 8";
+recorder-lost 7 claimed 8 contradicted 9";
     equal(line.as_str(), wanted)
 }

@@ -25,7 +25,7 @@ use Rattle.afdx_recorded.specs.declared.skipped.Skipped.TheVariants as why
 use Rattle.afdx_recorded.specs.declared.skipped.Skipped as reason
 use Rattle.afdx_recorded.specs.Becoming.{Options, options_of, first_bytes}
 use Rattle.afdx_recorded.specs.Claims.{Ports, ports_of}
-use Rattle.afdx_recorded.specs.Counting.{count_one, skipped_in, skip_one, take_one}
+use Rattle.afdx_recorded.specs.Counting.{count_one, more_if, skipped_in, skip_one, take_one}
 use Rattle.afdx_recorded.specs.NumberLines.{ReadFollows}
 use Rattle.afdx_recorded.specs.Sequences.{Numbers, counts_of, has_arrival, is_arrival, number_after, number_read, numbers_read, with_number}
 use Rattle.afdx_recorded.specs.RecordingSource.{Sorts, StopsBehind, FailsBy, first_standing}
@@ -165,23 +165,46 @@ skip-keeps why.UnknownSender counts = refl
 skip-keeps why.NoNetwork counts = refl
 skip-keeps why.BeforeOrigin counts = refl
 
-take-keeps : (b : Bool) (counts : Counts) → skipped_in (take_one b counts) ≡ skipped_in counts
-unfolding take_one skipped_in
-take-keeps true counts = refl
-take-keeps false counts = refl
+skip-passes : (r : reason.Skipped) (counts : Counts) → (skip_one r counts).contradicted ≡ counts.contradicted
+unfolding skip_one
+skip-passes why.NoFrame counts = refl
+skip-passes why.LeftOut counts = refl
+skip-passes why.NotAfdx counts = refl
+skip-passes why.UnknownSender counts = refl
+skip-passes why.NoNetwork counts = refl
+skip-passes why.BeforeOrigin counts = refl
 
-take-adds : (b : Bool) (counts : Counts) → (take_one b counts).claimed ≤ counts.claimed + 1
+take-keeps : (b d : Bool) (counts : Counts) → skipped_in (take_one b d counts) ≡ skipped_in counts
+unfolding take_one skipped_in
+take-keeps b d counts = refl
+
+more-adds : (b : Bool) (n : ℕ) → more_if b n ≤ n + 1
+more-adds true n = omega arith
+more-adds false n = omega arith
+
+take-adds : (b d : Bool) (counts : Counts) → (take_one b d counts).claimed ≤ counts.claimed + 1
 unfolding take_one
-take-adds true counts = omega arith
-take-adds false counts = omega arith
+take-adds b d counts = more-adds b counts.claimed
+
+take-against : (b d : Bool) (counts : Counts) → (take_one b d counts).contradicted ≤ counts.contradicted + 1
+unfolding take_one
+take-against b d counts = more-adds d counts.contradicted
 
 skipped-next : (n : Number) (counts : Counts) (m : ℕ) → skipped_in counts ≤ m → skipped_in (count_one n counts) ≤ suc m
-skipped-next (Arrival found) counts m h = let e = take-keeps found.is_claimed counts in omega (arith, h, e)
+skipped-next (Arrival found) counts m h =
+    let e = take-keeps found.is_claimed found.is_contradicted counts in omega (arith, h, e)
 skipped-next (Skipped r) counts m h = let e = skip-adds r counts in omega (arith, h, e)
 
 claimed-next : (n : Number) (counts : Counts) (m : ℕ) → counts.claimed ≤ m → (count_one n counts).claimed ≤ suc m
-claimed-next (Arrival found) counts m h = let e = take-adds found.is_claimed counts in omega (arith, h, e)
+claimed-next (Arrival found) counts m h =
+    let e = take-adds found.is_claimed found.is_contradicted counts in omega (arith, h, e)
 claimed-next (Skipped r) counts m h = let e = skip-keeps r counts in omega (arith, h, e)
+
+against-next : (n : Number) (counts : Counts) (m : ℕ) → counts.contradicted ≤ m
+    → (count_one n counts).contradicted ≤ suc m
+against-next (Arrival found) counts m h =
+    let e = take-against found.is_claimed found.is_contradicted counts in omega (arith, h, e)
+against-next (Skipped r) counts m h = let e = skip-passes r counts in omega (arith, h, e)
 
 pub few-skipped : (past : Numbers) → skipped_in (counts_of past) ≤ length past
 unfolding counts_of skipped_in
@@ -192,6 +215,11 @@ pub few-claimed : (past : Numbers) → (counts_of past).claimed ≤ length past
 unfolding counts_of
 few-claimed [] = omega arith
 few-claimed (x ∷ past) = claimed-next x.head (counts_of past) (length past) (few-claimed past)
+
+pub few-contradicted : (past : Numbers) → (counts_of past).contradicted ≤ length past
+unfolding counts_of
+few-contradicted [] = omega arith
+few-contradicted (x ∷ past) = against-next x.head (counts_of past) (length past) (few-contradicted past)
 
 -- ---- one number more
 

@@ -7,6 +7,7 @@ use Rattle.afdx_frame.specs.Sealing.{sequence_of, is_sealed}
 use Rattle.afdx_frame.specs.declared.seals.Seal.{Seal}
 use Rattle.afdx_frame.specs.declared.seals.Seal.TheVariants as seal
 use Rattle.afdx_frame.specs.declared.link.Side.{Side}
+use Rattle.afdx_frame.specs.declared.link.Side.TheVariants.{A, B}
 use Rattle.afdx_lists.specs.declared.frame_line.FrameKind.{FrameKind}
 use Rattle.afdx_lists.specs.declared.frame_line.FrameKind.TheVariants.{Good, Bad, Raw}
 use Rattle.afdx_lists.specs.declared.recording_fault.RecordingFault.TheVariants.{NotEthernet, NoTime}
@@ -123,8 +124,22 @@ is_claimed network place ports =
     not (is_some (side_said network place))
     || (ports.are_claimed && not (is_some (port_said place)))
 
-abbrev pub entrance_with : Side → ℕ → Bool → Entrance
-entrance_with side port claimed = record { side = side; port = port; is_claimed = claimed }
+-- the source address names the other network than that by which the frame came
+abbrev pub is_other : (side : Side) → (named : Option Side) → Bool
+is_other A (Some B) = true
+is_other B (Some A) = true
+is_other side named = false
+
+abbrev pub is_contradicted : Side → List ℕ → Bool
+is_contradicted side bytes = is_other side (side_claimed bytes)
+
+abbrev pub entrance_with : Side → ℕ → (claimed contradicted : Bool) → Entrance
+entrance_with side port claimed contradicted = record {
+  side = side;
+  port = port;
+  is_claimed = claimed;
+  is_contradicted = contradicted;
+}
 
 unfoldable pub entrance_of : (network : Option Side) → Option Place → Ports → List ℕ →
     Result Entrance NoArrival
@@ -132,7 +147,7 @@ entrance_of network place ports bytes = do
   check (is_some (link_named_by bytes)) (Skipped NotAfdx)
   port ← or_else (said_or (port_said place) (ports.port bytes)) (Skipped UnknownSender)
   side ← or_else (said_or (side_said network place) (side_claimed bytes)) (Skipped NoNetwork)
-  Ok (entrance_with side port (is_claimed network place ports))
+  Ok (entrance_with side port (is_claimed network place ports) (is_contradicted side bytes))
 
 -- ---- its check sequence
 
@@ -222,6 +237,7 @@ found_with moment entrance kind = record {
   side = entrance.side;
   port = entrance.port;
   is_claimed = entrance.is_claimed;
+  is_contradicted = entrance.is_contradicted;
   kind = kind;
 }
 

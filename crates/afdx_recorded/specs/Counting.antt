@@ -19,6 +19,7 @@ no_counts = record {
   no_network = 0;
   before_origin = 0;
   claimed = 0;
+  contradicted = 0;
 }
 
 -- one number more was skipped
@@ -30,10 +31,16 @@ skip_one UnknownSender counts = record counts { unknown_sender = counts.unknown_
 skip_one NoNetwork counts = record counts { no_network = counts.no_network + 1 }
 skip_one BeforeOrigin counts = record counts { before_origin = counts.before_origin + 1 }
 
--- one arrival more, which may be claimed
-unfoldable pub take_one : Bool → Counts → Counts
-take_one is_claimed counts =
-    if is_claimed then record counts { claimed = counts.claimed + 1 } else counts
+-- one more, where it counts
+abbrev pub more_if : Bool → ℕ → ℕ
+more_if counts n = if counts then n + 1 else n
+
+-- one arrival more, which may be claimed, and contradicted
+unfoldable pub take_one : (is_claimed is_contradicted : Bool) → Counts → Counts
+take_one is_claimed is_contradicted counts = record counts {
+  claimed = more_if is_claimed counts.claimed;
+  contradicted = more_if is_contradicted counts.contradicted;
+}
 
 -- all that were skipped
 unfoldable pub skipped_in : Counts → ℕ
@@ -43,13 +50,15 @@ skipped_in counts =
 
 -- one number more
 abbrev pub count_one : Number → Counts → Counts
-count_one (number.Arrival found) counts = take_one found.is_claimed counts
+count_one (number.Arrival found) counts =
+    take_one found.is_claimed found.is_contradicted counts
 count_one (number.Skipped reason) counts = skip_one reason counts
 
 -- so few are counted that two such sums can be added in 64 bits
 pub record AreFew (counts : Counts) : Type 0 where
   pub skipped : skipped_in counts ≤ most_numbers
   pub claimed : counts.claimed ≤ most_numbers
+  pub contradicted : counts.contradicted ≤ most_numbers
 
 pub record IsFew (tally : Tally) : Type 0 where
   pub numbers : tally.numbers ≤ most_numbers
@@ -65,6 +74,7 @@ plus_counts a b = record {
   no_network = a.no_network + b.no_network;
   before_origin = a.before_origin + b.before_origin;
   claimed = a.claimed + b.claimed;
+  contradicted = a.contradicted + b.contradicted;
 }
 
 abbrev pub plus_tally : Tally → Tally → Tally

@@ -46,7 +46,7 @@ unfoldable pub latest_of : Numbers → ℕ
 latest_of [] = 0
 latest_of (x ∷ past) = moment_or x.head (latest_of past)
 
--- how many were skipped for each reason, and how many arrivals are claimed
+-- how many were skipped for each reason, and how many arrivals are claimed, and contradicted
 unfoldable pub counts_of : Numbers → Counts
 counts_of [] = no_counts
 counts_of (x ∷ past) = count_one x.head (counts_of past)

@@ -38,7 +38,8 @@ reasons_text counts =
 abbrev pub skipped_line : Tally → List ℕ
 skipped_line t =
     codes "skipped " ++ (reasons_text t.counts ++ (counted (codes " recorder-lost ") t.lost
-    (codes " claimed " ++ decimal t.counts.claimed)))
+    (counted (codes " claimed ") t.counts.claimed
+    (codes " contradicted " ++ decimal t.counts.contradicted))))
 
 -- the words that the formats fix, in the order of `Skipped`
 abbrev pub TheWords : Type 0

@@ -74,6 +74,8 @@ pub struct Found {
     pub port: u8,
     /// Whether its side or its port was taken from its bytes.
     pub is_claimed: bool,
+    /// Whether its source address names the other network.
+    pub is_contradicted: bool,
     /// What is done with its recorded bytes: `Raw` where they end with their check sequence.
     pub kind: FrameKind,
 }
@@ -93,6 +95,7 @@ struct Entrance {
     side: Side,
     port: u8,
     is_claimed: bool,
+    is_contradicted: bool,
 }
 
 /// The moment of frame n's stamp.
@@ -181,6 +184,16 @@ fn is_claimed(network: Option<Side>, place: Option<Place>, ports: &SystemPorts) 
     side_said(network, place).is_none() || (ports.are_claimed() && port_said(place).is_none())
 }
 
+/// Whether the source address of a frame names the other network than that by which it came.
+fn is_contradicted(side: Side, bytes: &[u8]) -> bool
+    ensures { result ≡ spec.is_contradicted side bytes.now }
+{
+    match (side, side_claimed(bytes)) {
+        (Side::A, Some(Side::B)) | (Side::B, Some(Side::A)) => true,
+        _ => false,
+    }
+}
+
 /// Where a frame came in: by what is said of its recording and its interface, else by its bytes.
 #[tactic(auto, unfolding(crate::specs::Becoming::entrance_of))]
 fn entrance_of(
@@ -205,6 +218,7 @@ fn entrance_of(
         side,
         port,
         is_claimed,
+        is_contradicted: is_contradicted(side, bytes),
     })
 }
 
@@ -332,6 +346,7 @@ fn frame_becomes(
         side: entrance.side,
         port: entrance.port,
         is_claimed: entrance.is_claimed,
+        is_contradicted: entrance.is_contradicted,
         kind: kind_used(kind, bytes),
     })
 }

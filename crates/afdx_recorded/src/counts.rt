@@ -7,7 +7,8 @@ ghost use Rattle.afdx_recorded.specs.Counting.{AreFew, IsFew};
 use crate::skipped::Skipped;
 use std::fmt;
 
-/// How many numbers were skipped for each reason, and how many arrivals are claimed.
+/// How many numbers were skipped for each reason, and how many arrivals are claimed, and how many
+/// contradicted.
 #[derive(Clone, Copy, Debug, PartialEq, Eq)]
 pub struct Counts {
     pub no_frame: u64,
@@ -18,6 +19,8 @@ pub struct Counts {
     pub before_origin: u64,
     /// Arrivals whose side or port was taken from their bytes.
     pub claimed: u64,
+    /// Arrivals whose source addresses name the other network.
+    pub contradicted: u64,
 }
 
 impl Counts {
@@ -33,6 +36,7 @@ impl Counts {
             no_network: 0,
             before_origin: 0,
             claimed: 0,
+            contradicted: 0,
         }
     }
 
@@ -43,6 +47,7 @@ impl Counts {
         ensures counts { self.new ≡ spec.skip_one reason self.old }
         ensures skipped { spec.skipped_in self.new ≡ spec.skipped_in self.old + 1 }
         ensures claimed { self.new.claimed ≡ self.old.claimed }
+        ensures contradicted { self.new.contradicted ≡ self.old.contradicted }
     {
         match reason {
             Skipped::NoFrame => self.no_frame += 1,
@@ -69,19 +74,25 @@ impl Counts {
             no_network: self.no_network + other.no_network,
             before_origin: self.before_origin + other.before_origin,
             claimed: self.claimed + other.claimed,
+            contradicted: self.contradicted + other.contradicted,
         }
     }
 
-    /// Counts an arrival, which may be claimed.
+    /// Counts an arrival, which may be claimed, and contradicted.
     #[tactic(auto, unfolding(crate::specs::Counting::take_one, crate::specs::Counting::skipped_in))]
-    pub(crate) fn arrive(&mut self, is_claimed: bool)
-        requires { self.old.claimed < 100000000000000000 }
-        ensures counts { self.new ≡ spec.take_one is_claimed self.old }
+    pub(crate) fn arrive(&mut self, is_claimed: bool, is_contradicted: bool)
+        requires claimed { self.old.claimed < 100000000000000000 }
+        requires contradicted { self.old.contradicted < 100000000000000000 }
+        ensures counts { self.new ≡ spec.take_one is_claimed is_contradicted self.old }
         ensures skipped { spec.skipped_in self.new ≡ spec.skipped_in self.old }
         ensures claimed { self.new.claimed ≤ self.old.claimed + 1 }
+        ensures contradicted { self.new.contradicted ≤ self.old.contradicted + 1 }
     {
         if is_claimed {
             self.claimed += 1;
+        }
+        if is_contradicted {
+            self.contradicted += 1;
         }
     }
 }
@@ -134,7 +145,8 @@ impl Tally {
 }
 
 /// The counts of a recording in one line: `skipped no-frame 0 left-out 0 ..`. The reasons stand in
-/// their order, then the frames that the recorder lost, and the arrivals that are claimed.
+/// their order, then the frames that the recorder lost, and the arrivals that are claimed, and those
+/// that are contradicted.
 impl fmt::Display for Tally {
     ghost use Rattle.std.specs.Prelude.{Some};
     ghost use Rattle.afdx_recorded.specs.Words.{skipped_line};
@@ -144,8 +156,8 @@ impl fmt::Display for Tally {
     fn fmt<W: fmt::Write>(&self, f: &mut fmt::Formatter<W>) -> fmt::Result {
         write!(
             f,
-            "skipped {} recorder-lost {} claimed {}",
-            self.counts, self.lost, self.counts.claimed
+            "skipped {} recorder-lost {} claimed {} contradicted {}",
+            self.counts, self.lost, self.counts.claimed, self.counts.contradicted
         )
     }
 }

@@ -76,7 +76,7 @@ impl ReadRecording {
     }
 
     /// How many numbers were read, how many of them were skipped, and why, how many arrivals are
-    /// claimed, and how many frames the recorder lost so far, by its own word.
+    /// claimed and contradicted, and how many frames the recorder lost so far, by its own word.
     pub fn tally(&self) -> Tally
         ensures numbers { result.numbers ≡ self.now.numbers }
         ensures counts { result.counts ≡ self.now.counts }
@@ -95,6 +95,7 @@ impl ReadRecording {
     fn sort(&mut self) -> Result<(), RunFault>
         requires skipped { skipped_in self.old.counts < most_numbers }
         requires claimed { self.old.counts.claimed < most_numbers }
+        requires contradicted { self.old.counts.contradicted < most_numbers }
         ensures reader { self.new.reader ≡ self.old.reader }
         ensures options { self.new.options ≡ self.old.options }
         ensures ports { self.new.ports ≡ self.old.ports }
@@ -113,7 +114,7 @@ impl ReadRecording {
         match becomes(&self.options, &self.ports, n, &recorded, bytes) {
             Ok(found) => {
                 self.has_arrival = true;
-                self.counts.arrive(found.is_claimed);
+                self.counts.arrive(found.is_claimed, found.is_contradicted);
                 self.number.becomes = Number::Arrival(found);
                 Ok(())
             }

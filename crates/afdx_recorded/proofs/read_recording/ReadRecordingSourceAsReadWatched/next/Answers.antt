@@ -8,6 +8,7 @@ use Rattle.afdx_recorded.specs.Sequences.{numbers_read}
 use Rattle.afdx_recorded.proofs.SourceLemmas.{Sorting, fails-unread, fails-unwritten, gives-reader, gives-number}
 use Rattle.afdx_recorded.proofs.SourceLemmas.{stops-reader, stops-number, same-stops, gives-same, honest-same}
 use Rattle.afdx_recorded.proofs.SourceLemmas.{gave-item, item-follows, ended-well, stops-end, few-skipped, few-claimed}
+use Rattle.afdx_recorded.proofs.SourceLemmas.{few-contradicted}
 use Rattle.afdx_recorded.proofs.read_recording.ReadRecordingSourceAsReadWatched.next.Goals as goal
 
 pub returns-in_err-next-clause-stop : goal.returns-in_err-next-clause-stop
@@ -54,6 +55,14 @@ sort-requires-clause-claimed g c =
     let number = c.next.ensures.number is in
     let h = c.requires.2 in
     let few = few-claimed (numbers_read c.requires.1) in
+    rw h.remembers.counts (omega (arith, few, number, h.numbers, c.next.ensures.few))
+
+pub sort-requires-clause-contradicted : goal.sort-requires-clause-contradicted
+sort-requires-clause-contradicted g c =
+    let is : c.next.result ≡ Ok true = search rules in
+    let number = c.next.ensures.number is in
+    let h = c.requires.2 in
+    let few = few-contradicted (numbers_read c.requires.1) in
     rw h.remembers.counts (omega (arith, few, number, h.numbers, c.next.ensures.few))
 
 pub returns-in_err-sort-clause-stop : goal.returns-in_err-sort-clause-stop
