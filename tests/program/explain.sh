@@ -18,6 +18,9 @@ explained_case() { # NAME STATUS OUT FAULT WORDS WORD..
 tell 'each row of FORMATS is explained in its words' \
     "$(python3 "$top/tests/program/explained_formats.py" "$program" 2>&1 || true)"
 
+tell 'a fault is found in a configuration' \
+    "$(python3 "$top/tests/program/located_faults.py" "$program" 2>&1 || true)"
+
 text_case 'a key by its number' 0 out 'Key 7 of a link is jitter_us: 0 to 1000 times bag_ms.' \
     explain 'config Missing link 1 key 7'
 text_case 'the same in several words' 0 out 'the key is absent' explain config Missing link 1 key 7

@@ -1,6 +1,7 @@
 //! Explanations: the command `explain`, and what follows the line of a fault with `--explain`.
 
 use crate::devices::INPUT_NAME;
+use crate::locating::place_in;
 use crate::telling::tell_text;
 use afdx_admit::ADMISSION;
 use afdx_config::{CONFIG_FAULTS, Key, LINK_KEYS, PORT_KEYS, SYSTEM_KEYS, TOP_KEYS, UNKNOWN_KEYS};
@@ -190,9 +191,16 @@ pub fn print_lists(rt: &HostRuntime) -> io::Result<()> {
 }
 
 /// Where a configuration stops being TOML, and why.
-fn tell_place(rt: &HostRuntime, config: &[u8]) {
+fn tell_end(rt: &HostRuntime, config: &[u8]) {
     if let Err(error) = toml::table_from_slice(rt.alloc(), config) {
         tell_text(rt, &error);
+    }
+}
+
+/// Where the table and the key of a fault of a configuration stand in it.
+fn tell_place(rt: &HostRuntime, line: &str, config: &[u8]) {
+    if let Ok(Some(text)) = place_in(rt.alloc(), line, config) {
+        tell_text(rt, &text);
     }
 }
 
@@ -231,11 +239,11 @@ pub fn explain(rt: &HostRuntime, line: &str, cause: &Cause<'_>) {
     }
     let _ = rt.eprintln(meaning);
     match line {
-        "config NotToml" => tell_place(rt, cause.config),
+        "config NotToml" => tell_end(rt, cause.config),
         "device Config" | "device List" | "device Read" | "device Write" => {
             tell_device(rt, line, cause);
         }
-        _ => {}
+        _ => tell_place(rt, line, cause.config),
     }
 }
 
