@@ -84,7 +84,8 @@ module _ (system : ℕ) (class : Priority) (wait left : ℕ) (fault : ℕ → Ad
   within : (n : ℕ) → not (nat_lt n wait) ≡ nat_le wait n
   within n = grind (arith, nat_tests)
 
-  same_head : (l : Line) (xs ys : List Line) → false_lines xs ≡ false_lines ys → false_lines (l ∷ xs) ≡ false_lines (l ∷ ys)
+  same_head : (l : Line) (xs ys : List Line) → false_lines xs ≡ false_lines ys
+      → false_lines (l ∷ xs) ≡ false_lines (l ∷ ys)
   same_head l xs ys e = false_lines-append (l ∷ []) xs ∙ ap (λ zs. false_lines (l ∷ []) ++ zs) e
       ∙ sym (false_lines-append (l ∷ []) ys)
 

@@ -30,7 +30,8 @@ module _ (wait left : ℕ) (fault : ℕ → AdmitFault) where
   late_by true v rest lines h = h
   late_by false v rest lines h = refl
 
-  late_lines : (fs : List Flow) → first_false (map (class_line wait left fault) fs) ≡ option_map fault (first_late wait left fs)
+  late_lines : (fs : List Flow) → first_false
+      (map (class_line wait left fault) fs) ≡ option_map fault (first_late wait left fs)
   unfolding first_false first_late
   late_lines [] = refl
   late_lines (f ∷ fs) = late_by (nat_le wait (f.latency * left)) f.vl (first_late wait left fs)

@@ -55,7 +55,8 @@ module _ {X : Type 0} where
     pub full : counts both e.priority ≡ true → weight e ≡ e.bytes + 20
     pub small : counts both e.priority ≡ false → e.bytes + 20 ≤ extra
 
-  -- until `now` the line has sent what counts since the moment `since`, after these earlier turns, and at most one frame that doesn't count
+  -- until `now` the line has sent what counts since the moment `since`, after these earlier turns,
+  -- and at most one frame that doesn't count
   pub record Busy (byte_ns : ℕ) (weight : Entry X → ℕ) (both : Bool) (extra : ℕ)
       (entries : List (Entry X)) (turns : List (Turn X)) (now : ℕ) : Type 0 where
     pub since : ℕ

@@ -16,7 +16,8 @@ use Rattle.afdx_bounds.proofs.LeftLemmas.{each-left}
 module _ {X : Type 0} where
   -- the turns that were taken are each next after those before it
   abbrev TakenAreTurns : (X → Facts) → Type 0
-  TakenAreTurns facts = (p : PortState X) (h : PortHistory X) → StandsFor facts p h → AreTurns h.byte_ns h.entries h.taken
+  TakenAreTurns facts = (p : PortState X) (h : PortHistory X) → StandsFor facts p h
+      → AreTurns h.byte_ns h.entries h.taken
 
   -- a port is quiet where its next turn is given later
   abbrev QuietIsNext : (X → Facts) → Type 0

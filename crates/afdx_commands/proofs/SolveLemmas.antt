@@ -18,7 +18,8 @@ more old pieces piece before after e f =
     f ∙ ap (λ (text : List ℕ). text ++ piece) e ∙ append_assoc old pieces piece
 
 -- the bound is more than what was asked for
-pub over : (port vl bound asked : ℕ) → 1000 * asked < bound → told_need port vl bound asked ≡ need_over port vl bound asked
+pub over : (port vl bound asked : ℕ) → 1000 * asked < bound
+    → told_need port vl bound asked ≡ need_over port vl bound asked
 over port vl bound asked more =
     ap (λ (b : Bool). if b then [] else told_need port vl bound asked) (sym (le-false bound (1000 * asked) more))
 

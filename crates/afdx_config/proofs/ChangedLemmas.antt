@@ -63,7 +63,8 @@ module _ (vl system : ℕ) where
   found-changed i times [] = refl
   found-changed zero times (l ∷ ls) = by (nat_eq vl l.vl)
     where
-      by : (b : Bool) → option_map_or (is_to system) (cond b (Some (with_times times l)) (find (λ l. nat_eq vl l.vl) ls)) false
+      by : (b : Bool) → option_map_or (is_to system)
+          (cond b (Some (with_times times l)) (find (λ l. nat_eq vl l.vl) ls)) false
           ≡ option_map_or (is_to system) (cond b (Some l) (find (λ l. nat_eq vl l.vl) ls)) false
       by true = refl
       by false = refl

@@ -92,7 +92,8 @@ module _ (rows : Rows) (system : ℕ) (past : List Arrived) (x : Arrived) where
   -- nor does a message for another port
   newest_other : (vl udp link to : ℕ) (payload : List ℕ) (held : Held)
       → Message link to payload ≡ answer_to rows system past x → (nat_eq link vl && nat_eq to udp) ≡ false
-      → HoldsNewest (newest_to rows system vl udp past) held → HoldsNewest (newest_to rows system vl udp (x ∷ past)) held
+      → HoldsNewest (newest_to rows system vl udp past) held
+      → HoldsNewest (newest_to rows system vl udp (x ∷ past)) held
   newest_other vl udp link to payload held is other holds =
       let before = newest_to rows system vl udp past in
       let message : Option TimedMessage = Some (record { time = x.time; bytes = payload }) in

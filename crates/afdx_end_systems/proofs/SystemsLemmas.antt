@@ -266,7 +266,8 @@ module _ (rows : Rows) (systems : Systems) (before : List HandedOver) (d : Hande
   read_back_here now time (Ok told) h =
       subst (λ (o : Option EndSystem). ReadsBackAt o (option_and_then (λ (e : Option EndSystem). e)
       (slice_get (slice_set systems.at_ports.items place now) d.port)) time (option_map answer_of told))
-      (sym (ap (λ (n : ℕ). system_in systems n) (sym are.port) ∙ ap (option_and_then (λ (e : Option EndSystem). e)) are.here))
+      (sym (ap (λ (n : ℕ). system_in systems n) (sym are.port)
+          ∙ ap (option_and_then (λ (e : Option EndSystem). e)) are.here))
       (subst (λ (o : Option EndSystem). ReadsBackAt at o time (option_map answer_of told))
       (sym (ap (λ (n : ℕ). option_and_then (λ (e : Option EndSystem). e)
       (slice_get (slice_set systems.at_ports.items place now) n)) (sym are.port)
@@ -322,7 +323,8 @@ module _ (rows : Rows) (systems : Systems) (before : List HandedOver) (d : Hande
     where
       one : (q : ℕ) → (q ≡ d.port) ⊎ (q ≡ d.port → ⊥)
           → HasNewest rows (came_to q (d ∷ before)) (system_at_port rows.systems q) (system_in systems q)
-      one q (inl e) = rw (e, none_in) (none_newest rows (came_to d.port (d ∷ before)) (system_at_port rows.systems d.port))
+      one q (inl e) = rw (e, none_in) (none_newest rows (came_to d.port (d ∷ before))
+          (system_at_port rows.systems d.port))
       one q (inr other) = rw (came_there d before q other) (have.each q)
 
 -- the answer and the name, as the definitions have them

@@ -58,7 +58,8 @@ module _ (side : Side) (port : ℕ) where
 
   said-ok : (list : List (List ℕ)) (n : ℕ) (fault : LineFault) → fault_in frames list n ≡ None
       → item_said frames list n ≡ Err fault → ⊥
-  said-ok list n fault none e = by (nat_le most_lines n) (nat_lt longest_line (length (slice_index_or list n []))) (rw e at none)
+  said-ok list n fault none e = by (nat_le most_lines n)
+      (nat_lt longest_line (length (slice_index_or list n []))) (rw e at none)
     where
       by : (many long : Bool) →
           (if many then Some run.TooManyLines else if long then Some (run.LineTooLong (n + 1)) else

@@ -176,11 +176,13 @@ the_fields (Some fields) h = fields
 -- what its fields are once the numbers are read: those of raw bytes
 record Reads (side : Side) (time port : ℕ) (digits bytes : List ℕ) : Type 0 where
   fields : FrameFields
-  are : from_five frame_fields_with (kind_of (82 ∷ [])) (Some time) (side_of (side_text side)) (Some port) digits ≡ Some fields
+  are : from_five frame_fields_with (kind_of (82 ∷ [])) (Some time) (side_of (side_text side))
+      (Some port) digits ≡ Some fields
   time_is : fields.time ≡ time
   port_is : fields.port ≡ port
   digits_are : fields.digits ≡ digits
-  frame : said_with frame_form fields (Some bytes) ≡ Ok (Some (record { time = time; side = side; port = port; bytes = bytes }))
+  frame : said_with frame_form fields (Some bytes) ≡ Ok
+      (Some (record { time = time; side = side; port = port; bytes = bytes }))
 
 reads : (side : Side) (time port : ℕ) (digits bytes : List ℕ) → 0 < length digits → Reads side time port digits bytes
 unfolding frame_bytes the_fields

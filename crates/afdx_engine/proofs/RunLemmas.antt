@@ -347,14 +347,22 @@ module _ {Y X : Type 0} (k : Kind Y X) where
         (n, gave refl, told_so_far all bytes rest h a)
     stop_answers all beginning bytes rest between after oe ne u v run.Memory h stop gave taken honest by a = absurd stop
     stop_answers all beginning bytes rest between after oe ne u v run.Write h stop gave taken honest by a = absurd stop
-    stop_answers all beginning bytes rest between after oe ne u v (run.BadLine m) h stop gave taken honest by a = absurd stop
-    stop_answers all beginning bytes rest between after oe ne u v (run.BadHex m) h stop gave taken honest by a = absurd stop
-    stop_answers all beginning bytes rest between after oe ne u v (run.TimeBack m) h stop gave taken honest by a = absurd stop
-    stop_answers all beginning bytes rest between after oe ne u v (run.TimeTooLarge m) h stop gave taken honest by a = absurd stop
-    stop_answers all beginning bytes rest between after oe ne u v (run.BadPort m) h stop gave taken honest by a = absurd stop
-    stop_answers all beginning bytes rest between after oe ne u v (run.RecordingOfA m) h stop gave taken honest by a = absurd stop
-    stop_answers all beginning bytes rest between after oe ne u v (run.RecordingOfB m) h stop gave taken honest by a = absurd stop
-    stop_answers all beginning bytes rest between after oe ne u v (run.Recording f) h stop gave taken honest by a = absurd stop
+    stop_answers all beginning bytes rest between after oe ne u v
+        (run.BadLine m) h stop gave taken honest by a = absurd stop
+    stop_answers all beginning bytes rest between after oe ne u v
+        (run.BadHex m) h stop gave taken honest by a = absurd stop
+    stop_answers all beginning bytes rest between after oe ne u v
+        (run.TimeBack m) h stop gave taken honest by a = absurd stop
+    stop_answers all beginning bytes rest between after oe ne u v
+        (run.TimeTooLarge m) h stop gave taken honest by a = absurd stop
+    stop_answers all beginning bytes rest between after oe ne u v
+        (run.BadPort m) h stop gave taken honest by a = absurd stop
+    stop_answers all beginning bytes rest between after oe ne u v
+        (run.RecordingOfA m) h stop gave taken honest by a = absurd stop
+    stop_answers all beginning bytes rest between after oe ne u v
+        (run.RecordingOfB m) h stop gave taken honest by a = absurd stop
+    stop_answers all beginning bytes rest between after oe ne u v
+        (run.Recording f) h stop gave taken honest by a = absurd stop
 
     pub stops-reader : (all beginning : List X → Type 0) (input left between after : Option (List ℕ))
         (old_ended new_ended : Bool) (u v : List ℕ) (fault : RunFault) → HasComeIn k past latest n input left

@@ -25,7 +25,8 @@ three_words-some own kind name wanted first second [] some = absurd (omega arith
 three_words-some own kind name wanted first second (word ∷ words) some = refl
 
 -- a line of three words and more is no name
-pub three_words : (own kind name : List ℕ) (wanted : List (List ℕ)) (first second : List ℕ) (p : ℕ → Bool) (rest : List ℕ)
+pub three_words : (own kind name : List ℕ) (wanted : List (List ℕ)) (first second : List ℕ)
+    (p : ℕ → Bool) (rest : List ℕ)
     → is_named own (kind ∷ name ∷ wanted) (first ∷ second ∷ slice_split p rest) ≡ false
 three_words own kind name wanted first second p rest =
     three_words-some own kind name wanted first second (slice_split p rest) (omega (arith, length-slice_split p rest))

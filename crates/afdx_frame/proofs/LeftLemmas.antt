@@ -21,7 +21,8 @@ use Rattle.afdx_frame.proofs.RegisterLemmas.{shift_front}
 pub left : List ℕ → ℕ → ℕ
 left rest register = shift (8 * length rest) (bit_xor register (number rest))
 
-pub left-is : (rest : List ℕ) (register : ℕ) → left rest register ≡ shift (8 * length rest) (bit_xor register (number rest))
+pub left-is : (rest : List ℕ) (register : ℕ) → left rest register ≡ shift (8 * length rest)
+    (bit_xor register (number rest))
 unfolding left
 left-is rest register = refl
 

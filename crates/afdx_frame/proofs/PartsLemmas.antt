@@ -1,4 +1,5 @@
--- The parts of a frame stand at their places, and what is computed of bytes is the frame or the fault that the layout gives.
+-- The parts of a frame stand at their places, and what is computed of bytes is the frame or the
+-- fault that the layout gives.
 use Rattle.std.proofs.Common.{◌≡◌, ℕ, ◌+◌, ◌-◌, ◌*◌, ◌/◌, ◌%◌, ◌<◌, ◌≤◌, inl, inr, Bool, true}
 use Rattle.std.proofs.Common.{false, List, [], ◌∷◌, ◌++◌, length, take, drop, get_or, refl, sym, ap}
 use Rattle.std.proofs.Common.{ap₂, subst, ◌∙◌, arith, append_assoc}

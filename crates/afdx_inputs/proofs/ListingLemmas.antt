@@ -15,7 +15,8 @@ lines-start old = Appends-nil old
 
 -- one line more
 pub lines-told : (start old new : Bytes) (past : List (Item NumberLine)) (x : Item NumberLine)
-    → WritesLines start old past → Appends old new (number_text x.number x.head x.bytes) → WritesLines start new (x ∷ past)
+    → WritesLines start old past → Appends old new (number_text x.number x.head x.bytes)
+    → WritesLines start new (x ∷ past)
 unfolding list_text
 lines-told start old new past x told line =
     Appends-trans start old new (list_text past) (number_text x.number x.head x.bytes) told line

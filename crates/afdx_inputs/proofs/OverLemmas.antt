@@ -12,7 +12,8 @@ use Rattle.afdx_recorded.specs.Taking.{Taken}
 use Rattle.afdx_inputs.specs.TakenRun.{TakenAnswers}
 use Rattle.afdx_inputs.proofs.TakenLemmas.{hands-err, hands-ok}
 
-if-some : {B : Type 0} (known : Option B) (P : B → Type 0) → ((bytes : B) → known ≡ Some bytes → P bytes) → IfSome known P
+if-some : {B : Type 0} (known : Option B) (P : B → Type 0)
+    → ((bytes : B) → known ≡ Some bytes → P bytes) → IfSome known P
 if-some None P f = tt
 if-some (Some bytes) P f = f bytes refl
 
@@ -48,12 +49,14 @@ module _ {H : Type 0} (gave ended : List (Item H) → Type 0) (stopped : List (I
 
     pub err-answers : CanBePeeled items_of → (fault : RunFault) → HandsTo (Err fault) → Answered (Err fault) first
     err-answers peel fault hands =
-        by-first (Err fault) (λ bytes t. hands-err (whole last bytes) (cut last bytes) items_of done told begins gave ended
+        by-first (Err fault) (λ bytes t. hands-err (whole last bytes)
+            (cut last bytes) items_of done told begins gave ended
         stopped counted t peel fault hands)
 
     pub ok-answers : (tally : Tally) → tally ≡ counted → HandsTo (Ok tt) → Answered (Ok tally) first
     ok-answers tally is hands =
-        by-first (Ok tally) (λ bytes t. hands-ok (whole last bytes) (cut last bytes) items_of done told begins gave ended
+        by-first (Ok tally) (λ bytes t. hands-ok (whole last bytes)
+            (cut last bytes) items_of done told begins gave ended
         stopped counted t tally is hands)
 
 -- what is taken of lines, is so of their arrivals
@@ -70,7 +73,8 @@ arrivals-taken whole AreCut gave ended stopped counted t = record {
       (t.stops k.lines fault k.known_so) k.items_are;
 }
   where
-    of-lines : (known : Lines → Type 0) (past : List (Item Heading)) (lines : Lines) → AreItems lines_themselves known lines
+    of-lines : (known : Lines → Type 0) (past : List (Item Heading)) (lines : Lines)
+        → AreItems lines_themselves known lines
         → past ≡ arrivals_listed lines → AreItems arrivals_listed known past
     of-lines known past lines k e = record {
       lines = k.lines;

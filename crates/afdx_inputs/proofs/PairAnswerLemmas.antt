@@ -91,7 +91,8 @@ same-taken said said' a a' b b' e f g = rw (e, f, g) refl
 
 module _ {R : Type 0} (remaining : R → Option (List ℕ)) (start input : Watched R) (source : OrderedRecording) where
   gives-by : (head : AtHead) (taken : Numbers)
-      → IsAheadBy (HasTaken remaining start source input) (HasTakenAll remaining start source input) (number_taken source) head
+      → IsAheadBy (HasTaken remaining start source input) (HasTakenAll remaining start source input)
+        (number_taken source) head
       taken → GivesSome (first_standing remaining start) (standing remaining source.source.reader.held input)
   gives-by at.Unknown taken h = (taken-sound remaining start input source taken h).1
   gives-by (at.Arrival moment) taken h = (taken-sound remaining start input source (number_taken source ∷ taken) h.0).1
@@ -121,7 +122,8 @@ module _ {R : Type 0} (remaining : R → Option (List ℕ)) (start inputs : BySi
 
   abbrev pub Stopped : Lines → RunFault → Type 0
   Stopped lines fault =
-      HasStoppedPairing number_taken (HasTaken remaining) (HasTakenAll remaining) (HasStoppedTaking remaining) start source inputs lines
+      HasStoppedPairing number_taken (HasTaken remaining) (HasTakenAll remaining)
+          (HasStoppedTaking remaining) start source inputs lines
       fault
 
   -- ---- whether a device failed
@@ -142,14 +144,16 @@ module _ {R : Type 0} (remaining : R → Option (List ℕ)) (start inputs : BySi
   sound-b latest taken h =
       sound-by remaining start.b inputs.b source.pair.b.source source.pair.b.head taken h.known
 
-  pub paired-sound : (past : Numbers) → IsPaired number_taken (HasTaken remaining) (HasTakenAll remaining) start source.pair inputs past
+  pub paired-sound : (past : Numbers) → IsPaired number_taken (HasTaken remaining)
+      (HasTakenAll remaining) start source.pair inputs past
       → (inputs.a.failed || inputs.b.failed) ≡ false
   paired-sound past h =
       either-false inputs.a.failed inputs.b.failed (sound-a (latest_of past) h.taken_a h.a)
       (sound-b (latest_of past) h.taken_b h.b)
 
   stops-failed : (past : Numbers) (fault : RunFault)
-      → StopsPairing number_taken (HasTaken remaining) (HasTakenAll remaining) (HasStoppedTaking remaining) start source.pair inputs past
+      → StopsPairing number_taken (HasTaken remaining) (HasTakenAll remaining)
+        (HasStoppedTaking remaining) start source.pair inputs past
       fault → (inputs.a.failed || inputs.b.failed) ≡ is_read fault
   stops-failed past fault (inl h) =
       either-left inputs.a.failed inputs.b.failed (is_read fault)
@@ -186,13 +190,15 @@ module _ {R : Type 0} (remaining : R → Option (List ℕ)) (start inputs : BySi
   ahead-gives-b latest taken h =
       gives-by remaining start.b inputs.b source.pair.b.source source.pair.b.head taken h.known
 
-  pub paired-gives : (past : Numbers) → IsPaired number_taken (HasTaken remaining) (HasTakenAll remaining) start source.pair inputs past
+  pub paired-gives : (past : Numbers) → IsPaired number_taken (HasTaken remaining)
+      (HasTakenAll remaining) start source.pair inputs past
       → GivesA × GivesB
   paired-gives past h =
       (ahead-gives-a (latest_of past) h.taken_a h.a, ahead-gives-b (latest_of past) h.taken_b h.b)
 
   stops-gives : (past : Numbers) (fault : RunFault)
-      → StopsPairing number_taken (HasTaken remaining) (HasTakenAll remaining) (HasStoppedTaking remaining) start source.pair inputs past
+      → StopsPairing number_taken (HasTaken remaining) (HasTakenAll remaining)
+        (HasStoppedTaking remaining) start source.pair inputs past
       fault → GivesA × GivesB
   stops-gives past fault (inl h) = (
     (stopped-sound remaining start.a inputs.a source.pair.a.source h.taken_a h.fault_a h.stopped_a).1,
@@ -290,7 +296,8 @@ module _ (options : PairOptions) (ports : Ports) (source : TimedPair OrderedReco
       items_of done told begins r)
   two-by items_of done told begins r remaining start rest =
       both-more (remaining start.a.inner) (remaining start.b.inner)
-      (λ bytes. TakenAnswers (whole_of_two (way_of_two source) bytes) (CutOfTwo remaining (way_of_two source) bytes rest)
+      (λ bytes. TakenAnswers (whole_of_two (way_of_two source) bytes)
+          (CutOfTwo remaining (way_of_two source) bytes rest)
       items_of done told begins r)
       (λ a b. TakenAnswers (taken_of_pair options ports a b) (AreCutOffInPair options ports remaining a b rest)
       items_of done told begins r)
@@ -311,7 +318,8 @@ ahead-start remaining input ahead e gave = record {
   known = subst (λ (h : AtHead). IsAheadBy (HasTaken remaining input ahead.source input)
       (HasTakenAll remaining input ahead.source input) (number_taken ahead.source) h []) (sym e) gave;
   order = subst (λ (h : AtHead). NoneIsBefore (latest_of []) h []) (sym e) (omega arith);
-  few = subst (λ (h : AtHead). length (head_by (number_taken ahead.source) h ++ []) ≤ most_numbers) (sym e) (omega arith);
+  few = subst (λ (h : AtHead). length (head_by (number_taken ahead.source) h ++ []) ≤ most_numbers)
+      (sym e) (omega arith);
 }
 
 pub pair-start : {R : Type 0} (remaining : R → Option (List ℕ)) (inputs : BySide (Watched R))

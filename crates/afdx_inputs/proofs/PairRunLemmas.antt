@@ -60,7 +60,8 @@ module _ {R : Type 0} (remaining : R → Option (List ℕ)) (side : Side) (start
   coming-first taken later e = ap reverse e ∙ reverse-append later taken
 
   comes-by : (head : AtHead) (taken : Numbers)
-      → IsAheadBy (HasTaken remaining start source input) (HasTakenAll remaining start source input) (number_taken source) head
+      → IsAheadBy (HasTaken remaining start source input) (HasTakenAll remaining start source input)
+        (number_taken source) head
       taken → Comes side Sequence-of (number_taken source) head taken
   comes-by at.Unknown taken h =
       let f = given-first remaining start input source set taken bytes known h in record {
@@ -74,7 +75,8 @@ module _ {R : Type 0} (remaining : R → Option (List ℕ)) (side : Side) (start
         next = reverse f.0;
         fault = fault_of (fault_of_network side) Sequence-of.ending;
         can = tt;
-        coming_is = rw (coming-first (number_taken source ∷ taken) f.0 f.1 ∙ reverse-taken (number_taken source) taken (reverse f.0))
+        coming_is = rw (coming-first (number_taken source ∷ taken) f.0 f.1
+            ∙ reverse-taken (number_taken source) taken (reverse f.0))
             refl;
       }
   comes-by at.Over taken h =
@@ -209,16 +211,20 @@ module _ {R : Type 0} (remaining : R → Option (List ℕ)) (start inputs : BySi
 
   abbrev Stopped : Lines → RunFault → Type 0
   Stopped lines fault =
-      HasStoppedPairing number_taken (HasTaken remaining) (HasTakenAll remaining) (HasStoppedTaking remaining) start source inputs lines
+      HasStoppedPairing number_taken (HasTaken remaining) (HasTakenAll remaining)
+          (HasStoppedTaking remaining) start source inputs lines
       fault
 
   -- these numbers come first
-  paired-first : (past : Numbers) → IsPaired number_taken (HasTaken remaining) (HasTakenAll remaining) start source.pair inputs past
+  paired-first : (past : Numbers) → IsPaired number_taken (HasTaken remaining)
+      (HasTakenAll remaining) start source.pair inputs past
       → EndsIn past (merged (coming_of A (Of-a bytes_a)) (coming_of B (Of-b bytes_b))).numbers
   paired-first past h =
-      let a = comes remaining A start.a inputs.a source.pair.a.source set_a bytes_a known_a (latest_of past) source.pair.a
+      let a = comes remaining A start.a inputs.a source.pair.a.source set_a bytes_a known_a
+          (latest_of past) source.pair.a
       h.taken_a refl h.a in
-      let b = comes remaining B start.b inputs.b source.pair.b.source set_b bytes_b known_b (latest_of past) source.pair.b
+      let b = comes remaining B start.b inputs.b source.pair.b.source set_b bytes_b known_b
+          (latest_of past) source.pair.b
       h.taken_b refl h.b in
       let joined = h.joins a.next b.next a.fault b.fault a.can b.can in
       let e = merge-extends past (head_by (number_taken source.pair.a.source) source.pair.a.head ++ a.next) a.fault
@@ -351,15 +357,18 @@ module _ {R : Type 0} (remaining : R → Option (List ℕ)) (start inputs : BySi
       → StopsBehindLines Whole AreCut lines fault
   pair-stopped lines fault (inl h) = by h.stops
     where
-      by : StopsPairing number_taken (HasTaken remaining) (HasTakenAll remaining) (HasStoppedTaking remaining) start source.pair inputs
+      by : StopsPairing number_taken (HasTaken remaining) (HasTakenAll remaining)
+          (HasStoppedTaking remaining) start source.pair inputs
           h.past fault → StopsBehindLines Whole AreCut lines fault
       by (inl a) =
           rw a.fault_is (stop-a h.past a.taken_a a.taken_b lines h.are_timed.timed_as
-          (comes remaining B start.b inputs.b source.pair.b.source set_b bytes_b known_b (latest_of h.past) source.pair.b
+          (comes remaining B start.b inputs.b source.pair.b.source set_b bytes_b known_b
+              (latest_of h.past) source.pair.b
           a.taken_b refl a.b) a.joined a.fault_a a.stopped_a)
       by (inr b) =
           rw b.fault_is (stop-b h.past b.taken_b b.taken_a lines h.are_timed.timed_as
-          (comes remaining A start.a inputs.a source.pair.a.source set_a bytes_a known_a (latest_of h.past) source.pair.a
+          (comes remaining A start.a inputs.a source.pair.a.source set_a bytes_a known_a
+              (latest_of h.past) source.pair.a
           b.taken_a refl b.a) b.joined b.fault_b b.stopped_b)
   pair-stopped lines fault (inr h) =
       let all = late-lines Said (h.x ∷ h.before) lines (coming_of A (Of-a bytes_a)) (coming_of B (Of-b bytes_b)) fault

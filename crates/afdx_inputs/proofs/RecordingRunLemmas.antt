@@ -131,7 +131,8 @@ timed-with lines fault = record { lines = lines; fault = Some fault }
 
 -- ---- what is known of a source, from call to call
 
-module _ {R : Type 0} (remaining : R → Option (List ℕ)) (start input : Watched R) (source : TimedNumbers OrderedRecording) where
+module _ {R : Type 0} (remaining : R → Option (List ℕ)) (start input : Watched R)
+    (source : TimedNumbers OrderedRecording) where
   abbrev pub Gave : Lines → Type 0
   Gave lines = HasTimed (HasTaken remaining) (HasTakenAll remaining) start source input lines
 
@@ -289,7 +290,8 @@ gave-start remaining input source sound ended new = record {
   stands = rw new.stage (read-start remaining input source sound ended new, none-held source.most source.held new.held);
 }
 
-module _ (o : RecordingOptions) (p : SystemPorts) (source : TimedNumbers OrderedRecording) (new : IsNewOne o p source) where
+module _ (o : RecordingOptions) (p : SystemPorts) (source : TimedNumbers OrderedRecording)
+    (new : IsNewOne o p source) where
   -- nor was a line given
   pub timed-start : {R : Type 0} (remaining : R → Option (List ℕ)) (input : Watched R) → input.failed ≡ false
       → has_ended input ≡ false → HasTimed (HasTaken remaining) (HasTakenAll remaining) input source input []
@@ -302,7 +304,8 @@ module _ (o : RecordingOptions) (p : SystemPorts) (source : TimedNumbers Ordered
 
   -- and it is set as its options say
   pub one-set : IsSetOne (way_of_one source)
-  one-set = record { order = new.order; said = new.said ∙ sym (ap (λ (o : RecordingOptions). o.origin) new.options_are) }
+  one-set = record { order = new.order; said = new.said
+      ∙ sym (ap (λ (o : RecordingOptions). o.origin) new.options_are) }
 
   -- what is answered by the options and the ports that it was made with
   module _ {H : Type 0} (items_of : Lines → List (Item H)) (done told begins : List (Item H) → Type 0)

@@ -111,7 +111,8 @@ module _ {H : Type 0} (whole : Taken) (AreCut : Lines → Type 0) (items_of : Li
     abbrev Hands : Result (Unit {0}) RunFault → Type 0
     Hands result = Runs gave ended done told begins stopped result
 
-    begun-first : CanBePeeled items_of → (known : Lines → Type 0) → ((lines : Lines) → known lines → AreFirstLines whole lines)
+    begun-first : CanBePeeled items_of → (known : Lines → Type 0)
+        → ((lines : Lines) → known lines → AreFirstLines whole lines)
         → (past : List (Item H)) → AreItems items_of known past → begins past ⊎ begins (without_newest past) → Begun
     begun-first peel known f past a b =
         taken-begun peel a.lines (f a.lines a.known_so)
@@ -123,7 +124,8 @@ module _ {H : Type 0} (whole : Taken) (AreCut : Lines → Type 0) (items_of : Li
     hands-err peel fault (past, inr (is, inl a, b)) =
         taken-output fault is (begun-first peel (AreFirstLines whole) (λ lines k. k) past (takes.first past a) b)
     hands-err peel fault (past, inr (is, inr a, b)) =
-        taken-output fault is (begun-first peel (AreAllLines whole) (λ lines k. ([], k.lines_are)) past (takes.all past a) b)
+        taken-output fault is (begun-first peel (AreAllLines whole)
+            (λ lines k. ([], k.lines_are)) past (takes.all past a) b)
 
     pub hands-ok : (tally : Tally) → tally ≡ counted → Hands (Ok tt) → Answers (Ok tally)
     hands-ok tally is (past, a, d) =

@@ -49,7 +49,8 @@ pub record IsCut {F Y : Type 0} (form : Form F Y) (cut : F → F) (latest : ℕ)
   pub same_fault : (fields : F) → form.fault latest (cut fields) ≡ form.fault latest fields
   pub whole : (fields : F) → form.fault latest fields ≡ None → cut fields ≡ fields
 
-module _ {F Y : Type 0} (form : Form F Y) (latest : ℕ) (line text : List ℕ) (is_text : text ≡ strip_carriage_return line) where
+module _ {F Y : Type 0} (form : Form F Y) (latest : ℕ) (line text : List ℕ)
+    (is_text : text ≡ strip_carriage_return line) where
   pub says_nothing : is_skipped text ≡ true → said_by form latest line ≡ Ok None
   says_nothing h = rw (← is_text, h) refl
 
@@ -141,7 +142,8 @@ pub record Says {F Y : Type 0} (form : Form F Y) (latest : ℕ) (line : List ℕ
   pub is : form.item fields bytes ≡ y
 
 module _ {F Y : Type 0} (form : Form F Y) where
-  pub says-from : (latest : ℕ) (line : List ℕ) (y : Y) → said_by form latest line ≡ Ok (Some y) → Says form latest line y
+  pub says-from : (latest : ℕ) (line : List ℕ) (y : Y) → said_by form latest line ≡ Ok (Some y)
+      → Says form latest line y
   says-from latest line y h = by (is_skipped (strip_carriage_return line)) h
     where
       with_bytes : (fields : F) → form.fields (strip_carriage_return line) ≡ Some fields

@@ -82,7 +82,8 @@ held-given b xs start end n buf given ordered some few size is =
     take_at given (drop n buf) n long ∙ is ∙ first_n xs start n ∙ front_between xs start end n within in
     let parts : slice_range xs start end ≡ take n (given ++ drop n buf) ++ slice_range xs (start + n) end =
     rw (front, rest_between xs start end n within) (sym (take-append-drop n (slice_range xs start end))) in (
-      (prepend_known-read _ b (slice_range xs start end) (slice_range xs (start + n) end) (take n (given ++ drop n buf)) ⊥
+      (prepend_known-read _ b (slice_range xs start end) (slice_range xs (start + n) end)
+          (take n (given ++ drop n buf)) ⊥
           (Keeps-refl _) parts (λ no. absurd no)).0,
       λ none more. absurd (some (all_given start end n (length buf) (length (given ++ drop n buf)) ordered few none
           (grind (arith, common_steps, long, none)) more)),

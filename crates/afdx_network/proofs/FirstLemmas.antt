@@ -147,7 +147,8 @@ module _ (t : Rows) (n : Network) (events : List Event) (st : StandsFor t n even
             (turns-are departure.0 p.port p.low p.high) p.among))
       ]
 
--- of the first events, of which the last is an arrival, none is left out up to it. Its place is the count of the arrivals before it
+-- of the first events, of which the last is an arrival, none is left out up to it. Its place is the
+-- count of the arrivals before it
 pub so-far : (t : Rows) (events : List Event) → EachFollows t events → AreFirst t events
     → IsAtArrival events → AreEventsSoFar t (arrivals_in events) events
 so-far t [] f h at = record {

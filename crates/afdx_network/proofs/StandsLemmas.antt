@@ -177,7 +177,8 @@ module _ (t : Rows) (n : Network) (events : List Event) (st : StandsFor t n even
       → switch.last_time n.switches.a ≤ until →
       switch.StandsFor t A a (with_take (calls_on A events (switch.last_time n.switches.a))
       (record { port = port; turn = s }) until) →
-      StandsFor t (record { switches = record { a = a; b = n.switches.b } }) (Left (departure_after events A port s) ∷ events)
+      StandsFor t (record { switches = record { a = a; b = n.switches.b } })
+          (Left (departure_after events A port s) ∷ events)
   stands-left-a a until port s low high next first by later is = record {
     lawful = st.lawful;
     on_a = subst (λ time. switch.StandsFor t A a
@@ -200,7 +201,8 @@ module _ (t : Rows) (n : Network) (events : List Event) (st : StandsFor t n even
       → switch.last_time n.switches.b ≤ until →
       switch.StandsFor t B b (with_take (calls_on B events (switch.last_time n.switches.b))
       (record { port = port; turn = s }) until) →
-      StandsFor t (record { switches = record { a = n.switches.a; b = b } }) (Left (departure_after events B port s) ∷ events)
+      StandsFor t (record { switches = record { a = n.switches.a; b = b } })
+          (Left (departure_after events B port s) ∷ events)
   stands-left-b b until port s low high next first by later is = record {
     lawful = st.lawful;
     on_a = st.on_a;
@@ -306,9 +308,11 @@ module _ (t : Rows) (n : Network) (events : List Event) (st : StandsFor t n even
       (due_a due_b : Option Due) → IsAFirst until due_a due_b → switch.last_time n.switches.a ≤ until →
       IfSome due_a (λ d. IsDue t A (calls_on A events (switch.last_time n.switches.a)) d)
       → IfSome due_b (λ d. IsDue t B (calls_on B events (switch.last_time n.switches.b)) d) →
-      ((port : ℕ) → 1 ≤ port → port ≤ 24 → IfNone due_b (IsDone t B (calls_on B events (switch.last_time n.switches.b)) port)) →
+      ((port : ℕ) → 1 ≤ port → port ≤ 24 → IfNone due_b
+          (IsDone t B (calls_on B events (switch.last_time n.switches.b)) port)) →
       switch.Gives t A (calls_on A events (switch.last_time n.switches.a)) until value a
-      → Gives t events until (record { side = A; departure = value }) (record { switches = record { a = a; b = n.switches.b } })
+      → Gives t events until (record { side = A; departure = value })
+        (record { switches = record { a = a; b = n.switches.b } })
   gives-a a until value due_a due_b first clock comes_a comes_b done_b g =
       let due : IsDue t A (calls_on A events (switch.last_time n.switches.a)) first.due =
       subst (λ z. IfSome z (λ d. IsDue t A (calls_on A events (switch.last_time n.switches.a)) d))
@@ -330,9 +334,11 @@ module _ (t : Rows) (n : Network) (events : List Event) (st : StandsFor t n even
       (due_a due_b : Option Due) → IsBFirst until due_a due_b → switch.last_time n.switches.b ≤ until →
       IfSome due_b (λ d. IsDue t B (calls_on B events (switch.last_time n.switches.b)) d)
       → IfSome due_a (λ d. IsDue t A (calls_on A events (switch.last_time n.switches.a)) d) →
-      ((port : ℕ) → 1 ≤ port → port ≤ 24 → IfNone due_a (IsDone t A (calls_on A events (switch.last_time n.switches.a)) port)) →
+      ((port : ℕ) → 1 ≤ port → port ≤ 24 → IfNone due_a
+          (IsDone t A (calls_on A events (switch.last_time n.switches.a)) port)) →
       switch.Gives t B (calls_on B events (switch.last_time n.switches.b)) until value b
-      → Gives t events until (record { side = B; departure = value }) (record { switches = record { a = n.switches.a; b = b } })
+      → Gives t events until (record { side = B; departure = value })
+        (record { switches = record { a = n.switches.a; b = b } })
   gives-b b until value due_a due_b first clock comes_b comes_a done_a g =
       let due : IsDue t B (calls_on B events (switch.last_time n.switches.b)) first.due =
       subst (λ z. IfSome z (λ d. IsDue t B (calls_on B events (switch.last_time n.switches.b)) d))
@@ -411,7 +417,8 @@ module _ (t : Rows) (n : Network) (events : List Event) (st : StandsFor t n even
       all_from (λ e.
           IsTrue (is_before e (Came (admission_after t (arrivals_in events)
           (arrival_with tag time A port bytes))))) events
-          (came-after time until (arrival_with tag time A port bytes) refl (record { switches = record { a = a; b = n.switches.b } })
+          (came-after time until (arrival_with tag time A port bytes) refl
+              (record { switches = record { a = a; b = n.switches.b } })
           later quiet),
       st.in_order,
     );
@@ -461,7 +468,8 @@ module _ (t : Rows) (n : Network) (events : List Event) (st : StandsFor t n even
       all_from (λ e.
           IsTrue (is_before e (Came (admission_after t (arrivals_in events)
           (arrival_with tag time B port bytes))))) events
-          (came-after time until (arrival_with tag time B port bytes) refl (record { switches = record { a = n.switches.a; b = b } })
+          (came-after time until (arrival_with tag time B port bytes) refl
+              (record { switches = record { a = n.switches.a; b = b } })
           later quiet),
       st.in_order,
     );
@@ -518,8 +526,10 @@ module _ (t : Rows) (n : Network) (events : List Event) (st : StandsFor t n even
       (due_a due_b : Option Due) → IsFirstSide until due_a due_b (Some side) → IsUntil n until →
       IfSome due_a (λ d. IsDue t A (calls_on A events (switch.last_time n.switches.a)) d)
       → IfSome due_b (λ d. IsDue t B (calls_on B events (switch.last_time n.switches.b)) d) →
-      ((port : ℕ) → 1 ≤ port → port ≤ 24 → IfNone due_a (IsDone t A (calls_on A events (switch.last_time n.switches.a)) port)) →
-      ((port : ℕ) → 1 ≤ port → port ≤ 24 → IfNone due_b (IsDone t B (calls_on B events (switch.last_time n.switches.b)) port)) →
+      ((port : ℕ) → 1 ≤ port → port ≤ 24 → IfNone due_a
+          (IsDone t A (calls_on A events (switch.last_time n.switches.a)) port)) →
+      ((port : ℕ) → 1 ≤ port → port ≤ 24 → IfNone due_b
+          (IsDone t B (calls_on B events (switch.last_time n.switches.b)) port)) →
       switch.Gives t side (calls_on side events (switch.last_time (on side n.switches))) until value new
       → Gives t events until (record { side = side; departure = value })
       (record { switches = with_on side n.switches new })
@@ -529,7 +539,8 @@ module _ (t : Rows) (n : Network) (events : List Event) (st : StandsFor t n even
       gives-b new until value due_a due_b first clock.on_b comes_b comes_a done_a gives
 
 -- the side whose turn goes first, by then, gives it
-pub must-give : (side : Side) (n : Network) (until : ℕ) (due_a due_b : Option Due) → IsFirstSide until due_a due_b (Some side)
+pub must-give : (side : Side) (n : Network) (until : ℕ) (due_a due_b : Option Due)
+    → IsFirstSide until due_a due_b (Some side)
     → ((time : ℕ) → switch.IsQuiet n.switches.a time ↔ IfSome due_a (λ d. IsAfter time d))
     → ((time : ℕ) → switch.IsQuiet n.switches.b time ↔ IfSome due_b (λ d. IsAfter time d))
     → switch.IsQuiet (on side n.switches) until → ⊥

@@ -63,7 +63,8 @@ windows-overdrawn link (x ∷ xs) taken time units alone h =
     windows-overdrawn link xs (taken + x.charge) time units alone h.1 in
     omega (arith, h.0, before)
 
--- over numbers: the window rule in bytes and nanoseconds is the one in the account's units, m of which go to a unit of the rule
+-- over numbers: the window rule in bytes and nanoseconds is the one in the account's units, m of
+-- which go to a unit of the rule
 into-units : (m ms s n p b j : ℕ) → ms * m ≡ 128 → b ≡ 1000000 * ms → b * n ≤ s * (p + b + j)
     → byte_units * n ≤ s * m * p + s * m * (b + j)
 into-units m ms s n p b j is-bag e h =

@@ -6,7 +6,8 @@ use Rattle.afdx_frame.specs.Regulation.{Regulation, bag, jitter}
 use Rattle.afdx_police.specs.Stream.{IsRegular}
 use Rattle.afdx_police.specs.Window.{Charged, keeps_windows, fits, with_next, accepted_of}
 
--- each window that begins with one of these, after which frames of `taken` bytes came, is spent by the next moment of release
+-- each window that begins with one of these, after which frames of `taken` bytes came, is spent by
+-- the next moment of release
 abbrev Kept : Regulation → List Charged → ℕ → ℕ → Type 0
 Kept link [] taken next = Unit {0}
 Kept link (first ∷ before) taken next =

@@ -45,7 +45,8 @@ module _ {X : Type 0} where
       → due_of facts p ≡ Some (record { time = p.free; too_old = l.too_old })
   due_busy facts p l e = ap (λ o. due_first p.free o (due_next facts p (choice_of p))) e
 
-  pub due_nothing : (facts : X → Facts) (p : PortState X) → p.sending ≡ None → choice_of p ≡ None → due_of facts p ≡ None
+  pub due_nothing : (facts : X → Facts) (p : PortState X) → p.sending ≡ None → choice_of p ≡ None
+      → due_of facts p ≡ None
   due_nothing facts p none chosen = ap (λ o. due_first p.free o (due_next facts p (choice_of p)))
       none ∙ ap (λ o. due_next facts p o) chosen
 

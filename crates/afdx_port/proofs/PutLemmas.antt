@@ -315,7 +315,8 @@ module _ {X : Type 0} where
     back = tt;
     lost = λ h st. (
       λ err. cc err,
-      λ lost. absurd (fits h (schedule_of h.byte_ns h.entries) st (schedule_of_is h.byte_ns h.entries st.in_order) lost),
+      λ lost. absurd (fits h (schedule_of h.byte_ns h.entries) st
+          (schedule_of_is h.byte_ns h.entries st.in_order) lost),
     );
     lost_by_any = λ h turns st all. (λ err. cc err, λ lost. absurd (fits h turns st all lost));
     quiet = pushed_quiet facts p mid time c x n q (quiet_stays facts old p time a.due quiet) a.chosen;

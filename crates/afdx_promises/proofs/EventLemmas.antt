@@ -542,7 +542,8 @@ so-far-is t arrivals events are =
     (first.0, first.1 ∙ ap (λ es. first.0 ++ es) (sym (one-order-so-far t arrivals events are)))
 
 -- what has left a port is the beginning of its turns
-pub taken-so-far : {greatest_jitter : ℕ → ℕ} (t : Rows) (arrivals : List Arrival) (events : List Event) (side : Side) (port : ℕ)
+pub taken-so-far : {greatest_jitter : ℕ → ℕ} (t : Rows) (arrivals : List Arrival)
+    (events : List Event) (side : Side) (port : ℕ)
     → IsLawfulUpTo greatest_jitter t → AreTimed arrivals → 1 ≤ port → port ≤ 24 → AreEventsSoFar t arrivals events →
     (later : List (Turn HeldFrame)) × (turns_at t side port arrivals ≡ later ++ taken_at port (turns_on side events))
 taken-so-far t arrivals events side port lawful timed low high are =

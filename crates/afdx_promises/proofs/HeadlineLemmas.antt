@@ -69,7 +69,8 @@ verdicts-are t arrivals lines lawful same = record {
       ∙ unknown-reason t w.0 v.arrival (no-row t v.arrival.bytes lawful none));
 }
 
-accepted-are : {greatest_jitter : ℕ → ℕ} (t : Rows) (arrivals : List Arrival) (lines : List Line) (side : Side) (place : ℕ)
+accepted-are : {greatest_jitter : ℕ → ℕ} (t : Rows) (arrivals : List Arrival) (lines : List Line)
+    (side : Side) (place : ℕ)
     (l : LinkRow) → IsLawfulUpTo greatest_jitter t → judged_in lines ≡ verdicts_of t arrivals
     → slice_get t.links place ≡ Some l →
     accepted_in (verdicts_on l.vl side lines) ≡ accepted_on t l side arrivals

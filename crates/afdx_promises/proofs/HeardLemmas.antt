@@ -87,7 +87,8 @@ told-off : (vl : ℕ) (answer : Answer) (rest : List sent.Message) → with_told
 told-off vl (Message v udp payload) rest = refl
 told-off vl (Dropped why) rest = refl
 
-module _ {greatest_jitter : ℕ → ℕ} (t : Rows) (system : ℕ) (s : SystemRow) (vl : ℕ) (lawful : IsLawfulUpTo greatest_jitter t)
+module _ {greatest_jitter : ℕ → ℕ} (t : Rows) (system : ℕ) (s : SystemRow) (vl : ℕ)
+    (lawful : IsLawfulUpTo greatest_jitter t)
     (stands_at : slice_get t.systems system ≡ Some s) where
   -- the system is at its port, and at no other
   at-port : (port : ℕ) → port ≡ s.port → system_at_port t.systems port ≡ Some system

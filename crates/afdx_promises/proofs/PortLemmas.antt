@@ -100,7 +100,8 @@ abbrev pub NoneIsOld : ℕ → List (Turn HeldFrame) → Type 0
 NoneIsOld vl turns = (k : ℕ) (d : Turn HeldFrame) → k < length turns
     → is_of vl (slice_index_or turns k d).entry ≡ true → (slice_index_or turns k d).too_old ≡ false
 
-older : (vl : ℕ) (s : Turn HeldFrame) (earlier : List (Turn HeldFrame)) → NoneIsOld vl (s ∷ earlier) → NoneIsOld vl earlier
+older : (vl : ℕ) (s : Turn HeldFrame) (earlier : List (Turn HeldFrame)) → NoneIsOld vl (s ∷ earlier)
+    → NoneIsOld vl earlier
 older vl s earlier none k d lt = none (suc k) d (omega (arith, lt))
 
 push-same : (vl : ℕ) (xs ys : List (Entry HeldFrame)) (e : Entry HeldFrame)

@@ -68,7 +68,8 @@ judged-alone t past x run = record {
 
 -- ---- receptions
 
-pub goes-there : {greatest_jitter : ℕ → ℕ} (t : Rows) (system : ℕ) (s : SystemRow) (l : LinkRow) → IsLawfulUpTo greatest_jitter t
+pub goes-there : {greatest_jitter : ℕ → ℕ} (t : Rows) (system : ℕ) (s : SystemRow) (l : LinkRow)
+    → IsLawfulUpTo greatest_jitter t
     → slice_get t.systems system ≡ Some s → is_to system l ≡ true → goes_to t l s.port ≡ true
 goes-there t system s l lawful stands goes = (port-of-system t system s lawful stands).goes l ∙ goes
 
@@ -117,7 +118,8 @@ frames-apart t arrivals others side port place l run also at same =
     ∙ ap (λ xs. if goes_to t l port then map passing (reverse (accepted_arrivals (rule_of t l) xs)) else []) same
     ∙ sym (left-are-accepted t others side port place l also at)
 
-verdict-apart : {greatest_jitter : ℕ → ℕ} (t : Rows) (arrivals others : List Arrival) (place : ℕ) (l : LinkRow) (x : Arrival)
+verdict-apart : {greatest_jitter : ℕ → ℕ} (t : Rows) (arrivals others : List Arrival) (place : ℕ)
+    (l : LinkRow) (x : Arrival)
     → IsLawfulUpTo greatest_jitter t → slice_get t.links place ≡ Some l → names l.vl x.bytes ≡ true →
     own l.vl x.side arrivals ≡ own l.vl x.side others → reason_of t arrivals x ≡ reason_of t others x
 verdict-apart t arrivals others place l x lawful at named same =

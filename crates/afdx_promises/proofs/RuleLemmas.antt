@@ -131,7 +131,8 @@ pub record AreOwn (t : Rows) (l : LinkRow) (side : Side) (arrivals : List Arriva
       ≡ accepted_arrivals (rule_of t l) (own l.vl side arrivals)
   pub rule : AreByWindowRule (rule_of t l) (own_verdicts l.vl side (verdicts_of t arrivals))
 
-pub own-verdicts : {greatest_jitter : ℕ → ℕ} (t : Rows) (l : LinkRow) (side : Side) (place : ℕ) → IsLawfulUpTo greatest_jitter t
+pub own-verdicts : {greatest_jitter : ℕ → ℕ} (t : Rows) (l : LinkRow) (side : Side) (place : ℕ)
+    → IsLawfulUpTo greatest_jitter t
     → slice_get t.links place ≡ Some l → (arrivals : List Arrival) → AreOwn t l side arrivals
 unfolding verdicts_of accepted_arrivals
 own-verdicts t l side place lawful at [] = record { accepted = refl; rule = tt }

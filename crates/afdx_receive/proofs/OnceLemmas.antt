@@ -124,7 +124,8 @@ pub stream_delivered_once : BuiltIsComputed
     → (systems : ℕ) (s : SystemRow) (l : LinkRow) (messages : List Message) (stream : List Sending)
     (is_open : ℕ → Bool)
     (came : List Incoming) →
-    IsLink systems l → l.latency_us ≤ l.skew_us → IsLawfulStream s l messages stream → AreCopies (1000 * l.latency_us) stream came →
+    IsLink systems l → l.latency_us ≤ l.skew_us → IsLawfulStream s l messages stream
+        → AreCopies (1000 * l.latency_us) stream came →
     reverse (delivered (1000 * l.skew_us) is_open came)
     ≡ filter (λ (m : Message). is_open m.udp)
     (take (max (count_of A came) (count_of B came)) messages)

@@ -151,7 +151,8 @@ pub port_is : (tables : Rows) (system vl udp : ℕ) (payload : List ℕ) (is : B
 port_is tables system vl udp payload is e = ap (λ b. cond b (Message vl udp payload) (Dropped NoPort)) e
 
 -- what a receiver of links selects, once the UDP port is looked up
-pub looked_up : (tables : Rows) (system : ℕ) (past : List Arrived) (x : Arrived) (answer told : Answer) (new : Receiver) →
+pub looked_up : (tables : Rows) (system : ℕ) (past : List Arrived) (x : Arrived)
+    (answer told : Answer) (new : Receiver) →
     Selects tables system past x answer new.links → at_ports tables system answer ≡ told →
     PortsStandFor tables system new.ports → Receives tables system past x told new
 looked_up tables system past x answer told new selected is ports = record {

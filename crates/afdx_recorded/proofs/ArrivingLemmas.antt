@@ -71,7 +71,8 @@ module _ (x : Item NumberLine) (lines : Lines) (kind : FrameKind) (time : ℕ) (
 
   -- so it is given behind those before it
   pub arrival-given : (known-so : Lines → Type 0) (past : List (Item Heading)) → past ≡ arrivals_listed lines
-      → known-so (x ∷ lines) → LineFollows lines x → AreItems arrivals_listed known-so (Arrives ∷ past) × CanFollow past Arrives
+      → known-so (x ∷ lines) → LineFollows lines x
+      → AreItems arrivals_listed known-so (Arrives ∷ past) × CanFollow past Arrives
   arrival-given known-so past e k h = (
     record {
       lines = x ∷ lines;

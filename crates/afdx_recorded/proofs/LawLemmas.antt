@@ -205,7 +205,8 @@ module _ (of_a of_b : Options) (ports : Ports) (said : Option ℕ) where
       (sequence-ordered of_a ports a) (sequence-ordered of_b ports b)
 
   -- and where a read of one failed
-  pub cut-in-order : (failed_a failed_b : Bool) (bytes_a bytes_b : List ℕ) (rest_a rest_b : Option (List ℕ)) (lines : Lines)
+  pub cut-in-order : (failed_a failed_b : Bool) (bytes_a bytes_b : List ℕ)
+      (rest_a rest_b : Option (List ℕ)) (lines : Lines)
       → AreCutOffAtOne said (sequence_of_bytes of_a ports) (sequence_of_bytes of_b ports) failed_a failed_b
       bytes_a bytes_b rest_a rest_b lines → AreInOrder (arrivals (arrivals_listed lines))
   cut-in-order failed_a failed_b bytes_a bytes_b rest_a rest_b lines (inl h) =

@@ -31,7 +31,8 @@ merge-skipped-a past x xs ys fa fb is =
     (at_head_of_a x (λ before ys. merge before xs fa ys fb) past ys fb) is
 
 -- an arrival of A stands at its head
-pub merge-head : (past : Numbers) (x : Item Number) (xs ys : List (Item Number)) (fa fb : Option RunFault) (found : Found)
+pub merge-head : (past : Numbers) (x : Item Number) (xs ys : List (Item Number))
+    (fa fb : Option RunFault) (found : Found)
     → x.head ≡ Arrival found
     → merge past (x ∷ xs) fa ys fb ≡ at_head_of_a x (λ before ys. merge before xs fa ys fb) past ys fb
 unfolding merge

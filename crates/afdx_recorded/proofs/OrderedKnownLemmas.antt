@@ -199,7 +199,8 @@ module _ {R : Type 0} (remaining : R → Option (List ℕ)) (start input : Watch
   same-fault : (f g : RecordingFault) → run.Recording f ≡ run.Recording g → f ≡ g
   same-fault f g e = cc
 
-  pub stopped-fault : (fault : RecordingFault) → HasStoppedTaking remaining start source input past (run.Recording fault)
+  pub stopped-fault : (fault : RecordingFault)
+      → HasStoppedTaking remaining start source input past (run.Recording fault)
       → HasFaultBehind fault
   stopped-fault fault (inl s) =
       let k = at-parts s.read s.why s.are_forward s.stops in record {

@@ -263,7 +263,8 @@ module _ {S I : Type 0} (current : S → Item Number) (gave ended : I → S → 
           joins = λ xs ys fx fy can_a can_b.
               let joins = rw g.unknown at p.joins in
               rw g.still (
-              ap (λ (all : Numbers). merge [] all fx (reverse p.taken_b ++ (head_by (current pair.b.source) pair.b.head ++ ys)) fy)
+              ap (λ (all : Numbers). merge [] all fx
+                  (reverse p.taken_b ++ (head_by (current pair.b.source) pair.b.head ++ ys)) fy)
               (reverse-taken x p.taken_a xs)
               ∙ joins (x ∷ xs) ys fx fy tt can_b
               ∙ merge-skipped-a past x xs (head_by (current pair.b.source) pair.b.head ++ ys) fx fy g.skipped);

@@ -44,7 +44,8 @@ module _ {S I : Type 0} (current : S → Item AsRead) (gave ended : I → S → 
       → Gave start ordered input past → IsReading start ordered input past
   is-reading start ordered input past e h =
       let k : StandsAt gave ended stopped Reading ordered.most start ordered.source input h.read ordered.held past =
-      subst (λ (s : Stage). StandsAt gave ended stopped s ordered.most start ordered.source input h.read ordered.held past)
+      subst (λ (s : Stage). StandsAt gave ended stopped s ordered.most start ordered.source input
+          h.read ordered.held past)
       e h.stands in record {
         read = h.read;
         are_forward = h.are_forward;
@@ -93,7 +94,8 @@ module _ {S I : Type 0} (current : S → Item AsRead) (gave ended : I → S → 
         let g = more-forward mid.most read X f follows e in
         let k = pass-held mid.most read X f follows mid.held past p.skipped h in
         subst (λ (o : Ordered S). GivesNext start o input past) (sym p.new_is) (record {
-          gave_them = still-reading start (record mid { is_held = false }) input (number_read X ∷ past) reading (record {
+          gave_them = still-reading start (record mid { is_held = false }) input
+              (number_read X ∷ past) reading (record {
             read = X ∷ read;
             are_forward = g;
             latest = latest ∙ sym (latest-next (number_read X) past
@@ -108,7 +110,8 @@ module _ {S I : Type 0} (current : S → Item AsRead) (gave ended : I → S → 
     stands : (new : Ordered S) → Stands X mid new → GivesNext start new input past
     stands new p =
         let a = p.in_time.arrives in
-        let e : Forward-to = back-told mid.most read X f follows mid.latest past false a latest h.handed p.in_time.forward in
+        let e : Forward-to = back-told mid.most read X f follows mid.latest past false a latest
+            h.handed p.in_time.forward in
         let g = more-forward mid.most read X f follows e in
         let k = stand-held mid.most read X f follows mid.held past p.none a e h in
         subst (λ (o : Ordered S). GivesNext start o input past) (sym p.new_is) (record {
@@ -235,7 +238,8 @@ module _ {S I : Type 0} (current : S → Item AsRead) (gave ended : I → S → 
         by : (s : Stage) → old.stage ≡ s → GivesNext start new input past
         by Reading e = absurd (known e)
         by Over e =
-            let k = subst (λ (s : Stage). StandsAt gave ended stopped s old.most start old.source input g.read old.held past)
+            let k = subst (λ (s : Stage). StandsAt gave ended stopped s old.most start old.source
+                input g.read old.held past)
             e g.stands in
             let l = give-left old.most g.read g.are_forward old.held new.held past p.first p.comes p.are_held k.1 in
             subst (λ (o : Ordered S). GivesNext start o input past) (sym p.new_is) (record {
@@ -249,7 +253,8 @@ module _ {S I : Type 0} (current : S → Item AsRead) (gave ended : I → S → 
               follows = l.follows;
             })
         by (Stopped fault) e =
-            let k = subst (λ (s : Stage). StandsAt gave ended stopped s old.most start old.source input g.read old.held past)
+            let k = subst (λ (s : Stage). StandsAt gave ended stopped s old.most start old.source
+                input g.read old.held past)
             e g.stands in
             let l = give-left old.most g.read g.are_forward old.held new.held past p.first p.comes p.are_held k.1 in
             subst (λ (o : Ordered S). GivesNext start o input past) (sym p.new_is) (record {
@@ -266,7 +271,8 @@ module _ {S I : Type 0} (current : S → Item AsRead) (gave ended : I → S → 
     -- none is held any more
     pub drained : old.stage ≡ Over → old.held ≡ [] → HasOrderedAll gave ended stopped start old input past
     drained e none =
-        let k = subst (λ (s : Stage). StandsAt gave ended stopped s old.most start old.source input g.read old.held past)
+        let k = subst (λ (s : Stage). StandsAt gave ended stopped s old.most start old.source input
+            g.read old.held past)
         e g.stands in record {
           read = g.read;
           are_forward = g.are_forward;
@@ -277,7 +283,8 @@ module _ {S I : Type 0} (current : S → Item AsRead) (gave ended : I → S → 
     pub drained-fault : (fault : RecordingFault) → old.stage ≡ Stopped fault → old.held ≡ []
         → HasStoppedOrdering gave ended stopped start old input past (run.Recording fault)
     drained-fault fault e none =
-        let k = subst (λ (s : Stage). StandsAt gave ended stopped s old.most start old.source input g.read old.held past)
+        let k = subst (λ (s : Stage). StandsAt gave ended stopped s old.most start old.source input
+            g.read old.held past)
         e g.stands in inl (record {
           read = g.read;
           are_forward = g.are_forward;

@@ -64,7 +64,8 @@ pub head_by-take : (before : Order) (n : ℕ) (xs : List ℕ) → 12 ≤ n → n
 head_by-take before n xs long within = head_by-same before (take n xs) xs
     (λ order place h. number_at-take order 4 place n xs (omega (arith, h, long)) within)
 
-pub block_rest-take : (state : State) (xs : List ℕ) → 12 ≤ length xs → block_rest state (take 12 xs) ≡ block_rest state xs
+pub block_rest-take : (state : State) (xs : List ℕ) → 12 ≤ length xs
+    → block_rest state (take 12 xs) ≡ block_rest state xs
 unfolding block_rest
 block_rest-take state xs within = rw (head_by-take state.order 12 xs (omega arith) within) refl
 

@@ -16,7 +16,8 @@ EndsWithin bytes (Next code n) = 4 + filled n ≤ length bytes
 EndsWithin bytes Last = Unit {0}
 EndsWithin bytes Broken = Unit {0}
 
-either : (bytes : List ℕ) (b : Bool) (x y : NextOption) → EndsWithin bytes x → EndsWithin bytes y → EndsWithin bytes (cond b x y)
+either : (bytes : List ℕ) (b : Bool) (x y : NextOption) → EndsWithin bytes x → EndsWithin bytes y
+    → EndsWithin bytes (cond b x y)
 either bytes true x y h k = h
 either bytes false x y h k = k
 
@@ -71,7 +72,8 @@ options_in-step order bytes =
     options_within-more (length bytes) (suc (length (drop (4 + filled k) bytes))) order (drop (4 + filled k) bytes)
     less (omega arith))
 
-pub options_in-last : (order : Order) (bytes : List ℕ) → next_option order bytes ≡ Last → options_in order bytes ≡ Some []
+pub options_in-last : (order : Order) (bytes : List ℕ) → next_option order bytes ≡ Last
+    → options_in order bytes ≡ Some []
 options_in-last order bytes e = options_in-step order bytes ∙ ap (by_option (options_in order) bytes) e
 
 pub options_in-broken : (order : Order) (bytes : List ℕ) → next_option order bytes ≡ Broken
@@ -180,10 +182,12 @@ said-number order code size bytes e whole =
     let enough : 0 + size ≤ size = omega arith in
     let held : size ≤ length (drop 4 bytes) = grind (arith, common_steps) in
     said-here order code size bytes size e whole
-    ∙ rw (size_is, same size) (ap (λ (n : ℕ). Some (Some n)) (number_at-take order size 0 size (drop 4 bytes) enough held))
+    ∙ rw (size_is, same size) (ap (λ (n : ℕ). Some (Some n))
+      (number_at-take order size 0 size (drop 4 bytes) enough held))
 
 -- the bytes behind the next option
-pub behind_next : (place n : ℕ) (bytes : List ℕ) → drop (4 + filled n) (drop place bytes) ≡ drop (place + (4 + filled n)) bytes
+pub behind_next : (place n : ℕ) (bytes : List ℕ)
+    → drop (4 + filled n) (drop place bytes) ≡ drop (place + (4 + filled n)) bytes
 behind_next place n bytes = grind (arith, common_steps)
 
 -- it ends within all bytes

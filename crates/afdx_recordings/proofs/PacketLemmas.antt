@@ -151,7 +151,8 @@ pub captured_by-later : (state : State) (old new : Standing) → Passes old new 
     → (16 ≤ length new.held) × (captured_by state new.held ≡ captured_by state old.held)
 captured_by-later state old new passes within =
     let all : old.held ++ passes.given ≡ new.held = passes.parts in
-    let size : length (old.held ++ passes.given) ≡ length old.held + length passes.given = grind (arith, common_steps) in (
+    let size : length (old.held ++ passes.given) ≡ length old.held + length passes.given = grind
+        (arith, common_steps) in (
       rw (← all) (omega (arith, size)),
       ap (captured_by state) (sym all) ∙ captured_by-append state old.held passes.given within,
     )

@@ -22,7 +22,8 @@ use Rattle.afdx_recordings.proofs.ReadingLemmas.{SaysFirst-block, SaysSame-block
 
 rest_in_front : (state : State) (xs more : List ℕ) → 12 ≤ length xs
     → block_rest state (take 12 (xs ++ more)) ≡ block_rest state xs
-rest_in_front state xs more within = ap (block_rest state) (take-append-le 12 xs more within) ∙ block_rest-take state xs within
+rest_in_front state xs more within = ap (block_rest state) (take-append-le 12 xs more within)
+    ∙ block_rest-take state xs within
 
 back : (head : Head) → 12 ≤ head.size → 12 + behind_head head ≡ head.size
 back head h = omega (arith, h)
@@ -37,7 +38,8 @@ whole before head xs more few told least within =
     next_block-whole 12 (block_rest before) (block_meaning before) before.numbers (xs ++ more) (behind_head head)
     (omega arith) rest (omega (arith, back head least, within, size))
     ∙ ap (λ (n : ℕ). by_meaning n (block_meaning before (take n (xs ++ more)))) (back head least)
-    ∙ ap (λ (bytes : List ℕ). by_meaning head.size (block_meaning before bytes)) (take-append-le head.size xs more within)
+    ∙ ap (λ (bytes : List ℕ). by_meaning head.size (block_meaning before bytes))
+      (take-append-le head.size xs more within)
 
 -- less than the block is there
 cut : (before : State) (head : Head) (xs : List ℕ) → before.blocks < 100000000000000000
@@ -45,7 +47,8 @@ cut : (before : State) (head : Head) (xs : List ℕ) → before.blocks < 1000000
     → step_by (Some form.Pcapng) before xs ≡ Ends (Faulted (Ended before.numbers))
 cut before head xs few told least held short =
     next_block-cut 12 (block_rest before) (block_meaning before) before.numbers xs (behind_head head) (omega arith)
-    (block_rest-take before xs held ∙ block_rest-told before xs head few told) held (omega (arith, back head least, short))
+    (block_rest-take before xs held ∙ block_rest-told before xs head few told) held
+        (omega (arith, back head least, short))
 
 -- what a call read tells of the block which stands first
 pub TellsBlock-meant : (result : Result Bool RunFault) (old new : Standing) (before after : State) (item : Numbered)
@@ -63,7 +66,8 @@ TellsBlock-meant (Ok false) old new before after item head given h k gives few t
     SaysSame-block old new before after form.Pcapng head.size given h (k ∙ h) gives
     (λ more. whole before head (old.held ++ given) more few told least within ∙ ap (by_meaning head.size) meant)
     within rest
-TellsBlock-meant (Err (run.Recording f)) old new before after item head given h k gives few told least within rest meant = (
+TellsBlock-meant (Err (run.Recording f)) old new before after item head given h k gives few told
+    least within rest meant = (
   lost_by before,
   SaysEnding-block old new before form.Pcapng (Faulted f) given h gives
       (λ more _. whole before head (old.held ++ given) more few told least within ∙ ap (by_meaning head.size) meant),
@@ -78,19 +82,25 @@ TellsBlock-meant (Err (run.BadLine n)) old new before after item head given h k 
     absurd meant
 TellsBlock-meant (Err (run.BadHex n)) old new before after item head given h k gives few told least within rest meant =
     absurd meant
-TellsBlock-meant (Err (run.TimeBack n)) old new before after item head given h k gives few told least within rest meant =
+TellsBlock-meant (Err (run.TimeBack n)) old new before after item head given h k gives few told
+    least within rest meant =
     absurd meant
-TellsBlock-meant (Err (run.TimeTooLarge n)) old new before after item head given h k gives few told least within rest meant =
+TellsBlock-meant (Err (run.TimeTooLarge n)) old new before after item head given h k gives few told
+    least within rest meant =
     absurd meant
 TellsBlock-meant (Err (run.BadPort n)) old new before after item head given h k gives few told least within rest meant =
     absurd meant
-TellsBlock-meant (Err (run.RecordingOfA n)) old new before after item head given h k gives few told least within rest meant =
+TellsBlock-meant (Err (run.RecordingOfA n)) old new before after item head given h k gives few told
+    least within rest meant =
     absurd meant
-TellsBlock-meant (Err (run.RecordingOfB n)) old new before after item head given h k gives few told least within rest meant =
+TellsBlock-meant (Err (run.RecordingOfB n)) old new before after item head given h k gives few told
+    least within rest meant =
     absurd meant
-TellsBlock-meant (Err (run.LineTooLong n)) old new before after item head given h k gives few told least within rest meant =
+TellsBlock-meant (Err (run.LineTooLong n)) old new before after item head given h k gives few told
+    least within rest meant =
     absurd meant
-TellsBlock-meant (Err run.TooManyLines) old new before after item head given h k gives few told least within rest meant =
+TellsBlock-meant (Err run.TooManyLines) old new before after item head given h k gives few told
+    least within rest meant =
     absurd meant
 
 -- the head stays the same when more is given
@@ -124,7 +134,8 @@ behind_passed : (passed rest : List ℕ) (n : ℕ) → length passed + 4 ≡ n �
 behind_passed passed rest n h = rw (← h) (drop-append-add passed rest 4)
 
 -- it was passed but for its last bytes
-pub TellsBlock-skipped : (result : Result Bool RunFault) (old mid new : Standing) (before after : State) (item : Numbered)
+pub TellsBlock-skipped : (result : Result Bool RunFault) (old mid new : Standing)
+    (before after : State) (item : Numbered)
     (head : Head) (passed : List ℕ) → before.form ≡ Some form.Pcapng → after.form ≡ before.form
     → Passes old mid passed → before.blocks < 100000000000000000 → 12 ≤ length old.held
     → head_by before.order old.held ≡ Some head → 12 ≤ head.size → length passed + 4 ≡ head.size
@@ -194,7 +205,8 @@ SaysEnding-bad_head old before h held told =
 -- less than a head is held
 short_head : (before : State) (xs : List ℕ) → 0 < length xs → length xs < 12
     → step_by (Some form.Pcapng) before xs ≡ Ends (Faulted (Ended before.numbers))
-short_head before xs some few = next_block-short 12 (block_rest before) (block_meaning before) before.numbers xs some few
+short_head before xs some few = next_block-short 12 (block_rest before)
+    (block_meaning before) before.numbers xs some few
 
 -- nothing is held
 over : (before : State) (xs : List ℕ) → length xs ≡ 0 → step_by (Some form.Pcapng) before xs ≡ Ends Over

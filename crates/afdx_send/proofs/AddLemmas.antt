@@ -141,7 +141,8 @@ submission_stands w h place index line line' m ag st k =
       lines = λ i line1 l1 a b.
           elim (own_set h.taken place i (own_submissions h.taken place ++ s ∷ []) below'
           (cases_eq i place)) [
-            | inl e ↦ (let a' = subst (λ (z : ℕ). slice_get (slice_set w.lines.items place line') z ≡ Some line1) e.0 a in
+            | inl e ↦ (let a' = subst (λ (z : ℕ). slice_get
+                (slice_set w.lines.items place line') z ≡ Some line1) e.0 a in
                 let same : line1 ≡ line' = get_set_same w.lines.items place line' line1 a' in
                 let b' = subst (λ (z : ℕ). slice_get h.links z ≡ Some l1) e.0 b in
                 let stands = line_takes line line' index m l1 (own_submissions h.taken place)

@@ -78,7 +78,8 @@ all_stay links taken place s (x ∷ xs) below before h = (
               subst (λ (z : List Submission). IsNext (bag (regulation_of_link l)) l.subs z (own i xs) r)
               (sym a.1) (subst (λ (z : ℕ). IsNext (bag (regulation_of_link l)) l.subs
               (own_submissions taken z ++ s ∷ []) (own i xs) r) a.0 longer))
-          | inr a ↦ subst (λ (z : List Submission). IsNext (bag (regulation_of_link l)) l.subs z (own i xs) r) (sym a.1) n
+          | inr a ↦ subst (λ (z : List Submission). IsNext (bag (regulation_of_link l)) l.subs z
+              (own i xs) r) (sym a.1) n
         ]
 
     next_before : (i : ℕ) (l : LinkRow) (r : Release) → r.time < s.time

@@ -30,10 +30,13 @@ after doc next es fs ran = run-append doc es fs ∙ ap (option_and_then (λ d. r
 tables-run : (t : Rows) → (q : List (List ℕ)) × (run (no_nodes, []) (config_expressions t) ≡ Some (tables_root t, q))
 unfolding root
 tables-run t =
-    let systems = rows-run (codes "system") system_fields system_nodes system-made t.systems (top_nodes t) [] (no-system t) in
-    let links = rows-run (codes "link") (link_fields t.systems) (link_nodes t.systems) (link-made t.systems) t.links _ systems.0
+    let systems = rows-run (codes "system") system_fields system_nodes system-made t.systems
+        (top_nodes t) [] (no-system t) in
+    let links = rows-run (codes "link") (link_fields t.systems) (link_nodes t.systems)
+        (link-made t.systems) t.links _ systems.0
     (no-link t (systems_node t)) in
-    let ports = rows-run (codes "port") (port_fields t.systems) (port_nodes t.systems) (port-made t.systems) t.ports _ links.0
+    let ports = rows-run (codes "port") (port_fields t.systems) (port_nodes t.systems)
+        (port-made t.systems) t.ports _ links.0
     (no-port t (systems_node t) (links_node t)) in (
       ports.0,
       after _ _ (field_lines (top_fields t)) _ (top-run t)
@@ -51,7 +54,8 @@ text-parses t lawful =
     let text = config_text t in
     let (q, ran) = tables-run t in
     let all = config-lines t lawful in
-    let read = read_lines false false (config_expressions t) text text (no_nodes, []) (suc (length text)) all.lines all.printed
+    let read = read_lines false false (config_expressions t) text text (no_nodes, [])
+        (suc (length text)) all.lines all.printed
     refl (omega arith) in
     document_some text (tables_root t, q) (rw (no-bom t) (read ∙ ran))
 
@@ -59,6 +63,7 @@ text-spells : (t : Rows) → IsLawful t → IsUtf8 (config_text t) → Spells (c
 text-spells t lawful utf8 = (utf8, (close (tables_root t), text-parses t lawful, tree-reads t lawful))
 
 -- and so does a string of these bytes
-pub string-spells : (text : String Global) (t : Rows) → IsLawful t → string_bytes text ≡ config_text t → Spells (string_bytes text) t
+pub string-spells : (text : String Global) (t : Rows) → IsLawful t
+    → string_bytes text ≡ config_text t → Spells (string_bytes text) t
 string-spells text t lawful is =
     subst (λ bytes. Spells bytes t) (sym is) (text-spells t lawful (subst IsUtf8 is (IsUtf8-string_bytes text)))

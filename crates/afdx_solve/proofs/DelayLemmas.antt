@@ -28,12 +28,14 @@ pub need-stands : (t : Rows) (place : ℕ) (s : SystemRow) → slice_get t.syste
 need-stands t place s at =
     ap (λ (o : Option SystemRow). option_map_or (λ r. buffer_need_of (loaded_output_to t place r)) o 0) at
 
-pub greatest_need-more : (t : Rows) (place : ℕ) → greatest_need t (place + 1) ≡ max (greatest_need t place) (need_to t place)
+pub greatest_need-more : (t : Rows) (place : ℕ)
+    → greatest_need t (place + 1) ≡ max (greatest_need t place) (need_to t place)
 unfolding greatest_need
 greatest_need-more t place = rw add-one refl
 
 -- places that are all within agree where the delays do
-pub latency_over-same : (f g : ℕ → ℕ) (count : ℕ) → ((place : ℕ) → place < count → f place ≡ g place) → (places : List ℕ)
+pub latency_over-same : (f g : ℕ → ℕ) (count : ℕ)
+    → ((place : ℕ) → place < count → f place ≡ g place) → (places : List ℕ)
     → AllByRecursion (λ p. p < count) places → latency_over f places ≡ latency_over g places
 unfolding latency_over
 latency_over-same f g count same [] h = refl
@@ -50,7 +52,8 @@ all_within few many le (p ∷ ps) h = (omega (arith, le, h.0), all_within few ma
 same_of_some : {X : Type 0} (x y : X) → Some x ≡ Some y → x ≡ y
 same_of_some x y e = cc
 
-pub chosen-within : (keep raise_only : Bool) (low high as_is least : ℕ) → IsWithin low high as_is → IsWithin low high least
+pub chosen-within : (keep raise_only : Bool) (low high as_is least : ℕ) → IsWithin low high as_is
+    → IsWithin low high least
     → IsWithin low high (chosen keep raise_only as_is least)
 chosen-within true raise_only low high as_is least a b = a
 chosen-within false true low high as_is least a b = (omega (arith, a.0), omega (arith, a.1, b.1))

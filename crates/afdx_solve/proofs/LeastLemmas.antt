@@ -126,7 +126,8 @@ delay-least t High place s us at soon left =
     let ns = byte_ns s in
     let flows = flows_to t.links place in
     let bound = div_ceil-least (high_wait ns flows) byte_units (1000 * us) (omega arith) soon in
-    let least = div_ceil-least (div_ceil (high_wait ns flows) byte_units) 1000 us (omega arith) (omega (arith, bound)) in
+    let least = div_ceil-least (div_ceil (high_wait ns flows) byte_units) 1000 us (omega arith)
+        (omega (arith, bound)) in
     subst (λ n. n ≤ us) (sym (delay-stands t High place s at)) least
 delay-least t Low place s us at soon left =
     let ns = byte_ns s in
@@ -155,10 +156,13 @@ low_stands : (place : ℕ) (ls : List LinkRow) (i : ℕ) (l : LinkRow) → slice
     → l.priority ≡ Low → Contains (of_class Low (flows_to ls place)) (flow_of_link l)
 low_stands place [] i l at goes low = absurd (cc at)
 low_stands place (x ∷ ls) zero l at goes low =
-    subst (λ b. Contains (of_class Low (map flow_of_link (cond b (x ∷ links_to ls place) (links_to ls place)))) (flow_of_link l))
+    subst (λ b. Contains (of_class Low (map flow_of_link
+        (cond b (x ∷ links_to ls place) (links_to ls place)))) (flow_of_link l))
     (sym goes_x)
-    (subst (λ b. Contains (cond b (flow_of_link x ∷ of_class Low (flows_to ls place)) (of_class Low (flows_to ls place)))
-    (flow_of_link l)) (sym low_x) (subst (λ y. Contains (flow_of_link x ∷ of_class Low (flows_to ls place)) (flow_of_link y)) same
+    (subst (λ b. Contains (cond b (flow_of_link x ∷ of_class Low (flows_to ls place))
+        (of_class Low (flows_to ls place)))
+    (flow_of_link l)) (sym low_x) (subst (λ y. Contains
+        (flow_of_link x ∷ of_class Low (flows_to ls place)) (flow_of_link y)) same
     (0, omega arith, refl)))
   where
     same_of_some : {X : Type 0} (x y : X) → Some x ≡ Some y → x ≡ y
@@ -176,7 +180,8 @@ low_stands place (x ∷ ls) (suc i) l at goes low =
     in_more (is_to place x) (is_class Low x.priority) (low_stands place ls i l at goes low)
   where
     in_more : (a b : Bool) → Contains (of_class Low (flows_to ls place)) (flow_of_link l)
-        → Contains (of_class Low (map flow_of_link (cond a (x ∷ links_to ls place) (links_to ls place)))) (flow_of_link l)
+        → Contains (of_class Low (map flow_of_link
+          (cond a (x ∷ links_to ls place) (links_to ls place)))) (flow_of_link l)
     in_more false b h = h
     in_more true b h = by b (is_class Low x.priority) refl h
       where
@@ -201,8 +206,10 @@ left_some t lawful admitted place s stands i l at goes low =
     (admitted.ports place s stands).no_overload (low_stands place t.links i l at goes low)
 
 in_time-before : (o : SolveOptions) (t : Rows) (place ns latency : ℕ) (class : Priority)
-    → IsInTime ns (flows_to (map (with_delay o t) t.links) place) class latency → IsInTime ns (flows_to t.links place) class latency
-in_time-before o t place ns latency High soon = subst (λ n. n ≤ latency * byte_units) (high_wait-same o t t.links place ns) soon
+    → IsInTime ns (flows_to (map (with_delay o t) t.links) place) class latency
+    → IsInTime ns (flows_to t.links place) class latency
+in_time-before o t place ns latency High soon = subst (λ n. n ≤ latency * byte_units)
+    (high_wait-same o t t.links place ns) soon
 in_time-before o t place ns latency Low soon =
     subst (λ n. low_wait ns (flows_to t.links place) ≤ latency * (byte_units - n)) (high_load-same o t t.links place ns)
     (subst (λ n. n ≤ latency * (byte_units - high_load ns (flows_to (map (with_delay o t) t.links) place)))
@@ -218,7 +225,8 @@ least_latencies o t keep raise lawful admitted = λ i l at us some soon.
     let row = all_at (IsLink (length t.systems)) t3.links i l lawful.links.each at in
     let before : AllByRecursion (λ p. p < length t.systems) x.0.to =
     subst (λ r. AllByRecursion (λ p. p < length t.systems) r.to) (sym x.2) row.to in
-    let each : (p : ℕ) → p < length t.systems → list_any (λ q. nat_eq q p) x.0.to ≡ true → delay_to t x.0.priority p ≤ us =
+    let each : (p : ℕ) → p < length t.systems → list_any (λ q. nat_eq q p) x.0.to ≡ true
+        → delay_to t x.0.priority p ≤ us =
     λ p less among.
     let s = at_place t.systems p less in
     let goes : is_to p l ≡ true = ap (is_to p) (sym x.2) ∙ among in
@@ -235,7 +243,8 @@ least_latencies o t keep raise lawful admitted = λ i l at us some soon.
 
 -- ---- skews
 
-pub least_skews : (o : SolveOptions) (t : Rows) → o.kept.skew ≡ false → o.raise_only ≡ false → AreLeastSkews (with_delays o t)
+pub least_skews : (o : SolveOptions) (t : Rows) → o.kept.skew ≡ false → o.raise_only ≡ false
+    → AreLeastSkews (with_delays o t)
 unfolding with_delays
 least_skews o t keep raise = λ i l at us room.
     let f = with_delay o t in

@@ -53,7 +53,8 @@ abbrev pub AreWords : List (List ℕ) → Type 0
 AreWords ss = AllByRecursion IsWord ss
 
 items-text : (is_first : Bool) (s : List ℕ) (more : List (List ℕ)) → AreWords (s ∷ more)
-    → IsItemsText false false is_first (texts (s ∷ more)) (before_item false is_first ++ (listed (s ∷ more) ++ codes "]"))
+    → IsItemsText false false is_first (texts (s ∷ more))
+      (before_item false is_first ++ (listed (s ∷ more) ++ codes "]"))
 items-text is_first s [] words = (in_quotes s, codes "]", refl, sym (word-text s words.0), refl)
 items-text is_first s (u ∷ more) words = (
   in_quotes s,
@@ -108,7 +109,8 @@ both-printed [] fs a b = b
 both-printed (e ∷ es) fs a b = (a.0, both-printed es fs a.1 b)
 
 -- lines, and more of them
-and : {es fs : List Expression} {text more : List ℕ} → AreLines es text → AreLines fs more → AreLines (es ++ fs) (text ++ more)
+and : {es fs : List Expression} {text more : List ℕ} → AreLines es text → AreLines fs more
+    → AreLines (es ++ fs) (text ++ more)
 and {es} {fs} {text} {more} first_lines others = record {
   lines = IsLinesText-append false true es fs text more first_lines.lines others.lines;
   printed = both-printed es fs first_lines.printed others.printed;
@@ -152,13 +154,15 @@ system-lines profile s is =
 abbrev pub AreNamesWords : List SystemRow → Type 0
 AreNamesWords systems = (i : ℕ) → i < length systems → IsWord (name_at systems i)
 
-pub names-words : (profile : ℕ) (systems : List SystemRow) → AllByRecursion (IsSystem profile) systems → AreNamesWords systems
+pub names-words : (profile : ℕ) (systems : List SystemRow)
+    → AllByRecursion (IsSystem profile) systems → AreNamesWords systems
 unfolding name_at
 names-words profile systems are i within =
     let (s, at) = at_place systems i within in
     rw at (name-word profile s (all_at (IsSystem profile) systems i s are at))
 
-places-words : (systems : List SystemRow) → AreNamesWords systems → (to : List ℕ) → AllByRecursion (λ i. i < length systems) to
+places-words : (systems : List SystemRow) → AreNamesWords systems → (to : List ℕ)
+    → AllByRecursion (λ i. i < length systems) to
     → AreWords (map (name_at systems) to)
 places-words systems words [] within = tt
 places-words systems words (i ∷ to) within = (words i within.0, places-words systems words to within.1)
@@ -232,7 +236,8 @@ pub all-lines : {R : Type 0} (k : List ℕ) (fields : R → Fields) (text : R �
     → AllByRecursion P rows → ((r : R) → P r → AreLines (table_lines k (fields r)) (text r))
     → AreLines (rows_lines k fields rows) (flat_map text rows)
 all-lines k fields text [] P are lines_of = record { lines = refl; printed = tt }
-all-lines k fields text (r ∷ rows) P are lines_of = and (lines_of r are.0) (all-lines k fields text rows P are.1 lines_of)
+all-lines k fields text (r ∷ rows) P are lines_of = and (lines_of r are.0)
+    (all-lines k fields text rows P are.1 lines_of)
 
 -- the text has just these lines, from its start
 pub record AreAllLines (es : List Expression) (text : List ℕ) : Type 0 where
@@ -245,11 +250,14 @@ config-lines t lawful =
     let words = names-words t.profile t.systems lawful.systems.each in
     let profile = line-number (codes "profile") t.profile refl (omega (arith, lawful.profile.1)) in
     let buffer = numbered (codes "buffer") t.buffer refl (omega (arith, lawful.buffer.1)) in
-    let systems = all-lines (codes "system") system_fields system_text t.systems (IsSystem t.profile) lawful.systems.each
+    let systems = all-lines (codes "system") system_fields system_text t.systems
+        (IsSystem t.profile) lawful.systems.each
     (system-lines t.profile) in
-    let links = all-lines (codes "link") (link_fields t.systems) (link_text t.systems) t.links (IsLink (length t.systems))
+    let links = all-lines (codes "link") (link_fields t.systems) (link_text t.systems) t.links
+        (IsLink (length t.systems))
     lawful.links.each (link-lines t.systems words) in
-    let ports = all-lines (codes "port") (port_fields t.systems) (port_text t.systems) t.ports (IsPort (length t.systems) t.links)
+    let ports = all-lines (codes "port") (port_fields t.systems) (port_text t.systems) t.ports
+        (IsPort (length t.systems) t.links)
     lawful.ports.each (λ p is. port-lines t.systems t.links p words lawful.links.each is) in
     let rest = and buffer (and systems (and links ports)) in
     record {

@@ -67,13 +67,15 @@ module _ (profile : ℕ) (before : List SystemRow) (s : SystemRow) (is : IsSyste
   rate-read : one_of (keys.system_at (length before + 1) 5) (rates profile) (system_tree s) ≡ Ok s.rate
   unfolding system_nodes system_keys
   rate-read = one_of-reads (keys.system_at (length before + 1) 5) (system_tree s) (rates profile) s.rate
-      (whole-reads (keys.system_at (length before + 1) 5) (system_tree s) s.rate refl (rate-within profile s.rate is.rate)) is.rate
+      (whole-reads (keys.system_at (length before + 1) 5) (system_tree s) s.rate refl
+          (rate-within profile s.rate is.rate)) is.rate
 
   only-read : only_system_keys (length before + 1) (system_tree s) ≡ Ok tt
   unfolding system_nodes system_keys only_system_keys only are_among
   only-read = refl
 
-  name-new : system_named before s.name ≡ None → new_name (keys.system_at (length before + 1) 1) before (system_tree s) ≡ Ok s.name
+  name-new : system_named before s.name ≡ None
+      → new_name (keys.system_at (length before + 1) 1) before (system_tree s) ≡ Ok s.name
   unfolding new_name
   name-new new = rw (name-read, is.name, new)
 
@@ -91,7 +93,8 @@ link_tree systems l = close (link_nodes systems l)
 abbrev pub AreNamed : List SystemRow → Type 0
 AreNamed systems = (i : ℕ) → i < length systems → system_named systems (name_at systems i) ≡ Some i
 
-places-named : (systems : List SystemRow) → AreNamed systems → (to : List ℕ) → AllByRecursion (λ i. i < length systems) to
+places-named : (systems : List SystemRow) → AreNamed systems → (to : List ℕ)
+    → AllByRecursion (λ i. i < length systems) to
     → all_of (system_named systems) (map (name_at systems) to) ≡ Some to
 places-named systems named_back [] within = refl
 places-named systems named_back (i ∷ to) within =
@@ -106,7 +109,8 @@ bag-within n one = one_of_each (IsWithin 1 128) n gaps (
       (omega arith, omega arith),
       (
         (omega arith, omega arith),
-        ((omega arith, omega arith), ((omega arith, omega arith), ((omega arith, omega arith), ((omega arith, omega arith), tt)))),
+        ((omega arith, omega arith), ((omega arith, omega arith),
+            ((omega arith, omega arith), ((omega arith, omega arith), tt)))),
       ),
     ),
   ),
@@ -173,13 +177,15 @@ module _ (systems : List SystemRow) (i : ℕ) (l : LinkRow) (is : IsLink (length
       )
 
   treatment-read : treatment_at all_kept i (link_tree systems l)
-      ≡ Ok (record { priority = l.priority; policing = l.policing; latency_us = l.latency_us; skew_us = l.skew_us; subs = l.subs })
+      ≡ Ok (record { priority = l.priority; policing = l.policing; latency_us = l.latency_us;
+          skew_us = l.skew_us; subs = l.subs })
   unfolding link_nodes link_keys treatment_at
   treatment-read =
       let t = link_tree systems l in
       rw (
         word-reads (keys.link_at i 8) t class_words (class_word l.priority) l.priority refl (class-means l.priority),
-        word-reads (keys.link_at i 9) t policing_words (policing_word l.policing) l.policing refl (policing-means l.policing),
+        word-reads (keys.link_at i 9) t policing_words (policing_word l.policing) l.policing refl
+            (policing-means l.policing),
         choice-kept (keys.link_at i 10) t,
         whole-reads (keys.link_at i 10) t l.latency_us refl is.latency_us,
         choice-kept (keys.link_at i 11) t,
@@ -191,7 +197,8 @@ module _ (systems : List SystemRow) (i : ℕ) (l : LinkRow) (is : IsLink (length
   unfolding link_nodes link_keys only_link_keys only are_among
   only-link = refl
 
-pub link-reads : (systems : List SystemRow) (before : List LinkRow) (l : LinkRow) → IsLink (length systems) l → AreNamed systems
+pub link-reads : (systems : List SystemRow) (before : List LinkRow) (l : LinkRow)
+    → IsLink (length systems) l → AreNamed systems
     → link_of before l.vl ≡ None → link_at all_kept systems before (link_tree systems l) ≡ Ok l
 unfolding link_at
 link-reads systems before l is named_back new =
@@ -216,19 +223,23 @@ pub identifier-within : (n : ℕ) (links : List LinkRow) (vl system : ℕ) → A
     → goes_to links vl system ≡ true → IsWithin 0 65535 vl
 unfolding goes_to
 identifier-within n [] vl system are there = absurd cc
-identifier-within n (l ∷ links) vl system are there = by (nat_eq vl l.vl) refl (identifier-within n links vl system are.1) there
+identifier-within n (l ∷ links) vl system are there = by (nat_eq vl l.vl) refl
+    (identifier-within n links vl system are.1) there
   where
     by : (b : Bool) → nat_eq vl l.vl ≡ b
         → (option_map_or (is_to system) (find (λ m. nat_eq vl m.vl) links) false ≡ true → IsWithin 0 65535 vl)
-        → option_map_or (is_to system) (cond b (Some l) (find (λ m. nat_eq vl m.vl) links)) false ≡ true → IsWithin 0 65535 vl
+        → option_map_or (is_to system) (cond b (Some l) (find (λ m. nat_eq vl m.vl) links))
+          false ≡ true → IsWithin 0 65535 vl
     by true same later there = subst (IsWithin 0 65535) (sym (eqb-true vl l.vl same)) are.0.vl
     by false other later there = later there
 
-module _ (systems : List SystemRow) (links : List LinkRow) (i : ℕ) (p : PortRow) (is : IsPort (length systems) links p) where
+module _ (systems : List SystemRow) (links : List LinkRow) (i : ℕ) (p : PortRow)
+    (is : IsPort (length systems) links p) where
   at-system : AreNamed systems → named (keys.port_at i 1) systems (port_tree systems p) ≡ Ok p.system
   unfolding port_nodes port_keys named
   at-system named_back =
-      rw (text-reads (keys.port_at i 1) (port_tree systems p) (name_at systems p.system) refl, named_back p.system is.system)
+      rw (text-reads (keys.port_at i 1) (port_tree systems p)
+          (name_at systems p.system) refl, named_back p.system is.system)
 
   at-link : AllByRecursion (IsLink (length systems)) links → whole (keys.port_at i 2) (port_tree systems p) ≡ Ok p.link
   unfolding port_nodes port_keys
@@ -241,7 +252,8 @@ module _ (systems : List SystemRow) (links : List LinkRow) (i : ℕ) (p : PortRo
 
   at-kind : word (keys.port_at i 4) kind_words (port_tree systems p) ≡ Ok p.kind
   unfolding port_nodes port_keys
-  at-kind = word-reads (keys.port_at i 4) (port_tree systems p) kind_words (kind_word p.kind) p.kind refl (kind-means p.kind)
+  at-kind = word-reads (keys.port_at i 4) (port_tree systems p) kind_words
+      (kind_word p.kind) p.kind refl (kind-means p.kind)
 
   at-depth : whole (at_most (deepest p.kind) (keys.port_at i 5)) (port_tree systems p) ≡ Ok p.depth
   unfolding port_nodes port_keys

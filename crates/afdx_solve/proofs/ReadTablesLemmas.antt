@@ -45,10 +45,12 @@ fresh f p (x ∷ before) after r distinct only =
     by (p x) refl (fresh f p before after r (distinct-tail f x (before ++ r ∷ after) distinct) only)
   where
     by : (b : Bool) → p x ≡ b → list_any p before ≡ false → b || list_any p before ≡ false
-    by true here later = absurd (omega (arith, distinct 0 (suc (length before)) x r refl (at-end before after r) (only x here)))
+    by true here later = absurd (omega (arith, distinct 0 (suc (length before)) x r refl
+        (at-end before after r) (only x here)))
     by false here later = later
 
-none-length : {R : Type 0} (p : R → Bool) (rows : List R) → list_any p rows ≡ false → position_or_len p rows ≡ length rows
+none-length : {R : Type 0} (p : R → Bool) (rows : List R) → list_any p rows ≡ false
+    → position_or_len p rows ≡ length rows
 none-length p [] none = refl
 none-length p (r ∷ rows) none =
     let (here, later) = or_parts (p r) (list_any p rows) none in
@@ -67,7 +69,8 @@ each-reads row_at tree all reads before (r ∷ rest) e =
     rw (reads before rest r e)
     (each-reads row_at tree all reads (before ++ r ∷ []) rest (e ∙ sym (append_assoc before (r ∷ []) rest)))
 
-row-of : {R : Type 0} (P : R → Type 0) (all before after : List R) (r : R) → AllByRecursion P all → all ≡ before ++ r ∷ after → P r
+row-of : {R : Type 0} (P : R → Type 0) (all before after : List R) (r : R) → AllByRecursion P all
+    → all ≡ before ++ r ∷ after → P r
 row-of P all before after r are e = all_at P all (length before) r are (rw e (at-end before after r))
 
 module _ (t : Rows) (lawful : IsLawful t) where
@@ -80,7 +83,8 @@ module _ (t : Rows) (lawful : IsLawful t) where
   system-new : (before after : List SystemRow) (s : SystemRow) → t.systems ≡ before ++ s ∷ after → IsNewSystem before s
   unfolding system_named system_at_port has_id
   system-new before after s e = record {
-    name = not_found (λ r. bytes_eq s.name r.name) before (fresh (λ r. r.name) (λ r. bytes_eq s.name r.name) before after s
+    name = not_found (λ r. bytes_eq s.name r.name) before
+        (fresh (λ r. r.name) (λ r. bytes_eq s.name r.name) before after s
         (subst (AreDistinct (λ r. r.name)) e lawful.systems.names) (λ r h. sym ((bytes_eq-Decides s.name r.name).0 h)));
     port = not_found (λ r. r.port == s.port) before (fresh (λ r. r.port) (λ r. r.port == s.port) before after s
         (subst (AreDistinct (λ r. r.port)) e lawful.systems.ports) (λ r h. eqb-true r.port s.port h));
@@ -91,7 +95,8 @@ module _ (t : Rows) (lawful : IsLawful t) where
   systems-read : each (system_at t.profile) [] (map system_tree t.systems) ≡ Ok t.systems
   systems-read = each-reads (system_at t.profile) system_tree t.systems
       (λ before after s e. system-reads t.profile before s
-      (row-of (IsSystem t.profile) t.systems before after s lawful.systems.each e) (system-new before after s e)) [] t.systems refl
+      (row-of (IsSystem t.profile) t.systems before after s lawful.systems.each e)
+          (system-new before after s e)) [] t.systems refl
 
   link-new : (before after : List LinkRow) (l : LinkRow) → t.links ≡ before ++ l ∷ after → link_of before l.vl ≡ None
   unfolding link_of
@@ -102,16 +107,19 @@ module _ (t : Rows) (lawful : IsLawful t) where
   links-read : each (link_at all_kept t.systems) [] (map (link_tree t.systems) t.links) ≡ Ok t.links
   links-read = each-reads (link_at all_kept t.systems) (link_tree t.systems) t.links
       (λ before after l e. link-reads t.systems before l
-      (row-of (IsLink (length t.systems)) t.links before after l lawful.links.each e) systems-named (link-new before after l e))
+      (row-of (IsLink (length t.systems)) t.links before after l lawful.links.each e) systems-named
+          (link-new before after l e))
       [] t.links refl
 
-  same-triple : (p r : PortRow) → ((nat_eq r.system p.system && nat_eq r.link p.link) && nat_eq r.udp p.udp) ≡ true → triple r ≡ triple p
+  same-triple : (p r : PortRow) → ((nat_eq r.system p.system && nat_eq r.link p.link) && nat_eq
+      r.udp p.udp) ≡ true → triple r ≡ triple p
   same-triple p r h =
       let (first_two, udp) = and_parts (nat_eq r.system p.system && nat_eq r.link p.link) (nat_eq r.udp p.udp) h in
       let (system, link) = and_parts (nat_eq r.system p.system) (nat_eq r.link p.link) first_two in
       rw (eqb-true r.system p.system system, eqb-true r.link p.link link, eqb-true r.udp p.udp udp)
 
-  port-new : (before after : List PortRow) (p : PortRow) → t.ports ≡ before ++ p ∷ after → has_port before p.system p.link p.udp ≡ false
+  port-new : (before after : List PortRow) (p : PortRow) → t.ports ≡ before ++ p ∷ after
+      → has_port before p.system p.link p.udp ≡ false
   unfolding has_port
   port-new before after p e =
       fresh triple (λ r. (nat_eq r.system p.system && nat_eq r.link p.link) && nat_eq r.udp p.udp) before after p
@@ -120,7 +128,8 @@ module _ (t : Rows) (lawful : IsLawful t) where
   ports-read : each (port_at t.systems t.links) [] (map (port_tree t.systems) t.ports) ≡ Ok t.ports
   ports-read = each-reads (port_at t.systems t.links) (port_tree t.systems) t.ports
       (λ before after p e. port-reads t.systems t.links before p
-      (row-of (IsPort (length t.systems) t.links) t.ports before after p lawful.ports.each e) lawful.links.each systems-named
+      (row-of (IsPort (length t.systems) t.links) t.ports before after p lawful.ports.each e)
+          lawful.links.each systems-named
       (port-new before after p e)) [] t.ports refl
 
 -- ---- the top
@@ -145,7 +154,8 @@ only-top t (Some x) None (Some z) = refl
 only-top t (Some x) (Some y) None = refl
 only-top t (Some x) (Some y) (Some z) = refl
 
-module _ (t : Rows) (lawful : IsLawful t) (tree : Members) (is : IsTop t (systems_node t) (links_node t) (ports_node t) tree) where
+module _ (t : Rows) (lawful : IsLawful t) (tree : Members)
+    (is : IsTop t (systems_node t) (links_node t) (ports_node t) tree) where
   profile-read : whole (keys.top_at 1) tree ≡ Ok t.profile
   unfolding top_keys
   profile-read = whole-reads (keys.top_at 1) tree t.profile is.profile lawful.profile
@@ -193,5 +203,6 @@ abbrev pub tables_root : Rows → Nodes
 tables_root t = root t (systems_node t) (links_node t) (ports_node t)
 
 pub tree-reads : (t : Rows) → IsLawful t → tables_at all_kept (close (tables_root t)) ≡ Ok t
-tree-reads t lawful = tables-read-with t lawful (close (tables_root t)) (root-top t (systems_node t) (links_node t) (ports_node t))
+tree-reads t lawful = tables-read-with t lawful (close (tables_root t))
+    (root-top t (systems_node t) (links_node t) (ports_node t))
     (only-top t (systems_node t) (links_node t) (ports_node t))

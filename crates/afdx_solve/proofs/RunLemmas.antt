@@ -30,7 +30,8 @@ table_lines k fields = (([], k), array_table) ∷ field_lines fields
 
 fields-step : (fs : Fields) (p : List (List ℕ)) (f : List ℕ × Data) (root : Nodes) (o : Option Nodes)
     → o ≡ along_header p (put ([], f.0) f.1) root
-    → ((r : Nodes) → Exists p r → run (r, p) (field_lines fs) ≡ option_map (λ x. (x, p)) (along_header p (put_all fs) r))
+    → ((r : Nodes) → Exists p r → run (r, p) (field_lines fs) ≡ option_map (λ x. (x, p))
+      (along_header p (put_all fs) r))
     → option_and_then (λ next. run next (field_lines fs)) (option_map (λ r. (r, p)) o)
     ≡ option_map (λ x. (x, p)) (option_and_then (along_header p (put_all fs)) o)
 fields-step fs p f root None e ih = refl
@@ -43,7 +44,8 @@ unfolding define put_all
 run-fields [] p root there = rw there
 run-fields (f ∷ fs) p root there =
     rw (along_seq p (put ([], f.0) f.1) (put_all fs) root)
-    (fields-step fs p f root (along_header p (put ([], f.0) f.1) root) refl (λ r there_now. run-fields fs p r there_now))
+    (fields-step fs p f root (along_header p (put ([], f.0) f.1) root) refl
+        (λ r there_now. run-fields fs p r there_now))
 
 -- in the newest table of an array
 last-fields : (k : List ℕ) (fs : Fields) (done : Items) (n : Nodes) (root : Nodes) → put_all fs no_nodes ≡ Some n
@@ -120,7 +122,8 @@ module _ {R : Type 0} (nodes : R → Nodes) where
   close-rows r rs = close-after no_items (nodes r) rs
 
   -- an array of the rows' tables, which is absent where there are none, reads as them
-  pub rows-read : (at : Place) (rs : List R) → tables_or_none at (option_map close_node (rows_node rs)) ≡ Ok (map (λ r. close (nodes r)) rs)
+  pub rows-read : (at : Place) (rs : List R) → tables_or_none at
+      (option_map close_node (rows_node rs)) ≡ Ok (map (λ r. close (nodes r)) rs)
   rows-read at [] = refl
   rows-read at (r ∷ rs) = rw (close-rows r rs, all-tables rs)
     where

@@ -111,11 +111,13 @@ pub system-made : (s : SystemRow) → put_all (system_fields s) no_nodes ≡ Som
 unfolding put_all along_dots at_key system_fields system_nodes
 system-made s = refl
 
-pub link-made : (systems : List SystemRow) (l : LinkRow) → put_all (link_fields systems l) no_nodes ≡ Some (link_nodes systems l)
+pub link-made : (systems : List SystemRow) (l : LinkRow)
+    → put_all (link_fields systems l) no_nodes ≡ Some (link_nodes systems l)
 unfolding put_all along_dots at_key link_fields link_nodes
 link-made systems l = refl
 
-pub port-made : (systems : List SystemRow) (p : PortRow) → put_all (port_fields systems p) no_nodes ≡ Some (port_nodes systems p)
+pub port-made : (systems : List SystemRow) (p : PortRow)
+    → put_all (port_fields systems p) no_nodes ≡ Some (port_nodes systems p)
 unfolding put_all along_dots at_key port_fields port_nodes
 port-made systems p = refl
 
@@ -129,7 +131,8 @@ pub no-system : (t : Rows) → get_node (codes "system") (top_nodes t) ≡ None
 unfolding top_nodes
 no-system t = refl
 
-pub no-link : (t : Rows) (systems : Option Node) → get_node (codes "link") (with_node (codes "system") systems (top_nodes t)) ≡ None
+pub no-link : (t : Rows) (systems : Option Node)
+    → get_node (codes "link") (with_node (codes "system") systems (top_nodes t)) ≡ None
 unfolding top_nodes
 no-link t None = refl
 no-link t (Some x) = refl
@@ -152,11 +155,19 @@ pub record IsTop (t : Rows) (systems links ports : Option Node) (tree : Members)
 
 pub root-top : (t : Rows) (s l p : Option Node) → IsTop t s l p (close (root t s l p))
 unfolding root top_nodes
-root-top t None None None = record { profile = refl; buffer = refl; systems_at = refl; links_at = refl; ports_at = refl }
-root-top t None None (Some z) = record { profile = refl; buffer = refl; systems_at = refl; links_at = refl; ports_at = refl }
-root-top t None (Some y) None = record { profile = refl; buffer = refl; systems_at = refl; links_at = refl; ports_at = refl }
-root-top t None (Some y) (Some z) = record { profile = refl; buffer = refl; systems_at = refl; links_at = refl; ports_at = refl }
-root-top t (Some x) None None = record { profile = refl; buffer = refl; systems_at = refl; links_at = refl; ports_at = refl }
-root-top t (Some x) None (Some z) = record { profile = refl; buffer = refl; systems_at = refl; links_at = refl; ports_at = refl }
-root-top t (Some x) (Some y) None = record { profile = refl; buffer = refl; systems_at = refl; links_at = refl; ports_at = refl }
-root-top t (Some x) (Some y) (Some z) = record { profile = refl; buffer = refl; systems_at = refl; links_at = refl; ports_at = refl }
+root-top t None None None = record { profile = refl; buffer = refl; systems_at = refl;
+    links_at = refl; ports_at = refl }
+root-top t None None (Some z) = record { profile = refl; buffer = refl; systems_at = refl;
+    links_at = refl; ports_at = refl }
+root-top t None (Some y) None = record { profile = refl; buffer = refl; systems_at = refl;
+    links_at = refl; ports_at = refl }
+root-top t None (Some y) (Some z) = record { profile = refl; buffer = refl; systems_at = refl;
+    links_at = refl; ports_at = refl }
+root-top t (Some x) None None = record { profile = refl; buffer = refl; systems_at = refl;
+    links_at = refl; ports_at = refl }
+root-top t (Some x) None (Some z) = record { profile = refl; buffer = refl; systems_at = refl;
+    links_at = refl; ports_at = refl }
+root-top t (Some x) (Some y) None = record { profile = refl; buffer = refl; systems_at = refl;
+    links_at = refl; ports_at = refl }
+root-top t (Some x) (Some y) (Some z) = record
+    { profile = refl; buffer = refl; systems_at = refl; links_at = refl; ports_at = refl }

@@ -195,7 +195,8 @@ row-at : (t : Rows) (place : ℕ) (l : LinkRow) → slice_get t.links place ≡ 
 unfolding rows_of
 row-at t place l at = slice_get-map (row_of t) t.links place ∙ ap (option_map (row_of t)) at
 
-only-place : {greatest_jitter : ℕ → ℕ} (t : Rows) (place j : ℕ) (l : LinkRow) (r : Row) (bytes : List ℕ) → IsLawfulUpTo greatest_jitter t
+only-place : {greatest_jitter : ℕ → ℕ} (t : Rows) (place j : ℕ) (l : LinkRow) (r : Row)
+    (bytes : List ℕ) → IsLawfulUpTo greatest_jitter t
     → slice_get t.links place ≡ Some l → names l.vl bytes ≡ true →
     slice_get (rows_of t) j ≡ Some r → names r.rule.vl bytes ≡ true → j ≡ place
 unfolding AreDistinct
@@ -205,7 +206,8 @@ only-place t place j l r bytes lawful at named at_r named_r =
     let own_vl : k.0.vl ≡ r.rule.vl = sym (vl-is t k.0) ∙ ap (λ (q : Row). q.rule.vl) k.2 in
     lawful.links.identifiers j place k.0 l k.1 at (own_vl ∙ same)
 
-pub named-row : {greatest_jitter : ℕ → ℕ} (t : Rows) (place : ℕ) (l : LinkRow) (bytes : List ℕ) → IsLawfulUpTo greatest_jitter t
+pub named-row : {greatest_jitter : ℕ → ℕ} (t : Rows) (place : ℕ) (l : LinkRow) (bytes : List ℕ)
+    → IsLawfulUpTo greatest_jitter t
     → slice_get t.links place ≡ Some l → names l.vl bytes ≡ true → row_named t bytes ≡ Some (row_of t l)
 unfolding row_named
 named-row t place l bytes lawful at named =

@@ -140,8 +140,10 @@ module _ (time : ℕ) (priority : Priority) (places : List ℕ) (are : ArePlaces
           (set ports place n) new_lost
       forwarded-step = record {
         port_count = length-set ports place n ∙ inv.port_count;
-        clocks = all-set (λ (p : PortState HeldFrame). held.last_time p ≤ time) ports place n within inv.clocks one.clock;
-        quiet = all-set (λ (p : PortState HeldFrame). held.IsQuiet facts p time) ports place n within inv.quiet one.quiet;
+        clocks = all-set (λ (p : PortState HeldFrame). held.last_time p ≤ time) ports place n within
+            inv.clocks one.clock;
+        quiet = all-set (λ (p : PortState HeldFrame). held.IsQuiet facts p time) ports place n
+            within inv.quiet one.quiet;
         left = omega (arith, inv.left, ap length popped, length_push rest_shares share);
         same = λ c all. all-rest c (inv.same c all);
         rest = λ i later. slice_get-set_there ports place i n (later-other i later) ∙ inv.rest i (later-before i later);
@@ -185,7 +187,8 @@ module _ (time : ℕ) (priority : Priority) (places : List ℕ) (are : ArePlaces
   kept-elsewhere k shares ports lost inv i not_among = inv.rest i (λ j below at. not-among-at i places j not_among at)
 
 -- the ports at the first so many of these places are ranked as they are now, the others as they were
-pub record RenewedTo (places : List ℕ) (old ports : List (PortState HeldFrame)) (serving : Serving) (k : ℕ) : Type 0 where
+pub record RenewedTo (places : List ℕ) (old ports : List (PortState HeldFrame)) (serving : Serving)
+    (k : ℕ) : Type 0 where
   pub mid : List (PortState HeldFrame)
   pub is : IsServing facts mid serving
   pub rest : (i : ℕ) → IsLater places k i → slice_get mid i ≡ slice_get old i

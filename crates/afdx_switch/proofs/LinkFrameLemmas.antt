@@ -132,7 +132,8 @@ module _ (t : Rows) (port vl : ℕ) (x : Arrival) (past : List Arrival) where
           (of-reason (entries-grow t x.side port x past lawful) (reason_of t past x) refl)
 
 -- the entries of a link are its frames that entered
-entered-is : {greatest_jitter : ℕ → ℕ} (t : Rows) (side : Side) (port vl : ℕ) (arrivals : List Arrival) → IsLawfulUpTo greatest_jitter t
+entered-is : {greatest_jitter : ℕ → ℕ} (t : Rows) (side : Side) (port vl : ℕ)
+    (arrivals : List Arrival) → IsLawfulUpTo greatest_jitter t
     → items vl (entries_at t side port arrivals) ≡ entered t side port vl arrivals
 unfolding entered offers_at
 entered-is t side port vl [] lawful = refl

@@ -33,7 +33,8 @@ on-err (Err e) P p = p
 pub front-longer : (a b : Option (List ℕ)) (x y : List ℕ) → AppendsFront a b x → AppendsFront a b (x ++ y)
 front-longer a b x y h = (h.0, h.1 ++ y, ap (λ (l : List ℕ). l ++ y) h.2 ∙ append_assoc h.0 h.1 y, h.3)
 
-pub front-more : (a b c : Option (List ℕ)) (x y : List ℕ) → Appends a b x → AppendsFront b c y → AppendsFront a c (x ++ y)
+pub front-more : (a b c : Option (List ℕ)) (x y : List ℕ) → Appends a b x → AppendsFront b c y
+    → AppendsFront a c (x ++ y)
 front-more a b c x y first h = (
   x ++ h.0,
   h.1,

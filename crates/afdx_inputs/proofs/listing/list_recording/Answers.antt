@@ -20,7 +20,8 @@ returns-in_err-lines-clause-answer g c =
 
 pub run_over-requires-clause-gave : goal.run_over-requires-clause-gave
 run_over-requires-clause-gave g c =
-    timed-start c.args.options c.args.ports c.in_ok-lines.lines c.in_ok-lines.ensures g.R.Read.remaining c.args.input.now
+    timed-start c.args.options c.args.ports c.in_ok-lines.lines c.in_ok-lines.ensures
+        g.R.Read.remaining c.args.input.now
     c.requires.sound_input c.requires.unended
 
 pub run_over-requires-clause-set : goal.run_over-requires-clause-set
@@ -37,5 +38,6 @@ returns-clause-answer g c =
     let old = g.O.Sink.written c.args.output.now in
     let new = g.O.Sink.written c.run_over.new.output in
     one-by c.args.options c.args.ports c.in_ok-lines.lines c.in_ok-lines.ensures lines_themselves
-    (WritesLines old new) (WritesLines old new) (WritesSomeLines old new) c.run_over.result (g.R.Read.remaining c.args.input.now.inner)
+    (WritesLines old new) (WritesLines old new) (WritesSomeLines old new) c.run_over.result
+        (g.R.Read.remaining c.args.input.now.inner)
     (g.R.Read.remaining c.run_over.new.input.inner) (c.run_over.ensures.answer tt (lines-start old))

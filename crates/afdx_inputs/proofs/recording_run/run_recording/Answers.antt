@@ -23,7 +23,8 @@ returns-in_err-read_one-clause-answer g c law start =
 pub run_over-requires-clause-gave : goal.run_over-requires-clause-gave
 run_over-requires-clause-gave g c = record {
   lines = [];
-  known_so = rw c.new-arrivals.ensures (timed-start c.args.options c.args.ports c.in_ok-read_one.field-0 c.in_ok-read_one.ensures
+  known_so = rw c.new-arrivals.ensures (timed-start c.args.options c.args.ports
+      c.in_ok-read_one.field-0 c.in_ok-read_one.ensures
       g.R.Read.remaining c.args.input.now c.requires.sound_input c.requires.unended);
   items_are = sym listed-none;
 }

@@ -32,14 +32,16 @@ returns-in_err-next-clause-stop g c start past h =
 pub returns-then-not-branch-clause-end : goal.returns-then-not-branch-clause-end
 returns-then-not-branch-clause-end g c start past h ok =
     let is : c.next.result ≡ Ok false = search rules in
-    ended-well g.R.Read.remaining start c.args.input.now c.next.new.input c.args.self.now c.next.new.self (numbers_read past) h
+    ended-well g.R.Read.remaining start c.args.input.now c.next.new.input c.args.self.now
+        c.next.new.self (numbers_read past) h
     (rw is at c.next.ensures.failed) c.next.ensures.honest (rw is at c.next.ensures.tells) (sym c.end.ensures ∙ ok)
 
 pub returns-then-not-branch-clause-stop : goal.returns-then-not-branch-clause-stop
 returns-then-not-branch-clause-stop g c start past h =
     let is : c.next.result ≡ Ok false = search rules in
     rw c.end.ensures (stops-end g.R.Read.remaining start c.args.input.now c.next.new.input c.args.self.now
-    c.next.new.self (numbers_read past) h (rw is at c.next.ensures.failed) c.next.ensures.honest (rw is at c.next.ensures.tells))
+    c.next.new.self (numbers_read past) h (rw is at c.next.ensures.failed) c.next.ensures.honest
+        (rw is at c.next.ensures.tells))
 
 pub sort-requires-clause-skipped : goal.sort-requires-clause-skipped
 sort-requires-clause-skipped g c =
@@ -121,7 +123,8 @@ returns-clause-item g c start past h ok =
       remembers = c.in_ok-sort.ensures.remembers;
     } in
     let sorted = c.in_ok-sort.ensures.number (numbers_read past) (number ∙ ap (λ m. m + 1) (sym h.numbers)) in (
-      gave-item g.R.Read.remaining start c.args.input.now c.next.new.input old c.next.new.self c.sort.new.self (numbers_read past)
+      gave-item g.R.Read.remaining start c.args.input.now c.next.new.input old c.next.new.self
+          c.sort.new.self (numbers_read past)
           h k sorted,
       item-follows g.R.Read.remaining start c.args.input.now c.next.new.input old c.next.new.self c.sort.new.self
           (numbers_read past) h k sorted past refl,

@@ -50,4 +50,5 @@ returns-clause-tells g c =
     (Tells-end c.end.result _ _ (state_of c.reads.self) (state_of c.reads.self) _ last.0 c.end.ensures.over
     c.end.ensures.ended
     (λ none. SaysEnding-blocks _ _ (state_of c.reads.self) c.reads.invariant.form c.fill.ensures.passes last.0 none)
-    (λ some. SaysEnding-head _ _ (state_of c.reads.self) c.reads.invariant.form c.fill.ensures.passes last.0 some last.1))
+    (λ some. SaysEnding-head _ _ (state_of c.reads.self) c.reads.invariant.form
+        c.fill.ensures.passes last.0 some last.1))

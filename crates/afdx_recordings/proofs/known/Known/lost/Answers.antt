@@ -12,5 +12,6 @@ unfolding lost_by
 returns c =
     let all : length c.args.self.now.interfaces.items ≤ c.loop-interface.interface-index =
     rw (← c.deref-interface-items.ensures.value) c.loop-interface-test.false in
-    sym (ap (lost_at c.loop-interface.lost) (none_left c.args.self.now.interfaces.items c.loop-interface.interface-index all))
+    sym (ap (lost_at c.loop-interface.lost) (none_left c.args.self.now.interfaces.items
+        c.loop-interface.interface-index all))
     ∙ c.loop-interface.invariant

@@ -11,7 +11,8 @@ use Rattle.afdx_replay.proofs.replaying.lines.hear.Goals as goal
 
 pub returns-in_ok-put-in-Ok-Some-Message-clause-delivered : goal.returns-in_ok-put-in-Ok-Some-Message-clause-delivered
 returns-in_ok-put-in-Ok-Some-Message-clause-delivered g c t before stands =
-    sym (told-as t before (handed_over c.args.handover) _ (rw (c.in-Ok-Some-Message.field-0-is, c.in-Ok-Some-Message.field-0-0-is)
+    sym (told-as t before (handed_over c.args.handover) _
+        (rw (c.in-Ok-Some-Message.field-0-is, c.in-Ok-Some-Message.field-0-0-is)
     at (c.in-Ok-Some-Message.ensures.answer t before stands))).1
 
 pub returns-in_ok-put-in-Ok-Some-Message-clause-line : goal.returns-in_ok-put-in-Ok-Some-Message-clause-line
@@ -37,7 +38,8 @@ returns-in_err-put-in-Ok-Some-Message-clause-front g c t before stands =
 
 pub returns-in_ok-put-in-Ok-Some-Dropped-clause-delivered : goal.returns-in_ok-put-in-Ok-Some-Dropped-clause-delivered
 returns-in_ok-put-in-Ok-Some-Dropped-clause-delivered g c t before stands =
-    sym (told-as t before (handed_over c.args.handover) _ (rw (c.in-Ok-Some-Dropped.field-0-is, c.in-Ok-Some-Dropped.field-0-0-is)
+    sym (told-as t before (handed_over c.args.handover) _
+        (rw (c.in-Ok-Some-Dropped.field-0-is, c.in-Ok-Some-Dropped.field-0-0-is)
     at (c.in-Ok-Some-Dropped.ensures.answer t before stands))).1
 
 pub returns-in_ok-put-in-Ok-Some-Dropped-clause-line : goal.returns-in_ok-put-in-Ok-Some-Dropped-clause-line
@@ -58,7 +60,8 @@ returns-in_err-put-in-Ok-Some-Dropped-clause-front g c t before stands =
     let e = ap (λ name. drop_line d.time name d.line (drop_word c.in-Ok-Some-Dropped.why))
     (c.name_at-in-Ok-Some-Dropped.ensures t (d ∷ before) (c.receive.ensures.stands t before stands)) ∙ sym told.0 in
     on-err c.from_residual-in_err-put-in-Ok-Some-Dropped.result _
-    (subst (λ x. AppendsFront (g.O.Sink.written c.args.output.now) (g.O.Sink.written c.put-in-Ok-Some-Dropped.new.self) x) e
+    (subst (λ x. AppendsFront (g.O.Sink.written c.args.output.now)
+        (g.O.Sink.written c.put-in-Ok-Some-Dropped.new.self) x) e
     c.in_err-put-in-Ok-Some-Dropped.ensures.front)
 
 pub returns-in-Ok-None-clause-delivered : goal.returns-in-Ok-None-clause-delivered

@@ -10,7 +10,8 @@ pub returns-in_err-put-clause-front : goal.returns-in_err-put-clause-front
 returns-in_err-put-clause-front g c =
     on-err c.from_residual.result _
     (verdict-front c.args.n c.args.side _ _ (g.O.Sink.written c.args.output.now) (g.O.Sink.written c.put.new.self)
-    c.reason_of-reason.ensures (loss_lines c.args.n c.args.side (lost_in c.args.verdict.now)) c.in_err-put.ensures.front)
+    c.reason_of-reason.ensures (loss_lines c.args.n c.args.side (lost_in c.args.verdict.now))
+        c.in_err-put.ensures.front)
 
 pub returns-in-Accepted-clause-lines : goal.returns-in-Accepted-clause-lines
 returns-in-Accepted-clause-lines g c =

@@ -91,7 +91,8 @@ returns-in-Ok-add-clause-ok c = λ h st.
     c.new-message.ensures.time c.new-message.ensures.udp
     (ap (λ v. v.items) c.new-message.ensures.payload ∙ c.in-Ok.ensures.items) in (
       c.in-Some.place,
-      admits w h st c.in-Some.place c.args.vl.0 c.args.sub (length c.args.payload.now) c.index.result.now c.requires.idle p has lets,
+      admits w h st c.in-Some.place c.args.vl.0 c.args.sub
+          (length c.args.payload.now) c.index.result.now c.requires.idle p has lets,
       subst (λ (z : Submission). StandsFor c.add.new.self (with_submission h c.in-Some.place z))
           same (c.in-Ok-add.ensures.ok h st),
     )

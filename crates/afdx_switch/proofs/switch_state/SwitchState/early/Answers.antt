@@ -14,7 +14,8 @@ early-requires-clause-in_time c =
     let w = c.args.self.now in
     let at = slice_get_read w.lines.items _ c.in-Ok.place c.index-line.result.now w.lines.ok.0
     c.in-Ok.ensures.within c.index-line.ensures in
-    let sound = all-at (IsLineSound w.clock) w.lines.items c.in-Ok.place c.index-line.result.now c.requires.sound.lines at in
+    let sound = all-at (IsLineSound w.clock) w.lines.items c.in-Ok.place c.index-line.result.now
+        c.requires.sound.lines at in
     omega (arith, sound.in_time, c.requires.clock)
 
 pub early-requires-clause-longest : goal.early-requires-clause-longest
@@ -36,7 +37,8 @@ returns-in-Ok c t side h tag st sound =
     let past = own f.named.row.rule.vl side h.arrivals in
     let account = subst (λ (l : Line). StandsForOwn f.named.row.rule l.account past) same f.is.account in
     found-early t x w h c.in-Ok.place f c.early.result
-    (c.early.ensures.least f.named.row.rule past x account (rw c.length.ensures (found-offered t x w h c.in-Ok.place f)))
+    (c.early.ensures.least f.named.row.rule past x account
+        (rw c.length.ensures (found-offered t x w h c.in-Ok.place f)))
 
 pub returns-in-Err : goal.returns-in-Err
 returns-in-Err c t side h tag st sound =
