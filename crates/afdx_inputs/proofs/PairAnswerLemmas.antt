@@ -92,7 +92,7 @@ same-taken said said' a a' b b' e f g = rw (e, f, g) refl
 module _ {R : Type 0} (remaining : R → Option (List ℕ)) (start input : Watched R) (source : OrderedRecording) where
   gives-by : (head : AtHead) (taken : Numbers)
       → IsAheadBy (HasTaken remaining start source input) (HasTakenAll remaining start source input)
-        (number_taken source) head
+      (number_taken source) head
       taken → GivesSome (first_standing remaining start) (standing remaining source.source.reader.held input)
   gives-by at.Unknown taken h = (taken-sound remaining start input source taken h).1
   gives-by (at.Arrival moment) taken h = (taken-sound remaining start input source (number_taken source ∷ taken) h.0).1
@@ -123,7 +123,7 @@ module _ {R : Type 0} (remaining : R → Option (List ℕ)) (start inputs : BySi
   abbrev pub Stopped : Lines → RunFault → Type 0
   Stopped lines fault =
       HasStoppedPairing number_taken (HasTaken remaining) (HasTakenAll remaining)
-          (HasStoppedTaking remaining) start source inputs lines
+      (HasStoppedTaking remaining) start source inputs lines
       fault
 
   -- ---- whether a device failed
@@ -153,7 +153,7 @@ module _ {R : Type 0} (remaining : R → Option (List ℕ)) (start inputs : BySi
 
   stops-failed : (past : Numbers) (fault : RunFault)
       → StopsPairing number_taken (HasTaken remaining) (HasTakenAll remaining)
-        (HasStoppedTaking remaining) start source.pair inputs past
+      (HasStoppedTaking remaining) start source.pair inputs past
       fault → (inputs.a.failed || inputs.b.failed) ≡ is_read fault
   stops-failed past fault (inl h) =
       either-left inputs.a.failed inputs.b.failed (is_read fault)
@@ -198,7 +198,7 @@ module _ {R : Type 0} (remaining : R → Option (List ℕ)) (start inputs : BySi
 
   stops-gives : (past : Numbers) (fault : RunFault)
       → StopsPairing number_taken (HasTaken remaining) (HasTakenAll remaining)
-        (HasStoppedTaking remaining) start source.pair inputs past
+      (HasStoppedTaking remaining) start source.pair inputs past
       fault → GivesA × GivesB
   stops-gives past fault (inl h) = (
     (stopped-sound remaining start.a inputs.a source.pair.a.source h.taken_a h.fault_a h.stopped_a).1,
@@ -297,7 +297,7 @@ module _ (options : PairOptions) (ports : Ports) (source : TimedPair OrderedReco
   two-by items_of done told begins r remaining start rest =
       both-more (remaining start.a.inner) (remaining start.b.inner)
       (λ bytes. TakenAnswers (whole_of_two (way_of_two source) bytes)
-          (CutOfTwo remaining (way_of_two source) bytes rest)
+      (CutOfTwo remaining (way_of_two source) bytes rest)
       items_of done told begins r)
       (λ a b. TakenAnswers (taken_of_pair options ports a b) (AreCutOffInPair options ports remaining a b rest)
       items_of done told begins r)

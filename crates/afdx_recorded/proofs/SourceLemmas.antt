@@ -266,7 +266,7 @@ module _ {R : Type 0} (remaining : R → Option (List ℕ)) (start old input : W
     (reader : FrameReader) (new : ReadRecording) (past : Numbers)
     (h : HasGiven remaining start source old past) (k : Sorting remaining old input source reader new)
     (is : number_after (options_of source.options) (ports_of source.ports) past
-        (latest reader) ≡ Ok new.number.becomes) where
+    (latest reader) ≡ Ok new.number.becomes) where
   -- the number that was given
   given-is : number_read (given new)
       ≡ record { number = length past + 1; head = new.number.becomes; bytes = first_bytes (latest reader).bytes }
@@ -305,7 +305,7 @@ module _ {R : Type 0} (remaining : R → Option (List ℕ)) (start old input : W
   pub item-follows : (read : List (Item AsRead)) → past ≡ numbers_read read → ReadFollows read (given new)
   item-follows read e =
       let same : length past ≡ length read = ap (λ (xs : Numbers). length xs) e
-          ∙ length-map read number_read in record {
+      ∙ length-map read number_read in record {
         number = k.remembers.numbers ∙ k.number ∙ ap (λ m. m + 1) (sym h.numbers ∙ same);
         few = omega (arith, k.number, h.numbers, k.few, same);
       }

@@ -152,7 +152,7 @@ pub captured_by-later : (state : State) (old new : Standing) → Passes old new 
 captured_by-later state old new passes within =
     let all : old.held ++ passes.given ≡ new.held = passes.parts in
     let size : length (old.held ++ passes.given) ≡ length old.held + length passes.given = grind
-        (arith, common_steps) in (
+    (arith, common_steps) in (
       rw (← all) (omega (arith, size)),
       ap (captured_by state) (sym all) ∙ captured_by-append state old.held passes.given within,
     )

@@ -39,7 +39,7 @@ whole before head xs more few told least within =
     (omega arith) rest (omega (arith, back head least, within, size))
     ∙ ap (λ (n : ℕ). by_meaning n (block_meaning before (take n (xs ++ more)))) (back head least)
     ∙ ap (λ (bytes : List ℕ). by_meaning head.size (block_meaning before bytes))
-      (take-append-le head.size xs more within)
+    (take-append-le head.size xs more within)
 
 -- less than the block is there
 cut : (before : State) (head : Head) (xs : List ℕ) → before.blocks < 100000000000000000
@@ -48,7 +48,7 @@ cut : (before : State) (head : Head) (xs : List ℕ) → before.blocks < 1000000
 cut before head xs few told least held short =
     next_block-cut 12 (block_rest before) (block_meaning before) before.numbers xs (behind_head head) (omega arith)
     (block_rest-take before xs held ∙ block_rest-told before xs head few told) held
-        (omega (arith, back head least, short))
+    (omega (arith, back head least, short))
 
 -- what a call read tells of the block which stands first
 pub TellsBlock-meant : (result : Result Bool RunFault) (old new : Standing) (before after : State) (item : Numbered)
@@ -68,10 +68,10 @@ TellsBlock-meant (Ok false) old new before after item head given h k gives few t
     within rest
 TellsBlock-meant (Err (run.Recording f)) old new before after item head given h k gives few told
     least within rest meant = (
-  lost_by before,
-  SaysEnding-block old new before form.Pcapng (Faulted f) given h gives
-      (λ more _. whole before head (old.held ++ given) more few told least within ∙ ap (by_meaning head.size) meant),
-)
+      lost_by before,
+      SaysEnding-block old new before form.Pcapng (Faulted f) given h gives
+          (λ more _. whole before head (old.held ++ given) more few told least within ∙ ap (by_meaning head.size) meant),
+    )
 TellsBlock-meant (Err run.Memory) old new before after item head given h k gives few told least within rest meant =
     (given, gives)
 TellsBlock-meant (Err run.Read) old new before after item head given h k gives few told least within rest meant =

@@ -47,7 +47,7 @@ pub returns-in-Some-Packed-clause-tells : goal.returns-in-Some-Packed-clause-tel
 returns-in-Some-Packed-clause-tells g c =
     let known : magic_of (number_in HighFirst 4 (unread c.fill.new.self)) ≡ Some magic.Packed =
     ap magic_of (sym (c.word-number.ensures ∙ ap (number_in HighFirst 4) c.bytes.ensures))
-        ∙ sym c.in-Some-Packed.ensures
+    ∙ sym c.in-Some-Packed.ensures
     ∙ ap Some c.in-Some-Packed.field-0-is in (
       lost_by (state_of c.args.self.now),
       SaysEnding-packed _ _ _ c.requires.form c.fill.ensures.passes (c.fill.ensures.enough (search rules)) known,
@@ -57,6 +57,6 @@ pub returns-in-Some-Pcapng-clause-opens : goal.returns-in-Some-Pcapng-clause-ope
 returns-in-Some-Pcapng-clause-opens g c =
     let known : magic_of (number_in HighFirst 4 (unread c.fill.new.self)) ≡ Some magic.Pcapng =
     ap magic_of (sym (c.word-number.ensures ∙ ap (number_in HighFirst 4) c.bytes.ensures))
-        ∙ sym c.in-Some-Pcapng.ensures
+    ∙ sym c.in-Some-Pcapng.ensures
     ∙ ap Some c.in-Some-Pcapng.field-0-is in
     SaysSame-blocks _ _ _ _ c.requires.form c.fill.ensures.passes (c.fill.ensures.enough (search rules)) known refl
