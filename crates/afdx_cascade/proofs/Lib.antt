@@ -16,3 +16,7 @@ pub mod MoreLemmas
 pub mod StandingLemmas
 pub mod CarriedLemmas
 pub mod BehindLemmas
+pub mod OneFrameLemmas
+pub mod TwoHopsLemmas
+pub mod TwoHopsRunLemmas
+pub mod TwoHopsAllLemmas

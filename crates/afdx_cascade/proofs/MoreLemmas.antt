@@ -43,7 +43,7 @@ turns-stand c n events k port B st low high =
     taken-turns (c.tables k) B n.switches.b
     (calls_on B events (switch.last_time n.switches.b)) port st.on_b low high
 
-no-turns : (c : Plan) (events : List Event) (k port : ℕ) (side : Side) → events ≡ []
+pub no-turns : (c : Plan) (events : List Event) (k port : ℕ) (side : Side) → events ≡ []
     → AreTurns (byte_ns_at (c.tables k) port)
     (entries_at (c.tables k) side port (arrivals_in events))
     (taken_at port (turns_on side events))

@@ -9,3 +9,4 @@ pub mod Scan
 pub mod Due
 pub mod Found
 pub mod Standing
+pub mod TwoHops

@@ -13,6 +13,7 @@ ghost use Rattle.afdx_cascade.specs.Due.{TurnComesNext, FrameComesNext};
 ghost use Rattle.afdx_cascade.specs.Found.{ScanFindsLeast, NothingIsDue};
 ghost use Rattle.afdx_cascade.specs.Standing.{NothingHappened, LineArrives, FrameArrives};
 ghost use Rattle.afdx_cascade.specs.Standing.{TurnEnds, FrameIsCarried};
+ghost use Rattle.afdx_cascade.specs.TwoHops.{FramePassesBoth};
 ghost use Rattle.afdx_cascade.specs.Standing.{SlotJoinsBehind, TurnStaysBehind, ArrivalStaysBehind};
 
 use afdx_frame::laws::built_is_computed;
@@ -106,3 +107,11 @@ pub fn ring_stays_in_order()
     ensures turn { TurnStaysBehind }
     ensures arrival { ArrivalStaysBehind }
 {}
+
+/// The premises of the laws of events can be met: by a list whose one frame passes two switches, in
+/// four events.
+pub fn events_can_be_met()
+    ensures { FramePassesBoth }
+{
+    built_is_computed()
+}
