@@ -9,7 +9,8 @@ use Rattle.afdx_lists.specs.declared.fault.RunFault.{RunFault}
 use Rattle.afdx_lists.specs.declared.fault.RunFault.TheVariants as run
 use Rattle.afdx_lists.specs.declared.watched.Watched.{Watched}
 use Rattle.afdx_recordings.specs.Holding.{standing, GivesSome}
-use Rattle.afdx_recordings.specs.Recordings.{most_numbers}
+use Rattle.afdx_recordings.specs.Reading.{state_of}
+use Rattle.afdx_recordings.specs.Recordings.{most_numbers, totals_by}
 use Rattle.afdx_engine.specs.Engine.{Item}
 use Rattle.afdx_recorded.specs.declared.ahead.Ahead.{Ahead}
 use Rattle.afdx_recorded.specs.declared.ahead.AtHead.{AtHead}
