@@ -12,7 +12,7 @@ use Rattle.afdx_recordings.specs.declared.frame_reader.FrameReader.{FrameReader}
 use Rattle.afdx_recordings.specs.Holding.{Standing, standing, Gives, GivesSome, IsTrueToEnd}
 use Rattle.afdx_recordings.proofs.HeldLemmas.{Gives-then}
 use Rattle.afdx_recordings.specs.Reading.{state_of, latest, Tells, SaysFirst}
-use Rattle.afdx_recordings.specs.Recordings.{State, Numbered, Over, Faulted, lost_by, most_numbers}
+use Rattle.afdx_recordings.specs.Recordings.{State, Numbered, Over, Faulted, totals_by, most_numbers}
 use Rattle.afdx_recorded.specs.declared.counts.Counts.{Counts}
 use Rattle.afdx_recorded.specs.declared.becoming.RecordingOptions.{RecordingOptions}
 use Rattle.afdx_recorded.specs.declared.number.AsRead.{AsRead}
@@ -334,10 +334,10 @@ module _ {R : Type 0} (remaining : R → Option (List ℕ)) (start old input : W
     read = h.sorts.read ++ tells.1.given;
     gives = ends-gives (options_of source.options) (ports_of source.ports) (first_standing remaining start)
         (standing remaining source.reader.held old) (standing remaining reader.held input) past
-        (state_of source.reader) h.sorts Over (lost_by (state_of reader)) tells.1;
+        (state_of source.reader) h.sorts Over (totals_by (state_of reader)) tells.1;
     says = ends-well (options_of source.options) (ports_of source.ports) (first_standing remaining start)
         (standing remaining source.reader.held old) (standing remaining reader.held input) past
-        (state_of source.reader) h.sorts (lost_by (state_of reader)) tells.1
+        (state_of source.reader) h.sorts (totals_by (state_of reader)) tells.1
         (end-well source.numbers (length past) source.has_arrival (has_arrival past)
         (sym h.remembers.numbers) h.remembers.arrival ok);
   }
@@ -354,10 +354,10 @@ module _ {R : Type 0} (remaining : R → Option (List ℕ)) (start old input : W
           h.sorts.read ++ tells.1.given,
           ends-gives (options_of source.options) (ports_of source.ports) (first_standing remaining start)
               (standing remaining source.reader.held old) (standing remaining reader.held input) past
-              (state_of source.reader) h.sorts Over (lost_by (state_of reader)) tells.1,
+              (state_of source.reader) h.sorts Over (totals_by (state_of reader)) tells.1,
         );
         stops = ends-fault (options_of source.options) (ports_of source.ports) (first_standing remaining start)
             (standing remaining source.reader.held old) (standing remaining reader.held input) past
-            (state_of source.reader) h.sorts Over (lost_by (state_of reader)) (fault.NoArrival (length past))
+            (state_of source.reader) h.sorts Over (totals_by (state_of reader)) (fault.NoArrival (length past))
             tells.1 (rw none refl);
       })
