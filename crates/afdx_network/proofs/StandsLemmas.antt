@@ -178,7 +178,7 @@ module _ (t : Rows) (n : Network) (events : List Event) (st : StandsFor t n even
       switch.StandsFor t A a (with_take (calls_on A events (switch.last_time n.switches.a))
       (record { port = port; turn = s }) until) →
       StandsFor t (record { switches = record { a = a; b = n.switches.b } })
-          (Left (departure_after events A port s) ∷ events)
+      (Left (departure_after events A port s) ∷ events)
   stands-left-a a until port s low high next first by later is = record {
     lawful = st.lawful;
     on_a = subst (λ time. switch.StandsFor t A a
@@ -202,7 +202,7 @@ module _ (t : Rows) (n : Network) (events : List Event) (st : StandsFor t n even
       switch.StandsFor t B b (with_take (calls_on B events (switch.last_time n.switches.b))
       (record { port = port; turn = s }) until) →
       StandsFor t (record { switches = record { a = n.switches.a; b = b } })
-          (Left (departure_after events B port s) ∷ events)
+      (Left (departure_after events B port s) ∷ events)
   stands-left-b b until port s low high next first by later is = record {
     lawful = st.lawful;
     on_a = st.on_a;
@@ -309,10 +309,10 @@ module _ (t : Rows) (n : Network) (events : List Event) (st : StandsFor t n even
       IfSome due_a (λ d. IsDue t A (calls_on A events (switch.last_time n.switches.a)) d)
       → IfSome due_b (λ d. IsDue t B (calls_on B events (switch.last_time n.switches.b)) d) →
       ((port : ℕ) → 1 ≤ port → port ≤ 24 → IfNone due_b
-          (IsDone t B (calls_on B events (switch.last_time n.switches.b)) port)) →
+      (IsDone t B (calls_on B events (switch.last_time n.switches.b)) port)) →
       switch.Gives t A (calls_on A events (switch.last_time n.switches.a)) until value a
       → Gives t events until (record { side = A; departure = value })
-        (record { switches = record { a = a; b = n.switches.b } })
+      (record { switches = record { a = a; b = n.switches.b } })
   gives-a a until value due_a due_b first clock comes_a comes_b done_b g =
       let due : IsDue t A (calls_on A events (switch.last_time n.switches.a)) first.due =
       subst (λ z. IfSome z (λ d. IsDue t A (calls_on A events (switch.last_time n.switches.a)) d))
@@ -335,10 +335,10 @@ module _ (t : Rows) (n : Network) (events : List Event) (st : StandsFor t n even
       IfSome due_b (λ d. IsDue t B (calls_on B events (switch.last_time n.switches.b)) d)
       → IfSome due_a (λ d. IsDue t A (calls_on A events (switch.last_time n.switches.a)) d) →
       ((port : ℕ) → 1 ≤ port → port ≤ 24 → IfNone due_a
-          (IsDone t A (calls_on A events (switch.last_time n.switches.a)) port)) →
+      (IsDone t A (calls_on A events (switch.last_time n.switches.a)) port)) →
       switch.Gives t B (calls_on B events (switch.last_time n.switches.b)) until value b
       → Gives t events until (record { side = B; departure = value })
-        (record { switches = record { a = n.switches.a; b = b } })
+      (record { switches = record { a = n.switches.a; b = b } })
   gives-b b until value due_a due_b first clock comes_b comes_a done_a g =
       let due : IsDue t B (calls_on B events (switch.last_time n.switches.b)) first.due =
       subst (λ z. IfSome z (λ d. IsDue t B (calls_on B events (switch.last_time n.switches.b)) d))
@@ -418,7 +418,7 @@ module _ (t : Rows) (n : Network) (events : List Event) (st : StandsFor t n even
           IsTrue (is_before e (Came (admission_after t (arrivals_in events)
           (arrival_with tag time A port bytes))))) events
           (came-after time until (arrival_with tag time A port bytes) refl
-              (record { switches = record { a = a; b = n.switches.b } })
+          (record { switches = record { a = a; b = n.switches.b } })
           later quiet),
       st.in_order,
     );
@@ -469,7 +469,7 @@ module _ (t : Rows) (n : Network) (events : List Event) (st : StandsFor t n even
           IsTrue (is_before e (Came (admission_after t (arrivals_in events)
           (arrival_with tag time B port bytes))))) events
           (came-after time until (arrival_with tag time B port bytes) refl
-              (record { switches = record { a = n.switches.a; b = b } })
+          (record { switches = record { a = n.switches.a; b = b } })
           later quiet),
       st.in_order,
     );
@@ -527,9 +527,9 @@ module _ (t : Rows) (n : Network) (events : List Event) (st : StandsFor t n even
       IfSome due_a (λ d. IsDue t A (calls_on A events (switch.last_time n.switches.a)) d)
       → IfSome due_b (λ d. IsDue t B (calls_on B events (switch.last_time n.switches.b)) d) →
       ((port : ℕ) → 1 ≤ port → port ≤ 24 → IfNone due_a
-          (IsDone t A (calls_on A events (switch.last_time n.switches.a)) port)) →
+      (IsDone t A (calls_on A events (switch.last_time n.switches.a)) port)) →
       ((port : ℕ) → 1 ≤ port → port ≤ 24 → IfNone due_b
-          (IsDone t B (calls_on B events (switch.last_time n.switches.b)) port)) →
+      (IsDone t B (calls_on B events (switch.last_time n.switches.b)) port)) →
       switch.Gives t side (calls_on side events (switch.last_time (on side n.switches))) until value new
       → Gives t events until (record { side = side; departure = value })
       (record { switches = with_on side n.switches new })

@@ -10,7 +10,7 @@ ghost use Rattle.afdx_network.specs.First.{IsFirstSide, IsLimited};
 
 use afdx_config::Tables;
 use afdx_frame::{BySide, Checked, Side};
-use afdx_port::is_given;
+use afdx_port::TurnOrder;
 use afdx_switch::{Departure, Switch, Verdict};
 use std::alloc::{AllocError, Global};
 
@@ -23,16 +23,16 @@ pub struct Departed {
 
 /// The side whose turn goes first, if it is given by `until`: by time, at one time slots before
 /// drops, then side A.
-fn first_side(order_a: u64, order_b: u64, until: u64) -> Option<Side>
-    ensures { (a b : Option Due) → order_a ≡ order_at a → order_b ≡ order_at b →
+fn first_side(order_a: TurnOrder, order_b: TurnOrder, until: u64) -> Option<Side>
+    ensures { (a b : Option Due) → order_a.0 ≡ order_at a → order_b.0 ≡ order_at b →
         IsLimited a → IsLimited b → IsFirstSide until a b result }
 {
-    let (order, side) = if order_a <= order_b {
+    let (order, side) = if order_a.goes_before(order_b) {
         (order_a, Side::A)
     } else {
         (order_b, Side::B)
     };
-    if is_given(order, until) {
+    if order.is_given(until) {
         Some(side)
     } else {
         None
