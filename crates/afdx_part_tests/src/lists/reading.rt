@@ -8,7 +8,7 @@ use std::alloc::{AllocError, Global};
 use std::io::Read;
 use std::test::Fail;
 
-/// Takes the next line of an input. False: there is none, or the input ended or failed before.
+/// Takes the next line of an input, unless it ended or failed before.
 fn next_line<R: Read>(input: &mut Watched<R>, reader: &mut LineReader) -> Result<Next, RunFault> {
     if input.failed() || input.ended() {
         return Ok(Next::Ended);
