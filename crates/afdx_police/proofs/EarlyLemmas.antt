@@ -85,7 +85,7 @@ least_wait-fill link accepted last is-bag some at-most came =
           let short = ceil-least lack rate less filled below in
           false_from_ne_true (fits link accepted (charged_later less last))
           (λ fit. let room = (fits-later link accepted last less is-bag came).0 fit in
-              absurd (omega (arith, short, room)));
+          absurd (omega (arith, short, room)));
     }
 
 -- what an account that is filled up to the offer's time lacks

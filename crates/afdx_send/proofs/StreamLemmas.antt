@@ -248,7 +248,7 @@ stream_of s links taken b span es place l are fit good row most (t âˆ· ts) (x âˆ
         (fit x.place x.release.place x.row x.release.submission h.0.stands h.0.next.own.stands) in
         let is_message = good x.place x.release.place x.row x.release.submission h.0.stands h.0.next.own.stands in
         let can = can_be_sent are.system.0 link.0 s l x.release.submission.message are.system.1
-            link.1 is_message fits in
+        link.1 is_message fits in
         let sent = is_sent s l link.0 x k t.end y same link.1 fits is' in
         let sent' : IsSent s l (record {
           message = x.release.submission.message;

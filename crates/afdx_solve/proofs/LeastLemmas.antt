@@ -127,7 +127,7 @@ delay-least t High place s us at soon left =
     let flows = flows_to t.links place in
     let bound = div_ceil-least (high_wait ns flows) byte_units (1000 * us) (omega arith) soon in
     let least = div_ceil-least (div_ceil (high_wait ns flows) byte_units) 1000 us (omega arith)
-        (omega (arith, bound)) in
+    (omega (arith, bound)) in
     subst (λ n. n ≤ us) (sym (delay-stands t High place s at)) least
 delay-least t Low place s us at soon left =
     let ns = byte_ns s in
@@ -157,12 +157,12 @@ low_stands : (place : ℕ) (ls : List LinkRow) (i : ℕ) (l : LinkRow) → slice
 low_stands place [] i l at goes low = absurd (cc at)
 low_stands place (x ∷ ls) zero l at goes low =
     subst (λ b. Contains (of_class Low (map flow_of_link
-        (cond b (x ∷ links_to ls place) (links_to ls place)))) (flow_of_link l))
+    (cond b (x ∷ links_to ls place) (links_to ls place)))) (flow_of_link l))
     (sym goes_x)
     (subst (λ b. Contains (cond b (flow_of_link x ∷ of_class Low (flows_to ls place))
-        (of_class Low (flows_to ls place)))
+    (of_class Low (flows_to ls place)))
     (flow_of_link l)) (sym low_x) (subst (λ y. Contains
-        (flow_of_link x ∷ of_class Low (flows_to ls place)) (flow_of_link y)) same
+    (flow_of_link x ∷ of_class Low (flows_to ls place)) (flow_of_link y)) same
     (0, omega arith, refl)))
   where
     same_of_some : {X : Type 0} (x y : X) → Some x ≡ Some y → x ≡ y
@@ -181,7 +181,7 @@ low_stands place (x ∷ ls) (suc i) l at goes low =
   where
     in_more : (a b : Bool) → Contains (of_class Low (flows_to ls place)) (flow_of_link l)
         → Contains (of_class Low (map flow_of_link
-          (cond a (x ∷ links_to ls place) (links_to ls place)))) (flow_of_link l)
+        (cond a (x ∷ links_to ls place) (links_to ls place)))) (flow_of_link l)
     in_more false b h = h
     in_more true b h = by b (is_class Low x.priority) refl h
       where
@@ -226,7 +226,7 @@ least_latencies o t keep raise lawful admitted = λ i l at us some soon.
     let before : AllByRecursion (λ p. p < length t.systems) x.0.to =
     subst (λ r. AllByRecursion (λ p. p < length t.systems) r.to) (sym x.2) row.to in
     let each : (p : ℕ) → p < length t.systems → list_any (λ q. nat_eq q p) x.0.to ≡ true
-        → delay_to t x.0.priority p ≤ us =
+    → delay_to t x.0.priority p ≤ us =
     λ p less among.
     let s = at_place t.systems p less in
     let goes : is_to p l ≡ true = ap (is_to p) (sym x.2) ∙ among in

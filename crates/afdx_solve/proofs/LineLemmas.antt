@@ -54,7 +54,7 @@ AreWords ss = AllByRecursion IsWord ss
 
 items-text : (is_first : Bool) (s : List ℕ) (more : List (List ℕ)) → AreWords (s ∷ more)
     → IsItemsText false false is_first (texts (s ∷ more))
-      (before_item false is_first ++ (listed (s ∷ more) ++ codes "]"))
+    (before_item false is_first ++ (listed (s ∷ more) ++ codes "]"))
 items-text is_first s [] words = (in_quotes s, codes "]", refl, sym (word-text s words.0), refl)
 items-text is_first s (u ∷ more) words = (
   in_quotes s,
@@ -251,13 +251,13 @@ config-lines t lawful =
     let profile = line-number (codes "profile") t.profile refl (omega (arith, lawful.profile.1)) in
     let buffer = numbered (codes "buffer") t.buffer refl (omega (arith, lawful.buffer.1)) in
     let systems = all-lines (codes "system") system_fields system_text t.systems
-        (IsSystem t.profile) lawful.systems.each
+    (IsSystem t.profile) lawful.systems.each
     (system-lines t.profile) in
     let links = all-lines (codes "link") (link_fields t.systems) (link_text t.systems) t.links
-        (IsLink (length t.systems))
+    (IsLink (length t.systems))
     lawful.links.each (link-lines t.systems words) in
     let ports = all-lines (codes "port") (port_fields t.systems) (port_text t.systems) t.ports
-        (IsPort (length t.systems) t.links)
+    (IsPort (length t.systems) t.links)
     lawful.ports.each (λ p is. port-lines t.systems t.links p words lawful.links.each is) in
     let rest = and buffer (and systems (and links ports)) in
     record {

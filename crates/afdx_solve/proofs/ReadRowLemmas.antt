@@ -68,7 +68,7 @@ module _ (profile : ℕ) (before : List SystemRow) (s : SystemRow) (is : IsSyste
   unfolding system_nodes system_keys
   rate-read = one_of-reads (keys.system_at (length before + 1) 5) (system_tree s) (rates profile) s.rate
       (whole-reads (keys.system_at (length before + 1) 5) (system_tree s) s.rate refl
-          (rate-within profile s.rate is.rate)) is.rate
+      (rate-within profile s.rate is.rate)) is.rate
 
   only-read : only_system_keys (length before + 1) (system_tree s) ≡ Ok tt
   unfolding system_nodes system_keys only_system_keys only are_among
@@ -109,8 +109,13 @@ bag-within n one = one_of_each (IsWithin 1 128) n gaps (
       (omega arith, omega arith),
       (
         (omega arith, omega arith),
-        ((omega arith, omega arith), ((omega arith, omega arith),
-            ((omega arith, omega arith), ((omega arith, omega arith), tt)))),
+        (
+          (omega arith, omega arith),
+          (
+            (omega arith, omega arith),
+            ((omega arith, omega arith), ((omega arith, omega arith), tt)),
+          ),
+        ),
       ),
     ),
   ),
@@ -177,8 +182,13 @@ module _ (systems : List SystemRow) (i : ℕ) (l : LinkRow) (is : IsLink (length
       )
 
   treatment-read : treatment_at all_kept i (link_tree systems l)
-      ≡ Ok (record { priority = l.priority; policing = l.policing; latency_us = l.latency_us;
-          skew_us = l.skew_us; subs = l.subs })
+      ≡ Ok (record {
+        priority = l.priority;
+        policing = l.policing;
+        latency_us = l.latency_us;
+        skew_us = l.skew_us;
+        subs = l.subs;
+      })
   unfolding link_nodes link_keys treatment_at
   treatment-read =
       let t = link_tree systems l in
@@ -229,7 +239,7 @@ identifier-within n (l ∷ links) vl system are there = by (nat_eq vl l.vl) refl
     by : (b : Bool) → nat_eq vl l.vl ≡ b
         → (option_map_or (is_to system) (find (λ m. nat_eq vl m.vl) links) false ≡ true → IsWithin 0 65535 vl)
         → option_map_or (is_to system) (cond b (Some l) (find (λ m. nat_eq vl m.vl) links))
-          false ≡ true → IsWithin 0 65535 vl
+        false ≡ true → IsWithin 0 65535 vl
     by true same later there = subst (IsWithin 0 65535) (sym (eqb-true vl l.vl same)) are.0.vl
     by false other later there = later there
 
@@ -238,8 +248,11 @@ module _ (systems : List SystemRow) (links : List LinkRow) (i : ℕ) (p : PortRo
   at-system : AreNamed systems → named (keys.port_at i 1) systems (port_tree systems p) ≡ Ok p.system
   unfolding port_nodes port_keys named
   at-system named_back =
-      rw (text-reads (keys.port_at i 1) (port_tree systems p)
-          (name_at systems p.system) refl, named_back p.system is.system)
+      rw (
+        text-reads (keys.port_at i 1) (port_tree systems p)
+            (name_at systems p.system) refl,
+        named_back p.system is.system,
+      )
 
   at-link : AllByRecursion (IsLink (length systems)) links → whole (keys.port_at i 2) (port_tree systems p) ≡ Ok p.link
   unfolding port_nodes port_keys

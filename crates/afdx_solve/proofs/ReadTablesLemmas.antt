@@ -45,8 +45,11 @@ fresh f p (x ∷ before) after r distinct only =
     by (p x) refl (fresh f p before after r (distinct-tail f x (before ++ r ∷ after) distinct) only)
   where
     by : (b : Bool) → p x ≡ b → list_any p before ≡ false → b || list_any p before ≡ false
-    by true here later = absurd (omega (arith, distinct 0 (suc (length before)) x r refl
-        (at-end before after r) (only x here)))
+    by true here later = absurd (omega (
+      arith,
+      distinct 0 (suc (length before)) x r refl
+          (at-end before after r) (only x here),
+    ))
     by false here later = later
 
 none-length : {R : Type 0} (p : R → Bool) (rows : List R) → list_any p rows ≡ false
@@ -96,7 +99,7 @@ module _ (t : Rows) (lawful : IsLawful t) where
   systems-read = each-reads (system_at t.profile) system_tree t.systems
       (λ before after s e. system-reads t.profile before s
       (row-of (IsSystem t.profile) t.systems before after s lawful.systems.each e)
-          (system-new before after s e)) [] t.systems refl
+      (system-new before after s e)) [] t.systems refl
 
   link-new : (before after : List LinkRow) (l : LinkRow) → t.links ≡ before ++ l ∷ after → link_of before l.vl ≡ None
   unfolding link_of
@@ -108,7 +111,7 @@ module _ (t : Rows) (lawful : IsLawful t) where
   links-read = each-reads (link_at all_kept t.systems) (link_tree t.systems) t.links
       (λ before after l e. link-reads t.systems before l
       (row-of (IsLink (length t.systems)) t.links before after l lawful.links.each e) systems-named
-          (link-new before after l e))
+      (link-new before after l e))
       [] t.links refl
 
   same-triple : (p r : PortRow) → ((nat_eq r.system p.system && nat_eq r.link p.link) && nat_eq
@@ -129,7 +132,7 @@ module _ (t : Rows) (lawful : IsLawful t) where
   ports-read = each-reads (port_at t.systems t.links) (port_tree t.systems) t.ports
       (λ before after p e. port-reads t.systems t.links before p
       (row-of (IsPort (length t.systems) t.links) t.ports before after p lawful.ports.each e)
-          lawful.links.each systems-named
+      lawful.links.each systems-named
       (port-new before after p e)) [] t.ports refl
 
 -- ---- the top

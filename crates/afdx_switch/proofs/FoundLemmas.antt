@@ -94,7 +94,7 @@ module _ (t : Rows) (x : Arrival) (reason : Reason) (f : IsFaulted t x reason) w
       → new ≡ record w { clock = x.time } → StandsFor t x.side new (with_arrival h x)
   stands-faulted w new h st is = subst (λ z. StandsFor t x.side z (with_arrival h x)) (sym is)
       (stands-dropped t x w h st (record w { clock = x.time })
-          (λ port. faulted-sent (output_at t x.side port) h.arrivals)
+      (λ port. faulted-sent (output_at t x.side port) h.arrivals)
       (faulted-lines w h st) refl refl refl refl)
 
 -- a line that was offered a frame stands where it stood

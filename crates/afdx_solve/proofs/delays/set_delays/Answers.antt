@@ -46,7 +46,7 @@ loop-i-preserved c =
     let kept = delays-of_class t d c.delays_of.ensures c.delays_of-2.ensures l.priority in
     let needed : latency_over (slice_index (of_class l.priority d)) l.to ≡ latency_over (delay_to t l.priority) l.to =
     latency_over-same (slice_index (of_class l.priority d)) (delay_to t l.priority)
-        (length t.systems) kept.each l.to lawful.to in
+    (length t.systems) kept.each l.to lawful.to in
     stage-next f t c.loop-i.tables c.set_times.new.self i c.times_at-times.result l c.loop-i.invariant row.1
     (c.times_at-times.ensures.changed l here ∙ ap (λ n. with_delays_for c.args.options n l) needed)
     c.set_times.ensures.changed

@@ -40,7 +40,7 @@ loop-i-preserved c =
     let here : slice_get c.loop-i.tables.links i ≡ Some l =
     ap (λ (r : Rows). slice_get r.links i) c.loop-i.invariant ∙ get-first f i t.links ∙ row.1 in
     let lawful = all_at (IsLink (length t.systems)) t.links i l
-        c.sender_jitters-jitters.ensures.lawful.links.each row.1 in
+    c.sender_jitters-jitters.ensures.lawful.links.each row.1 in
     let needed : slice_index c.sender_jitters-jitters.result l.from ≡ jitter_at t l.from =
     c.sender_jitters-jitters.ensures.jitters.each l.from lawful.from in
     stage-next f t c.loop-i.tables c.set_times.new.self i c.times_at-times.result l c.loop-i.invariant row.1
