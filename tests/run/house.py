@@ -9,6 +9,7 @@
   aside.
 - Each crate has its row in docs/ARCHITECTURE.md, which names what it may cite, as crates.txt does,
   and each of its files of definitions.
+- The pages that bin/pages prints from the sources are as it prints them.
 - The closed lists of the program, which stand in tables of its sources, are those of the documents
   and of the tools, in the same order; each key of a configuration has its number, its part, its
   name and its range in its text.
@@ -23,6 +24,7 @@ Prints a line for each fault, then `N passed, M failed`; ends with status 1 if t
 """
 import pathlib
 import re
+import subprocess
 import sys
 
 TOP = pathlib.Path(__file__).resolve().parent.parent.parent
@@ -50,7 +52,7 @@ MEMORY = {
     "crates/afdx_text/src/line.rt": {"room_wanted"},
 }
 SCRIPTS = ["tests/**/*.py", "tests/**/*.sh", "tests/**/*.c", "examples/*.py"]
-SCRIPTS += ["bench/*", "bin/*", "tools/*", ".ci/*"]
+SCRIPTS += ["bench/*", "bin/*", "bin/printing/*.py", "tools/*", ".ci/*"]
 
 
 def text_of(path: pathlib.Path) -> str:
@@ -81,7 +83,8 @@ def known_words() -> set[str]:
     """All words of the sources, and the names of files and folders."""
     words: set[str] = set()
     named = ["crates/**/*.rt", "crates/**/*.antt", "crates/*/must-fail/*", "tests/*/*"]
-    for path in sources(*named, "bench/*", "tools/*", "bin/*", "examples/*.toml"):
+    named += ["bench/*", "tools/*", "bin/*", "bin/printing/*.py", "examples/*.toml"]
+    for path in sources(*named):
         if path.is_file():
             words.update(re.findall(r"\w+", text_of(path)))
             words.update(re.findall(r"\w+", str(path.relative_to(TOP))))
@@ -128,6 +131,13 @@ def missing_rows() -> list[str]:
             if f"`{name}`" not in rows[crate]:
                 faults.append(f"{document}: the row of {crate} doesn't name `{name}`")
     return faults
+
+
+def other_pages() -> list[str]:
+    """Which pages aren't what is printed from the sources."""
+    words = [sys.executable, str(TOP / "bin" / "pages"), "--check"]
+    ran = subprocess.run(words, capture_output=True, text=True, check=False)
+    return (ran.stdout + ran.stderr).splitlines() if ran.returncode else []
 
 
 def without_space(text: str) -> str:
@@ -310,6 +320,7 @@ def main() -> int:
     checks = {
         "names in documents": wrong_names(),
         "rows of crates": missing_rows(),
+        "pages printed from the sources": other_pages(),
         "code in LIBRARIES": foreign_code(),
         "closed lists": lists_apart(),
         "keys of a configuration": keys_apart(),
