@@ -20,7 +20,8 @@ use Rattle.afdx_network.specs.Network.{IsNextOn}
 use Rattle.afdx_network.specs.Order.{is_below, side_number}
 use Rattle.afdx_network.specs.declared.network.Network.{Network}
 use Rattle.afdx_cascade.specs.SwitchEvents.{Plan, SwitchEvent, at_switch}
-use Rattle.afdx_cascade.specs.Scan.{First, IsFirstFrom}
+use Rattle.afdx_cascade.specs.Scan.{IsFirstFrom}
+use Rattle.afdx_cascade.specs.declared.scan.First.{First}
 use Rattle.afdx_cascade.specs.Found.{ScanFindsLeast, NothingIsDue}
 use Rattle.afdx_cascade.proofs.RingLemmas.{no-frames}
 use Rattle.afdx_cascade.proofs.NumberLemmas.{told, nothing-next, told-least}
