@@ -22,6 +22,7 @@ pub mod KeepLemmas
 pub mod FrontLemmas
 pub mod TurningLemmas
 pub mod NextLemmas
+pub mod EndLemmas
 pub mod OneFrameLemmas
 pub mod TwoHopsLemmas
 pub mod TwoHopsRunLemmas

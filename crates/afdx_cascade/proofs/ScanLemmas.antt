@@ -71,7 +71,7 @@ scan-least c so_far ns f stand is =
 
 -- a switch whose number is that of no turn has none to come
 module _ (t : Rows) (events : List Event) (side : Side) (h : switch.SwitchHistory) where
-  none-comes : (o : Option Due) (port : ℕ) (s : Turn HeldFrame) → order_without_turn ≤ order_at o
+  pub none-comes : (o : Option Due) (port : ℕ) (s : Turn HeldFrame) → order_without_turn ≤ order_at o
       → IfSome o (λ d. given_at d ≤ 1200000000000000)
       → ((p : ℕ) → 1 ≤ p → p ≤ 24 → IfNone o (switch.IsDone t side h p)) → 1 ≤ port → port ≤ 24
       → switch.IsNextAt t side h port s → ⊥

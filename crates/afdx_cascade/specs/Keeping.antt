@@ -15,7 +15,7 @@ use Rattle.afdx_network.specs.declared.network.Network.{Network}
 use Rattle.afdx_cascade.specs.Cables.{brought}
 use Rattle.afdx_cascade.specs.Due.{OnCable, frame_place, turn_place}
 use Rattle.afdx_cascade.specs.SwitchEvents.{Plan, IsPlan, End, SwitchEvent, at_switch}
-use Rattle.afdx_cascade.specs.Runs.{Line, IsBeforeLine, IsFirstDue, IsNextLine, arriving, event_at}
+use Rattle.afdx_cascade.specs.Runs.{Line, IsBeforeLine, IsFirstDue, IsNextLine, arriving, event_at, IsDue}
 use Rattle.afdx_cascade.specs.Scan.{IsFirstFrom}
 use Rattle.afdx_cascade.specs.Standing.{Stands, AreDueAfter}
 use Rattle.afdx_cascade.specs.Turning.{AreInTransit, IsInTransit, ArrivesAt, CanArrive, TurnsAt, TellsTurn}
@@ -160,6 +160,10 @@ pub record BringsNext (c : Plan) (networks : List Network) (transit : List InTra
   pub rest : List OnCable
   pub are : ring ≡ r ∷ rest
   pub is : FrontIsNext c networks transit time r rest so_far value
+
+-- nothing is due: a list that has no line left has had all its events
+abbrev pub IsNothingDue : Plan → List SwitchEvent → Type 0
+IsNothingDue c so_far = (place : List ℕ) (g : SwitchEvent) → IsDue c so_far place g → ⊥
 
 -- ---- nothing has happened
 

@@ -1,13 +1,13 @@
 //! The next event of several switches: a frame arrives over a cable, or a turn is over.
 
 ghost use Rattle.std.specs.Prelude.{◌≡◌, ℕ, ◌+◌, ◌*◌, ◌<◌, ◌≤◌, ◌⊎◌, ◌∷◌, [], List, IfSome, IfNone, IfOk, IsTrue, ◌↔◌, slice_get, OnErr, Some, length};
-ghost use Rattle.afdx_port.specs.Times.{latest_put};
+ghost use Rattle.afdx_port.specs.Times.{drain_end, latest_put};
 ghost use Rattle.afdx_switch.specs.Departures.{as_given};
 ghost use Rattle.afdx_network.specs.declared.network.Network.{Network as At};
 ghost use Rattle.afdx_network.specs.Network as network;
 ghost use Rattle.afdx_cascade.specs.Due.{OnCable};
 ghost use Rattle.afdx_cascade.specs.SwitchEvents.{Plan, SwitchEvent};
-ghost use Rattle.afdx_cascade.specs.Keeping.{Keeps, TurnsNext, BringsNext, IsFrontNext, IsEarly};
+ghost use Rattle.afdx_cascade.specs.Keeping.{Keeps, TurnsNext, BringsNext, IsFrontNext, IsEarly, IsNothingDue};
 ghost use Rattle.afdx_cascade.specs.Scan.{IsFirstFrom, switches_most};
 ghost use Rattle.afdx_cascade.specs.Turning.{AreEnds, AreInTransit};
 
@@ -94,6 +94,12 @@ pub fn turn_next(
         (TurnsNext c networks.new transit.new.items until so_far first.switch)) }
     ensures quiet { IfOk result (λ o. IfNone o ((k : ℕ) (n : At) →
         slice_get networks.new k ≡ Some n → network.IsQuiet n until)) }
+    ensures empty { (c : Plan) (time : ℕ) (ring : List OnCable) (so_far : List SwitchEvent) →
+        Keeps c networks.old time ring so_far → IsEarly first.order time ring → time ≤ until →
+        IfOk result (λ o. IfNone o (ring ≡ [])) }
+    ensures all_done { (c : Plan) (time : ℕ) (ring : List OnCable) (so_far : List SwitchEvent) →
+        Keeps c networks.old time ring so_far → IsEarly first.order time ring →
+        drain_end ≤ until → IfOk result (λ o. IfNone o (IsNothingDue c so_far)) }
     ensures same { IfOk result (λ o. IfNone o ((networks.new ≡ networks.old)
         × (transit.new.items ≡ transit.old.items))) }
     ensures length { length networks.new ≡ length networks.old }

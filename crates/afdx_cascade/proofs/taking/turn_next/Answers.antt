@@ -2,6 +2,7 @@ use Rattle.std.proofs.Common.{sym, subst}
 use Rattle.afdx_cascade.specs.Turning.{AreInTransit}
 use Rattle.afdx_cascade.proofs.taking.turn_next.Goals as goal
 use Rattle.afdx_cascade.proofs.KeepLemmas.{turn-keeps}
+use Rattle.afdx_cascade.proofs.EndLemmas.{ring-end, ring-by, ring-late, all-done}
 use Rattle.afdx_cascade.proofs.NextLemmas.{first-within, time-by, not-quiet, until-more, quiet-end, quiet-by}
 
 pub turn_at-requires-clause-within : goal.turn_at-requires-clause-within
@@ -46,3 +47,29 @@ pub returns-then-at-until-clause-quiet : goal.returns-then-at-until-clause-quiet
 returns-then-at-until-clause-quiet c k n here =
     quiet-by c.args.networks.now c.args.first c.args.until c.given_at-at.result c.requires.first
     c.if-at-until.true c.given_at-at.ensures.high k n here
+
+pub returns-then-first-ge-ORDER_WITHOUT_TURN-clause-empty : goal.returns-then-first-ge-ORDER_WITHOUT_TURN-clause-empty
+returns-then-first-ge-ORDER_WITHOUT_TURN-clause-empty c p time ring so_far keeps early by =
+    ring-end p c.args.networks.now time ring so_far keeps c.args.first.order
+    c.if-first-ge-ORDER_WITHOUT_TURN.true early
+
+pub returns-then-at-until-clause-empty : goal.returns-then-at-until-clause-empty
+returns-then-at-until-clause-empty c p time ring so_far keeps early by =
+    ring-by p c.args.networks.now time ring so_far keeps c.args.first.order c.given_at-at.result
+    c.args.until c.if-at-until.true c.given_at-at.ensures.high by early
+
+pub returns-then-first-ge-ORDER_WITHOUT_TURN-clause-all_done : goal.returns-then-first-ge-ORDER_WITHOUT_TURN-clause-all_done
+returns-then-first-ge-ORDER_WITHOUT_TURN-clause-all_done c p time ring so_far keeps early late =
+    all-done p c.args.networks.now time c.args.until ring so_far c.args.first keeps c.requires.first
+    (ring-end p c.args.networks.now time ring so_far keeps c.args.first.order
+    c.if-first-ge-ORDER_WITHOUT_TURN.true early) late
+    (λ k n here. quiet-end c.args.networks.now c.args.first c.args.until c.requires.first
+    c.if-first-ge-ORDER_WITHOUT_TURN.true k n here)
+
+pub returns-then-at-until-clause-all_done : goal.returns-then-at-until-clause-all_done
+returns-then-at-until-clause-all_done c p time ring so_far keeps early late =
+    all-done p c.args.networks.now time c.args.until ring so_far c.args.first keeps c.requires.first
+    (ring-late p c.args.networks.now time ring so_far keeps c.args.first.order
+    c.given_at-at.result c.args.until c.if-at-until.true c.given_at-at.ensures.high late early) late
+    (λ k n here. quiet-by c.args.networks.now c.args.first c.args.until c.given_at-at.result
+    c.requires.first c.if-at-until.true c.given_at-at.ensures.high k n here)
