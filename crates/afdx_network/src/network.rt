@@ -10,7 +10,7 @@ ghost use Rattle.afdx_network.specs.First.{IsFirstOf, IsFirstSide, IsLimited};
 
 use afdx_config::Tables;
 use afdx_frame::{BySide, Checked, Side};
-use afdx_port::is_given;
+use afdx_port::TurnOrder;
 use afdx_switch::{Departure, Switch, Verdict};
 use std::alloc::{AllocError, Global};
 
@@ -23,10 +23,10 @@ pub struct Departed {
 
 /// The first of the next turns of both sides: where it stands in the order of turns, and its side,
 /// which is A if both stand at one place.
-fn first_of(order_a: u64, order_b: u64) -> (u64, Side)
-    ensures { IsFirstOf order_a order_b result.0 result.1 }
+fn first_of(order_a: TurnOrder, order_b: TurnOrder) -> (TurnOrder, Side)
+    ensures { IsFirstOf order_a.0 order_b.0 result.0.0 result.1 }
 {
-    if order_a <= order_b {
+    if order_a.goes_before(order_b) {
         (order_a, Side::A)
     } else {
         (order_b, Side::B)
@@ -35,12 +35,12 @@ fn first_of(order_a: u64, order_b: u64) -> (u64, Side)
 
 /// The side whose turn goes first, if it is given by `until`: by time, at one time slots before
 /// drops, then side A.
-fn first_side(order_a: u64, order_b: u64, until: u64) -> Option<Side>
-    ensures { (a b : Option Due) → order_a ≡ order_at a → order_b ≡ order_at b →
+fn first_side(order_a: TurnOrder, order_b: TurnOrder, until: u64) -> Option<Side>
+    ensures { (a b : Option Due) → order_a.0 ≡ order_at a → order_b.0 ≡ order_at b →
         IsLimited a → IsLimited b → IsFirstSide until a b result }
 {
     let (order, side) = first_of(order_a, order_b);
-    if is_given(order, until) {
+    if order.is_given(until) {
         Some(side)
     } else {
         None
@@ -135,10 +135,9 @@ impl Network {
     }
 
     /// Where the next turn of both sides stands in the order of turns, and whose it is: by time, at
-    /// one time slots before drops, then side A. `afdx_port::is_given` tells of this number whether
-    /// the turn is given by a time; if none is to come, it is 2^52.
-    pub fn order(&self) -> (u64, Side)
-        ensures { TellsOrder self.now result.0 result.1 }
+    /// one time slots before drops, then side A.
+    pub fn order(&self) -> (TurnOrder, Side)
+        ensures { TellsOrder self.now result.0.0 result.1 }
     {
         first_of(self.switches.a.order(), self.switches.b.order())
     }

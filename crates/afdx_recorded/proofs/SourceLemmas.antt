@@ -12,7 +12,7 @@ use Rattle.afdx_recordings.specs.declared.frame_reader.FrameReader.{FrameReader}
 use Rattle.afdx_recordings.specs.Holding.{Standing, standing, Gives, GivesSome, IsTrueToEnd}
 use Rattle.afdx_recordings.proofs.HeldLemmas.{Gives-then}
 use Rattle.afdx_recordings.specs.Reading.{state_of, latest, Tells, SaysFirst}
-use Rattle.afdx_recordings.specs.Recordings.{State, Numbered, Over, Faulted, lost_by, most_numbers}
+use Rattle.afdx_recordings.specs.Recordings.{State, Numbered, Over, Faulted, totals_by, most_numbers}
 use Rattle.afdx_recorded.specs.declared.counts.Counts.{Counts}
 use Rattle.afdx_recorded.specs.declared.becoming.RecordingOptions.{RecordingOptions}
 use Rattle.afdx_recorded.specs.declared.number.AsRead.{AsRead}
@@ -266,7 +266,7 @@ module _ {R : Type 0} (remaining : R → Option (List ℕ)) (start old input : W
     (reader : FrameReader) (new : ReadRecording) (past : Numbers)
     (h : HasGiven remaining start source old past) (k : Sorting remaining old input source reader new)
     (is : number_after (options_of source.options) (ports_of source.ports) past
-        (latest reader) ≡ Ok new.number.becomes) where
+    (latest reader) ≡ Ok new.number.becomes) where
   -- the number that was given
   given-is : number_read (given new)
       ≡ record { number = length past + 1; head = new.number.becomes; bytes = first_bytes (latest reader).bytes }
@@ -305,7 +305,7 @@ module _ {R : Type 0} (remaining : R → Option (List ℕ)) (start old input : W
   pub item-follows : (read : List (Item AsRead)) → past ≡ numbers_read read → ReadFollows read (given new)
   item-follows read e =
       let same : length past ≡ length read = ap (λ (xs : Numbers). length xs) e
-          ∙ length-map read number_read in record {
+      ∙ length-map read number_read in record {
         number = k.remembers.numbers ∙ k.number ∙ ap (λ m. m + 1) (sym h.numbers ∙ same);
         few = omega (arith, k.number, h.numbers, k.few, same);
       }
@@ -334,10 +334,10 @@ module _ {R : Type 0} (remaining : R → Option (List ℕ)) (start old input : W
     read = h.sorts.read ++ tells.1.given;
     gives = ends-gives (options_of source.options) (ports_of source.ports) (first_standing remaining start)
         (standing remaining source.reader.held old) (standing remaining reader.held input) past
-        (state_of source.reader) h.sorts Over (lost_by (state_of reader)) tells.1;
+        (state_of source.reader) h.sorts Over (totals_by (state_of reader)) tells.1;
     says = ends-well (options_of source.options) (ports_of source.ports) (first_standing remaining start)
         (standing remaining source.reader.held old) (standing remaining reader.held input) past
-        (state_of source.reader) h.sorts (lost_by (state_of reader)) tells.1
+        (state_of source.reader) h.sorts (totals_by (state_of reader)) tells.1
         (end-well source.numbers (length past) source.has_arrival (has_arrival past)
         (sym h.remembers.numbers) h.remembers.arrival ok);
   }
@@ -354,10 +354,10 @@ module _ {R : Type 0} (remaining : R → Option (List ℕ)) (start old input : W
           h.sorts.read ++ tells.1.given,
           ends-gives (options_of source.options) (ports_of source.ports) (first_standing remaining start)
               (standing remaining source.reader.held old) (standing remaining reader.held input) past
-              (state_of source.reader) h.sorts Over (lost_by (state_of reader)) tells.1,
+              (state_of source.reader) h.sorts Over (totals_by (state_of reader)) tells.1,
         );
         stops = ends-fault (options_of source.options) (ports_of source.ports) (first_standing remaining start)
             (standing remaining source.reader.held old) (standing remaining reader.held input) past
-            (state_of source.reader) h.sorts Over (lost_by (state_of reader)) (fault.NoArrival (length past))
+            (state_of source.reader) h.sorts Over (totals_by (state_of reader)) (fault.NoArrival (length past))
             tells.1 (rw none refl);
       })

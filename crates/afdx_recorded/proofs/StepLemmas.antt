@@ -45,7 +45,7 @@ module _ {S I : Type 0} (current : S → Item AsRead) (gave ended : I → S → 
   is-reading start ordered input past e h =
       let k : StandsAt gave ended stopped Reading ordered.most start ordered.source input h.read ordered.held past =
       subst (λ (s : Stage). StandsAt gave ended stopped s ordered.most start ordered.source input
-          h.read ordered.held past)
+      h.read ordered.held past)
       e h.stands in record {
         read = h.read;
         are_forward = h.are_forward;
@@ -96,13 +96,13 @@ module _ {S I : Type 0} (current : S → Item AsRead) (gave ended : I → S → 
         subst (λ (o : Ordered S). GivesNext start o input past) (sym p.new_is) (record {
           gave_them = still-reading start (record mid { is_held = false }) input
               (number_read X ∷ past) reading (record {
-            read = X ∷ read;
-            are_forward = g;
-            latest = latest ∙ sym (latest-next (number_read X) past
-                ∙ skipped-moment X.head.becomes (latest_of past) p.skipped);
-            gave_them = gave_one;
-            are_held = k;
-          });
+                read = X ∷ read;
+                are_forward = g;
+                latest = latest ∙ sym (latest-next (number_read X) past
+                    ∙ skipped-moment X.head.becomes (latest_of past) p.skipped);
+                gave_them = gave_one;
+                are_held = k;
+              });
           follows = follows-held mid.most (X ∷ read) g mid.held past (number_read X) k;
         })
 
@@ -111,7 +111,7 @@ module _ {S I : Type 0} (current : S → Item AsRead) (gave ended : I → S → 
     stands new p =
         let a = p.in_time.arrives in
         let e : Forward-to = back-told mid.most read X f follows mid.latest past false a latest
-            h.handed p.in_time.forward in
+        h.handed p.in_time.forward in
         let g = more-forward mid.most read X f follows e in
         let k = stand-held mid.most read X f follows mid.held past p.none a e h in
         subst (λ (o : Ordered S). GivesNext start o input past) (sym p.new_is) (record {
@@ -239,7 +239,7 @@ module _ {S I : Type 0} (current : S → Item AsRead) (gave ended : I → S → 
         by Reading e = absurd (known e)
         by Over e =
             let k = subst (λ (s : Stage). StandsAt gave ended stopped s old.most start old.source
-                input g.read old.held past)
+            input g.read old.held past)
             e g.stands in
             let l = give-left old.most g.read g.are_forward old.held new.held past p.first p.comes p.are_held k.1 in
             subst (λ (o : Ordered S). GivesNext start o input past) (sym p.new_is) (record {
@@ -254,7 +254,7 @@ module _ {S I : Type 0} (current : S → Item AsRead) (gave ended : I → S → 
             })
         by (Stopped fault) e =
             let k = subst (λ (s : Stage). StandsAt gave ended stopped s old.most start old.source
-                input g.read old.held past)
+            input g.read old.held past)
             e g.stands in
             let l = give-left old.most g.read g.are_forward old.held new.held past p.first p.comes p.are_held k.1 in
             subst (λ (o : Ordered S). GivesNext start o input past) (sym p.new_is) (record {
@@ -272,7 +272,7 @@ module _ {S I : Type 0} (current : S → Item AsRead) (gave ended : I → S → 
     pub drained : old.stage ≡ Over → old.held ≡ [] → HasOrderedAll gave ended stopped start old input past
     drained e none =
         let k = subst (λ (s : Stage). StandsAt gave ended stopped s old.most start old.source input
-            g.read old.held past)
+        g.read old.held past)
         e g.stands in record {
           read = g.read;
           are_forward = g.are_forward;
@@ -284,7 +284,7 @@ module _ {S I : Type 0} (current : S → Item AsRead) (gave ended : I → S → 
         → HasStoppedOrdering gave ended stopped start old input past (run.Recording fault)
     drained-fault fault e none =
         let k = subst (λ (s : Stage). StandsAt gave ended stopped s old.most start old.source input
-            g.read old.held past)
+        g.read old.held past)
         e g.stands in inl (record {
           read = g.read;
           are_forward = g.are_forward;

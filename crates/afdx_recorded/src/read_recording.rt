@@ -3,7 +3,7 @@
 ghost use Rattle.std.specs.Prelude.{◌≡◌, ◌<◌, ◌+◌, ◌-◌, length, [], Ok};
 ghost use Rattle.std.specs.Prelude.{IfOk, IfErr, OnOk, false};
 ghost use Rattle.afdx_recordings.specs.Reading.{state_of};
-ghost use Rattle.afdx_recordings.specs.Recordings.{at_start, lost_by, most_numbers};
+ghost use Rattle.afdx_recordings.specs.Recordings.{at_start, totals_by, most_numbers};
 ghost use Rattle.afdx_recordings.specs.Holding.{unread};
 ghost use Rattle.afdx_recorded.specs.Counting.{no_counts, skipped_in};
 ghost use Rattle.afdx_recorded.specs.RecordingSource as source;
@@ -76,16 +76,19 @@ impl ReadRecording {
     }
 
     /// How many numbers were read, how many of them were skipped, and why, how many arrivals are
-    /// claimed and contradicted, and how many frames the recorder lost so far, by its own word.
+    /// claimed and contradicted, how many frames the recorder lost so far, by its own word, and how
+    /// many interfaces the options name that weren't described so far.
     pub fn tally(&self) -> Tally
         ensures numbers { result.numbers ≡ self.now.numbers }
         ensures counts { result.counts ≡ self.now.counts }
-        ensures lost { result.lost ≡ lost_by (state_of self.now.reader) }
+        ensures lost { result.lost ≡ (totals_by (state_of self.now.reader)).lost }
+        ensures unused { result.unused ≡ source.unused_of self.now }
     {
         Tally {
             numbers: self.numbers,
             counts: self.counts,
             lost: self.reader.lost(),
+            unused: self.options.interfaces.unused(self.reader.interfaces()),
         }
     }
 

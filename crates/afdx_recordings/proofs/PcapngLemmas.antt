@@ -11,7 +11,7 @@ use Rattle.afdx_lists.specs.declared.recording_fault.RecordingFault.TheVariants.
 use Rattle.afdx_recordings.specs.declared.form.Form.TheVariants as form
 use Rattle.afdx_recordings.specs.declared.block.Head.{Head}
 use Rattle.afdx_recordings.specs.Holding.{Standing, Gives, Passes}
-use Rattle.afdx_recordings.specs.Recordings.{State, Ends, Over, Faulted, Meaning, Numbered, by_meaning, lost_by}
+use Rattle.afdx_recordings.specs.Recordings.{State, Ends, Over, Faulted, Meaning, Numbered, by_meaning, totals_by}
 use Rattle.afdx_recordings.specs.Blocks.{head_by}
 use Rattle.afdx_recordings.specs.Pcapng.{block_rest, block_meaning, behind_head}
 use Rattle.afdx_recordings.specs.Reading.{step_by, SaysEnding, SaysNothing, Meant, TellsBlock}
@@ -39,7 +39,7 @@ whole before head xs more few told least within =
     (omega arith) rest (omega (arith, back head least, within, size))
     ∙ ap (λ (n : ℕ). by_meaning n (block_meaning before (take n (xs ++ more)))) (back head least)
     ∙ ap (λ (bytes : List ℕ). by_meaning head.size (block_meaning before bytes))
-      (take-append-le head.size xs more within)
+    (take-append-le head.size xs more within)
 
 -- less than the block is there
 cut : (before : State) (head : Head) (xs : List ℕ) → before.blocks < 100000000000000000
@@ -48,7 +48,7 @@ cut : (before : State) (head : Head) (xs : List ℕ) → before.blocks < 1000000
 cut before head xs few told least held short =
     next_block-cut 12 (block_rest before) (block_meaning before) before.numbers xs (behind_head head) (omega arith)
     (block_rest-take before xs held ∙ block_rest-told before xs head few told) held
-        (omega (arith, back head least, short))
+    (omega (arith, back head least, short))
 
 -- what a call read tells of the block which stands first
 pub TellsBlock-meant : (result : Result Bool RunFault) (old new : Standing) (before after : State) (item : Numbered)
@@ -68,10 +68,10 @@ TellsBlock-meant (Ok false) old new before after item head given h k gives few t
     within rest
 TellsBlock-meant (Err (run.Recording f)) old new before after item head given h k gives few told
     least within rest meant = (
-  lost_by before,
-  SaysEnding-block old new before form.Pcapng (Faulted f) given h gives
-      (λ more _. whole before head (old.held ++ given) more few told least within ∙ ap (by_meaning head.size) meant),
-)
+      totals_by before,
+      SaysEnding-block old new before form.Pcapng (Faulted f) given h gives
+          (λ more _. whole before head (old.held ++ given) more few told least within ∙ ap (by_meaning head.size) meant),
+    )
 TellsBlock-meant (Err run.Memory) old new before after item head given h k gives few told least within rest meant =
     (given, gives)
 TellsBlock-meant (Err run.Read) old new before after item head given h k gives few told least within rest meant =
@@ -163,7 +163,7 @@ pub SaysEnding-within : (old new : Standing) (before : State) (head : Head) (pas
     → before.form ≡ Some form.Pcapng → (passes : Passes old new passed) → new.ended ≡ true
     → before.blocks < 100000000000000000 → 12 ≤ length old.held → head_by before.order old.held ≡ Some head
     → 12 ≤ head.size → length passed + length new.held < head.size
-    → SaysEnding old new before (Faulted (Ended before.numbers)) (lost_by before)
+    → SaysEnding old new before (Faulted (Ended before.numbers)) (totals_by before)
 SaysEnding-within old new before head passed h passes ended few held told least short =
     let all : old.held ++ passes.given ≡ passed ++ new.held = passes.parts in
     let size : length (old.held ++ passes.given) ≡ length passed + length new.held =
@@ -193,7 +193,7 @@ SaysNothing-within old new before head passed h passes few held told least short
 -- the head can't be right
 pub SaysEnding-bad_head : (old : Standing) (before : State) → before.form ≡ Some form.Pcapng → 12 ≤ length old.held
     → block_rest before old.held ≡ None
-    → SaysEnding old old before (Faulted (Damaged before.numbers)) (lost_by before)
+    → SaysEnding old old before (Faulted (Damaged before.numbers)) (totals_by before)
 SaysEnding-bad_head old before h held told =
     SaysEnding-block old old before form.Pcapng (Faulted (Damaged before.numbers)) [] h (Gives-nothing old)
     (λ more _.
@@ -213,13 +213,13 @@ over : (before : State) (xs : List ℕ) → length xs ≡ 0 → step_by (Some fo
 over before xs none = next_block-over 12 (block_rest before) (block_meaning before) before.numbers xs none
 
 pub SaysEnding-blocks : (old new : Standing) (before : State) → before.form ≡ Some form.Pcapng → Passes old new []
-    → new.ended ≡ true → length new.held ≡ 0 → SaysEnding old new before Over (lost_by before)
+    → new.ended ≡ true → length new.held ≡ 0 → SaysEnding old new before Over (totals_by before)
 SaysEnding-blocks old new before h passes ended none =
     SaysEnding-here old new before form.Pcapng Over h passes ended (over before new.held none)
 
 pub SaysEnding-head : (old new : Standing) (before : State) → before.form ≡ Some form.Pcapng → Passes old new []
     → new.ended ≡ true → 0 < length new.held → length new.held < 12
-    → SaysEnding old new before (Faulted (Ended before.numbers)) (lost_by before)
+    → SaysEnding old new before (Faulted (Ended before.numbers)) (totals_by before)
 SaysEnding-head old new before h passes ended some few =
     SaysEnding-here old new before form.Pcapng (Faulted (Ended before.numbers)) h passes ended
     (short_head before new.held some few)

@@ -13,8 +13,8 @@ use Rattle.afdx_recordings.specs.declared.form.Magic.TheVariants as magic
 use Rattle.afdx_recordings.specs.declared.frame_reader.FrameReader.{FrameReader}
 use Rattle.afdx_recordings.specs.Orders.{number_in}
 use Rattle.afdx_recordings.specs.Holding.{Standing, Gives, GivesSome, lent}
-use Rattle.afdx_recordings.specs.Recordings.{State, Step, Meaning, Wrong, Says, Ends, Takes, Ending, Over, Faulted, Recording, Numbered}
-use Rattle.afdx_recordings.specs.Recordings.{no_more, in_front, at_start, lost_by, next_block}
+use Rattle.afdx_recordings.specs.Recordings.{State, Step, Meaning, Wrong, Says, Ends, Takes, Ending, Over, Faulted, Recording, Numbered, Totals}
+use Rattle.afdx_recordings.specs.Recordings.{no_more, in_front, at_start, totals_by, next_block}
 use Rattle.afdx_recordings.specs.Recordings.{state_of_known}
 use Rattle.afdx_recordings.specs.Pcapng.{block_head, block_rest, block_meaning}
 use Rattle.afdx_recordings.specs.Pcap.{packet_head, pcap_head, captured_by, packet_meaning, pcap_form, is_pcap_version}
@@ -66,13 +66,13 @@ step_by (Some form.Pcapng) state bytes =
     next_block block_head (block_rest state) (block_meaning state) state.numbers bytes
 
 abbrev pub by_step : (State → List ℕ → Recording) → State → List ℕ → Step → Recording
-by_step next state bytes (Ends ending) = no_more ending (lost_by state)
+by_step next state bytes (Ends ending) = no_more ending (totals_by state)
 by_step next state bytes (Takes n after None) = next after (drop n bytes)
 by_step next state bytes (Takes n after (Some item)) = in_front item (next after (drop n bytes))
 
 -- what at most n blocks say
 abbrev pub said_within : ℕ → State → List ℕ → Recording
-said_within zero state bytes = no_more Over (lost_by state)
+said_within zero state bytes = no_more Over (totals_by state)
 said_within (suc n) state bytes =
     by_step (said_within n) state bytes (step_by state.form state bytes)
 
@@ -81,7 +81,7 @@ unfoldable pub blocks_from : State → List ℕ → Recording
 blocks_from state bytes = said_within (suc (length bytes)) state bytes
 
 abbrev pub from_opening : Opening → State → List ℕ → Recording
-from_opening (Refused fault) state bytes = no_more (Faulted fault) (lost_by state)
+from_opening (Refused fault) state bytes = no_more (Faulted fault) (totals_by state)
 from_opening (Opens form order n) state bytes =
     blocks_from (record state { form = Some form; order = order }) (drop n bytes)
 
@@ -132,20 +132,20 @@ pub record SaysSame (old new : Standing) (before after : State) : Type 0 where
       ≡ recorded_from after (new.held ++ more)
 
 -- nothing more is said, and all ends so, whatever can follow
-pub record SaysEnding (old new : Standing) (before : State) (ending : Ending) (lost : ℕ)
+pub record SaysEnding (old new : Standing) (before : State) (ending : Ending) (totals : Totals)
     : Type 0 where
   pub given : List ℕ
   pub gives : Gives old new given
   pub says : (more : List ℕ) → CanFollow new more
-      → recorded_from before ((old.held ++ given) ++ more) ≡ no_more ending lost
+      → recorded_from before ((old.held ++ given) ++ more) ≡ no_more ending totals
 
 -- what was given says nothing yet that takes a number, and no end for sure
 pub record SaysNothing (old new : Standing) (before : State) : Type 0 where
   pub given : List ℕ
   pub gives : Gives old new given
   pub ending : Ending
-  pub lost : ℕ
-  pub says : recorded_from before (old.held ++ given) ≡ no_more ending lost
+  pub totals : Totals
+  pub says : recorded_from before (old.held ++ given) ≡ no_more ending totals
   pub unfinished : is_unfinished ending ≡ true
 
 -- the answer to a call for the next item
@@ -153,9 +153,9 @@ abbrev pub Tells : Result Bool RunFault → (old new : Standing) → (before aft
     → Numbered → Type 0
 Tells (Ok true) old new before after item = SaysFirst old new before after item
 Tells (Ok false) old new before after item =
-    (new.ended ≡ true) × SaysEnding old new before Over (lost_by after)
+    (new.ended ≡ true) × SaysEnding old new before Over (totals_by after)
 Tells (Err (run.Recording fault)) old new before after item =
-    (lost : ℕ) × SaysEnding old new before (Faulted fault) lost
+    (totals : Totals) × SaysEnding old new before (Faulted fault) totals
 Tells (Err run.Read) old new before after item = SaysNothing old new before
 Tells (Err run.Memory) old new before after item = GivesSome old new
 Tells (Err _) old new before after item = ⊥

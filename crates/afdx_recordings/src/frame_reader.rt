@@ -36,7 +36,7 @@ pub struct FrameReader {
 impl FrameReader {
     ghost use Rattle.afdx_lists.specs.Watching.{has_ended, has_failed};
     ghost use Rattle.afdx_recordings.specs.Holding.{unread, standing, IsTrueToEnd};
-    ghost use Rattle.afdx_recordings.specs.Recordings.{at_start, after_number, lost_by, most_numbers};
+    ghost use Rattle.afdx_recordings.specs.Recordings.{at_start, after_number, totals_by, most_numbers};
     ghost use Rattle.afdx_recordings.specs.Pcap.{captured_by};
     ghost use Rattle.afdx_recordings.specs.Reading.{state_of, latest, magic_of, Tells, SaysSame};
     ghost use Rattle.afdx_recordings.specs.Orders.{number_in};
@@ -79,9 +79,17 @@ impl FrameReader {
     /// Frames that the recorder lost so far, by its statistics; 2^64 - 1 if it is more. A pcap has
     /// none.
     pub fn lost(&self) -> u64
-        ensures { result ≡ lost_by (state_of self.now) }
+        ensures { result ≡ (totals_by (state_of self.now)).lost }
     {
         self.known.lost()
+    }
+
+    /// How many interfaces there are so far: numbers from 0 to one less. A pcap has one, a pcapng the
+    /// most that one of its sections describes.
+    pub fn interfaces(&self) -> usize
+        ensures { result ≡ (totals_by (state_of self.now)).interfaces }
+    {
+        self.known.interface_count()
     }
 
     /// Takes the next number. False: there is none, and the input gave its end.

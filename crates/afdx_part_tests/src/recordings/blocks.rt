@@ -191,6 +191,23 @@ fn the_last_statistics_count(rt: HostRuntime) -> Result<(), Fail> {
     equal(answer, Some((Ok(Some(2)), 46)))
 }
 
+/// How many interfaces these pieces say, none of which takes a number.
+fn interfaces_in(alloc: Global, pieces: &[&str]) -> Result<usize, AllocError> {
+    let bytes = bytes_of(alloc, pieces)?;
+    let mut input = Watched::new(bytes.as_slice());
+    let mut reader = FrameReader::new(alloc)?;
+    match reader.next(&mut input) {
+        Ok(false) => Ok(reader.interfaces()),
+        _ => Ok(0),
+    }
+}
+
+#[test]
+fn interfaces_are_those_of_the_section_with_most(rt: HostRuntime) -> Result<(), Fail> {
+    let pieces = [low(), ethernet(), other_link(), low(), ethernet()];
+    equal(interfaces_in(rt.alloc(), &pieces)?, 2)
+}
+
 #[test]
 fn packets_have_forms_and_flags(rt: HostRuntime) -> Result<(), Fail> {
     let pieces = [

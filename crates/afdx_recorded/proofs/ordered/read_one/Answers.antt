@@ -11,7 +11,7 @@ returns-in-Ok-true-clause-given g c start past h ok =
     let item = c.in-Ok-true.ensures.item start r.read r.gave_them (search rules) in
     let k = took-one S.current S.Gave S.Ended S.Stopped start (record old { source = c.next.new.self })
     c.next.new.input past c.requires.reading r.read r.are_forward r.latest r.are_held item.0 item.1
-        c.take_in.new.ordered
+    c.take_in.new.ordered
     (rw ok at c.take_in.ensures) in (k.gave_them, k.follows)
 
 pub returns-in-Ok-true-clause-none : goal.returns-in-Ok-true-clause-none
@@ -22,7 +22,7 @@ returns-in-Ok-true-clause-none g c start past h ok =
     let item = c.in-Ok-true.ensures.item start r.read r.gave_them (search rules) in
     took-none S.current S.Gave S.Ended S.Stopped start (record old { source = c.next.new.self })
     c.next.new.input past c.requires.reading r.read r.are_forward r.latest r.are_held item.0 item.1
-        c.take_in.new.ordered
+    c.take_in.new.ordered
     (rw ok at c.take_in.ensures)
 
 pub returns-in-Ok-true-clause-less : goal.returns-in-Ok-true-clause-less
@@ -60,7 +60,7 @@ returns-in-Err-Recording-clause-none g c start past h ok =
     let old = c.args.ordered.now in
     let r = is-reading S.current S.Gave S.Ended S.Stopped start old c.args.input.now past c.requires.reading h in
     stops S.current S.Gave S.Ended S.Stopped start
-        (record old { source = c.next.new.self }) c.next.new.input past r.read
+    (record old { source = c.next.new.self }) c.next.new.input past r.read
     r.are_forward r.latest r.are_held c.in-Err-Recording.fault
     (rw c.in-Err-Recording.field-0-is at c.in-Err-Recording.ensures.stop start r.read r.gave_them)
 

@@ -33,7 +33,7 @@ pub returns-then-not-branch-clause-end : goal.returns-then-not-branch-clause-end
 returns-then-not-branch-clause-end g c start past h ok =
     let is : c.next.result ≡ Ok false = search rules in
     ended-well g.R.Read.remaining start c.args.input.now c.next.new.input c.args.self.now
-        c.next.new.self (numbers_read past) h
+    c.next.new.self (numbers_read past) h
     (rw is at c.next.ensures.failed) c.next.ensures.honest (rw is at c.next.ensures.tells) (sym c.end.ensures ∙ ok)
 
 pub returns-then-not-branch-clause-stop : goal.returns-then-not-branch-clause-stop
@@ -41,7 +41,7 @@ returns-then-not-branch-clause-stop g c start past h =
     let is : c.next.result ≡ Ok false = search rules in
     rw c.end.ensures (stops-end g.R.Read.remaining start c.args.input.now c.next.new.input c.args.self.now
     c.next.new.self (numbers_read past) h (rw is at c.next.ensures.failed) c.next.ensures.honest
-        (rw is at c.next.ensures.tells))
+    (rw is at c.next.ensures.tells))
 
 pub sort-requires-clause-skipped : goal.sort-requires-clause-skipped
 sort-requires-clause-skipped g c =

@@ -30,7 +30,7 @@ returns-in_default-clause-stop g c start lines h =
     let head = read.head in
     let late = c.in_default.ensures.late in
     let is : c.of_network.result ≡ late_of_both x = rw
-        (c.of_network.ensures, c.side_of.ensures, head, read.number) refl in
+    (c.of_network.ensures, c.side_of.ensures, head, read.number) refl in
     inr (record {
       before = h.past;
       x = x;

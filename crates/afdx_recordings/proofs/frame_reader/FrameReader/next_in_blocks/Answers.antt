@@ -51,4 +51,4 @@ returns-clause-tells g c =
     c.end.ensures.ended
     (λ none. SaysEnding-blocks _ _ (state_of c.reads.self) c.reads.invariant.form c.fill.ensures.passes last.0 none)
     (λ some. SaysEnding-head _ _ (state_of c.reads.self) c.reads.invariant.form
-        c.fill.ensures.passes last.0 some last.1))
+    c.fill.ensures.passes last.0 some last.1))
