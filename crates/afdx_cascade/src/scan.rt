@@ -49,7 +49,7 @@ pub fn first_from(networks: &[Network], at: usize) -> Option<First>
             let (order, side) = network.order();
             let behind = first_from(rest, at + 1);
             let first = First {
-                order,
+                order: order.number(),
                 switch: at,
                 side,
             };
