@@ -17,7 +17,7 @@ PCAPS = {
     "a1b23c4d": ("big", 1),
 }
 # first bytes of packed files: gzip, bzip2, zstd, xz, zip
-PACKED = tuple(bytes.fromhex(each) for each in ("1f8b", "425a68", "28b52ffd", "fd377a58", "504b0304"))
+PACKED = tuple(map(bytes.fromhex, ("1f8b", "425a68", "28b52ffd", "fd377a58", "504b0304")))
 SECTION, INTERFACE, OLD_PACKET, SIMPLE_PACKET, STATISTICS, PACKET = 0x0A0D0D0A, 1, 2, 3, 5, 6
 NO_FRAMES = (0x0BAD, 0x4000_0BAD, 9)  # custom blocks and journals: numbered, but no frames
 LEAST = {SECTION: 28, INTERFACE: 20, OLD_PACKET: 32, SIMPLE_PACKET: 16, STATISTICS: 24, PACKET: 32}
