@@ -1,5 +1,4 @@
-//! What several switches promise that are joined by cables and whose tables are all admitted: laws
-//! over definitions.
+//! Several switches on each side, joined by cables: laws over definitions.
 #![tactic(auto)]
 
 pub mod laws;

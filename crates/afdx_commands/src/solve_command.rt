@@ -14,7 +14,7 @@ ghost use Rattle.afdx_commands.specs.CheckText.{fault_line, class_bound_at};
 ghost use Rattle.afdx_commands.specs.Refusals.{WantsMemory};
 ghost use Rattle.afdx_commands.specs.SolveText.{told_need, need_over, need_line, need_at, asked_by};
 ghost use Rattle.afdx_commands.specs.SolveText.{needs_of_first, needs_at, needs_at_first, needs_text};
-ghost use Rattle.afdx_commands.specs.SolveText.{IsSolution, IsDenial, Solves};
+ghost use Rattle.afdx_commands.specs.SolveText.{IsSolution, IsDenial};
 ghost use Rattle.afdx_commands.specs.SolveText.{IsSolved, IsUnsolved, IsFaulty, IsCut, IsUnmade};
 ghost use Rattle.afdx_lists.specs.Watching.{has_failed};
 
@@ -238,50 +238,6 @@ fn answer_of(
     }
 }
 
-/// What `solve_config` does, a clause for each part of `Solves`.
-fn solve_with<O: Write, E: Write>(
-    alloc: Global,
-    options: SolveOptions,
-    config: &[u8],
-    output: &mut Watched<O>,
-    errors: &mut Watched<E>,
-) -> u8
-    requires { has_failed output.old ≡ false }
-    ensures statuses { (result ≡ 0) ⊎ (result ≡ 1) ⊎ (result ≡ 4) }
-    ensures device { has_failed output.new ≡ true → result ≡ 4 }
-    ensures solution { result ≡ 0 → IsSolved options O.contents E.contents config.now
-        output.old output.new errors.old errors.new }
-    ensures refused { result ≡ 1 →
-        IsUnsolved options O.contents E.contents config.now
-        output.old output.new errors.old errors.new
-        ⊎ IsFaulty options O.contents E.contents config.now
-        output.old output.new errors.old errors.new }
-    ensures stopped { result ≡ 4 →
-        IsCut options O.contents E.contents config.now
-        output.old output.new errors.old errors.new
-        ⊎ IsUnmade options O.contents E.contents config.now
-        output.old output.new errors.old errors.new }
-{
-    let (tables, asked) = match read_to_solve_asking(alloc, config, options.kept) {
-        Ok(read) => read,
-        Err(fault) => return refuse_config(fault, errors),
-    };
-    let Ok(answer) = answer_of(alloc, options, tables, asked.as_slice()) else {
-        return want_memory(errors);
-    };
-    match write_text(output, answer.text.as_bytes()) {
-        Ok(()) if answer.is_solution => {
-            tell(errors, answer.needs.as_bytes());
-            DONE
-        }
-        Ok(()) => REFUSED,
-        Err(fault) => {
-            tell_fault(errors, &fault);
-            fault.status()
-        }
-    }
-}
-
 /// Reads a configuration, in which jitter, buffer, latency and skew may be absent or any whole
 /// number from 0 on, and writes it with the least of each with which its network is admitted: each
 /// from those before it, as written. Kept keys stay; keys that are only raised stay where they are
@@ -304,8 +260,37 @@ pub fn solve_config<O: Write, E: Write>(
     errors: &mut Watched<E>,
 ) -> u8
     requires { has_failed output.old ≡ false }
-    ensures solves { Solves options O.contents E.contents config.now
-        output.old output.new errors.old errors.new result }
+    ensures statuses { (result ≡ 0) ⊎ (result ≡ 1) ⊎ (result ≡ 4) }
+    ensures device { has_failed output.new ≡ true → result ≡ 4 }
+    ensures solution { result ≡ 0 → IsSolved options O.contents E.contents config.now
+        (output.old, errors.old) (output.new, errors.new) }
+    ensures refused { result ≡ 1 →
+        IsUnsolved options O.contents E.contents config.now
+        (output.old, errors.old) (output.new, errors.new)
+        ⊎ IsFaulty options O.contents E.contents config.now
+        (output.old, errors.old) (output.new, errors.new) }
+    ensures stopped { result ≡ 4 →
+        IsCut options O.contents E.contents config.now
+        (output.old, errors.old) (output.new, errors.new)
+        ⊎ IsUnmade options O.contents E.contents config.now
+        (output.old, errors.old) (output.new, errors.new) }
 {
-    solve_with(alloc, options, config, output, errors)
+    let (tables, asked) = match read_to_solve_asking(alloc, config, options.kept) {
+        Ok(read) => read,
+        Err(fault) => return refuse_config(fault, errors),
+    };
+    let Ok(answer) = answer_of(alloc, options, tables, asked.as_slice()) else {
+        return want_memory(errors);
+    };
+    match write_text(output, answer.text.as_bytes()) {
+        Ok(()) if answer.is_solution => {
+            tell(errors, answer.needs.as_bytes());
+            DONE
+        }
+        Ok(()) => REFUSED,
+        Err(fault) => {
+            tell_fault(errors, &fault);
+            fault.status()
+        }
+    }
 }

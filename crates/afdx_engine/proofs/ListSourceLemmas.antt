@@ -80,7 +80,7 @@ module _ {H R Y X : Type 0} (k : Kind Y X) (said : Item H → X) (remaining : R 
 
   module _ (start old new : Watched R) (before after : LineReader) (latest : ℕ) (past : List (Item H))
       (gave : GaveOf k said remaining start before latest old past)
-          (took : TookLine remaining before old after new) where
+      (took : TookLine remaining before old after new) where
     is-taken : IsTaken (lines_taken before) (latest_line after) (left remaining before old) (left remaining after new)
     is-taken = record {
       few = omega (arith, took.lines.0, took.lines.1);
@@ -125,7 +125,7 @@ module _ {H R Y X : Type 0} (k : Kind Y X) (said : Item H → X) (remaining : R 
         → StoppedOf k said remaining start new past (fault_at (lines_taken after) error)
     stopped-line error says =
         let gave_lines = GaveLines-taken _ _ _ _ _
-            (HasTaken-next _ _ _ _ _ _ _ _ _ _ took.lines.0 gave.taken took.whole)
+        (HasTaken-next _ _ _ _ _ _ _ _ _ _ took.lines.0 gave.taken took.whole)
         took.honest in
         let is = ap (λ (n : ℕ). fault_at n error) took.lines.0 in
         record {
@@ -133,7 +133,7 @@ module _ {H R Y X : Type 0} (k : Kind Y X) (said : Item H → X) (remaining : R 
           calls = omega (arith, took.lines.0, took.lines.1, took.calls, gave.calls);
           stops = subst (λ (f : RunFault). IfSome (remaining start.inner)
               (λ bytes. StopsIn k (λ xs. xs ≡ map said past) (λ xs. xs ≡ map said past) bytes
-                  (remaining new.inner) f)) (sym is)
+              (remaining new.inner) f)) (sym is)
               (stops-line k (map said past) latest (lines_taken before) (λ xs. xs ≡ map said past)
               (λ xs. xs ≡ map said past) _ _ _ _ _ error says
               is-taken gave.come

@@ -50,13 +50,13 @@ module _ {H : Type 0} (gave ended : List (Item H) → Type 0) (stopped : List (I
     pub err-answers : CanBePeeled items_of → (fault : RunFault) → HandsTo (Err fault) → Answered (Err fault) first
     err-answers peel fault hands =
         by-first (Err fault) (λ bytes t. hands-err (whole last bytes)
-            (cut last bytes) items_of done told begins gave ended
+        (cut last bytes) items_of done told begins gave ended
         stopped counted t peel fault hands)
 
     pub ok-answers : (tally : Tally) → tally ≡ counted → HandsTo (Ok tt) → Answered (Ok tally) first
     ok-answers tally is hands =
         by-first (Ok tally) (λ bytes t. hands-ok (whole last bytes)
-            (cut last bytes) items_of done told begins gave ended
+        (cut last bytes) items_of done told begins gave ended
         stopped counted t tally is hands)
 
 -- what is taken of lines, is so of their arrivals

@@ -9,7 +9,8 @@ use Rattle.afdx_lists.specs.declared.fault.RunFault.{RunFault}
 use Rattle.afdx_lists.specs.declared.fault.RunFault.TheVariants as run
 use Rattle.afdx_lists.specs.declared.watched.Watched.{Watched}
 use Rattle.afdx_recordings.specs.Holding.{standing, GivesSome}
-use Rattle.afdx_recordings.specs.Recordings.{most_numbers}
+use Rattle.afdx_recordings.specs.Reading.{state_of}
+use Rattle.afdx_recordings.specs.Recordings.{most_numbers, totals_by}
 use Rattle.afdx_engine.specs.Engine.{Item}
 use Rattle.afdx_recorded.specs.declared.ahead.Ahead.{Ahead}
 use Rattle.afdx_recorded.specs.declared.ahead.AtHead.{AtHead}
@@ -28,6 +29,7 @@ use Rattle.afdx_recorded.specs.PairSource.{IsAhead, IsAheadBy, IsPaired, NoneIsB
 use Rattle.afdx_recorded.specs.OrderedRecording.{OrderedRecording, IsSetInOrder, HasTaken, HasTakenAll, HasStoppedTaking}
 use Rattle.afdx_recorded.specs.OrderedRecording.{number_taken, tally_of_source}
 use Rattle.afdx_recorded.specs.Ordering.{Sequence}
+use Rattle.afdx_recorded.specs.Places.{place_of}
 use Rattle.afdx_inputs.specs.ReadPair.{IsNewPair}
 use Rattle.afdx_inputs.specs.RecordingRun.{AreCutOffInPair, IfBoth, of_a, of_b, taken_of_pair}
 use Rattle.afdx_recorded.specs.RecordingSource.{first_standing}
@@ -42,6 +44,7 @@ use Rattle.afdx_inputs.proofs.PairRunLemmas.{pair-gave, pair-ended, pair-stopped
 use Rattle.afdx_inputs.proofs.PairRunLemmas.{either-false, either-left, either-right, sound-by}
 use Rattle.afdx_inputs.proofs.RecordingRunLemmas.{asked-by, gave-start}
 use Rattle.afdx_recorded.proofs.SourceLemmas.{few-claimed, few-contradicted, few-skipped}
+use Rattle.afdx_recorded.proofs.UnusedLemmas.{few-unused}
 use Rattle.afdx_inputs.proofs.TakenLemmas.{answers-same, taken-start}
 
 -- where the bytes of both are known
@@ -92,7 +95,7 @@ same-taken said said' a a' b b' e f g = rw (e, f, g) refl
 module _ {R : Type 0} (remaining : R → Option (List ℕ)) (start input : Watched R) (source : OrderedRecording) where
   gives-by : (head : AtHead) (taken : Numbers)
       → IsAheadBy (HasTaken remaining start source input) (HasTakenAll remaining start source input)
-        (number_taken source) head
+      (number_taken source) head
       taken → GivesSome (first_standing remaining start) (standing remaining source.source.reader.held input)
   gives-by at.Unknown taken h = (taken-sound remaining start input source taken h).1
   gives-by (at.Arrival moment) taken h = (taken-sound remaining start input source (number_taken source ∷ taken) h.0).1
@@ -110,6 +113,8 @@ module _ {R : Type 0} (remaining : R → Option (List ℕ)) (start input : Watch
           claimed = rw h.remembers.counts (omega (arith, claimed, h.few));
           contradicted = rw h.remembers.counts (omega (arith, contradicted, h.few));
         };
+        unused = few-unused (totals_by (state_of source.source.reader)).interfaces
+            (place_of source.source.options.interfaces);
       }
 
 module _ {R : Type 0} (remaining : R → Option (List ℕ)) (start inputs : BySide (Watched R))
@@ -123,7 +128,7 @@ module _ {R : Type 0} (remaining : R → Option (List ℕ)) (start inputs : BySi
   abbrev pub Stopped : Lines → RunFault → Type 0
   Stopped lines fault =
       HasStoppedPairing number_taken (HasTaken remaining) (HasTakenAll remaining)
-          (HasStoppedTaking remaining) start source inputs lines
+      (HasStoppedTaking remaining) start source inputs lines
       fault
 
   -- ---- whether a device failed
@@ -153,7 +158,7 @@ module _ {R : Type 0} (remaining : R → Option (List ℕ)) (start inputs : BySi
 
   stops-failed : (past : Numbers) (fault : RunFault)
       → StopsPairing number_taken (HasTaken remaining) (HasTakenAll remaining)
-        (HasStoppedTaking remaining) start source.pair inputs past
+      (HasStoppedTaking remaining) start source.pair inputs past
       fault → (inputs.a.failed || inputs.b.failed) ≡ is_read fault
   stops-failed past fault (inl h) =
       either-left inputs.a.failed inputs.b.failed (is_read fault)
@@ -198,7 +203,7 @@ module _ {R : Type 0} (remaining : R → Option (List ℕ)) (start inputs : BySi
 
   stops-gives : (past : Numbers) (fault : RunFault)
       → StopsPairing number_taken (HasTaken remaining) (HasTakenAll remaining)
-        (HasStoppedTaking remaining) start source.pair inputs past
+      (HasStoppedTaking remaining) start source.pair inputs past
       fault → GivesA × GivesB
   stops-gives past fault (inl h) = (
     (stopped-sound remaining start.a inputs.a source.pair.a.source h.taken_a h.fault_a h.stopped_a).1,
@@ -297,7 +302,7 @@ module _ (options : PairOptions) (ports : Ports) (source : TimedPair OrderedReco
   two-by items_of done told begins r remaining start rest =
       both-more (remaining start.a.inner) (remaining start.b.inner)
       (λ bytes. TakenAnswers (whole_of_two (way_of_two source) bytes)
-          (CutOfTwo remaining (way_of_two source) bytes rest)
+      (CutOfTwo remaining (way_of_two source) bytes rest)
       items_of done told begins r)
       (λ a b. TakenAnswers (taken_of_pair options ports a b) (AreCutOffInPair options ports remaining a b rest)
       items_of done told begins r)

@@ -61,7 +61,7 @@ module _ {R : Type 0} (remaining : R → Option (List ℕ)) (side : Side) (start
 
   comes-by : (head : AtHead) (taken : Numbers)
       → IsAheadBy (HasTaken remaining start source input) (HasTakenAll remaining start source input)
-        (number_taken source) head
+      (number_taken source) head
       taken → Comes side Sequence-of (number_taken source) head taken
   comes-by at.Unknown taken h =
       let f = given-first remaining start input source set taken bytes known h in record {
@@ -212,7 +212,7 @@ module _ {R : Type 0} (remaining : R → Option (List ℕ)) (start inputs : BySi
   abbrev Stopped : Lines → RunFault → Type 0
   Stopped lines fault =
       HasStoppedPairing number_taken (HasTaken remaining) (HasTakenAll remaining)
-          (HasStoppedTaking remaining) start source inputs lines
+      (HasStoppedTaking remaining) start source inputs lines
       fault
 
   -- these numbers come first
@@ -221,10 +221,10 @@ module _ {R : Type 0} (remaining : R → Option (List ℕ)) (start inputs : BySi
       → EndsIn past (merged (coming_of A (Of-a bytes_a)) (coming_of B (Of-b bytes_b))).numbers
   paired-first past h =
       let a = comes remaining A start.a inputs.a source.pair.a.source set_a bytes_a known_a
-          (latest_of past) source.pair.a
+      (latest_of past) source.pair.a
       h.taken_a refl h.a in
       let b = comes remaining B start.b inputs.b source.pair.b.source set_b bytes_b known_b
-          (latest_of past) source.pair.b
+      (latest_of past) source.pair.b
       h.taken_b refl h.b in
       let joined = h.joins a.next b.next a.fault b.fault a.can b.can in
       let e = merge-extends past (head_by (number_taken source.pair.a.source) source.pair.a.head ++ a.next) a.fault
@@ -363,12 +363,12 @@ module _ {R : Type 0} (remaining : R → Option (List ℕ)) (start inputs : BySi
       by (inl a) =
           rw a.fault_is (stop-a h.past a.taken_a a.taken_b lines h.are_timed.timed_as
           (comes remaining B start.b inputs.b source.pair.b.source set_b bytes_b known_b
-              (latest_of h.past) source.pair.b
+          (latest_of h.past) source.pair.b
           a.taken_b refl a.b) a.joined a.fault_a a.stopped_a)
       by (inr b) =
           rw b.fault_is (stop-b h.past b.taken_b b.taken_a lines h.are_timed.timed_as
           (comes remaining A start.a inputs.a source.pair.a.source set_a bytes_a known_a
-              (latest_of h.past) source.pair.a
+          (latest_of h.past) source.pair.a
           b.taken_a refl b.a) b.joined b.fault_b b.stopped_b)
   pair-stopped lines fault (inr h) =
       let all = late-lines Said (h.x ∷ h.before) lines (coming_of A (Of-a bytes_a)) (coming_of B (Of-b bytes_b)) fault

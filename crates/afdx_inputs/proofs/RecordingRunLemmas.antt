@@ -304,8 +304,11 @@ module _ (o : RecordingOptions) (p : SystemPorts) (source : TimedNumbers Ordered
 
   -- and it is set as its options say
   pub one-set : IsSetOne (way_of_one source)
-  one-set = record { order = new.order; said = new.said
-      ∙ sym (ap (λ (o : RecordingOptions). o.origin) new.options_are) }
+  one-set = record {
+    order = new.order;
+    said = new.said
+        ∙ sym (ap (λ (o : RecordingOptions). o.origin) new.options_are);
+  }
 
   -- what is answered by the options and the ports that it was made with
   module _ {H : Type 0} (items_of : Lines → List (Item H)) (done told begins : List (Item H) → Type 0)

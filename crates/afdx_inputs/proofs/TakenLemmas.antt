@@ -125,7 +125,7 @@ module _ {H : Type 0} (whole : Taken) (AreCut : Lines → Type 0) (items_of : Li
         taken-output fault is (begun-first peel (AreFirstLines whole) (λ lines k. k) past (takes.first past a) b)
     hands-err peel fault (past, inr (is, inr a, b)) =
         taken-output fault is (begun-first peel (AreAllLines whole)
-            (λ lines k. ([], k.lines_are)) past (takes.all past a) b)
+        (λ lines k. ([], k.lines_are)) past (takes.all past a) b)
 
     pub hands-ok : (tally : Tally) → tally ≡ counted → Hands (Ok tt) → Answers (Ok tally)
     hands-ok tally is (past, a, d) =

@@ -264,7 +264,7 @@ module _ {S I : Type 0} (current : S → Item Number) (gave ended : I → S → 
               let joins = rw g.unknown at p.joins in
               rw g.still (
               ap (λ (all : Numbers). merge [] all fx
-                  (reverse p.taken_b ++ (head_by (current pair.b.source) pair.b.head ++ ys)) fy)
+              (reverse p.taken_b ++ (head_by (current pair.b.source) pair.b.head ++ ys)) fy)
               (reverse-taken x p.taken_a xs)
               ∙ joins (x ∷ xs) ys fx fy tt can_b
               ∙ merge-skipped-a past x xs (head_by (current pair.b.source) pair.b.head ++ ys) fx fy g.skipped);

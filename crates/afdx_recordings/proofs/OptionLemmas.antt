@@ -183,7 +183,7 @@ said-number order code size bytes e whole =
     let held : size ≤ length (drop 4 bytes) = grind (arith, common_steps) in
     said-here order code size bytes size e whole
     ∙ rw (size_is, same size) (ap (λ (n : ℕ). Some (Some n))
-      (number_at-take order size 0 size (drop 4 bytes) enough held))
+    (number_at-take order size 0 size (drop 4 bytes) enough held))
 
 -- the bytes behind the next option
 pub behind_next : (place n : ℕ) (bytes : List ℕ)

@@ -37,7 +37,7 @@ split_units t s w some =
     let turned : t / w * w * s ≡ t / w * s * w = grind arith in
     let parts : t * s ≡ t / w * s * w + t % w * s =
     ap (λ (x : ℕ). x * s) (sym (div-add-mod' t w)) ∙ add-mul (t / w * w) (t % w) s
-        ∙ ap (λ (x : ℕ). x + t % w * s) turned in
+    ∙ ap (λ (x : ℕ). x + t % w * s) turned in
     ap (λ (x : ℕ). x / w) parts ∙ mul-add-div_right some (t / w * s) (t % w * s)
 
 -- 64 bits of units of 2^-32 s are whole ns in 64 bits

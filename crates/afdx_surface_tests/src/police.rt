@@ -1,23 +1,21 @@
 //! The items of `afdx_police`.
 
 use afdx_frame::{Policing, VlId};
-use afdx_police::{ByteCharge, Charge, FrameCharge, LinkRule, Policer, Reason, judge};
+use afdx_police::{
+    ByteCharge, Charge, FrameCharge, LinkRule, Policer, REASONS, Reason, judge,
+};
 use afdx_samples::{equal, hello};
 use std::test::Fail;
 
-/// The place of a reason in the order in which they are answered.
-fn place(reason: Reason) -> u8 {
-    match reason {
-        Reason::TooShort => 1,
-        Reason::TooLong => 2,
-        Reason::BadFcs => 3,
-        Reason::BadAddress => 4,
-        Reason::UnknownLink => 5,
-        Reason::WrongPort => 6,
-        Reason::OverLmax => 7,
-        Reason::UnderLmin => 8,
-        Reason::OverRate => 9,
+/// Whether the table has a row of each of these reasons, with its word.
+fn are_listed(reasons: &[Reason]) -> bool {
+    for reason in reasons {
+        let word: &str = reason.word();
+        if !REASONS.iter().any(|row| row.0 == *reason && row.1 == word) {
+            return false;
+        }
     }
+    true
 }
 
 /// The rule of link 1, at port 1.
@@ -55,7 +53,28 @@ fn verdicts() -> Result<(), Fail> {
     let wrong: Option<Reason> = judge(Some(&rule), port, bytes);
     let unknown: Option<Reason> = judge(None, port, bytes);
     equal(policing, Policing::Byte)?;
-    equal((wrong.map(place), unknown.map(place)), (Some(6), Some(5)))
+    equal(
+        (wrong, unknown),
+        (Some(Reason::WrongPort), Some(Reason::UnknownLink)),
+    )
+}
+
+#[test]
+fn reasons() -> Result<(), Fail> {
+    let of_frames = [
+        Reason::TooShort,
+        Reason::TooLong,
+        Reason::BadFcs,
+        Reason::BadAddress,
+    ];
+    let of_links = [
+        Reason::UnknownLink,
+        Reason::WrongPort,
+        Reason::OverLmax,
+        Reason::UnderLmin,
+        Reason::OverRate,
+    ];
+    equal((are_listed(&of_frames), are_listed(&of_links)), (true, true))
 }
 
 #[test]

@@ -9,7 +9,7 @@ pub returns-in_err-list-clause-answer : goal.returns-in_err-list-clause-answer
 returns-in_err-list-clause-answer g c law start =
     let old = g.O.Sink.written c.args.output.now in
     let stop = start-answers g.H.Listed.kind (thing_of g.H.Listed.kind g.H.Listed.says_of)
-        (g.M.Machine.Done law c.args.machine.now old old)
+    (g.M.Machine.Done law c.args.machine.now old old)
     (g.M.Machine.Told law c.args.machine.now old old) (g.M.Machine.Begins law c.args.machine.now old old)
     (g.R.Read.remaining c.args.input.now.inner) start in
     search rules
@@ -17,7 +17,7 @@ returns-in_err-list-clause-answer g c law start =
 pub drive-requires-clause-gave : goal.drive-requires-clause-gave
 drive-requires-clause-gave g c =
     gave-start g.H.Listed.kind (thing_of g.H.Listed.kind g.H.Listed.says_of) g.R.Read.remaining
-        c.args.input.now _ _ c.in_ok-list.ensures
+    c.args.input.now _ _ c.in_ok-list.ensures
     c.requires.sound_input c.requires.unended
 
 pub returns-in_err-drive-clause-read : goal.returns-in_err-drive-clause-read

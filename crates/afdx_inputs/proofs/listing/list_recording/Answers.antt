@@ -21,7 +21,7 @@ returns-in_err-lines-clause-answer g c =
 pub run_over-requires-clause-gave : goal.run_over-requires-clause-gave
 run_over-requires-clause-gave g c =
     timed-start c.args.options c.args.ports c.in_ok-lines.lines c.in_ok-lines.ensures
-        g.R.Read.remaining c.args.input.now
+    g.R.Read.remaining c.args.input.now
     c.requires.sound_input c.requires.unended
 
 pub run_over-requires-clause-set : goal.run_over-requires-clause-set
@@ -39,5 +39,5 @@ returns-clause-answer g c =
     let new = g.O.Sink.written c.run_over.new.output in
     one-by c.args.options c.args.ports c.in_ok-lines.lines c.in_ok-lines.ensures lines_themselves
     (WritesLines old new) (WritesLines old new) (WritesSomeLines old new) c.run_over.result
-        (g.R.Read.remaining c.args.input.now.inner)
+    (g.R.Read.remaining c.args.input.now.inner)
     (g.R.Read.remaining c.run_over.new.input.inner) (c.run_over.ensures.answer tt (lines-start old))

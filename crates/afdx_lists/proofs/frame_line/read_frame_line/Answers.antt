@@ -12,7 +12,7 @@ pub returns-then-says_nothing-clause-ok : goal.returns-then-says_nothing-clause-
 unfolding line_says
 returns-then-says_nothing-clause-ok c =
     says_nothing frame_form c.args.latest c.args.line.now _ c.trim_line-text.ensures
-        (sym c.says_nothing.ensures ∙ c.if-says_nothing.true)
+    (sym c.says_nothing.ensures ∙ c.if-says_nothing.true)
 
 pub returns-in-None-clause-err : goal.returns-in-None-clause-err
 unfolding line_says

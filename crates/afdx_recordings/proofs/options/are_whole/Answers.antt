@@ -22,7 +22,7 @@ returns-in-Broken c =
 pub overflow_add-place-in-Next : goal.overflow_add-place-in-Next
 overflow_add-place-in-Next c =
     let next : next_option c.args.order (drop c.options.place c.args.options.now) ≡ Next
-        c.in-Next.field-0 c.in-Next.size =
+    c.in-Next.field-0 c.in-Next.size =
     sym (c.in-Next.ensures ∙ ap (next_option c.args.order) (rest_from c.options.place c.args.options.now)) in
     let size : c.filled_up.result ≡ filled c.in-Next.size = c.filled_up.ensures.value ∙ ap filled c.from.ensures in
     let within = ends_at c.args.order c.options.place c.in-Next.field-0 c.in-Next.size c.args.options.now
@@ -32,7 +32,7 @@ overflow_add-place-in-Next c =
 pub options-preserved : goal.options-preserved
 options-preserved c =
     let next : next_option c.args.order (drop c.options.place c.args.options.now) ≡ Next
-        c.in-Next.field-0 c.in-Next.size =
+    c.in-Next.field-0 c.in-Next.size =
     sym (c.in-Next.ensures ∙ ap (next_option c.args.order) (rest_from c.options.place c.args.options.now)) in
     let size : c.filled_up.result ≡ filled c.in-Next.size = c.filled_up.ensures.value ∙ ap filled c.from.ensures in
     let within = ends_at c.args.order c.options.place c.in-Next.field-0 c.in-Next.size c.args.options.now
@@ -47,7 +47,7 @@ options-preserved c =
 pub options-smaller : goal.options-smaller
 options-smaller c =
     let next : next_option c.args.order (drop c.options.place c.args.options.now) ≡ Next
-        c.in-Next.field-0 c.in-Next.size =
+    c.in-Next.field-0 c.in-Next.size =
     sym (c.in-Next.ensures ∙ ap (next_option c.args.order) (rest_from c.options.place c.args.options.now)) in
     let size : c.filled_up.result ≡ filled c.in-Next.size = c.filled_up.ensures.value ∙ ap filled c.from.ensures in
     let within = ends_at c.args.order c.options.place c.in-Next.field-0 c.in-Next.size c.args.options.now

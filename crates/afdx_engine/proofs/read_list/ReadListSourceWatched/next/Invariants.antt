@@ -9,7 +9,7 @@ abbrev pub invariant-loop-self : goal.invariant-loop-self
 invariant-loop-self g l = record {
   gave : (start : Watched g.row.R.Denot) (past : List (Item g.row.H.Denot)) →
       HasGiven g.H.Listed.kind g.H.Listed.says_of g.H.Listed.time_of g.R.Read.remaining start
-          l.fn.self l.fn.input past →
+      l.fn.self l.fn.input past →
       HasGiven g.H.Listed.kind g.H.Listed.says_of g.H.Listed.time_of g.R.Read.remaining start l.self l.input past;
   later : lines_taken l.fn.self.reader ≤ lines_taken l.self.reader;
 }

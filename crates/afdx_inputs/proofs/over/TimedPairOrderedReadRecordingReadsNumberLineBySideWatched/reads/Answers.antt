@@ -34,4 +34,4 @@ returns-clause-ended_asked g c start inputs source past k =
 pub returns-clause-stopped_asked : goal.returns-clause-stopped_asked
 returns-clause-stopped_asked g c start inputs source past fault k =
     asked-both g.R.Read.remaining start inputs source
-        (stopped-gives g.R.Read.remaining start inputs source past fault k)
+    (stopped-gives g.R.Read.remaining start inputs source past fault k)

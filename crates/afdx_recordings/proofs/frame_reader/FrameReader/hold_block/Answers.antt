@@ -1,6 +1,6 @@
 use Rattle.std.proofs.Common.{rules, arith, ◌≡◌, [], Err, refl}
 use Rattle.afdx_recordings.specs.Holding.{standing}
-use Rattle.afdx_recordings.specs.Recordings.{lost_by}
+use Rattle.afdx_recordings.specs.Recordings.{totals_by}
 use Rattle.afdx_recordings.specs.Reading.{state_of}
 use Rattle.afdx_recordings.proofs.HeldLemmas.{Passes-gives}
 use Rattle.afdx_recordings.proofs.HeadLemmas.{least_size}
@@ -15,13 +15,13 @@ returns-in_err-fill-clause-tells g c =
     (Passes-gives _ _ _ c.fill.ensures.passes)
     (λ is. SaysNothing-within _ _ _ c.args.head [] c.requires.form c.fill.ensures.passes c.requires.few c.requires.held
     c.requires.told (least_size c.args.head c.requires.least)
-        (let short = c.in_err-fill.ensures.few is in omega (arith, short))))
+    (let short = c.in_err-fill.ensures.few is in omega (arith, short))))
 
-pub returns-then-not-branch-clause-tells : goal.returns-then-not-branch-clause-tells
-returns-then-not-branch-clause-tells g c =
+pub returns-in-Ended-clause-tells : goal.returns-in-Ended-clause-tells
+returns-in-Ended-clause-tells g c =
     let last = c.fill.ensures.last (search rules) in
     rw c.ended.ensures (
-      lost_by (state_of c.args.self.now),
+      totals_by (state_of c.args.self.now),
       SaysEnding-within _ _ _ c.args.head [] c.requires.form c.fill.ensures.passes last.0 c.requires.few
           c.requires.held c.requires.told (least_size c.args.head c.requires.least) (omega (arith, last.1)),
     )
@@ -33,7 +33,7 @@ take_held-requires-clause-told g c =
 pub returns-clause-tells : goal.returns-clause-tells
 returns-clause-tells g c =
     TellsBlock-held c.take_held.result _ (standing g.R.Read.remaining c.fill.new.self
-        c.fill.new.input) _ _ _ _ c.args.head
+    c.fill.new.input) _ _ _ _ c.args.head
     c.requires.form c.take_held.ensures.form c.fill.ensures.passes c.requires.few
     (told_in_all _ _ (state_of c.args.self.now) c.args.head c.fill.ensures.passes c.requires.held c.requires.told)
     (least_size c.args.head c.requires.least) (c.fill.ensures.enough (search rules)) refl refl refl

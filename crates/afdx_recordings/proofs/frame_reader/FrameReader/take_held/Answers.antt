@@ -35,7 +35,7 @@ returns-in-Ok-Some-clause-meant c =
     let body = take (c.args.head.size - 4 - 8) (drop 8 c.bytes-2.result.now) in
     let means = rw c.in-Ok-Some.field-0-is at c.in-Ok-Some.ensures.means in
     let within : placed.start + placed.count ≤ length body = rw c.in-Ok-Some.field-0-is at
-        c.in-Ok-Some.ensures.within in
+    c.in-Ok-Some.ensures.within in
     let fits : placed.start + placed.count ≤ length (take (c.args.head.size - 12) (drop 8 xs)) = rw body_is at within in
     whole ∙ means ∙ says_placed _ placed body (lent c.pass.new.self)
     (ap (λ (bytes : List ℕ). take placed.count (drop placed.start bytes)) body_is

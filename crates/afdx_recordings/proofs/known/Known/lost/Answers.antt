@@ -13,5 +13,5 @@ returns c =
     let all : length c.args.self.now.interfaces.items ≤ c.loop-interface.interface-index =
     rw (← c.deref-interface-items.ensures.value) c.loop-interface-test.false in
     sym (ap (lost_at c.loop-interface.lost) (none_left c.args.self.now.interfaces.items
-        c.loop-interface.interface-index all))
+    c.loop-interface.interface-index all))
     ∙ c.loop-interface.invariant

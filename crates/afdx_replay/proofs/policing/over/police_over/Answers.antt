@@ -18,13 +18,13 @@ returns-in_err-count-clause-polices g c =
     let police = c.tell_all.new.machine in
     let count = Err c.in_err-count.field-0.0 in
     let takes = λ (bytes : g.A.Arrivals.Bytes). g.A.Arrivals.Takes c.args.options
-        (one_port rule.port) bytes c.tell_all.new.self in
+    (one_port rule.port) bytes c.tell_all.new.self in
     let so = if-more (g.A.Arrivals.known c.args.input.now)
     (λ (bytes : g.A.Arrivals.Bytes). Took (TellsItems rule police old new)
-        (TellsItems rule police old new) (BeginsItems rule old new)
+    (TellsItems rule police old new) (BeginsItems rule old new)
     (takes bytes) count)
     (λ (bytes : g.A.Arrivals.Bytes). Polices rule (takes bytes) old new
-        (answer_of (Counts rule (takes bytes) police old new) count))
+    (answer_of (Counts rule (takes bytes) police old new) count))
     (λ bytes told. polices-told rule (takes bytes) police old new count told)
     (c.in_err-count.ensures.answer rule (c.new-police.ensures old)) in
     search rules
@@ -38,13 +38,13 @@ returns-clause-polices g c =
     let police = c.tell_all.new.machine in
     let count = Ok c.in_ok-count.count in
     let takes = λ (bytes : g.A.Arrivals.Bytes). g.A.Arrivals.Takes c.args.options
-        (one_port rule.port) bytes c.tell_all.new.self in
+    (one_port rule.port) bytes c.tell_all.new.self in
     rw c.of.ensures (if-more (g.A.Arrivals.known c.args.input.now)
     (λ (bytes : g.A.Arrivals.Bytes). Took (TellsItems rule police old new)
-        (TellsItems rule police old new) (BeginsItems rule old new)
+    (TellsItems rule police old new) (BeginsItems rule old new)
     (takes bytes) count)
     (λ (bytes : g.A.Arrivals.Bytes). Polices rule (takes bytes) old new
-        (answer_of (Counts rule (takes bytes) police old new) count))
+    (answer_of (Counts rule (takes bytes) police old new) count))
     (λ bytes told. polices-told rule (takes bytes) police old new count told)
     (c.in_ok-count.ensures.answer rule (c.new-police.ensures old)))
 

@@ -39,10 +39,10 @@ returns-in-Ok-count-clause-replays g c =
     let all = c.tell_all-count.new.machine in
     let count = Ok c.in-Ok-count.count in
     let takes = λ (bytes : g.A.Arrivals.Bytes). g.A.Arrivals.Takes c.args.options ports bytes
-        c.tell_all-count.new.self in
+    c.tell_all-count.new.self in
     rw c.of.ensures (if-more (g.A.Arrivals.known c.args.input.now)
     (λ (bytes : g.A.Arrivals.Bytes). Took (ExplainsAll g.D.Write.contents
-        (t, c.args.early) all.replay all.early old new)
+    (t, c.args.early) all.replay all.early old new)
     (ExplainsItems g.D.Write.contents (t, c.args.early) all.replay all.early old new)
     (ExplainsSome g.D.Write.contents (t, c.args.early) all.early old new) (takes bytes) count)
     (λ (bytes : g.A.Arrivals.Bytes). Replays t (takes bytes)
@@ -63,10 +63,10 @@ returns-clause-replays g c =
     let all = c.tell_all-count.new.machine in
     let count = Err c.in-Err-count.fault in
     let takes = λ (bytes : g.A.Arrivals.Bytes). g.A.Arrivals.Takes c.args.options ports bytes
-        c.tell_all-count.new.self in
+    c.tell_all-count.new.self in
     if-more (g.A.Arrivals.known c.args.input.now)
     (λ (bytes : g.A.Arrivals.Bytes). Took (ExplainsAll g.D.Write.contents
-        (t, c.args.early) all.replay all.early old new)
+    (t, c.args.early) all.replay all.early old new)
     (ExplainsItems g.D.Write.contents (t, c.args.early) all.replay all.early old new)
     (ExplainsSome g.D.Write.contents (t, c.args.early) all.early old new) (takes bytes) count)
     (λ (bytes : g.A.Arrivals.Bytes). Replays t (takes bytes)
