@@ -16,8 +16,8 @@ place_of interfaces interface = known (slice_get interfaces.places.items interfa
 abbrev pub places_but : (ℕ → Option Place) → ℕ → Place → ℕ → Option Place
 places_but places interface place k = if k == interface then Some place else places k
 
--- how many interfaces have a place that aren't among the first `count`: those that a recording of so
--- many doesn't have
+-- how many interfaces have a place that aren't among the first `count`: a recording of so many
+-- doesn't have them
 unfoldable pub unused_behind : (count : ℕ) → (ℕ → Option Place) → ℕ
 unused_behind count places =
     count_by (λ k. is_some (places k)) (range_with_len count (most_interfaces - count))

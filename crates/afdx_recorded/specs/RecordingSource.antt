@@ -5,6 +5,8 @@ use Rattle.std.specs.Io.KnownBytes.{Consumes, IsAtEnd}
 use Rattle.afdx_lists.specs.Calls.{is_read}
 use Rattle.afdx_lists.specs.Watching.{device_of, has_ended, is_over, calls_of}
 use Rattle.afdx_lists.specs.declared.fault.RunFault.{RunFault}
+use Rattle.afdx_lists.specs.declared.next.Next.{Next}
+use Rattle.afdx_lists.specs.declared.next.Next.TheVariants as next
 use Rattle.afdx_lists.specs.declared.fault.RunFault.TheVariants as run
 use Rattle.afdx_lists.specs.declared.recording_fault.RecordingFault.{RecordingFault}
 use Rattle.afdx_lists.specs.declared.recording_fault.RecordingFault.TheVariants.{NoArrival}
@@ -47,11 +49,12 @@ pub record RemembersOne (old new : ReadRecording) : Type 0 where
 -- how many interfaces the options name that weren't described
 abbrev pub unused_of : ReadRecording → ℕ
 unused_of source =
-    unused_behind (totals_by (state_of source.reader)).interfaces (place_of source.options.interfaces)
+    unused_behind (totals_by (state_of source.reader)).interfaces
+    (place_of source.options.interfaces)
 
 -- the answer behind the last of n numbers
-abbrev pub end_of : Bool → ℕ → Result Bool RunFault
-end_of any n = if nat_lt 0 n && not any then Err (run.Recording (NoArrival n)) else Ok false
+abbrev pub end_of : Bool → ℕ → Result Next RunFault
+end_of any n = if nat_lt 0 n && not any then Err (run.Recording (NoArrival n)) else Ok next.Ended
 
 -- the fault is that of a number
 abbrev pub FailsBy : RunFault → Result Number RecordingFault → Type 0

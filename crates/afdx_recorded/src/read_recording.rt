@@ -16,7 +16,7 @@ use crate::number::{AsRead, Number};
 use crate::senders::SystemPorts;
 use crate::skipped::Skipped;
 use afdx_engine::Source;
-use afdx_lists::{RecordingFault, RunFault, Watched};
+use afdx_lists::{Next, RecordingFault, RunFault, Watched};
 use afdx_recordings::FrameReader;
 use std::alloc::{AllocError, Global};
 use std::io::Read;
@@ -131,13 +131,13 @@ impl ReadRecording {
     }
 
     /// What is answered behind the last number: a recording that has numbers has an arrival.
-    fn end(&self) -> Result<bool, RunFault>
+    fn end(&self) -> Result<Next, RunFault>
         ensures { result ≡ source.end_of self.now.has_arrival self.now.numbers }
     {
         if self.numbers > 0 && !self.has_arrival {
             return Err(RunFault::Recording(RecordingFault::NoArrival(self.numbers)));
         }
-        Ok(false)
+        Ok(Next::Ended)
     }
 }
 
@@ -162,12 +162,12 @@ impl<R: Read> Source<AsRead, Watched<R>> for ReadRecording {
     ghost Stopped = { HasStoppedReading R.remaining };
 
     #[inline(always)]
-    fn next(&mut self, input: &mut Watched<R>) -> Result<bool, RunFault> {
-        if !self.reader.next(input)? {
+    fn next(&mut self, input: &mut Watched<R>) -> Result<Next, RunFault> {
+        if let Next::Ended = self.reader.next(input)? {
             return self.end();
         }
         self.sort()?;
-        Ok(true)
+        Ok(Next::Given)
     }
 
     fn number(&self) -> u64 {

@@ -4,6 +4,8 @@ use Rattle.std.proofs.Common.{refl, ap, sym, ◌∙◌, arith, Option, Some, Non
 use Rattle.std.proofs.lemmas.List.{append-nil, drop-append-le}
 use Rattle.std.proofs.lemmas.Grind.{common_steps}
 use Rattle.afdx_lists.specs.declared.fault.RunFault.{RunFault}
+use Rattle.afdx_lists.specs.declared.next.Next.{Next}
+use Rattle.afdx_lists.specs.declared.next.Next.TheVariants as next
 use Rattle.afdx_lists.specs.declared.fault.RunFault.TheVariants as run
 use Rattle.afdx_lists.specs.declared.recording_fault.RecordingFault.{RecordingFault}
 use Rattle.afdx_lists.specs.declared.recording_fault.RecordingFault.TheVariants.{NotRecording, BadVersion, Ended, Packed}
@@ -274,10 +276,10 @@ nothing-then a b c s t same next = record {
 }
 
 -- first the same, and then an answer
-pub Tells-then : (result : Result Bool RunFault) (a b c : Standing) (s t u : State) (item : Numbered)
+pub Tells-then : (result : Result Next RunFault) (a b c : Standing) (s t u : State) (item : Numbered)
     → SaysSame a b s t → Tells result b c t u item → Tells result a c s u item
-Tells-then (Ok true) a b c s t u item same tells = first-then a b c s t u item same tells
-Tells-then (Ok false) a b c s t u item same tells =
+Tells-then (Ok next.Given) a b c s t u item same tells = first-then a b c s t u item same tells
+Tells-then (Ok next.Ended) a b c s t u item same tells =
     (tells.0, ending-then a b c s t Over (totals_by u) same tells.1)
 Tells-then (Err (run.Recording fault)) a b c s t u item same tells =
     (tells.0, ending-then a b c s t (Faulted fault) tells.0 same tells.1)

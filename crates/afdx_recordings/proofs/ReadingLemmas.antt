@@ -8,6 +8,8 @@ use Rattle.afdx_recordings.specs.declared.form.Form.TheVariants as form
 use Rattle.std.proofs.Common.{Result, Ok, Err, ltb}
 use Rattle.afdx_lists.specs.Calls.{is_read}
 use Rattle.afdx_lists.specs.declared.fault.RunFault.{RunFault}
+use Rattle.afdx_lists.specs.declared.next.Next.{Next}
+use Rattle.afdx_lists.specs.declared.next.Next.TheVariants as next
 use Rattle.afdx_lists.specs.declared.fault.RunFault.TheVariants as run
 use Rattle.afdx_lists.specs.declared.recording_fault.RecordingFault.TheVariants.{Ended}
 use Rattle.afdx_recordings.specs.Holding.{Standing, Gives, GivesSome, Passes, IsOfReading}
@@ -162,9 +164,9 @@ Tells-of_reading (run.Recording f) old new before after item h some says = absur
 Tells-of_reading run.Write old new before after item h some says = absurd h
 
 -- the input ended between two blocks, or within a head
-pub Tells-end : (result : Result Bool RunFault) (old new : Standing) (before after : State) (item : Numbered)
+pub Tells-end : (result : Result Next RunFault) (old new : Standing) (before after : State) (item : Numbered)
     → new.ended ≡ true
-    → (length new.held ≡ 0 → result ≡ Ok false)
+    → (length new.held ≡ 0 → result ≡ Ok next.Ended)
     → (0 < length new.held → result ≡ Err (run.Recording (Ended before.numbers)))
     → (length new.held ≡ 0 → SaysEnding old new before Over (totals_by after))
     → (0 < length new.held → SaysEnding old new before (Faulted (Ended before.numbers)) (totals_by before))

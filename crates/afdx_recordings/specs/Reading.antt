@@ -1,6 +1,10 @@
 -- All that a recording says, from its bytes.
 use Rattle.std.specs.Prelude.{ℕ, zero, suc, Bool, true, false, ◌≡◌, ◌+◌, ◌/◌, ◌==◌, ◌||◌, ◌++◌, List, [], length, drop, nat_lt, Option, Some, None, Result, Ok, Err, if◌then◌else◌}
 use Rattle.afdx_lists.specs.declared.fault.RunFault.{RunFault}
+use Rattle.afdx_lists.specs.declared.next.Next.{Next}
+use Rattle.afdx_lists.specs.declared.next.Next.TheVariants as next
+use Rattle.afdx_lists.specs.declared.next.Progress.{Progress}
+use Rattle.afdx_lists.specs.declared.next.Progress.TheVariants as progress
 use Rattle.afdx_lists.specs.declared.fault.RunFault.TheVariants as run
 use Rattle.afdx_lists.specs.declared.recording_fault.RecordingFault.{RecordingFault}
 use Rattle.afdx_lists.specs.declared.recording_fault.RecordingFault.TheVariants.{NotRecording, BadVersion, Ended, Packed}
@@ -149,10 +153,10 @@ pub record SaysNothing (old new : Standing) (before : State) : Type 0 where
   pub unfinished : is_unfinished ending ≡ true
 
 -- the answer to a call for the next item
-abbrev pub Tells : Result Bool RunFault → (old new : Standing) → (before after : State)
+abbrev pub Tells : Result Next RunFault → (old new : Standing) → (before after : State)
     → Numbered → Type 0
-Tells (Ok true) old new before after item = SaysFirst old new before after item
-Tells (Ok false) old new before after item =
+Tells (Ok next.Given) old new before after item = SaysFirst old new before after item
+Tells (Ok next.Ended) old new before after item =
     (new.ended ≡ true) × SaysEnding old new before Over (totals_by after)
 Tells (Err (run.Recording fault)) old new before after item =
     (totals : Totals) × SaysEnding old new before (Faulted fault) totals
@@ -161,24 +165,24 @@ Tells (Err run.Memory) old new before after item = GivesSome old new
 Tells (Err _) old new before after item = ⊥
 
 -- what a block means: it takes a number or none, or it is wrong
-abbrev pub Meant : Meaning → Result Bool RunFault → State → Numbered → Type 0
-Meant meaning (Ok true) after item = meaning ≡ Says after (Some item)
-Meant meaning (Ok false) after item = meaning ≡ Says after None
+abbrev pub Meant : Meaning → Result Progress RunFault → State → Numbered → Type 0
+Meant meaning (Ok progress.Given) after item = meaning ≡ Says after (Some item)
+Meant meaning (Ok progress.NotYet) after item = meaning ≡ Says after None
 Meant meaning (Err (run.Recording fault)) after item = meaning ≡ Wrong fault
 Meant meaning (Err run.Memory) after item = Unit {0}
 Meant meaning (Err _) after item = ⊥
 
 -- the answer to a call for the next block, which took a number or none
-abbrev pub TellsBlock : Result Bool RunFault → (old new : Standing) → (before after : State)
+abbrev pub TellsBlock : Result Progress RunFault → (old new : Standing) → (before after : State)
     → Numbered → Type 0
-TellsBlock (Ok true) old new before after item = SaysFirst old new before after item
-TellsBlock (Ok false) old new before after item = SaysSame old new before after
+TellsBlock (Ok progress.Given) old new before after item = SaysFirst old new before after item
+TellsBlock (Ok progress.NotYet) old new before after item = SaysSame old new before after
 TellsBlock (Err fault) old new before after item = Tells (Err fault) old new before after item
 
 -- it counts as a block, and as a number if it took one
-abbrev pub CountsBlock : Result Bool RunFault → State → State → Type 0
-CountsBlock (Ok true) before after =
+abbrev pub CountsBlock : Result Progress RunFault → State → State → Type 0
+CountsBlock (Ok progress.Given) before after =
     (after.numbers ≡ before.numbers + 1) × (after.blocks ≡ before.blocks + 1)
-CountsBlock (Ok false) before after =
+CountsBlock (Ok progress.NotYet) before after =
     (after.numbers ≡ before.numbers) × (after.blocks ≡ before.blocks + 1)
 CountsBlock (Err fault) before after = after.numbers ≡ before.numbers

@@ -12,7 +12,6 @@ use Rattle.afdx_port.specs.Ports.{order_at}
 use Rattle.afdx_port.specs.Schedule.{Turn}
 use Rattle.afdx_port.specs.Times.{drain_end}
 use Rattle.afdx_port.specs.declared.left.Due.{Due}
-use Rattle.afdx_port.specs.declared.order.TurnOrder.{TurnOrder}
 use Rattle.afdx_switch.specs.Admitted.{IsAdmittedRun, LosesNothing, IsInTime, HaveLeft}
 use Rattle.afdx_switch.specs.Early.{IsEarlyBy}
 use Rattle.afdx_switch.specs.HeldFrames.{HeldFrame}
@@ -79,10 +78,10 @@ pub record TellsDue (w : SwitchState) (result : Option Due) : Type 0 where
   pub limit : IfSome result (λ due. given_at due ≤ drain_end)
 
 -- `order` says where the turn that `due` tells stands in the order of turns
-pub record TellsOrder (w : SwitchState) (result : TurnOrder) : Type 0 where
+pub record TellsOrder (w : SwitchState) (result : ℕ) : Type 0 where
   pub due : Option Due
   pub tells : TellsDue w due
-  pub is : result.0 ≡ order_at due
+  pub is : result ≡ order_at due
 
 -- `early` says by how much a frame without a fault in its shape comes too early
 abbrev pub TellsEarly : SwitchState → (time port : ℕ) → List ℕ → (result : ℕ) → Type 0

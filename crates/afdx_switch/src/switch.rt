@@ -212,7 +212,7 @@ impl Switch {
     /// Where the turn that `due` tells stands in the order of turns: by time, at one time slots
     /// before drops; after each turn, if there is none.
     pub fn order(&self) -> TurnOrder
-        ensures { TellsOrder self.now result }
+        ensures { TellsOrder self.now result.0 }
     {
         self.state.order()
     }

@@ -299,7 +299,7 @@ impl SwitchState {
     /// Where the next turn stands in the order of turns.
     pub(crate) fn order(&self) -> TurnOrder
         requires { IsSwitchSound self.now }
-        ensures { TellsOrder self.now result }
+        ensures { TellsOrder self.now result.0 }
     {
         self.ports[self.first].order()
     }

@@ -17,8 +17,8 @@ returns-in_err-fill-clause-tells g c =
     c.requires.told (least_size c.args.head c.requires.least)
     (let short = c.in_err-fill.ensures.few is in omega (arith, short))))
 
-pub returns-then-not-branch-clause-tells : goal.returns-then-not-branch-clause-tells
-returns-then-not-branch-clause-tells g c =
+pub returns-in-Ended-clause-tells : goal.returns-in-Ended-clause-tells
+returns-in-Ended-clause-tells g c =
     let last = c.fill.ensures.last (search rules) in
     rw c.ended.ensures (
       totals_by (state_of c.args.self.now),

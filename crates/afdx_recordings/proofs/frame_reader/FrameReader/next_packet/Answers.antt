@@ -18,8 +18,8 @@ returns-in_err-fill-clause-tells g c =
     (Passes-gives _ _ _ c.fill.ensures.passes)
     (λ is. SaysNothing-short _ _ _ c.args.form c.requires.form c.fill.ensures.passes (c.in_err-fill.ensures.few is)))
 
-pub returns-then-not-branch-clause-tells : goal.returns-then-not-branch-clause-tells
-returns-then-not-branch-clause-tells g c =
+pub returns-in-Ended-clause-tells : goal.returns-in-Ended-clause-tells
+returns-in-Ended-clause-tells g c =
     let last = c.fill.ensures.last (search rules) in
     Tells-end c.end.result _ _ _ _ _ last.0 c.end.ensures.over c.end.ensures.ended
     (λ none. SaysEnding-over _ _ _ c.args.form c.requires.form c.fill.ensures.passes last.0 none)
@@ -46,8 +46,8 @@ returns-in_err-fill-2-clause-tells g c =
     (Passes-then _ _ _ [] [] c.fill.ensures.passes c.fill-2.ensures.passes)
     (later.1 ∙ c.in_ok-length.ensures.told) later.0 (c.in_err-fill-2.ensures.few is)))
 
-pub returns-then-not-branch-2-clause-tells : goal.returns-then-not-branch-2-clause-tells
-returns-then-not-branch-2-clause-tells g c =
+pub returns-in-Ended-2-clause-tells : goal.returns-in-Ended-2-clause-tells
+returns-in-Ended-2-clause-tells g c =
     let within = c.fill.ensures.enough (search rules) in
     let last = c.fill-2.ensures.last (search rules) in
     let later = captured_by-later (state_of c.args.self.now) _ _ c.fill-2.ensures.passes within in

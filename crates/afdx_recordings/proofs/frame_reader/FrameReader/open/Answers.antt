@@ -19,8 +19,8 @@ returns-in_err-fill-clause-tells g c =
     (Passes-gives _ _ _ c.fill.ensures.passes)
     (λ is. SaysNothing-too_short _ _ _ c.requires.form c.fill.ensures.passes (c.in_err-fill.ensures.few is)))
 
-pub returns-then-not-branch-clause-tells : goal.returns-then-not-branch-clause-tells
-returns-then-not-branch-clause-tells g c =
+pub returns-in-Ended-clause-tells : goal.returns-in-Ended-clause-tells
+returns-in-Ended-clause-tells g c =
     let last = c.fill.ensures.last (search rules) in (
       totals_by (state_of c.args.self.now),
       SaysEnding-too_short _ _ _ c.requires.form c.fill.ensures.passes last.0 last.1,

@@ -18,8 +18,8 @@ returns-in_err-fill-clause-tells g c =
     (λ is. SaysNothing-header _ _ _ c.args.order c.args.nanoseconds c.requires.form c.fill.ensures.passes later.0
     (later.1 ∙ c.requires.magic) (c.in_err-fill.ensures.few is)))
 
-pub returns-then-not-branch-clause-tells : goal.returns-then-not-branch-clause-tells
-returns-then-not-branch-clause-tells g c =
+pub returns-in-Ended-clause-tells : goal.returns-in-Ended-clause-tells
+returns-in-Ended-clause-tells g c =
     let last = c.fill.ensures.last (search rules) in
     let later = magic_of-later _ _ c.fill.ensures.passes c.requires.held in (
       totals_by (state_of c.args.self.now),

@@ -20,8 +20,8 @@ returns-in_err-skip-clause-tells g c =
     rw (e, is) (SaysNothing-within _ _ _ c.args.head few.0 c.requires.form few.1 c.requires.few c.requires.held
     c.requires.told least (omega (arith, few.2, least)))
 
-pub returns-then-not-branch-clause-tells : goal.returns-then-not-branch-clause-tells
-returns-then-not-branch-clause-tells g c =
+pub returns-in-Ended-clause-tells : goal.returns-in-Ended-clause-tells
+returns-in-Ended-clause-tells g c =
     let last = c.skip.ensures.last (search rules) in
     let least = least_size c.args.head c.requires.least in
     rw c.ended.ensures (
@@ -41,13 +41,13 @@ returns-in_err-fill-clause-tells g c =
     (λ is. SaysNothing-within _ _ _ c.args.head all.0 c.requires.form passes c.requires.few c.requires.held
     c.requires.told least (let short = c.in_err-fill.ensures.few is in omega (arith, all.2, short, least))))
 
-pub returns-then-not-branch-2-clause-tells : goal.returns-then-not-branch-2-clause-tells
-returns-then-not-branch-2-clause-tells g c =
+pub returns-in-Ended-2-clause-tells : goal.returns-in-Ended-2-clause-tells
+returns-in-Ended-2-clause-tells g c =
     let last = c.fill.ensures.last (search rules) in
     let least = least_size c.args.head c.requires.least in
     let all = c.skip.ensures.all (search rules) in
     let passes = Passes-more _ _ _ all.0 all.1 c.fill.ensures.passes in
-    rw c.ended-then-not-branch-2.ensures (
+    rw c.ended-in-Ended-2.ensures (
       totals_by (state_of c.args.self.now),
       SaysEnding-within _ _ _ c.args.head all.0 c.requires.form passes last.0 c.requires.few
           c.requires.held c.requires.told least (omega (arith, all.2, last.1, least)),
