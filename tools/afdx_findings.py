@@ -90,7 +90,8 @@ def contradicted(report: Row) -> Iterator[str]:
 def unused(report: Row) -> Iterator[str]:
     """Interfaces that aren't there."""
     if count := report["totals"]["unused"]:
-        yield f"{many(count, 'interface was', 'interfaces were')} named that no recording has"
+        interfaces = many(count, "interface", "interfaces")
+        yield f"{interfaces} that --interface names, and that the recording doesn't have"
 
 
 def clock(report: Row) -> Iterator[str]:

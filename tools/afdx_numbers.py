@@ -320,7 +320,7 @@ def totals(counting: Counting, report: Row) -> Row:
         "skew": len(over),
         "jitter": len(shaky),
         "contradicted": named,
-        "unused": unused,
+        "unused": 0 if "taps" in report else unused,  # a table of taps was looked up in each
         "recorder_lost": lost,
         "claimed": claimed,
         "left_out": sum(left.values()),

@@ -340,6 +340,13 @@ option_tests() {
         is_status 0
         wants_number "$json" 'r["skipped"]["claimed"]' 0
     )"
+    {
+        cat "$tapped/A.pcapng"
+        printf '\1\0\0\0\x20\0\0\0\1\0\0\0\0\0\0\0\2\0\4\0mgmt\0\0\0\0\x20\0\0\0'
+    } >"$tapped/more.pcapng"
+    echo 'mgmt,,,none' >>"$tapped/bench.csv"
+    report_by "$tapped/more.pcapng" "$tapped/B.pcapng" --fail-on unused
+    tell 'an interface that one of two recordings has is no word for nothing' "$(is_status 0)"
     report_by "$tapped/B.pcapng" "$tapped/A.pcapng"
     tell 'recordings the other way round, in a report' "$(
         is_status 3
