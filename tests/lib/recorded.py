@@ -17,7 +17,8 @@ PCAPS = {
     "a1b23c4d": ("big", 1),
 }
 # first bytes of packed files: gzip, bzip2, zstd, xz, zip
-PACKED = tuple(bytes.fromhex(each) for each in ("1f8b", "425a68", "28b52ffd", "fd377a58", "504b0304"))
+MAGICS = ("1f8b", "425a68", "28b52ffd", "fd377a58", "504b0304")
+PACKED = tuple(bytes.fromhex(each) for each in MAGICS)
 SECTION, INTERFACE, OLD_PACKET, SIMPLE_PACKET, STATISTICS, PACKET = 0x0A0D0D0A, 1, 2, 3, 5, 6
 NO_FRAMES = (0x0BAD, 0x4000_0BAD, 9)  # custom blocks and journals: numbered, but no frames
 LEAST = {SECTION: 28, INTERFACE: 20, OLD_PACKET: 32, SIMPLE_PACKET: 16, STATISTICS: 24, PACKET: 32}
@@ -46,11 +47,13 @@ class Frame(NamedTuple):
 
 class Recording(NamedTuple):
     """What takes numbers, from 1: a frame, or None for a block that is none. Then the structure
-    fault, which is empty where there is none, and the frames that the recorder lost."""
+    fault, which is empty where there is none, the frames that the recorder lost, and the most
+    interfaces of a section; a pcap has one."""
 
     numbers: list[Frame | None]
     fault: str
     lost: int
+    interfaces: int
 
 
 class Broken(Exception):
@@ -243,4 +246,5 @@ def recorded(data: bytes) -> Recording:
         fault = str(broken)
     interfaces = [each for section in sections for each in section.interfaces]
     lost = sum(sum(each.drops.values()) for each in interfaces)
-    return Recording(numbers, fault, min(lost, 2**64 - 1))
+    most = max((len(section.interfaces) for section in sections), default=1)
+    return Recording(numbers, fault, min(lost, 2**64 - 1), most)

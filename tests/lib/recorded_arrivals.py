@@ -91,12 +91,13 @@ class Skipped(NamedTuple):
 
 class Standing(NamedTuple):
     """What stands in a recording before its first fault, that fault, which is empty where there is
-    none, and the frames that the recorder lost."""
+    none, the frames that the recorder lost, and how many interfaces have a place that it hasn't."""
 
     arrivals: list[Arrival]
     skipped: list[Skipped]
     fault: str
-    lost: int
+    lost: int = 0
+    unused: int = 0
 
 
 class Look(NamedTuple):
@@ -196,29 +197,30 @@ def standing_in(
     """What stands in a recording; where it is open its bytes are not all, and the run ends where it
     asks for more."""
     if is_open and len(data) < MAGIC:
-        return Standing([], [], BROKEN, 0)
+        return Standing([], [], BROKEN)
     if is_packed(data):
-        return Standing([], [], "Packed", 0)
+        return Standing([], [], "Packed")
     if not is_recording(data):
-        return Standing([], [], "NotRecording 0", 0)
+        return Standing([], [], "NotRecording 0")
     arrivals, skipped, moments = list[Arrival](), list[Skipped](), list[int]()
     said = recorded(data)
+    unused = sum(each >= said.interfaces for each in options.places)
     for number, frame in enumerate(said.numbers, 1):
         place = frame and place_of(options, systems, frame)
         outcome = next(outcomes(options, systems, frame, place, moments), "")
         if outcome in SKIPS:
             skipped.append(Skipped(number, outcome))
         elif outcome:
-            return Standing(arrivals, skipped, f"{outcome} {number}", said.lost)
+            return Standing(arrivals, skipped, f"{outcome} {number}", said.lost, unused)
         else:
             moment = moment_of(options, systems, frame, place)
             insort(moments, moment)
             arrivals.append(Arrival(moment, number, frame, place))
     if is_open and said.fault in ("", "Ended"):
-        return Standing(arrivals, skipped, BROKEN, said.lost)
+        return Standing(arrivals, skipped, BROKEN, said.lost, unused)
     count = len(said.numbers)
     fault = said.fault or ("NoArrival" if count and not arrivals else "")
-    return Standing(arrivals, skipped, fault and f"{fault} {count}", said.lost)
+    return Standing(arrivals, skipped, fault and f"{fault} {count}", said.lost, unused)
 
 
 def looks(standing: Standing, held: int) -> Iterator[Look]:

@@ -10,6 +10,7 @@ from recorded_arrivals import is_closed, looks, standing_in
 LATEST_TIME = 10**15  # ns of a run
 MOST_LISTED = 2_000  # bytes of a recorded frame in the list; every switch drops a longer one
 MOST_LOST = 2**64 - 1
+COUNTS = ["recorder-lost", "claimed", "contradicted", "unused"]
 
 
 class Told(NamedTuple):
@@ -54,7 +55,7 @@ class Source:
         self, options: Options, systems: Systems, data: bytes, is_open: bool = False
     ) -> None:
         standing = standing_in(options, systems, data, is_open)
-        self.options, self.lost = options, standing.lost
+        self.options, self.lost, self.unused = options, standing.lost, standing.unused
         self.looks = looks(standing, options.held())
 
     def end(self, fault: str) -> NoReturn:
@@ -70,7 +71,7 @@ class Run:
         self.origin = origin
         self.lines: list[bytes] = []
         self.numbers: list[int] = []
-        self.counts = dict.fromkeys([*SKIPS, "recorder-lost", "claimed", "contradicted"], 0)
+        self.counts = dict.fromkeys([*SKIPS, *COUNTS], 0)
 
     def tell(self, number: int, line: bytes) -> None:
         """One line more."""
@@ -115,6 +116,7 @@ class Run:
             fault = f"{ends}\n"
         lost = sum(source.lost for source in sources)
         self.counts["recorder-lost"] = min(lost, MOST_LOST)
+        self.counts["unused"] = sum(source.unused for source in sources)
         counts = " ".join(f"{word} {count}" for word, count in self.counts.items())
         return Told(self.lines, self.numbers, fault.encode(), f"skipped {counts}\n".encode())
 

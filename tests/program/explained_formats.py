@@ -44,12 +44,12 @@ WITHOUT_ROW = [
     "ok", "not-subscribed", "X 6720 s3 2 not-subscribed",
     "summary lines 3 accepted 2 dropped 1 lost 0 departed 2 too-old 0 delivered 1",
     "skipped no-frame 0 left-out 0 not-afdx 1 unknown-sender 1 no-network 0 before-origin 0"
-    " recorder-lost 0 claimed 1 contradicted 1",
+    " recorder-lost 0 claimed 1 contradicted 1 unused 0",
 ]
 # lines whose rows speak of options that the program doesn't know yet
 UNKNOWN = [] if "reorder" in READS else ["words BadNumber", "recording TimeBack 7"]
 SKIPPED_LINE = "skipped no-frame 0 left-out 0 not-afdx 2 unknown-sender 0 no-network 0"
-SKIPPED_LINE += " before-origin 0 recorder-lost 0 claimed 51 contradicted 0"
+SKIPPED_LINE += " before-origin 0 recorder-lost 0 claimed 51 contradicted 0 unused 0"
 
 
 def rows_below(heading: str, texts: str) -> list[list[str]]:

@@ -129,22 +129,53 @@ def claim_rows() -> list[Row]:
     side."""
     second, of_none, b_1 = F1 + R(ONE, H2), sent_by("020000000160"), Options({0: "B:1"})
     tries = [
-        ("both", second, Options(), "claimed 2 contradicted 0", ""),
-        ("their ports", second, SIDE_B, "claimed 2 contradicted 2", ""),
-        ("neither", second, AT_1, "claimed 0 contradicted 0", ""),
-        ("police: their sides", second, Options(port=1), "claimed 2 contradicted 0", RULE),
-        ("police: neither", second, AT_A, "claimed 0 contradicted 0", RULE),
-        ("police: of A at B", second, AT_B, "claimed 0 contradicted 2", RULE),
-        ("of another interface", second, Options({1: "A:1"}), "claimed 2 contradicted 0", ""),
-        ("of A at B's port", second, b_1, "claimed 0 contradicted 2", ""),
-        ("of B at A's port", sent_by("020000000140"), AT_1, "claimed 0 contradicted 1", ""),
-        ("of no network", of_none, b_1, "claimed 0 contradicted 0", ""),
-        ("of 11 bytes", short(11), b_1, "claimed 0 contradicted 0", ""),
-        ("of B, no system's", sent_by("ff00ff00ff40"), AT_1, "claimed 0 contradicted 1", ""),
+        ("both", second, Options(), 2, 0, ""),
+        ("their ports", second, SIDE_B, 2, 2, ""),
+        ("neither", second, AT_1, 0, 0, ""),
+        ("police: their sides", second, Options(port=1), 2, 0, RULE),
+        ("police: neither", second, AT_A, 0, 0, RULE),
+        ("police: of A at B", second, AT_B, 0, 2, RULE),
+        ("of another interface", second, Options({1: "A:1"}), 2, 0, ""),
+        ("of A at B's port", second, b_1, 0, 2, ""),
+        ("of B at A's port", sent_by("020000000140"), AT_1, 0, 1, ""),
+        ("of no network", of_none, b_1, 0, 0, ""),
+        ("of 11 bytes", short(11), b_1, 0, 0, ""),
+        ("of B, no system's", sent_by("ff00ff00ff40"), AT_1, 0, 1, ""),
     ]
     return [
-        Row(f"claimed: {name}", data, "..", "", given, skipped=f".. {counts}", rule=rule)
-        for name, data, given, counts, rule in tries
+        Row(
+            f"claimed: {name}",
+            data,
+            "..",
+            options=given,
+            skipped=f".. claimed {claimed} contradicted {others} unused ..",
+            rule=rule,
+        )
+        for name, data, given, claimed, others, rule in tries
+    ]
+
+
+def unused_rows() -> list[Row]:
+    """Interfaces that options name and the recording doesn't have: those of no section."""
+    frame, two, three = E(US, H1), SL + IL + IL, SL + IL + IL + IL
+    last, at_0_and_2 = Options({4095: "-"}), Options({0: "A:1", 2: "B:1"})
+    tries = [
+        ("none is named", F1, Options(), 0),
+        ("a pcap has interface 0", F1, AT_1, 0),
+        ("and no other", F1, Options({0: "A:1", 1: "B", 4095: "-"}), 2),
+        ("a pcapng's second", two + frame, Options({1: "-"}), 0),
+        ("and its third", two + frame, at_0_and_2, 1),
+        ("of a section before", three + frame + SL + IL + frame, at_0_and_2, 0),
+        ("of the last section", SL + IL + frame + three, at_0_and_2, 0),
+        ("of none of two sections", two + frame + two, at_0_and_2, 1),
+        ("described behind the last frame", SL + IL + frame + IL, Options({1: "B"}), 0),
+        ("the last of 4,096", SL + IL * 4096 + frame, last, 0),
+        ("one more than 4,095", SL + IL * 4095 + frame, last, 1),
+        ("a pcapng without interfaces", SL, AT_1, 1),
+    ]
+    return [
+        Row(f"unused: {name}", data, "..", options=given, skipped=f".. unused {count}")
+        for name, data, given, count in tries
     ]
 
 
@@ -174,4 +205,4 @@ def count_rows() -> list[Row]:
 def outcomes() -> list[Row]:
     """All."""
     groups = place_rows() + order_rows() + time_rows() + check_sequence_rows()
-    return groups + claim_rows() + count_rows()
+    return groups + claim_rows() + unused_rows() + count_rows()

@@ -124,19 +124,28 @@ def of_interface(place: int) -> str:
 
 
 def place_rows() -> list[PairRow]:
-    """Sides and ports that words say; `claimed` counts the ports that frames say."""
+    """Sides and ports that words say; `claimed` counts the ports that frames say, `unused` the
+    interfaces of either recording that it doesn't have."""
     at_2, at_24 = f"F 0 B 2 {H1}", f"F 0 {{}} 24 {H1}"
     tries = [
-        ("A at a port, B at another", ["0=A:1", "0=B:2"], f"{ARRIVAL} / {at_2}", 0),
-        ("A's place isn't B's", ["0=A:24"], f"{at_24.format('A')} / {OF_B}", 1),
-        ("B's place isn't A's", ["0=B:24"], f"{ARRIVAL} / {at_24.format('B')}", 1),
-        ("sides alone", ["0=A", "0=B"], f"{ARRIVAL} / {OF_B}", 2),
-        ("a side, and a port", ["0=B:2", "0=A"], f"{ARRIVAL} / {at_2}", 1),
-        ("other interfaces", ["1=-", "2=A:3", "2=B:3"], f"{ARRIVAL} / {OF_B}", 2),
+        ("A at a port, B at another", ["0=A:1", "0=B:2"], f"{ARRIVAL} / {at_2}", 0, 0),
+        ("A's place isn't B's", ["0=A:24"], f"{at_24.format('A')} / {OF_B}", 1, 0),
+        ("B's place isn't A's", ["0=B:24"], f"{ARRIVAL} / {at_24.format('B')}", 1, 0),
+        ("sides alone", ["0=A", "0=B"], f"{ARRIVAL} / {OF_B}", 2, 0),
+        ("a side, and a port", ["0=B:2", "0=A"], f"{ARRIVAL} / {at_2}", 1, 0),
+        ("other interfaces", ["1=-", "2=A:3", "2=B:3"], f"{ARRIVAL} / {OF_B}", 2, 4),
+        ("another one of B", ["0=A", "7=B:3"], f"{ARRIVAL} / {OF_B}", 2, 1),
     ]
     rows = [
-        PairRow(name, F1, G1, options=at_places(*words), listed=lines, skipped=f".. claimed {n} ..")
-        for name, words, lines, n in tries
+        PairRow(
+            name,
+            F1,
+            G1,
+            options=at_places(*words),
+            listed=lines,
+            skipped=f".. claimed {claimed} .. unused {unused}",
+        )
+        for name, words, lines, claimed, unused in tries
     ]
     left, known = "# left-out 1", f"{ARRIVAL} / F 0 B 1 {ROGUE}"
     return [
@@ -149,7 +158,7 @@ def place_rows() -> list[PairRow]:
             SL + IL + IW + of_interface(1) + E(US, H1),
             options=at_places("1=-", "0=B:2")._replace(reorder=0),
             listed=f"{left} / {ARRIVAL} / # left-out 2 / {at_2}",
-            skipped="no-frame 0 left-out 2 .. claimed 1 ..",
+            skipped="no-frame 0 left-out 2 .. claimed 1 .. unused 0",
         ),
     ]
 
@@ -164,7 +173,7 @@ def side_rows() -> list[PairRow]:
             PL + R(ZERO, of_b),
             F1,
             listed=f"F 0 A 1 {of_b} / {OF_B}",
-            skipped=".. claimed 2 contradicted 2",
+            skipped=".. claimed 2 contradicted 2 unused 0",
         ),
         PairRow(
             "frames that say no network",

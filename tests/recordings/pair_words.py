@@ -200,7 +200,7 @@ def faulty_rows() -> list[PairRow]:
     named = {}
     for row in pair_rows():
         if row.fault:
-            name, _, side = row.fault.split()
+            name, *_, side = row.fault.split()
             named[name, side] = row
     return list(named.values())
 

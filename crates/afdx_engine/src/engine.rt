@@ -6,7 +6,7 @@ ghost use Rattle.afdx_lists.specs.declared.fault.RunFault.{RunFault as Fault};
 ghost use Rattle.afdx_engine.specs.Engine.{Bytes, Item, item_of, Runs};
 ghost use Rattle.afdx_text.specs.Sinks.{IsOfOutput};
 
-use afdx_lists::RunFault;
+use afdx_lists::{Next, RunFault};
 use afdx_text::Sink;
 
 /// What is said of an item beside its bytes.
@@ -37,19 +37,19 @@ pub trait Source<H: Head, I> {
     /// Or this fault stands behind them.
     ghost Stopped: { I → Self → I → List (Item H) → Fault → Type 0 };
 
-    /// Gives the next item. False: there is none.
-    fn next(&mut self, input: &mut I) -> Result<bool, RunFault>
+    /// Gives the next item.
+    fn next(&mut self, input: &mut I) -> Result<Next, RunFault>
         requires { (start : I) × (past : List (Item H)) × Gave start self.old input.old past }
         ensures item { (start : I) (past : List (Item H)) → Gave start self.old input.old past →
-            result ≡ Ok true → Gave start self.new input.new (current self.new ∷ past)
+            result ≡ Ok Next.Given → Gave start self.new input.new (current self.new ∷ past)
             × H.can_follow past (current self.new) }
         ensures end { (start : I) (past : List (Item H)) → Gave start self.old input.old past →
-            result ≡ Ok false → Ended start self.new input.new past }
+            result ≡ Ok Next.Ended → Ended start self.new input.new past }
         ensures stop { (start : I) (past : List (Item H)) → Gave start self.old input.old past →
             IfErr result (Stopped start self.new input.new past) }
         ensures unwritten { is_failed_write result ≡ false }
         ensures settings { settings self.new ≡ settings self.old }
-        ensures less { result ≡ Ok true → left_of self.new < left_of self.old };
+        ensures less { result ≡ Ok Next.Given → left_of self.new < left_of self.old };
 
     /// Its number.
     fn number(&self) -> u64
@@ -149,7 +149,7 @@ pub fn drive<H: Head, I, S: Source<H, I>, M: Machine<H>, O: Sink>(
         (M.Begins rules machine.new (O.written output.old) (O.written output.new))
         (S.Stopped input.old source.new input.new) result }
 {
-    while source.next(input)? {
+    while let Next::Given = source.next(input)? {
         let head = source.head();
         machine.tell(source.number(), &head, source.bytes(), output)?;
     }

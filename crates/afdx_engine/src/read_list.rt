@@ -9,7 +9,7 @@ ghost use Rattle.afdx_engine.specs.Items.{thing_of};
 ghost use Rattle.afdx_engine.specs.Lists.{Kind, latest_in};
 
 use crate::engine::{Head, Source};
-use afdx_lists::{LineError, LineReader, RunFault, Watched};
+use afdx_lists::{LineError, LineReader, Next, RunFault, Watched};
 use std::alloc::{AllocError, Global};
 use std::io::Read;
 
@@ -102,19 +102,19 @@ impl<H: Listed, R: Read> Source<H, Watched<R>> for ReadList<H> {
 
     ghost Stopped = { HasStopped H.kind H.says_of R.remaining };
 
-    fn next(&mut self, input: &mut Watched<R>) -> Result<bool, RunFault> {
-        while self.reader.next_line(input)? {
+    fn next(&mut self, input: &mut Watched<R>) -> Result<Next, RunFault> {
+        while let Next::Given = self.reader.next_line(input)? {
             let n = self.reader.lines();
             match H::read_line(self.reader.line(), self.head.time(), &mut self.bytes) {
                 Ok(Some(head)) => {
                     self.head = head;
-                    return Ok(true);
+                    return Ok(Next::Given);
                 }
                 Ok(None) => {}
                 Err(error) => return Err(RunFault::from((n, error))),
             }
         }
-        Ok(false)
+        Ok(Next::Ended)
     }
 
     fn number(&self) -> u64 {

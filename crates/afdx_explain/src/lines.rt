@@ -102,15 +102,17 @@ for both sides.",
 recorder-lost
 claimed
 contradicted
+unused
 skipped no-frame n left-out n not-afdx n unknown-sender n no-network n before-origin n \
-recorder-lost n claimed n contradicted n",
+recorder-lost n claimed n contradicted n unused n",
         "\
 skipped: with --summary, of a recording: how many of its numbers were no arrivals, for each
 reason; then recorder-lost: frames that the recorder itself lost, by the last statistics of each
 interface in a pcapng, at most 2^64 - 1; 0 also where it has none, as in a ring of dumpcap and
 behind editcap and mergecap; then claimed: arrivals whose side or port was taken from their own
 bytes; then contradicted: arrivals whose own source address names another side than the one where
-options say they came in: two cables may be crossed.
+options say they came in: two cables may be crossed; then unused: interfaces that --interface
+names and the recording doesn't have.
 'afdx list' says of each number which reason it is. --interface says where frames came in, so
 that they aren't claimed.",
     ),

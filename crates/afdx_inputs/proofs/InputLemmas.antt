@@ -1,12 +1,10 @@
 -- What a run over a recording answers, and what that says of its arrivals.
 use Rattle.std.proofs.Common.{◌≡◌, ℕ, List, ap, ◌∙◌}
-use Rattle.std.proofs.Common.{Option, Some, None, Result, Ok, Err, IfSome}
+use Rattle.std.proofs.Common.{Option, Some, None, Result, IfSome}
 use Rattle.afdx_lists.specs.declared.frame_line.Heading.{Heading}
 use Rattle.afdx_lists.specs.declared.fault.RunFault.{RunFault}
-use Rattle.afdx_police.specs.Arrival.{Arrival}
 use Rattle.afdx_recordings.specs.Reading.{recorded}
 use Rattle.afdx_engine.specs.Engine.{Item}
-use Rattle.afdx_engine.specs.Items.{arrivals}
 use Rattle.afdx_recorded.specs.declared.counts.Tally.{Tally}
 use Rattle.afdx_recorded.specs.Becoming.{Options}
 use Rattle.afdx_recorded.specs.Claims.{Ports, Agree}
@@ -14,7 +12,6 @@ use Rattle.afdx_recorded.specs.NumberLines.{Lines, arrivals_listed}
 use Rattle.afdx_inputs.specs.RecordingRun.{RecordingAnswers}
 use Rattle.afdx_recorded.specs.Ordering.{Sequence}
 use Rattle.afdx_recorded.specs.Taking.{AreCutOff, late_of_one, taken_of, taken_of_bytes}
-use Rattle.afdx_inputs.specs.TakenRun.{IsOver, StopsTaken}
 use Rattle.afdx_recorded.specs.Timing.{timed}
 use Rattle.afdx_recorded.proofs.LawLemmas.{sequences-agree}
 use Rattle.afdx_inputs.proofs.TakenLemmas.{answers-same}

@@ -9,7 +9,8 @@ use Rattle.afdx_lists.specs.declared.fault.RunFault.{RunFault}
 use Rattle.afdx_lists.specs.declared.fault.RunFault.TheVariants as run
 use Rattle.afdx_lists.specs.declared.watched.Watched.{Watched}
 use Rattle.afdx_recordings.specs.Holding.{standing, GivesSome}
-use Rattle.afdx_recordings.specs.Recordings.{most_numbers}
+use Rattle.afdx_recordings.specs.Reading.{state_of}
+use Rattle.afdx_recordings.specs.Recordings.{most_numbers, totals_by}
 use Rattle.afdx_engine.specs.Engine.{Item}
 use Rattle.afdx_recorded.specs.declared.ahead.Ahead.{Ahead}
 use Rattle.afdx_recorded.specs.declared.ahead.AtHead.{AtHead}
@@ -28,6 +29,7 @@ use Rattle.afdx_recorded.specs.PairSource.{IsAhead, IsAheadBy, IsPaired, NoneIsB
 use Rattle.afdx_recorded.specs.OrderedRecording.{OrderedRecording, IsSetInOrder, HasTaken, HasTakenAll, HasStoppedTaking}
 use Rattle.afdx_recorded.specs.OrderedRecording.{number_taken, tally_of_source}
 use Rattle.afdx_recorded.specs.Ordering.{Sequence}
+use Rattle.afdx_recorded.specs.Places.{place_of}
 use Rattle.afdx_inputs.specs.ReadPair.{IsNewPair}
 use Rattle.afdx_inputs.specs.RecordingRun.{AreCutOffInPair, IfBoth, of_a, of_b, taken_of_pair}
 use Rattle.afdx_recorded.specs.RecordingSource.{first_standing}
@@ -42,6 +44,7 @@ use Rattle.afdx_inputs.proofs.PairRunLemmas.{pair-gave, pair-ended, pair-stopped
 use Rattle.afdx_inputs.proofs.PairRunLemmas.{either-false, either-left, either-right, sound-by}
 use Rattle.afdx_inputs.proofs.RecordingRunLemmas.{asked-by, gave-start}
 use Rattle.afdx_recorded.proofs.SourceLemmas.{few-claimed, few-contradicted, few-skipped}
+use Rattle.afdx_recorded.proofs.UnusedLemmas.{few-unused}
 use Rattle.afdx_inputs.proofs.TakenLemmas.{answers-same, taken-start}
 
 -- where the bytes of both are known
@@ -110,6 +113,8 @@ module _ {R : Type 0} (remaining : R → Option (List ℕ)) (start input : Watch
           claimed = rw h.remembers.counts (omega (arith, claimed, h.few));
           contradicted = rw h.remembers.counts (omega (arith, contradicted, h.few));
         };
+        unused = few-unused (totals_by (state_of source.source.reader)).interfaces
+            (place_of source.source.options.interfaces);
       }
 
 module _ {R : Type 0} (remaining : R → Option (List ℕ)) (start inputs : BySide (Watched R))

@@ -1,7 +1,6 @@
 -- Of the items that a machine was handed: what a run took, and how much was told of it.
-use Rattle.std.proofs.Common.{◌≡◌, ℕ, List, [], ◌∷◌, ◌++◌, refl, sym, append-nil, ap, ◌∙◌, map}
+use Rattle.std.proofs.Common.{◌≡◌, ℕ, List, refl}
 use Rattle.std.proofs.Common.{Bool, true, false, Option, Some, None, Result, Ok, Err, IfSome, ◌⊎◌}
-use Rattle.afdx_lists.specs.Lines.{lines_of}
 use Rattle.afdx_lists.specs.FrameLines.{listed_frame}
 use Rattle.afdx_lists.specs.declared.frame_line.Heading.{Heading}
 use Rattle.afdx_lists.specs.declared.fault.RunFault.{RunFault}
@@ -17,9 +16,8 @@ use Rattle.afdx_recorded.specs.Claims.{Ports}
 use Rattle.afdx_recorded.specs.NumberLines.{Lines, arrivals_listed}
 use Rattle.afdx_recorded.specs.Taking.{Taken, AreCutOff, taken_of_bytes}
 use Rattle.afdx_recorded.specs.declared.counts.Tally.{Tally}
-use Rattle.afdx_recorded.specs.declared.becoming.RecordingOptions.{RecordingOptions}
 use Rattle.afdx_inputs.specs.Arrivals.{By, TakesAs, TakesListed, TakesRecorded}
-use Rattle.afdx_inputs.specs.InputRun.{InputAnswers, is_read_recorded}
+use Rattle.afdx_inputs.specs.InputRun.{InputAnswers}
 use Rattle.afdx_inputs.specs.Over.{both}
 use Rattle.afdx_inputs.specs.RecordingRun.{IfBoth}
 use Rattle.afdx_inputs.specs.TakenRun.{FirstAreBegun, FirstAreTold, TakenAnswers}

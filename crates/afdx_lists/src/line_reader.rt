@@ -7,6 +7,7 @@ ghost use Rattle.std.specs.Io.KnownBytes.{IsAtEnd};
 ghost use Rattle.afdx_lists.specs.Calls.{is_failed_read};
 
 use crate::fault::RunFault;
+use crate::next::Next;
 use crate::watched::Watched;
 use std::alloc::{AllocError, Global};
 use std::io::Read;
@@ -79,33 +80,33 @@ impl LineReader {
         &self.chunk[self.line_start..self.line_end]
     }
 
-    /// Takes the next line. False: there is none, and the input gave its end.
+    /// Takes the next line.
     ///
     /// `LineTooLong` comes as soon as 4,201 bytes of a line are held, `TooManyLines` at the first
     /// byte after 1,000,000 lines, `Read` exactly where the input failed. The input isn't read
     /// again after its end, nor after a fault. A line of at most 4,200 bytes takes at most 4,201
     /// reads.
-    pub fn next_line<R: Read>(&mut self, input: &mut Watched<R>) -> Result<bool, RunFault>
+    pub fn next_line<R: Read>(&mut self, input: &mut Watched<R>) -> Result<Next, RunFault>
         requires sound { has_failed input.old ≡ false }
         requires honest { IsHonest R.remaining input.old }
         ensures honest { IsHonest R.remaining input.new }
         ensures failed { has_failed input.new ≡ is_failed_read result }
 
         // What is taken, of what is left of the list.
-        ensures line { result ≡ Ok true → TakesLine (left R.remaining self.old input.old)
+        ensures line { result ≡ Ok Next.Given → TakesLine (left R.remaining self.old input.old)
             (left R.remaining self.new input.new) (latest_line self.new) }
-        ensures short { result ≡ Ok true → length (latest_line self.new) ≤ longest_line }
-        ensures lines { result ≡ Ok true →
+        ensures short { result ≡ Ok Next.Given → length (latest_line self.new) ≤ longest_line }
+        ensures lines { result ≡ Ok Next.Given →
             (lines_taken self.new ≡ lines_taken self.old + 1)
             × (lines_taken self.new ≤ most_lines) }
-        ensures same { result ≢ Ok true → lines_taken self.new ≡ lines_taken self.old }
-        ensures last { result ≡ Ok false →
+        ensures same { result ≢ Ok Next.Given → lines_taken self.new ≡ lines_taken self.old }
+        ensures last { result ≡ Ok Next.Ended →
             (has_ended input.new ≡ true) × IsAtEnd (left R.remaining self.old input.old) }
         ensures fault { IfErr result (λ fault.
             CanStop fault (lines_taken self.old) (left R.remaining self.old input.old)) }
 
         // What is taken, of what the input gave.
-        ensures whole { result ≡ Ok true → has_ended input.new ≡ false →
+        ensures whole { result ≡ Ok Next.Given → has_ended input.new ≡ false →
             (has_ended input.old ≡ false) × HasNoFeed (latest_line self.new)
             × TakesBytes (R.remaining (device_of input.old)) (R.remaining (device_of input.new))
             (unread self.old) (unread self.new) (latest_line self.new ++ 10 ∷ []) }
@@ -133,18 +134,18 @@ impl LineReader {
                     return Err(RunFault::LineTooLong(self.lines + 1));
                 }
                 self.take_line(length, 1);
-                return Ok(true);
+                return Ok(Next::Given);
             }
             searched = self.end - self.start;
             if searched > LONGEST_LINE {
                 return Err(RunFault::LineTooLong(self.lines + 1));
             }
-            if !self.refill(input)? {
+            if let Next::Ended = self.refill(input)? {
                 if searched == 0 {
-                    return Ok(false);
+                    return Ok(Next::Ended);
                 }
                 self.take_line(searched, 0);
-                return Ok(true);
+                return Ok(Next::Given);
             }
         }
     }
@@ -188,8 +189,8 @@ impl LineReader {
         self.lines += 1;
     }
 
-    /// Reads once, behind what is unread, which is moved to the front. False: there is no more.
-    fn refill<R: Read>(&mut self, input: &mut Watched<R>) -> Result<bool, RunFault>
+    /// Reads once, behind what is unread, which is moved to the front.
+    fn refill<R: Read>(&mut self, input: &mut Watched<R>) -> Result<Next, RunFault>
         requires sound { has_failed input.old ≡ false }
         requires honest { IsHonest R.remaining input.old }
         requires short { self.old.end - self.old.start ≤ longest_line }
@@ -200,10 +201,10 @@ impl LineReader {
         ensures bytes { TakesBytes (R.remaining (device_of input.old))
             (R.remaining (device_of input.new))
             (unread self.old) (unread self.new) [] }
-        ensures more { result ≡ Ok true →
+        ensures more { result ≡ Ok Next.Given →
             (self.old.end - self.old.start < self.new.end - self.new.start)
             × (has_ended input.new ≡ has_ended input.old) }
-        ensures last { result ≡ Ok false →
+        ensures last { result ≡ Ok Next.Ended →
             (has_ended input.new ≡ true) × (unread self.new ≡ unread self.old)
             × (self.new.end - self.new.start ≡ self.old.end - self.old.start) }
         ensures err { OnErr result (
@@ -211,14 +212,14 @@ impl LineReader {
         ensures calls { calls_of input.new ≤ calls_of input.old + 1 }
     {
         if input.ended() {
-            return Ok(false);
+            return Ok(Next::Ended);
         }
         self.move_to_front();
         let held = self.end;
         match input.read(&mut self.chunk.as_mut_slice()[held..]) {
             Ok(count) => {
                 self.end += count;
-                Ok(count > 0)
+                Ok(Next::of_read(count))
             }
             Err(_) => Err(RunFault::Read),
         }

@@ -301,6 +301,13 @@ fn no_options_say_nothing(rt: HostRuntime) -> Result<(), Fail> {
     )
 }
 
+#[test]
+fn interfaces_that_arent_there_are_unused(rt: HostRuntime) -> Result<(), Fail> {
+    let said = (Some(Place::OnSide(Side::A)), None, None);
+    let interfaces = options(rt.alloc(), said)?.interfaces;
+    equal([2, 3, 4].map(|count| interfaces.unused(count)), [2, 1, 0])
+}
+
 /// The line of the counts of a recording of 21 numbers.
 fn counts_line(alloc: Global) -> Result<String, AllocError> {
     let counts = Counts {
@@ -317,6 +324,7 @@ fn counts_line(alloc: Global) -> Result<String, AllocError> {
         numbers: 22,
         counts,
         lost: 7,
+        unused: 10,
     };
     format!(in alloc; "{tally}")
 }
@@ -326,6 +334,6 @@ fn a_recording_is_counted_in_a_line(rt: HostRuntime) -> Result<(), Fail> {
     let line = counts_line(rt.alloc())?;
     let wanted = "\
 skipped no-frame 1 left-out 2 not-afdx 3 unknown-sender 4 no-network 5 before-origin 6 \
-recorder-lost 7 claimed 8 contradicted 9";
+recorder-lost 7 claimed 8 contradicted 9 unused 10";
     equal(line.as_str(), wanted)
 }

@@ -5,7 +5,7 @@ mod stamps;
 
 ghost use Rattle.std.specs.Prelude.{◌<◌};
 
-use afdx_lists::{RecordingFault, RunFault, Watched};
+use afdx_lists::{Next, RecordingFault, RunFault, Watched};
 use afdx_recordings::{CheckSequence, FrameReader, Recorded, RecordedFrame, Stamp, is_recording};
 use afdx_samples::{HELLO, WeakReader, all_right, equal};
 use std::alloc::{AllocError, Global};
@@ -57,13 +57,13 @@ fn frame(stamp: Stamp) -> RecordedFrame {
     }
 }
 
-/// Takes the next number of an input. False: there is none, or the input ended or failed before.
+/// Takes the next number of an input, unless it ended or failed before.
 fn next_number<R: Read>(
     input: &mut Watched<R>,
     reader: &mut FrameReader,
-) -> Result<bool, RunFault> {
+) -> Result<Next, RunFault> {
     if input.failed() || input.ended() {
-        return Ok(false);
+        return Ok(Next::Ended);
     }
     reader.next(input)
 }
@@ -88,7 +88,7 @@ fn take_all<R: Read>(
 ) -> Result<Option<u64>, RunFault> {
     let mut taken = 0u64;
     for _ in 0..100u64 {
-        if !next_number(input, reader)? {
+        if let Next::Ended = next_number(input, reader)? {
             return Ok(Some(taken));
         }
         taken = taken.saturating_add(1);

@@ -8,7 +8,7 @@ use Rattle.afdx_lists.specs.declared.recording_fault.RecordingFault.{RecordingFa
 use Rattle.afdx_lists.specs.declared.watched.Watched.{Watched}
 use Rattle.afdx_recordings.specs.Holding.{standing}
 use Rattle.afdx_recordings.specs.Reading.{recorded, state_of}
-use Rattle.afdx_recordings.specs.Recordings.{Faulted, Over, lost_by}
+use Rattle.afdx_recordings.specs.Recordings.{Faulted, Over, totals_by}
 use Rattle.afdx_recorded.specs.declared.read_recording.ReadRecording.{ReadRecording}
 use Rattle.afdx_recorded.specs.Becoming.{options_of}
 use Rattle.afdx_recorded.specs.Claims.{ports_of}
@@ -46,10 +46,10 @@ module _ {R : Type 0} (remaining : R → Option (List ℕ)) (start input : Watch
 
   -- they are all
   pub read-all : HasEnded remaining start source input past
-      → Read-of bytes ≡ record { numbers = past; ending = Over; lost = lost_by (state_of source.reader) }
+      → Read-of bytes ≡ record { numbers = past; ending = Over; totals = totals_by (state_of source.reader) }
   read-all h =
       of-known (λ b. Read-of b
-      ≡ record { numbers = past; ending = Over; lost = lost_by (state_of source.reader) })
+      ≡ record { numbers = past; ending = Over; totals = totals_by (state_of source.reader) })
       bytes (remaining (device_of input)) h.read true (rw known at h.gives.consumed) (λ e. h.last)
       (λ more follows. rw (follows refl) (ap Read-of (append-nil h.read) ∙ h.says))
 

@@ -19,7 +19,7 @@ use Rattle.afdx_recordings.specs.declared.recorded.Recorded.{Recorded}
 use Rattle.afdx_recordings.specs.declared.recorded.Recorded.TheVariants as recorded
 use Rattle.afdx_recordings.specs.declared.recorded.RecordedFrame.{RecordedFrame}
 use Rattle.afdx_recordings.specs.Reading as reading
-use Rattle.afdx_recordings.specs.Recordings.{Numbered, Ending, Recording}
+use Rattle.afdx_recordings.specs.Recordings.{Numbered, Ending, Recording, Totals}
 use Rattle.afdx_engine.specs.Items.{arrivals}
 use Rattle.afdx_recorded.specs.declared.becoming.Found.{Found}
 use Rattle.afdx_recorded.specs.declared.becoming.Entrance.{Entrance}
@@ -98,29 +98,29 @@ module _ (options : Options) (p q : Ports) (a : Agree p q) where
       ap (λ (r : Result Found NoArrival). number_by r)
       (same-number (length past + 1) item.what item.bytes)
 
-  same-next : (f g : Number → Outcome) (past : Numbers) (lost : ℕ) (r : Result Number RecordingFault)
-      → ((number : Number) → f number ≡ g number) → and_then f past lost r ≡ and_then g past lost r
-  same-next f g past lost (Ok number) h = h number
-  same-next f g past lost (Err fault) h = refl
+  same-next : (f g : Number → Outcome) (past : Numbers) (totals : Totals) (r : Result Number RecordingFault)
+      → ((number : Number) → f number ≡ g number) → and_then f past totals r ≡ and_then g past totals r
+  same-next f g past totals (Ok number) h = h number
+  same-next f g past totals (Err fault) h = refl
 
-  same-items : (ending : Ending) (lost : ℕ) (past : Numbers) (items : List Numbered)
-      → read_of_items options p ending lost past items ≡ read_of_items options q ending lost past items
+  same-items : (ending : Ending) (totals : Totals) (past : Numbers) (items : List Numbered)
+      → read_of_items options p ending totals past items ≡ read_of_items options q ending totals past items
   unfolding read_of_items
-  same-items ending lost past [] = refl
-  same-items ending lost past (item ∷ items) =
+  same-items ending totals past [] = refl
+  same-items ending totals past (item ∷ items) =
       ap (λ (r : Result Number RecordingFault).
-      and_then (λ number. read_of_items options p ending lost (with_number past item.bytes number) items)
-      past lost r) (same-after past item)
+      and_then (λ number. read_of_items options p ending totals (with_number past item.bytes number) items)
+      past totals r) (same-after past item)
       ∙ same-next
-      (λ number. read_of_items options p ending lost (with_number past item.bytes number) items)
-      (λ number. read_of_items options q ending lost (with_number past item.bytes number) items) past lost
+      (λ number. read_of_items options p ending totals (with_number past item.bytes number) items)
+      (λ number. read_of_items options q ending totals (with_number past item.bytes number) items) past totals
       (number_after options q past item)
-      (λ number. same-items ending lost (with_number past item.bytes number) items)
+      (λ number. same-items ending totals (with_number past item.bytes number) items)
 
 pub sequences-agree : SequencesAgree
 sequences-agree options p q recording a =
-    ap (λ (o : Outcome). ordered options.reorder o)
-    (same-items options p q a recording.ending recording.lost [] recording.items)
+    ap (λ (o : Outcome). ordered options.reorder options.place o)
+    (same-items options p q a recording.ending recording.totals [] recording.items)
 
 -- ---- the bytes of an arrival
 

@@ -18,3 +18,4 @@ pub mod PairLemmas
 pub mod TimedPairLemmas
 pub mod OrderLemmas
 pub mod LawLemmas
+pub mod UnusedLemmas

@@ -18,6 +18,8 @@ use Rattle.afdx_recorded.specs.declared.ordered.Stage.{Stage}
 use Rattle.afdx_recorded.specs.declared.ordered.Stage.TheVariants as stage
 use Rattle.afdx_recorded.specs.Becoming.{options_of}
 use Rattle.afdx_recorded.specs.Claims.{ports_of}
+use Rattle.afdx_recorded.specs.Places.{place_of}
+use Rattle.afdx_recorded.specs.declared.places.Place.{Place}
 use Rattle.afdx_recorded.specs.OrderedRecording.{OrderedRecording, IsSetInOrder, HasTaken, HasTakenAll, HasStoppedTaking}
 use Rattle.afdx_recorded.specs.OrderedRecording.{tally_of_source}
 use Rattle.afdx_recorded.specs.OrderedSource.{AreForward, AreLeft, StopsAt}
@@ -72,12 +74,12 @@ module _ {R : Type 0} (remaining : R → Option (List ℕ)) (start input : Watch
 -- ---- where all bytes of the input are known
 
 -- what is in order of numbers that were read
-sequence-is : (most : ℕ) (outcome : Outcome) (numbers : Numbers) (all : Forward) → outcome.numbers ≡ numbers
-    → forward most numbers ≡ all
-    → ((ordered most outcome).numbers ≡ all_handed most all.numbers)
-    × ((ordered most outcome).known ≡ handed_on most all.numbers)
-    × ((ordered most outcome).ending ≡ ending_or all.back outcome.ending)
-sequence-is most outcome numbers all e f =
+sequence-is : (most : ℕ) (place : ℕ → Option Place) (outcome : Outcome) (numbers : Numbers) (all : Forward)
+    → outcome.numbers ≡ numbers → forward most numbers ≡ all
+    → ((ordered most place outcome).numbers ≡ all_handed most all.numbers)
+    × ((ordered most place outcome).known ≡ handed_on most all.numbers)
+    × ((ordered most place outcome).ending ≡ ending_or all.back outcome.ending)
+sequence-is most place outcome numbers all e f =
     let is : forward most outcome.numbers ≡ all = ap (forward most) e ∙ f in (
       ap (λ (a : Forward). all_handed most a.numbers) is,
       ap (λ (a : Forward). handed_on most a.numbers) is,
@@ -97,9 +99,12 @@ module _ {R : Type 0} (remaining : R → Option (List ℕ)) (start input : Watch
   abbrev Raw-of : List ℕ → Outcome
   Raw-of = Read-of remaining start input source.source past bytes known
 
+  abbrev place : ℕ → Option Place
+  place = place_of source.source.options.interfaces
+
   -- the sequence, by the order of the source
-  by-order : (b : List ℕ) (P : Sequence → Type 0) → P (ordered source.most (Raw-of b)) → P (Sequence-of b)
-  by-order b P h = subst (λ (most : ℕ). P (ordered most (Raw-of b))) set h
+  by-order : (b : List ℕ) (P : Sequence → Type 0) → P (ordered source.most place (Raw-of b)) → P (Sequence-of b)
+  by-order b P h = subst (λ (most : ℕ). P (ordered most place (Raw-of b))) set h
 
   parts : (b : List ℕ) (numbers : Numbers) (all : Forward) → (Raw-of b).numbers ≡ numbers
       → forward source.most numbers ≡ all
@@ -109,7 +114,7 @@ module _ {R : Type 0} (remaining : R → Option (List ℕ)) (start input : Watch
   parts b numbers all e f =
       by-order b (λ (s : Sequence). (s.numbers ≡ all_handed source.most all.numbers)
       × (s.known ≡ handed_on source.most all.numbers) × (s.ending ≡ ending_or all.back (Raw-of b).ending))
-      (sequence-is source.most (Raw-of b) numbers all e f)
+      (sequence-is source.most place (Raw-of b) numbers all e f)
 
   -- behind these numbers that were read come some, and these are known
   known-is-first : (read : List (Item AsRead)) → AreForward source.most read

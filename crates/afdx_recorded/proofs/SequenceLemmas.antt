@@ -4,7 +4,7 @@ use Rattle.std.proofs.Common.{Result, Ok, Err, false, length}
 use Rattle.afdx_lists.specs.declared.recording_fault.RecordingFault.{RecordingFault}
 use Rattle.afdx_recordings.specs.Holding.{Standing, Gives}
 use Rattle.afdx_recordings.specs.Reading.{recorded, recorded_from, CanFollow, SaysFirst, SaysEnding, SaysNothing}
-use Rattle.afdx_recordings.specs.Recordings.{State, Numbered, Recording, Ending, Over, Faulted, in_front, no_more}
+use Rattle.afdx_recordings.specs.Recordings.{State, Numbered, Recording, Totals, Ending, Over, Faulted, in_front, no_more}
 use Rattle.afdx_recordings.proofs.HeldLemmas.{Gives-then}
 use Rattle.afdx_engine.specs.Engine.{item_of}
 use Rattle.afdx_recorded.specs.declared.number.Number.{Number}
@@ -27,16 +27,16 @@ module _ (options : Options) (ports : Ports) where
   pub read-err : (past : Numbers) (item : Numbered) (rest : Recording) (fault : RecordingFault)
       → number_after options ports past item ≡ Err fault
       → read_from options ports past (in_front item rest)
-      ≡ record { numbers = past; ending = Faulted fault; lost = rest.lost }
+      ≡ record { numbers = past; ending = Faulted fault; totals = rest.totals }
   unfolding read_of_items
   read-err past item rest fault e = rw e refl
 
   -- or no number
-  pub read-none : (past : Numbers) (ending : Ending) (lost : ℕ)
-      → read_from options ports past (no_more ending lost)
-      ≡ record { numbers = past; ending = ending_after past ending; lost = lost }
+  pub read-none : (past : Numbers) (ending : Ending) (totals : Totals)
+      → read_from options ports past (no_more ending totals)
+      ≡ record { numbers = past; ending = ending_after past ending; totals = totals }
   unfolding read_of_items
-  read-none past ending lost = refl
+  read-none past ending totals = refl
 
   module _ (first old new : Standing) (past : Numbers) (before : State)
       (s : Sorts options ports first old past before) where
@@ -76,36 +76,36 @@ module _ (options : Options) (ports : Ports) where
         }
 
     -- the recording ends so, whatever can follow
-    pub ends : (ending : Ending) (lost : ℕ) (e : SaysEnding old new before ending lost) (more : List ℕ)
+    pub ends : (ending : Ending) (totals : Totals) (e : SaysEnding old new before ending totals) (more : List ℕ)
         → CanFollow new more → as_read options ports (recorded ((s.read ++ e.given) ++ more))
-        ≡ record { numbers = past; ending = ending_after past ending; lost = lost }
-    ends ending lost e more follows =
+        ≡ record { numbers = past; ending = ending_after past ending; totals = totals }
+    ends ending totals e more follows =
         behind e.given more
         ∙ ap (λ r. read_from options ports past r) (e.says more follows)
-        ∙ read-none past ending lost
+        ∙ read-none past ending totals
 
     -- with a fault, its own or that no number is an arrival
-    unfoldable pub ends-fault : (ending : Ending) (lost : ℕ) (fault : RecordingFault)
-        → SaysEnding old new before ending lost → ending_after past ending ≡ Faulted fault
+    unfoldable pub ends-fault : (ending : Ending) (totals : Totals) (fault : RecordingFault)
+        → SaysEnding old new before ending totals → ending_after past ending ≡ Faulted fault
         → IsFaultBehind options ports first new past fault
-    ends-fault ending lost fault e is = record {
+    ends-fault ending totals fault e is = record {
       read = s.read ++ e.given;
       gives = Gives-then first old new s.read e.given s.gives e.gives;
-      numbers = λ more follows. ap (λ (o : Outcome). o.numbers) (ends ending lost e more follows);
-      ending = λ more follows. ap (λ (o : Outcome). o.ending) (ends ending lost e more follows) ∙ is;
+      numbers = λ more follows. ap (λ (o : Outcome). o.numbers) (ends ending totals e more follows);
+      ending = λ more follows. ap (λ (o : Outcome). o.ending) (ends ending totals e more follows) ∙ is;
     }
 
     -- well
-    pub ends-well : (lost : ℕ) (e : SaysEnding old new before Over lost) → has_no_arrival past ≡ false
-        → as_read options ports (recorded (s.read ++ e.given)) ≡ record { numbers = past; ending = Over; lost = lost }
-    ends-well lost e arrival =
+    pub ends-well : (totals : Totals) (e : SaysEnding old new before Over totals) → has_no_arrival past ≡ false
+        → as_read options ports (recorded (s.read ++ e.given)) ≡ record { numbers = past; ending = Over; totals = totals }
+    ends-well totals e arrival =
         ap (λ bytes. as_read options ports (recorded bytes)) (sym (append-nil (s.read ++ e.given)))
-        ∙ ends Over lost e [] (λ ended. refl)
+        ∙ ends Over totals e [] (λ ended. refl)
         ∙ rw arrival refl
 
-    pub ends-gives : (ending : Ending) (lost : ℕ) (e : SaysEnding old new before ending lost)
+    pub ends-gives : (ending : Ending) (totals : Totals) (e : SaysEnding old new before ending totals)
         → Gives first new (s.read ++ e.given)
-    ends-gives ending lost e = Gives-then first old new s.read e.given s.gives e.gives
+    ends-gives ending totals e = Gives-then first old new s.read e.given s.gives e.gives
 
     -- a read failed
     unfoldable pub sorts-read : SaysNothing old new before → AreAllOfRead options ports first new past
@@ -114,7 +114,7 @@ module _ (options : Options) (ports : Ports) where
       gives = Gives-then first old new s.read n.given s.gives n.gives;
       numbers = ap (λ (o : Outcome). o.numbers)
           (s.says n.given ∙ ap (λ r. read_from options ports past r) n.says
-          ∙ read-none past n.ending n.lost);
+          ∙ read-none past n.ending n.totals);
     }
 
   -- ---- what was given are the first of all numbers
@@ -123,22 +123,22 @@ module _ (options : Options) (ports : Ports) where
   Extends all past = (later : Numbers) × (all ≡ later ++ past)
 
   and-extends : (past : Numbers) (r : Result Number RecordingFault) (bytes : List ℕ) (next : Number → Outcome)
-      (lost : ℕ) → ((number : Number) → Extends (next number).numbers (with_number past bytes number))
-      → Extends (and_then next past lost r).numbers past
-  and-extends past (Ok number) bytes next lost g =
+      (totals : Totals) → ((number : Number) → Extends (next number).numbers (with_number past bytes number))
+      → Extends (and_then next past totals r).numbers past
+  and-extends past (Ok number) bytes next totals g =
       let h = g number in
       let x = item_of (length past + 1) number (first_bytes bytes) in
       (h.0 ++ x ∷ [], h.1 ∙ sym (append_assoc h.0 (x ∷ []) past))
-  and-extends past (Err fault) bytes next lost g = ([], refl)
+  and-extends past (Err fault) bytes next totals g = ([], refl)
 
-  items-extends : (ending : Ending) (lost : ℕ) (past : Numbers) (items : List Numbered)
-      → Extends (read_of_items options ports ending lost past items).numbers past
+  items-extends : (ending : Ending) (totals : Totals) (past : Numbers) (items : List Numbered)
+      → Extends (read_of_items options ports ending totals past items).numbers past
   unfolding read_of_items
-  items-extends ending lost past [] = ([], refl)
-  items-extends ending lost past (item ∷ items) =
+  items-extends ending totals past [] = ([], refl)
+  items-extends ending totals past (item ∷ items) =
       and-extends past (number_after options ports past item) item.bytes
-      (λ number. read_of_items options ports ending lost (with_number past item.bytes number) items) lost
-      (λ number. items-extends ending lost (with_number past item.bytes number) items)
+      (λ number. read_of_items options ports ending totals (with_number past item.bytes number) items) totals
+      (λ number. items-extends ending totals (with_number past item.bytes number) items)
 
   pub sorts-first : (first now : Standing) (past : Numbers) (state : State)
       → Sorts options ports first now past state → AreFirst options ports first past
@@ -148,6 +148,6 @@ module _ (options : Options) (ports : Ports) where
     consumed = s.gives.consumed;
     numbers = λ more.
         let rest = recorded_from state (now.held ++ more) in
-        let h = items-extends rest.ending rest.lost past rest.items in
+        let h = items-extends rest.ending rest.totals past rest.items in
         (h.0, ap (λ (o : Outcome). o.numbers) (s.says more) ∙ h.1);
   }

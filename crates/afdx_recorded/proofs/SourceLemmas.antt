@@ -12,7 +12,8 @@ use Rattle.afdx_recordings.specs.declared.frame_reader.FrameReader.{FrameReader}
 use Rattle.afdx_recordings.specs.Holding.{Standing, standing, Gives, GivesSome, IsTrueToEnd}
 use Rattle.afdx_recordings.proofs.HeldLemmas.{Gives-then}
 use Rattle.afdx_recordings.specs.Reading.{state_of, latest, Tells, SaysFirst}
-use Rattle.afdx_recordings.specs.Recordings.{State, Numbered, Over, Faulted, lost_by, most_numbers}
+use Rattle.afdx_recordings.specs.Recordings.{State, Numbered, Over, Faulted, totals_by, most_numbers}
+use Rattle.afdx_lists.specs.declared.next.Next.TheVariants as next
 use Rattle.afdx_recorded.specs.declared.counts.Counts.{Counts}
 use Rattle.afdx_recorded.specs.declared.becoming.RecordingOptions.{RecordingOptions}
 use Rattle.afdx_recorded.specs.declared.number.AsRead.{AsRead}
@@ -131,19 +132,19 @@ test-err : {A : Type 0} (t : Bool) (f : RunFault) (a : A) (P : RunFault → Type
 test-err true f a P h = h refl
 test-err false f a P h = tt
 
-test-ok : (t : Bool) (f : RunFault) (a : Bool) → (if t then Err f else Ok a) ≡ Ok a → t ≡ false
+test-ok : {A : Type 0} (t : Bool) (f : RunFault) (a : A) → (if t then Err f else Ok a) ≡ Ok a → t ≡ false
 test-ok true f a e = absurd (cc)
 test-ok false f a e = refl
 
 pub end-stops : (n m : ℕ) (any has : Bool) (P : RunFault → Type 0) → m ≡ n → any ≡ has
     → ((nat_lt 0 m && not has) ≡ true → P (run.Recording (fault.NoArrival m))) → IfErr (end_of any n) P
 end-stops n m any has P e f h =
-    rw (sym e, f) (test-err (nat_lt 0 m && not has) (run.Recording (fault.NoArrival m)) false P h)
+    rw (sym e, f) (test-err (nat_lt 0 m && not has) (run.Recording (fault.NoArrival m)) next.Ended P h)
 
-pub end-well : (n m : ℕ) (any has : Bool) → m ≡ n → any ≡ has → end_of any n ≡ Ok false
+pub end-well : (n m : ℕ) (any has : Bool) → m ≡ n → any ≡ has → end_of any n ≡ Ok next.Ended
     → (nat_lt 0 m && not has) ≡ false
 end-well n m any has e f is =
-    rw (e, ← f) (test-ok (nat_lt 0 n && not any) (run.Recording (fault.NoArrival n)) false is)
+    rw (e, ← f) (test-ok (nat_lt 0 n && not any) (run.Recording (fault.NoArrival n)) next.Ended is)
 
 -- ---- few are counted
 
@@ -313,13 +314,13 @@ module _ {R : Type 0} (remaining : R → Option (List ℕ)) (start old input : W
 module _ {R : Type 0} (remaining : R → Option (List ℕ)) (start old input : Watched R) (source : ReadRecording)
     (reader : FrameReader) (past : Numbers) (h : HasGiven remaining start source old past)
     (failed : input.failed ≡ false) (honest : IsTrueToEnd (standing remaining reader.held input))
-    (tells : Tells (Ok false) (standing remaining source.reader.held old) (standing remaining reader.held input)
+    (tells : Tells (Ok next.Ended) (standing remaining source.reader.held old) (standing remaining reader.held input)
     (state_of source.reader) (state_of reader) (latest reader)) where
   abbrev Now : ReadRecording
   Now = record source { reader = reader }
 
   -- and these are all
-  pub ended-well : end_of source.has_arrival source.numbers ≡ Ok false
+  pub ended-well : end_of source.has_arrival source.numbers ≡ Ok next.Ended
       → HasEnded remaining start Now input past
   ended-well ok = record {
     sound = failed;
@@ -334,10 +335,10 @@ module _ {R : Type 0} (remaining : R → Option (List ℕ)) (start old input : W
     read = h.sorts.read ++ tells.1.given;
     gives = ends-gives (options_of source.options) (ports_of source.ports) (first_standing remaining start)
         (standing remaining source.reader.held old) (standing remaining reader.held input) past
-        (state_of source.reader) h.sorts Over (lost_by (state_of reader)) tells.1;
+        (state_of source.reader) h.sorts Over (totals_by (state_of reader)) tells.1;
     says = ends-well (options_of source.options) (ports_of source.ports) (first_standing remaining start)
         (standing remaining source.reader.held old) (standing remaining reader.held input) past
-        (state_of source.reader) h.sorts (lost_by (state_of reader)) tells.1
+        (state_of source.reader) h.sorts (totals_by (state_of reader)) tells.1
         (end-well source.numbers (length past) source.has_arrival (has_arrival past)
         (sym h.remembers.numbers) h.remembers.arrival ok);
   }
@@ -354,10 +355,10 @@ module _ {R : Type 0} (remaining : R → Option (List ℕ)) (start old input : W
           h.sorts.read ++ tells.1.given,
           ends-gives (options_of source.options) (ports_of source.ports) (first_standing remaining start)
               (standing remaining source.reader.held old) (standing remaining reader.held input) past
-              (state_of source.reader) h.sorts Over (lost_by (state_of reader)) tells.1,
+              (state_of source.reader) h.sorts Over (totals_by (state_of reader)) tells.1,
         );
         stops = ends-fault (options_of source.options) (ports_of source.ports) (first_standing remaining start)
             (standing remaining source.reader.held old) (standing remaining reader.held input) past
-            (state_of source.reader) h.sorts Over (lost_by (state_of reader)) (fault.NoArrival (length past))
+            (state_of source.reader) h.sorts Over (totals_by (state_of reader)) (fault.NoArrival (length past))
             tells.1 (rw none refl);
       })

@@ -5,6 +5,7 @@ use Rattle.afdx_lists.specs.declared.fault.RunFault.{RunFault}
 use Rattle.afdx_lists.specs.declared.fault.RunFault.TheVariants as run
 use Rattle.afdx_lists.specs.declared.recording_fault.RecordingFault.{RecordingFault}
 use Rattle.afdx_engine.specs.Engine.{Item}
+use Rattle.afdx_lists.specs.declared.next.Progress.TheVariants as progress
 use Rattle.afdx_recorded.specs.declared.number.AsRead.{AsRead}
 use Rattle.afdx_recorded.specs.declared.number.Number.{Number}
 use Rattle.afdx_recorded.specs.declared.ordered.Ordered.{Ordered}
@@ -146,7 +147,7 @@ module _ {S I : Type 0} (current : S → Item AsRead) (gave ended : I → S → 
           follows = follows-held mid.most (X ∷ read) g new.held past y k;
         })
 
-    pub took-one : (new : Ordered S) → TakesIn X mid new (Ok true) → GivesNext start new input past
+    pub took-one : (new : Ordered S) → TakesIn X mid new (Ok progress.Given) → GivesNext start new input past
     took-one new (inl p) = passes new p
     took-one new (inr (inl p)) = stands new p
     took-one new (inr (inr p)) = exchanges new p
@@ -177,7 +178,7 @@ module _ {S I : Type 0} (current : S → Item AsRead) (gave ended : I → S → 
           stands = (inr (X, gave_one, e, refl), left-at-end mid.most read mid.held past h);
         })
 
-    pub took-none : (new : Ordered S) → TakesIn X mid new (Ok false) → Gave start new input past
+    pub took-none : (new : Ordered S) → TakesIn X mid new (Ok progress.NotYet) → Gave start new input past
     took-none new (inl p) = holds new p
     took-none new (inr p) = goes new p
 
@@ -321,7 +322,7 @@ module _ {S : Type 0} (left_of : S → ℕ) (old : Ordered S) (s : S) (reading :
   abbrev IsLess : Ordered S → Type 0
   IsLess o = left_in_order left_of o < left_in_order left_of old
 
-  pub took-less : TakesIn x Mid new (Ok true) → IsLess new
+  pub took-less : TakesIn x Mid new (Ok progress.Given) → IsLess new
   took-less (inl p) =
       let k = left-of (record Mid { is_held = false }) reading refl in
       subst IsLess (sym p.new_is) (omega (arith, k, left-is, less))
@@ -340,7 +341,7 @@ module _ {S : Type 0} (left_of : S → ℕ) (old : Ordered S) (s : S) (reading :
       let m = permutes-length p.held (p.hands.first ∷ new.held) p.hands.are_held in
       subst IsLess (sym p.hands.new_is) (omega (arith, k, left-is, less, n, m))
 
-  pub took-no-more : TakesIn x Mid new (Ok false) → left_in_order left_of new ≤ left_in_order left_of old
+  pub took-no-more : TakesIn x Mid new (Ok progress.NotYet) → left_in_order left_of new ≤ left_in_order left_of old
   took-no-more (inl p) =
       let k = left-of (record Mid { held = p.held; last = None }) reading refl in
       let n = held-more p.held p.like.are_held in
@@ -350,7 +351,7 @@ module _ {S : Type 0} (left_of : S → ℕ) (old : Ordered S) (s : S) (reading :
       subst (λ (o : Ordered S). left_in_order left_of o ≤ left_in_order left_of old) (sym p.new_is)
       (omega (arith, left-is))
 
-  pub took-step : TakesIn x Mid new (Ok false) → steps_left left_of new < steps_left left_of old
+  pub took-step : TakesIn x Mid new (Ok progress.NotYet) → steps_left left_of new < steps_left left_of old
   took-step (inl p) =
       let k : steps_left left_of (record Mid { held = p.held; last = None }) ≡ left_of s + 1 =
       ap (λ (t : Stage). steps_by t (left_of s)) reading in

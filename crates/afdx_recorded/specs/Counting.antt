@@ -1,5 +1,6 @@
 -- How many numbers of a recording were skipped, and why.
 use Rattle.std.specs.Prelude.{ℕ, ◌+◌, ◌≤◌, Bool, if◌then◌else◌}
+use Rattle.afdx_recordings.specs.Pcapng.{most_interfaces}
 use Rattle.afdx_recordings.specs.Recordings.{most_numbers, plus_lost}
 use Rattle.afdx_recorded.specs.declared.counts.Counts.{Counts}
 use Rattle.afdx_recorded.specs.declared.number.Number.{Number}
@@ -63,6 +64,7 @@ pub record AreFew (counts : Counts) : Type 0 where
 pub record IsFew (tally : Tally) : Type 0 where
   pub numbers : tally.numbers ≤ most_numbers
   pub counts : AreFew tally.counts
+  pub unused : tally.unused ≤ most_interfaces
 
 -- the counts of two recordings
 abbrev pub plus_counts : Counts → Counts → Counts
@@ -82,4 +84,5 @@ plus_tally a b = record {
   numbers = a.numbers + b.numbers;
   counts = plus_counts a.counts b.counts;
   lost = plus_lost a.lost b.lost;
+  unused = a.unused + b.unused;
 }

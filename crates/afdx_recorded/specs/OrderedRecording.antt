@@ -4,7 +4,7 @@ use Rattle.afdx_lists.specs.declared.fault.RunFault.{RunFault}
 use Rattle.afdx_lists.specs.declared.watched.Watched.{Watched}
 use Rattle.afdx_recordings.specs.Holding.{unread}
 use Rattle.afdx_recordings.specs.Reading.{state_of}
-use Rattle.afdx_recordings.specs.Recordings.{at_start, lost_by}
+use Rattle.afdx_recordings.specs.Recordings.{at_start, totals_by}
 use Rattle.afdx_engine.specs.Engine.{Item}
 use Rattle.afdx_recorded.specs.declared.counts.Tally.{Tally}
 use Rattle.afdx_recorded.specs.declared.number.Number.{Number}
@@ -13,7 +13,7 @@ use Rattle.afdx_recorded.specs.declared.ordered.Stage.TheVariants.{Reading}
 use Rattle.afdx_recorded.specs.declared.read_recording.ReadRecording.{ReadRecording}
 use Rattle.afdx_recorded.specs.Counting.{no_counts}
 use Rattle.afdx_recorded.specs.OrderedSource.{given_in_order, HasOrdered, HasOrderedAll, HasStoppedOrdering}
-use Rattle.afdx_recorded.specs.RecordingSource.{given, HasRead, HasReadAll, HasStoppedReading}
+use Rattle.afdx_recorded.specs.RecordingSource.{given, unused_of, HasRead, HasReadAll, HasStoppedReading}
 use Rattle.afdx_recorded.specs.Sequences.{Numbers}
 
 abbrev pub OrderedRecording : Type 0
@@ -43,7 +43,8 @@ abbrev pub tally_of_source : OrderedRecording → Tally
 tally_of_source source = record {
   numbers = source.source.numbers;
   counts = source.source.counts;
-  lost = lost_by (state_of source.source.reader);
+  lost = (totals_by (state_of source.source.reader)).lost;
+  unused = unused_of source.source;
 }
 
 -- ---- from call to call

@@ -2,6 +2,8 @@
 use Rattle.std.specs.Prelude.{ℕ, ◌≡◌, ◌+◌, ◌≤◌, ◌<◌, ◌⊎◌, Bool, true, false, nat_lt, List, ◌∷◌, length, Some, None, Result, Ok, Err}
 use Rattle.std.specs.List.Sorted.{IsPermutation}
 use Rattle.afdx_lists.specs.declared.fault.RunFault.{RunFault}
+use Rattle.afdx_lists.specs.declared.next.Progress.{Progress}
+use Rattle.afdx_lists.specs.declared.next.Progress.TheVariants as progress
 use Rattle.afdx_lists.specs.declared.fault.RunFault.TheVariants as run
 use Rattle.afdx_lists.specs.declared.recording_fault.RecordingFault.TheVariants.{TimeBack}
 use Rattle.afdx_engine.specs.Engine.{Item}
@@ -82,9 +84,9 @@ module _ {S : Type 0} where
     pub new_is : new ≡ record old { stage = Stopped (TimeBack x.number) }
 
   -- what happens to the number that was read last
-  abbrev pub TakesIn : Item AsRead → (old new : Ordered S) → Result Bool RunFault → Type 0
-  TakesIn x old new (Ok true) = Passes x old new ⊎ (Stands x old new ⊎ Exchanges x old new)
-  TakesIn x old new (Ok false) = Holds x old new ⊎ GoesBack x old new
+  abbrev pub TakesIn : Item AsRead → (old new : Ordered S) → Result Progress RunFault → Type 0
+  TakesIn x old new (Ok progress.Given) = Passes x old new ⊎ (Stands x old new ⊎ Exchanges x old new)
+  TakesIn x old new (Ok progress.NotYet) = Holds x old new ⊎ GoesBack x old new
   TakesIn x old new (Err fault) = (fault ≡ run.Memory)
       × (new.source ≡ old.source) × (new.most ≡ old.most)
 

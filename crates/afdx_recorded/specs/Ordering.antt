@@ -6,8 +6,10 @@ use Rattle.afdx_recordings.specs.Recordings.{Recording, Ending, Faulted}
 use Rattle.afdx_engine.specs.Engine.{Item}
 use Rattle.afdx_recorded.specs.declared.number.Number.{Number}
 use Rattle.afdx_recorded.specs.declared.counts.Tally.{Tally}
+use Rattle.afdx_recorded.specs.declared.places.Place.{Place}
 use Rattle.afdx_recorded.specs.Becoming.{Options}
 use Rattle.afdx_recorded.specs.Claims.{Ports}
+use Rattle.afdx_recorded.specs.Places.{unused_behind}
 use Rattle.afdx_recorded.specs.Sequences.{Numbers, Outcome, as_read, counts_of, is_arrival, moment_or}
 
 -- the moment of an arrival
@@ -90,11 +92,12 @@ pub record Sequence : Type 0 where
   pub ending : Ending
   pub tally : Tally
 
-abbrev pub tally_of : Outcome → Tally
-tally_of outcome = record {
+abbrev pub tally_of : (ℕ → Option Place) → Outcome → Tally
+tally_of place outcome = record {
   numbers = length outcome.numbers;
   counts = counts_of outcome.numbers;
-  lost = outcome.lost;
+  lost = outcome.totals.lost;
+  unused = unused_behind outcome.totals.interfaces place;
 }
 
 abbrev pub ending_or : Option ℕ → Ending → Ending
@@ -102,15 +105,16 @@ ending_or (Some n) ending = Faulted (TimeBack n)
 ending_or None ending = ending
 
 -- what is read, put in order
-abbrev pub ordered : (most : ℕ) → Outcome → Sequence
-ordered most outcome =
+abbrev pub ordered : (most : ℕ) → (ℕ → Option Place) → Outcome → Sequence
+ordered most place outcome =
     let all = forward most outcome.numbers in
     record {
       numbers = all_handed most all.numbers;
       known = handed_on most all.numbers;
       ending = ending_or all.back outcome.ending;
-      tally = tally_of outcome;
+      tally = tally_of place outcome;
     }
 
 abbrev pub sequence : Options → Ports → Recording → Sequence
-sequence options ports recording = ordered options.reorder (as_read options ports recording)
+sequence options ports recording =
+    ordered options.reorder options.place (as_read options ports recording)

@@ -1,6 +1,8 @@
 -- Where the frames of each interface came in, where that is said.
-use Rattle.std.specs.Prelude.{ℕ, Bool, true, false, ◌==◌, Option, Some, None, slice_get, if◌then◌else◌}
+use Rattle.std.specs.Prelude.{ℕ, ◌-◌, Bool, true, false, ◌==◌, count_by, Option, Some, None, is_some, slice_get, if◌then◌else◌}
+use Rattle.std.specs.List.{range_with_len}
 use Rattle.afdx_frame.specs.declared.link.Side.{Side}
+use Rattle.afdx_recordings.specs.Pcapng.{most_interfaces}
 use Rattle.afdx_recorded.specs.Tables.{known}
 use Rattle.afdx_recorded.specs.declared.places.Place.{Place}
 use Rattle.afdx_recorded.specs.declared.places.Place.TheVariants.{LeftOut, OnSide, AtPort}
@@ -13,6 +15,12 @@ place_of interfaces interface = known (slice_get interfaces.places.items interfa
 -- these places, but of one interface this one
 abbrev pub places_but : (ℕ → Option Place) → ℕ → Place → ℕ → Option Place
 places_but places interface place k = if k == interface then Some place else places k
+
+-- how many interfaces have a place that aren't among the first `count`: a recording of so many
+-- doesn't have them
+unfoldable pub unused_behind : (count : ℕ) → (ℕ → Option Place) → ℕ
+unused_behind count places =
+    count_by (λ k. is_some (places k)) (range_with_len count (most_interfaces - count))
 
 -- its frames are left out
 abbrev pub is_left_out : Option Place → Bool

@@ -5,13 +5,15 @@ use Rattle.std.specs.Io.KnownBytes.{Consumes, IsAtEnd}
 use Rattle.afdx_lists.specs.Calls.{is_read}
 use Rattle.afdx_lists.specs.Watching.{device_of, has_ended, is_over, calls_of}
 use Rattle.afdx_lists.specs.declared.fault.RunFault.{RunFault}
+use Rattle.afdx_lists.specs.declared.next.Next.{Next}
+use Rattle.afdx_lists.specs.declared.next.Next.TheVariants as next
 use Rattle.afdx_lists.specs.declared.fault.RunFault.TheVariants as run
 use Rattle.afdx_lists.specs.declared.recording_fault.RecordingFault.{RecordingFault}
 use Rattle.afdx_lists.specs.declared.recording_fault.RecordingFault.TheVariants.{NoArrival}
 use Rattle.afdx_lists.specs.declared.watched.Watched.{Watched}
 use Rattle.afdx_recordings.specs.Holding.{Standing, standing, Gives, GivesSome, IsTrueToEnd}
 use Rattle.afdx_recordings.specs.Reading.{state_of, latest, recorded, recorded_from, CanFollow}
-use Rattle.afdx_recordings.specs.Recordings.{State, Over, Faulted, lost_by, most_numbers}
+use Rattle.afdx_recordings.specs.Recordings.{State, Over, Faulted, totals_by, most_numbers}
 use Rattle.afdx_engine.specs.Engine.{Item, item_of}
 use Rattle.afdx_recorded.specs.declared.number.AsRead.{AsRead}
 use Rattle.afdx_recorded.specs.declared.number.Number.{Number}
@@ -19,6 +21,7 @@ use Rattle.afdx_recorded.specs.declared.read_recording.ReadRecording.{ReadRecord
 use Rattle.afdx_recorded.specs.Becoming.{Options, options_of, first_bytes}
 use Rattle.afdx_recorded.specs.Claims.{Ports, ports_of}
 use Rattle.afdx_recorded.specs.Counting.{count_one}
+use Rattle.afdx_recorded.specs.Places.{place_of, unused_behind}
 use Rattle.afdx_recorded.specs.Sequences.{Numbers, counts_of, has_arrival, is_arrival}
 use Rattle.afdx_recorded.specs.Sequences.{number_after, numbers_read, as_read, read_from}
 
@@ -43,9 +46,15 @@ pub record RemembersOne (old new : ReadRecording) : Type 0 where
   pub counts : new.counts ≡ count_one new.number.becomes old.counts
   pub arrival : new.has_arrival ≡ (is_arrival new.number.becomes || old.has_arrival)
 
+-- how many interfaces the options name that weren't described
+abbrev pub unused_of : ReadRecording → ℕ
+unused_of source =
+    unused_behind (totals_by (state_of source.reader)).interfaces
+    (place_of source.options.interfaces)
+
 -- the answer behind the last of n numbers
-abbrev pub end_of : Bool → ℕ → Result Bool RunFault
-end_of any n = if nat_lt 0 n && not any then Err (run.Recording (NoArrival n)) else Ok false
+abbrev pub end_of : Bool → ℕ → Result Next RunFault
+end_of any n = if nat_lt 0 n && not any then Err (run.Recording (NoArrival n)) else Ok next.Ended
 
 -- the fault is that of a number
 abbrev pub FailsBy : RunFault → Result Number RecordingFault → Type 0
@@ -127,7 +136,7 @@ module _ {R : Type 0} (remaining : R → Option (List ℕ)) where
     pub gives : Gives (first_standing remaining start)
         (standing remaining source.reader.held input) read
     pub says : as_read (options_of source.options) (ports_of source.ports) (recorded read)
-        ≡ record { numbers = past; ending = Over; lost = lost_by (state_of source.reader) }
+        ≡ record { numbers = past; ending = Over; totals = totals_by (state_of source.reader) }
 
   -- or this fault stands behind them
   pub record HasStopped (start : Watched R) (source : ReadRecording) (input : Watched R)

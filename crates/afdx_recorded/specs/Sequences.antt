@@ -4,7 +4,7 @@ use Rattle.std.specs.Prelude.{ℕ, Bool, true, false, not, ◌+◌, ◌&&◌, �
 use Rattle.std.specs.Prelude.{Result, Ok, Err, if◌then◌else◌}
 use Rattle.afdx_lists.specs.declared.recording_fault.RecordingFault.{RecordingFault}
 use Rattle.afdx_lists.specs.declared.recording_fault.RecordingFault.TheVariants.{NoArrival}
-use Rattle.afdx_recordings.specs.Recordings.{Numbered, Recording, Ending, Over, Faulted}
+use Rattle.afdx_recordings.specs.Recordings.{Numbered, Recording, Totals, Ending, Over, Faulted}
 use Rattle.afdx_engine.specs.Engine.{Item, item_of}
 use Rattle.afdx_recorded.specs.declared.becoming.Found.{Found}
 use Rattle.afdx_recorded.specs.declared.becoming.NoArrival.TheVariants as becomes_no
@@ -62,12 +62,11 @@ unfoldable pub number_after : Options → Ports → Numbers → Numbered → Res
 number_after options ports past item =
     number_by (becomes options ports (length past + 1) item.what item.bytes)
 
--- all numbers up to the first fault, how that ends, and how many frames the recorder lost by the
--- recording's end
+-- all numbers up to the first fault, how that ends, and what the recording comes to by its end
 pub record Outcome : Type 0 where
   pub numbers : Numbers
   pub ending : Ending
-  pub lost : ℕ
+  pub totals : Totals
 
 -- behind the last number: a recording that has numbers has an arrival
 abbrev pub has_no_arrival : Numbers → Bool
@@ -77,28 +76,29 @@ abbrev pub ending_after : Numbers → Ending → Ending
 ending_after past Over = if has_no_arrival past then Faulted (NoArrival (length past)) else Over
 ending_after past (Faulted fault) = Faulted fault
 
-abbrev pub and_then : (Number → Outcome) → Numbers → ℕ → Result Number RecordingFault → Outcome
-and_then next past lost (Ok number) = next number
-and_then next past lost (Err fault) =
-    record { numbers = past; ending = Faulted fault; lost = lost }
+abbrev pub and_then : (Number → Outcome) → Numbers → Totals → Result Number RecordingFault →
+    Outcome
+and_then next past totals (Ok number) = next number
+and_then next past totals (Err fault) =
+    record { numbers = past; ending = Faulted fault; totals = totals }
 
 -- this number stands behind those, with those of its bytes that are used
 abbrev pub with_number : Numbers → List ℕ → Number → Numbers
 with_number past bytes number = item_of (length past + 1) number (first_bytes bytes) ∷ past
 
 -- what stands behind these numbers, and such an ending
-unfoldable pub read_of_items : Options → Ports → Ending → (lost : ℕ) → Numbers → List Numbered →
+unfoldable pub read_of_items : Options → Ports → Ending → Totals → Numbers → List Numbered →
     Outcome
-read_of_items options ports ending lost past [] =
-    record { numbers = past; ending = ending_after past ending; lost = lost }
-read_of_items options ports ending lost past (item ∷ items) =
-    and_then (λ number. read_of_items options ports ending lost
-    (with_number past item.bytes number) items) past lost (number_after options ports past item)
+read_of_items options ports ending totals past [] =
+    record { numbers = past; ending = ending_after past ending; totals = totals }
+read_of_items options ports ending totals past (item ∷ items) =
+    and_then (λ number. read_of_items options ports ending totals
+    (with_number past item.bytes number) items) past totals (number_after options ports past item)
 
 -- the rest of a recording, behind these numbers
 abbrev pub read_from : Options → Ports → Numbers → Recording → Outcome
 read_from options ports past recording =
-    read_of_items options ports recording.ending recording.lost past recording.items
+    read_of_items options ports recording.ending recording.totals past recording.items
 
 -- a recording as it is read, before its arrivals are put in order
 abbrev pub as_read : Options → Ports → Recording → Outcome

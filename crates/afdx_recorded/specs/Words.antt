@@ -39,7 +39,8 @@ abbrev pub skipped_line : Tally → List ℕ
 skipped_line t =
     codes "skipped " ++ (reasons_text t.counts ++ (counted (codes " recorder-lost ") t.lost
     (counted (codes " claimed ") t.counts.claimed
-    (codes " contradicted " ++ decimal t.counts.contradicted))))
+    (counted (codes " contradicted ") t.counts.contradicted
+    (codes " unused " ++ decimal t.unused)))))
 
 -- the words that the formats fix, in the order of `Skipped`
 abbrev pub TheWords : Type 0

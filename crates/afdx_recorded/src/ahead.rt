@@ -8,7 +8,7 @@ ghost use Rattle.afdx_recorded.specs.Sequences.{Numbers};
 
 use crate::number::Number;
 use afdx_engine::Source;
-use afdx_lists::RunFault;
+use afdx_lists::{Next, Progress, RunFault};
 
 /// What stands at the head of a recording.
 #[derive(Clone, Copy, Debug)]
@@ -41,21 +41,21 @@ impl<S> Ahead<S> {
     }
 }
 
-/// Looks for the head of a recording, unless it is known. True: a number that is skipped stands in
-/// front of it, and was given.
+/// Looks for the head of a recording, unless it is known. A number that is skipped stands in front
+/// of it: it is given.
 pub(crate) fn seek<I, S: Source<Number, I>>(
     ahead: &mut Ahead<S>,
     input: &mut I,
-) -> Result<bool, RunFault>
+) -> Result<Progress, RunFault>
     requires { (latest : ℕ) × (start : I) × (taken : Numbers)
         × IsAhead S.current S.Gave S.Ended latest start ahead.old input.old taken }
     ensures skipped { (latest : ℕ) (start : I) (taken : Numbers) →
         IsAhead S.current S.Gave S.Ended latest start ahead.old input.old taken →
-        result ≡ Ok true → GivesSkipped S.current S.Gave S.Ended latest start ahead.old ahead.new
+        result ≡ Ok Progress.Given → GivesSkipped S.current S.Gave S.Ended latest start ahead.old ahead.new
         input.new taken }
     ensures known { (latest : ℕ) (start : I) (taken : Numbers) →
         IsAhead S.current S.Gave S.Ended latest start ahead.old input.old taken →
-        result ≡ Ok false → IsAhead S.current S.Gave S.Ended latest start ahead.new input.new taken
+        result ≡ Ok Progress.NotYet → IsAhead S.current S.Gave S.Ended latest start ahead.new input.new taken
         × IsKnown ahead.new.head × IsSought ahead.old ahead.new }
     ensures stop { (latest : ℕ) (start : I) (taken : Numbers) →
         IsAhead S.current S.Gave S.Ended latest start ahead.old input.old taken →
@@ -63,24 +63,24 @@ pub(crate) fn seek<I, S: Source<Number, I>>(
         × S.Stopped start ahead.new.source input.new taken fault) }
     ensures unwritten { is_failed_write result ≡ false }
     ensures settings { S.settings ahead.new.source ≡ S.settings ahead.old.source }
-    ensures less { result ≡ Ok false →
+    ensures less { result ≡ Ok Progress.NotYet →
         left_ahead S.left_of ahead.new ≤ left_ahead S.left_of ahead.old }
-    ensures fewer { result ≡ Ok true →
+    ensures fewer { result ≡ Ok Progress.Given →
         left_ahead S.left_of ahead.new < left_ahead S.left_of ahead.old }
 {
     match ahead.head {
         AtHead::Unknown => {}
-        AtHead::Arrival(_) | AtHead::Over => return Ok(false),
+        AtHead::Arrival(_) | AtHead::Over => return Ok(Progress::NotYet),
     }
-    if !ahead.source.next(input)? {
+    if let Next::Ended = ahead.source.next(input)? {
         ahead.head = AtHead::Over;
-        return Ok(false);
+        return Ok(Progress::NotYet);
     }
     match ahead.source.head() {
         Number::Arrival(found) => {
             ahead.head = AtHead::Arrival(found.moment);
-            Ok(false)
+            Ok(Progress::NotYet)
         }
-        Number::Skipped(_) => Ok(true),
+        Number::Skipped(_) => Ok(Progress::Given),
     }
 }

@@ -6,7 +6,7 @@ ghost use Rattle.afdx_recorded.specs.Becoming as spec;
 use crate::number_line::NumberLine;
 use afdx_engine::Source;
 use afdx_frame::{Seal, Side, is_sealed};
-use afdx_lists::{FrameKind, Heading, RunFault};
+use afdx_lists::{FrameKind, Heading, Next, RunFault};
 
 /// Gives the arrivals among the lines that a source gives.
 #[derive(Drop)]
@@ -89,8 +89,8 @@ impl<I, S: Source<NumberLine, I>> Source<Heading, I> for Arriving<S> {
         AreItems arrivals_listed (λ lines. S.Stopped start source.lines input lines fault) past };
 
     #[inline(always)]
-    fn next(&mut self, input: &mut I) -> Result<bool, RunFault> {
-        while self.lines.next(input)? {
+    fn next(&mut self, input: &mut I) -> Result<Next, RunFault> {
+        while let Next::Given = self.lines.next(input)? {
             if let NumberLine::Arrival {
                 kind,
                 time,
@@ -106,10 +106,10 @@ impl<I, S: Source<NumberLine, I>> Source<Heading, I> for Arriving<S> {
                     port,
                     seal: seal_by(kind, own),
                 };
-                return Ok(true);
+                return Ok(Next::Given);
             }
         }
-        Ok(false)
+        Ok(Next::Ended)
     }
 
     fn number(&self) -> u64 {

@@ -118,13 +118,15 @@ impl fmt::Display for Counts {
     }
 }
 
-/// How many numbers a recording has, how many of them were skipped, and how many frames the
-/// recorder lost by its own word, 2^64 - 1 if it is more.
+/// How many numbers a recording has, and how many of them were skipped.
 #[derive(Clone, Copy, Debug, PartialEq, Eq)]
 pub struct Tally {
     pub numbers: u64,
     pub counts: Counts,
+    /// Frames that the recorder lost by its own word, 2^64 - 1 if it is more.
     pub lost: u64,
+    /// Interfaces that options name and the recording doesn't have.
+    pub unused: u64,
 }
 
 impl Tally {
@@ -140,13 +142,14 @@ impl Tally {
             numbers: self.numbers + other.numbers,
             counts: self.counts.plus(&other.counts),
             lost: self.lost.saturating_add(other.lost),
+            unused: self.unused + other.unused,
         }
     }
 }
 
 /// The counts of a recording in one line: `skipped no-frame 0 left-out 0 ..`. The reasons stand in
-/// their order, then the frames that the recorder lost, and the arrivals that are claimed, and those
-/// that are contradicted.
+/// their order, then the frames that the recorder lost, the arrivals that are claimed, those that
+/// are contradicted, and the interfaces that are unused.
 impl fmt::Display for Tally {
     ghost use Rattle.std.specs.Prelude.{Some};
     ghost use Rattle.afdx_recorded.specs.Words.{skipped_line};
@@ -156,8 +159,8 @@ impl fmt::Display for Tally {
     fn fmt<W: fmt::Write>(&self, f: &mut fmt::Formatter<W>) -> fmt::Result {
         write!(
             f,
-            "skipped {} recorder-lost {} claimed {} contradicted {}",
-            self.counts, self.lost, self.counts.claimed, self.counts.contradicted
+            "skipped {} recorder-lost {} claimed {} contradicted {} unused {}",
+            self.counts, self.lost, self.counts.claimed, self.counts.contradicted, self.unused
         )
     }
 }

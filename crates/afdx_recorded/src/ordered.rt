@@ -13,7 +13,7 @@ use crate::becoming::Found;
 use crate::held::{Held, HeldArrival};
 use crate::number::{AsRead, Number};
 use afdx_engine::Source;
-use afdx_lists::{RecordingFault, RunFault};
+use afdx_lists::{Next, Progress, RecordingFault, RunFault};
 use std::alloc::Global;
 
 /// What is known of the end of a recording.
@@ -85,24 +85,24 @@ impl<S> Ordered<S> {
     }
 }
 
-/// Reads one number more. True: one is given. False: it is held, or the end is known. A fault that
-/// is returned is none of the recording.
+/// Reads one number more. If none is given it is held, or the end is known. A fault that is returned
+/// is none of the recording.
 #[inline(always)]
 fn read_one<I, S: Source<AsRead, I>>(
     ordered: &mut Ordered<S>,
     input: &mut I,
-) -> Result<bool, RunFault>
+) -> Result<Progress, RunFault>
     requires gave { (start : I) × (past : Numbers)
         × HasOrdered S.Gave S.Ended S.Stopped start ordered.old input.old past }
     requires reading { ordered.old.stage ≡ Stage.Reading }
     ensures given { (start : I) (past : Numbers) →
         HasOrdered S.Gave S.Ended S.Stopped start ordered.old input.old past →
-        result ≡ Ok true → HasOrdered S.Gave S.Ended S.Stopped start ordered.new input.new
+        result ≡ Ok Progress.Given → HasOrdered S.Gave S.Ended S.Stopped start ordered.new input.new
         (spec.given_in_order S.current ordered.new ∷ past)
         × NumberFollows past (spec.given_in_order S.current ordered.new) }
     ensures none { (start : I) (past : Numbers) →
         HasOrdered S.Gave S.Ended S.Stopped start ordered.old input.old past →
-        result ≡ Ok false →
+        result ≡ Ok Progress.NotYet →
         HasOrdered S.Gave S.Ended S.Stopped start ordered.new input.new past }
     ensures stop { (start : I) (past : Numbers) →
         HasOrdered S.Gave S.Ended S.Stopped start ordered.old input.old past →
@@ -111,57 +111,57 @@ fn read_one<I, S: Source<AsRead, I>>(
     ensures unwritten { is_failed_write result ≡ false }
     ensures settings { S.settings ordered.new.source ≡ S.settings ordered.old.source }
     ensures most { ordered.new.most ≡ ordered.old.most }
-    ensures less { result ≡ Ok true →
+    ensures less { result ≡ Ok Progress.Given →
         left_in_order S.left_of ordered.new < left_in_order S.left_of ordered.old }
-    ensures no_more { result ≡ Ok false →
+    ensures no_more { result ≡ Ok Progress.NotYet →
         left_in_order S.left_of ordered.new ≤ left_in_order S.left_of ordered.old }
-    ensures steps { result ≡ Ok false →
+    ensures steps { result ≡ Ok Progress.NotYet →
         steps_left S.left_of ordered.new < steps_left S.left_of ordered.old }
 {
     match ordered.source.next(input) {
-        Ok(true) => take_in(ordered),
-        Ok(false) => {
+        Ok(Next::Given) => take_in(ordered),
+        Ok(Next::Ended) => {
             ordered.stage = Stage::Over;
-            Ok(false)
+            Ok(Progress::NotYet)
         }
         Err(RunFault::Recording(fault)) => {
             ordered.stage = Stage::Stopped(fault);
-            Ok(false)
+            Ok(Progress::NotYet)
         }
         Err(fault) => Err(fault),
     }
 }
 
-/// Takes in the number that was read last. True: one is given.
+/// Takes in the number that was read last.
 #[inline(always)]
-fn take_in<I, S: Source<AsRead, I>>(ordered: &mut Ordered<S>) -> Result<bool, RunFault>
+fn take_in<I, S: Source<AsRead, I>>(ordered: &mut Ordered<S>) -> Result<Progress, RunFault>
     ensures { TakesIn (S.current ordered.old.source) ordered.old ordered.new result }
 {
     let found = match ordered.source.head().becomes {
         Number::Arrival(found) => found,
         Number::Skipped(_) => {
             ordered.is_held = false;
-            return Ok(true);
+            return Ok(Progress::Given);
         }
     };
     if found.moment < ordered.latest {
         ordered.stage = Stage::Stopped(RecordingFault::TimeBack(ordered.source.number()));
-        return Ok(false);
+        return Ok(Progress::NotYet);
     }
     if ordered.most == 0 {
         ordered.is_held = false;
         ordered.latest = found.moment;
-        return Ok(true);
+        return Ok(Progress::Given);
     }
     hold_one(ordered, found)
 }
 
-/// Holds the arrival that was read last. True: one is given, as more are held than may be.
+/// Holds the arrival that was read last. One is given if more are held than may be.
 #[inline(always)]
 fn hold_one<I, S: Source<AsRead, I>>(
     ordered: &mut Ordered<S>,
     found: Found,
-) -> Result<bool, RunFault>
+) -> Result<Progress, RunFault>
     requires arrival { (S.current ordered.old.source).head.becomes ≡ Number.Arrival found }
     requires in_time { IsInTime (S.current ordered.old.source) ordered.old }
     ensures { TakesIn (S.current ordered.old.source) ordered.old ordered.new result }
@@ -173,9 +173,13 @@ fn hold_one<I, S: Source<AsRead, I>>(
         .held
         .hold(ordered.alloc, room, number, found, bytes)?;
     if ordered.held.len() <= ordered.most {
-        return Ok(false);
+        return Ok(Progress::NotYet);
     }
-    Ok(ordered.hand_on())
+    if ordered.hand_on() {
+        Ok(Progress::Given)
+    } else {
+        Ok(Progress::NotYet)
+    }
 }
 
 impl<I, S: Source<AsRead, I>> Source<Number, I> for Ordered<S> {
@@ -194,18 +198,18 @@ impl<I, S: Source<AsRead, I>> Source<Number, I> for Ordered<S> {
     ghost Stopped = { spec.HasStoppedOrdering S.Gave S.Ended S.Stopped };
 
     #[inline(always)]
-    fn next(&mut self, input: &mut I) -> Result<bool, RunFault> {
+    fn next(&mut self, input: &mut I) -> Result<Next, RunFault> {
         while let Stage::Reading = self.stage {
-            if read_one(self, input)? {
-                return Ok(true);
+            if let Progress::Given = read_one(self, input)? {
+                return Ok(Next::Given);
             }
         }
         if self.hand_on() {
-            return Ok(true);
+            return Ok(Next::Given);
         }
         match self.stage {
             Stage::Stopped(fault) => Err(RunFault::Recording(fault)),
-            Stage::Reading | Stage::Over => Ok(false),
+            Stage::Reading | Stage::Over => Ok(Next::Ended),
         }
     }
 

@@ -28,7 +28,8 @@ pub fn read_in_order(
 
 impl Ordered<ReadRecording> {
     /// How many numbers were read, how many of them were skipped, and why, how many arrivals are
-    /// claimed and contradicted, and how many frames the recorder lost so far, by its own word.
+    /// claimed and contradicted, how many frames the recorder lost so far, by its own word, and how
+    /// many interfaces the options name that weren't described so far.
     pub fn tally(&self) -> Tally
         ensures { result ≡ tally_of_source self.now }
     {

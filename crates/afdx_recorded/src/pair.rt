@@ -12,7 +12,7 @@ use crate::ahead::{Ahead, AtHead, seek};
 use crate::number::Number;
 use afdx_engine::Source;
 use afdx_frame::{BySide, Side};
-use afdx_lists::RunFault;
+use afdx_lists::{Next, Progress, RunFault};
 
 /// Two recordings that are read at once, of network A and of network B.
 #[derive(Drop)]
@@ -61,25 +61,25 @@ fn next_side(a: AtHead, b: AtHead) -> Option<Side>
     }
 }
 
-/// Gives the next number of both. False: there is none.
+/// Gives the next number of both.
 ///
 /// Their heads are looked for, that of A first. A number that is skipped, and a fault, come as soon
 /// as they are found; else the earlier arrival, that of A where both have the same moment.
 pub(crate) fn next_of<I, S: Source<Number, I>>(
     pair: &mut Pair<S>,
     inputs: &mut BySide<I>,
-) -> Result<bool, RunFault>
+) -> Result<Next, RunFault>
     requires { (start : BySide I) × (past : Numbers)
         × IsPaired S.current S.Gave S.Ended start pair.old inputs.old past }
     ensures item { (start : BySide I) (past : Numbers) →
         IsPaired S.current S.Gave S.Ended start pair.old inputs.old past →
-        result ≡ Ok true → IsPaired S.current S.Gave S.Ended start pair.new inputs.new
+        result ≡ Ok Next.Given → IsPaired S.current S.Gave S.Ended start pair.new inputs.new
         (number_given S.current pair.new ∷ past)
         × (latest_of past ≤ latest_of (number_given S.current pair.new ∷ past))
         × (length past < most_frames) }
     ensures end { (start : BySide I) (past : Numbers) →
         IsPaired S.current S.Gave S.Ended start pair.old inputs.old past →
-        result ≡ Ok false →
+        result ≡ Ok Next.Ended →
         IsPairedToEnd S.current S.Gave S.Ended start pair.new inputs.new past }
     ensures stop { (start : BySide I) (past : Numbers) →
         IsPaired S.current S.Gave S.Ended start pair.old inputs.old past →
@@ -88,36 +88,36 @@ pub(crate) fn next_of<I, S: Source<Number, I>>(
     ensures unwritten { is_failed_write result ≡ false }
     ensures settings_a { S.settings pair.new.a.source ≡ S.settings pair.old.a.source }
     ensures settings_b { S.settings pair.new.b.source ≡ S.settings pair.old.b.source }
-    ensures less { result ≡ Ok true →
+    ensures less { result ≡ Ok Next.Given →
         left_in_pair S.left_of pair.new < left_in_pair S.left_of pair.old }
 {
     match seek(&mut pair.a, &mut inputs.a) {
-        Ok(true) => {
+        Ok(Progress::Given) => {
             pair.from = Side::A;
-            return Ok(true);
+            return Ok(Next::Given);
         }
-        Ok(false) => {}
+        Ok(Progress::NotYet) => {}
         Err(fault) => return Err(fault_named(Side::A, fault)),
     }
     match seek(&mut pair.b, &mut inputs.b) {
-        Ok(true) => {
+        Ok(Progress::Given) => {
             pair.from = Side::B;
-            return Ok(true);
+            return Ok(Next::Given);
         }
-        Ok(false) => {}
+        Ok(Progress::NotYet) => {}
         Err(fault) => return Err(fault_named(Side::B, fault)),
     }
     match next_side(pair.a.head, pair.b.head) {
         Some(Side::A) => {
             pair.a.head = AtHead::Unknown;
             pair.from = Side::A;
-            Ok(true)
+            Ok(Next::Given)
         }
         Some(Side::B) => {
             pair.b.head = AtHead::Unknown;
             pair.from = Side::B;
-            Ok(true)
+            Ok(Next::Given)
         }
-        None => Ok(false),
+        None => Ok(Next::Ended),
     }
 }

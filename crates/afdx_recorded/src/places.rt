@@ -28,7 +28,7 @@ pub struct Interfaces {
 }
 
 impl Interfaces {
-    ghost use Rattle.afdx_recorded.specs.Places.{place_of, places_but};
+    ghost use Rattle.afdx_recorded.specs.Places.{place_of, places_but, unused_behind};
 
     /// Nothing is said of any interface.
     #[tactic(auto, unfolding(crate::specs::Places::place_of))]
@@ -49,6 +49,20 @@ impl Interfaces {
             Some(place) => *place,
             None => None,
         }
+    }
+
+    /// How many of those that were put aren't among the first `count` interfaces: a recording of so
+    /// many has none of them.
+    pub fn unused(&self, count: usize) -> u64
+        ensures { result ≡ unused_behind count (place_of self.now) }
+    {
+        let mut unused = 0;
+        for interface in count..INTERFACES {
+            if self.place(interface as u16).is_some() {
+                unused += 1;
+            }
+        }
+        unused
     }
 
     /// Says where the frames of this interface came in, in the place of what was said before.

@@ -3,7 +3,7 @@
 ghost use Rattle.std.specs.Prelude.{◌≡◌, ◌<◌, ◌+◌, ◌-◌, length, [], Ok};
 ghost use Rattle.std.specs.Prelude.{IfOk, IfErr, OnOk, false};
 ghost use Rattle.afdx_recordings.specs.Reading.{state_of};
-ghost use Rattle.afdx_recordings.specs.Recordings.{at_start, lost_by, most_numbers};
+ghost use Rattle.afdx_recordings.specs.Recordings.{at_start, totals_by, most_numbers};
 ghost use Rattle.afdx_recordings.specs.Holding.{unread};
 ghost use Rattle.afdx_recorded.specs.Counting.{no_counts, skipped_in};
 ghost use Rattle.afdx_recorded.specs.RecordingSource as source;
@@ -16,7 +16,7 @@ use crate::number::{AsRead, Number};
 use crate::senders::SystemPorts;
 use crate::skipped::Skipped;
 use afdx_engine::Source;
-use afdx_lists::{RecordingFault, RunFault, Watched};
+use afdx_lists::{Next, RecordingFault, RunFault, Watched};
 use afdx_recordings::FrameReader;
 use std::alloc::{AllocError, Global};
 use std::io::Read;
@@ -76,16 +76,19 @@ impl ReadRecording {
     }
 
     /// How many numbers were read, how many of them were skipped, and why, how many arrivals are
-    /// claimed and contradicted, and how many frames the recorder lost so far, by its own word.
+    /// claimed and contradicted, how many frames the recorder lost so far, by its own word, and how
+    /// many interfaces the options name that weren't described so far.
     pub fn tally(&self) -> Tally
         ensures numbers { result.numbers ≡ self.now.numbers }
         ensures counts { result.counts ≡ self.now.counts }
-        ensures lost { result.lost ≡ lost_by (state_of self.now.reader) }
+        ensures lost { result.lost ≡ (totals_by (state_of self.now.reader)).lost }
+        ensures unused { result.unused ≡ source.unused_of self.now }
     {
         Tally {
             numbers: self.numbers,
             counts: self.counts,
             lost: self.reader.lost(),
+            unused: self.options.interfaces.unused(self.reader.interfaces()),
         }
     }
 
@@ -128,13 +131,13 @@ impl ReadRecording {
     }
 
     /// What is answered behind the last number: a recording that has numbers has an arrival.
-    fn end(&self) -> Result<bool, RunFault>
+    fn end(&self) -> Result<Next, RunFault>
         ensures { result ≡ source.end_of self.now.has_arrival self.now.numbers }
     {
         if self.numbers > 0 && !self.has_arrival {
             return Err(RunFault::Recording(RecordingFault::NoArrival(self.numbers)));
         }
-        Ok(false)
+        Ok(Next::Ended)
     }
 }
 
@@ -159,12 +162,12 @@ impl<R: Read> Source<AsRead, Watched<R>> for ReadRecording {
     ghost Stopped = { HasStoppedReading R.remaining };
 
     #[inline(always)]
-    fn next(&mut self, input: &mut Watched<R>) -> Result<bool, RunFault> {
-        if !self.reader.next(input)? {
+    fn next(&mut self, input: &mut Watched<R>) -> Result<Next, RunFault> {
+        if let Next::Ended = self.reader.next(input)? {
             return self.end();
         }
         self.sort()?;
-        Ok(true)
+        Ok(Next::Given)
     }
 
     fn number(&self) -> u64 {

@@ -5,7 +5,7 @@ use crate::number::Number;
 use crate::number_line::NumberLine;
 use crate::skipped::Skipped;
 use afdx_engine::Source;
-use afdx_lists::{RecordingFault, RunFault};
+use afdx_lists::{Next, RecordingFault, RunFault};
 
 /// Gives the line of each number that a source of one recording gives.
 #[derive(Drop)]
@@ -52,9 +52,9 @@ impl<I, S: Source<Number, I>> Source<NumberLine, I> for TimedNumbers<S> {
     ghost Stopped = { HasStoppedTiming S.Gave S.Ended S.Stopped };
 
     #[inline(always)]
-    fn next(&mut self, input: &mut I) -> Result<bool, RunFault> {
-        if !self.numbers.next(input)? {
-            return Ok(false);
+    fn next(&mut self, input: &mut I) -> Result<Next, RunFault> {
+        if let Next::Ended = self.numbers.next(input)? {
+            return Ok(Next::Ended);
         }
         let number = self.numbers.head();
         let Some(line) = self.clock.line(&number) else {
@@ -62,7 +62,7 @@ impl<I, S: Source<Number, I>> Source<NumberLine, I> for TimedNumbers<S> {
             return Err(RunFault::Recording(RecordingFault::TimeTooLarge(n)));
         };
         self.line = line;
-        Ok(true)
+        Ok(Next::Given)
     }
 
     fn number(&self) -> u64 {

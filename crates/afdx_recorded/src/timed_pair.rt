@@ -10,7 +10,7 @@ use crate::pair::{Pair, next_of};
 use crate::skipped::Skipped;
 use afdx_engine::Source;
 use afdx_frame::{BySide, Side};
-use afdx_lists::{RecordingFault, RunFault};
+use afdx_lists::{Next, RecordingFault, RunFault};
 
 /// Gives the line of each number of two recordings.
 #[derive(Drop)]
@@ -76,9 +76,9 @@ impl<I, S: Source<Number, I>> Source<NumberLine, BySide<I>> for TimedPair<S> {
 
     ghost Stopped = { HasStoppedPairing S.current S.Gave S.Ended S.Stopped };
 
-    fn next(&mut self, inputs: &mut BySide<I>) -> Result<bool, RunFault> {
-        if !next_of(&mut self.pair, inputs)? {
-            return Ok(false);
+    fn next(&mut self, inputs: &mut BySide<I>) -> Result<Next, RunFault> {
+        if let Next::Ended = next_of(&mut self.pair, inputs)? {
+            return Ok(Next::Ended);
         }
         let (number, n) = match self.pair.from {
             Side::A => (self.pair.a.source.head(), self.pair.a.source.number()),
@@ -89,7 +89,7 @@ impl<I, S: Source<Number, I>> Source<NumberLine, BySide<I>> for TimedPair<S> {
             return Err(RunFault::of_network(side_of(&number), fault));
         };
         self.line = line;
-        Ok(true)
+        Ok(Next::Given)
     }
 
     fn number(&self) -> u64 {

@@ -4,6 +4,8 @@ use Rattle.std.proofs.Common.{refl, ap, sym, ◌∙◌, arith, Option, Some, Non
 use Rattle.std.proofs.lemmas.List.{append-nil, drop-append-le}
 use Rattle.std.proofs.lemmas.Grind.{common_steps}
 use Rattle.afdx_lists.specs.declared.fault.RunFault.{RunFault}
+use Rattle.afdx_lists.specs.declared.next.Next.{Next}
+use Rattle.afdx_lists.specs.declared.next.Next.TheVariants as next
 use Rattle.afdx_lists.specs.declared.fault.RunFault.TheVariants as run
 use Rattle.afdx_lists.specs.declared.recording_fault.RecordingFault.{RecordingFault}
 use Rattle.afdx_lists.specs.declared.recording_fault.RecordingFault.TheVariants.{NotRecording, BadVersion, Ended, Packed}
@@ -14,7 +16,7 @@ use Rattle.afdx_recordings.specs.declared.order.Order.{Order}
 use Rattle.afdx_recordings.specs.declared.order.Order.TheVariants.{LowFirst, HighFirst}
 use Rattle.afdx_recordings.specs.Orders.{number_in}
 use Rattle.afdx_recordings.specs.Holding.{Standing, Passes}
-use Rattle.afdx_recordings.specs.Recordings.{State, Ending, Over, Faulted, Numbered, lost_by}
+use Rattle.afdx_recordings.specs.Recordings.{State, Ending, Over, Faulted, Numbered, Totals, totals_by}
 use Rattle.afdx_recordings.specs.Pcap.{pcap_form, is_pcap_version}
 use Rattle.afdx_recordings.specs.Reading.{magic_of, Opening, Refused, Opens, opening, from_opening, blocks_from}
 use Rattle.afdx_recordings.specs.Reading.{recorded_from, recorded_by, SaysFirst, SaysSame, SaysEnding, SaysNothing, CanFollow, Tells, is_unfinished}
@@ -105,7 +107,7 @@ opening-opens xs more order nanoseconds within known same = rw (
 SaysEnding-refused : (old new : Standing) (before : State) (fault : RecordingFault) → before.form ≡ None
     → (passes : Passes old new [])
     → ((more : List ℕ) → CanFollow new more → opening (new.held ++ more) ≡ Refused fault)
-    → SaysEnding old new before (Faulted fault) (lost_by before)
+    → SaysEnding old new before (Faulted fault) (totals_by before)
 SaysEnding-refused old new before fault h passes refused = record {
   given = passes.given;
   gives = passes.gives;
@@ -122,7 +124,7 @@ SaysNothing-refused old new before fault h passes refused unfinished = record {
   given = passes.given;
   gives = passes.gives;
   ending = Faulted fault;
-  lost = lost_by before;
+  totals = totals_by before;
   says = let all : old.held ++ passes.given ≡ new.held = passes.parts in
       rw all (recorded_from-opening before new.held h
       ∙ ap (λ (o : Opening). from_opening o before new.held) refused);
@@ -131,7 +133,7 @@ SaysNothing-refused old new before fault h passes refused unfinished = record {
 
 pub SaysEnding-too_short : (old new : Standing) (before : State) → before.form ≡ None → Passes old new []
     → new.ended ≡ true → length new.held < 4
-    → SaysEnding old new before (Faulted (NotRecording 0)) (lost_by before)
+    → SaysEnding old new before (Faulted (NotRecording 0)) (totals_by before)
 SaysEnding-too_short old new before h passes ended few =
     SaysEnding-refused old new before (NotRecording 0) h passes
     (λ more follows. rw (follows ended, append-nil new.held) (opening-short new.held few))
@@ -143,14 +145,14 @@ SaysNothing-too_short old new before h passes few =
 
 pub SaysEnding-unknown : (old new : Standing) (before : State) → before.form ≡ None → Passes old new []
     → 4 ≤ length new.held → magic_of (number_in HighFirst 4 new.held) ≡ None
-    → SaysEnding old new before (Faulted (NotRecording 0)) (lost_by before)
+    → SaysEnding old new before (Faulted (NotRecording 0)) (totals_by before)
 SaysEnding-unknown old new before h passes within unknown =
     SaysEnding-refused old new before (NotRecording 0) h passes
     (λ more _. opening-unknown new.held more within unknown)
 
 pub SaysEnding-packed : (old new : Standing) (before : State) → before.form ≡ None → Passes old new []
     → 4 ≤ length new.held → magic_of (number_in HighFirst 4 new.held) ≡ Some magic.Packed
-    → SaysEnding old new before (Faulted Packed) (lost_by before)
+    → SaysEnding old new before (Faulted Packed) (totals_by before)
 SaysEnding-packed old new before h passes within known =
     SaysEnding-refused old new before Packed h passes
     (λ more _. opening-packed new.held more within known)
@@ -168,7 +170,7 @@ magic_of-later old new passes within =
 pub SaysEnding-header : (old new : Standing) (before : State) (order : Order) (nanoseconds : Bool)
     → before.form ≡ None → Passes old new [] → new.ended ≡ true → 4 ≤ length new.held
     → magic_of (number_in HighFirst 4 new.held) ≡ Some (magic.Pcap order nanoseconds)
-    → length new.held < 24 → SaysEnding old new before (Faulted (Ended 0)) (lost_by before)
+    → length new.held < 24 → SaysEnding old new before (Faulted (Ended 0)) (totals_by before)
 SaysEnding-header old new before order nanoseconds h passes ended within known few =
     SaysEnding-refused old new before (Ended 0) h passes
     (λ more follows. rw (follows ended, append-nil new.held) (opening-cut new.held order nanoseconds within known few))
@@ -185,7 +187,7 @@ pub SaysEnding-version : (old new : Standing) (before : State) (order : Order) (
     → before.form ≡ None → Passes old new [] → 24 ≤ length new.held
     → magic_of (number_in HighFirst 4 new.held) ≡ Some (magic.Pcap order nanoseconds)
     → is_pcap_version order new.held ≡ false
-    → SaysEnding old new before (Faulted (BadVersion 0)) (lost_by before)
+    → SaysEnding old new before (Faulted (BadVersion 0)) (totals_by before)
 SaysEnding-version old new before order nanoseconds h passes within known other =
     SaysEnding-refused old new before (BadVersion 0) h passes
     (λ more _. opening-version new.held more order nanoseconds within known other)
@@ -252,9 +254,9 @@ first-then a b c s t u item same next = record {
       ∙ ap (recorded_from t) (sym (append_assoc b.held next.given more)) ∙ next.says more;
 }
 
-ending-then : (a b c : Standing) (s t : State) (ending : Ending) (lost : ℕ) → SaysSame a b s t
-    → SaysEnding b c t ending lost → SaysEnding a c s ending lost
-ending-then a b c s t ending lost same next = record {
+ending-then : (a b c : Standing) (s t : State) (ending : Ending) (totals : Totals) → SaysSame a b s t
+    → SaysEnding b c t ending totals → SaysEnding a c s ending totals
+ending-then a b c s t ending totals same next = record {
   given = same.given ++ next.given;
   gives = Gives-then a b c same.given next.given same.gives next.gives;
   says = λ more follows. ap (recorded_from s) (regroup a.held same.given next.given more)
@@ -267,18 +269,18 @@ nothing-then a b c s t same next = record {
   given = same.given ++ next.given;
   gives = Gives-then a b c same.given next.given same.gives next.gives;
   ending = next.ending;
-  lost = next.lost;
+  totals = next.totals;
   says = ap (recorded_from s) (sym (append_assoc a.held same.given next.given))
       ∙ same.says next.given ∙ next.says;
   unfinished = next.unfinished;
 }
 
 -- first the same, and then an answer
-pub Tells-then : (result : Result Bool RunFault) (a b c : Standing) (s t u : State) (item : Numbered)
+pub Tells-then : (result : Result Next RunFault) (a b c : Standing) (s t u : State) (item : Numbered)
     → SaysSame a b s t → Tells result b c t u item → Tells result a c s u item
-Tells-then (Ok true) a b c s t u item same tells = first-then a b c s t u item same tells
-Tells-then (Ok false) a b c s t u item same tells =
-    (tells.0, ending-then a b c s t Over (lost_by u) same tells.1)
+Tells-then (Ok next.Given) a b c s t u item same tells = first-then a b c s t u item same tells
+Tells-then (Ok next.Ended) a b c s t u item same tells =
+    (tells.0, ending-then a b c s t Over (totals_by u) same tells.1)
 Tells-then (Err (run.Recording fault)) a b c s t u item same tells =
     (tells.0, ending-then a b c s t (Faulted fault) tells.0 same tells.1)
 Tells-then (Err run.Read) a b c s t u item same tells = nothing-then a b c s t same tells

@@ -11,7 +11,7 @@ use Rattle.afdx_recordings.specs.declared.recorded.Recorded.{Recorded}
 use Rattle.afdx_recordings.specs.declared.recorded.Recorded.TheVariants.{Frame}
 use Rattle.afdx_recordings.specs.Holding.{Standing, Passes}
 use Rattle.afdx_recordings.specs.Recordings.{State, Ends, Takes, Over, Faulted, Numbered, by_meaning}
-use Rattle.afdx_recordings.specs.Recordings.{lost_by, after_number}
+use Rattle.afdx_recordings.specs.Recordings.{totals_by, after_number}
 use Rattle.afdx_recordings.specs.Pcap.{captured_by, packet_meaning, pcap_frame}
 use Rattle.afdx_recordings.specs.Reading.{step_by, SaysFirst, SaysEnding, SaysNothing}
 use Rattle.afdx_recordings.proofs.OrderLemmas.{number_at-append, number_at-take}
@@ -71,7 +71,7 @@ SaysFirst-packet old mid new before after pcap n item h e passes told within res
 -- a frame that can't be right
 pub SaysEnding-wrong : (old new : Standing) (before : State) (pcap : PcapForm)
     → before.form ≡ Some (form.Pcap pcap) → Passes old new [] → captured_by before new.held ≡ None
-    → 16 ≤ length new.held → SaysEnding old new before (Faulted (Damaged before.numbers)) (lost_by before)
+    → 16 ≤ length new.held → SaysEnding old new before (Faulted (Damaged before.numbers)) (totals_by before)
 SaysEnding-wrong old new before pcap h passes told within =
     let all : old.held ++ passes.given ≡ new.held = passes.parts in
     SaysEnding-block old new before (form.Pcap pcap) (Faulted (Damaged before.numbers)) passes.given h passes.gives
@@ -97,14 +97,14 @@ cut before pcap n xs told within few =
 pub SaysEnding-short : (old new : Standing) (before : State) (pcap : PcapForm)
     → before.form ≡ Some (form.Pcap pcap) → Passes old new [] → new.ended ≡ true
     → 0 < length new.held → length new.held < 16
-    → SaysEnding old new before (Faulted (Ended before.numbers)) (lost_by before)
+    → SaysEnding old new before (Faulted (Ended before.numbers)) (totals_by before)
 SaysEnding-short old new before pcap h passes ended some few =
     SaysEnding-here old new before (form.Pcap pcap) (Faulted (Ended before.numbers)) h passes ended
     (short before pcap new.held some few)
 
 pub SaysEnding-over : (old new : Standing) (before : State) (pcap : PcapForm)
     → before.form ≡ Some (form.Pcap pcap) → Passes old new [] → new.ended ≡ true
-    → length new.held ≡ 0 → SaysEnding old new before Over (lost_by before)
+    → length new.held ≡ 0 → SaysEnding old new before Over (totals_by before)
 SaysEnding-over old new before pcap h passes ended none =
     SaysEnding-here old new before (form.Pcap pcap) Over h passes ended
     (next_block-over 16 (captured_by before) (packet_meaning pcap before) before.numbers new.held none)
@@ -112,7 +112,7 @@ SaysEnding-over old new before pcap h passes ended none =
 pub SaysEnding-cut : (old new : Standing) (before : State) (pcap : PcapForm) (n : ℕ)
     → before.form ≡ Some (form.Pcap pcap) → Passes old new [] → new.ended ≡ true
     → captured_by before new.held ≡ Some n → 16 ≤ length new.held → length new.held < 16 + n
-    → SaysEnding old new before (Faulted (Ended before.numbers)) (lost_by before)
+    → SaysEnding old new before (Faulted (Ended before.numbers)) (totals_by before)
 SaysEnding-cut old new before pcap n h passes ended told within few =
     SaysEnding-here old new before (form.Pcap pcap) (Faulted (Ended before.numbers)) h passes ended
     (cut before pcap n new.held told within few)

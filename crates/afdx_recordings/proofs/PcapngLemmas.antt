@@ -6,12 +6,14 @@ use Rattle.std.proofs.lemmas.List.{append-nil, take-append-le}
 use Rattle.std.proofs.lemmas.Grind.{common_steps}
 use Rattle.afdx_lists.specs.Calls.{is_failed_read}
 use Rattle.afdx_lists.specs.declared.fault.RunFault.{RunFault}
+use Rattle.afdx_lists.specs.declared.next.Progress.{Progress}
+use Rattle.afdx_lists.specs.declared.next.Progress.TheVariants as progress
 use Rattle.afdx_lists.specs.declared.fault.RunFault.TheVariants as run
 use Rattle.afdx_lists.specs.declared.recording_fault.RecordingFault.TheVariants.{Damaged, Ended}
 use Rattle.afdx_recordings.specs.declared.form.Form.TheVariants as form
 use Rattle.afdx_recordings.specs.declared.block.Head.{Head}
 use Rattle.afdx_recordings.specs.Holding.{Standing, Gives, Passes}
-use Rattle.afdx_recordings.specs.Recordings.{State, Ends, Over, Faulted, Meaning, Numbered, by_meaning, lost_by}
+use Rattle.afdx_recordings.specs.Recordings.{State, Ends, Over, Faulted, Meaning, Numbered, by_meaning, totals_by}
 use Rattle.afdx_recordings.specs.Blocks.{head_by}
 use Rattle.afdx_recordings.specs.Pcapng.{block_rest, block_meaning, behind_head}
 use Rattle.afdx_recordings.specs.Reading.{step_by, SaysEnding, SaysNothing, Meant, TellsBlock}
@@ -51,24 +53,24 @@ cut before head xs few told least held short =
     (omega (arith, back head least, short))
 
 -- what a call read tells of the block which stands first
-pub TellsBlock-meant : (result : Result Bool RunFault) (old new : Standing) (before after : State) (item : Numbered)
+pub TellsBlock-meant : (result : Result Progress RunFault) (old new : Standing) (before after : State) (item : Numbered)
     (head : Head) (given : List ℕ) → before.form ≡ Some form.Pcapng → after.form ≡ before.form → Gives old new given
     → before.blocks < 100000000000000000 → head_by before.order (old.held ++ given) ≡ Some head → 12 ≤ head.size
     → head.size ≤ length (old.held ++ given)
     → OnOk result (new.held ≡ drop head.size (old.held ++ given))
     → Meant (block_meaning before (take head.size (old.held ++ given))) result after item
     → TellsBlock result old new before after item
-TellsBlock-meant (Ok true) old new before after item head given h k gives few told least within rest meant =
+TellsBlock-meant (Ok progress.Given) old new before after item head given h k gives few told least within rest meant =
     SaysFirst-block old new before after form.Pcapng item head.size given h (k ∙ h) gives
     (λ more. whole before head (old.held ++ given) more few told least within ∙ ap (by_meaning head.size) meant)
     within rest
-TellsBlock-meant (Ok false) old new before after item head given h k gives few told least within rest meant =
+TellsBlock-meant (Ok progress.NotYet) old new before after item head given h k gives few told least within rest meant =
     SaysSame-block old new before after form.Pcapng head.size given h (k ∙ h) gives
     (λ more. whole before head (old.held ++ given) more few told least within ∙ ap (by_meaning head.size) meant)
     within rest
 TellsBlock-meant (Err (run.Recording f)) old new before after item head given h k gives few told
     least within rest meant = (
-      lost_by before,
+      totals_by before,
       SaysEnding-block old new before form.Pcapng (Faulted f) given h gives
           (λ more _. whole before head (old.held ++ given) more few told least within ∙ ap (by_meaning head.size) meant),
     )
@@ -117,7 +119,7 @@ told_in_all old new before head passes held told =
     ap (head_by before.order) (sym passes.parts) ∙ told_later before head old.held passes.given held told
 
 -- the block was held whole
-pub TellsBlock-held : (result : Result Bool RunFault) (old mid new : Standing) (before after : State) (item : Numbered)
+pub TellsBlock-held : (result : Result Progress RunFault) (old mid new : Standing) (before after : State) (item : Numbered)
     (head : Head) → before.form ≡ Some form.Pcapng → after.form ≡ before.form → Passes old mid []
     → before.blocks < 100000000000000000 → head_by before.order mid.held ≡ Some head → 12 ≤ head.size
     → head.size ≤ length mid.held → new.left ≡ mid.left → new.over ≡ mid.over → new.calls ≡ mid.calls
@@ -134,7 +136,7 @@ behind_passed : (passed rest : List ℕ) (n : ℕ) → length passed + 4 ≡ n �
 behind_passed passed rest n h = rw (← h) (drop-append-add passed rest 4)
 
 -- it was passed but for its last bytes
-pub TellsBlock-skipped : (result : Result Bool RunFault) (old mid new : Standing)
+pub TellsBlock-skipped : (result : Result Progress RunFault) (old mid new : Standing)
     (before after : State) (item : Numbered)
     (head : Head) (passed : List ℕ) → before.form ≡ Some form.Pcapng → after.form ≡ before.form
     → Passes old mid passed → before.blocks < 100000000000000000 → 12 ≤ length old.held
@@ -163,7 +165,7 @@ pub SaysEnding-within : (old new : Standing) (before : State) (head : Head) (pas
     → before.form ≡ Some form.Pcapng → (passes : Passes old new passed) → new.ended ≡ true
     → before.blocks < 100000000000000000 → 12 ≤ length old.held → head_by before.order old.held ≡ Some head
     → 12 ≤ head.size → length passed + length new.held < head.size
-    → SaysEnding old new before (Faulted (Ended before.numbers)) (lost_by before)
+    → SaysEnding old new before (Faulted (Ended before.numbers)) (totals_by before)
 SaysEnding-within old new before head passed h passes ended few held told least short =
     let all : old.held ++ passes.given ≡ passed ++ new.held = passes.parts in
     let size : length (old.held ++ passes.given) ≡ length passed + length new.held =
@@ -193,7 +195,7 @@ SaysNothing-within old new before head passed h passes few held told least short
 -- the head can't be right
 pub SaysEnding-bad_head : (old : Standing) (before : State) → before.form ≡ Some form.Pcapng → 12 ≤ length old.held
     → block_rest before old.held ≡ None
-    → SaysEnding old old before (Faulted (Damaged before.numbers)) (lost_by before)
+    → SaysEnding old old before (Faulted (Damaged before.numbers)) (totals_by before)
 SaysEnding-bad_head old before h held told =
     SaysEnding-block old old before form.Pcapng (Faulted (Damaged before.numbers)) [] h (Gives-nothing old)
     (λ more _.
@@ -213,13 +215,13 @@ over : (before : State) (xs : List ℕ) → length xs ≡ 0 → step_by (Some fo
 over before xs none = next_block-over 12 (block_rest before) (block_meaning before) before.numbers xs none
 
 pub SaysEnding-blocks : (old new : Standing) (before : State) → before.form ≡ Some form.Pcapng → Passes old new []
-    → new.ended ≡ true → length new.held ≡ 0 → SaysEnding old new before Over (lost_by before)
+    → new.ended ≡ true → length new.held ≡ 0 → SaysEnding old new before Over (totals_by before)
 SaysEnding-blocks old new before h passes ended none =
     SaysEnding-here old new before form.Pcapng Over h passes ended (over before new.held none)
 
 pub SaysEnding-head : (old new : Standing) (before : State) → before.form ≡ Some form.Pcapng → Passes old new []
     → new.ended ≡ true → 0 < length new.held → length new.held < 12
-    → SaysEnding old new before (Faulted (Ended before.numbers)) (lost_by before)
+    → SaysEnding old new before (Faulted (Ended before.numbers)) (totals_by before)
 SaysEnding-head old new before h passes ended some few =
     SaysEnding-here old new before form.Pcapng (Faulted (Ended before.numbers)) h passes ended
     (short_head before new.held some few)
@@ -238,10 +240,10 @@ SaysNothing-head old new before h passes few = by (ltb 0 (length new.held)) refl
         passes.gives (rw all (over before new.held (grind (arith, e)))) refl
 
 -- what is held doesn't fail to be read
-pub Meant-not_read : (meaning : Meaning) (result : Result Bool RunFault) (after : State) (item : Numbered)
+pub Meant-not_read : (meaning : Meaning) (result : Result Progress RunFault) (after : State) (item : Numbered)
     → Meant meaning result after item → is_failed_read result ≡ false
-Meant-not_read meaning (Ok true) after item meant = refl
-Meant-not_read meaning (Ok false) after item meant = refl
+Meant-not_read meaning (Ok progress.Given) after item meant = refl
+Meant-not_read meaning (Ok progress.NotYet) after item meant = refl
 Meant-not_read meaning (Err (run.Recording f)) after item meant = refl
 Meant-not_read meaning (Err run.Memory) after item meant = refl
 Meant-not_read meaning (Err run.Read) after item meant = absurd meant

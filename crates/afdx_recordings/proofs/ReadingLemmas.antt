@@ -8,11 +8,13 @@ use Rattle.afdx_recordings.specs.declared.form.Form.TheVariants as form
 use Rattle.std.proofs.Common.{Result, Ok, Err, ltb}
 use Rattle.afdx_lists.specs.Calls.{is_read}
 use Rattle.afdx_lists.specs.declared.fault.RunFault.{RunFault}
+use Rattle.afdx_lists.specs.declared.next.Next.{Next}
+use Rattle.afdx_lists.specs.declared.next.Next.TheVariants as next
 use Rattle.afdx_lists.specs.declared.fault.RunFault.TheVariants as run
 use Rattle.afdx_lists.specs.declared.recording_fault.RecordingFault.TheVariants.{Ended}
 use Rattle.afdx_recordings.specs.Holding.{Standing, Gives, GivesSome, Passes, IsOfReading}
 use Rattle.afdx_recordings.specs.Recordings.{State, Step, Ends, Takes, Ending, Over, Faulted, Recording, Numbered}
-use Rattle.afdx_recordings.specs.Recordings.{in_front, lost_by}
+use Rattle.afdx_recordings.specs.Recordings.{in_front, totals_by}
 use Rattle.afdx_recordings.specs.Pcapng.{block_head, block_rest, block_meaning}
 use Rattle.afdx_recordings.specs.Pcap.{packet_head, captured_by, packet_meaning}
 use Rattle.afdx_recordings.specs.Reading.{step_by, by_step, said_within, blocks_from, recorded_from, recorded_by}
@@ -109,7 +111,7 @@ pub SaysEnding-block : (old new : Standing) (before : State) (form : Form) (endi
     → before.form ≡ Some form → Gives old new given
     → ((more : List ℕ) → CanFollow new more
     → step_by (Some form) before ((old.held ++ given) ++ more) ≡ Ends ending)
-    → SaysEnding old new before ending (lost_by before)
+    → SaysEnding old new before ending (totals_by before)
 SaysEnding-block old new before form ending given h gives ends = record {
   given = given;
   gives = gives;
@@ -122,7 +124,7 @@ SaysEnding-block old new before form ending given h gives ends = record {
 pub SaysEnding-here : (old new : Standing) (before : State) (form : Form) (ending : Ending)
     → before.form ≡ Some form → Passes old new [] → new.ended ≡ true
     → step_by (Some form) before new.held ≡ Ends ending
-    → SaysEnding old new before ending (lost_by before)
+    → SaysEnding old new before ending (totals_by before)
 SaysEnding-here old new before form ending h passes ended ends =
     let all : old.held ++ passes.given ≡ new.held = passes.parts in
     SaysEnding-block old new before form ending passes.given h passes.gives
@@ -137,7 +139,7 @@ SaysNothing-block old new before form ending given h gives ends unfinished = rec
   given = given;
   gives = gives;
   ending = ending;
-  lost = lost_by before;
+  totals = totals_by before;
   says = recorded_from-step before form (old.held ++ given) h
       ∙ ap (by_step blocks_from before (old.held ++ given)) ends;
   unfinished = unfinished;
@@ -162,17 +164,17 @@ Tells-of_reading (run.Recording f) old new before after item h some says = absur
 Tells-of_reading run.Write old new before after item h some says = absurd h
 
 -- the input ended between two blocks, or within a head
-pub Tells-end : (result : Result Bool RunFault) (old new : Standing) (before after : State) (item : Numbered)
+pub Tells-end : (result : Result Next RunFault) (old new : Standing) (before after : State) (item : Numbered)
     → new.ended ≡ true
-    → (length new.held ≡ 0 → result ≡ Ok false)
+    → (length new.held ≡ 0 → result ≡ Ok next.Ended)
     → (0 < length new.held → result ≡ Err (run.Recording (Ended before.numbers)))
-    → (length new.held ≡ 0 → SaysEnding old new before Over (lost_by after))
-    → (0 < length new.held → SaysEnding old new before (Faulted (Ended before.numbers)) (lost_by before))
+    → (length new.held ≡ 0 → SaysEnding old new before Over (totals_by after))
+    → (0 < length new.held → SaysEnding old new before (Faulted (Ended before.numbers)) (totals_by before))
     → Tells result old new before after item
 Tells-end result old new before after item ended over short says_over says_short = by (ltb 0 (length new.held)) refl
   where
     by : (b : Bool) → ltb 0 (length new.held) ≡ b → Tells result old new before after item
     by true e = let some : 0 < length new.held = grind (arith, e) in
-        rw (short some) (lost_by before, says_short some)
+        rw (short some) (totals_by before, says_short some)
     by false e = let none : length new.held ≡ 0 = grind (arith, e) in
         rw (over none) (ended, says_over none)

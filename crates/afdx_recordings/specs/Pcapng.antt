@@ -12,7 +12,7 @@ use Rattle.afdx_recordings.specs.declared.block.Head.{Head}
 use Rattle.afdx_recordings.specs.declared.block_packet.Placed.{Placed}
 use Rattle.afdx_recordings.specs.declared.recorded.Recorded.TheVariants.{NoFrame}
 use Rattle.afdx_recordings.specs.Orders.{half_at, word_at}
-use Rattle.afdx_recordings.specs.Recordings.{State, Meaning, Wrong, Says, after_block, after_number, lost_by, most_numbers}
+use Rattle.afdx_recordings.specs.Recordings.{State, Meaning, Wrong, Says, after_block, after_number, lost_by, most_by, most_numbers}
 use Rattle.afdx_recordings.specs.Interfaces.{interface_by, losses_by, with_losses}
 use Rattle.afdx_recordings.specs.Packets.{numbered, packet_by, simple_by}
 use Rattle.afdx_recordings.specs.Blocks.{head_by}
@@ -43,6 +43,7 @@ after_section state order = record state {
   order = order;
   interfaces = [];
   lost = lost_by state;
+  most = most_by state;
   blocks = state.blocks + 1;
 }
 

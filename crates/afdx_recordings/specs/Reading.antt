@@ -1,6 +1,10 @@
 -- All that a recording says, from its bytes.
 use Rattle.std.specs.Prelude.{ℕ, zero, suc, Bool, true, false, ◌≡◌, ◌+◌, ◌/◌, ◌==◌, ◌||◌, ◌++◌, List, [], length, drop, nat_lt, Option, Some, None, Result, Ok, Err, if◌then◌else◌}
 use Rattle.afdx_lists.specs.declared.fault.RunFault.{RunFault}
+use Rattle.afdx_lists.specs.declared.next.Next.{Next}
+use Rattle.afdx_lists.specs.declared.next.Next.TheVariants as next
+use Rattle.afdx_lists.specs.declared.next.Progress.{Progress}
+use Rattle.afdx_lists.specs.declared.next.Progress.TheVariants as progress
 use Rattle.afdx_lists.specs.declared.fault.RunFault.TheVariants as run
 use Rattle.afdx_lists.specs.declared.recording_fault.RecordingFault.{RecordingFault}
 use Rattle.afdx_lists.specs.declared.recording_fault.RecordingFault.TheVariants.{NotRecording, BadVersion, Ended, Packed}
@@ -13,8 +17,8 @@ use Rattle.afdx_recordings.specs.declared.form.Magic.TheVariants as magic
 use Rattle.afdx_recordings.specs.declared.frame_reader.FrameReader.{FrameReader}
 use Rattle.afdx_recordings.specs.Orders.{number_in}
 use Rattle.afdx_recordings.specs.Holding.{Standing, Gives, GivesSome, lent}
-use Rattle.afdx_recordings.specs.Recordings.{State, Step, Meaning, Wrong, Says, Ends, Takes, Ending, Over, Faulted, Recording, Numbered}
-use Rattle.afdx_recordings.specs.Recordings.{no_more, in_front, at_start, lost_by, next_block}
+use Rattle.afdx_recordings.specs.Recordings.{State, Step, Meaning, Wrong, Says, Ends, Takes, Ending, Over, Faulted, Recording, Numbered, Totals}
+use Rattle.afdx_recordings.specs.Recordings.{no_more, in_front, at_start, totals_by, next_block}
 use Rattle.afdx_recordings.specs.Recordings.{state_of_known}
 use Rattle.afdx_recordings.specs.Pcapng.{block_head, block_rest, block_meaning}
 use Rattle.afdx_recordings.specs.Pcap.{packet_head, pcap_head, captured_by, packet_meaning, pcap_form, is_pcap_version}
@@ -66,13 +70,13 @@ step_by (Some form.Pcapng) state bytes =
     next_block block_head (block_rest state) (block_meaning state) state.numbers bytes
 
 abbrev pub by_step : (State → List ℕ → Recording) → State → List ℕ → Step → Recording
-by_step next state bytes (Ends ending) = no_more ending (lost_by state)
+by_step next state bytes (Ends ending) = no_more ending (totals_by state)
 by_step next state bytes (Takes n after None) = next after (drop n bytes)
 by_step next state bytes (Takes n after (Some item)) = in_front item (next after (drop n bytes))
 
 -- what at most n blocks say
 abbrev pub said_within : ℕ → State → List ℕ → Recording
-said_within zero state bytes = no_more Over (lost_by state)
+said_within zero state bytes = no_more Over (totals_by state)
 said_within (suc n) state bytes =
     by_step (said_within n) state bytes (step_by state.form state bytes)
 
@@ -81,7 +85,7 @@ unfoldable pub blocks_from : State → List ℕ → Recording
 blocks_from state bytes = said_within (suc (length bytes)) state bytes
 
 abbrev pub from_opening : Opening → State → List ℕ → Recording
-from_opening (Refused fault) state bytes = no_more (Faulted fault) (lost_by state)
+from_opening (Refused fault) state bytes = no_more (Faulted fault) (totals_by state)
 from_opening (Opens form order n) state bytes =
     blocks_from (record state { form = Some form; order = order }) (drop n bytes)
 
@@ -132,53 +136,53 @@ pub record SaysSame (old new : Standing) (before after : State) : Type 0 where
       ≡ recorded_from after (new.held ++ more)
 
 -- nothing more is said, and all ends so, whatever can follow
-pub record SaysEnding (old new : Standing) (before : State) (ending : Ending) (lost : ℕ)
+pub record SaysEnding (old new : Standing) (before : State) (ending : Ending) (totals : Totals)
     : Type 0 where
   pub given : List ℕ
   pub gives : Gives old new given
   pub says : (more : List ℕ) → CanFollow new more
-      → recorded_from before ((old.held ++ given) ++ more) ≡ no_more ending lost
+      → recorded_from before ((old.held ++ given) ++ more) ≡ no_more ending totals
 
 -- what was given says nothing yet that takes a number, and no end for sure
 pub record SaysNothing (old new : Standing) (before : State) : Type 0 where
   pub given : List ℕ
   pub gives : Gives old new given
   pub ending : Ending
-  pub lost : ℕ
-  pub says : recorded_from before (old.held ++ given) ≡ no_more ending lost
+  pub totals : Totals
+  pub says : recorded_from before (old.held ++ given) ≡ no_more ending totals
   pub unfinished : is_unfinished ending ≡ true
 
 -- the answer to a call for the next item
-abbrev pub Tells : Result Bool RunFault → (old new : Standing) → (before after : State)
+abbrev pub Tells : Result Next RunFault → (old new : Standing) → (before after : State)
     → Numbered → Type 0
-Tells (Ok true) old new before after item = SaysFirst old new before after item
-Tells (Ok false) old new before after item =
-    (new.ended ≡ true) × SaysEnding old new before Over (lost_by after)
+Tells (Ok next.Given) old new before after item = SaysFirst old new before after item
+Tells (Ok next.Ended) old new before after item =
+    (new.ended ≡ true) × SaysEnding old new before Over (totals_by after)
 Tells (Err (run.Recording fault)) old new before after item =
-    (lost : ℕ) × SaysEnding old new before (Faulted fault) lost
+    (totals : Totals) × SaysEnding old new before (Faulted fault) totals
 Tells (Err run.Read) old new before after item = SaysNothing old new before
 Tells (Err run.Memory) old new before after item = GivesSome old new
 Tells (Err _) old new before after item = ⊥
 
 -- what a block means: it takes a number or none, or it is wrong
-abbrev pub Meant : Meaning → Result Bool RunFault → State → Numbered → Type 0
-Meant meaning (Ok true) after item = meaning ≡ Says after (Some item)
-Meant meaning (Ok false) after item = meaning ≡ Says after None
+abbrev pub Meant : Meaning → Result Progress RunFault → State → Numbered → Type 0
+Meant meaning (Ok progress.Given) after item = meaning ≡ Says after (Some item)
+Meant meaning (Ok progress.NotYet) after item = meaning ≡ Says after None
 Meant meaning (Err (run.Recording fault)) after item = meaning ≡ Wrong fault
 Meant meaning (Err run.Memory) after item = Unit {0}
 Meant meaning (Err _) after item = ⊥
 
 -- the answer to a call for the next block, which took a number or none
-abbrev pub TellsBlock : Result Bool RunFault → (old new : Standing) → (before after : State)
+abbrev pub TellsBlock : Result Progress RunFault → (old new : Standing) → (before after : State)
     → Numbered → Type 0
-TellsBlock (Ok true) old new before after item = SaysFirst old new before after item
-TellsBlock (Ok false) old new before after item = SaysSame old new before after
+TellsBlock (Ok progress.Given) old new before after item = SaysFirst old new before after item
+TellsBlock (Ok progress.NotYet) old new before after item = SaysSame old new before after
 TellsBlock (Err fault) old new before after item = Tells (Err fault) old new before after item
 
 -- it counts as a block, and as a number if it took one
-abbrev pub CountsBlock : Result Bool RunFault → State → State → Type 0
-CountsBlock (Ok true) before after =
+abbrev pub CountsBlock : Result Progress RunFault → State → State → Type 0
+CountsBlock (Ok progress.Given) before after =
     (after.numbers ≡ before.numbers + 1) × (after.blocks ≡ before.blocks + 1)
-CountsBlock (Ok false) before after =
+CountsBlock (Ok progress.NotYet) before after =
     (after.numbers ≡ before.numbers) × (after.blocks ≡ before.blocks + 1)
 CountsBlock (Err fault) before after = after.numbers ≡ before.numbers

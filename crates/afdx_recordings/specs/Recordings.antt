@@ -1,10 +1,11 @@
 -- What a recording says: its numbers one by one, and how it ends.
-use Rattle.std.specs.Prelude.{ℕ, ◌+◌, ◌-◌, ◌^◌, ◌==◌, min, List, [], ◌∷◌, length, take, nat_lt, Option, Some, None, if◌then◌else◌}
+use Rattle.std.specs.Prelude.{ℕ, ◌+◌, ◌-◌, ◌^◌, ◌==◌, min, max, List, [], ◌∷◌, length, take, nat_lt, Option, Some, None, if◌then◌else◌}
 use Rattle.afdx_lists.specs.declared.recording_fault.RecordingFault.{RecordingFault}
 use Rattle.afdx_lists.specs.declared.recording_fault.RecordingFault.TheVariants.{Damaged, Ended}
 use Rattle.afdx_recordings.specs.declared.recorded.Recorded.{Recorded}
 use Rattle.afdx_recordings.specs.declared.interface.Interface.{Interface}
 use Rattle.afdx_recordings.specs.declared.form.Form.{Form}
+use Rattle.afdx_recordings.specs.declared.form.Form.TheVariants as form
 use Rattle.afdx_recordings.specs.declared.known.Known.{Known}
 use Rattle.afdx_recordings.specs.declared.order.Order.{Order}
 use Rattle.afdx_recordings.specs.declared.order.Order.TheVariants.{LowFirst}
@@ -19,22 +20,27 @@ pub data Ending : Type 0 where
   Over : Ending
   Faulted : RecordingFault → Ending
 
--- all that a recording says; by its end the recorder lost so many frames
+-- what all blocks come to: frames that the recorder lost, and the most interfaces of a section
+pub record Totals : Type 0 where
+  pub lost : ℕ
+  pub interfaces : ℕ
+
+-- all that a recording says; by its end it comes to this
 pub record Recording : Type 0 where
   pub items : List Numbered
   pub ending : Ending
-  pub lost : ℕ
+  pub totals : Totals
 
 -- nothing more: it ends so
-abbrev pub no_more : Ending → ℕ → Recording
-no_more ending lost = record { items = []; ending = ending; lost = lost }
+abbrev pub no_more : Ending → Totals → Recording
+no_more ending totals = record { items = []; ending = ending; totals = totals }
 
 -- this item first
 abbrev pub in_front : Numbered → Recording → Recording
 in_front item recording = record {
   items = item ∷ recording.items;
   ending = recording.ending;
-  lost = recording.lost;
+  totals = recording.totals;
 }
 
 -- the most numbers, and the most blocks
@@ -45,13 +51,15 @@ most_numbers = 100000000000000000
 abbrev pub longest_capture : ℕ
 longest_capture = 262144
 
--- what is known before a block: the form; the order of bytes and the interfaces of the section; how
--- many frames were lost in the sections before; how many numbers and blocks there were
+-- what is known before a block: the form; the order of bytes and the interfaces of the section; of
+-- the sections before, how many frames were lost, and the most interfaces of one; how many numbers
+-- and blocks there were
 pub record State : Type 0 where
   pub form : Option Form
   pub order : Order
   pub interfaces : List Interface
   pub lost : ℕ
+  pub most : ℕ
   pub numbers : ℕ
   pub blocks : ℕ
 
@@ -62,6 +70,7 @@ state_of_known known = record {
   order = known.order;
   interfaces = known.interfaces.items;
   lost = known.lost_before;
+  most = known.most_before;
   numbers = known.numbers;
   blocks = known.blocks;
 }
@@ -73,6 +82,7 @@ at_start = record {
   order = LowFirst;
   interfaces = [];
   lost = 0;
+  most = 0;
   numbers = 0;
   blocks = 0;
 }
@@ -89,6 +99,21 @@ lost_at before (first ∷ rest) =
 
 unfoldable pub lost_by : State → ℕ
 lost_by state = lost_at state.lost state.interfaces
+
+-- the most interfaces of a section: of this one, or of those before
+unfoldable pub most_by : State → ℕ
+most_by state = max state.most (length state.interfaces)
+
+-- how many interfaces there are; a pcap has one
+abbrev pub interfaces_in : Option Form → ℕ → ℕ
+interfaces_in (Some (form.Pcap pcap)) most = 1
+interfaces_in _ most = most
+
+abbrev pub totals_by : State → Totals
+totals_by state = record {
+  lost = lost_by state;
+  interfaces = interfaces_in state.form (most_by state);
+}
 
 -- one block more, which takes no number, or one
 abbrev pub after_block : State → State

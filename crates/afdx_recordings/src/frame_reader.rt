@@ -12,7 +12,7 @@ use crate::known::{Known, MOST_NUMBERS};
 use crate::order::Order;
 use crate::packet::frame_of;
 use crate::recorded::Recorded;
-use afdx_lists::{RecordingFault, RunFault, Watched};
+use afdx_lists::{Next, RecordingFault, RunFault, Watched};
 use std::alloc::{AllocError, Global};
 use std::io::Read;
 
@@ -36,7 +36,7 @@ pub struct FrameReader {
 impl FrameReader {
     ghost use Rattle.afdx_lists.specs.Watching.{has_ended, has_failed};
     ghost use Rattle.afdx_recordings.specs.Holding.{unread, standing, IsTrueToEnd};
-    ghost use Rattle.afdx_recordings.specs.Recordings.{at_start, after_number, lost_by, most_numbers};
+    ghost use Rattle.afdx_recordings.specs.Recordings.{at_start, after_number, totals_by, most_numbers};
     ghost use Rattle.afdx_recordings.specs.Pcap.{captured_by};
     ghost use Rattle.afdx_recordings.specs.Reading.{state_of, latest, magic_of, Tells, SaysSame};
     ghost use Rattle.afdx_recordings.specs.Orders.{number_in};
@@ -79,18 +79,26 @@ impl FrameReader {
     /// Frames that the recorder lost so far, by its statistics; 2^64 - 1 if it is more. A pcap has
     /// none.
     pub fn lost(&self) -> u64
-        ensures { result ≡ lost_by (state_of self.now) }
+        ensures { result ≡ (totals_by (state_of self.now)).lost }
     {
         self.known.lost()
     }
 
-    /// Takes the next number. False: there is none, and the input gave its end.
+    /// How many interfaces there are so far, of which the first is 0. A pcap has one, a pcapng the
+    /// most that one of its sections describes.
+    pub fn interfaces(&self) -> usize
+        ensures { result ≡ (totals_by (state_of self.now)).interfaces }
+    {
+        self.known.interface_count()
+    }
+
+    /// Takes the next number.
     ///
     /// `Recording` comes for what is wrong with the recording, `Read` exactly where the input
     /// failed and the next byte was needed, `Memory` where there is no room for a frame. The input
     /// isn't read once a frame stands whole, nor after its end or a fault.
     #[inline(always)]
-    pub fn next<R: Read>(&mut self, input: &mut Watched<R>) -> Result<bool, RunFault>
+    pub fn next<R: Read>(&mut self, input: &mut Watched<R>) -> Result<Next, RunFault>
         requires sound { has_failed input.old ≡ false }
         requires honest { IsTrueToEnd (standing R.remaining self.old.held input.old) }
         ensures honest { IsTrueToEnd (standing R.remaining self.new.held input.new) }
@@ -98,7 +106,7 @@ impl FrameReader {
         ensures tells { Tells result (standing R.remaining self.old.held input.old)
             (standing R.remaining self.new.held input.new)
             (state_of self.old) (state_of self.new) (latest self.new) }
-        ensures number { result ≡ Ok true →
+        ensures number { result ≡ Ok Next.Given →
             (state_of self.new).numbers ≡ (state_of self.old).numbers + 1 }
         ensures few { (state_of self.new).numbers ≤ most_numbers }
     {
@@ -113,7 +121,7 @@ impl FrameReader {
 
     /// The next number of a recording of this form.
     #[inline(always)]
-    fn next_of<R: Read>(&mut self, form: Form, input: &mut Watched<R>) -> Result<bool, RunFault>
+    fn next_of<R: Read>(&mut self, form: Form, input: &mut Watched<R>) -> Result<Next, RunFault>
         requires sound { has_failed input.old ≡ false }
         requires honest { IsTrueToEnd (standing R.remaining self.old.held input.old) }
         requires form { self.old.known.form ≡ Some form }
@@ -122,7 +130,7 @@ impl FrameReader {
         ensures tells { Tells result (standing R.remaining self.old.held input.old)
             (standing R.remaining self.new.held input.new)
             (state_of self.old) (state_of self.new) (latest self.new) }
-        ensures number { result ≡ Ok true →
+        ensures number { result ≡ Ok Next.Given →
             (state_of self.new).numbers ≡ (state_of self.old).numbers + 1 }
         ensures few { (state_of self.new).numbers ≤ most_numbers }
     {
@@ -150,7 +158,7 @@ impl FrameReader {
             (standing R.remaining self.new.held input.new)
             (state_of self.old) (state_of self.new) (latest self.new)) }
     {
-        if !self.held.fill(input, MAGIC)? {
+        if let Next::Ended = self.held.fill(input, MAGIC)? {
             return Err(RunFault::Recording(RecordingFault::NotRecording(0)));
         }
         let number = Order::HighFirst.word(self.held.bytes(), 0);
@@ -192,7 +200,7 @@ impl FrameReader {
             (standing R.remaining self.new.held input.new)
             (state_of self.old) (state_of self.new) (latest self.new)) }
     {
-        if !self.held.fill(input, PCAP_HEAD)? {
+        if let Next::Ended = self.held.fill(input, PCAP_HEAD)? {
             return Err(RunFault::Recording(RecordingFault::Ended(0)));
         }
         if !is_known_version(order, self.held.bytes()) {
@@ -211,7 +219,7 @@ impl FrameReader {
         &mut self,
         form: PcapForm,
         input: &mut Watched<R>,
-    ) -> Result<bool, RunFault>
+    ) -> Result<Next, RunFault>
         requires sound { has_failed input.old ≡ false }
         requires honest { IsTrueToEnd (standing R.remaining self.old.held input.old) }
         requires form { self.old.known.form ≡ Some (Pcap form) }
@@ -220,22 +228,22 @@ impl FrameReader {
         ensures tells { Tells result (standing R.remaining self.old.held input.old)
             (standing R.remaining self.new.held input.new)
             (state_of self.old) (state_of self.new) (latest self.new) }
-        ensures number { result ≡ Ok true →
+        ensures number { result ≡ Ok Next.Given →
             (state_of self.new).numbers ≡ (state_of self.old).numbers + 1 }
         ensures few { (state_of self.new).numbers ≤ most_numbers }
     {
-        if !self.held.fill(input, PACKET_HEAD)? {
+        if let Next::Ended = self.held.fill(input, PACKET_HEAD)? {
             return self.end();
         }
         let length = PACKET_HEAD + self.captured()? as usize;
-        if !self.held.fill(input, length)? {
+        if let Next::Ended = self.held.fill(input, length)? {
             return Err(self.ended());
         }
         let frame = frame_of(form, self.known.order, self.held.bytes());
         self.held.pass(length, PACKET_HEAD, length);
         self.known.count_number();
         self.recorded = Recorded::Frame(frame);
-        Ok(true)
+        Ok(Next::Given)
     }
 
     /// The bytes that follow the header of a frame in a pcap.
@@ -257,13 +265,13 @@ impl FrameReader {
     }
 
     /// What is answered where the input ended and less than a header is held.
-    fn end(&self) -> Result<bool, RunFault>
-        ensures over { length (unread self.now.held) ≡ 0 → result ≡ Ok false }
+    fn end(&self) -> Result<Next, RunFault>
+        ensures over { length (unread self.now.held) ≡ 0 → result ≡ Ok Next.Ended }
         ensures ended { 0 < length (unread self.now.held) →
             result ≡ Err (RunFault.Recording (RecordingFault.Ended self.now.known.numbers)) }
     {
         if self.held.count() == 0 {
-            return Ok(false);
+            return Ok(Next::Ended);
         }
         Err(self.ended())
     }

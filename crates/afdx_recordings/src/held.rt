@@ -4,7 +4,7 @@ ghost use Rattle.std.specs.Prelude.{◌≡◌, ◌≤◌, ◌<◌, ◌+◌, ◌-
 ghost use Rattle.std.specs.Prelude.{vec_len, true, false, IfOk, IfErr, OnErr, OnOk};
 ghost use Rattle.afdx_lists.specs.Calls.{is_failed_read};
 
-use afdx_lists::{RunFault, Watched};
+use afdx_lists::{Next, RunFault, Watched};
 use std::alloc::{AllocError, Global};
 use std::io::Read;
 
@@ -86,12 +86,12 @@ impl Held {
         self.start += n;
     }
 
-    /// Reads until `n` bytes are held. False: fewer are, and the input gave its end.
+    /// Reads until `n` bytes are held, or the input gave its end and fewer are.
     ///
     /// `Read` comes where the input failed and fewer are held, `Memory` where there is no room for
     /// so many. It reads only while fewer are held.
     #[inline(always)]
-    pub fn fill<R: Read>(&mut self, input: &mut Watched<R>, n: usize) -> Result<bool, RunFault>
+    pub fn fill<R: Read>(&mut self, input: &mut Watched<R>, n: usize) -> Result<Next, RunFault>
         requires sound { has_failed input.old ≡ false }
         requires honest { IsTrueToEnd (standing R.remaining self.old input.old) }
         ensures honest { IsTrueToEnd (standing R.remaining self.new input.new) }
@@ -99,19 +99,19 @@ impl Held {
         ensures fault { IfErr result IsOfReading }
         ensures passes { Passes (standing R.remaining self.old input.old)
             (standing R.remaining self.new input.new) [] }
-        ensures enough { result ≡ Ok true → n ≤ length (unread self.new) }
-        ensures last { result ≡ Ok false →
+        ensures enough { result ≡ Ok Next.Given → n ≤ length (unread self.new) }
+        ensures last { result ≡ Ok Next.Ended →
             (has_ended input.new ≡ true) × (length (unread self.new) < n) }
         ensures few { is_failed_read result ≡ true → length (unread self.new) < n }
     {
         if n <= self.count() {
-            return Ok(true);
+            return Ok(Next::Given);
         }
         self.read_until(input, n)
     }
 
     /// Reads until `n` bytes are held, where there may be no room for them yet.
-    fn read_until<R: Read>(&mut self, input: &mut Watched<R>, n: usize) -> Result<bool, RunFault>
+    fn read_until<R: Read>(&mut self, input: &mut Watched<R>, n: usize) -> Result<Next, RunFault>
         requires sound { has_failed input.old ≡ false }
         requires honest { IsTrueToEnd (standing R.remaining self.old input.old) }
         ensures honest { IsTrueToEnd (standing R.remaining self.new input.new) }
@@ -119,33 +119,33 @@ impl Held {
         ensures fault { IfErr result IsOfReading }
         ensures passes { Passes (standing R.remaining self.old input.old)
             (standing R.remaining self.new input.new) [] }
-        ensures enough { result ≡ Ok true → n ≤ length (unread self.new) }
-        ensures last { result ≡ Ok false →
+        ensures enough { result ≡ Ok Next.Given → n ≤ length (unread self.new) }
+        ensures last { result ≡ Ok Next.Ended →
             (has_ended input.new ≡ true) × (length (unread self.new) < n) }
         ensures few { is_failed_read result ≡ true → length (unread self.new) < n }
     {
         self.make_room(n)?;
         'reads: while self.end - self.start < n {
-            if !self.refill(input)? {
-                return Ok(false);
+            if let Next::Ended = self.refill(input)? {
+                return Ok(Next::Ended);
             }
         }
-        Ok(true)
+        Ok(Next::Given)
     }
 
-    /// Passes `n` bytes, which needn't be held at once. False: there were fewer, and the input gave
-    /// its end. `Read` comes where the input failed and there were fewer so far.
-    pub fn skip<R: Read>(&mut self, input: &mut Watched<R>, n: usize) -> Result<bool, RunFault>
+    /// Passes `n` bytes, which needn't be held at once, or fewer where the input gave its end before.
+    /// `Read` comes where the input failed and there were fewer so far.
+    pub fn skip<R: Read>(&mut self, input: &mut Watched<R>, n: usize) -> Result<Next, RunFault>
         requires sound { has_failed input.old ≡ false }
         requires honest { IsTrueToEnd (standing R.remaining self.old input.old) }
         ensures honest { IsTrueToEnd (standing R.remaining self.new input.new) }
         ensures failed { has_failed input.new ≡ is_failed_read result }
         ensures fault { IfErr result (λ fault. fault ≡ RunFault.Read) }
-        ensures all { result ≡ Ok true → (passed : List ℕ)
+        ensures all { result ≡ Ok Next.Given → (passed : List ℕ)
             × Passes (standing R.remaining self.old input.old)
             (standing R.remaining self.new input.new) passed
             × (length passed ≡ n) }
-        ensures last { result ≡ Ok false → (has_ended input.new ≡ true) × (passed : List ℕ)
+        ensures last { result ≡ Ok Next.Ended → (has_ended input.new ≡ true) × (passed : List ℕ)
             × Passes (standing R.remaining self.old input.old)
             (standing R.remaining self.new input.new) passed
             × (length passed + length (unread self.new) < n) }
@@ -158,12 +158,12 @@ impl Held {
         'reads: while self.count() < missing {
             missing -= self.count();
             self.clear();
-            if !self.refill(input)? {
-                return Ok(false);
+            if let Next::Ended = self.refill(input)? {
+                return Ok(Next::Ended);
             }
         }
         self.pass(missing, 0, 0);
-        Ok(true)
+        Ok(Next::Given)
     }
 
     /// Passes all that is held.
@@ -192,8 +192,8 @@ impl Held {
         Ok(())
     }
 
-    /// Reads once, behind what is unread. False: there is no more.
-    fn refill<R: Read>(&mut self, input: &mut Watched<R>) -> Result<bool, RunFault>
+    /// Reads once, behind what is unread.
+    fn refill<R: Read>(&mut self, input: &mut Watched<R>) -> Result<Next, RunFault>
         requires sound { has_failed input.old ≡ false }
         requires honest { IsTrueToEnd (standing R.remaining self.old input.old) }
         requires room { self.old.end < vec_len self.old.chunk }
@@ -204,19 +204,19 @@ impl Held {
             (standing R.remaining self.new input.new) [] }
         ensures start { self.new.start ≡ self.old.start }
         ensures room { vec_len self.new.chunk ≡ vec_len self.old.chunk }
-        ensures more { result ≡ Ok true → self.old.end < self.new.end }
-        ensures none { result ≡ Ok false → self.new.end ≡ self.old.end }
+        ensures more { result ≡ Ok Next.Given → self.old.end < self.new.end }
+        ensures none { result ≡ Ok Next.Ended → self.new.end ≡ self.old.end }
         ensures same { OnErr result (self.new.end ≡ self.old.end) }
-        ensures ended { result ≡ Ok false → has_ended input.new ≡ true }
+        ensures ended { result ≡ Ok Next.Ended → has_ended input.new ≡ true }
     {
         if input.ended() {
-            return Ok(false);
+            return Ok(Next::Ended);
         }
         let held = self.end;
         match input.read(&mut self.chunk.as_mut_slice()[held..]) {
             Ok(count) => {
                 self.end += count;
-                Ok(count > 0)
+                Ok(Next::of_read(count))
             }
             Err(_) => Err(RunFault::Read),
         }

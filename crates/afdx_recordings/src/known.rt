@@ -33,6 +33,8 @@ pub struct Known {
     pub interfaces: Vec<Interface>,
     /// Frames that the recorder lost in the sections before.
     pub lost_before: u64,
+    /// The most interfaces of a section before.
+    pub most_before: usize,
     /// The numbers so far.
     pub numbers: u64,
     /// The blocks so far.
@@ -44,7 +46,7 @@ pub struct Known {
 
 impl Known {
     ghost use Rattle.afdx_recordings.specs.Recordings.{state_of_known, at_start, after_number};
-    ghost use Rattle.afdx_recordings.specs.Recordings.{after_block, lost_by};
+    ghost use Rattle.afdx_recordings.specs.Recordings.{after_block, lost_by, most_by, totals_by};
     ghost use Rattle.afdx_recordings.specs.Blocks.{least_of};
     ghost use Rattle.afdx_recordings.specs.Orders.{half_at};
     ghost use Rattle.afdx_recordings.specs.Pcapng.{section_meaning, interface_meaning};
@@ -62,6 +64,7 @@ impl Known {
             order: Order::LowFirst,
             interfaces: Vec::new(alloc),
             lost_before: 0,
+            most_before: 0,
             numbers: 0,
             blocks: 0,
         }
@@ -77,6 +80,24 @@ impl Known {
             lost = lost.saturating_add(interface.system_lost);
         }
         lost
+    }
+
+    /// The most interfaces of a section so far.
+    #[tactic(auto, unfolding(crate::specs::Recordings::most_by))]
+    fn most_interfaces(&self) -> usize
+        ensures { result ≡ most_by (state_of_known self.now) }
+    {
+        self.most_before.max(self.interfaces.len())
+    }
+
+    /// How many interfaces there are so far: of a pcap one, of a pcapng the most of a section.
+    pub fn interface_count(&self) -> usize
+        ensures { result ≡ (totals_by (state_of_known self.now)).interfaces }
+    {
+        match self.form {
+            Some(Form::Pcap(_)) => 1,
+            _ => self.most_interfaces(),
+        }
     }
 
     /// A block more, which took a number.
@@ -117,7 +138,7 @@ impl Known {
 
     /// A section begins.
     #[inline(never)]
-    #[tactic(auto, unfolding(crate::specs::Pcapng::section_meaning))]
+    #[tactic(auto, unfolding(crate::specs::Pcapng::section_meaning, crate::specs::Recordings::most_by))]
     fn begin_section(&mut self, order: Order, body: &[u8]) -> Result<Option<Placed>, RunFault>
         requires few { self.old.blocks < 100000000000000000 }
         requires long { 16 ≤ length body.now }
@@ -130,6 +151,7 @@ impl Known {
         let minor = order.half(body, 6);
         if order.half(body, 4) == 1 && (minor == 0 || minor == 2) {
             self.lost_before = self.lost();
+            self.most_before = self.most_interfaces();
             self.interfaces.clear();
             self.order = order;
             self.blocks += 1;

@@ -14,13 +14,12 @@ use Rattle.afdx_frame.specs.declared.link.Priority.{Priority}
 use Rattle.afdx_frame.specs.declared.link.Priority.TheVariants.{High, Low}
 use Rattle.afdx_frame.specs.declared.link.Policing.{Policing}
 use Rattle.afdx_frame.specs.declared.link.Policing.TheVariants.{Byte, Frame}
+use Rattle.afdx_frame.proofs.ListLemmas.{AllByRecursion-slice_get, slice_get-within}
 use Rattle.afdx_config.specs.declared.rows.Kind.{Kind}
 use Rattle.afdx_config.specs.declared.rows.Kind.TheVariants.{Sampling, Queuing}
 use Rattle.afdx_config.specs.Lawful.{IsLawful, IsSystem, IsLink, IsPort, IsWithin}
 use Rattle.afdx_config.specs.Reading.{is_name, deepest}
 use Rattle.afdx_config.specs.Rows.{SystemRow, LinkRow, PortRow, Rows}
-use Rattle.afdx_config.proofs.EachRowLemmas.{all_at}
-use Rattle.afdx_admit.proofs.TakenLemmas.{at_place}
 use Rattle.afdx_solve.specs.ConfigText.{in_quotes, listed, number_line, text_line, texts_line, header, class_word, policing_word, kind_word, name_at}
 use Rattle.afdx_solve.specs.ConfigText.{system_text, way_text, traffic_text, treatment_text, link_text, port_text, config_text}
 use Rattle.afdx_solve.proofs.NameLemmas.{IsWord, word-text}
@@ -158,8 +157,8 @@ pub names-words : (profile : ℕ) (systems : List SystemRow)
     → AllByRecursion (IsSystem profile) systems → AreNamesWords systems
 unfolding name_at
 names-words profile systems are i within =
-    let (s, at) = at_place systems i within in
-    rw at (name-word profile s (all_at (IsSystem profile) systems i s are at))
+    let (s, at) = slice_get-within systems i within in
+    rw at (name-word profile s (AllByRecursion-slice_get (IsSystem profile) systems i s are at))
 
 places-words : (systems : List SystemRow) → AreNamesWords systems → (to : List ℕ)
     → AllByRecursion (λ i. i < length systems) to

@@ -12,6 +12,7 @@ use Rattle.afdx_frame.specs.declared.link.Priority.{Priority}
 use Rattle.afdx_frame.specs.declared.link.Priority.TheVariants.{High, Low}
 use Rattle.afdx_frame.specs.declared.link.Policing.{Policing}
 use Rattle.afdx_frame.specs.declared.link.Policing.TheVariants.{Byte, Frame}
+use Rattle.afdx_frame.proofs.ListLemmas.{AllByRecursion-one_of}
 use Rattle.afdx_config.specs.declared.rows.Kind.{Kind}
 use Rattle.afdx_config.specs.declared.rows.Kind.TheVariants.{Sampling, Queuing}
 use Rattle.afdx_config.specs.Choices.{choice, all_kept}
@@ -24,7 +25,7 @@ use Rattle.afdx_config.specs.Reading.{system_at, new_name, rates, system_named, 
 use Rattle.afdx_config.specs.Reading.{traffic_at, treatment_at, deepest}
 use Rattle.afdx_config.specs.Rows.{SystemRow, LinkRow, PortRow, is_to}
 use Rattle.afdx_solve.specs.ConfigText.{class_word, policing_word, kind_word, name_at}
-use Rattle.afdx_solve.proofs.KeyLemmas.{whole-reads, one_of-reads, text-reads, word-reads, texts-read, one_of_each}
+use Rattle.afdx_solve.proofs.KeyLemmas.{whole-reads, one_of-reads, text-reads, word-reads, texts-read}
 use Rattle.afdx_solve.proofs.TreeLemmas.{system_nodes, link_nodes, port_nodes}
 
 -- ---- systems
@@ -36,9 +37,9 @@ pub rate-within : (profile n : ℕ) → IsOneOf (rates profile) n → IsWithin 1
 rate-within profile n one = by (profile == 2) one
   where
     by : (two : Bool) → IsOneOf (if two then 10 ∷ 100 ∷ 1000 ∷ [] else 10 ∷ 100 ∷ []) n → IsWithin 10 1000 n
-    by true one = one_of_each (IsWithin 10 1000) n (10 ∷ 100 ∷ 1000 ∷ [])
+    by true one = AllByRecursion-one_of (IsWithin 10 1000) n (10 ∷ 100 ∷ 1000 ∷ [])
         ((omega arith, omega arith), ((omega arith, omega arith), ((omega arith, omega arith), tt))) one
-    by false one = one_of_each (IsWithin 10 1000) n (10 ∷ 100 ∷ [])
+    by false one = AllByRecursion-one_of (IsWithin 10 1000) n (10 ∷ 100 ∷ [])
         ((omega arith, omega arith), ((omega arith, omega arith), tt)) one
 
 -- no row before has its name, its port or its id
@@ -101,7 +102,7 @@ places-named systems named_back (i ∷ to) within =
     rw (named_back i within.0, places-named systems named_back to within.1)
 
 pub bag-within : (n : ℕ) → IsOneOf gaps n → IsWithin 1 128 n
-bag-within n one = one_of_each (IsWithin 1 128) n gaps (
+bag-within n one = AllByRecursion-one_of (IsWithin 1 128) n gaps (
   (omega arith, omega arith),
   (
     (omega arith, omega arith),

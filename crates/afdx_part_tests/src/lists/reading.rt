@@ -2,16 +2,16 @@
 
 ghost use Rattle.std.specs.Prelude.{◌<◌};
 
-use afdx_lists::{LineReader, Peeked, RunFault, Watched};
+use afdx_lists::{LineReader, Next, Peeked, RunFault, Watched};
 use afdx_samples::{Feeds, WeakReader, all_right, equal};
 use std::alloc::{AllocError, Global};
 use std::io::Read;
 use std::test::Fail;
 
-/// Takes the next line of an input. False: there is none, or the input ended or failed before.
-fn next_line<R: Read>(input: &mut Watched<R>, reader: &mut LineReader) -> Result<bool, RunFault> {
+/// Takes the next line of an input, unless it ended or failed before.
+fn next_line<R: Read>(input: &mut Watched<R>, reader: &mut LineReader) -> Result<Next, RunFault> {
     if input.failed() || input.ended() {
-        return Ok(false);
+        return Ok(Next::Ended);
     }
     reader.next_line(input)
 }
@@ -30,7 +30,7 @@ fn take_lines<R: Read>(
     text: &mut Vec<u8>,
 ) -> Result<(), RunFault> {
     for _ in 0..2_000_000u64 {
-        if !next_line(input, reader)? {
+        if let Next::Ended = next_line(input, reader)? {
             break;
         }
         put_line(reader, text)?;
@@ -81,7 +81,7 @@ fn is_looked_at(alloc: Global, list: &str, most: usize, wanted: &str) -> bool
         Err(_) => return false,
     };
     let taken = next_line(&mut input, &mut reader);
-    (taken, reader.line()) == (Ok(!list.is_empty()), list.as_bytes())
+    (taken, reader.line()) == (Ok(Next::of_read(list.len())), list.as_bytes())
 }
 
 #[test]

@@ -3,7 +3,7 @@
 ghost use Rattle.std.specs.Prelude.{◌<◌};
 
 use super::{faulted, frame, next_number};
-use afdx_lists::{RecordingFault, RunFault, Watched};
+use afdx_lists::{Next, RecordingFault, RunFault, Watched};
 use afdx_recordings::{CheckSequence, FrameReader, Recorded, RecordedFrame, Stamp};
 use afdx_samples::{HELLO, WeakReader, equal, spelled};
 use std::alloc::{AllocError, Global};
@@ -96,7 +96,7 @@ fn take_all<R: Read>(
 ) -> Result<Option<u64>, RunFault> {
     let mut taken = 0u64;
     for _ in 0..100u64 {
-        if !next_number(input, reader)? {
+        if let Next::Ended = next_number(input, reader)? {
             return Ok(Some(taken));
         }
         taken = taken.saturating_add(1);
@@ -189,6 +189,23 @@ fn the_last_statistics_count(rt: HostRuntime) -> Result<(), Fail> {
     ];
     let answer = said(rt.alloc(), &pieces, &wanted)?;
     equal(answer, Some((Ok(Some(2)), 46)))
+}
+
+/// How many interfaces these pieces say, none of which takes a number.
+fn interfaces_in(alloc: Global, pieces: &[&str]) -> Result<usize, AllocError> {
+    let bytes = bytes_of(alloc, pieces)?;
+    let mut input = Watched::new(bytes.as_slice());
+    let mut reader = FrameReader::new(alloc)?;
+    match reader.next(&mut input) {
+        Ok(Next::Ended) => Ok(reader.interfaces()),
+        _ => Ok(0),
+    }
+}
+
+#[test]
+fn interfaces_are_those_of_the_section_with_most(rt: HostRuntime) -> Result<(), Fail> {
+    let pieces = [low(), ethernet(), other_link(), low(), ethernet()];
+    equal(interfaces_in(rt.alloc(), &pieces)?, 2)
 }
 
 #[test]

@@ -8,7 +8,7 @@ use super::FrameReader;
 use crate::block::{Head, Kind, head_of};
 use crate::known::MOST_NUMBERS;
 use crate::order::Order;
-use afdx_lists::{RecordingFault, RunFault, Watched};
+use afdx_lists::{Next, Progress, RecordingFault, RunFault, Watched};
 use std::io::Read;
 
 /// The bytes that tell a block of a pcapng apart.
@@ -33,7 +33,7 @@ impl FrameReader {
     pub(crate) fn next_in_blocks<R: Read>(
         &mut self,
         input: &mut Watched<R>,
-    ) -> Result<bool, RunFault>
+    ) -> Result<Next, RunFault>
         requires sound { has_failed input.old ≡ false }
         requires honest { IsTrueToEnd (standing R.remaining self.old.held input.old) }
         requires form { self.old.known.form ≡ Some Pcapng }
@@ -42,24 +42,24 @@ impl FrameReader {
         ensures tells { Tells result (standing R.remaining self.old.held input.old)
             (standing R.remaining self.new.held input.new)
             (state_of self.old) (state_of self.new) (latest self.new) }
-        ensures number { result ≡ Ok true →
+        ensures number { result ≡ Ok Next.Given →
             (state_of self.new).numbers ≡ (state_of self.old).numbers + 1 }
         ensures few { (state_of self.new).numbers ≤ most_numbers }
     {
-        'reads: while self.held.fill(input, BLOCK_HEAD)? {
-            if self.take_block(input)? {
-                return Ok(true);
+        'reads: while let Next::Given = self.held.fill(input, BLOCK_HEAD)? {
+            if let Progress::Given = self.take_block(input)? {
+                return Ok(Next::Given);
             }
         }
         self.end()
     }
 
-    /// Takes a block of which the head is held. True: it took a number.
+    /// Takes a block of which the head is held, and which may take a number.
     ///
     /// Most blocks are packets with the low byte first. So what is done with these is written out
     /// by itself.
     #[inline(always)]
-    fn take_block<R: Read>(&mut self, input: &mut Watched<R>) -> Result<bool, RunFault>
+    fn take_block<R: Read>(&mut self, input: &mut Watched<R>) -> Result<Progress, RunFault>
         requires sound { has_failed input.old ≡ false }
         requires honest { IsTrueToEnd (standing R.remaining self.old.held input.old) }
         requires form { self.old.known.form ≡ Some Pcapng }
@@ -105,7 +105,11 @@ impl FrameReader {
 
     /// Takes a block that is held whole first.
     #[inline(always)]
-    fn hold_block<R: Read>(&mut self, head: Head, input: &mut Watched<R>) -> Result<bool, RunFault>
+    fn hold_block<R: Read>(
+        &mut self,
+        head: Head,
+        input: &mut Watched<R>,
+    ) -> Result<Progress, RunFault>
         requires sound { has_failed input.old ≡ false }
         requires honest { IsTrueToEnd (standing R.remaining self.old.held input.old) }
         requires form { self.old.known.form ≡ Some Pcapng }
@@ -121,7 +125,7 @@ impl FrameReader {
         ensures form { self.new.known.form ≡ self.old.known.form }
         ensures counts { CountsBlock result (state_of self.old) (state_of self.new) }
     {
-        if !self.held.fill(input, head.size as usize)? {
+        if let Next::Ended = self.held.fill(input, head.size as usize)? {
             return Err(self.ended());
         }
         self.take_held(head)
@@ -133,7 +137,7 @@ impl FrameReader {
         &mut self,
         head: Head,
         input: &mut Watched<R>,
-    ) -> Result<bool, RunFault>
+    ) -> Result<Progress, RunFault>
         requires sound { has_failed input.old ≡ false }
         requires honest { IsTrueToEnd (standing R.remaining self.old.held input.old) }
         requires form { self.old.known.form ≡ Some Pcapng }
@@ -154,7 +158,7 @@ impl FrameReader {
 
     /// Takes a block that is held whole.
     #[inline(always)]
-    fn take_held(&mut self, head: Head) -> Result<bool, RunFault>
+    fn take_held(&mut self, head: Head) -> Result<Progress, RunFault>
         requires few { self.old.known.blocks < 100000000000000000 }
         requires least { least_of head.kind ≤ head.size }
         requires held { head.size ≤ length (unread self.old.held) }
@@ -176,11 +180,11 @@ impl FrameReader {
                 let start = BODY_START + placed.start;
                 self.held.pass(size, start, start + placed.count);
                 self.recorded = placed.what;
-                Ok(true)
+                Ok(Progress::Given)
             }
             Ok(None) => {
                 self.held.pass(size, 0, 0);
-                Ok(false)
+                Ok(Progress::NotYet)
             }
             Err(fault) => Err(fault),
         }
@@ -188,7 +192,11 @@ impl FrameReader {
 
     /// Takes a block of which only the ends are looked at.
     #[inline(never)]
-    fn skip_block<R: Read>(&mut self, head: Head, input: &mut Watched<R>) -> Result<bool, RunFault>
+    fn skip_block<R: Read>(
+        &mut self,
+        head: Head,
+        input: &mut Watched<R>,
+    ) -> Result<Progress, RunFault>
         requires sound { has_failed input.old ≡ false }
         requires honest { IsTrueToEnd (standing R.remaining self.old.held input.old) }
         requires form { self.old.known.form ≡ Some Pcapng }
@@ -205,10 +213,10 @@ impl FrameReader {
         ensures form { self.new.known.form ≡ self.old.known.form }
         ensures counts { CountsBlock result (state_of self.old) (state_of self.new) }
     {
-        if !self.held.skip(input, head.size as usize - BLOCK_END)? {
+        if let Next::Ended = self.held.skip(input, head.size as usize - BLOCK_END)? {
             return Err(self.ended());
         }
-        if !self.held.fill(input, BLOCK_END)? {
+        if let Next::Ended = self.held.fill(input, BLOCK_END)? {
             return Err(self.ended());
         }
         self.take_skipped(head)
@@ -216,7 +224,7 @@ impl FrameReader {
 
     /// Takes a block of which the last bytes are held.
     #[inline(never)]
-    fn take_skipped(&mut self, head: Head) -> Result<bool, RunFault>
+    fn take_skipped(&mut self, head: Head) -> Result<Progress, RunFault>
         requires few { self.old.known.blocks < 100000000000000000 }
         requires least { least_of head.kind ≤ head.size }
         requires skipped { is_held head.kind ≡ false }
@@ -237,9 +245,9 @@ impl FrameReader {
         match self.known.take_body(head.kind, head.order, &[]) {
             Ok(Some(placed)) => {
                 self.recorded = placed.what;
-                Ok(true)
+                Ok(Progress::Given)
             }
-            Ok(None) => Ok(false),
+            Ok(None) => Ok(Progress::NotYet),
             Err(fault) => Err(fault),
         }
     }

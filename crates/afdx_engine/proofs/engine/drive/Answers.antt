@@ -21,7 +21,7 @@ pub tell-requires : goal.tell-requires
 tell-requires g c =
     let i = c.loop-source.invariant in
     let told = c.requires.told in
-    let item = c.in_ok-next.ensures.item c.args.input.now i.0 i.2 (ap Ok c.if-branch.true) in
+    let item = c.in_ok-next.ensures.item c.args.input.now i.0 i.2 (ap Ok c.in-Given.is) in
     let same = same-item (g.S.Source.current c.next.new.self) c.number.result c.head-head.result
     c.bytes.result.now c.number.ensures c.head-head.ensures c.bytes.ensures in
     record {
@@ -38,7 +38,7 @@ tell-requires g c =
 pub loop-source-preserved : goal.loop-source-preserved
 loop-source-preserved g c =
     let i = c.loop-source.invariant in
-    let item = c.in_ok-next.ensures.item c.args.input.now i.0 i.2 (ap Ok c.if-branch.true) in
+    let item = c.in_ok-next.ensures.item c.args.input.now i.0 i.2 (ap Ok c.in-Given.is) in
     let same = same-item (g.S.Source.current c.next.new.self) c.number.result c.head-head.result
     c.bytes.result.now c.number.ensures c.head-head.ensures c.bytes.ensures in
     let old = g.O.Sink.written c.args.output.now in (
@@ -56,7 +56,7 @@ loop-source-preserved g c =
 pub returns-in_err-tell-clause-answer : goal.returns-in_err-tell-clause-answer
 returns-in_err-tell-clause-answer g c law start =
     let i = c.loop-source.invariant in
-    let item = c.in_ok-next.ensures.item c.args.input.now i.0 i.2 (ap Ok c.if-branch.true) in
+    let item = c.in_ok-next.ensures.item c.args.input.now i.0 i.2 (ap Ok c.in-Given.is) in
     let same = same-item (g.S.Source.current c.next.new.self) c.number.result c.head-head.result
     c.bytes.result.now c.number.ensures c.head-head.ensures c.bytes.ensures in
     let begins = c.in_err-tell.ensures.begins law (g.O.Sink.written c.args.output.now) i.0 (i.5 law start) in
@@ -85,6 +85,6 @@ returns-clause-answer g c law start =
     let i = c.loop-source.invariant in
     let old = g.O.Sink.written c.args.output.now in
     runs-ended _ _ _ _ _ _ i.0 _
-    (c.in_ok-next.ensures.end c.args.input.now i.0 i.2 (ap Ok c.if-branch.false))
+    (c.in_ok-next.ensures.end c.args.input.now i.0 i.2 (search rules))
     (λ a e. rw e at (c.end.ensures.done law old i.0 (i.5 law start)))
     (λ fault e. (rw e at c.end.ensures.fault, rw e at (c.end.ensures.begins law old i.0 (i.5 law start))))

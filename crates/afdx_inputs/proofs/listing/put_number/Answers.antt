@@ -1,4 +1,4 @@
-use Rattle.std.proofs.Common.{◌≡◌, ℕ, List, OnErr, refl, sym, subst}
+use Rattle.std.proofs.Common.{◌≡◌, ℕ, List, OnErr, refl, sym, subst, ap}
 use Rattle.afdx_lists.specs.Calls.{AppendsFront}
 use Rattle.afdx_text.specs.OutLines.{frame_line, remark_line}
 use Rattle.afdx_inputs.specs.ListText.{number_text}
@@ -14,8 +14,7 @@ returns-in-Arrival-clause-front g c =
 
 pub returns-in-Skipped-clause-front : goal.returns-in-Skipped-clause-front
 returns-in-Skipped-clause-front g c =
-    let e : number_text c.args.n c.args.line.now c.args.bytes.now
-    ≡ remark_line c.word.result.now c.args.n =
-    rw (c.in-Skipped.is, c.word.ensures) refl in
+    let e : number_text c.args.n c.args.line.now c.args.bytes.now ≡ remark_line c.word.result.now c.args.n =
+    rw c.in-Skipped.is (ap (λ (word : List ℕ). remark_line word c.args.n) (sym c.word.ensures)) in
     subst (λ (x : List ℕ). OnErr c.put-in-Skipped.result (AppendsFront (g.O.Sink.written c.args.output.now)
     (g.O.Sink.written c.put-in-Skipped.new.self) x)) (sym e) c.put-in-Skipped.ensures.front

@@ -3,56 +3,56 @@ use Rattle.afdx_recorded.proofs.StepLemmas.{is-reading, took-one, took-none, end
 use Rattle.afdx_recorded.proofs.StepLemmas.{took-less, took-no-more, took-step, ends-less}
 use Rattle.afdx_recorded.proofs.ordered.read_one.Goals as goal
 
-pub returns-in-Ok-true-clause-given : goal.returns-in-Ok-true-clause-given
-returns-in-Ok-true-clause-given g c start past h ok =
+pub returns-in-Ok-Given-clause-given : goal.returns-in-Ok-Given-clause-given
+returns-in-Ok-Given-clause-given g c start past h ok =
     let S = g.S.Source in
     let old = c.args.ordered.now in
     let r = is-reading S.current S.Gave S.Ended S.Stopped start old c.args.input.now past c.requires.reading h in
-    let item = c.in-Ok-true.ensures.item start r.read r.gave_them (search rules) in
+    let item = c.in-Ok-Given.ensures.item start r.read r.gave_them (search rules) in
     let k = took-one S.current S.Gave S.Ended S.Stopped start (record old { source = c.next.new.self })
     c.next.new.input past c.requires.reading r.read r.are_forward r.latest r.are_held item.0 item.1
     c.take_in.new.ordered
     (rw ok at c.take_in.ensures) in (k.gave_them, k.follows)
 
-pub returns-in-Ok-true-clause-none : goal.returns-in-Ok-true-clause-none
-returns-in-Ok-true-clause-none g c start past h ok =
+pub returns-in-Ok-Given-clause-none : goal.returns-in-Ok-Given-clause-none
+returns-in-Ok-Given-clause-none g c start past h ok =
     let S = g.S.Source in
     let old = c.args.ordered.now in
     let r = is-reading S.current S.Gave S.Ended S.Stopped start old c.args.input.now past c.requires.reading h in
-    let item = c.in-Ok-true.ensures.item start r.read r.gave_them (search rules) in
+    let item = c.in-Ok-Given.ensures.item start r.read r.gave_them (search rules) in
     took-none S.current S.Gave S.Ended S.Stopped start (record old { source = c.next.new.self })
     c.next.new.input past c.requires.reading r.read r.are_forward r.latest r.are_held item.0 item.1
     c.take_in.new.ordered
     (rw ok at c.take_in.ensures)
 
-pub returns-in-Ok-true-clause-less : goal.returns-in-Ok-true-clause-less
-returns-in-Ok-true-clause-less g c ok =
+pub returns-in-Ok-Given-clause-less : goal.returns-in-Ok-Given-clause-less
+returns-in-Ok-Given-clause-less g c ok =
     took-less g.S.Source.left_of c.args.ordered.now c.next.new.self c.requires.reading
-    (c.in-Ok-true.ensures.less (search rules)) (g.S.Source.current c.next.new.self) c.take_in.new.ordered
+    (c.in-Ok-Given.ensures.less (search rules)) (g.S.Source.current c.next.new.self) c.take_in.new.ordered
     (rw ok at c.take_in.ensures)
 
-pub returns-in-Ok-true-clause-no_more : goal.returns-in-Ok-true-clause-no_more
-returns-in-Ok-true-clause-no_more g c ok =
+pub returns-in-Ok-Given-clause-no_more : goal.returns-in-Ok-Given-clause-no_more
+returns-in-Ok-Given-clause-no_more g c ok =
     took-no-more g.S.Source.left_of c.args.ordered.now c.next.new.self c.requires.reading
-    (c.in-Ok-true.ensures.less (search rules)) (g.S.Source.current c.next.new.self) c.take_in.new.ordered
+    (c.in-Ok-Given.ensures.less (search rules)) (g.S.Source.current c.next.new.self) c.take_in.new.ordered
     (rw ok at c.take_in.ensures)
 
-pub returns-in-Ok-true-clause-steps : goal.returns-in-Ok-true-clause-steps
-returns-in-Ok-true-clause-steps g c ok =
+pub returns-in-Ok-Given-clause-steps : goal.returns-in-Ok-Given-clause-steps
+returns-in-Ok-Given-clause-steps g c ok =
     took-step g.S.Source.left_of c.args.ordered.now c.next.new.self c.requires.reading
-    (c.in-Ok-true.ensures.less (search rules)) (g.S.Source.current c.next.new.self) c.take_in.new.ordered
+    (c.in-Ok-Given.ensures.less (search rules)) (g.S.Source.current c.next.new.self) c.take_in.new.ordered
     (rw ok at c.take_in.ensures)
 
-pub returns-in-Ok-false-clause-none : goal.returns-in-Ok-false-clause-none
-returns-in-Ok-false-clause-none g c start past h ok =
+pub returns-in-Ok-Ended-clause-none : goal.returns-in-Ok-Ended-clause-none
+returns-in-Ok-Ended-clause-none g c start past h ok =
     let S = g.S.Source in
     let old = c.args.ordered.now in
     let r = is-reading S.current S.Gave S.Ended S.Stopped start old c.args.input.now past c.requires.reading h in
     ends S.current S.Gave S.Ended S.Stopped start (record old { source = c.next.new.self }) c.next.new.input past r.read
-    r.are_forward r.latest r.are_held (c.in-Ok-false.ensures.end start r.read r.gave_them (search rules))
+    r.are_forward r.latest r.are_held (c.in-Ok-Ended.ensures.end start r.read r.gave_them (search rules))
 
-pub returns-in-Ok-false-clause-no_more : goal.returns-in-Ok-false-clause-no_more
-returns-in-Ok-false-clause-no_more g c ok = ends-less g.S.Source.left_of c.args.ordered.now c.requires.reading
+pub returns-in-Ok-Ended-clause-no_more : goal.returns-in-Ok-Ended-clause-no_more
+returns-in-Ok-Ended-clause-no_more g c ok = ends-less g.S.Source.left_of c.args.ordered.now c.requires.reading
 
 pub returns-in-Err-Recording-clause-none : goal.returns-in-Err-Recording-clause-none
 returns-in-Err-Recording-clause-none g c start past h ok =

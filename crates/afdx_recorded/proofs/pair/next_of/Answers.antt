@@ -5,10 +5,10 @@ use Rattle.afdx_recorded.proofs.PairLemmas.{skipped-a, skipped-b, sought-a, soug
 use Rattle.afdx_recorded.proofs.PairLemmas.{take-a, take-b, take-none}
 use Rattle.afdx_recorded.proofs.pair.next_of.Goals as goal
 
-pub returns-in-Ok-true-clause-item : goal.returns-in-Ok-true-clause-item
-returns-in-Ok-true-clause-item g c start past p ok =
-    let gives = c.in-Ok-true.ensures.skipped (latest_of past) start.a p.taken_a p.a
-    (ap Ok c.in-Ok-true.field-0-test) in
+pub returns-in-Ok-Given-clause-item : goal.returns-in-Ok-Given-clause-item
+returns-in-Ok-Given-clause-item g c start past p ok =
+    let gives = c.in-Ok-Given.ensures.skipped (latest_of past) start.a p.taken_a p.a
+    (ap Ok c.in-Ok-Given.field-0-is) in
     skipped-a g.S.Source.current g.S.Source.Gave g.S.Source.Ended start c.args.pair.now c.args.inputs.now past A
     c.seek.new.ahead c.seek.new.input p gives
 
@@ -19,14 +19,14 @@ returns-in-Err-clause-stop g c start past p =
     c.args.inputs.now past c.seek.new.ahead c.seek.new.input c.in-Err.fault c.fault_named.result p stop.0 stop.1
     c.fault_named.ensures
 
-pub returns-in-Ok-true-seek-clause-item : goal.returns-in-Ok-true-seek-clause-item
-returns-in-Ok-true-seek-clause-item g c start past p ok =
-    let known_a = c.in-Ok-false.ensures.known (latest_of past) start.a p.taken_a p.a
-    (ap Ok c.in-Ok-false.field-0-test) in
+pub returns-in-Ok-Given-seek-clause-item : goal.returns-in-Ok-Given-seek-clause-item
+returns-in-Ok-Given-seek-clause-item g c start past p ok =
+    let known_a = c.in-Ok-NotYet.ensures.known (latest_of past) start.a p.taken_a p.a
+    (ap Ok c.in-Ok-NotYet.field-0-is) in
     let q = sought-a g.S.Source.current g.S.Source.Gave g.S.Source.Ended start c.args.inputs.now past c.args.pair.now
     c.seek.new.ahead c.seek.new.input p known_a.0 known_a.2 in
-    let gives = c.in-Ok-true-seek.ensures.skipped (latest_of past) start.b q.taken_b q.b
-    (ap Ok c.in-Ok-true-seek.field-0-test) in
+    let gives = c.in-Ok-Given-seek.ensures.skipped (latest_of past) start.b q.taken_b q.b
+    (ap Ok c.in-Ok-Given-seek.field-0-is) in
     skipped-b g.S.Source.current g.S.Source.Gave g.S.Source.Ended start
     (record { a = c.seek.new.ahead; b = c.args.pair.now.b; from = c.args.pair.now.from })
     (record { a = c.seek.new.input; b = c.args.inputs.now.b }) past B
@@ -34,8 +34,8 @@ returns-in-Ok-true-seek-clause-item g c start past p ok =
 
 pub returns-in-Err-seek-clause-stop : goal.returns-in-Err-seek-clause-stop
 returns-in-Err-seek-clause-stop g c start past p =
-    let known_a = c.in-Ok-false.ensures.known (latest_of past) start.a p.taken_a p.a
-    (ap Ok c.in-Ok-false.field-0-test) in
+    let known_a = c.in-Ok-NotYet.ensures.known (latest_of past) start.a p.taken_a p.a
+    (ap Ok c.in-Ok-NotYet.field-0-is) in
     let q = sought-a g.S.Source.current g.S.Source.Gave g.S.Source.Ended start c.args.inputs.now past c.args.pair.now
     c.seek.new.ahead c.seek.new.input p known_a.0 known_a.2 in
     let stop = c.in-Err-seek.ensures.stop (latest_of past) start.b q.taken_b q.b in
@@ -47,10 +47,10 @@ returns-in-Err-seek-clause-stop g c start past p =
 
 pub returns-in-Some-A-clause-item : goal.returns-in-Some-A-clause-item
 returns-in-Some-A-clause-item g c start past p ok =
-    let known_a = c.in-Ok-false.ensures.known (latest_of past) start.a p.taken_a p.a
-    (ap Ok c.in-Ok-false.field-0-test) in
-    let known_b = c.in-Ok-false-seek.ensures.known (latest_of past) start.b p.taken_b p.b
-    (ap Ok c.in-Ok-false-seek.field-0-test) in
+    let known_a = c.in-Ok-NotYet.ensures.known (latest_of past) start.a p.taken_a p.a
+    (ap Ok c.in-Ok-NotYet.field-0-is) in
+    let known_b = c.in-Ok-NotYet-seek.ensures.known (latest_of past) start.b p.taken_b p.b
+    (ap Ok c.in-Ok-NotYet-seek.field-0-is) in
     let q = sought-both g.S.Source.current g.S.Source.Gave g.S.Source.Ended start c.args.inputs.now past
     c.args.pair.now c.seek.new.ahead c.seek-2.new.ahead c.seek.new.input c.seek-2.new.input p known_a.0 known_a.2
     known_b.0 known_b.2 in
@@ -61,10 +61,10 @@ returns-in-Some-A-clause-item g c start past p ok =
 
 pub returns-in-Some-B-clause-item : goal.returns-in-Some-B-clause-item
 returns-in-Some-B-clause-item g c start past p ok =
-    let known_a = c.in-Ok-false.ensures.known (latest_of past) start.a p.taken_a p.a
-    (ap Ok c.in-Ok-false.field-0-test) in
-    let known_b = c.in-Ok-false-seek.ensures.known (latest_of past) start.b p.taken_b p.b
-    (ap Ok c.in-Ok-false-seek.field-0-test) in
+    let known_a = c.in-Ok-NotYet.ensures.known (latest_of past) start.a p.taken_a p.a
+    (ap Ok c.in-Ok-NotYet.field-0-is) in
+    let known_b = c.in-Ok-NotYet-seek.ensures.known (latest_of past) start.b p.taken_b p.b
+    (ap Ok c.in-Ok-NotYet-seek.field-0-is) in
     let q = sought-both g.S.Source.current g.S.Source.Gave g.S.Source.Ended start c.args.inputs.now past
     c.args.pair.now c.seek.new.ahead c.seek-2.new.ahead c.seek.new.input c.seek-2.new.input p known_a.0 known_a.2
     known_b.0 known_b.2 in
@@ -75,10 +75,10 @@ returns-in-Some-B-clause-item g c start past p ok =
 
 pub returns-in-None-clause-end : goal.returns-in-None-clause-end
 returns-in-None-clause-end g c start past p ok =
-    let known_a = c.in-Ok-false.ensures.known (latest_of past) start.a p.taken_a p.a
-    (ap Ok c.in-Ok-false.field-0-test) in
-    let known_b = c.in-Ok-false-seek.ensures.known (latest_of past) start.b p.taken_b p.b
-    (ap Ok c.in-Ok-false-seek.field-0-test) in
+    let known_a = c.in-Ok-NotYet.ensures.known (latest_of past) start.a p.taken_a p.a
+    (ap Ok c.in-Ok-NotYet.field-0-is) in
+    let known_b = c.in-Ok-NotYet-seek.ensures.known (latest_of past) start.b p.taken_b p.b
+    (ap Ok c.in-Ok-NotYet-seek.field-0-is) in
     let q = sought-both g.S.Source.current g.S.Source.Gave g.S.Source.Ended start c.args.inputs.now past
     c.args.pair.now c.seek.new.ahead c.seek-2.new.ahead c.seek.new.input c.seek-2.new.input p known_a.0 known_a.2
     known_b.0 known_b.2 in

@@ -1,4 +1,5 @@
 use Rattle.std.proofs.Common.{rules, arith, ◌≡◌, ◌∙◌, sym, ap, Ok, Err, true, refl}
+use Rattle.afdx_lists.specs.declared.next.Next.TheVariants as next
 use Rattle.afdx_engine.specs.Engine.{item_of}
 use Rattle.afdx_engine.specs.Items.{thing_of}
 use Rattle.afdx_engine.proofs.ListSourceLemmas.{TookLine, gave-skip, gave-item, stopped-line, stopped-reader}
@@ -19,7 +20,7 @@ returns-in_err-next_line-clause-stop g c start past h =
 pub returns-in-Ok-Some-clause-item : goal.returns-in-Ok-Some-clause-item
 returns-in-Ok-Some-clause-item g c start past h ok =
     let k = g.H.Listed.kind in
-    let is : c.next_line.result ≡ Ok true = search rules in
+    let is : c.next_line.result ≡ Ok next.Given = search rules in
     let lines = c.next_line.ensures.lines is in
     let took : TookLine g.R.Read.remaining c.loop-self.self.reader c.loop-self.input c.next_line.new.self
     c.next_line.new.input = record {
@@ -48,7 +49,7 @@ returns-in-Ok-Some-clause-item g c start past h ok =
 pub loop-self-preserved : goal.loop-self-preserved
 loop-self-preserved g c =
     let k = g.H.Listed.kind in
-    let is : c.next_line.result ≡ Ok true = search rules in
+    let is : c.next_line.result ≡ Ok next.Given = search rules in
     let lines = c.next_line.ensures.lines is in
     let took : TookLine g.R.Read.remaining c.loop-self.self.reader c.loop-self.input c.next_line.new.self
     c.next_line.new.input = record {
@@ -72,7 +73,7 @@ loop-self-preserved g c =
 pub returns-in-Err-clause-stop : goal.returns-in-Err-clause-stop
 returns-in-Err-clause-stop g c start past h =
     let k = g.H.Listed.kind in
-    let is : c.next_line.result ≡ Ok true = search rules in
+    let is : c.next_line.result ≡ Ok next.Given = search rules in
     let lines = c.next_line.ensures.lines is in
     let took : TookLine g.R.Read.remaining c.loop-self.self.reader c.loop-self.input c.next_line.new.self
     c.next_line.new.input = record {

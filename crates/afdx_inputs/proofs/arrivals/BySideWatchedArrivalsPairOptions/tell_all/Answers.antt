@@ -1,4 +1,4 @@
-use Rattle.std.proofs.Common.{rules, Ok, Err, refl}
+use Rattle.std.proofs.Common.{rules, Ok, Err}
 use Rattle.afdx_lists.specs.Watching.{device_of}
 use Rattle.afdx_recorded.specs.Claims.{ports_unsaid}
 use Rattle.afdx_inputs.specs.RecordingRun.{AreCutOffInPair, taken_of_pair}

@@ -1,10 +1,8 @@
-use Rattle.std.proofs.Common.{Some, [], Err, arith, subst}
+use Rattle.std.proofs.Common.{Some, arith}
 use Rattle.std.proofs.KnownBytes.{Keeps-refl}
 use Rattle.afdx_lists.specs.Peeking.{left_in}
 use Rattle.afdx_lists.specs.Watching.{calls_of, device_of}
-use Rattle.afdx_lists.specs.declared.fault.RunFault.TheVariants as run
 use Rattle.afdx_recorded.specs.Becoming.{options_of}
-use Rattle.afdx_inputs.specs.Arrivals.{TakesAs}
 use Rattle.afdx_inputs.specs.InputRun.{is_read_recorded}
 use Rattle.afdx_inputs.proofs.ArrivalsLemmas.{one-untaken}
 use Rattle.afdx_inputs.proofs.LookLemmas.{unread-few}

@@ -104,17 +104,17 @@ returns-then-searched-eq0-clause-last g c = λ _.
           (TakesBytes-then _ _ _ _ _ _ c.reads.invariant.taken c.refill.ensures.bytes),
     )
 
-pub returns-then-not-branch-clause-line : goal.returns-then-not-branch-clause-line
-returns-then-not-branch-clause-line g c = λ _.
+pub returns-in-Ended-clause-line : goal.returns-in-Ended-clause-line
+returns-in-Ended-clause-line g c = λ _.
     let last = c.refill.ensures.last (search rules) in
     let held = c.reads.self.end - c.reads.self.start in
     let line = unread c.reads.self in
     let none : HasNoFeed line = search rules in
-    let line_is : latest_line c.take_line-then-not-branch.new.self ≡ line =
-    c.take_line-then-not-branch.ensures.line ∙ ap (take held) last.1
+    let line_is : latest_line c.take_line-in-Ended.new.self ≡ line =
+    c.take_line-in-Ended.ensures.line ∙ ap (take held) last.1
     ∙ all_taken line held (unread_length c.reads.self) in
-    let rest_is : unread c.take_line-then-not-branch.new.self ≡ [] =
-    c.take_line-then-not-branch.ensures.rest ∙ ap (drop (held + 0)) last.1
+    let rest_is : unread c.take_line-in-Ended.new.self ≡ [] =
+    c.take_line-in-Ended.ensures.rest ∙ ap (drop (held + 0)) last.1
     ∙ none_after line held (unread_length c.reads.self) in
     rw (line_is, rest_is) (
     TakesLine-last _ _ (unread c.args.self.now) [] line none
@@ -160,7 +160,7 @@ returns-then-searched-eq0-clause-unasked g c n feed =
     let none : HasNoFeed (unread c.reads.self) = search rules in
     absurd (feed-or-none _ n feed (subst HasNoFeed (c.reads.invariant.unasked n feed).1 none))
 
-pub returns-then-not-branch-clause-unasked : goal.returns-then-not-branch-clause-unasked
-returns-then-not-branch-clause-unasked g c n feed =
+pub returns-in-Ended-clause-unasked : goal.returns-in-Ended-clause-unasked
+returns-in-Ended-clause-unasked g c n feed =
     let none : HasNoFeed (unread c.reads.self) = search rules in
     absurd (feed-or-none _ n feed (subst HasNoFeed (c.reads.invariant.unasked n feed).1 none))

@@ -1,6 +1,5 @@
 use Rattle.std.proofs.Common.{rules, arith, ◌≡◌, ◌-◌, ◌≤◌, ◌++◌, [], List, ℕ, length, take, sym, ap}
 use Rattle.std.proofs.Common.{◌∙◌, slice_range, add-zero}
-use Rattle.std.proofs.lemmas.Grind.{common_steps}
 use Rattle.std.proofs.lemmas.List.{append-nil}
 use Rattle.std.proofs.KnownBytes.{Consumes-nil, Consumes-kept}
 use Rattle.afdx_lists.specs.Lines.{unread}
@@ -32,7 +31,7 @@ returns-in-Ok-clause-bytes g c =
 pub returns-in-Ok-clause-last : goal.returns-in-Ok-clause-last
 unfolding unread
 returns-in-Ok-clause-last g c = λ h.
-    let none : c.in-Ok.count ≡ 0 = grind (arith, common_steps, h) in
+    let none = c.of_read.ensures.ended (search rules) in
     let moved = c.move_to_front.new.self in
     let chunk = c.as_mut_slice.result.now in
     let held : slice_range chunk 0 moved.end ≡ unread c.args.self.now =

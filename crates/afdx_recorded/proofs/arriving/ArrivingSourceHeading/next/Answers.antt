@@ -10,7 +10,7 @@ next-requires g c =
 pub returns-in-Arrival-clause-item : goal.returns-in-Arrival-clause-item
 returns-in-Arrival-clause-item g c start past h ok =
     let k = c.loop-kind.invariant.gave start past h in
-    let item = c.in_ok-next.ensures.item start k.lines k.known_so (ap Ok c.if-branch.true) in
+    let item = c.in_ok-next.ensures.item start k.lines k.known_so (search rules) in
     let x = g.S.Source.current c.next.new.self in
     arrival-given x k.lines c.in-Arrival.kind c.in-Arrival.time c.in-Arrival.side
     c.in-Arrival.port c.has_own-own.result c.seal_by.result (sym c.head.ensures ∙ c.in-Arrival.is)
@@ -22,10 +22,10 @@ loop-kind-preserved g c =
     let less = c.next.ensures.less (search rules) in record {
       gave = λ start past h.
           let k = c.loop-kind.invariant.gave start past h in
-          let item = c.in_ok-next.ensures.item start k.lines k.known_so (ap Ok c.if-branch.true) in
+          let item = c.in_ok-next.ensures.item start k.lines k.known_so (search rules) in
           skipped-given (g.S.Source.Gave start c.next.new.self c.next.new.input) past
-          (g.S.Source.current c.next.new.self) c.in_default.field-0 k.lines
-          (sym c.head.ensures ∙ c.in_default.is) k.items_are item.0;
+          (g.S.Source.current c.next.new.self) c.in_default-head.field-0 k.lines
+          (sym c.head.ensures ∙ c.in_default-head.is) k.items_are item.0;
       settings = c.next.ensures.settings ∙ c.loop-kind.invariant.settings;
       fewer = omega (arith, less, c.loop-kind.invariant.fewer);
     }

@@ -14,8 +14,8 @@ loop-self-preserved g c =
       fewer = omega (arith, no_more, c.loop-self.invariant.fewer);
     }
 
-pub returns-then-branch-clause-item : goal.returns-then-branch-clause-item
-returns-then-branch-clause-item g c start past h ok =
+pub returns-in-Given-clause-item : goal.returns-in-Given-clause-item
+returns-in-Given-clause-item g c start past h ok =
     c.read_one.ensures.given start past (c.loop-self.invariant.gave start past h) (search rules)
 
 pub returns-then-hand_on : goal.returns-then-hand_on

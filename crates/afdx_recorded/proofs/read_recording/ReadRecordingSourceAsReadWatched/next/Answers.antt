@@ -1,6 +1,7 @@
 use Rattle.std.proofs.Common.{rules, arith, ◌≡◌, ◌∙◌, refl, sym, ap, Ok, Err, true, false, ◌+◌}
 use Rattle.afdx_recordings.specs.Holding.{standing}
 use Rattle.afdx_recordings.specs.Reading.{state_of, latest, SaysFirst}
+use Rattle.afdx_lists.specs.declared.next.Next.TheVariants as next
 use Rattle.afdx_recorded.specs.Becoming.{options_of}
 use Rattle.afdx_recorded.specs.Claims.{ports_of}
 use Rattle.afdx_recorded.specs.RecordingSource.{first_standing}
@@ -29,23 +30,23 @@ returns-in_err-next-clause-stop g c start past h =
           c.in_err-next.field-0.0 c.in_err-next.ensures.tells;
     })
 
-pub returns-then-not-branch-clause-end : goal.returns-then-not-branch-clause-end
-returns-then-not-branch-clause-end g c start past h ok =
-    let is : c.next.result ≡ Ok false = search rules in
+pub returns-in-Ended-clause-end : goal.returns-in-Ended-clause-end
+returns-in-Ended-clause-end g c start past h ok =
+    let is : c.next.result ≡ Ok next.Ended = search rules in
     ended-well g.R.Read.remaining start c.args.input.now c.next.new.input c.args.self.now
     c.next.new.self (numbers_read past) h
     (rw is at c.next.ensures.failed) c.next.ensures.honest (rw is at c.next.ensures.tells) (sym c.end.ensures ∙ ok)
 
-pub returns-then-not-branch-clause-stop : goal.returns-then-not-branch-clause-stop
-returns-then-not-branch-clause-stop g c start past h =
-    let is : c.next.result ≡ Ok false = search rules in
+pub returns-in-Ended-clause-stop : goal.returns-in-Ended-clause-stop
+returns-in-Ended-clause-stop g c start past h =
+    let is : c.next.result ≡ Ok next.Ended = search rules in
     rw c.end.ensures (stops-end g.R.Read.remaining start c.args.input.now c.next.new.input c.args.self.now
     c.next.new.self (numbers_read past) h (rw is at c.next.ensures.failed) c.next.ensures.honest
     (rw is at c.next.ensures.tells))
 
 pub sort-requires-clause-skipped : goal.sort-requires-clause-skipped
 sort-requires-clause-skipped g c =
-    let is : c.next.result ≡ Ok true = search rules in
+    let is : c.next.result ≡ Ok next.Given = search rules in
     let number = c.next.ensures.number is in
     let h = c.requires.2 in
     let few = few-skipped (numbers_read c.requires.1) in
@@ -53,7 +54,7 @@ sort-requires-clause-skipped g c =
 
 pub sort-requires-clause-claimed : goal.sort-requires-clause-claimed
 sort-requires-clause-claimed g c =
-    let is : c.next.result ≡ Ok true = search rules in
+    let is : c.next.result ≡ Ok next.Given = search rules in
     let number = c.next.ensures.number is in
     let h = c.requires.2 in
     let few = few-claimed (numbers_read c.requires.1) in
@@ -61,7 +62,7 @@ sort-requires-clause-claimed g c =
 
 pub sort-requires-clause-contradicted : goal.sort-requires-clause-contradicted
 sort-requires-clause-contradicted g c =
-    let is : c.next.result ≡ Ok true = search rules in
+    let is : c.next.result ≡ Ok next.Given = search rules in
     let number = c.next.ensures.number is in
     let h = c.requires.2 in
     let few = few-contradicted (numbers_read c.requires.1) in
@@ -73,7 +74,7 @@ returns-in_err-sort-clause-stop g c start past h =
     let first = first_standing g.R.Read.remaining start in
     let before = standing g.R.Read.remaining old.reader.held c.args.input.now in
     let after = standing g.R.Read.remaining c.next.new.self.held c.next.new.input in
-    let is : c.next.result ≡ Ok true = search rules in
+    let is : c.next.result ≡ Ok next.Given = search rules in
     let says : SaysFirst before after (state_of old.reader) (state_of c.next.new.self) (latest c.next.new.self) =
     rw is at c.next.ensures.tells in
     let number = c.next.ensures.number is in
@@ -99,7 +100,7 @@ returns-in_err-sort-clause-stop g c start past h =
 pub returns-in_err-sort-clause-unwritten : goal.returns-in_err-sort-clause-unwritten
 returns-in_err-sort-clause-unwritten g c =
     let h = c.requires.2 in
-    let is : c.next.result ≡ Ok true = search rules in
+    let is : c.next.result ≡ Ok next.Given = search rules in
     let number = c.next.ensures.number is in
     let fails = c.in_err-sort.ensures.fault (numbers_read c.requires.1)
     (number ∙ ap (λ m. m + 1) (sym h.numbers)) in
@@ -109,7 +110,7 @@ returns-in_err-sort-clause-unwritten g c =
 pub returns-clause-item : goal.returns-clause-item
 returns-clause-item g c start past h ok =
     let old = c.args.self.now in
-    let is : c.next.result ≡ Ok true = search rules in
+    let is : c.next.result ≡ Ok next.Given = search rules in
     let number = c.next.ensures.number is in
     let k : Sorting g.R.Read.remaining c.args.input.now c.next.new.input old c.next.new.self c.sort.new.self = record {
       sound = search rules;

@@ -1,14 +1,15 @@
 use Rattle.std.proofs.Common.{rules, ◌≡◌, ◌∷◌, refl, arith, inr, Ok, true}
+use Rattle.afdx_lists.specs.declared.next.Next.TheVariants as next
 use Rattle.afdx_recorded.specs.Taking.{late_of_one}
 use Rattle.afdx_recorded.proofs.ClockLemmas.{clock-more, clock-follows, clock-late}
 use Rattle.afdx_recorded.proofs.timed_numbers.TimedNumbersSourceNumberLine.next.Goals as goal
 
-pub returns-in_default-clause-stop : goal.returns-in_default-clause-stop
-returns-in_default-clause-stop g c start lines h =
+pub returns-in_default-line-clause-stop : goal.returns-in_default-line-clause-stop
+returns-in_default-line-clause-stop g c start lines h =
     let x = g.S.Source.current c.next.new.self in
-    let is : c.next.result ≡ Ok true = search rules in
+    let is : c.next.result ≡ Ok next.Given = search rules in
     let item = c.next.ensures.item start h.numbers h.gave_them is in
-    let late = rw c.in_default.is at c.line.ensures.late in
+    let late = rw c.in_default-line.is at c.line.ensures.late in
     inr (record {
       before = h.numbers;
       x = x;
@@ -21,7 +22,7 @@ returns-in_default-clause-stop g c start lines h =
 pub returns-clause-item : goal.returns-clause-item
 returns-clause-item g c start lines h ok =
     let x = g.S.Source.current c.next.new.self in
-    let is : c.next.result ≡ Ok true = search rules in
+    let is : c.next.result ≡ Ok next.Given = search rules in
     let item = c.next.ensures.item start h.numbers h.gave_them is in
     let early = rw c.head-number.ensures at c.in-Some.ensures.early in
     let line = rw c.head-number.ensures at c.in-Some.ensures.line in (

@@ -16,11 +16,11 @@ returns-in_err-next_of-clause-stop g c start lines h =
       are_timed = h.are_timed;
     }))
 
-pub returns-in_default-clause-stop : goal.returns-in_default-clause-stop
-returns-in_default-clause-stop g c start lines h =
+pub returns-in_default-line-clause-stop : goal.returns-in_default-line-clause-stop
+returns-in_default-line-clause-stop g c start lines h =
     let pair = c.next_of.new.pair in
     let x = number_given g.S.Source.current pair in
-    let next = c.in_ok-next_of.ensures.item start h.past h.is_paired (ap Ok c.if-not-branch.false) in
+    let next = c.in_ok-next_of.ensures.item start h.past h.is_paired (search rules) in
     let read : IsRead x c.match-self.number.0 c.match-self.number.1 = elim c.match-self.branch [
       | in-A w ↦ read-of g.S.Source.current pair A w.head.result w.number.result c.match-self.number w.in-A.is
           w.head.ensures w.number.ensures w.number-is
@@ -28,7 +28,7 @@ returns-in_default-clause-stop g c start lines h =
           w.head-in-B.ensures w.number-in-B.ensures w.number-is
     ] in
     let head = read.head in
-    let late = c.in_default.ensures.late in
+    let late = c.in_default-line.ensures.late in
     let is : c.of_network.result ≡ late_of_both x = rw
     (c.of_network.ensures, c.side_of.ensures, head, read.number) refl in
     inr (record {
@@ -44,7 +44,7 @@ pub returns-clause-item : goal.returns-clause-item
 returns-clause-item g c start lines h ok =
     let pair = c.next_of.new.pair in
     let x = number_given g.S.Source.current pair in
-    let next = c.in_ok-next_of.ensures.item start h.past h.is_paired (ap Ok c.if-not-branch.false) in
+    let next = c.in_ok-next_of.ensures.item start h.past h.is_paired (search rules) in
     let read : IsRead x c.match-self.number.0 c.match-self.number.1 = elim c.match-self.branch [
       | in-A w ↦ read-of g.S.Source.current pair A w.head.result w.number.result c.match-self.number w.in-A.is
           w.head.ensures w.number.ensures w.number-is

@@ -1,6 +1,6 @@
 use Rattle.std.proofs.Common.{rules, arith, ◌≡◌, [], Err, refl}
 use Rattle.afdx_recordings.specs.Holding.{standing}
-use Rattle.afdx_recordings.specs.Recordings.{lost_by}
+use Rattle.afdx_recordings.specs.Recordings.{totals_by}
 use Rattle.afdx_recordings.specs.Reading.{state_of}
 use Rattle.afdx_recordings.proofs.HeldLemmas.{Passes-gives}
 use Rattle.afdx_recordings.proofs.HeadLemmas.{least_size}
@@ -17,11 +17,11 @@ returns-in_err-fill-clause-tells g c =
     c.requires.told (least_size c.args.head c.requires.least)
     (let short = c.in_err-fill.ensures.few is in omega (arith, short))))
 
-pub returns-then-not-branch-clause-tells : goal.returns-then-not-branch-clause-tells
-returns-then-not-branch-clause-tells g c =
+pub returns-in-Ended-clause-tells : goal.returns-in-Ended-clause-tells
+returns-in-Ended-clause-tells g c =
     let last = c.fill.ensures.last (search rules) in
     rw c.ended.ensures (
-      lost_by (state_of c.args.self.now),
+      totals_by (state_of c.args.self.now),
       SaysEnding-within _ _ _ c.args.head [] c.requires.form c.fill.ensures.passes last.0 c.requires.few
           c.requires.held c.requires.told (least_size c.args.head c.requires.least) (omega (arith, last.1)),
     )

@@ -4,6 +4,8 @@ use Rattle.afdx_recordings.proofs.HeldLemmas.{Passes-gives}
 use Rattle.afdx_recordings.proofs.OpeningLemmas.{SaysSame-held, SaysSame-then, Tells-then}
 use Rattle.afdx_recordings.proofs.PcapngLemmas.{SaysEnding-blocks, SaysEnding-head, SaysNothing-head}
 use Rattle.afdx_recordings.proofs.ReadingLemmas.{Tells-of_reading, Tells-end}
+use Rattle.afdx_lists.specs.declared.next.Progress.TheVariants as progress
+use Rattle.afdx_lists.specs.declared.next.Next.TheVariants as next
 use Rattle.afdx_recordings.proofs.frame_reader.FrameReader.next_in_blocks.Goals as goal
 
 pub returns-in_err-fill-clause-tells : goal.returns-in_err-fill-clause-tells
@@ -22,16 +24,16 @@ returns-in_err-take_block-clause-tells g c =
     (SaysSame-held _ _ (state_of c.reads.self) c.fill.ensures.passes) in
     rw e (Tells-then (Err c.in_err-take_block.field-0.0) _ _ _ _ _ _ _ same c.in_err-take_block.ensures.tells)
 
-pub returns-then-branch-2-clause-tells : goal.returns-then-branch-2-clause-tells
-returns-then-branch-2-clause-tells g c =
-    let is : c.take_block.result ≡ Ok true = search rules in
+pub returns-in-Given-2-clause-tells : goal.returns-in-Given-2-clause-tells
+returns-in-Given-2-clause-tells g c =
+    let is : c.take_block.result ≡ Ok progress.Given = search rules in
     let same = SaysSame-then _ _ _ _ _ _ c.reads.invariant.same
     (SaysSame-held _ _ (state_of c.reads.self) c.fill.ensures.passes) in
-    Tells-then (Ok true) _ _ _ _ _ _ _ same (rw is at c.take_block.ensures.tells)
+    Tells-then (Ok next.Given) _ _ _ _ _ _ _ same (rw is at c.take_block.ensures.tells)
 
 pub reads-preserved : goal.reads-preserved
 reads-preserved g c =
-    let is : c.take_block.result ≡ Ok false = search rules in
+    let is : c.take_block.result ≡ Ok progress.NotYet = search rules in
     let same = SaysSame-then _ _ _ _ _ _ c.reads.invariant.same
     (SaysSame-held _ _ (state_of c.reads.self) c.fill.ensures.passes) in
     let counts = rw is at c.take_block.ensures.counts in

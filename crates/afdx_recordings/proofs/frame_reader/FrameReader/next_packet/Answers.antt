@@ -3,7 +3,7 @@ use Rattle.std.proofs.Common.{refl, ap, ◌∙◌}
 use Rattle.afdx_recordings.specs.Holding.{unread, standing}
 use Rattle.afdx_recordings.specs.declared.recorded.Recorded.TheVariants.{Frame}
 use Rattle.afdx_recordings.specs.Pcap.{pcap_frame}
-use Rattle.afdx_recordings.specs.Recordings.{lost_by}
+use Rattle.afdx_recordings.specs.Recordings.{totals_by}
 use Rattle.afdx_recordings.specs.Reading.{state_of}
 use Rattle.afdx_recordings.proofs.HeldLemmas.{Passes-then, Passes-gives}
 use Rattle.afdx_recordings.proofs.PacketLemmas.{SaysFirst-packet, SaysEnding-wrong, SaysEnding-short, SaysEnding-over, SaysEnding-cut}
@@ -18,8 +18,8 @@ returns-in_err-fill-clause-tells g c =
     (Passes-gives _ _ _ c.fill.ensures.passes)
     (λ is. SaysNothing-short _ _ _ c.args.form c.requires.form c.fill.ensures.passes (c.in_err-fill.ensures.few is)))
 
-pub returns-then-not-branch-clause-tells : goal.returns-then-not-branch-clause-tells
-returns-then-not-branch-clause-tells g c =
+pub returns-in-Ended-clause-tells : goal.returns-in-Ended-clause-tells
+returns-in-Ended-clause-tells g c =
     let last = c.fill.ensures.last (search rules) in
     Tells-end c.end.result _ _ _ _ _ last.0 c.end.ensures.over c.end.ensures.ended
     (λ none. SaysEnding-over _ _ _ c.args.form c.requires.form c.fill.ensures.passes last.0 none)
@@ -30,7 +30,7 @@ returns-in_err-length-clause-tells g c =
     let e : c.from_residual-in_err-length.result ≡ Err c.in_err-length.field-0.0 = search rules in
     let told = c.in_err-length.ensures.told in
     rw (e, told.0) (
-      lost_by (state_of c.args.self.now),
+      totals_by (state_of c.args.self.now),
       SaysEnding-wrong _ _ _ c.args.form c.requires.form c.fill.ensures.passes told.1
           (c.fill.ensures.enough (search rules)),
     )
@@ -46,13 +46,13 @@ returns-in_err-fill-2-clause-tells g c =
     (Passes-then _ _ _ [] [] c.fill.ensures.passes c.fill-2.ensures.passes)
     (later.1 ∙ c.in_ok-length.ensures.told) later.0 (c.in_err-fill-2.ensures.few is)))
 
-pub returns-then-not-branch-2-clause-tells : goal.returns-then-not-branch-2-clause-tells
-returns-then-not-branch-2-clause-tells g c =
+pub returns-in-Ended-2-clause-tells : goal.returns-in-Ended-2-clause-tells
+returns-in-Ended-2-clause-tells g c =
     let within = c.fill.ensures.enough (search rules) in
     let last = c.fill-2.ensures.last (search rules) in
     let later = captured_by-later (state_of c.args.self.now) _ _ c.fill-2.ensures.passes within in
     rw c.ended.ensures (
-      lost_by (state_of c.args.self.now),
+      totals_by (state_of c.args.self.now),
       SaysEnding-cut _ _ _ c.args.form c.in_ok-length.field-0 c.requires.form
           (Passes-then _ _ _ [] [] c.fill.ensures.passes c.fill-2.ensures.passes) last.0
           (later.1 ∙ c.in_ok-length.ensures.told) later.0 last.1,

@@ -4,7 +4,7 @@ use Rattle.afdx_recordings.specs.declared.form.Magic.TheVariants as magic
 use Rattle.afdx_recordings.specs.declared.order.Order.TheVariants.{HighFirst}
 use Rattle.afdx_recordings.specs.Orders.{number_in}
 use Rattle.afdx_recordings.specs.Holding.{unread}
-use Rattle.afdx_recordings.specs.Recordings.{lost_by}
+use Rattle.afdx_recordings.specs.Recordings.{totals_by}
 use Rattle.afdx_recordings.specs.Reading.{state_of, magic_of}
 use Rattle.afdx_recordings.proofs.HeldLemmas.{Passes-gives}
 use Rattle.afdx_recordings.proofs.OpeningLemmas.{SaysNothing-too_short, SaysEnding-too_short, SaysEnding-unknown, SaysEnding-packed}
@@ -19,10 +19,10 @@ returns-in_err-fill-clause-tells g c =
     (Passes-gives _ _ _ c.fill.ensures.passes)
     (λ is. SaysNothing-too_short _ _ _ c.requires.form c.fill.ensures.passes (c.in_err-fill.ensures.few is)))
 
-pub returns-then-not-branch-clause-tells : goal.returns-then-not-branch-clause-tells
-returns-then-not-branch-clause-tells g c =
+pub returns-in-Ended-clause-tells : goal.returns-in-Ended-clause-tells
+returns-in-Ended-clause-tells g c =
     let last = c.fill.ensures.last (search rules) in (
-      lost_by (state_of c.args.self.now),
+      totals_by (state_of c.args.self.now),
       SaysEnding-too_short _ _ _ c.requires.form c.fill.ensures.passes last.0 last.1,
     )
 
@@ -39,7 +39,7 @@ pub returns-in-None-clause-tells : goal.returns-in-None-clause-tells
 returns-in-None-clause-tells g c =
     let unknown : magic_of (number_in HighFirst 4 (unread c.fill.new.self)) ≡ None =
     ap magic_of (sym (c.word-number.ensures ∙ ap (number_in HighFirst 4) c.bytes.ensures)) ∙ sym c.in-None.ensures in (
-      lost_by (state_of c.args.self.now),
+      totals_by (state_of c.args.self.now),
       SaysEnding-unknown _ _ _ c.requires.form c.fill.ensures.passes (c.fill.ensures.enough (search rules)) unknown,
     )
 
@@ -49,7 +49,7 @@ returns-in-Some-Packed-clause-tells g c =
     ap magic_of (sym (c.word-number.ensures ∙ ap (number_in HighFirst 4) c.bytes.ensures))
     ∙ sym c.in-Some-Packed.ensures
     ∙ ap Some c.in-Some-Packed.field-0-is in (
-      lost_by (state_of c.args.self.now),
+      totals_by (state_of c.args.self.now),
       SaysEnding-packed _ _ _ c.requires.form c.fill.ensures.passes (c.fill.ensures.enough (search rules)) known,
     )
 

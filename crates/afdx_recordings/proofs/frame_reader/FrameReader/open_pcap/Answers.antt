@@ -1,6 +1,6 @@
 use Rattle.std.proofs.Common.{rules, ◌≡◌, ◌∙◌, sym, ap, Err, true, false, refl}
 use Rattle.afdx_recordings.specs.Holding.{unread, standing}
-use Rattle.afdx_recordings.specs.Recordings.{lost_by}
+use Rattle.afdx_recordings.specs.Recordings.{totals_by}
 use Rattle.afdx_recordings.specs.Pcap.{pcap_form, is_pcap_version}
 use Rattle.afdx_recordings.specs.Reading.{state_of}
 use Rattle.afdx_recordings.proofs.HeldLemmas.{Passes-gives}
@@ -18,11 +18,11 @@ returns-in_err-fill-clause-tells g c =
     (λ is. SaysNothing-header _ _ _ c.args.order c.args.nanoseconds c.requires.form c.fill.ensures.passes later.0
     (later.1 ∙ c.requires.magic) (c.in_err-fill.ensures.few is)))
 
-pub returns-then-not-branch-clause-tells : goal.returns-then-not-branch-clause-tells
-returns-then-not-branch-clause-tells g c =
+pub returns-in-Ended-clause-tells : goal.returns-in-Ended-clause-tells
+returns-in-Ended-clause-tells g c =
     let last = c.fill.ensures.last (search rules) in
     let later = magic_of-later _ _ c.fill.ensures.passes c.requires.held in (
-      lost_by (state_of c.args.self.now),
+      totals_by (state_of c.args.self.now),
       SaysEnding-header _ _ _ c.args.order c.args.nanoseconds c.requires.form c.fill.ensures.passes last.0 later.0
           (later.1 ∙ c.requires.magic) last.1,
     )
@@ -33,7 +33,7 @@ returns-then-not-is_known_version-clause-tells g c =
     let later = magic_of-later _ _ c.fill.ensures.passes c.requires.held in
     let other : is_pcap_version c.args.order (unread c.fill.new.self) ≡ false =
     ap (is_pcap_version c.args.order) (sym c.bytes.ensures) ∙ sym c.is_known_version.ensures ∙ search rules in (
-      lost_by (state_of c.args.self.now),
+      totals_by (state_of c.args.self.now),
       SaysEnding-version _ _ _ c.args.order c.args.nanoseconds c.requires.form c.fill.ensures.passes
           (c.fill.ensures.enough (search rules)) (later.1 ∙ c.requires.magic) other,
     )

@@ -3,7 +3,7 @@ use Rattle.afdx_lists.specs.Calls.{is_read}
 use Rattle.afdx_lists.specs.Watching.{has_failed}
 use Rattle.afdx_lists.specs.declared.fault.RunFault.TheVariants as run
 use Rattle.afdx_recordings.specs.Holding.{standing}
-use Rattle.afdx_recordings.specs.Recordings.{lost_by}
+use Rattle.afdx_recordings.specs.Recordings.{totals_by}
 use Rattle.afdx_recordings.specs.Reading.{state_of}
 use Rattle.afdx_recordings.proofs.HeldLemmas.{Passes-gives, Passes-more}
 use Rattle.afdx_recordings.proofs.HeadLemmas.{least_size}
@@ -20,12 +20,12 @@ returns-in_err-skip-clause-tells g c =
     rw (e, is) (SaysNothing-within _ _ _ c.args.head few.0 c.requires.form few.1 c.requires.few c.requires.held
     c.requires.told least (omega (arith, few.2, least)))
 
-pub returns-then-not-branch-clause-tells : goal.returns-then-not-branch-clause-tells
-returns-then-not-branch-clause-tells g c =
+pub returns-in-Ended-clause-tells : goal.returns-in-Ended-clause-tells
+returns-in-Ended-clause-tells g c =
     let last = c.skip.ensures.last (search rules) in
     let least = least_size c.args.head c.requires.least in
     rw c.ended.ensures (
-      lost_by (state_of c.args.self.now),
+      totals_by (state_of c.args.self.now),
       SaysEnding-within _ _ _ c.args.head last.1 c.requires.form last.2 last.0 c.requires.few
           c.requires.held c.requires.told least (omega (arith, last.3, least)),
     )
@@ -41,14 +41,14 @@ returns-in_err-fill-clause-tells g c =
     (λ is. SaysNothing-within _ _ _ c.args.head all.0 c.requires.form passes c.requires.few c.requires.held
     c.requires.told least (let short = c.in_err-fill.ensures.few is in omega (arith, all.2, short, least))))
 
-pub returns-then-not-branch-2-clause-tells : goal.returns-then-not-branch-2-clause-tells
-returns-then-not-branch-2-clause-tells g c =
+pub returns-in-Ended-2-clause-tells : goal.returns-in-Ended-2-clause-tells
+returns-in-Ended-2-clause-tells g c =
     let last = c.fill.ensures.last (search rules) in
     let least = least_size c.args.head c.requires.least in
     let all = c.skip.ensures.all (search rules) in
     let passes = Passes-more _ _ _ all.0 all.1 c.fill.ensures.passes in
-    rw c.ended-then-not-branch-2.ensures (
-      lost_by (state_of c.args.self.now),
+    rw c.ended-in-Ended-2.ensures (
+      totals_by (state_of c.args.self.now),
       SaysEnding-within _ _ _ c.args.head all.0 c.requires.form passes last.0 c.requires.few
           c.requires.held c.requires.told least (omega (arith, all.2, last.1, least)),
     )

@@ -7,8 +7,8 @@ returns-in_err-refill-clause-few g c = λ _.
     let same = c.in_err-refill.ensures.same in
     omega (arith, unread_length c.refill.new.self, same, c.refill.ensures.start, c.reads-test.true)
 
-pub returns-then-not-branch-clause-last : goal.returns-then-not-branch-clause-last
-returns-then-not-branch-clause-last g c = λ _.
+pub returns-in-Ended-clause-last : goal.returns-in-Ended-clause-last
+returns-in-Ended-clause-last g c = λ _.
     let same = c.refill.ensures.none (search rules) in (
       c.refill.ensures.ended (search rules),
       omega (arith, unread_length c.refill.new.self, same, c.refill.ensures.start, c.reads-test.true),

@@ -29,8 +29,8 @@ returns-in_err-refill-clause-few g c = λ _.
       ),
     )
 
-pub returns-then-not-branch-clause-last : goal.returns-then-not-branch-clause-last
-returns-then-not-branch-clause-last g c = λ _.
+pub returns-in-Ended-clause-last : goal.returns-in-Ended-clause-last
+returns-in-Ended-clause-last g c = λ _.
     let past = c.reads.invariant.passed in
     let u = unread c.reads.self in
     let bytes = (past.0 ++ u) ++ [] in
@@ -83,7 +83,7 @@ reads-preserved g c =
         Passes-then _ _ _ (past.0 ++ u) [] (Passes-then _ _ _ past.0 u past.1 (Passes-held _ _ u
             (sym (append-nil u) ∙ ap (λ (xs : List ℕ). u ++ xs) (sym c.clear.ensures.unread)) refl refl refl))
             c.refill.ensures.passes,
-        omega (arith, size, past.2, c.reads-test.true, c.count.ensures, c.count-in-reads.ensures),
+        omega (arith, size, past.2, c.reads-test.true, c.count.ensures, c.count-missing.ensures),
       );
     }
 
@@ -92,7 +92,7 @@ reads-smaller g c = omega (
   arith,
   c.reads-test.true,
   c.count.ensures,
-  c.count-in-reads.ensures,
+  c.count-missing.ensures,
   unread_length c.reads.self,
   c.refill.ensures.more (search rules),
   c.refill.ensures.start,

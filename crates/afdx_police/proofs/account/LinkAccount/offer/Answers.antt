@@ -7,7 +7,7 @@ use Rattle.afdx_police.specs.Offers.{offers_of}
 use Rattle.afdx_police.specs.Policer.{StandsFor}
 use Rattle.afdx_police.specs.declared.account.LinkAccount.TheVariants.{ByByte, ByFrame}
 use Rattle.afdx_police.proofs.VerdictLemmas.{answer-reason, offered-stands}
-use Rattle.afdx_police.proofs.account.LinkAccount.passes.Goals as goal
+use Rattle.afdx_police.proofs.account.LinkAccount.offer.Goals as goal
 
 pub returns-in-ByByte-clause-answer : goal.returns-in-ByByte-clause-answer
 returns-in-ByByte-clause-answer c rule past x stands offered =
@@ -16,7 +16,7 @@ returns-in-ByByte-clause-answer c rule past x stands offered =
     let by-byte : StandsFor (charge_by Byte) c.in-ByByte.policer (offers_of rule past) =
     subst (λ (p : Policing). StandsFor (charge_by p) c.in-ByByte.policer (offers_of rule past))
     (sym kind) st.offers in
-    answer-reason Byte rule c.in-ByByte.policer past x
+    c.over_rate.ensures ∙ answer-reason Byte rule c.in-ByByte.policer past x
     (record { time = c.args.time; length = c.args.length }) c.offer.result st.by_rule st.kind
     offered (c.offer.ensures.answer (offers_of rule past) by-byte)
 
@@ -42,7 +42,7 @@ returns-in-ByFrame-clause-answer c rule past x stands offered =
     let by-frame : StandsFor (charge_by Frame) c.in-ByFrame.policer (offers_of rule past) =
     subst (λ (p : Policing). StandsFor (charge_by p) c.in-ByFrame.policer (offers_of rule past))
     (sym kind) st.offers in
-    answer-reason Frame rule c.in-ByFrame.policer past x
+    c.over_rate-in-ByFrame.ensures ∙ answer-reason Frame rule c.in-ByFrame.policer past x
     (record { time = c.args.time; length = c.args.length }) c.offer-in-ByFrame.result st.by_rule
     st.kind offered (c.offer-in-ByFrame.ensures.answer (offers_of rule past) by-frame)
 
