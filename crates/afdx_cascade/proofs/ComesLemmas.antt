@@ -249,9 +249,9 @@ pub quiet-then : (n : Network) (f : First) (time : ℕ) → IsTold n f → 2 * t
     → network.IsQuiet n time
 quiet-then n f time told late = record {
   on_a = (told.tells.tells_a.tells.quiet time).1
-      (after-it time told.tells.a.0 told.tells.tells_a.due told.tells.tells_a.is
+      (after-it time told.tells.a told.tells.tells_a.due told.tells.tells_a.is
       (let le = told.least in let a = told.tells.first.least_a in omega (arith, late, le, a)));
   on_b = (told.tells.tells_b.tells.quiet time).1
-      (after-it time told.tells.b.0 told.tells.tells_b.due told.tells.tells_b.is
+      (after-it time told.tells.b told.tells.tells_b.due told.tells.tells_b.is
       (let le = told.least in let b = told.tells.first.least_b in omega (arith, late, le, b)));
 }

@@ -46,11 +46,11 @@ place-first at place j side lt =
 -- the head is the first: its own switches
 head-own : (at : ℕ) (n : Network) (order : ℕ) (side : Side) (tells : TellsOrder n order side)
     (other : Side)
-    → Cases at order side 0 (elim other as (λ s. ℕ) [ A ↦ tells.a.0 | B ↦ tells.b.0 ]) other 0
+    → Cases at order side 0 (elim other as (λ s. ℕ) [ A ↦ tells.a | B ↦ tells.b ]) other 0
 head-own at n order A tells A = inl (refl, refl)
 head-own at n order B tells B = inl (refl, refl)
 head-own at n order B tells A = let lt = (tells.first.at_b refl).1 in inr (inl lt)
-head-own at n order A tells B = elim (cases_eq order tells.b.0) [
+head-own at n order A tells B = elim (cases_eq order tells.b) [
   | inl same ↦ inr (inr (same, side-first at 0 0))
   | inr apart ↦ (let le = tells.first.least_b in inr (inl (omega (arith, le, apart))))
 ]
@@ -60,14 +60,14 @@ head-other : (at : ℕ) (n : Network) (order : ℕ) (side : Side) (tells : Tells
     (f_order place : ℕ) (f_side : Side)
     → (f_order < order) ⊎ ((f_order ≡ order) × (f_side ≡ A) × (side ≡ B)) → (other : Side)
     → Cases at f_order f_side (suc place)
-    (elim other as (λ s. ℕ) [ A ↦ tells.a.0 | B ↦ tells.b.0 ]) other 0
+    (elim other as (λ s. ℕ) [ A ↦ tells.a | B ↦ tells.b ]) other 0
 head-other at n order side tells f_order place f_side (inl lt) A =
     let le = tells.first.least_a in inr (inl (omega (arith, lt, le)))
 head-other at n order side tells f_order place f_side (inl lt) B =
     let le = tells.first.least_b in inr (inl (omega (arith, lt, le)))
 head-other at n order side tells f_order place f_side (inr h) A =
     let lt = (tells.first.at_b h.2).1 in let same = h.0 in inr (inl (omega (arith, same, lt)))
-head-other at n order side tells f_order place f_side (inr h) B = elim (cases_eq f_order tells.b.0) [
+head-other at n order side tells f_order place f_side (inr h) B = elim (cases_eq f_order tells.b) [
   | inl same ↦ inr (inr (
     same,
     subst (λ s. is_below (side_number s ∷ (at + suc place) ∷ []) (side_number B ∷ (at + 0) ∷ [])
@@ -171,7 +171,7 @@ picked at n ns order side tells g f rest same tail =
     number-of : (j : ℕ) (s : Side) → ℕ
     number-of j s = told at (n ∷ ns) (Some f) (order, side, Some g, tells, rest, same) j s
 
-    head-number : (s : Side) → number-of 0 s ≡ (elim s as (λ x. ℕ) [ A ↦ tells.a.0 | B ↦ tells.b.0 ])
+    head-number : (s : Side) → number-of 0 s ≡ (elim s as (λ x. ℕ) [ A ↦ tells.a | B ↦ tells.b ])
     head-number A = refl
     head-number B = refl
 
@@ -269,7 +269,7 @@ alone at n order side tells f rest same = record {
     number-of : (j : ℕ) (s : Side) → ℕ
     number-of j s = told at (n ∷ []) (Some f) (order, side, None, tells, rest, same) j s
 
-    head-number : (s : Side) → number-of 0 s ≡ (elim s as (λ x. ℕ) [ A ↦ tells.a.0 | B ↦ tells.b.0 ])
+    head-number : (s : Side) → number-of 0 s ≡ (elim s as (λ x. ℕ) [ A ↦ tells.a | B ↦ tells.b ])
     head-number A = refl
     head-number B = refl
 

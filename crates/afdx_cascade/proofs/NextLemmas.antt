@@ -199,10 +199,10 @@ quiet-end networks f time is late k n here =
     let b = told.tells.first.least_b in
     record {
       on_a = (told.tells.tells_a.tells.quiet time).1
-          (late-due time told.tells.a.0 told.tells.tells_a.due
+          (late-due time told.tells.a told.tells.tells_a.due
           told.tells.tells_a.is (omega (arith, late, le, a)) told.tells.tells_a.tells.limit);
       on_b = (told.tells.tells_b.tells.quiet time).1
-          (late-due time told.tells.b.0 told.tells.tells_b.due
+          (late-due time told.tells.b told.tells.tells_b.due
           told.tells.tells_b.is (omega (arith, late, le, b)) told.tells.tells_b.tells.limit);
     }
 

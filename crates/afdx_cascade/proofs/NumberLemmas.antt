@@ -6,7 +6,6 @@ use Rattle.afdx_frame.specs.declared.link.Side.{Side}
 use Rattle.afdx_frame.specs.declared.link.Side.TheVariants.{A, B}
 use Rattle.afdx_config.specs.Rows.{Rows}
 use Rattle.afdx_port.specs.declared.left.Due.{Due}
-use Rattle.afdx_port.specs.declared.order.TurnOrder.{TurnOrder}
 use Rattle.afdx_port.specs.Due.{given_at, order_of}
 use Rattle.afdx_port.specs.History.{due_at}
 use Rattle.afdx_port.specs.Ports.{order_at}
@@ -34,8 +33,8 @@ beyond = 4503599627370497
 -- the numbers of the switches of two sides
 abbrev pub told : (at : ℕ) (ns : List Network) (r : Option First) → IsFirstFrom at ns r → ℕ → Side → ℕ
 told at [] r is j side = beyond
-told at (n ∷ ns) r is zero A = is.3.a.0
-told at (n ∷ ns) r is zero B = is.3.b.0
+told at (n ∷ ns) r is zero A = is.3.a
+told at (n ∷ ns) r is zero B = is.3.b
 told at (n ∷ ns) r is (suc j) side = told (at + 1) ns is.2 is.4 j side
 
 own-order : (o : Option Due) → IfSome o (λ d. order_at o ≤ order_of d)
@@ -51,15 +50,15 @@ small-order (Some d) h = by d.too_old h
     by true h = omega (arith, h)
     by false h = omega (arith, h)
 
-pub number-small : (w : SwitchState) (o : TurnOrder) → calls.TellsOrder w o → o.0 < beyond
+pub number-small : (w : SwitchState) (o : ℕ) → calls.TellsOrder w o → o < beyond
 number-small w o tells = let is = tells.is in let small = small-order tells.due tells.tells.limit in
     omega (arith, is, small)
 
 -- no turn stands before its switch's number
 module _ (t : Rows) (n : Network) (events : List Event) (st : network.StandsFor t n events) where
-  least-a : (a : TurnOrder) (port : ℕ) (s : Turn HeldFrame) → calls.TellsOrder n.switches.a a → 1 ≤ port
+  least-a : (a port : ℕ) (s : Turn HeldFrame) → calls.TellsOrder n.switches.a a → 1 ≤ port
       → port ≤ 24
-      → IsNextOn t events A port s → a.0 ≤ order_of (due_at s)
+      → IsNextOn t events A port s → a ≤ order_of (due_at s)
   least-a a port s tells low high next =
       let le = due-least t n events st A
       (calls_on A events (switch.last_time n.switches.a)) tells.due (order_at tells.due)
@@ -69,9 +68,9 @@ module _ (t : Rows) (n : Network) (events : List Event) (st : network.StandsFor 
       (own-order tells.due) port s low high next in
       let is = tells.is in omega (arith, le, is)
 
-  least-b : (b : TurnOrder) (port : ℕ) (s : Turn HeldFrame) → calls.TellsOrder n.switches.b b → 1 ≤ port
+  least-b : (b port : ℕ) (s : Turn HeldFrame) → calls.TellsOrder n.switches.b b → 1 ≤ port
       → port ≤ 24
-      → IsNextOn t events B port s → b.0 ≤ order_of (due_at s)
+      → IsNextOn t events B port s → b ≤ order_of (due_at s)
   least-b b port s tells low high next =
       let le = due-least t n events st B
       (calls_on B events (switch.last_time n.switches.b)) tells.due (order_at tells.due)

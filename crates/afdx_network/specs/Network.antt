@@ -9,7 +9,6 @@ use Rattle.afdx_police.specs.declared.shape.Reason.{Reason}
 use Rattle.afdx_port.specs.Due.{IsBy, order_of}
 use Rattle.afdx_port.specs.History.{left_of, due_at}
 use Rattle.afdx_port.specs.Schedule.{Turn}
-use Rattle.afdx_port.specs.declared.order.TurnOrder.{TurnOrder}
 use Rattle.afdx_switch.specs.Calls as calls
 use Rattle.afdx_switch.specs.Departures.{as_given, giving_port}
 use Rattle.afdx_switch.specs.HeldFrames.{HeldFrame}
@@ -69,11 +68,11 @@ pub record IsQuiet (n : Network) (time : ℕ) : Type 0 where
 
 -- the first turn of both sides stands here in the order of turns, and is that of this side
 pub record TellsOrder (n : Network) (order : ℕ) (side : Side) : Type 0 where
-  pub a : TurnOrder
-  pub b : TurnOrder
+  pub a : ℕ
+  pub b : ℕ
   pub tells_a : calls.TellsOrder n.switches.a a
   pub tells_b : calls.TellsOrder n.switches.b b
-  pub first : IsFirstOf a.0 b.0 order side
+  pub first : IsFirstOf a b order side
 
 -- how many frames the output ports of both switches hold
 abbrev pub frames_held : Network → ℕ
