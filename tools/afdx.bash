@@ -16,22 +16,12 @@ _afdx_folders() {
     mapfile -t COMPREPLY < <(compgen -d -- "${COMP_WORDS[COMP_CWORD]}")
 }
 
-_afdx_recordings() { _afdx_files pcap pcapng; }
-
 # `compgen -W` isn't called: it expands its words, and runs what stands in them.
 _afdx_words() { # WORD.. : those that the word begins
     local word
     for word in "$@"; do
         if [[ $word == "${COMP_WORDS[COMP_CWORD]}"* ]]; then COMPREPLY+=("$word"); fi
     done
-}
-
-_afdx_commands() { # COMMAND.. : the first word
-    if [[ ${COMP_WORDS[COMP_CWORD]} == -* ]]; then
-        _afdx_words --help --version
-    else
-        _afdx_words "$@"
-    fi
 }
 
 # Byte by byte, so that no other can stand in a name; of a configuration's greatest size.
@@ -62,225 +52,216 @@ _afdx_read() { # FIRST OPTION.. : the place of the first word; the options that 
 
 _afdx_is_option() { [[ -z $before && ${COMP_WORDS[COMP_CWORD]} == -* ]]; }
 
-_afdx() {
-    local command=${COMP_WORDS[1]-} given before
-    local told=(--explain --line-buffered --progress --summary --help)
-    local recorded=(--interface --fcs --origin --reorder)
+# What the word may be, by what stands below of the command.
+_afdx_command() { # COMMAND PLACE : the place of the first word behind it
+    local options=() valued=() given before
+    _afdx_takes "$1"
+    _afdx_read "$2" "${valued[@]}"
+    if _afdx_is_option; then
+        _afdx_words "${options[@]}"
+    elif [[ -n $before ]]; then
+        _afdx_value "$1 $before"
+    else
+        _afdx_place "$1 ${#given[@]}"
+    fi
+}
+
+_afdx() { # TOOL
+    local tool=${1##*/} commands=()
     COMPREPLY=()
-    if ((COMP_CWORD == 1)); then
-        _afdx_commands check explain list police replay send solve
-        return
+    _afdx_commands_of "$tool"
+    if ((${#commands[@]} == 0)); then
+        _afdx_command "$tool" 1
+    elif ((COMP_CWORD > 1)); then
+        _afdx_command "$tool ${COMP_WORDS[1]}" 2
+    elif [[ ${COMP_WORDS[1]} == -* ]]; then
+        _afdx_words --help --version
+    else
+        _afdx_words "${commands[@]}"
     fi
-    _afdx_read 2 --vl --port --lmin --policing --keep --stamps "${recorded[@]}"
-    if _afdx_is_option; then
-        case $command in
-            replay)
-                _afdx_words --no-admission --explain-drops --stamps "${recorded[@]}" "${told[@]}"
-                ;;
-            send) _afdx_words "${told[@]}" ;;
-            list) _afdx_words --stamps "${recorded[@]}" "${told[@]}" ;;
-            police) _afdx_words --vl --port --lmin --policing "${recorded[@]}" "${told[@]}" ;;
-            check) _afdx_words --all --margins --explain --help ;;
-            solve) _afdx_words --keep --raise-only --explain --help ;;
-            explain) _afdx_words --list --help ;;
-        esac
-        return
-    fi
-    if [[ -n $before ]]; then
-        case $before in
-            --policing) _afdx_words byte frame ;;
-            --keep) _afdx_words jitter buffer latency skew ;;
-            --fcs) _afdx_words yes no ;;
-            --stamps) _afdx_words end start ;;
-        esac
-        return
-    fi
-    case $command.${#given[@]} in
-        police.0) _afdx_words 1 2 4 8 16 32 64 128 ;;
-        police.3 | replay.1) _afdx_files list pcap pcapng ;;
-        list.[12] | replay.2) _afdx_recordings ;;
-        check.0 | list.0 | replay.0 | send.0 | solve.0) _afdx_files toml ;;
-        send.1) _afdx_systems "${given[0]}" ;;
-        send.2) _afdx_files list messages ;;
+}
+
+# printed by bin/pages
+_afdx_commands_of() { # TOOL : what its first word may be
+    case $1 in
+        afdx) commands=(check explain list police replay send solve) ;;
+        afdx-capture) commands=(list pcap annotate) ;;
     esac
 }
 
-_afdx_capture_list() {
-    _afdx_read 2 --config --interface --taps --origin --fcs --reorder --stamps -o --out --split
-    if _afdx_is_option; then
-        _afdx_words --config --interface --taps --origin --fcs --reorder --stamps --out --split \
-            --help
-        return
-    fi
-    case $before in
-        --taps) _afdx_files csv ;;
-        '') if ((${#given[@]} < 2)); then _afdx_recordings; fi ;;
-        --config) _afdx_files toml ;;
-        --fcs) _afdx_words yes no ;;
-        --stamps) _afdx_words end start ;;
-        -o | --out | --split) _afdx_files list ;;
+_afdx_takes() { # COMMAND : its options, and those that take a value
+    case $1 in
+        'afdx check')
+            options=(--all --margins --explain --help)
+            valued=()
+            ;;
+        'afdx explain')
+            options=(--list --help)
+            valued=()
+            ;;
+        'afdx list')
+            options=(--interface --fcs --origin --reorder --stamps --explain --line-buffered \
+                --progress --summary --help)
+            valued=(--interface --fcs --origin --reorder --stamps)
+            ;;
+        'afdx police')
+            options=(--vl --port --lmin --policing --interface --fcs --origin --reorder --explain \
+                --line-buffered --progress --summary --help)
+            valued=(--vl --port --lmin --policing --interface --fcs --origin --reorder)
+            ;;
+        'afdx replay')
+            options=(--no-admission --explain-drops --interface --fcs --origin --reorder --stamps \
+                --explain --line-buffered --progress --summary --help)
+            valued=(--interface --fcs --origin --reorder --stamps)
+            ;;
+        'afdx send')
+            options=(--explain --line-buffered --progress --summary --help)
+            valued=()
+            ;;
+        'afdx solve')
+            options=(--keep --raise-only --explain --help)
+            valued=(--keep)
+            ;;
+        'afdx-campaign')
+            options=(--help --version --out --no-admission --pages --jobs --resume --sshlogin \
+                --transfer --interface --taps --fcs --origin --reorder --stamps --fail-on --junit)
+            valued=(--out -j --jobs -S --sshlogin --interface --taps --fcs --origin --reorder \
+                --stamps --fail-on --junit)
+            ;;
+        'afdx-capture list')
+            options=(--help --config --interface --taps --fcs --origin --reorder --stamps --out \
+                --split)
+            valued=(--config --interface --taps --fcs --origin --reorder --stamps -o --out \
+                --split)
+            ;;
+        'afdx-capture pcap')
+            options=(--help --side --fcs --origin)
+            valued=(--side --fcs --origin)
+            ;;
+        'afdx-capture annotate')
+            options=(--help --no-admission --interface --taps --fcs --origin --reorder --stamps)
+            valued=(--interface --taps --fcs --origin --reorder --stamps)
+            ;;
+        'afdx-fill')
+            options=(--help --version --keep --raise-only)
+            valued=(--keep)
+            ;;
+        'afdx-icd')
+            options=(--help --version --profile --fill --raise --reserve --since)
+            valued=(--profile --reserve --since)
+            ;;
+        'afdx-report')
+            options=(--help --version --out --no-admission --link --from --rows --worst --compare \
+                --title --cover --json --interface --taps --fcs --origin --reorder --stamps \
+                --fail-on --junit)
+            valued=(--out --link --from --rows --worst --compare --title --cover --interface \
+                --taps --fcs --origin --reorder --stamps --fail-on --junit)
+            ;;
+        'afdx-taps')
+            options=(--help --version --anyway)
+            valued=()
+            ;;
+        'afdx-traffic')
+            options=(--help --version --profile --fill --seconds --seed --config)
+            valued=(--profile --seconds --seed --config)
+            ;;
     esac
 }
 
-_afdx_capture_pcap() {
-    _afdx_read 2 --side --fcs --origin
-    if _afdx_is_option; then
-        _afdx_words --side --fcs --origin --help
-        return
-    fi
-    case $before.${#given[@]} in
-        .0) _afdx_files list ;;
-        .1) _afdx_recordings ;;
-        --side.*) _afdx_words A B ;;
-        --fcs.*) _afdx_words yes no ;;
+_afdx_value() { # COMMAND OPTION, in one word
+    case $1 in
+        'afdx list --fcs') _afdx_words yes no ;;
+        'afdx list --stamps') _afdx_words end start ;;
+        'afdx police --policing') _afdx_words byte frame ;;
+        'afdx police --fcs') _afdx_words yes no ;;
+        'afdx replay --fcs') _afdx_words yes no ;;
+        'afdx replay --stamps') _afdx_words end start ;;
+        'afdx solve --keep') _afdx_words jitter buffer latency skew ;;
+        'afdx-campaign --out') _afdx_folders ;;
+        'afdx-campaign --taps') _afdx_files csv ;;
+        'afdx-campaign --fcs') _afdx_words yes no ;;
+        'afdx-campaign --stamps') _afdx_words end start ;;
+        'afdx-campaign --fail-on')
+            _afdx_words silent contradicted clock twice late full-buffer too-old dropped unequal \
+                missing refused skew jitter first-number recorder-lost left-out unused claimed \
+                lost
+            ;;
+        'afdx-campaign --junit') _afdx_files xml ;;
+        'afdx-capture list --config') _afdx_files toml ;;
+        'afdx-capture list --taps') _afdx_files csv ;;
+        'afdx-capture list --fcs') _afdx_words yes no ;;
+        'afdx-capture list --stamps') _afdx_words end start ;;
+        'afdx-capture list -o') _afdx_files list ;;
+        'afdx-capture list --out') _afdx_files list ;;
+        'afdx-capture list --split') _afdx_files list ;;
+        'afdx-capture pcap --side') _afdx_words A B ;;
+        'afdx-capture pcap --fcs') _afdx_words yes no ;;
+        'afdx-capture annotate --taps') _afdx_files csv ;;
+        'afdx-capture annotate --fcs') _afdx_words yes no ;;
+        'afdx-capture annotate --stamps') _afdx_words end start ;;
+        'afdx-fill --keep') _afdx_words jitter buffer latency skew ;;
+        'afdx-icd --profile') _afdx_words 1 2 ;;
+        'afdx-icd --since') _afdx_files toml ;;
+        'afdx-report --out') _afdx_folders ;;
+        'afdx-report --compare') _afdx_files json ;;
+        'afdx-report --cover') _afdx_files toml ;;
+        'afdx-report --taps') _afdx_files csv ;;
+        'afdx-report --fcs') _afdx_words yes no ;;
+        'afdx-report --stamps') _afdx_words end start ;;
+        'afdx-report --fail-on')
+            _afdx_words silent contradicted clock twice late full-buffer too-old dropped unequal \
+                missing refused skew jitter first-number recorder-lost left-out unused claimed \
+                lost
+            ;;
+        'afdx-report --junit') _afdx_files xml ;;
+        'afdx-traffic --profile') _afdx_words 1 2 ;;
+        'afdx-traffic --config') _afdx_files toml ;;
     esac
 }
 
-_afdx_capture_annotate() {
-    _afdx_read 2 --interface --taps --origin --fcs --reorder --stamps
-    if _afdx_is_option; then
-        _afdx_words --no-admission --interface --taps --origin --fcs --reorder --stamps --help
-        return
-    fi
-    case $before.${#given[@]} in
-        .0) _afdx_files toml ;;
-        .1) _afdx_files list pcap pcapng ;;
-        .[23]) _afdx_recordings ;;
-        --taps.*) _afdx_files csv ;;
-        --fcs.*) _afdx_words yes no ;;
-        --stamps.*) _afdx_words end start ;;
+_afdx_place() { # COMMAND NUMBER, in one word : the word of that number, from 0
+    case $1 in
+        'afdx check '0) _afdx_files toml ;;
+        'afdx list '0) _afdx_files toml ;;
+        'afdx list '1) _afdx_files pcap pcapng ;;
+        'afdx list '2) _afdx_files pcap pcapng ;;
+        'afdx police '0) _afdx_words 1 2 4 8 16 32 64 128 ;;
+        'afdx police '3) _afdx_files list pcap pcapng ;;
+        'afdx replay '0) _afdx_files toml ;;
+        'afdx replay '1) _afdx_files list pcap pcapng ;;
+        'afdx replay '2) _afdx_files pcap pcapng ;;
+        'afdx send '0) _afdx_files toml ;;
+        'afdx send '1) _afdx_systems "${given[0]}" ;;
+        'afdx send '2) _afdx_files list messages ;;
+        'afdx solve '0) _afdx_files toml ;;
+        'afdx-campaign '0) _afdx_files toml ;;
+        'afdx-campaign '*) _afdx_files list pcap pcapng ;;
+        'afdx-capture list '0) _afdx_files pcap pcapng ;;
+        'afdx-capture list '1) _afdx_files pcap pcapng ;;
+        'afdx-capture pcap '0) _afdx_files list ;;
+        'afdx-capture pcap '1) _afdx_files pcap pcapng ;;
+        'afdx-capture annotate '0) _afdx_files toml ;;
+        'afdx-capture annotate '1) _afdx_files list pcap pcapng ;;
+        'afdx-capture annotate '2) _afdx_files pcap pcapng ;;
+        'afdx-capture annotate '3) _afdx_files pcap pcapng ;;
+        'afdx-fill '0) _afdx_files toml ;;
+        'afdx-fill '1) _afdx_files toml ;;
+        'afdx-icd '0) _afdx_files csv ;;
+        'afdx-icd '1) _afdx_files csv ;;
+        'afdx-icd '2) _afdx_files toml ;;
+        'afdx-report '0) _afdx_files toml ;;
+        'afdx-report '1) _afdx_files list pcap pcapng ;;
+        'afdx-report '2) _afdx_files pcap pcapng ;;
+        'afdx-taps '0) _afdx_files toml ;;
+        'afdx-taps '1) _afdx_files csv ;;
+        'afdx-taps '2) _afdx_files pcap pcapng ;;
+        'afdx-taps '3) _afdx_files pcap pcapng ;;
+        'afdx-traffic '0) _afdx_files csv ;;
+        'afdx-traffic '1) _afdx_files csv ;;
+        'afdx-traffic '2) _afdx_folders ;;
     esac
 }
 
-_afdx_capture() {
-    local given before
-    COMPREPLY=()
-    if ((COMP_CWORD == 1)); then
-        _afdx_commands list pcap annotate
-    elif declare -F "_afdx_capture_${COMP_WORDS[1]}" >/dev/null; then
-        "_afdx_capture_${COMP_WORDS[1]}"
-    fi
-}
-
-_afdx_criteria() {
-    _afdx_words silent contradicted clock twice late full-buffer too-old dropped unequal missing \
-        refused skew jitter first-number recorder-lost left-out unused claimed lost
-}
-
-_afdx_report() {
-    local given before
-    COMPREPLY=()
-    _afdx_read 1 --out --link --from --rows --worst --compare --title --cover --fail-on --junit \
-        --interface --taps --fcs --origin --reorder --stamps
-    if _afdx_is_option; then
-        _afdx_words --out --no-admission --link --from --rows --worst --compare --title --cover \
-            --json --interface --taps --fcs --origin --reorder --stamps --fail-on --junit --help \
-            --version
-        return
-    fi
-    case $before.${#given[@]} in
-        .0) _afdx_files toml ;;
-        .1) _afdx_files list pcap pcapng ;;
-        .2) _afdx_recordings ;;
-        --fcs.*) _afdx_words yes no ;;
-        --stamps.*) _afdx_words end start ;;
-        --out.*) _afdx_folders ;;
-        --compare.*) _afdx_files json ;;
-        --cover.*) _afdx_files toml ;;
-        --taps.*) _afdx_files csv ;;
-        --fail-on.*) _afdx_criteria ;;
-        --junit.*) _afdx_files xml ;;
-    esac
-}
-
-_afdx_campaign() {
-    local given before
-    COMPREPLY=()
-    _afdx_read 1 --out -j --jobs -S --sshlogin --fail-on --junit --interface --taps --fcs \
-        --origin --reorder --stamps
-    if _afdx_is_option; then
-        _afdx_words --out --no-admission --pages --jobs --resume --sshlogin --transfer \
-            --interface --taps --fcs --origin --reorder --stamps --fail-on --junit --help --version
-        return
-    fi
-    case $before.${#given[@]} in
-        --fail-on.*) _afdx_criteria ;;
-        --junit.*) _afdx_files xml ;;
-        --taps.*) _afdx_files csv ;;
-        --fcs.*) _afdx_words yes no ;;
-        --stamps.*) _afdx_words end start ;;
-        .0) _afdx_files toml ;;
-        .*) _afdx_files list pcap pcapng ;;
-        --out.*) _afdx_folders ;;
-    esac
-}
-
-_afdx_icd() {
-    local given before
-    COMPREPLY=()
-    _afdx_read 1 --profile --reserve --since
-    if _afdx_is_option; then
-        _afdx_words --profile --fill --raise --reserve --since --help --version
-        return
-    fi
-    case $before.${#given[@]} in
-        --profile.*) _afdx_words 1 2 ;;
-        --since.*) _afdx_files toml ;;
-        .0 | .1) _afdx_files csv ;;
-        .2) _afdx_files toml ;;
-    esac
-}
-
-_afdx_traffic() {
-    local given before
-    COMPREPLY=()
-    _afdx_read 1 --profile --seconds --seed --config
-    if _afdx_is_option; then
-        _afdx_words --profile --fill --seconds --seed --config --help --version
-        return
-    fi
-    case $before.${#given[@]} in
-        --profile.*) _afdx_words 1 2 ;;
-        --config.*) _afdx_files toml ;;
-        .0 | .1) _afdx_files csv ;;
-        .2) _afdx_folders ;;
-    esac
-}
-
-_afdx_taps() {
-    local given before
-    COMPREPLY=()
-    _afdx_read 1
-    if _afdx_is_option; then
-        _afdx_words --anyway --help --version
-        return
-    fi
-    case ${#given[@]} in
-        0) _afdx_files toml ;;
-        1) _afdx_files csv ;;
-        2 | 3) _afdx_recordings ;;
-    esac
-}
-
-_afdx_fill() {
-    local given before
-    COMPREPLY=()
-    _afdx_read 1 --keep
-    if _afdx_is_option; then
-        _afdx_words --keep --raise-only --help --version
-        return
-    fi
-    case $before in
-        --keep) _afdx_words jitter buffer latency skew ;;
-        '') _afdx_files toml ;;
-    esac
-}
-
-complete -F _afdx afdx
-complete -F _afdx_capture afdx-capture
-complete -F _afdx_report afdx-report
-complete -F _afdx_campaign afdx-campaign
-complete -F _afdx_icd afdx-icd
-complete -F _afdx_fill afdx-fill
-complete -F _afdx_traffic afdx-traffic
-complete -F _afdx_taps afdx-taps
+complete -F _afdx afdx afdx-campaign afdx-capture afdx-fill afdx-icd afdx-report afdx-taps \
+    afdx-traffic
+# printed by bin/pages down to here

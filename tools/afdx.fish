@@ -16,10 +16,6 @@ function __afdx_given --description 'Words behind the command that belong to no 
     test (count $given) -gt 0; and printf '%s\n' $given
 end
 
-set -g __afdx_valued --vl --port --lmin --policing --keep --interface --config --origin --reorder \
-    --stamps --fcs --side -o --out --split --link --from --rows --worst --compare --title --cover \
-    --fail-on --junit -j --jobs -S --sshlogin
-
 function __afdx_at --description 'Is the word the one of that number behind COMMAND (- for none)?'
     set -l given (__afdx_given $__afdx_valued)
     set -l before (commandline -opc)[-1]
@@ -50,158 +46,283 @@ function __afdx_files --description 'Folders, and files with one of these extens
     end
 end
 
-set -l pcaps pcap pcapng
-
-# ---- afdx ----------------------------------------------------------------------------------------
+# printed by bin/pages
+set -g __afdx_valued --interface --fcs --origin --reorder --stamps --vl --port --lmin --policing \
+    --keep --out -j --jobs -S --sshlogin --taps --fail-on --junit --config -o --split --side \
+    --profile --reserve --since --link --from --rows --worst --compare --title --cover --seconds \
+    --seed
 
 complete -c afdx -f
-complete -c afdx -l help -d 'Print help and leave'
+complete -c afdx -n '__afdx_at - 0 0' -l help -d 'Print help and leave'
 complete -c afdx -n '__afdx_at - 0 0' -l version -d 'Print the version and leave'
-complete -c afdx -n '__afdx_at - 0 0' -a check -d 'Is the network admitted?'
-complete -c afdx -n '__afdx_at - 0 0' -a explain -d 'What does a line mean?'
-complete -c afdx -n '__afdx_at - 0 0' -a police -d 'Judge the frames of one link'
-complete -c afdx -n '__afdx_at - 0 0' -a replay -d 'Replay a frame list'
-complete -c afdx -n '__afdx_at - 0 0' -a send -d 'Send the messages of a system'
-complete -c afdx -n '__afdx_at - 0 0' -a solve -d 'Write the least values of a network'
-complete -c afdx -n '__afdx_at - 0 0' -a list -d 'A recording to a frame list'
-complete -c afdx -n '__afdx_in check list police replay send solve' -l explain \
-    -a 'auto always never' -d 'When is a fault explained?'
-complete -c afdx -n '__afdx_in check' -l all -d 'Print each line that is false'
-complete -c afdx -n '__afdx_in check' -l margins -d 'Print bound and latency of links at ports'
-complete -c afdx -n '__afdx_in solve' -x -l keep -a 'jitter buffer latency skew' \
-    -d 'These keep their values'
-complete -c afdx -n '__afdx_in solve' -l raise-only -d 'Lower no value'
-complete -c afdx -n '__afdx_in explain' -l list -d 'Print each word with its meaning'
-set -l runs '__afdx_in list police replay send'
-complete -c afdx -n $runs -l line-buffered -d 'Hand over each line at once'
-complete -c afdx -n $runs -l progress -d 'Say how much was read'
-complete -c afdx -n $runs -l summary -d 'Print the counts at the end'
-complete -c afdx -n '__afdx_in replay' -l no-admission -d 'Also where the network is refused'
-complete -c afdx -n '__afdx_in replay' -l explain-drops -d 'Print how much too early frames came'
-complete -c afdx -n '__afdx_in police' -x -l vl -d 'The identifier of the link'
-complete -c afdx -n '__afdx_in police' -x -l port -d 'The input port of its frames'
-complete -c afdx -n '__afdx_in police' -x -l lmin -d 'The least length of a frame'
-complete -c afdx -n '__afdx_in police' -x -l policing -a 'byte frame' -d 'What a frame is charged'
-set -l reads '__afdx_in list police replay'
-complete -c afdx -n $reads -x -l interface -d 'Where an interface was plugged in'
-complete -c afdx -n $reads -x -l fcs -a 'yes no' -d 'Are there check sequences?'
-complete -c afdx -n $reads -x -l origin -d 'ns since 1970 of time 0'
-complete -c afdx -n $reads -x -l reorder -d 'How many in front may be later'
-complete -c afdx -n '__afdx_in list replay' -x -l stamps -a 'end start' -d 'Last bit or first?'
+complete -c afdx -n '__afdx_at - 0 0' -a check \
+    -d 'Says whether a network is sure to keep its latencies'
+complete -c afdx -n '__afdx_in check' -l all -d 'Prints each line that is false'
+complete -c afdx -n '__afdx_in check' -l margins \
+    -d 'Prints of each link at each port the bound there and its latency'
+complete -c afdx -n '__afdx_in check' -l explain -a 'auto always never' \
+    -d 'When a fault is explained, behind its one line'
+complete -c afdx -n '__afdx_in check' -l help -d 'Print help'
+complete -c afdx -n '__afdx_at check 0 0' -a '(__afdx_files toml)'
+complete -c afdx -n '__afdx_at - 0 0' -a explain \
+    -d 'Says in plain words what a line of the program means'
+complete -c afdx -n '__afdx_in explain' -l list -d 'Prints each word and each form of a line'
+complete -c afdx -n '__afdx_in explain' -l help -d 'Print help'
+complete -c afdx -n '__afdx_at - 0 0' -a list \
+    -d 'Writes a recording as the frame list that says the same'
+complete -c afdx -n '__afdx_in list' -x -l interface \
+    -d 'Where the frames of interface K of the recording came in'
+complete -c afdx -n '__afdx_in list' -x -l fcs -a 'yes no' \
+    -d 'Whether each frame of the recording ends with its check sequence'
+complete -c afdx -n '__afdx_in list' -x -l origin -d 'The moment of the recording that is time 0'
+complete -c afdx -n '__afdx_in list' -x -l reorder \
+    -d 'By how many arrivals times of a recording may go back'
+complete -c afdx -n '__afdx_in list' -x -l stamps -a 'end start' \
+    -d 'Whether the recorder stamps the end of a frame'
+complete -c afdx -n '__afdx_in list' -l explain -a 'auto always never' \
+    -d 'When a fault is explained, behind its one line'
+complete -c afdx -n '__afdx_in list' -l line-buffered \
+    -d 'Hands the text of each line over at once'
+complete -c afdx -n '__afdx_in list' -l progress -d 'Says after two seconds how much was read'
+complete -c afdx -n '__afdx_in list' -l summary \
+    -d 'Prints the counts of the run on standard error'
+complete -c afdx -n '__afdx_in list' -l help -d 'Print help'
+complete -c afdx -n '__afdx_at list 0 0' -a '(__afdx_files toml)'
+complete -c afdx -n '__afdx_at list 1 1' -a '(__afdx_files pcap pcapng)'
+complete -c afdx -n '__afdx_at list 2 2' -a '(__afdx_files pcap pcapng)'
+complete -c afdx -n '__afdx_at - 0 0' -a police -d 'Polices the frames of one virtual link'
+complete -c afdx -n '__afdx_in police' -x -l vl -d 'The link\'s identifier, 0 to 65535'
+complete -c afdx -n '__afdx_in police' -x -l port -d 'The input port of its frames, 1 to 24'
+complete -c afdx -n '__afdx_in police' -x -l lmin \
+    -d 'The least length of a frame in bytes, 64 to LMAX'
+complete -c afdx -n '__afdx_in police' -x -l policing -a 'byte frame' \
+    -d 'By bytes a frame is charged by its length'
+complete -c afdx -n '__afdx_in police' -x -l interface \
+    -d 'Where the frames of interface K of the recording came in'
+complete -c afdx -n '__afdx_in police' -x -l fcs -a 'yes no' \
+    -d 'Whether each frame of the recording ends with its check sequence'
+complete -c afdx -n '__afdx_in police' -x -l origin \
+    -d 'The moment of the recording that is time 0'
+complete -c afdx -n '__afdx_in police' -x -l reorder \
+    -d 'By how many arrivals times of a recording may go back'
+complete -c afdx -n '__afdx_in police' -l explain -a 'auto always never' \
+    -d 'When a fault is explained, behind its one line'
+complete -c afdx -n '__afdx_in police' -l line-buffered \
+    -d 'Hands the text of each line over at once'
+complete -c afdx -n '__afdx_in police' -l progress -d 'Says after two seconds how much was read'
+complete -c afdx -n '__afdx_in police' -l summary \
+    -d 'Prints the counts of the run on standard error'
+complete -c afdx -n '__afdx_in police' -l help -d 'Print help'
 complete -c afdx -n '__afdx_at police 0 0' -a '1 2 4 8 16 32 64 128'
 complete -c afdx -n '__afdx_at police 3 3' -a '(__afdx_files list pcap pcapng)'
-complete -c afdx -n '__afdx_at list 1 2' -a '(__afdx_files pcap pcapng)'
-for command in check list replay send solve
-    complete -c afdx -n "__afdx_at $command 0 0" -a '(__afdx_files toml)'
-end
+complete -c afdx -n '__afdx_at - 0 0' -a replay \
+    -d 'Replays a list of frames through both switches to the systems'
+complete -c afdx -n '__afdx_in replay' -l no-admission \
+    -d 'Replays also in tables that are not admitted'
+complete -c afdx -n '__afdx_in replay' -l explain-drops -d 'Prints on standard error'
+complete -c afdx -n '__afdx_in replay' -x -l interface \
+    -d 'Where the frames of interface K of the recording came in'
+complete -c afdx -n '__afdx_in replay' -x -l fcs -a 'yes no' \
+    -d 'Whether each frame of the recording ends with its check sequence'
+complete -c afdx -n '__afdx_in replay' -x -l origin \
+    -d 'The moment of the recording that is time 0'
+complete -c afdx -n '__afdx_in replay' -x -l reorder \
+    -d 'By how many arrivals times of a recording may go back'
+complete -c afdx -n '__afdx_in replay' -x -l stamps -a 'end start' \
+    -d 'Whether the recorder stamps the end of a frame'
+complete -c afdx -n '__afdx_in replay' -l explain -a 'auto always never' \
+    -d 'When a fault is explained, behind its one line'
+complete -c afdx -n '__afdx_in replay' -l line-buffered \
+    -d 'Hands the text of each line over at once'
+complete -c afdx -n '__afdx_in replay' -l progress -d 'Says after two seconds how much was read'
+complete -c afdx -n '__afdx_in replay' -l summary \
+    -d 'Prints the counts of the run on standard error'
+complete -c afdx -n '__afdx_in replay' -l help -d 'Print help'
+complete -c afdx -n '__afdx_at replay 0 0' -a '(__afdx_files toml)'
 complete -c afdx -n '__afdx_at replay 1 1' -a '(__afdx_files list pcap pcapng)'
 complete -c afdx -n '__afdx_at replay 2 2' -a '(__afdx_files pcap pcapng)'
+complete -c afdx -n '__afdx_at - 0 0' -a send \
+    -d 'Sends the messages of a list from one system, as a list for replay'
+complete -c afdx -n '__afdx_in send' -l explain -a 'auto always never' \
+    -d 'When a fault is explained, behind its one line'
+complete -c afdx -n '__afdx_in send' -l line-buffered \
+    -d 'Hands the text of each line over at once'
+complete -c afdx -n '__afdx_in send' -l progress -d 'Says after two seconds how much was read'
+complete -c afdx -n '__afdx_in send' -l summary \
+    -d 'Prints the counts of the run on standard error'
+complete -c afdx -n '__afdx_in send' -l help -d 'Print help'
+complete -c afdx -n '__afdx_at send 0 0' -a '(__afdx_files toml)'
 complete -c afdx -n '__afdx_at send 1 1' -a '(__afdx_systems)'
 complete -c afdx -n '__afdx_at send 2 2' -a '(__afdx_files list messages)'
+complete -c afdx -n '__afdx_at - 0 0' -a solve \
+    -d 'Writes a network with the least values that keep its latencies'
+complete -c afdx -n '__afdx_in solve' -x -l keep -a 'jitter buffer latency skew' \
+    -d 'Keys that keep their values'
+complete -c afdx -n '__afdx_in solve' -l raise-only -d 'Lowers no value'
+complete -c afdx -n '__afdx_in solve' -l explain -a 'auto always never' \
+    -d 'When a fault is explained, behind its one line'
+complete -c afdx -n '__afdx_in solve' -l help -d 'Print help'
+complete -c afdx -n '__afdx_at solve 0 0' -a '(__afdx_files toml)'
 
-# ---- afdx-capture --------------------------------------------------------------------------------
+complete -c afdx-campaign -f
+complete -c afdx-campaign -l help -d 'show this help message and exit'
+complete -c afdx-campaign -l version -d 'print the version and leave'
+complete -c afdx-campaign -x -l out -a '(__fish_complete_directories)' \
+    -d 'the folder of the campaign'
+complete -c afdx-campaign -l no-admission -d 'also where the network isn\'t admitted'
+complete -c afdx-campaign -l pages -d 'a page for each run too, pages/1 and so on'
+complete -c afdx-campaign -x -s j -l jobs -d 'runs at a time'
+complete -c afdx-campaign -l resume -d 'repeat the runs that have no result'
+complete -c afdx-campaign -x -s S -l sshlogin -d 'run on this machine too'
+complete -c afdx-campaign -l transfer -d 'copy lists and configuration to those machines first'
+complete -c afdx-campaign -x -l interface -d 'where the frames of interface K came in'
+complete -c afdx-campaign -x -l taps -a '(__afdx_files csv)' \
+    -d 'a table of taps in the place of --interface'
+complete -c afdx-campaign -x -l fcs -a 'yes no' \
+    -d 'do recorded frames end with their check sequence'
+complete -c afdx-campaign -x -l origin -d 'the moment that is time 0, in ns since 1970'
+complete -c afdx-campaign -x -l reorder -d 'how many arrivals in front of a frame may be later'
+complete -c afdx-campaign -x -l stamps -a 'end start' \
+    -d 'whether stamps are those of a frame\'s last bit or of its first'
+complete -c afdx-campaign -x -l fail-on \
+    -a 'silent contradicted clock twice late full-buffer too-old dropped unequal missing refused skew jitter first-number recorder-lost left-out unused claimed lost' \
+    -d 'status 6 where one of these isn\'t 0, with commas'
+complete -c afdx-campaign -x -l junit -a '(__afdx_files xml)' \
+    -d 'write the run and each criterion as a JUnit test case'
+complete -c afdx-campaign -n '__afdx_at - 0 0' -a '(__afdx_files toml)'
+complete -c afdx-campaign -n '__afdx_at - 1 1000000' -a '(__afdx_files list pcap pcapng)'
 
-set -l tool afdx-capture
-complete -c $tool -f
-complete -c $tool -l help -d 'Print help and leave'
-complete -c $tool -n '__afdx_at - 0 0' -l version -d 'Print the version and leave'
-complete -c $tool -n '__afdx_at - 0 0' -a list -d 'Recordings to a frame list'
-complete -c $tool -n '__afdx_at - 0 0' -a pcap -d 'A frame list to a recording'
-complete -c $tool -n '__afdx_at - 0 0' -a annotate -d 'A replay beside its frames'
-complete -c $tool -n '__afdx_in list' -x -l config -a '(__afdx_files toml)' -d 'Tells switch ports'
-complete -c $tool -n '__afdx_in list annotate' -x -l interface \
-    -d 'Where an interface was plugged in'
-complete -c $tool -n '__afdx_in list annotate' -x -l taps -a '(__afdx_files csv)' \
-    -d 'A table of taps'
-complete -c $tool -n '__afdx_in list pcap annotate' -x -l origin -d 'ns since 1970 of time 0'
-complete -c $tool -n '__afdx_in list annotate' -x -l fcs -a 'yes no' \
-    -d 'Are there check sequences?'
-complete -c $tool -n '__afdx_in list annotate' -x -l reorder -d 'How many in front may be later'
-complete -c $tool -n '__afdx_in list annotate' -x -l stamps -a 'end start' -d 'Last bit or first?'
-complete -c $tool -n '__afdx_in pcap' -x -l fcs -a 'yes no' -d 'With check sequences?'
-complete -c $tool -n '__afdx_in pcap' -x -l side -a 'A B' -d 'Only frames of this network'
-complete -c $tool -n '__afdx_in list' -r -F -s o -l out -d 'The list'
-complete -c $tool -n '__afdx_in list' -r -F -l split -d 'Write several lists'
-complete -c $tool -n '__afdx_in annotate' -l no-admission -d 'Also where the network is refused'
-complete -c $tool -n '__afdx_at list 0 1' -a "(__afdx_files $pcaps)"
-complete -c $tool -n '__afdx_at pcap 0 0' -a '(__afdx_files list)'
-complete -c $tool -n '__afdx_at pcap 1 1' -a "(__afdx_files $pcaps)"
-complete -c $tool -n '__afdx_at annotate 0 0' -a '(__afdx_files toml)'
-complete -c $tool -n '__afdx_at annotate 1 1' -a "(__afdx_files list $pcaps)"
-complete -c $tool -n '__afdx_at annotate 2 3' -a "(__afdx_files $pcaps)"
+complete -c afdx-capture -f
+complete -c afdx-capture -n '__afdx_at - 0 0' -l help -d 'Print help and leave'
+complete -c afdx-capture -n '__afdx_at - 0 0' -l version -d 'Print the version and leave'
+complete -c afdx-capture -n '__afdx_at - 0 0' -a list \
+    -d 'Writes the frame list that says the same as a recording, or as those of both'
+complete -c afdx-capture -n '__afdx_in list' -l help -d 'show this help message and exit'
+complete -c afdx-capture -n '__afdx_in list' -x -l config -a '(__afdx_files toml)' \
+    -d 'the configuration'
+complete -c afdx-capture -n '__afdx_in list' -x -l interface \
+    -d 'where the frames of interface K came in'
+complete -c afdx-capture -n '__afdx_in list' -x -l taps -a '(__afdx_files csv)' \
+    -d 'a table of taps in the place of --interface'
+complete -c afdx-capture -n '__afdx_in list' -x -l fcs -a 'yes no' \
+    -d 'do recorded frames end with their check sequence'
+complete -c afdx-capture -n '__afdx_in list' -x -l origin \
+    -d 'the moment that is time 0, in ns since 1970'
+complete -c afdx-capture -n '__afdx_in list' -x -l reorder \
+    -d 'how many arrivals in front of a frame may be later'
+complete -c afdx-capture -n '__afdx_in list' -x -l stamps -a 'end start' \
+    -d 'whether stamps are those of a frame\'s last bit or of its first'
+complete -c afdx-capture -n '__afdx_in list' -x -s o -l out -a '(__afdx_files list)' -d 'the list'
+complete -c afdx-capture -n '__afdx_in list' -x -l split -a '(__afdx_files list)' \
+    -d 'write lists PREFIX-1.list and so on'
+complete -c afdx-capture -n '__afdx_at list 0 0' -a '(__afdx_files pcap pcapng)'
+complete -c afdx-capture -n '__afdx_at list 1 1' -a '(__afdx_files pcap pcapng)'
+complete -c afdx-capture -n '__afdx_at - 0 0' -a pcap \
+    -d 'Writes a frame list, or what afdx send writes, as pcap with times in ns.'
+complete -c afdx-capture -n '__afdx_in pcap' -l help -d 'show this help message and exit'
+complete -c afdx-capture -n '__afdx_in pcap' -x -l side -a 'A B' -d 'only this network\'s frames'
+complete -c afdx-capture -n '__afdx_in pcap' -x -l fcs -a 'yes no' \
+    -d 'with each frame\'s check sequence'
+complete -c afdx-capture -n '__afdx_in pcap' -x -l origin -d 'ns since 1970 of the list\'s time 0'
+complete -c afdx-capture -n '__afdx_at pcap 0 0' -a '(__afdx_files list)'
+complete -c afdx-capture -n '__afdx_at pcap 1 1' -a '(__afdx_files pcap pcapng)'
+complete -c afdx-capture -n '__afdx_at - 0 0' -a annotate \
+    -d 'Replays a frame list or recordings, and writes the frames as pcapng the lines'
+complete -c afdx-capture -n '__afdx_in annotate' -l help -d 'show this help message and exit'
+complete -c afdx-capture -n '__afdx_in annotate' -l no-admission \
+    -d 'also where the network isn\'t admitted'
+complete -c afdx-capture -n '__afdx_in annotate' -x -l interface \
+    -d 'where the frames of interface K came in'
+complete -c afdx-capture -n '__afdx_in annotate' -x -l taps -a '(__afdx_files csv)' \
+    -d 'a table of taps in the place of --interface'
+complete -c afdx-capture -n '__afdx_in annotate' -x -l fcs -a 'yes no' \
+    -d 'do recorded frames end with their check sequence'
+complete -c afdx-capture -n '__afdx_in annotate' -x -l origin \
+    -d 'the moment that is time 0, in ns since 1970'
+complete -c afdx-capture -n '__afdx_in annotate' -x -l reorder \
+    -d 'how many arrivals in front of a frame may be later'
+complete -c afdx-capture -n '__afdx_in annotate' -x -l stamps -a 'end start' \
+    -d 'whether stamps are those of a frame\'s last bit or of its first'
+complete -c afdx-capture -n '__afdx_at annotate 0 0' -a '(__afdx_files toml)'
+complete -c afdx-capture -n '__afdx_at annotate 1 1' -a '(__afdx_files list pcap pcapng)'
+complete -c afdx-capture -n '__afdx_at annotate 2 2' -a '(__afdx_files pcap pcapng)'
+complete -c afdx-capture -n '__afdx_at annotate 3 3' -a '(__afdx_files pcap pcapng)'
 
-# ---- afdx-report, afdx-campaign ------------------------------------------------------------------
+complete -c afdx-fill -f
+complete -c afdx-fill -l help -d 'show this help message and exit'
+complete -c afdx-fill -l version -d 'print the version and leave'
+complete -c afdx-fill -x -l keep -a 'jitter buffer latency skew' \
+    -d 'of jitter,buffer,latency,skew'
+complete -c afdx-fill -l raise-only -d 'no value gets less than CONFIG has'
+complete -c afdx-fill -n '__afdx_at - 0 0' -a '(__afdx_files toml)'
+complete -c afdx-fill -n '__afdx_at - 1 1' -a '(__afdx_files toml)'
 
-for tool in afdx-report afdx-campaign
-    complete -c $tool -f
-    complete -c $tool -l help -d 'Print help and leave'
-    complete -c $tool -l version -d 'Print the version and leave'
-    complete -c $tool -l no-admission -d 'Also where the network is refused'
-    complete -c $tool -x -l fail-on -d 'Status 6 where one of these is not 0' \
-        -a 'silent contradicted clock twice late full-buffer too-old dropped unequal missing
-            refused skew jitter first-number recorder-lost left-out unused claimed lost'
-    complete -c $tool -r -l junit -d 'Write each criterion as a JUnit test case'
-    complete -c $tool -x -l interface -d 'Where an interface was plugged in'
-    complete -c $tool -x -l taps -a '(__afdx_files csv)' -d 'A table of taps'
-    complete -c $tool -x -l fcs -a 'yes no' -d 'Are there check sequences?'
-    complete -c $tool -x -l origin -d 'ns since 1970 of time 0'
-    complete -c $tool -x -l reorder -d 'How many in front may be later'
-    complete -c $tool -x -l stamps -a 'end start' -d 'Last bit or first?'
-    complete -c $tool -x -l out -a '(__fish_complete_directories)' -d 'The folder of the output'
-    complete -c $tool -n '__afdx_at - 0 0' -a '(__afdx_files toml)'
-end
+complete -c afdx-icd -f
+complete -c afdx-icd -l help -d 'show this help message and exit'
+complete -c afdx-icd -l version -d 'print the version and leave'
+complete -c afdx-icd -x -l profile -a '1 2' -d '2 has rates of 1000 Mbit/s'
+complete -c afdx-icd -l fill \
+    -d 'an empty cell that has to have a value has that of the cell above'
+complete -c afdx-icd -l raise -d 'write it also where messages can\'t be in time'
+complete -c afdx-icd -x -l reserve -d 'let latencies and buffer be so much more than is needed'
+complete -c afdx-icd -x -l since -a '(__afdx_files toml)' -d 'an earlier configuration'
+complete -c afdx-icd -n '__afdx_at - 0 0' -a '(__afdx_files csv)'
+complete -c afdx-icd -n '__afdx_at - 1 1' -a '(__afdx_files csv)'
+complete -c afdx-icd -n '__afdx_at - 2 2' -a '(__afdx_files toml)'
+
+complete -c afdx-report -f
+complete -c afdx-report -l help -d 'show this help message and exit'
+complete -c afdx-report -l version -d 'print the version and leave'
+complete -c afdx-report -x -l out -a '(__fish_complete_directories)' \
+    -d 'the folder for page, CSV and JSON'
+complete -c afdx-report -l no-admission -d 'also where the network isn\'t admitted'
+complete -c afdx-report -x -l link -d 'a link with a time line, several times'
+complete -c afdx-report -x -l from -d 'where the time lines begin'
+complete -c afdx-report -x -l rows -d 'links in the picture of latencies'
+complete -c afdx-report -x -l worst -d 'frames in the tables of the worst'
+complete -c afdx-report -x -l compare -a '(__afdx_files json)' \
+    -d 'the report.json of a run to compare with'
+complete -c afdx-report -x -l title -d 'the title of the page'
+complete -c afdx-report -x -l cover -a '(__afdx_files toml)' -d 'a cover from this TOML'
+complete -c afdx-report -l json -d 'print the JSON instead of the text'
+complete -c afdx-report -x -l interface -d 'where the frames of interface K came in'
+complete -c afdx-report -x -l taps -a '(__afdx_files csv)' \
+    -d 'a table of taps in the place of --interface'
+complete -c afdx-report -x -l fcs -a 'yes no' \
+    -d 'do recorded frames end with their check sequence'
+complete -c afdx-report -x -l origin -d 'the moment that is time 0, in ns since 1970'
+complete -c afdx-report -x -l reorder -d 'how many arrivals in front of a frame may be later'
+complete -c afdx-report -x -l stamps -a 'end start' \
+    -d 'whether stamps are those of a frame\'s last bit or of its first'
+complete -c afdx-report -x -l fail-on \
+    -a 'silent contradicted clock twice late full-buffer too-old dropped unequal missing refused skew jitter first-number recorder-lost left-out unused claimed lost' \
+    -d 'status 6 where one of these isn\'t 0, with commas'
+complete -c afdx-report -x -l junit -a '(__afdx_files xml)' \
+    -d 'write the run and each criterion as a JUnit test case'
+complete -c afdx-report -n '__afdx_at - 0 0' -a '(__afdx_files toml)'
 complete -c afdx-report -n '__afdx_at - 1 1' -a '(__afdx_files list pcap pcapng)'
 complete -c afdx-report -n '__afdx_at - 2 2' -a '(__afdx_files pcap pcapng)'
-complete -c afdx-report -x -l link -d 'The link of the time line'
-complete -c afdx-report -x -l from -d 'Where the time line begins, in ns'
-complete -c afdx-report -x -l rows -d 'Links in the picture of latencies'
-complete -c afdx-report -x -l worst -d 'Frames nearest to their latency'
-complete -c afdx-report -r -l compare -d 'The report.json of a run to compare with'
-complete -c afdx-report -x -l title -d 'The title of the page'
-complete -c afdx-report -x -l cover -a '(__afdx_files toml)' \
-    -d 'A cover: title, fields, parts, signatures'
-complete -c afdx-report -l json -d 'Print the JSON instead of the text'
-complete -c afdx-campaign -n '__afdx_at - 1 1000000' -a '(__afdx_files list pcap pcapng)'
-complete -c afdx-campaign -l pages -d 'A page for each run too'
-complete -c afdx-campaign -x -s j -l jobs -d 'Runs at a time'
-complete -c afdx-campaign -l resume -d 'Only the lists that have not been run'
-complete -c afdx-campaign -x -s S -l sshlogin -d 'Run on this machine too'
-complete -c afdx-campaign -l transfer -d 'Copy lists and configuration there first'
 
-# ---- afdx-icd, afdx-traffic, afdx-taps, afdx-fill ------------------------------------------------
-
-set -ga __afdx_valued --profile --keep --reserve --since --seconds --seed \
-    --taps
-complete -c afdx-icd -f
-complete -c afdx-icd -l help -d 'Print help and leave'
-complete -c afdx-icd -l version -d 'Print the version and leave'
-complete -c afdx-icd -x -l profile -a '1 2' -d 'Which rules its switches keep'
-complete -c afdx-icd -l raise -d 'Also where messages are late'
-complete -c afdx-icd -l fill -d 'An empty cell has the value of the one above'
-complete -c afdx-icd -x -l reserve -d 'Percent of room beyond what is needed'
-complete -c afdx-icd -x -l since -a '(__afdx_files toml)' -d 'Say what changed since this one'
-complete -c afdx-icd -n '__afdx_at - 0 1' -a '(__afdx_files csv)'
-complete -c afdx-icd -n '__afdx_at - 2 2' -a '(__afdx_files toml)'
-complete -c afdx-traffic -f
-complete -c afdx-traffic -l help -d 'Print help and leave'
-complete -c afdx-traffic -l version -d 'Print the version and leave'
-complete -c afdx-traffic -x -l profile -a '1 2' -d 'Which rules its switches keep'
-complete -c afdx-traffic -l fill -d 'An empty cell has the value of the one above'
-complete -c afdx-traffic -x -l seconds -d 'For how long'
-complete -c afdx-traffic -x -l seed -d 'Which chance begins the messages'
-complete -c afdx-traffic -x -l config -a '(__afdx_files toml)' -d 'Write frames too'
-complete -c afdx-traffic -n '__afdx_at - 0 1' -a '(__afdx_files csv)'
-complete -c afdx-traffic -n '__afdx_at - 2 2' -a '(__fish_complete_directories)'
 complete -c afdx-taps -f
-complete -c afdx-taps -l help -d 'Print help and leave'
-complete -c afdx-taps -l version -d 'Print the version and leave'
-complete -c afdx-taps -l anyway -d 'Print the words also where they do not agree'
+complete -c afdx-taps -l help -d 'show this help message and exit'
+complete -c afdx-taps -l version -d 'print the version and leave'
+complete -c afdx-taps -l anyway -d 'print the words also where they don\'t agree'
 complete -c afdx-taps -n '__afdx_at - 0 0' -a '(__afdx_files toml)'
 complete -c afdx-taps -n '__afdx_at - 1 1' -a '(__afdx_files csv)'
-complete -c afdx-taps -n '__afdx_at - 2 3' -a '(__afdx_files pcap pcapng)'
-complete -c afdx-fill -f
-complete -c afdx-fill -l help -d 'Print help and leave'
-complete -c afdx-fill -l version -d 'Print the version and leave'
-complete -c afdx-fill -x -l keep -a 'jitter buffer latency skew' -d 'These keys stay as they are'
-complete -c afdx-fill -l raise-only -d 'No value gets less than it is'
-complete -c afdx-fill -n '__afdx_at - 0 1' -a '(__afdx_files toml)'
+complete -c afdx-taps -n '__afdx_at - 2 2' -a '(__afdx_files pcap pcapng)'
+complete -c afdx-taps -n '__afdx_at - 3 3' -a '(__afdx_files pcap pcapng)'
+
+complete -c afdx-traffic -f
+complete -c afdx-traffic -l help -d 'show this help message and exit'
+complete -c afdx-traffic -l version -d 'print the version and leave'
+complete -c afdx-traffic -x -l profile -a '1 2' -d '2 has rates of 1000 Mbit/s'
+complete -c afdx-traffic -l fill \
+    -d 'an empty cell that has to have a value has that of the cell above'
+complete -c afdx-traffic -x -l seconds -d 'for how long'
+complete -c afdx-traffic -x -l seed -d 'messages begin by chance within their period'
+complete -c afdx-traffic -x -l config -a '(__afdx_files toml)' \
+    -d 'write frames too, as they are sent on this network'
+complete -c afdx-traffic -n '__afdx_at - 0 0' -a '(__afdx_files csv)'
+complete -c afdx-traffic -n '__afdx_at - 1 1' -a '(__afdx_files csv)'
+complete -c afdx-traffic -n '__afdx_at - 2 2' -a '(__fish_complete_directories)'
+# printed by bin/pages down to here

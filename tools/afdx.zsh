@@ -4,25 +4,6 @@
 
 local help='(- *)--help[print help and leave]'
 local version='(- *)--version[print the version and leave]'
-local config='configuration:_files -g "*.toml(-.)"'
-local list='frame list:_files -g "*.list(-.)"'
-local input='frame list or recording:_files -g "*.(list|pcap|pcapng)(-.)"'
-local table='table:_files -g "*.csv(-.)"'
-local recording='recording:_files -g "*.(pcap|pcapng)(-.)"'
-local -a told=(
-    '--explain=-[when a fault is explained]::when:(auto always never)'
-    '--line-buffered[hand over each line at once]'
-    '--progress[say how much was read]'
-    '--summary[print the counts of the run at its end]'
-)
-local -a recorded=(
-    '*--interface[where the frames of an interface of the recording came in]:K=PLACE:'
-    '--fcs[do recorded frames end with check sequences]:answer:(yes no)'
-    '--origin[the moment of the recording that is time 0, in ns since 1970]:ns:'
-    '--reorder[how many arrivals in front of a frame may be later]:number:'
-)
-local taps='--taps[a table of taps in the place of --interface]:table:_files -g "*.csv(-.)"'
-local stamps='--stamps[are stamps those of the last bit or of the first]:end:(end start)'
 
 # The names of the systems of the configuration that was given: byte by byte, so that no other can
 # stand in a name; of a configuration's greatest size.
@@ -36,124 +17,237 @@ _afdx_systems() {
     compadd -a names
 }
 
-_afdx_program() {
-    case $1 in
-        check)
-            _arguments $help $told[1] '--all[print each line that is false]' \
-                '--margins[print bound and latency of each link at each port]' ":$config"
-            ;;
-        explain) _arguments $help '--list[print each word and each form of a line]' '*:text:' ;;
-        police)
-            _arguments $help $told $recorded '--vl[the identifier of the link]:number:' \
-                '--port[the input port of its frames]:number:' \
-                '--lmin[the least length of a frame]:bytes:' \
-                '--policing[what a frame is charged]:kind:(byte frame)' \
-                ':BAG in ms:(1 2 4 8 16 32 64 128)' ':Lmax in bytes:' ':jitter in us:' ":$input"
-            ;;
-        replay)
-            _arguments $help $told $recorded $stamps \
-                '--no-admission[also where the network is refused]' \
-                '--explain-drops[print how much too early frames came]' ":$config" ":$input" \
-                "::$recording"
-            ;;
-        list)
-            _arguments $help $told $recorded $stamps ":$config" ":$recording" "::$recording"
-            ;;
-        send)
-            _arguments $help $told ":$config" ':system:_afdx_systems' \
-                ':submission list:_files -g "*.(list|messages)(-.)"'
-            ;;
-        solve)
-            _arguments $help $told[1] '--raise-only[lower no value]' \
-                '*--keep[keys that stay]:keys:_values -s , key jitter buffer latency skew' \
-                ":$config"
-            ;;
-    esac
-}
-
-_afdx_capture() {
-    local origin='--origin[the time, in ns since 1970, that is 0 in the list]:ns:'
-    case $1 in
-        list)
-            _arguments $help $recorded $stamps $taps \
-                "--config[the switch port is that of the sender in it]:$config" \
-                "(-o --out --split)"{-o,--out}"[the list]:$list" \
-                '(-o --out)--split[write several lists]:prefix:_files' ":$recording" \
-                "::$recording"
-            ;;
-        pcap)
-            _arguments $help $origin '--side[only the frames of this network]:side:(A B)' \
-                '--fcs[with check sequences]:answer:(yes no)' ":$list" ":$recording"
-            ;;
-        annotate)
-            _arguments $help $recorded $stamps $taps \
-                '--no-admission[also where the network is refused]' \
-                ":$config" ":$input" ":$recording" "::$recording"
-            ;;
-    esac
-}
-
-_afdx_of_commands() { # FUNCTION COMMAND.. : the first word is one of the commands
-    local function=$1 command line state
+_afdx_of_commands() { # TOOL COMMAND.. : the first word is one of the commands
+    local tool=$1 command line state
     shift
     _arguments -C $help $version "1:command:($*)" '*::word:->words'
     if [[ $state == words ]]; then
         command=$words[1]
-        $function $command
+        _afdx_takes "$tool $command"
     fi
 }
 
-case $service in
-    afdx) _afdx_of_commands _afdx_program check explain list police replay send solve ;;
-    afdx-capture) _afdx_of_commands _afdx_capture list pcap annotate ;;
-    afdx-report)
-        _arguments $help $version $recorded $stamps $taps \
-            '--out[the folder for page, CSV and JSON]:folder:_path_files -/' \
-            '--no-admission[also where the network is refused]' \
-            '--link[the link of the time line]:number:' \
-            '--from[where the time line begins]:ns:' \
-            '--rows[links in the picture of latencies]:number:' \
-            '--worst[frames in the table of those nearest to their latency]:number:' \
-            '--compare[the report.json of a run to compare with]:file:_files' \
-            '--title[the title of the page]:title:' \
-            '--cover[a cover: title, fields, parts, signatures]:file:_files -g "*.toml(-.)"' \
-            '--fail-on[status 6 where one of these is not 0]:words:' \
-            '--junit[write each criterion as a JUnit test case]:file:_files' \
-            '--json[print the JSON instead of the text]' ":$config" ":$input" "::$recording"
+# printed by bin/pages
+_afdx_commands_of() { # TOOL : what its first word may be
+    case $1 in
+        afdx) commands=(check explain list police replay send solve) ;;
+        afdx-capture) commands=(list pcap annotate) ;;
+    esac
+}
+
+_afdx_takes() { # COMMAND
+    case $1 in
+    'afdx check')
+        _arguments '--all[Prints each line that is false]' \
+            '--margins[Prints of each link at each port the bound there and its latency]' \
+            '--explain=-[When a fault is explained, behind its one line]:: :(auto always never)' \
+            $help \
+            ':config:_files -g "*.toml(-.)"'
         ;;
-    afdx-campaign)
-        _arguments $help $version $recorded $stamps $taps \
-            '--out[the folder of the campaign]:folder:_path_files -/' \
-            '--no-admission[also where the network is refused]' \
-            '--pages[a page for each run too]' {-j,--jobs}'[runs at a time]:number:' \
-            '--resume[only the lists that have not been run]' \
+    'afdx explain')
+        _arguments '--list[Prints each word and each form of a line]' \
+            $help \
+            '*:text:'
+        ;;
+    'afdx list')
+        _arguments '*--interface[Where the frames of interface K of the recording came in]:k=place:' \
+            '--fcs[Whether each frame of the recording ends with its check sequence]: :(yes no)' \
+            '--origin[The moment of the recording that is time 0]:ns:' \
+            '--reorder[By how many arrivals times of a recording may go back]:n:' \
+            '--stamps[Whether the recorder stamps the end of a frame]: :(end start)' \
+            '--explain=-[When a fault is explained, behind its one line]:: :(auto always never)' \
+            '--line-buffered[Hands the text of each line over at once]' \
+            '--progress[Says after two seconds how much was read]' \
+            '--summary[Prints the counts of the run on standard error]' \
+            $help \
+            ':config:_files -g "*.toml(-.)"' \
+            ':list:_files -g "*.(pcap|pcapng)(-.)"' \
+            '::list:_files -g "*.(pcap|pcapng)(-.)"'
+        ;;
+    'afdx police')
+        _arguments '--vl[The link'\''s identifier, 0 to 65535]:n:' \
+            '--port[The input port of its frames, 1 to 24]:n:' \
+            '--lmin[The least length of a frame in bytes, 64 to LMAX]:n:' \
+            '--policing[By bytes a frame is charged by its length]: :(byte frame)' \
+            '*--interface[Where the frames of interface K of the recording came in]:k=place:' \
+            '--fcs[Whether each frame of the recording ends with its check sequence]: :(yes no)' \
+            '--origin[The moment of the recording that is time 0]:ns:' \
+            '--reorder[By how many arrivals times of a recording may go back]:n:' \
+            '--explain=-[When a fault is explained, behind its one line]:: :(auto always never)' \
+            '--line-buffered[Hands the text of each line over at once]' \
+            '--progress[Says after two seconds how much was read]' \
+            '--summary[Prints the counts of the run on standard error]' \
+            $help \
+            ':bag_ms:(1 2 4 8 16 32 64 128)' \
+            ':lmax:' \
+            ':jitter_us:' \
+            ':list:_files -g "*.(list|pcap|pcapng)(-.)"'
+        ;;
+    'afdx replay')
+        _arguments '--no-admission[Replays also in tables that are not admitted]' \
+            '--explain-drops[Prints on standard error]' \
+            '*--interface[Where the frames of interface K of the recording came in]:k=place:' \
+            '--fcs[Whether each frame of the recording ends with its check sequence]: :(yes no)' \
+            '--origin[The moment of the recording that is time 0]:ns:' \
+            '--reorder[By how many arrivals times of a recording may go back]:n:' \
+            '--stamps[Whether the recorder stamps the end of a frame]: :(end start)' \
+            '--explain=-[When a fault is explained, behind its one line]:: :(auto always never)' \
+            '--line-buffered[Hands the text of each line over at once]' \
+            '--progress[Says after two seconds how much was read]' \
+            '--summary[Prints the counts of the run on standard error]' \
+            $help \
+            ':config:_files -g "*.toml(-.)"' \
+            ':list:_files -g "*.(list|pcap|pcapng)(-.)"' \
+            '::list:_files -g "*.(pcap|pcapng)(-.)"'
+        ;;
+    'afdx send')
+        _arguments '--explain=-[When a fault is explained, behind its one line]:: :(auto always never)' \
+            '--line-buffered[Hands the text of each line over at once]' \
+            '--progress[Says after two seconds how much was read]' \
+            '--summary[Prints the counts of the run on standard error]' \
+            $help \
+            ':config:_files -g "*.toml(-.)"' \
+            ':system:_afdx_systems' \
+            ':submissions:_files -g "*.(list|messages)(-.)"'
+        ;;
+    'afdx solve')
+        _arguments '--keep[Keys that keep their values]: :_values -s , word jitter buffer latency skew' \
+            '--raise-only[Lowers no value]' \
+            '--explain=-[When a fault is explained, behind its one line]:: :(auto always never)' \
+            $help \
+            ':config:_files -g "*.toml(-.)"'
+        ;;
+    'afdx-campaign')
+        _arguments $help \
+            $version \
+            '--out[the folder of the campaign]:dir:_path_files -/' \
+            '--no-admission[also where the network isn'\''t admitted]' \
+            '--pages[a page for each run too, pages/1 and so on]' \
+            '(-j --jobs)'{-j,--jobs}'[runs at a time]:n:' \
+            '--resume[repeat the runs that have no result]' \
             '*'{-S,--sshlogin}'[run on this machine too]:login:' \
-            '--fail-on[status 6 where one of these is not 0]:words:' \
-            '--junit[write each criterion as a JUnit test case]:file:_files' \
-            '--transfer[copy lists and configuration there first]' ":$config" "*:$input"
+            '--transfer[copy lists and configuration to those machines first]' \
+            '*--interface[where the frames of interface K came in]:k=place:' \
+            '--taps[a table of taps in the place of --interface]:file:_files -g "*.csv(-.)"' \
+            '--fcs[do recorded frames end with their check sequence]: :(yes no)' \
+            '--origin[the moment that is time 0, in ns since 1970]:ns:' \
+            '--reorder[how many arrivals in front of a frame may be later]:n:' \
+            '--stamps[whether stamps are those of a frame'\''s last bit or of its first]: :(end start)' \
+            '--fail-on[status 6 where one of these isn'\''t 0, with commas]: :_values -s , word silent contradicted clock twice late full-buffer too-old dropped unequal missing refused skew jitter first-number recorder-lost left-out unused claimed lost' \
+            '--junit[write the run and each criterion as a JUnit test case]:file:_files -g "*.xml(-.)"' \
+            ':config:_files -g "*.toml(-.)"' \
+            '*:list:_files -g "*.(list|pcap|pcapng)(-.)"'
         ;;
-    afdx-icd)
-        _arguments $help $version '--profile[which rules its switches keep]:profile:(1 2)' \
-            '--fill[an empty cell has the value of the one above]' \
-            '--raise[also where messages are late]' \
-            '--reserve[room beyond what is needed]:percent:' \
-            "--since[say what changed since this one]:$config" ":$table" ":$table" ":$config"
+    'afdx-capture list')
+        _arguments $help \
+            '--config[the configuration]:config:_files -g "*.toml(-.)"' \
+            '*--interface[where the frames of interface K came in]:k=place:' \
+            '--taps[a table of taps in the place of --interface]:file:_files -g "*.csv(-.)"' \
+            '--fcs[do recorded frames end with their check sequence]: :(yes no)' \
+            '--origin[the moment that is time 0, in ns since 1970]:ns:' \
+            '--reorder[how many arrivals in front of a frame may be later]:n:' \
+            '--stamps[whether stamps are those of a frame'\''s last bit or of its first]: :(end start)' \
+            '(-o --out --split)'{-o,--out}'[the list]:file:_files -g "*.list(-.)"' \
+            '(-o --out)--split[write lists PREFIX-1.list and so on]:prefix:_files -g "*.list(-.)"' \
+            ':recording:_files -g "*.(pcap|pcapng)(-.)"' \
+            '::recording:_files -g "*.(pcap|pcapng)(-.)"'
         ;;
-    afdx-traffic)
-        _arguments $help $version '--profile[which rules its switches keep]:profile:(1 2)' \
-            '--fill[an empty cell has the value of the one above]' \
-            '--seconds[for how long]:seconds:' \
-            '--seed[which chance begins the messages]:number:' \
-            "--config[write frames too, as sent on this network]:$config" ":$table" ":$table" \
+    'afdx-capture pcap')
+        _arguments $help \
+            '--side[only this network'\''s frames]: :(A B)' \
+            '--fcs[with each frame'\''s check sequence]: :(yes no)' \
+            '--origin[ns since 1970 of the list'\''s time 0]:ns:' \
+            ':list:_files -g "*.list(-.)"' \
+            ':recording:_files -g "*.(pcap|pcapng)(-.)"'
+        ;;
+    'afdx-capture annotate')
+        _arguments $help \
+            '--no-admission[also where the network isn'\''t admitted]' \
+            '*--interface[where the frames of interface K came in]:k=place:' \
+            '--taps[a table of taps in the place of --interface]:file:_files -g "*.csv(-.)"' \
+            '--fcs[do recorded frames end with their check sequence]: :(yes no)' \
+            '--origin[the moment that is time 0, in ns since 1970]:ns:' \
+            '--reorder[how many arrivals in front of a frame may be later]:n:' \
+            '--stamps[whether stamps are those of a frame'\''s last bit or of its first]: :(end start)' \
+            ':config:_files -g "*.toml(-.)"' \
+            ':list:_files -g "*.(list|pcap|pcapng)(-.)"' \
+            ':recording:_files -g "*.(pcap|pcapng)(-.)"' \
+            '::list:_files -g "*.(pcap|pcapng)(-.)"'
+        ;;
+    'afdx-fill')
+        _arguments $help \
+            $version \
+            '--keep[of jitter,buffer,latency,skew]: :_values -s , word jitter buffer latency skew' \
+            '--raise-only[no value gets less than CONFIG has]' \
+            ':config:_files -g "*.toml(-.)"' \
+            ':filled:_files -g "*.toml(-.)"'
+        ;;
+    'afdx-icd')
+        _arguments $help \
+            $version \
+            '--profile[2 has rates of 1000 Mbit/s]: :(1 2)' \
+            '--fill[an empty cell that has to have a value has that of the cell above]' \
+            '--raise[write it also where messages can'\''t be in time]' \
+            '--reserve[let latencies and buffer be so much more than is needed]:percent:' \
+            '--since[an earlier configuration]:old:_files -g "*.toml(-.)"' \
+            ':systems.csv:_files -g "*.csv(-.)"' \
+            ':messages.csv:_files -g "*.csv(-.)"' \
+            ':config:_files -g "*.toml(-.)"'
+        ;;
+    'afdx-report')
+        _arguments $help \
+            $version \
+            '--out[the folder for page, CSV and JSON]:dir:_path_files -/' \
+            '--no-admission[also where the network isn'\''t admitted]' \
+            '*--link[a link with a time line, several times]:vl:' \
+            '--from[where the time lines begin]:ns:' \
+            '--rows[links in the picture of latencies]:n:' \
+            '--worst[frames in the tables of the worst]:n:' \
+            '--compare[the report.json of a run to compare with]:other.json:_files -g "*.json(-.)"' \
+            '--title[the title of the page]:title:' \
+            '--cover[a cover from this TOML]:file:_files -g "*.toml(-.)"' \
+            '--json[print the JSON instead of the text]' \
+            '*--interface[where the frames of interface K came in]:k=place:' \
+            '--taps[a table of taps in the place of --interface]:file:_files -g "*.csv(-.)"' \
+            '--fcs[do recorded frames end with their check sequence]: :(yes no)' \
+            '--origin[the moment that is time 0, in ns since 1970]:ns:' \
+            '--reorder[how many arrivals in front of a frame may be later]:n:' \
+            '--stamps[whether stamps are those of a frame'\''s last bit or of its first]: :(end start)' \
+            '--fail-on[status 6 where one of these isn'\''t 0, with commas]: :_values -s , word silent contradicted clock twice late full-buffer too-old dropped unequal missing refused skew jitter first-number recorder-lost left-out unused claimed lost' \
+            '--junit[write the run and each criterion as a JUnit test case]:file:_files -g "*.xml(-.)"' \
+            ':config:_files -g "*.toml(-.)"' \
+            ':list:_files -g "*.(list|pcap|pcapng)(-.)"' \
+            '::list:_files -g "*.(pcap|pcapng)(-.)"'
+        ;;
+    'afdx-taps')
+        _arguments $help \
+            $version \
+            '--anyway[print the words also where they don'\''t agree]' \
+            ':config:_files -g "*.toml(-.)"' \
+            ':taps:_files -g "*.csv(-.)"' \
+            ':recording:_files -g "*.(pcap|pcapng)(-.)"' \
+            '::recording:_files -g "*.(pcap|pcapng)(-.)"'
+        ;;
+    'afdx-traffic')
+        _arguments $help \
+            $version \
+            '--profile[2 has rates of 1000 Mbit/s]: :(1 2)' \
+            '--fill[an empty cell that has to have a value has that of the cell above]' \
+            '--seconds[for how long]:s:' \
+            '--seed[messages begin by chance within their period]:n:' \
+            '--config[write frames too, as they are sent on this network]:config:_files -g "*.toml(-.)"' \
+            ':systems.csv:_files -g "*.csv(-.)"' \
+            ':messages.csv:_files -g "*.csv(-.)"' \
             ':folder:_path_files -/'
         ;;
-    afdx-taps)
-        _arguments $help $version '--anyway[print the words also where they do not agree]' \
-            ":$config" ":$table" ":$recording" "::$recording"
-        ;;
-    afdx-fill)
-        _arguments $help $version \
-            '--keep[these keys stay as they are]:keys:(jitter buffer latency skew)' \
-            '--raise-only[no value gets less than it is]' ":$config" ":$config"
-        ;;
-esac
+    esac
+}
+# printed by bin/pages down to here
+
+local -a commands
+_afdx_commands_of $service
+if ((${#commands})); then
+    _afdx_of_commands $service $commands
+else
+    _afdx_takes $service
+fi

@@ -86,7 +86,7 @@ def calls_of(crate: str) -> list[Call]:
     texts = {path: without_comments(text_of(path)) for path in sources_of(crate)}
     declared = r"^(?:pub(?:\(crate\))? )?(?:struct|enum|trait|type) (\w+)"
     own = {word for text in texts.values() for word in re.findall(declared, text, re.M)}
-    calls = []
+    calls: list[Call] = []
     for path, text in texts.items():
         file = str(path.relative_to(CRATES / crate / "src"))
         before = f"{path.stem}::" if path.stem in whole and "/" not in file else ""

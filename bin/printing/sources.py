@@ -161,7 +161,8 @@ def parts_of(text: str) -> Iterator[tuple[Scope, list[str]]]:
     """The parts of a file, each with its lines: the file's own lines first."""
     own: list[str] = []
     parts: list[tuple[Scope, list[str]]] = []
-    scope, lines = None, []
+    scope: Scope | None = None
+    lines: list[str] = []
     for line in text.splitlines():
         if scope is None:
             scope, lines = scope_of(line), []

@@ -15,7 +15,8 @@
   crate that hands it on (MEMORY).
 - Each source file says at its head what it is; lines of definitions, of contracts, of code and of
   scripts have at most 100 columns, those of proofs at most 140; imports and what is to be unfolded
-  may be wider, and the tables of numbers in afdx_frame/src/tables.rt.
+  may be wider, what bin/pages prints into a script, and the tables of numbers in
+  afdx_frame/src/tables.rt.
 
 Prints a line for each fault, then `N passed, M failed`; ends with status 1 if there is one.
 """
@@ -35,6 +36,7 @@ DOCUMENTS += ["docs/LIBRARIES.md", "docs/DECISIONS.md", "tests/README.md"]
 CALLS = CRATES / "afdx_surface_tests/src"
 COLUMNS = 100
 PROOF_COLUMNS = 140
+PRINTED = "# printed by bin/pages"  # from such a line on, down to one that begins so
 NUMBERS = CRATES / "afdx_frame/src/tables.rt"
 # the functions, beside each `from`, that may name an AllocError or a fault's Memory as a value
 MEMORY = {
@@ -169,8 +171,10 @@ def wide_lines(most: int, *patterns: str) -> list[str]:
     for path in sources(*patterns):
         if path == NUMBERS or not path.is_file():
             continue
+        printed = False
         for number, line in enumerate(text_of(path).splitlines(), 1):
-            if len(line) > most and not is_laid_out(line):
+            printed = line == PRINTED or (printed and not line.startswith(PRINTED))
+            if len(line) > most and not is_laid_out(line) and not printed:
                 faults.append(f"{path.relative_to(TOP)}:{number}: {len(line)} columns")
     return faults
 
