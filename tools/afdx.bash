@@ -137,15 +137,18 @@ _afdx_capture_pcap() {
 }
 
 _afdx_capture_annotate() {
-    _afdx_read 2 --origin
+    _afdx_read 2 --interface --taps --origin --fcs --reorder --stamps
     if _afdx_is_option; then
-        _afdx_words --no-admission --origin --help
+        _afdx_words --no-admission --interface --taps --origin --fcs --reorder --stamps --help
         return
     fi
     case $before.${#given[@]} in
         .0) _afdx_files toml ;;
-        .1) _afdx_files list ;;
-        .2) _afdx_recordings ;;
+        .1) _afdx_files list pcap pcapng ;;
+        .[23]) _afdx_recordings ;;
+        --taps.*) _afdx_files csv ;;
+        --fcs.*) _afdx_words yes no ;;
+        --stamps.*) _afdx_words end start ;;
     esac
 }
 
@@ -167,11 +170,12 @@ _afdx_criteria() {
 _afdx_report() {
     local given before
     COMPREPLY=()
-    _afdx_read 1 --out --link --from --rows --worst --compare --title --fail-on --junit \
+    _afdx_read 1 --out --link --from --rows --worst --compare --title --cover --fail-on --junit \
         --interface --taps --fcs --origin --reorder --stamps
     if _afdx_is_option; then
-        _afdx_words --out --no-admission --link --from --rows --worst --compare --title --json \
-            --interface --taps --fcs --origin --reorder --stamps --fail-on --junit --help --version
+        _afdx_words --out --no-admission --link --from --rows --worst --compare --title --cover \
+            --json --interface --taps --fcs --origin --reorder --stamps --fail-on --junit --help \
+            --version
         return
     fi
     case $before.${#given[@]} in
@@ -182,6 +186,7 @@ _afdx_report() {
         --stamps.*) _afdx_words end start ;;
         --out.*) _afdx_folders ;;
         --compare.*) _afdx_files json ;;
+        --cover.*) _afdx_files toml ;;
         --taps.*) _afdx_files csv ;;
         --fail-on.*) _afdx_criteria ;;
         --junit.*) _afdx_files xml ;;

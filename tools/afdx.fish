@@ -17,7 +17,8 @@ function __afdx_given --description 'Words behind the command that belong to no 
 end
 
 set -g __afdx_valued --vl --port --lmin --policing --keep --interface --config --origin --reorder \
-    --stamps --fcs --side -o --out --split --link --from --rows --title -j --jobs -S --sshlogin
+    --stamps --fcs --side -o --out --split --link --from --rows --worst --compare --title --cover \
+    --fail-on --junit -j --jobs -S --sshlogin
 
 function __afdx_at --description 'Is the word the one of that number behind COMMAND (- for none)?'
     set -l given (__afdx_given $__afdx_valued)
@@ -108,12 +109,15 @@ complete -c $tool -n '__afdx_at - 0 0' -a list -d 'Recordings to a frame list'
 complete -c $tool -n '__afdx_at - 0 0' -a pcap -d 'A frame list to a recording'
 complete -c $tool -n '__afdx_at - 0 0' -a annotate -d 'A replay beside its frames'
 complete -c $tool -n '__afdx_in list' -x -l config -a '(__afdx_files toml)' -d 'Tells switch ports'
-complete -c $tool -n '__afdx_in list' -x -l interface -d 'Where an interface was plugged in'
-complete -c $tool -n '__afdx_in list' -x -l taps -a '(__afdx_files csv)' -d 'A table of taps'
+complete -c $tool -n '__afdx_in list annotate' -x -l interface \
+    -d 'Where an interface was plugged in'
+complete -c $tool -n '__afdx_in list annotate' -x -l taps -a '(__afdx_files csv)' \
+    -d 'A table of taps'
 complete -c $tool -n '__afdx_in list pcap annotate' -x -l origin -d 'ns since 1970 of time 0'
-complete -c $tool -n '__afdx_in list' -x -l fcs -a 'yes no' -d 'Are there check sequences?'
-complete -c $tool -n '__afdx_in list' -x -l reorder -d 'How many in front may be later'
-complete -c $tool -n '__afdx_in list' -x -l stamps -a 'end start' -d 'Last bit or first?'
+complete -c $tool -n '__afdx_in list annotate' -x -l fcs -a 'yes no' \
+    -d 'Are there check sequences?'
+complete -c $tool -n '__afdx_in list annotate' -x -l reorder -d 'How many in front may be later'
+complete -c $tool -n '__afdx_in list annotate' -x -l stamps -a 'end start' -d 'Last bit or first?'
 complete -c $tool -n '__afdx_in pcap' -x -l fcs -a 'yes no' -d 'With check sequences?'
 complete -c $tool -n '__afdx_in pcap' -x -l side -a 'A B' -d 'Only frames of this network'
 complete -c $tool -n '__afdx_in list' -r -F -s o -l out -d 'The list'
@@ -123,8 +127,8 @@ complete -c $tool -n '__afdx_at list 0 1' -a "(__afdx_files $pcaps)"
 complete -c $tool -n '__afdx_at pcap 0 0' -a '(__afdx_files list)'
 complete -c $tool -n '__afdx_at pcap 1 1' -a "(__afdx_files $pcaps)"
 complete -c $tool -n '__afdx_at annotate 0 0' -a '(__afdx_files toml)'
-complete -c $tool -n '__afdx_at annotate 1 1' -a '(__afdx_files list)'
-complete -c $tool -n '__afdx_at annotate 2 2' -a "(__afdx_files $pcaps)"
+complete -c $tool -n '__afdx_at annotate 1 1' -a "(__afdx_files list $pcaps)"
+complete -c $tool -n '__afdx_at annotate 2 3' -a "(__afdx_files $pcaps)"
 
 # ---- afdx-report, afdx-campaign ------------------------------------------------------------------
 
@@ -154,6 +158,8 @@ complete -c afdx-report -x -l rows -d 'Links in the picture of latencies'
 complete -c afdx-report -x -l worst -d 'Frames nearest to their latency'
 complete -c afdx-report -r -l compare -d 'The report.json of a run to compare with'
 complete -c afdx-report -x -l title -d 'The title of the page'
+complete -c afdx-report -x -l cover -a '(__afdx_files toml)' \
+    -d 'A cover: title, fields, parts, signatures'
 complete -c afdx-report -l json -d 'Print the JSON instead of the text'
 complete -c afdx-campaign -n '__afdx_at - 1 1000000' -a '(__afdx_files list pcap pcapng)'
 complete -c afdx-campaign -l pages -d 'A page for each run too'

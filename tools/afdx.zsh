@@ -86,8 +86,9 @@ _afdx_capture() {
                 '--fcs[with check sequences]:answer:(yes no)' ":$list" ":$recording"
             ;;
         annotate)
-            _arguments $help $origin '--no-admission[also where the network is refused]' \
-                ":$config" ":$list" ":$recording"
+            _arguments $help $recorded $stamps $taps \
+                '--no-admission[also where the network is refused]' \
+                ":$config" ":$input" ":$recording" "::$recording"
             ;;
     esac
 }
@@ -115,6 +116,7 @@ case $service in
             '--worst[frames in the table of those nearest to their latency]:number:' \
             '--compare[the report.json of a run to compare with]:file:_files' \
             '--title[the title of the page]:title:' \
+            '--cover[a cover: title, fields, parts, signatures]:file:_files -g "*.toml(-.)"' \
             '--fail-on[status 6 where one of these is not 0]:words:' \
             '--junit[write each criterion as a JUnit test case]:file:_files' \
             '--json[print the JSON instead of the text]' ":$config" ":$input" "::$recording"

@@ -139,12 +139,11 @@ def addressed(counting: Counting, lines: np.ndarray) -> str | None:
     return f"number {sources[0]}" if port is None else system_at(counting, port)
 
 
-def contradicted(counting: Counting) -> list[int]:
-    """Of each side the arrivals whose own source address names the other network."""
-    listing = counting.listing
-    named = listing.network[counting.arrived]
-    sides = listing.side[counting.arrived]
-    return [int(((sides == side) & (named == 1 - side)).sum()) for side in (0, 1)]
+def contradicted(counting: Counting) -> int:
+    """The arrivals whose own source address names the other network. Of a recording without a fault
+    the program says it itself."""
+    named = counting.listing.network[counting.arrived]
+    return int((named == 1 - counting.listing.side[counting.arrived]).sum())
 
 
 # ---- copies --------------------------------------------------------------------------------------

@@ -6,7 +6,7 @@ from typing import Iterator
 
 from afdx_numbers import MOST_TROUBLES
 from afdx_tables import Row
-from afdx_tools import Refused
+from afdx_tools import LONGEST_NAME, Refused, cut
 from afdx_words import shown
 
 KEYS = {
@@ -44,6 +44,7 @@ COMPARED = {
     "early_ns": ("greatest",),
 }
 RARE = {"early_ns": []}  # what a report hasn't where no frame was over-rate
+LONGEST_TITLE = 300  # characters
 MOST = 2**63  # no number of a report is greater
 FRAME = ("link", "side", "number", "time_ns", "port", "what")
 TROUBLE = ("link", "side", "number", "time_ns", "line", "port", "what")  # what a report has of it
@@ -56,7 +57,7 @@ def is_count(value: object) -> bool:
 
 def is_name(value: object) -> bool:
     """What names a row or a frame: a number or a word."""
-    return is_count(value) or isinstance(value, str)
+    return is_count(value) or (isinstance(value, str) and len(value) <= LONGEST_NAME)
 
 
 def is_report(report: Row) -> bool:
@@ -115,14 +116,14 @@ def only_in(one: Row, two: Row) -> list[Row]:
 
 def compared(this: Row, other: Row, path: str) -> Row:
     """Both reports beside one another."""
-    cut = max(len(this["troubles"]), len(other["troubles"])) >= MOST_TROUBLES
+    is_cut = max(len(this["troubles"]), len(other["troubles"])) >= MOST_TROUBLES
     return {
         "file": shown(path),
-        "title": shown(other["run"]["title"]),
+        "title": cut(other["run"]["title"], LONGEST_TITLE),
         "rows": [row for name in KEYS for row in differing(name, this, other)],
         "only_here": only_in(this, other),
         "only_there": only_in(other, this),
-        "cut": cut,
+        "cut": is_cut,
     }
 
 

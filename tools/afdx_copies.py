@@ -8,7 +8,7 @@ import numpy as np
 from afdx_counting import MOST_PORTS, Counting
 from afdx_events import ACCEPT, DELIVERED
 from afdx_silence import Silences
-from afdx_traffic import NUMBERED, grouped, of_kinds
+from afdx_traffic import NUMBERED, grouped, of_kinds, order_of
 
 HALF_ROUND = 127  # BAGs in which the numbers of a link go half round
 NEVER = np.iinfo(np.int64).max
@@ -51,7 +51,7 @@ def in_rounds(
     times = listing.time[lines] - shift * listing.side[lines].astype(np.int64)
     keys = counting.place[lines].astype(np.int64) * 256 + listing.number[lines]
     order = np.argsort(times, kind="stable") if shift else np.arange(len(lines))
-    order = order[np.argsort(keys[order], kind="stable")]
+    order = order[order_of(keys[order])]
     return lines[order], keys[order], times[order]
 
 
@@ -103,7 +103,7 @@ def pairs_of(counting: Counting) -> np.ndarray:
 def alone_of(counting: Counting, other: np.ndarray, silences: Silences) -> np.ndarray:
     """The lines of accepted frames of which no copy came on the other side, accepted or not, while
     that side was heard: not those within its silences, nor those so near to an end of the run that
-    the copy may lie beyond it."""
+    the copy may lie beyond it, by SkewMax or twice the greatest skew that came."""
     listing, place = counting.listing, counting.place
     _, apart = later_on_b(counting, other)
     shift = int(np.median(apart)) if len(apart) else 0
@@ -113,7 +113,8 @@ def alone_of(counting: Counting, other: np.ndarray, silences: Silences) -> np.nd
     lines = np.sort(lines[far])
     lines = lines[np.isin(lines, accepted[other[accepted] == 0])]
     skews = [counting.config.links[vl].skew_ns for vl in counting.order]
-    near = np.array([*skews, 0], np.int64)[place[lines]]
+    usual = 2 * int(np.abs(apart - shift).max(initial=0)) + LEAST_OFFSET
+    near = np.minimum(np.array([*skews, 0], np.int64)[place[lines]], usual)
     times = listing.time[lines] + np.where(listing.side[lines] == 0, shift, -shift)
     inside = (times - near > silences.begin) & (times + near < silences.end)
     return lines[inside & ~silences.cover(lines, near + abs(shift))]

@@ -27,7 +27,7 @@ CRITERIA = {
     "first-number": "links and sides whose first number isn't 0",
     "recorder-lost": "frames that the recorder itself lost",
     "left-out": "recorded frames that were left out",
-    "unused": "interfaces that were named and that no recording has",
+    "unused": "interfaces that were named and that the recording doesn't have",
     "claimed": "frames of which only their own addresses say where they came in",
 }
 LOST = ("full-buffer", "too-old", "missing")  # what `lost` stands for: sent, and gone for good

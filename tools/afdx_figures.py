@@ -28,6 +28,7 @@ from afdx_tables import Row, percent
 
 LEFT, RIGHT, ROW = 250, 176, 30
 FIRST, NEXT = 20, 35  # rows of the first picture, and of each behind it
+ON_PAPER = 3  # of these pictures; a screen has them all
 
 
 def told_latency(row: Row) -> str:
@@ -135,7 +136,8 @@ def latency_part(
         parts += latency_row(pair, 54 + ROW * place_of, place)
     told = ". ".join(told_latency(row) for pair in pairs for row in pair)
     label = "Latency in the replay of each link beside its bound and its configured latency"
-    return picture(f"latencies-{number + 1}", bottom + 24, parts, label, told)
+    kind = "shown" if number < ON_PAPER else "screen"
+    return picture(f"latencies-{number + 1}", bottom + 24, parts, label, told, kind)
 
 
 # ---- histogram -----------------------------------------------------------------------------

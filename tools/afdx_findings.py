@@ -90,7 +90,8 @@ def contradicted(report: Row) -> Iterator[str]:
 def unused(report: Row) -> Iterator[str]:
     """Interfaces that aren't there."""
     if count := report["totals"]["unused"]:
-        yield f"{many(count, 'interface was', 'interfaces were')} named that no recording has"
+        interfaces = many(count, "interface", "interfaces")
+        yield f"{interfaces} that --interface names, and that the recording doesn't have"
 
 
 def clock(report: Row) -> Iterator[str]:
@@ -260,14 +261,19 @@ def recorder_lost(report: Row) -> Iterator[str]:
         yield f"the recorder itself lost {many(count, 'frame', 'frames')}"
 
 
+def left_words(report: Row) -> str:
+    """Why recorded frames are no arrivals, each with its count; empty where all are."""
+    others = ("recorder-lost", "claimed", "contradicted", "unused")
+    return ", ".join(
+        f"{n:,} {word}" for word, n in report["skipped"].items() if n and word not in others
+    )
+
+
 def left_out(report: Row) -> Iterator[str]:
     """Frames that were recorded and are no arrivals."""
     if count := report["totals"]["left_out"]:
-        others = ("recorder-lost", "claimed", "contradicted", "unused")
-        words = ", ".join(
-            f"{n:,} {word}" for word, n in report["skipped"].items() if n and word not in others
-        )
-        yield f"{many(count, 'recorded frame was', 'recorded frames were')} left out: {words}"
+        frames = many(count, "recorded frame was", "recorded frames were")
+        yield f"{frames} left out: {left_words(report)}"
 
 
 def claimed(report: Row) -> Iterator[str]:

@@ -59,8 +59,10 @@ def answer(report: Row) -> str:
         parts.append(badge(f"the run ended with: {report['fault']}", "bad"))
     if report["unmet"]:
         parts.append(badge("failed: " + ", ".join(report["unmet"]), "bad"))
-    count = f"{len(found)} finding{'s' if len(found) > 1 else ''}" if found else "no findings"
-    parts.append(badge(count, "bad" if found else "good"))
+    if found:
+        parts.append(badge(f"{len(found)} finding{'s' if len(found) > 1 else ''}", "bad"))
+    elif not report["fault"]:  # which may be that nothing could be looked at
+        parts.append(badge("no findings", "good"))
     parts.append(
         badge("tables admitted", "good") if said == "ok" else badge(f"not admitted: {said}", "bad")
     )

@@ -93,19 +93,25 @@ def is_lawful(name: str) -> bool:
     return re.fullmatch(f"[A-Za-z0-9]{{1,{LONGEST_NAME}}}", name) is not None
 
 
+def numbered(name: str) -> Iterator[str]:
+    """A name, then the same with a number each: x2, x3 and so on."""
+    ends = itertools.chain([""], (f"x{number}" for number in itertools.count(2)))
+    return (name[: LONGEST_NAME - len(end)] + end for end in ends)
+
+
 def add_names(document: Document, names: Iterable[str]) -> None:
     """Gives each name that has `_` and `-` one without, which no other system has. If two would be
     the same, the second has a number too: x2, x3 and so on."""
     names = list(names)
     document.names.update((name, name) for name in names if is_lawful(name))
+    taken, others = set(document.names), {}
     for name in names:
         plain = re.sub("[_-]", "", name)
         if name in document.names or not is_lawful(plain):
             continue
-        ends = itertools.chain([""], (f"x{number}" for number in itertools.count(2)))
-        others = (plain[: LONGEST_NAME - len(end)] + end for end in ends)
-        taken = set(document.names.values())
-        document.names[name] = next(other for other in others if other not in taken)
+        choice = others.setdefault(plain, numbered(plain))
+        document.names[name] = next(other for other in choice if other not in taken)
+        taken.add(document.names[name])
 
 
 def add_system(document: Document, row: Row) -> None:
@@ -232,7 +238,8 @@ def refuse_apart(document: Document, messages: list[Message]) -> None:
         if message.udp is not None:
             before = by_port.setdefault(message.udp, [])
             pairs += [pair for each in before for pair in other_message(each, message)]
-            before.append(message)
+            if not pairs:  # others are refused, and needn't agree with one another
+                before.append(message)
         for column, why in pairs:
             found.setdefault(column, why)
         document.faults += [f"{message.row.at(column)}: {why}" for column, why in found.items()]

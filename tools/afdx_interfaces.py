@@ -13,7 +13,8 @@ from afdx_recordings import HEADS
 PIECE = 1 << 22  # bytes that are read at once
 LONGEST = 1 << 24  # bytes of a block that is looked into
 MOST_CAPTURED = 262_144  # bytes of a frame
-MOST_SOURCES = 1 << 16  # of an interface, that are told apart
+MOST_SOURCES = 1 << 10  # of an interface, that are told apart
+MOST_INTERFACES = 4096  # that the program takes
 VIRTUAL_LINK = b"\x03\0\0\0"  # a destination address of one begins with it
 SECTION = b"\x0a\x0d\x0d\x0a"
 INTERFACE, OLD_PACKET, SIMPLE_PACKET, PACKET = 1, 2, 3, 6
@@ -241,6 +242,7 @@ class Sections:
         pieces.at += size
         if kind == INTERFACE:
             self.describe(data[at + 8 : at + size - 4])
+            return self.described <= MOST_INTERFACES
         return kind not in PACKETS or self.packet(data, at, kind, size)
 
 

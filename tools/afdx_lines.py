@@ -5,12 +5,25 @@ at once, as an array with an element for each.
 """
 from __future__ import annotations
 
+import contextlib
+import ctypes
 from typing import Iterator, Protocol
 
 import numpy as np
 
 SPACE, LINE_FEED, RETURN = 32, 10, 13
 EACH = 2 << 20  # bytes of text that are looked at together
+TRIM_THRESHOLD, MMAP_THRESHOLD = -1, -3  # options of mallopt
+BEHIND = bytes(64)  # what is read behind a text, at most
+
+
+def keep_memory() -> None:
+    """Has the C library keep what is freed for the next block: otherwise it gives the columns of
+    each block back to the system, and takes them again page by page, a tenth of all time."""
+    with contextlib.suppress(OSError, AttributeError):
+        set_option = ctypes.CDLL(None).mallopt
+        set_option(TRIM_THRESHOLD, 1 << 30)
+        set_option(MMAP_THRESHOLD, 1 << 25)
 
 
 class Readable(Protocol):
@@ -26,14 +39,15 @@ class Block:
 
     def __init__(self, text: bytes) -> None:
         self.text = text
-        self.bytes = np.frombuffer(text, np.uint8)
+        self.bytes = np.frombuffer(text + BEHIND, np.uint8)
         self.ends = np.flatnonzero(self.bytes == LINE_FEED)
         self.starts = np.concatenate(([0], self.ends[:-1] + 1))
         self.heads = self.bytes[self.starts]
 
     def at(self, places: np.ndarray) -> np.ndarray:
-        """The bytes at these places; behind the last one the last one."""
-        return self.bytes[np.minimum(places, len(self.bytes) - 1)]
+        """The bytes at these places; zeros behind the last one, for as far as numbers are read from
+        a line that is cut."""
+        return self.bytes[places]
 
     def numbers(self, begin: np.ndarray) -> tuple[np.ndarray, np.ndarray]:
         """The numbers whose digits begin there, and where each ends."""

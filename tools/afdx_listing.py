@@ -38,10 +38,10 @@ class Listing:
         is_pair: bool = False,
         most: int = MOST_LINES,
     ) -> None:
-        digest = hashlib.sha256()
+        digest = hashlib.sha256()  # of a list; recordings are files of their own
         parts: list[dict[str, np.ndarray]] = [columns_of_none()]
         lines = 0
-        for text in blocks_of(Hashed(file, digest.update)):
+        for text in blocks_of(file if is_recorded else Hashed(file, digest.update)):
             taken = text if is_recorded else first_lines(text, most - lines)
             if taken:
                 part = columns_of(Block(taken))

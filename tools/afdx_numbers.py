@@ -10,7 +10,7 @@ from afdx_checked import Checked
 from afdx_counting import SHARES, Counting, Path, sorted_by
 from afdx_events import ACCEPT, DELIVERED, FATES, LEFT, LOST, OLD, REDUNDANT, side_name
 from afdx_listing import NO_LINK
-from afdx_tables import Row, in_us
+from afdx_tables import Row
 from afdx_traffic import Traffic, traffic_of
 
 MOST_TROUBLES = 10_000
@@ -271,9 +271,9 @@ def early_frames(counting: Counting, most: int) -> list[Row]:
     early = counting.events.early
     rows = []
     for place in largest(early.amounts, min(most, len(early.amounts))):
-        line, amount = int(early.lines[place]), in_us(int(early.amounts[place]))
+        line, amount = int(early.lines[place]), int(early.amounts[place])
         key = frame_key(counting, line)
-        rows.append({**key, "line": named(counting, line), "early_us": amount})
+        rows.append({**key, "line": named(counting, line), "early_ns": amount})
     return rows
 
 
@@ -306,7 +306,7 @@ def totals(counting: Counting, report: Row) -> Row:
     sides, skews = report["sides"], report["skews"]
     left = dict(report.get("skipped", {}))
     lost, claimed = left.pop("recorder-lost", 0), left.pop("claimed", 0)
-    placed, unused = left.pop("contradicted", 0), left.pop("unused", 0)
+    named, unused = left.pop("contradicted", contradicted(counting)), left.pop("unused", 0)
     over = [row for row in skews if (row["at_receivers_ns"] or 0) > row["table_skew_ns"]]
     shaky = [row for row in sides if (row["jitter_ns"] or 0) > row["table_jitter_ns"]]
     return {
@@ -319,8 +319,8 @@ def totals(counting: Counting, report: Row) -> Row:
         "clock": sum(row["clock"] == "apart" for row in report["clocks"]),
         "skew": len(over),
         "jitter": len(shaky),
-        "contradicted": max(sum(contradicted(counting)), placed),
-        "unused": unused,
+        "contradicted": named,
+        "unused": 0 if "taps" in report else unused,  # a table of taps was looked up in each
         "recorder_lost": lost,
         "claimed": claimed,
         "left_out": sum(left.values()),

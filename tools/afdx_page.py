@@ -9,15 +9,25 @@ import afdx_figures as figures
 import afdx_tracks as tracks
 from afdx_compare import words_of
 from afdx_counting import Counting
+from afdx_cover import cover_section
+from afdx_findings import left_words
 from afdx_head import answer, cards, words_section
 from afdx_lanes import lanes
-from afdx_numbers import early_frames
-from afdx_parts import section, table_section
+from afdx_made import made_section, made_table, sheet_style
+from afdx_parts import paper_rows, section, table, table_section
 from afdx_ranking import FEWEST, ranked
 from afdx_style import POLICY, SCRIPT, STYLE
-from afdx_tables import COUNTED, EARLY, NAMES, PROVED, UNPROMISED, Row, cell, in_us
+from afdx_tables import COUNTED, EARLY, NAMES, PROVED, TROUBLES, UNPROMISED, Row, in_us
+from afdx_where import Where
 
 EARLY_FRAMES = "Over-rate frames that came too early by most, in us"
+TAPS = "Taps: where the interfaces were plugged in, and frames that name another place"
+TRACKS_ON_PAPER = 6
+TROUBLES_SHOWN = 500
+FIND = (
+    "<p class='find' hidden><label>Find rows <input id='find' type='search' "
+    "placeholder='links and names, as 304 A'></label> <span id='found' role='status'></span></p>"
+)
 
 
 def one_each(latency: Sequence[Row]) -> list[list[Row]]:
@@ -63,7 +73,9 @@ def track_sections(counting: Counting, args: argparse.Namespace) -> str:
     first = tracks.chosen(counting, wrong)
     parts = []
     for vl in dict.fromkeys(args.link or ([] if first is None else [first])):
-        parts.append(track_section(counting, vl, wrong, args.begin))
+        part = track_section(counting, vl, wrong, args.begin)
+        on_paper = len(parts) < TRACKS_ON_PAPER
+        parts.append(part if on_paper else f'<div class="screen">{part}</div>')
     return "".join(parts)
 
 
@@ -87,18 +99,9 @@ def track_section(counting: Counting, vl: int, wrong, begin: int) -> str:
     return section(name, head, words, tracks.track(name, shown, ports))
 
 
-def foot(report: Row) -> str:
-    """Which numbers are proved, and of which files."""
-    run = report["run"]
-    files = "<br>".join(
-        f"{escape(name)}: <code>{escape(path)}</code>, SHA-256 <code>{digest}</code>"
-        for name, path, digest in run["files"]
-    )
-    return (
-        f"<footer><p>{escape(PROVED)}</p><p>{escape(COUNTED)}</p>"
-        f"<p>{files}<br>Program: {escape(run['program'])}; "
-        f"written {escape(run['written'])}.</p></footer>"
-    )
+def foot() -> str:
+    """Which numbers are proved."""
+    return f"<footer><p>{escape(PROVED)}</p><p>{escape(COUNTED)}</p></footer>"
 
 
 def arrivals_section(report: Row) -> str:
@@ -130,22 +133,9 @@ def pictures(report: Row, counting: Counting, args: argparse.Namespace) -> str:
     return "".join(parts) + track_sections(counting, args)
 
 
-def compared_sections(report: Row) -> str:
-    """Two runs beside one another."""
-    pair = report.get("compared")
-    if pair is None:
-        return ""
-    rows = (
-        table_section("compared", "Numbers that differ from the other run", pair["rows"])
-        + table_section("only-here", "Frames with trouble only in this run", pair["only_here"])
-        + table_section("only-there", "Frames with trouble only in the other", pair["only_there"])
-    )
-    return section("other", "Compared with another run", " ".join(words_of(pair)), "") + rows
-
-
-def early_sections(report: Row, counting: Counting, most: int) -> dict[str, str]:
-    """By how much over-rate frames came too early: sums behind the table of sides, the frames
-    behind that of the worst ones. Nothing where there are none."""
+def early_tables(report: Row) -> dict[str, tuple[str, Sequence[Row]]]:
+    """By how much over-rate frames came too early, in us: the worst frames, sums. Nothing where
+    there are none."""
     if "early_ns" not in report:
         return {}
     sums = [
@@ -158,46 +148,87 @@ def early_sections(report: Row, counting: Counting, most: int) -> dict[str, str]
         }
         for row in report["early_ns"]
     ]
-    frames = early_frames(counting, most)
+    frames = [
+        {("early_us" if key == "early_ns" else key): value for key, value in row.items()}
+        | {"early_us": in_us(row["early_ns"])}
+        for row in report["early_frames"]
+    ]
+    return {"early-frames": (EARLY_FRAMES, frames), "early": (f"{EARLY}, in us", sums)}
+
+
+def compared_tables(report: Row) -> dict[str, tuple[str, Sequence[Row]]]:
+    """Two runs beside one another."""
+    pair = report.get("compared")
+    if pair is None:
+        return {}
     return {
-        "frames": table_section("early-frames", EARLY_FRAMES, frames),
-        "sides": table_section("early", f"{EARLY}, in us", sums),
+        "compared": ("Numbers that differ from the other run", pair["rows"]),
+        "only-here": ("Frames with trouble only in this run", pair["only_here"]),
+        "only-there": ("Frames with trouble only in the other", pair["only_there"]),
     }
 
 
-def links_to(names: dict[str, str]) -> str:
+def table_sections(report: Row, where: Where) -> str:
+    """All tables, and the field that finds rows in them."""
+    early, both = early_tables(report), compared_tables(report)
+    tables = dict(both)
+    if "taps" in report:
+        tables["taps"] = TAPS, report["taps"]["rows"]
+    for name, head in NAMES.items():
+        tables[name] = head, report[name]
+        behind = {"frames": "early-frames", "sides": "early"}.get(name)
+        if behind in early:
+            tables[behind] = early[behind]
+    troubles = report["troubles"]
+    first = f" (the first {TROUBLES_SHOWN:,}; the CSV file has {len(troubles):,})"
+    cut = first if len(troubles) > TROUBLES_SHOWN else ""
+    tables["troubles"] = TROUBLES + cut, troubles[:TROUBLES_SHOWN]
+    paper = paper_rows({name: rows for name, (_, rows) in tables.items()})
+    sections = {
+        name: table_section(name, head, table(rows, head, paper[name], where))
+        for name, (head, rows) in tables.items()
+    }
+    words = " ".join(words_of(report["compared"])) if both else ""
+    first = section("other", "Compared with another run", words, "") if both else ""
+    first += "".join(sections.pop(name) for name in both)
+    return first + FIND + "".join(sections.values())
+
+
+def links_to(report: Row) -> str:
     """Anchors to the parts of the page."""
+    names = {"words": "words", "arrivals": "arrivals", "picture": "latency", "drops": "drops"}
+    names |= {name: f"table of {name}" for name in (*NAMES, "troubles")}
+    names |= {"early": "table of over-rate frames"} if "early_ns" in report else {}
+    names |= {"made": "what made it"}
     parts = [f'<a href="#{name}">{escape(words)}</a>' for name, words in names.items()]
     return f'<nav aria-label="Parts of the report">{" ".join(parts)}</nav>'
 
 
-def page(report: Row, counting: Counting, args: argparse.Namespace) -> str:
+def page(report: Row, counting: Counting, where: Where, args: argparse.Namespace) -> str:
     """The whole page."""
     title = f"AFDX replay: {report['run']['title']}"
     span = report["run"]["span_ns"] / 1e6
     words = f"{report['totals']['frames']:,} frames over {span:,.3f} ms at both switches."
+    if report["run"]["time_0"]:
+        words += f" Time 0 is {report['run']['time_0']}."
     if "skipped" in report:
-        words += f" Skipped of the recording: {cell(report['skipped'])}."
-    names = {"words": "words", "arrivals": "arrivals", "picture": "latency", "drops": "drops"}
-    names |= {name: f"table of {name}" for name in NAMES}
-    early = early_sections(report, counting, args.worst)
-    names |= {"early": "table of over-rate frames"} if early else {}
+        words += f" Left out of the recording: {left_words(report) or 'nothing'}."
     parts = [
         "<!doctype html><html lang='en'><head><meta charset='utf-8'>",
         f'<meta http-equiv="Content-Security-Policy" content="{POLICY}">',
         "<meta name='viewport' content='width=device-width, initial-scale=1'>",
-        f"<title>{escape(title)}</title><style>{STYLE}</style></head><body><main>",
+        f"<title>{escape(title)}</title><style>{STYLE}{sheet_style(report['run'])}</style></head>",
+        "<body><main>",
+        cover_section(report["cover"], made_table(report["run"])),
         f"<header><h1>{escape(title)}</h1><p>{escape(words)}</p></header>",
         answer(report),
-        links_to(names),
+        links_to(report),
         cards(report),
         words_section(report),
         pictures(report, counting, args),
-        compared_sections(report),
-        "<p class='find' hidden><label>Find rows <input id='find' type='search' "
-        "placeholder='links and names, as 304 A'></label> <span id='found' role='status'></span>"
-        "</p>",
+        table_sections(report, where),
+        "" if report["cover"] else made_section(report["run"]),
+        foot(),
+        f"</main><script>{SCRIPT}</script></body></html>\n",
     ]
-    for name, head in NAMES.items():
-        parts += [table_section(name, head, report[name]), early.get(name, "")]
-    return "".join(parts) + foot(report) + f"</main><script>{SCRIPT}</script></body></html>\n"
+    return "".join(parts)

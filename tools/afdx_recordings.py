@@ -9,9 +9,10 @@ from afdx_tools import Refused
 HEADS = frozenset(
     bytes.fromhex(head) for head in ("d4c3b2a1", "a1b2c3d4", "4d3cb2a1", "a1b23c4d", "0a0d0d0a")
 )
+WRITER_CODE, WRITER = 4, b"afdx-capture annotate"  # an option of a section: who wrote it
 
 # packed files, by gzip, bzip2, zstd, xz and zip: a fault of a recording
-PACKED = tuple(bytes.fromhex(head) for head in ("1f8b", "425a68", "28b52ffd", "fd377a58", "504b0304"))
+PACKED = tuple(map(bytes.fromhex, ("1f8b", "425a68", "28b52ffd", "fd377a58", "504b0304")))
 
 
 def add_recording_words(parser: argparse.ArgumentParser) -> None:
@@ -53,11 +54,30 @@ def handed_on(args: argparse.Namespace) -> list[str]:
     return recording_options(args) + taps
 
 
-def is_recording(path: str) -> bool:
-    """The program takes the file for a recording, by its first four bytes, or for a packed one."""
+def head_of(path: str) -> bytes:
+    """The bytes by which the program tells what a file is, if it has so many."""
     with open(path, "rb") as file:
-        head = file.read(4)
-    return head in HEADS or (len(head) == 4 and head.startswith(PACKED))
+        return file.read(4)
+
+
+def is_packed(path: str) -> bool:
+    """The program takes the file for a packed one."""
+    head = head_of(path)
+    return len(head) == 4 and head.startswith(PACKED)
+
+
+def is_recording(path: str) -> bool:
+    """The program takes the file for a recording, or for a packed one."""
+    return head_of(path) in HEADS or is_packed(path)
+
+
+def is_foreign(path: str) -> bool:
+    """A recording stands there that `afdx-capture annotate` didn't write."""
+    if not os.path.isfile(path):
+        return False
+    with open(path, "rb") as file:
+        head = file.read(256)
+    return head[:4] in HEADS and WRITER not in head
 
 
 def files_of(word: str) -> tuple[str, ...]:

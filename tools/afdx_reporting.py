@@ -3,10 +3,7 @@ from __future__ import annotations
 
 import argparse
 import contextlib
-import datetime
-import hashlib
 import json
-import os
 import sys
 from typing import Iterator
 
@@ -15,19 +12,21 @@ from afdx_absence import clock_rows, copied_of, dropped_rows, silence_rows, skew
 from afdx_checked import Checked
 from afdx_compare import compared, other_report, words_of
 from afdx_counting import Counting
-from afdx_findings import findings_of
+from afdx_cover import Cover
 from afdx_criteria import judged, status_of, suite_of, write_junit
 from afdx_explaining import explain
+from afdx_findings import findings_of
 from afdx_lanes import arrivals_of
-from afdx_listing import Listing
+from afdx_lines import keep_memory
+from afdx_made import header
 from afdx_outputs import write_folder
 from afdx_page import page
 from afdx_program import version
 from afdx_ranking import FEWEST, latency_text, nearest, ranked
 from afdx_reading import read_config
 from afdx_recordings import recording_options
-from afdx_silence import Silences
 from afdx_running import Source, check, listed_of, replay
+from afdx_silence import Silences
 from afdx_tables import (
     COUNTED,
     EARLY,
@@ -42,39 +41,8 @@ from afdx_tables import (
 )
 from afdx_tapped import found_by
 from afdx_tools import program
+from afdx_where import Where
 from afdx_words import Failed, Progress, as_file, at_hand, shown
-
-
-def digest(path: str) -> str:
-    """The SHA-256 of a file."""
-    with open(path, "rb") as file:
-        return hashlib.file_digest(file, "sha256").hexdigest()
-
-
-def header(args: argparse.Namespace, counting: Counting, sums: list[str], called: str) -> Row:
-    """What the run was."""
-    paths = [args.list] if args.other is None else [args.list, args.other]
-    names = [shown(os.path.basename(path)) for path in (*paths, args.config)]
-    heads = ["List"] if len(paths) == 1 else ["Recording of A", "Recording of B"]
-    config, *others = sums
-    return {
-        "title": shown(args.title) if args.title else f"{' and '.join(names[:-1])} on {names[-1]}",
-        "files": [
-            ("Configuration", shown(args.config), config),
-            *zip(heads, map(shown, paths), others),
-        ],
-        "program": called,
-        "admission_waived": args.no_admission,
-        "written": datetime.datetime.now(datetime.timezone.utc).strftime("%Y-%m-%d %H:%M UTC"),
-        "first_ns": counting.first,
-        "span_ns": counting.last - counting.first,
-    }
-
-
-def sums_of(source: Source, listing: Listing) -> list[str]:
-    """The SHA-256 of the configuration, and of each file that was replayed."""
-    files = map(digest, source.paths) if source.is_recorded else [listing.digest]
-    return [digest(source.config), *files]
 
 
 def tables_of(counting: Counting, checked: Checked, worst: int) -> Row:
@@ -98,11 +66,22 @@ def tables_of(counting: Counting, checked: Checked, worst: int) -> Row:
         "loads": loads,
         "arrivals": arrivals_of(counting, silences),
         "troubles": numbers.trouble_rows(counting),
+        **early_of(counting, worst),
     }
 
 
-def report_of(args: argparse.Namespace, source: Source, progress: Progress) -> tuple[Row, Counting]:
-    """Runs the program, and counts: the report, and what the pictures need."""
+def early_of(counting: Counting, worst: int) -> Row:
+    """By how much frames came too early, where some did."""
+    if not len(counting.events.early.lines):
+        return {}
+    frames = numbers.early_frames(counting, worst)
+    return {"early_ns": numbers.early_rows(counting), "early_frames": frames}
+
+
+def report_of(
+    args: argparse.Namespace, source: Source, cover: Cover | None, progress: Progress
+) -> tuple[Row, Counting, Where]:
+    """Runs the program, and counts: the report, what the pictures need, and where frames stand."""
     called = version()
     checked = check(program(), source.config)
     tables = read_config(source.config)
@@ -110,8 +89,10 @@ def report_of(args: argparse.Namespace, source: Source, progress: Progress) -> t
     events, fault, status = replay(source, listed, progress)
     progress.tell("counting")
     counting = Counting(tables, listed.listing, events)
+    where = Where(source, counting)
     report = {
-        "run": header(args, counting, sums_of(source, listed.listing), called),
+        "run": header(args, source, counting, where, called, cover),
+        "cover": cover.content if cover else None,
         "admission": checked.answer,
         "fault": fault,
         "status": status,
@@ -125,11 +106,10 @@ def report_of(args: argparse.Namespace, source: Source, progress: Progress) -> t
         report["skipped"] = listed.skipped
     if source.taps:
         report["taps"] = {"file": shown(args.taps), "rows": source.taps.rows}
-    if len(events.early.lines):
-        report["early_ns"] = numbers.early_rows(counting)
     report["totals"] = numbers.totals(counting, report)
     report["findings"] = findings_of(report)
-    return report, counting
+    where.add_to(report)
+    return report, counting, where
 
 
 def print_head(report: Row) -> None:
@@ -187,14 +167,16 @@ def source_of(args: argparse.Namespace, progress: Progress) -> Iterator[Source]:
 
 def run_report(tool: str, args: argparse.Namespace) -> int:
     """Makes the report; the status."""
+    keep_memory()
     progress = Progress(tool)
     other = other_report(args.compare) if args.compare else None
+    cover = Cover(args.cover) if args.cover else None
     name = args.list if args.other is None else f"{args.list},{args.other}"
     try:
         with source_of(args, progress) as source:
             for line in source.taps.remarks if source.taps else []:
                 print(f"{tool}: {shown(line)}", file=sys.stderr)
-            report, counting = report_of(args, source, progress)
+            report, counting, where = report_of(args, source, cover, progress)
     except Failed as error:
         if args.junit:
             write_junit(args.junit, [suite_of(name, str(error), None, args.fail_on)])
@@ -205,7 +187,7 @@ def run_report(tool: str, args: argparse.Namespace) -> int:
     if other is not None:
         report["compared"] = compared(report, other, args.compare)
     if args.out or not args.json:
-        texts = {**files_of(report), "report.html": page(report, counting, args)}
+        texts = {**files_of(report), "report.html": page(report, counting, where, args)}
         write_folder(as_file(args.out or "report"), texts, WRITTEN)
     if args.junit:
         suite = suite_of(name, report["fault"], report["totals"], args.fail_on)

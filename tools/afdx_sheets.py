@@ -14,6 +14,8 @@ from afdx_words import shown
 
 DELIMITERS = ",;\t"
 LONGEST = 40  # characters of a cell that are shown
+LONGEST_CELL = 4_000  # characters of a cell
+MOST_ROWS = 10_000
 
 
 class Row(NamedTuple):
@@ -89,6 +91,9 @@ def cells_of(path: str, text: str) -> Iterator[tuple[int, list[str]]]:
     try:
         for row in reader:
             cells = [cell.strip() for cell in row]
+            if len(max(cells, key=len, default="")) > LONGEST_CELL:
+                text = f"a cell has more than {LONGEST_CELL:,} characters"
+                raise Refused(f"{shown(path)} line {begin}: {text}")
             if any(cells):
                 yield begin, cells
             begin = reader.line_num + 1
@@ -123,6 +128,8 @@ def read_sheet(path: str, columns: Mapping[str, bool], filled: Collection[str] =
         for column in filled:
             sheet.fill(above, row, column)
         sheet.rows.append(row)
+        if len(sheet.rows) > MOST_ROWS:
+            raise Refused(f"{sheet.name}: it has more than {MOST_ROWS:,} rows")
         above = row
     if not sheet.rows:
         raise Refused(f"{sheet.name}: no row stands below the names of the columns")

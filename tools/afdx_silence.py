@@ -146,7 +146,7 @@ def heard(counting: Counting) -> Iterator[Heard]:
     """Whose frames came: the network, each system that sends, each link."""
     config, side = counting.config, counting.listing.side.astype(np.int64)
     arrived, numbered = counting.arrived, of_kinds(counting, NUMBERED)
-    of_port = groups_by(counting.listing.port * 2 + side, arrived)
+    of_port = groups_by(side + 2 * counting.listing.port, arrived)
     of_link = groups_by(counting.place * 2 + side, numbered)
     none, heard_of = arrived[:0], set(of_link)
     bags = {vl: link.bag_ms * 1_000_000 for vl, link in config.links.items()}

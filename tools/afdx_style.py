@@ -33,7 +33,7 @@ section { background: var(--sheet); border: 1px solid var(--rule); border-radius
   padding: 3px 10px; margin: 0 0 4px; overflow-wrap: anywhere; }
 .findings b { display: inline-block; min-width: 8.2em; }
 @media (max-width: 720px) { .findings b { display: block; } #words .where { display: none; }
-  #words td.words { min-width: 0; } caption { white-space: normal; } }
+  #words td.words { min-width: 0; } caption { max-width: calc(100vw - 84px); } }
 .late-row { color: var(--bad); }
 .cards { display: grid; grid-template-columns: repeat(6, 1fr); gap: 10px; margin: 16px 0 0; }
 @media (max-width: 720px) { .cards { grid-template-columns: repeat(2, 1fr); } }
@@ -43,6 +43,14 @@ section { background: var(--sheet); border: 1px solid var(--rule); border-radius
 .card dd { margin: 0; font-size: 20px; font-weight: 600; font-variant-numeric: tabular-nums;
   letter-spacing: -.02em; overflow-wrap: anywhere; }
 .card dt { color: var(--muted); font-size: 12.5px; }
+.on-paper { display: none; } #cover { margin-bottom: 24px; }
+#cover table { margin-top: 12px; font-size: 13.5px; }
+#cover td, #cover tbody th { padding: 5px 10px 5px 0; white-space: pre-line;
+  overflow-wrap: anywhere; }
+#cover .signatures td, #cover .signatures tbody th { padding-top: 26px; min-width: 6em; }
+#cover .signatures td:last-child { min-width: 14em; }
+#cover #made, #made { font-size: 12.5px; } #made td { white-space: normal; }
+#made code { overflow-wrap: anywhere; } #cover #made th { white-space: nowrap; }
 .find { margin-top: 16px; } .find input { font: inherit; padding: 4px 8px; width: 22em;
   max-width: 100%; }
 .box { max-height: 560px; overflow: auto; } #words .box { max-height: none; }
@@ -94,7 +102,8 @@ footer code { font-size: 12px; overflow-wrap: anywhere; }
   section { overflow: visible; padding: 8px 0; border-width: 1px 0 0; border-radius: 0; }
   svg { min-width: 0; break-inside: avoid; } h2, section > p, caption { break-after: avoid; }
   section > p, .findings li, .card { break-inside: avoid; }
-  nav, .find { display: none; } .box { max-height: none; overflow: visible; }
+  nav, .find, .screen { display: none; } .on-paper { display: inline; }
+  #cover { break-after: page; } .box { max-height: none; overflow: visible; }
   .cards { grid-template-columns: repeat(6, 1fr); gap: 5px; } .card { padding: 3px 8px; }
   .table { page: wide; } #words { page: auto; }
   table { font-size: 8.6px; } th, td { padding: 1px 5px 1px 0; }

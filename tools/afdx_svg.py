@@ -76,11 +76,15 @@ def titled(shape: str, words: str) -> str:
     return f"<g><title>{escape(words)}</title>{shape}</g>"
 
 
-def picture(name: str, height: float, parts: Sequence[str], label: str, told: str) -> str:
-    """The parts as one picture, with a label and its numbers for those who can't see it."""
+def picture(
+    name: str, height: float, parts: Sequence[str], label: str, told: str, kind: str = "shown"
+) -> str:
+    """The parts as one picture, with a label and its numbers for those who can't see it; of the
+    kind `screen` it isn't on paper."""
     return (
-        f'<svg viewBox="0 0 {WIDTH} {height:.0f}" role="img" aria-labelledby="{name}-label '
-        f'{name}-numbers"><title id="{name}-label">{escape(label)}</title>'
+        f'<svg viewBox="0 0 {WIDTH} {height:.0f}" class="{kind}" role="img" '
+        f'aria-labelledby="{name}-label {name}-numbers">'
+        f'<title id="{name}-label">{escape(label)}</title>'
         f'<desc id="{name}-numbers">{escape(told)}</desc>' + "".join(parts) + "</svg>"
     )
 

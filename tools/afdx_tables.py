@@ -20,6 +20,7 @@ NAMES = {
     "clocks": "Senders: by how much their copies came later on side B, in ns",
     "ports": "Ports: load, greatest backlog in bytes, and frames that left",
 }
+TROUBLES = "Frames with trouble: dropped, late, too old, refused, or at a full buffer"
 EARLY = "Links and sides: over-rate frames, and by how much they came too early"
 PROVED = (
     "Proved: each verdict (V), loss (L), departure with its time (D), drop for age (T), message "
@@ -40,6 +41,7 @@ COUNTED = (
 # many countries cut a line.
 FORMULA = re.compile(r"(^|;)( *)(?=[=+\-@])")
 WRITTEN = {f"{name}.csv" for name in NAMES} | {"arrivals.csv", "early.csv", "compared.csv"}
+WRITTEN |= {"troubles.csv", "where.csv"}
 WRITTEN |= {"report.json", "report.html"}  # what a folder may have of an earlier report
 
 
@@ -125,6 +127,9 @@ def files_of(report: Row) -> dict[str, str]:
     texts["arrivals.csv"] = csv_text(over_time(report["arrivals"]))
     if "early_ns" in report:
         texts["early.csv"] = csv_text(report["early_ns"])
+    texts["troubles.csv"] = csv_text(report["troubles"])
+    if "where" in report:
+        texts["where.csv"] = csv_text(report["where"])
     if report.get("compared"):
         texts["compared.csv"] = csv_text(report["compared"]["rows"])
     parts = (f"{json.dumps(name)}: {json.dumps(value)}" for name, value in report.items())

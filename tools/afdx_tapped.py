@@ -7,8 +7,9 @@ from typing import Iterable, NamedTuple
 
 from afdx_interfaces import OTHERS, Interface, interfaces_of
 from afdx_reading import read_config
+from afdx_recordings import is_packed
 from afdx_taps import IN, NONE, OUT, SIDES, Found, Place, Recording, Tap, called, matched, read_taps
-from afdx_tools import Config
+from afdx_tools import LONGEST_NAME, Config, cut
 from afdx_words import Failed, Progress, shown
 
 SENDER = b"\x02\0\0"  # a source address of an end system begins with it
@@ -116,7 +117,7 @@ def row_of(tapped: Tapped, count: int) -> dict:
     return {
         "recording": tapped.recording,
         "interface": tapped.number,
-        "name": None if name is None else shown(name),
+        "name": None if name is None else cut(name, LONGEST_NAME),
         "place": str(tap.place) if tap.place else None,
         "direction": tap.direction,
         "frames": tapped.interface.frames,
@@ -200,9 +201,11 @@ def checked(
         return found
     rows: list[dict[int, Tap]] = []
     all_tapped = []
-    for recording in read(paths, names, progress):
+    for path, recording in zip(paths, read(paths, names, progress)):
         if not recording.interfaces:
-            found.faults.append(f"{recording.name} is no recording that has an interface")
+            what = "a packed file: unpack it first"
+            what = what if is_packed(path) else "no recording that has an interface"
+            found.faults.append(f"{recording.name} is {what}")
             continue
         if swapped(recording):
             found.faults.append(swapped(recording))

@@ -8,7 +8,7 @@ from typing import NamedTuple
 from afdx_cells import Cells
 from afdx_interfaces import Interface
 from afdx_sheets import Row, read_sheet
-from afdx_tools import Refused
+from afdx_tools import LONGEST_NAME, Refused, cut
 from afdx_words import shown
 
 COLUMNS = dict.fromkeys(("interface", "side", "port", "direction"), True)
@@ -84,19 +84,21 @@ def tap_of(row: Row, faults: list[str]) -> Tap:
     return Tap(row, row.name, place, direction)
 
 
-def are_one(one: Tap, other: Tap) -> bool:
-    """Both are an interface of one name in a recording of the same side."""
-    sides = [tap.place.side if tap.place else None for tap in (one, other)]
-    return one.name == other.name and (None in sides or sides[0] == sides[1])
-
-
 def refuse_twice(taps: list[Tap], faults: list[str]) -> None:
-    """Notes the taps that are one interface twice, or one place."""
-    for number, tap in enumerate(taps):
-        for before in taps[:number]:
-            if are_one(before, tap):
-                faults.append(f"{tap.row.at('interface')}: {before.row.place} has it too")
-            if tap.place and (tap.place, tap.direction) == (before.place, before.direction):
+    """Notes the taps that are one interface twice, in a recording of the same side or of none, or
+    one place."""
+    names: dict[tuple[str, str | None], Tap] = {}
+    places: dict[tuple[Place, str], Tap] = {}
+    for tap in taps:
+        side = tap.place.side if tap.place else None
+        sides = ("A", "B", None) if side is None else (side, None)
+        same = [names[tap.name, each] for each in sides if (tap.name, each) in names]
+        if same:
+            faults.append(f"{tap.row.at('interface')}: {same[0].row.place} has it too")
+        names.setdefault((tap.name, side), tap)
+        if tap.place:
+            before = places.setdefault((tap.place, tap.direction), tap)
+            if before is not tap:
                 faults.append(f"{tap.row.at('port')}: {before.row.place} is {tap.says} too")
 
 
@@ -125,7 +127,8 @@ def read_taps(path: str) -> list[Tap]:
 
 def called(number: int, name: str | None) -> str:
     """An interface by its number and its name."""
-    return f"interface {number}" if name is None else f"interface {number} ({shown(name)})"
+    named = "" if name is None else f" ({cut(name, LONGEST_NAME)})"
+    return f"interface {number}{named}"
 
 
 def taps_for(taps: list[Tap], number: int, name: str | None) -> list[Tap]:
@@ -137,7 +140,7 @@ def taps_for(taps: list[Tap], number: int, name: str | None) -> list[Tap]:
 def tap_for(taps: list[Tap], recording: Recording, number: int, interface: Interface) -> Tap | str:
     """The row of an interface, or why it has none."""
     if interface.other is not None:
-        other = shown(interface.other)
+        other = cut(interface.other, LONGEST_NAME)
         return f"is {other} in a later section of the file; mergecap makes one section of them"
     rows = taps_for(taps, number, interface.name)
     here = [tap for tap in rows if tap.is_at(recording.side)]
@@ -148,7 +151,7 @@ def tap_for(taps: list[Tap], recording: Recording, number: int, interface: Inter
     if rows:
         row, side = rows[0].row.place, recording.side
         return f"is {rows[0].says} by {row}, and this is given as the recording of {side}"
-    named = f"#{number}" if interface.name is None else shown(interface.name)
+    named = f"#{number}" if interface.name is None else cut(interface.name, LONGEST_NAME)
     return f"has no row in the table; one named {named} with direction none leaves it out"
 
 

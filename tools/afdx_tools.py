@@ -22,6 +22,7 @@ MOST_LINES = 1_000_000
 LONGEST_LINE = 4_200  # bytes, without the line feed
 LATEST = 10**15
 CONSTANT = "03000000"
+LONGEST_NAME = 64  # characters of a name from a recording or another report that are shown
 HERE = os.path.dirname(os.path.realpath(__file__))
 
 
@@ -42,6 +43,12 @@ def shown_one(character: str) -> str:
     if 0xDC80 <= ord(character) <= 0xDCFF:  # in a name it stands for a byte that is no text
         return f"\\x{ord(character) - 0xDC00:02x}"
     return character.encode("unicode_escape").decode()
+
+
+def cut(text: str, most: int) -> str:
+    """A text as it can be printed, of which at most so many characters are."""
+    shorter = shown(text[: most + 1])
+    return shorter if len(shorter) <= most else f"{shorter[:most]}.."
 
 
 def let_go(stream: IO[str] | None) -> None:

@@ -45,9 +45,18 @@ def of_kinds(counting: Counting, words: tuple[str, ...]) -> np.ndarray:
     return counting.arrived[np.isin(counting.events.verdict[counting.arrived], codes)]
 
 
+def order_of(keys: np.ndarray) -> np.ndarray:
+    """The order by keys below 2 ** 32, equal ones as they stand: by two halves of 16 bits, which
+    numpy sorts several times faster."""
+    low = (keys & 0xFFFF).astype(np.uint16)
+    order = np.argsort(low, kind="stable")
+    high = (keys >> 16).astype(np.uint16)
+    return order[np.argsort(high[order], kind="stable")] if high.any() else order
+
+
 def grouped(keys: np.ndarray) -> dict[int, np.ndarray]:
     """The places of each key, in their order."""
-    order = np.argsort(keys, kind="stable")
+    order = order_of(keys)
     ends = np.flatnonzero(np.diff(keys[order], append=-1)) + 1
     return {int(keys[part[0]]): part for part in np.split(order, ends[:-1]) if len(part)}
 

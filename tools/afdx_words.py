@@ -29,6 +29,14 @@ UNHEEDED = {signal.Signals[name] for name in STOPPING | PASSED_OVER | SUDDEN}
 class Parser(argparse.ArgumentParser):
     """A parser whose faults are one line."""
 
+    def parse_known_args(self, args=None, namespace=None):
+        """As argparse does; but a second `--`, of which it makes an empty list, is a fault."""
+        found, others = super().parse_known_args(args, namespace)
+        for action in self._actions:
+            if action.default is None and getattr(found, action.dest, None) == []:
+                self.error("a file that is named -- has to be written as ./--")
+        return found, others
+
     def error(self, message: str) -> NoReturn:
         """Ends the tool with status 2."""
         leave(self.prog, shown(message))

@@ -3,6 +3,7 @@ from __future__ import annotations
 
 from typing import BinaryIO
 
+from afdx_recordings import WRITER, WRITER_CODE
 from afdx_tools import Refused
 
 try:
@@ -63,7 +64,7 @@ class Pcapng:
     def __init__(self, file: BinaryIO) -> None:
         self._file = file
         self._taps: dict[tuple[str, int], int] = {}
-        file.write(bytes(pcapng.SectionHeaderBlockLE()))
+        file.write(bytes(pcapng.SectionHeaderBlockLE(opts=[option(WRITER_CODE, WRITER), END])))
 
     def _tap(self, side: str, port: int) -> int:
         """The place of an interface, which is described when it is first used."""

@@ -124,6 +124,9 @@ tell 'a terminal is told what a fault means' "$(
     if [[ $(on_terminal) != *"$work/none: No such file or directory"* ]]; then echo 'no path'; fi
     if [[ $(on_terminal --explain=never) != 'device List' ]]; then echo 'never explained'; fi
 )"
+printf 'F 0 A 1 00\n' | gzip >"$work/packed.list.gz"
+explained_case 'police explains a packed list' 3 '' 'recording Packed' 'zcat FILE | afdx' \
+    police --explain 1 64 500 "$work/packed.list.gz"
 explained_case 'replay explains admission' 1 '' 'admit A3 7 104 267995' 'A3 port vl bound' \
     replay --explain examples/refused.toml -
 explained_case 'replay explains the same input' 2 '' 'words SameInput' 'which is standard input' \

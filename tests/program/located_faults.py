@@ -5,7 +5,8 @@
 
 A sound configuration is written in many layouts: heads or braces, on one line or several, remarks
 and texts with brackets in them, keys and texts in each kind of quotes, other ends of lines. One
-value is put out of range, one key left out, or one that isn't known put in. The last line on
+value is put out of range, one key left out, or one that isn't known put in, in a table or at the
+top: with a value of any kind, with dots, or as a table below a head of its own. The last line on
 standard error must name the line on which it was written, the key, and the table by its values.
 Prints a line for each layout that isn't explained so, and nothing where all are; ends with status 1
 if there is one.
@@ -21,11 +22,27 @@ sys.path.insert(0, str(TOP / "tests" / "lib"))
 
 from tables import base_tables  # noqa: E402
 
-COUNT = 150
+COUNT = 300
 MARKS = {"system": ["name", "id"], "link": ["vl"], "port": ["system", "link", "udp"]}
 REMARKS = ["", "", " # [[link]] vl = 7, {", ' # "', " # '''", "  # = ] }"]
 BETWEEN = ["", "", "# [[system]]", '  # """ {', "\t"]
-WRONG = {"name": "", "from": 7, "to": [], "priority": "no", "policing": "no", "kind": "no"}
+WRONG: dict[str, object] = {"name": "", "from": 7, "to": []}
+WRONG |= dict.fromkeys(["priority", "policing", "kind"], "no")
+
+
+UNKNOWN = "vlan"
+# a key that is absent at the top has no line: this is the last one of what is said of it
+ABSENT = "'afdx check' prints the bytes that each port needs in the last field of its P line."
+
+
+class Toml(str):
+    """A text that is written as it stands."""
+
+
+STRANGE = ["1979-05-27 07:32:00", "[[1, [ ]], {vl = 7}, # ] }\n '[[link]]']", "1_0.5e-3", "true"]
+STRANGE += ['{ vl = 1, b.c = "}", "[[link]]" = [{d = 2}], }', '"""\n[[link]]\nvl = 7\n\\""""""']
+STRANGE += ["'\"[[link]]'", "'''\n[[port]]\n# \\'''", '"[[port]]"']
+STRANGE += ["{\n # }\n a.b = 1,\n c = [ ]\n}"]
 
 
 class Layout:
@@ -53,7 +70,8 @@ class Layout:
             self.put(self.chance.choice(REMARKS) + self.feed)
 
     def key(self, name: str) -> str:
-        return self.chance.choice([name, name, f'"{name}"', f"'{name}'"])
+        escaped = f'"\\u{ord(name[0]):04x}{name[1:]}"'
+        return self.chance.choice([name, name, f'"{name}"', f"'{name}'", escaped])
 
     def quoted(self, text: str) -> str:
         return self.chance.choice(['"', "'", '"""', "'''"]).join(["", text, ""])
@@ -62,17 +80,41 @@ class Layout:
         if isinstance(value, list):
             inner = ", ".join(self.value(one) for one in value)
             return self.chance.choice([f"[{inner}]", f"[ # ]{self.feed}{inner} ]"])
-        return self.quoted(value) if isinstance(value, str) else str(value)
+        is_text = isinstance(value, str) and not isinstance(value, Toml)
+        return self.quoted(value) if is_text else str(value)
+
+    def pair(self, value: object, *place: object) -> None:
+        """A key of a table, with dots if it isn't known, and its value."""
+        name = str(place[-1])
+        dots = self.chance.choice(["", "", ".x", ' . "y".z']) if name == UNKNOWN else ""
+        self.put(self.key(name) + dots, *place)
+        self.put(f" = {self.value(value)}")
+
+    def head(self, *names: str) -> str:
+        """The head of a table."""
+        return self.chance.choice([".", " . "]).join(self.key(name) for name in names)
+
+    def below(self, *place: object) -> None:
+        """The key that isn't known, as a table below a head."""
+        names = [str(name) for name in place if isinstance(name, str) and name != "top"]
+        head = self.head(*names, *self.chance.choice([[], ["x", "y"]]))
+        self.put(self.chance.choice([f"[{head}]", f" [ {head} ]", f"[[{head}]]"]), *place)
+        self.end_line()
+        self.put(f"vl = 7{self.feed}buffer = []")
+        self.end_line()
 
     def heads(self, part: str, index: int, row: dict) -> None:
         """A table below a head."""
-        name = self.chance.choice([part, part, f'"{part}"'])
-        self.put(self.chance.choice([f"[[{name}]]", f"  [[ {name} ]]"]), part, index)
+        head = self.head(part)
+        self.put(self.chance.choice([f"[[{head}]]", f"  [[ {head} ]]"]), part, index)
         self.end_line()
+        is_below = UNKNOWN in row and self.chance.random() < 0.5
         for key, value in row.items():
-            self.put(self.key(key), part, index, key)
-            self.put(f" = {self.value(value)}")
-            self.end_line()
+            if key != UNKNOWN or not is_below:
+                self.pair(value, part, index, key)
+                self.end_line()
+        if is_below:
+            self.below(part, index, UNKNOWN)
 
     def braces(self, part: str, rows: list[dict]) -> None:
         """All tables of a part in braces."""
@@ -84,8 +126,7 @@ class Layout:
                 if number > 0:
                     self.put(", ")
                 self.break_line()
-                self.put(self.key(key), part, index, key)
-                self.put(f" = {self.value(value)}")
+                self.pair(value, part, index, key)
             self.put("}, ")
         self.put("]")
         self.end_line()
@@ -94,9 +135,11 @@ class Layout:
 def written(chance: random.Random, tables: dict) -> Layout:
     """The tables in a layout: what stands at the top first."""
     layout = Layout(chance)
-    for key in ("profile", "buffer"):
-        layout.put(f"{layout.key(key)} = {tables[key]}", "top", 0, key)
-        layout.end_line()
+    is_below = UNKNOWN in tables and chance.random() < 0.5
+    for key in tables:
+        if key not in MARKS and (key != UNKNOWN or not is_below):
+            layout.pair(tables[key], "top", 0, key)
+            layout.end_line()
     braces = [part for part in MARKS if chance.random() < 0.5]
     for part in braces:
         layout.braces(part, tables[part])
@@ -106,22 +149,25 @@ def written(chance: random.Random, tables: dict) -> Layout:
     for part in heads:
         told[part] += 1
         layout.heads(part, told[part], tables[part][told[part] - 1])
+    if is_below:
+        layout.below("top", 0, UNKNOWN)
     return layout
 
 
 def spoiled(chance: random.Random, tables: dict) -> tuple[str, int, str, str]:
     """Puts one fault into the tables: the part, the table, the key, and what is wrong."""
-    part = chance.choice(list(MARKS))
-    index = chance.randrange(len(tables[part])) + 1
-    row = tables[part][index - 1]
-    key, how = chance.choice(list(row)), chance.choice(["wrong", "absent", "unknown"])
+    part = chance.choice(["top", *MARKS])
+    index = 0 if part == "top" else chance.randrange(len(tables[part])) + 1
+    row = tables if part == "top" else tables[part][index - 1]
+    known = ["buffer"] if part == "top" else list(row)
+    key, how = chance.choice(known), chance.choice(["wrong", "absent", "unknown"])
     if how == "wrong":
         row[key] = WRONG.get(key, 99_999_999)
     elif how == "absent":
         del row[key]
     else:
-        key = "vlan"
-        row[key] = "[[port]]"
+        key = UNKNOWN
+        row[key] = Toml(chance.choice(STRANGE))
     rows = list(row.items())
     chance.shuffle(rows)
     row.clear()
@@ -132,12 +178,16 @@ def spoiled(chance: random.Random, tables: dict) -> tuple[str, int, str, str]:
 def wanted(layout: Layout, tables: dict, fault: tuple[str, int, str, str]) -> str:
     """The last line of the explanation."""
     part, index, key, how = fault
+    if part == "top" and how == "absent":
+        return ABSENT
+    place = (part, index) if how == "absent" else (part, index, key)
+    line = f"Line {layout.lines[place]} of CONFIG"
+    if part == "top":
+        return f"{line}: {key}."
     row = tables[part][index - 1]
     marks = [f"{mark} {row[mark]}" for mark in MARKS[part] if row.get(mark, "") != ""]
     table = f"{part} {index}" + (f" ({', '.join(marks)})" if marks else "")
-    if how == "absent":
-        return f"Line {layout.lines[part, index]} of CONFIG: {table}, without {key}."
-    return f"Line {layout.lines[part, index, key]} of CONFIG: {key} of {table}."
+    return f"{line}: {table}, without {key}." if how == "absent" else f"{line}: {key} of {table}."
 
 
 def main() -> int:

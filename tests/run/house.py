@@ -7,8 +7,7 @@
   README set in code occurs in the sources.
 - Each piece of code in docs/LIBRARIES.md is a part of a file of afdx_surface_tests, white space
   aside.
-- Each crate has its row in docs/ARCHITECTURE.md, which names what it may cite, as crates.txt does,
-  and each of its files of definitions.
+- The pages that bin/pages prints from the sources are as it prints them.
 - The closed lists of the program, which stand in tables of its sources, are those of the documents
   and of the tools, in the same order; each key of a configuration has its number, its part, its
   name and its range in its text.
@@ -23,6 +22,7 @@ Prints a line for each fault, then `N passed, M failed`; ends with status 1 if t
 """
 import pathlib
 import re
+import subprocess
 import sys
 
 TOP = pathlib.Path(__file__).resolve().parent.parent.parent
@@ -50,7 +50,7 @@ MEMORY = {
     "crates/afdx_text/src/line.rt": {"room_wanted"},
 }
 SCRIPTS = ["tests/**/*.py", "tests/**/*.sh", "tests/**/*.c", "examples/*.py"]
-SCRIPTS += ["bench/*", "bin/*", "tools/*", ".ci/*"]
+SCRIPTS += ["bench/*", "bin/*", "bin/printing/*.py", "tools/*", ".ci/*"]
 
 
 def text_of(path: pathlib.Path) -> str:
@@ -66,22 +66,12 @@ def sources(*patterns: str) -> list[pathlib.Path]:
     return sorted(p for pattern in patterns for p in TOP.glob(pattern) if not made(p))
 
 
-def crates_cited() -> dict[str, str]:
-    """Each crate, and what it may cite as ARCHITECTURE has it: no prefix, commas between."""
-    cited = {}
-    for line in text_of(TOP / "crates.txt").splitlines():
-        if line and line[0] not in "# ":
-            crate, _, names = line.partition(":")
-            short = [name.removeprefix("afdx_") for name in names.split()]
-            cited[crate.split()[0]] = ", ".join(short) or "none"
-    return cited
-
-
 def known_words() -> set[str]:
     """All words of the sources, and the names of files and folders."""
     words: set[str] = set()
     named = ["crates/**/*.rt", "crates/**/*.antt", "crates/*/must-fail/*", "tests/*/*"]
-    for path in sources(*named, "bench/*", "tools/*", "bin/*", "examples/*.toml"):
+    named += ["bench/*", "tools/*", "bin/*", "bin/printing/*.py", "examples/*.toml"]
+    for path in sources(*named):
         if path.is_file():
             words.update(re.findall(r"\w+", text_of(path)))
             words.update(re.findall(r"\w+", str(path.relative_to(TOP))))
@@ -100,34 +90,11 @@ def wrong_names() -> list[str]:
     return faults
 
 
-def definitions_of(crate: str) -> list[str]:
-    """The names of its files of definitions, those of a folder as `folder.File`."""
-    specs = CRATES / crate / "specs"
-    files = [path.relative_to(specs).with_suffix("") for path in sorted(specs.glob("**/*.antt"))]
-    return [
-        ".".join(file.parts)
-        for file in files
-        if file.name != "Lib" and not (specs / file).is_dir() and "out" not in file.parts
-    ]
-
-
-def missing_rows() -> list[str]:
-    document = "docs/ARCHITECTURE.md"
-    rows, faults = {}, []
-    for line in text_of(TOP / document).splitlines():
-        found = re.match(r"\| `(\w+)` \|", line)
-        if found:
-            rows[found.group(1)] = line
-    for crate, cited in crates_cited().items():
-        if crate not in rows:
-            faults.append(f"{document} has no row for {crate}")
-            continue
-        if f"| {cited} |" not in rows[crate]:
-            faults.append(f"{document}: {crate} may cite, by crates.txt, {cited}")
-        for name in definitions_of(crate):
-            if f"`{name}`" not in rows[crate]:
-                faults.append(f"{document}: the row of {crate} doesn't name `{name}`")
-    return faults
+def other_pages() -> list[str]:
+    """Which pages aren't what is printed from the sources."""
+    words = [sys.executable, str(TOP / "bin" / "pages"), "--check"]
+    ran = subprocess.run(words, capture_output=True, text=True, check=False)
+    return (ran.stdout + ran.stderr).splitlines() if ran.returncode else []
 
 
 def without_space(text: str) -> str:
@@ -309,7 +276,7 @@ def headless() -> list[str]:
 def main() -> int:
     checks = {
         "names in documents": wrong_names(),
-        "rows of crates": missing_rows(),
+        "pages printed from the sources": other_pages(),
         "code in LIBRARIES": foreign_code(),
         "closed lists": lists_apart(),
         "keys of a configuration": keys_apart(),

@@ -63,8 +63,8 @@ fi
 if "$python" -c 'import numpy' 2>"$work/err"; then numpy=1; else numpy=; fi
 for tool in afdx-capture ${numpy:+afdx-report} afdx-campaign afdx-icd afdx-fill afdx-traffic \
     afdx-taps; do
-    launch "tools/$tool" --help
-    tell "$tool --help" "$(is_status 0; says out usage)"
+    launch env COLUMNS=80 "tools/$tool" --help
+    tell "$tool --help, in 80 columns" "$(is_status 0; says out usage; grep -E '.{81}' "$work/out")"
 done
 if [[ -n $numpy ]]; then
     launch env AFDX=/nowhere tools/afdx-report examples/base.toml examples/one_link.list
@@ -76,7 +76,7 @@ fi
 parts="recordings report hardening criteria early page capture_faults wireshark icd"
 parts+=" explained icd_faults icd_documents icd_growth traffic taps fill completion"
 parts+=" hostile_completion safe_outputs hostile_files around campaigns recorded_reports absence"
-parts+=" package"
+parts+=" evidence annotated package"
 for part in $parts; do
     # shellcheck source=/dev/null
     source "$top/tests/tools/$part.sh"

@@ -245,7 +245,7 @@ END_OF_FILE
         says err 'afdx-report: 1 unused'
         finds skipped 'the recorder itself lost 7 frames'
         finds skipped '3 recorded frames were left out: 2 not-afdx, 1 unknown-sender'
-        finds skipped '1 interface was named that no recording has'
+        finds skipped '1 interface that --interface names, and that the recording'
     )"
 }
 

@@ -88,10 +88,13 @@ offer_tests() { # SHELL
         offers "$1" "afdx-capture pcap $files/" two.list
         offers "$1" "afdx-capture pcap --side A $files/two.list $files/" four.pcap
         offers "$1" "afdx-capture annotate $files/" one.toml
-        offers "$1" "afdx-capture annotate $files/one.toml $files/" two.list
+        offers "$1" "afdx-capture annotate $files/one.toml $files/" two.list four.pcap
+        offers "$1" "afdx-capture annotate $files/one.toml $files/four.pcap $files/" four.pcap
         offers "$1" "afdx-report $files/" one.toml
         offers "$1" "afdx-report --rows 7 $files/one.toml $files/" two.list four.pcap
         offers "$1" "afdx-report --fcs no $files/one.toml $files/four.pcap $files/" four.pcap
+        offers "$1" "afdx-report --cover $files/" one.toml
+        offers "$1" "afdx-report --cover c.toml --worst 5 --fail-on late $files/" one.toml
         offers "$1" "afdx-report --reorder 0 --stamps end $files/" one.toml
         offers "$1" "afdx-report --out $files/"
         offers "$1" "afdx-report --taps $files/seven.csv $files/" one.toml

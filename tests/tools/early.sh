@@ -141,8 +141,9 @@ END_OF_FILE
     )"
 }
 
-dated() { # FOLDER : its page and JSON without the date
-    sed -E 's/(written "?|"written": ")[-0-9: ]+/\1/' "$1/report.html" "$1/report.json"
+dated() { # FOLDER : its page and JSON without the date, and without the words that made it
+    sed -E 's/(<code>|"written": ")[-0-9]+ [0-9:]+ UTC/\1/; s/"words": \[[^]]*\]//
+        s/<code>afdx-report [^<]*/<code>/' "$1/report.html" "$1/report.json"
 }
 
 no_early_tests() { # against a program that says nothing of early frames
@@ -167,7 +168,7 @@ END_OF_FILE
         --out "$work/silent.bench"
     tell 'all else stands as it is without them' "$(
         same <(dated "$work/silent.bench") <(dated "$work/early.bench" |
-            sed '/^"early_ns"/d; s| <a href="#early">[^<]*</a>||' | "$python" -c '
+            sed '/^"early_/d; s| <a href="#early">[^<]*</a>||' | "$python" -c '
 import re, sys
 page = re.sub(r"<section id=\"early.*?</section>", "", sys.stdin.read(), flags=re.S)
 print(page, end="")')

@@ -3,8 +3,9 @@
 # shellcheck shell=bash
 # shellcheck disable=SC2154  # what it uses is set by tests/run/tools.sh, which sources it
 
-on_terminal() { # WORD.. : standard error, a terminal, goes to $work/out
+on_terminal() { # WORD.. : standard error, a terminal, goes to $work/out, without progress
     launch "$python" tests/lib/on_terminal.py "$@"
+    sed -i 's/.*\r//' "$work/out"
 }
 
 # The fault's line comes first, and after it all that the program says of it.

@@ -183,8 +183,6 @@ left_tests() {
     tell 'no configuration to fill' "$(is_left 4 "$work/nowhere.toml: No such file or directory")"
     fill --keep all examples/base.toml
     tell 'a key to keep that is none' "$(is_status 2; wc -l <"$work/err" | grep -vx 1)"
-    launch env COLUMNS=80 tools/afdx-fill --help
-    tell 'the help of afdx-fill fits 80 columns' "$(is_status 0; grep -E '.{81}' "$work/out")"
 }
 
 if [[ -z $built ]]; then

@@ -26,6 +26,8 @@ word_tests() {
     refuses 'early is none of silent, contradicted, clock' --fail-on dropped,early
     launch tools/afdx-report examples/base.toml
     tell 'a missing word is one line' "$(is_status 2; one_line; says err LIST)"
+    launch tools/afdx-report examples/base.toml -- --
+    tell 'a file that is named --' "$(is_status 2; one_line; says err 'written as ./--')"
 }
 
 name_tests() {

@@ -226,6 +226,35 @@ icd_tests() {
     )"
 }
 
+table_tests() { # tables that would take hours
+    local name
+    {
+        head -n 1 examples/messages.csv
+        sed -n 2p examples/messages.csv | sed "s/^/$(printf 'x %.0s' {1..2001})/"
+    } >"$work/cell.csv"
+    { cat examples/systems.csv; yes 'adc,1,1,1,100' | head -n 10000; } >"$work/rows.csv"
+    {
+        head -n 1 examples/systems.csv
+        for name in a{-,_}{-,_}{-,_}{-,_}{-,_}{-,_}{-,_}{-,_}{-,_}{-,_}{-,_}{-,_}b; do
+            echo "$name,1,1,1,100"
+        done
+    } >"$work/alike.csv"
+    launch timeout 30 tools/afdx-icd examples/systems.csv "$work/cell.csv" "$work/heads.toml"
+    tell 'a cell of a table that is too long' "$(
+        is_status 2
+        one_plain_line
+        says err 'a cell has more than 4,000 characters'
+    )"
+    launch timeout 30 tools/afdx-icd "$work/rows.csv" examples/messages.csv "$work/heads.toml"
+    tell 'a table that is too long' "$(
+        is_status 2
+        one_plain_line
+        says err 'it has more than 10,000 rows'
+    )"
+    launch timeout 30 tools/afdx-icd "$work/alike.csv" examples/messages.csv "$work/heads.toml"
+    tell 'thousands of names that become one' "$(is_status 2)"
+}
+
 new_toml() { # FILE : base.toml's first tables in TOML 1.1
     cat >"$1" <<'TOML'
 profile = 1
@@ -295,6 +324,32 @@ reading_tests() {
     done
 }
 
+every_tool_test() { # on a configuration in TOML 1.1 behind a byte order mark
+    local at=$work/every words tables='examples/systems.csv examples/messages.csv' config list
+    mkdir -p "$at"
+    config=$at/net.toml list=$at/traffic/all-systems.list
+    # shellcheck disable=SC2086
+    launch tools/afdx-icd $tables "$at/made.toml"
+    { printf '\xef\xbb\xbf'; sed 's/{ name = "adc",/{\n    name = "\\x61dc", # TOML 1.1\n   /' \
+        "$at/made.toml"; } >"$config"
+    printf 'interface,side,port,direction\n#0,A,1,in\n' >"$at/taps.csv"
+    tell 'each tool that takes a configuration takes one in TOML 1.1 with a byte order mark' "$(
+        if cmp -s "$config" "$at/made.toml" || ! grep -q 1.1 "$config"; then echo 'as made'; fi
+        for words in "traffic --config $config $tables $at/traffic" \
+            "capture pcap --side A $at/traffic/adc.list $at/adc.pcap" \
+            "taps $config $at/taps.csv $at/adc.pcap" \
+            "capture list --config $config --taps $at/taps.csv $at/adc.pcap" \
+            "capture annotate $config $list $at/said.pcapng" "report $config $list --json" \
+            "campaign $config $list --out $at/campaign" "fill $config -" \
+            "icd --since $config $tables -"; do
+            # shellcheck disable=SC2086
+            launch tools/afdx-$words
+            if [[ $status -ne 0 ]]; then echo "afdx-$words: status $status"; fi
+            grep -iE 'toml|traceback' "$work/err"
+        done
+    )"
+}
+
 if [[ -n $reporting && -n $dpkt ]] && has parallel; then
     other_program_tests
     stream_tests
@@ -304,7 +359,9 @@ if [[ -n $reporting && -n $dpkt ]] && has parallel; then
     campaign_name_tests
     odd_run_tests
     icd_tests
+    table_tests
     reading_tests
+    every_tool_test
 else
     skip 'hostile files' "there is no program $program, or no numpy, dpkt or GNU parallel"
 fi

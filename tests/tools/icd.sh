@@ -174,12 +174,7 @@ messages can hold one up for 1487200 ns; 500000 are the most (no A5 fcc 1487200)
 5469493 bytes can wait there; it has room for 4194304 (no A2 2 5469493)")"
 }
 
-# ---- files, devices, help ------------------------------------------------------------------
-
-help_tests() {
-    launch env COLUMNS=80 tools/afdx-icd --help
-    tell 'the help of afdx-icd fits 80 columns' "$(is_status 0; grep -E '.{81}' "$work/out")"
-}
+# ---- files, devices ----------------------------------------------------------------------------
 
 file_tests() {
     local at=$work/icd/files
@@ -225,5 +220,4 @@ else
     late_tests
     none_tests
     file_tests
-    help_tests
 fi

@@ -17,7 +17,8 @@ from typing import Iterator
 sys.dont_write_bytecode = True
 sys.path.insert(0, os.path.join(os.path.dirname(os.path.abspath(__file__)), "..", "..", "tools"))
 from afdx_compare import KEYS, compared, other_report, words_of  # noqa: E402
-from afdx_page import compared_sections  # noqa: E402
+from afdx_page import compared_tables  # noqa: E402
+from afdx_parts import table  # noqa: E402
 from afdx_tables import as_text, csv_text  # noqa: E402
 from afdx_tools import Refused  # noqa: E402
 
@@ -65,7 +66,8 @@ def fault_of(report: dict, file: str) -> str | None:
     except Refused:
         return None
     said = "".join([*words_of(pair), as_text(pair["rows"]), csv_text(pair["rows"])])
-    said += compared_sections({"compared": pair})
+    for head, rows in compared_tables({"compared": pair}).values():
+        said += table(rows, head)
     odd = {letter for letter in said if not letter.isprintable() and letter != "\n"}
     return f"it writes {odd}" if odd else ""
 

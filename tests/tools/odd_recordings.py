@@ -4,6 +4,9 @@
 
 FOLDER/big.pcapng   high byte first, two interfaces with times in ns and in 2^-20 s, an offset of
                     5 s on both, 4 bytes of check sequence said by one
+FOLDER/sections.pcapng  two sections, whose interfaces have other names and units; frames with
+                        comments, flags and a drop count
+FOLDER/long.pcapng  an interface with a name of 65,535 bytes
 FOLDER/big.pcap     high byte first, times in us
 FOLDER/cut.pcap     the second frame was cut
 FOLDER/wifi.pcap    not Ethernet
@@ -85,6 +88,21 @@ def pcapng(frame: bytes) -> bytes:
     )
 
 
+def sections(frame: bytes) -> bytes:
+    """Three frames in two sections. The first section has times in us, the other in ns."""
+    us = SECOND * 10**6
+    options = option(1, b"seen") + option(2, struct.pack(">I", 1))
+    options += option(4, struct.pack(">Q", 3)) + option(1, b"again") + option(0, b"")
+    return b"".join(
+        [
+            section() + interface(option(2, b"eth0")) + interface(option(2, b"eth1")),
+            packet(0, us, frame, options=options) + packet(1, us + 1000, frame),
+            section() + interface(option(9, b"\x09") + option(2, b"eth2")),
+            packet(0, (us + 2000) * 1000 + 7, frame),
+        ]
+    )
+
+
 def pcap(frame: bytes, link_type: int, caught: int) -> bytes:
     """Two frames with times in us, of the second only so many bytes."""
     head = struct.pack(">IHHIIII", 0xA1B2C3D4, 2, 4, 0, 0, 65535, link_type)
@@ -98,6 +116,10 @@ def main() -> None:
     folder, frame = sys.argv[1], bytes.fromhex(sys.argv[2])
     files = {
         "big.pcapng": pcapng(frame),
+        "sections.pcapng": sections(frame),
+        "long.pcapng": section()
+        + interface(option(2, b"<\x1b>" * 21_845))
+        + packet(0, SECOND * 10**6, frame),
         "big.pcap": pcap(frame, 1, len(frame)),
         "cut.pcap": pcap(frame, 1, 60),
         "wifi.pcap": pcap(frame, 105, len(frame)),

@@ -82,13 +82,16 @@ found_rows() { # WORDS : what the page says of them in its search field
 
 find_tests() {
     local rows port
-    rows=$(cat "$work/timelines"/{dropped,links,latency,frames,sides,skews}.csv | grep -c '^501,')
+    rows=$(cat "$work/timelines"/{dropped,links,latency,frames,sides,skews,troubles}.csv |
+        grep -c '^501,')
     tell 'the search field finds the rows of a link' "$(
         wants_text "$(found_rows 501)" "$rows rows" 'found'
     )"
     port=$(awk -F , '$3 == "wrong-port" {print $5; exit}' "$work/timelines/dropped.csv")
-    rows=$(awk -F , -v port="$port" '$3 == "wrong-port" && ($5 == port || $1 == port)' \
-        "$work/timelines/dropped.csv" | wc -l)
+    rows=$({
+        cut -d , -f 1,3,5 "$work/timelines/dropped.csv"
+        cut -d , -f 1,7,8 "$work/timelines/troubles.csv"
+    } | awk -F , -v port="$port" '$2 == "wrong-port" && ($3 == port || $1 == port)' | wc -l)
     tell 'and those of a wrong port' "$(
         if [[ $rows -eq 0 ]]; then echo 'there are none'; fi
         wants_text "$(found_rows "wrong-port $port")" "$rows rows" 'found'

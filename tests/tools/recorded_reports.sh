@@ -19,10 +19,13 @@ same_reports() { # NAME OTHER : both say the same, except of their files and of 
     "$python" - "$recorded/$1" "$recorded/$2" <<'END_OF_FILE'
 import json, pathlib, sys
 one, other = (json.loads((pathlib.Path(word) / "report.json").read_text()) for word in sys.argv[1:])
+shown = "frames", "early_frames", "troubles"
 for report in (one, other):
     report["totals"].pop("claimed")
     report["findings"] = [row for row in report["findings"] if row["criterion"] != "claimed"]
-for key in sorted({*one, *other} - {"run", "skipped"}):
+    for row in (row for name in shown for row in report.get(name, [])):
+        row.pop("interface", row.pop("stamp", None))
+for key in sorted({*one, *other} - {"run", "skipped", "where"}):
     if one.get(key) != other.get(key):
         print(f"{key}: {str(one.get(key))[:200]}, wanted {str(other.get(key))[:200]}")
 if not one["totals"]["frames"]:
@@ -46,7 +49,7 @@ for line, text in enumerate(pathlib.Path(sys.argv[3]).read_text().splitlines(), 
 def renamed(value, key=""):
     """The list's report, with the numbers of the recordings."""
     if isinstance(value, dict):
-        return {name: renamed(each, name) for name, each in value.items()}
+        return {n: renamed(v, n) for n, v in value.items() if n not in ("interface", "stamp")}
     if isinstance(value, list):
         return [renamed(each, key) for each in value]
     return numbers[value] if key == "line" or key.endswith("_line") else value
@@ -58,7 +61,9 @@ def sorted_rows(value):
 
 
 other = renamed(other)
-for key in sorted({*one, *other} - {"run", "skipped", "totals", "findings"}):
+numbers = {number: number for number in range(counts["A"] + counts["B"] + 1)} | {None: None}
+one = renamed(one)
+for key in sorted({*one, *other} - {"run", "skipped", "totals", "findings", "where"}):
     if sorted_rows(one.get(key)) != sorted_rows(other.get(key)):
         print(f"{key}: {str(one.get(key))[:300]}, wanted {str(other.get(key))[:300]}")
 claimed = {"claimed": one["totals"]["frames"]}
@@ -100,7 +105,7 @@ one_tests() {
             '" ".join(f"{word} {count}" for word, count in r["skipped"].items())' >"$work/got"
         same "$work/wanted" "$work/got"
         says out 'skipped     0 no-frame'
-        if ! grep -q 'Skipped of the recording: 0 no-frame' "$recorded/whole/report.html"; then
+        if ! grep -q 'Left out of the recording: nothing' "$recorded/whole/report.html"; then
             echo 'its page does not'
         fi
     )"

@@ -173,9 +173,9 @@ def pairs_of(run: Run) -> list[tuple[dict, dict]]:
     return pairs
 
 
-def compare_copies(run: Run, report: dict) -> None:
+def compare_copies(run: Run, report: dict, pairs: list[tuple[dict, dict]]) -> None:
     """Prints what differs of messages delivered twice and of the copies' distance."""
-    pairs, twice, apart = pairs_of(run), Counter(), defaultdict(list)
+    twice, apart = Counter(), defaultdict(list)
     for one, two in pairs:
         ports = [{port for line, port in run.read if line == f["line"]} for f in (one, two)]
         twice[one["link"]] += len(ports[0] & ports[1])
@@ -189,15 +189,17 @@ def compare_copies(run: Run, report: dict) -> None:
         print(f"medians {told}, wanted {wanted}")
 
 
-def compare_sides(run: Run, report: dict) -> None:
+def compare_sides(run: Run, report: dict, pairs: list[tuple[dict, dict]]) -> None:
     """Prints what differs of first numbers, and of frames that came alone, where no silence and no
     end of the run is near."""
+    shift = statistics.median([two["time"] - one["time"] for one, two in pairs] or [0])
+    most = max((abs(two["time"] - one["time"] - int(shift)) for one, two in pairs), default=0)
     for row in report["sides"]:
         mine = run.of(row["link"], row["side"])
         first = mine[0]["number"] if mine else None
         theirs = run.of(row["link"], "AB".replace(row["side"], ""))
         half = 127 * run.links[row["link"]]["bag_ms"] * MS
-        near = 1000 * run.links[row["link"]]["skew_us"]
+        near = min(1000 * run.links[row["link"]]["skew_us"], 2 * most + 100_000)
         alone = sum(
             frame["verdict"] == "accept"
             and run.begin + near < frame["time"] < run.end - near
@@ -235,8 +237,9 @@ def main() -> None:
     with open(report_path, encoding="utf-8") as file:
         report = json.load(file)
     compare_silences(run, report)
-    compare_copies(run, report)
-    compare_sides(run, report)
+    pairs = pairs_of(run)
+    compare_copies(run, report, pairs)
+    compare_sides(run, report, pairs)
     compare_dropped(run, report)
 
 

@@ -152,7 +152,7 @@ older_report_tests() {
     tell 'nothing of an older report stays beside a new one, and no link is followed' "$(
         is_status 0
         printf '%s\n' {arrivals,clocks,dropped,frames,latency,links,notes,ports}.csv \
-            report.{html,json} {sides,silences,skews}.csv >"$work/wanted"
+            report.{html,json} {sides,silences,skews,troubles}.csv >"$work/wanted"
         ls -A "$folder" >"$work/got"
         same "$work/wanted" "$work/got"
         find "$folder" ! -type f ! -type d

@@ -276,6 +276,11 @@ file_taps_tests() {
     tell 'a recording that is none' "$(
         disagrees 'taps.csv is no recording that has an interface'
     )"
+    gzip -c "$tapped/run.pcapng" >"$tapped/run.pcapng.gz"
+    taps run.pcapng.gz
+    tell 'a recording that is packed' "$(
+        disagrees 'run.pcapng.gz is a packed file: unpack it first'
+    )"
     launch tools/afdx-taps
     tell 'words that are missing, of afdx-taps' "$(
         is_status 2
@@ -283,8 +288,6 @@ file_taps_tests() {
     )"
     launch tools/afdx-taps --version
     tell 'no word where none was asked for' "$(is_status 0; grep refused "$work/out")"
-    launch env COLUMNS=80 tools/afdx-taps --help
-    tell 'the help of afdx-taps fits 80 columns' "$(is_status 0; grep -E '.{81}' "$work/out")"
 }
 
 reading_test() {
@@ -300,6 +303,7 @@ reading_test() {
 # The frames of these sides, at the interfaces where they came in. Those at port 11, all of another
 # system, are left out.
 annotated() { # NAME SIDES
+    rm -f "$tapped/$1.pcapng" # annotate replaces no recording that it didn't write
     grep "^[FBR] [0-9]* [$2] " examples/bench.list | grep -v ' A 11 ' >"$tapped/$1.list"
     capture annotate --no-admission examples/network.toml "$tapped/$1.list" "$tapped/$1.pcapng"
 }
@@ -336,6 +340,13 @@ option_tests() {
         is_status 0
         wants_number "$json" 'r["skipped"]["claimed"]' 0
     )"
+    {
+        cat "$tapped/A.pcapng"
+        printf '\1\0\0\0\x20\0\0\0\1\0\0\0\0\0\0\0\2\0\4\0mgmt\0\0\0\0\x20\0\0\0'
+    } >"$tapped/more.pcapng"
+    echo 'mgmt,,,none' >>"$tapped/bench.csv"
+    report_by "$tapped/more.pcapng" "$tapped/B.pcapng" --fail-on unused
+    tell 'an interface that one of two recordings has is no word for nothing' "$(is_status 0)"
     report_by "$tapped/B.pcapng" "$tapped/A.pcapng"
     tell 'recordings the other way round, in a report' "$(
         is_status 3

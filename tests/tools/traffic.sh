@@ -202,6 +202,4 @@ else
     traffic_fault_tests
     link_tests
     random_test
-    launch env COLUMNS=80 tools/afdx-traffic --help
-    tell 'the help of afdx-traffic fits 80 columns' "$(is_status 0; grep -E '.{81}' "$work/out")"
 fi

@@ -290,22 +290,23 @@ END_OF_FILE
         is_status 137
         says err 'signal 9 ended the program'
     )"
-    launch tools/afdx-capture annotate examples/base.toml examples/one_link.list "$work/one.pcapng"
+    launch tools/afdx-capture annotate examples/base.toml examples/one_link.list \
+        "$work/listed.pcapng"
     status=0
     tools/afdx-capture annotate examples/base.toml - - <examples/one_link.list >"$work/out" \
         2>"$work/err" || status=$?
     tell 'annotate from standard input to standard output' "$(
         is_status 0
-        same "$work/one.pcapng" "$work/out"
+        same "$work/listed.pcapng" "$work/out"
     )"
     launch timeout 20 tools/afdx-capture annotate <(cat examples/base.toml) \
         <(cat examples/one_link.list) "$work/piped.pcapng"
     tell 'annotate where both come by pipes' "$(
         is_status 0
-        same "$work/one.pcapng" "$work/piped.pcapng"
+        same "$work/listed.pcapng" "$work/piped.pcapng"
     )"
     launch tools/afdx-capture annotate - examples/one_link.list "$work/no.png"
-    tell 'annotate where the configuration is not there' "$(is_status 4; says err 'device Config')"
+    tell 'annotate where the configuration is not there' "$(is_status 4; says err './-: No such')"
 }
 
 if [[ -z $dpkt ]]; then

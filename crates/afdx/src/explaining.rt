@@ -199,7 +199,7 @@ fn tell_end(rt: &HostRuntime, config: &[u8]) {
 
 /// Where the table and the key of a fault of a configuration stand in it.
 fn tell_place(rt: &HostRuntime, line: &str, config: &[u8]) {
-    if let Ok(Some(text)) = place_in(rt.alloc(), line, config) {
+    if let Some(text) = place_in(rt.alloc(), line, config) {
         tell_text(rt, &text);
     }
 }

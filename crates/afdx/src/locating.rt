@@ -1,302 +1,144 @@
 //! Where in a configuration the table and the key of a fault stand.
 
-use crate::toml_pieces::{Kind, Piece, Pieces, without_quotes};
 use afdx_config::{Key, LINK_KEYS, PORT_KEYS, SYSTEM_KEYS, TOP_KEYS};
 use std::alloc::{AllocError, Global};
+use toml::{Table, Value};
+use toml_parser::text::{first, skip_blank, skip_ws};
+use toml_parser::{ParseError, dotted_key, quoted, starts_string, unquoted};
 
-// Each table has a function of its own, since a proof carries each letter of one that is named.
-
-fn top_keys() -> &'static [Key] {
-    &TOP_KEYS
-}
-
-fn system_keys() -> &'static [Key] {
-    &SYSTEM_KEYS
-}
-
-fn link_keys() -> &'static [Key] {
-    &LINK_KEYS
-}
-
-fn port_keys() -> &'static [Key] {
-    &PORT_KEYS
-}
-
-/// The keys of a part.
-fn keys_of(part: &str) -> &'static [Key] {
+/// The keys of a part, and those of them by which a person knows a table.
+fn keys_of(part: &str) -> (&'static [Key], &'static [&'static str]) {
     match part {
-        "system" => system_keys(),
-        "link" => link_keys(),
-        "port" => port_keys(),
-        _ => top_keys(),
+        "system" => (&SYSTEM_KEYS, &["name", "id"]),
+        "link" => (&LINK_KEYS, &["vl"]),
+        "port" => (&PORT_KEYS, &["system", "link", "udp"]),
+        _ => (&TOP_KEYS, &[]),
     }
 }
 
-/// By which keys a person knows a table of a part.
-fn marks_of(part: &str) -> &'static [&'static str] {
-    match part {
-        "system" => &["name", "id"],
-        "link" => &["vl"],
-        "port" => &["system", "link", "udp"],
-        _ => &[],
-    }
-}
-
-/// The most of these keys.
-const MOST_MARKS: usize = 3;
-
-/// The longest value of such a key that is shown, in bytes.
-const LONGEST_MARK: usize = 40;
-
-/// What a fault's line names: a part, the place of its table, and the number of its key, 0 for one
-/// that isn't known.
-#[derive(Clone, Copy)]
-struct Sought<'a> {
-    part: &'a str,
-    index: usize,
-    key: usize,
-}
-
-impl<'a> Sought<'a> {
-    /// What the line of a fault names, if that has a place.
-    fn of(line: &'a str) -> Option<Sought<'a>> {
-        let (_, rest) = line.strip_prefix("config ")?.split_once(' ')?;
-        let (part, rest) = rest.split_once(' ')?;
-        let (index, rest) = rest.split_once(' ')?;
-        let (_, key) = rest.split_once(' ')?;
-        Some(Sought {
-            part,
-            index: index.parse::<usize>().ok()?,
-            key: key.parse::<usize>().ok()?,
-        })
-    }
-
-    /// The name of its key, if that is known.
-    fn name(&self) -> Option<&'static str> {
-        let key = keys_of(self.part).get(self.key.checked_sub(1)?)?;
-        Some(key.0)
-    }
-
-    /// Whether a key of its table is the one.
-    fn is_key(&self, name: &[u8]) -> bool {
-        match self.name() {
-            Some(own) => name == own.as_bytes(),
-            None => !keys_of(self.part)
-                .iter()
-                .any(|key| name == key.0.as_bytes()),
-        }
-    }
-
-    /// Whether a table of this kind is one of its part.
-    fn is_part(&self, name: &[u8]) -> bool {
-        name == self.part.as_bytes()
-    }
-}
-
-/// Where the table and its key begin, the key's name, and the values by which a person knows the
-/// table.
-#[derive(Clone, Copy)]
-struct Found<'a> {
-    table: Option<u64>,
-    key: Option<(u64, &'a [u8])>,
-    marks: [Option<&'a [u8]>; MOST_MARKS],
-}
-
-/// A search through a configuration, piece by piece.
+/// A search through a text that is TOML, for a key, or for its table if the key isn't there.
 #[derive(Drop)]
 struct Search<'a> {
-    sought: Sought<'a>,
-    found: Found<'a>,
+    alloc: Global,
+    /// The part and the number of the table, which is 0 for the top, and the name of the key.
+    part: &'a str,
+    index: usize,
+    name: &'a str,
+    is_there: bool,
     /// How many tables of the part have begun.
     count: usize,
-    /// What comes stands in the table: below its head, or in its braces.
-    is_inside: bool,
-    /// No head of a table has come yet.
-    is_top: bool,
-    /// The value that comes is that of the part's own key at the top.
-    is_array: bool,
-    /// A head has begun, on this line, with so many brackets; its first word; it has a dot.
-    head: u8,
-    head_line: u64,
-    head_name: &'a [u8],
-    has_dot: bool,
-    /// How many brackets and braces of a value are open.
+    /// The number of the part's table to which the next key belongs, or none if it is another.
+    table: Option<usize>,
+    /// How many brackets of a value are open.
     depth: usize,
-    /// A key may come, or a head.
-    expects_key: bool,
-    /// The value that comes is that of this key by which a person knows the table.
-    mark: Option<usize>,
+    is_found: bool,
 }
 
 impl<'a> Search<'a> {
-    /// One that has seen nothing.
-    fn new(sought: Sought<'a>) -> Search<'a> {
-        Search {
-            sought,
-            found: Found {
-                table: None,
-                key: None,
-                marks: [None; MOST_MARKS],
-            },
-            count: 0,
-            is_inside: sought.part == "top",
-            is_top: true,
-            is_array: false,
-            head: 0,
-            head_line: 0,
-            head_name: b"",
-            has_dot: false,
-            depth: 0,
-            expects_key: true,
-            mark: None,
-        }
+    /// Whether this key of the top has the tables of the part.
+    fn is_part(&self, name: &str) -> bool {
+        self.index > 0 && name == self.part
     }
 
-    /// A table of the part begins: whether it is the one.
-    fn begin_table(&mut self, line: u64) -> bool {
+    /// The table of this number comes, or a key in it.
+    fn meet(&mut self, table: Option<usize>, key: Option<&str>) {
+        self.is_found |= table == Some(self.index) && key == self.is_there.then_some(self.name);
+    }
+
+    /// A table of the part begins.
+    fn begin_table(&mut self) {
         self.count = self.count.saturating_add(1);
-        let is_it = self.count == self.sought.index;
-        if is_it {
-            self.found.table = Some(line);
-        }
-        is_it
+        self.table = Some(self.count);
+        self.meet(self.table, None);
     }
 
-    /// A key of the table.
-    fn take_key(&mut self, name: &'a [u8], line: u64) {
-        if self.found.key.is_none() && self.sought.is_key(name) {
-            self.found.key = Some((line, name));
+    /// The head of a table of the part, of one that is a key of such a table, or of another.
+    fn take_head<'b>(&mut self, text: &'b str) -> Result<&'b str, ParseError> {
+        let (key, rest) = dotted_key(self.alloc, skip_ws(text.trim_start_matches('[')))?;
+        let name = key.path.first().unwrap_or(&key.last).as_str();
+        self.meet(Some(0), Some(name));
+        self.table = None;
+        if self.is_part(name) && key.path.is_empty() {
+            self.begin_table();
+        } else if self.is_part(name) {
+            let own = key.path.get(1).unwrap_or(&key.last).as_str();
+            self.meet(Some(self.count), Some(own));
         }
-        self.mark = marks_of(self.sought.part)
-            .iter()
-            .position(|mark| name == mark.as_bytes());
+        Ok(rest.trim_start_matches(']'))
     }
 
-    /// The end of a head.
-    fn end_head(&mut self) {
-        let (name, line) = (self.head_name, self.head_line);
-        if self.sought.part == "top" {
-            self.take_key(name, line);
+    /// A key, and its value or what opens it.
+    fn take_pair<'b>(&mut self, text: &'b str) -> Result<&'b str, ParseError> {
+        let (key, rest) = dotted_key(self.alloc, text)?;
+        let name = key.path.first().unwrap_or(&key.last).as_str();
+        self.meet(self.table, Some(name));
+        let value = skip_ws(rest.trim_start_matches('='));
+        if starts_string(value) {
+            return Ok(quoted(self.alloc, value)?.1);
         }
-        let is_table = self.head == 2 && !self.has_dot && self.sought.is_part(name);
-        self.is_inside = is_table && self.begin_table(line);
-        self.is_top = false;
-        self.head = 0;
-        self.head_name = b"";
-        self.has_dot = false;
-    }
-
-    /// The end of a line that isn't in brackets.
-    fn end_line(&mut self) {
-        if self.head > 0 {
-            self.end_head();
-        }
-        self.is_array = false;
-        self.expects_key = true;
-        self.mark = None;
-    }
-
-    /// A bracket or a brace that opens.
-    fn open(&mut self, kind: Kind, line: u64) {
-        self.mark = None;
-        if self.depth == 0 && self.expects_key {
-            self.head = self.head.saturating_add(1);
-            self.head_line = line;
-            return;
-        }
-        self.depth = self.depth.saturating_add(1);
-        if kind == Kind::Brace && self.depth == 2 && self.is_array {
-            self.is_inside = self.begin_table(line);
-            self.expects_key = true;
-        }
-    }
-
-    /// One that closes.
-    fn close(&mut self) {
-        self.depth = self.depth.saturating_sub(1);
-        if self.is_array && self.depth < 2 {
-            self.is_inside = false;
-        }
-    }
-
-    /// A part of a key, or of a value.
-    fn take_word(&mut self, word: &'a [u8], line: u64) {
-        let name = without_quotes(word);
-        if self.head > 0 {
-            if self.head_name.is_empty() {
-                self.head_name = name;
+        match value.strip_prefix(['[', '{']) {
+            Some(rest) if self.table == Some(0) && self.is_part(name) => Ok(rest),
+            Some(rest) => {
+                self.depth = 1;
+                Ok(rest)
             }
-        } else if self.expects_key {
-            if self.is_inside {
-                self.take_key(name, line);
-            }
-            if self.depth == 0 {
-                self.is_array = self.is_top && self.sought.is_part(name);
-            }
-        } else if let Some(mark) = self.mark {
-            if mark < MOST_MARKS {
-                self.found.marks[mark] = Some(name);
-            }
-            self.mark = None;
+            None => Ok(unquoted(self.alloc, value)?.1),
         }
-        self.expects_key = false;
     }
 
-    /// The next piece.
-    fn take(&mut self, piece: Piece<'a>) {
-        match piece.kind {
-            Kind::Blank | Kind::Equals => {}
-            Kind::Feed => {
-                if self.depth == 0 {
-                    self.end_line();
-                }
-            }
-            Kind::Bracket | Kind::Brace => self.open(piece.kind, piece.line),
-            Kind::Close => self.close(),
-            Kind::Comma => self.expects_key = self.depth == 2 && self.is_array,
-            Kind::Dot => {
-                self.has_dot = self.head > 0;
-                self.mark = None;
-            }
-            Kind::Word => self.take_word(piece.text, piece.line),
+    /// What stands behind the next head, key, text or sign.
+    fn take<'b>(&mut self, text: &'b str) -> Result<&'b str, ParseError> {
+        match first(text) {
+            b'"' | b'\'' if self.depth > 0 => return Ok(quoted(self.alloc, text)?.1),
+            b'[' | b'{' if self.depth > 0 => self.depth = self.depth.saturating_add(1),
+            b']' | b'}' if self.depth > 0 => self.depth -= 1,
+            _ if self.depth > 0 => {}
+            b'{' => self.begin_table(),
+            b'}' => self.table = Some(0),
+            b',' | b']' => {}
+            b'[' => return self.take_head(text),
+            _ => return self.take_pair(text),
         }
+        let mut rest = text.chars();
+        rest.next();
+        Ok(rest.as_str())
+    }
+
+    /// The number of the line on which it is found.
+    fn run(&mut self, text: &str) -> Option<usize> {
+        let mut rest = text.trim_start_matches('\u{feff}');
+        for _ in 0..text.len() {
+            rest = skip_blank(rest, true);
+            let place = text.len().saturating_sub(rest.len());
+            rest = self.take(rest).ok()?;
+            if self.is_found {
+                let before = &text.as_bytes()[..place];
+                let feeds = before.iter().filter(|byte| **byte == b'\n').count();
+                return Some(feeds.saturating_add(1));
+            }
+        }
+        None
     }
 }
 
-/// Where the table and the key stand in a text that is TOML.
-fn found_in<'a>(sought: Sought<'a>, config: &'a [u8]) -> Found<'a> {
-    let mut search = Search::new(sought);
-    let mut pieces = Pieces::new(config);
-    for _ in 0..config.len() {
-        let Some(piece) = pieces.next() else {
-            break;
-        };
-        search.take(piece);
-    }
-    search.end_line();
-    search.found
+/// Whether a text has at most 40 bytes, and a terminal can show it.
+fn is_shown(text: &str) -> bool {
+    !text.is_empty() && text.len() <= 40 && text.bytes().all(|byte| byte.is_ascii_graphic())
 }
 
-/// A value as it is shown, if it is short, and a terminal can show it.
-fn shown(value: &[u8]) -> Option<&str> {
-    if value.is_empty() || value.len() > LONGEST_MARK {
-        return None;
-    }
-    if !value.iter().all(|byte| byte.is_ascii_graphic()) {
-        return None;
-    }
-    std::str::from_utf8(value).ok()
-}
-
-/// Puts the table, and by which values a person knows it.
-fn put_table(text: &mut String, sought: &Sought<'_>, found: &Found<'_>) -> Result<(), AllocError> {
-    write!(text, "{} {}", sought.part, sought.index)?;
+/// Puts a table, and the values by which a person knows it.
+fn put_table(text: &mut String, search: &Search<'_>, row: &Table) -> Result<(), AllocError> {
+    write!(text, "{} {}", search.part, search.index)?;
     let mut before = " (";
-    for (name, value) in marks_of(sought.part).iter().zip(found.marks.iter()) {
-        if let Some(value) = value.and_then(shown) {
-            write!(text, "{before}{name} {value}")?;
-            before = ", ";
+    for mark in keys_of(search.part).1 {
+        match row.get(*mark) {
+            Some(Value::Integer(value)) => write!(text, "{before}{mark} {value}")?,
+            Some(Value::String(value)) if is_shown(value) => {
+                write!(text, "{before}{mark} {value}")?;
+            }
+            _ => continue,
         }
+        before = ", ";
     }
     if before == ", " {
         text.push(')')?;
@@ -304,32 +146,54 @@ fn put_table(text: &mut String, sought: &Sought<'_>, found: &Found<'_>) -> Resul
     Ok(())
 }
 
-/// The line of the configuration in which the key stands that a fault's line names, or its table;
-/// None where the fault has no place, or that isn't found.
-pub fn place_in(alloc: Global, line: &str, config: &[u8]) -> Result<Option<String>, AllocError> {
-    let Some(sought) = Sought::of(line) else {
-        return Ok(None);
-    };
-    let found = found_in(sought, config);
-    let mut text = String::new(alloc);
-    match (found.key, found.table) {
-        (Some((line, key)), table) => {
-            write!(text, "Line {line} of CONFIG: ")?;
-            text.push_str(shown(key).unwrap_or("the key"))?;
-            if table.is_some() {
-                text.push_str(" of ")?;
-                put_table(&mut text, &sought, &found)?;
-            }
-        }
-        (None, Some(line)) => {
-            write!(text, "Line {line} of CONFIG: ")?;
-            put_table(&mut text, &sought, &found)?;
-            if let Some(name) = sought.name() {
-                write!(text, ", without {name}")?;
-            }
-        }
-        (None, None) => return Ok(None),
+/// Puts what was found: the key and its table, or the table, which lacks the key.
+fn put_found(text: &mut String, search: &Search<'_>, row: &Table) -> Result<(), AllocError> {
+    let name = search.name;
+    if !search.is_there {
+        put_table(text, search, row)?;
+        return writeln!(text, ", without {name}.");
     }
-    text.push_str(".\n")?;
-    Ok(Some(text))
+    text.push_str(if is_shown(name) { name } else { "the key" })?;
+    if search.index > 0 {
+        text.push_str(" of ")?;
+        put_table(text, search, row)?;
+    }
+    text.push_str(".\n")
+}
+
+/// The line of the configuration in which the key stands that a fault's line names, or its table;
+/// None where the fault has no place, or there is no memory.
+pub fn place_in(alloc: Global, fault: &str, config: &[u8]) -> Option<String> {
+    let (_, place) = fault.strip_prefix("config ")?.split_once(' ')?;
+    let (part, place) = place.split_once(' ')?;
+    let (index, number) = place.split_once(" key ")?;
+    let (index, number) = (index.parse::<usize>().ok()?, number.parse::<usize>().ok()?);
+    let config = std::str::from_utf8(config).ok()?;
+    let tree = toml::table_from_str(alloc, config).ok()?;
+    let row = match index.checked_sub(1) {
+        Some(place) => tree.get(part)?.get(place)?.as_table()?,
+        None => &tree,
+    };
+    let keys = keys_of(part).0;
+    let is_unknown = |name: &&String| keys.iter().all(|key| key.0 != name.as_str());
+    let name = match number.checked_sub(1) {
+        Some(place) => keys.get(place)?.0,
+        None => row.keys().find(is_unknown)?.as_str(),
+    };
+    let mut search = Search {
+        alloc,
+        part,
+        index,
+        name,
+        is_there: row.contains_key(name),
+        count: 0,
+        table: Some(0),
+        depth: 0,
+        is_found: false,
+    };
+    let line = search.run(config)?;
+    let mut text = String::new(alloc);
+    write!(text, "Line {line} of CONFIG: ").ok()?;
+    put_found(&mut text, &search, row).ok()?;
+    Some(text)
 }

@@ -9,7 +9,6 @@ mod places;
 mod progress;
 mod running;
 mod telling;
-mod toml_pieces;
 
 use crate::configs::{check_config, solve_tables};
 use crate::explaining::{Cause, explain, is_asked, line_of, print_lists, print_meaning};

@@ -15,9 +15,9 @@ use Rattle.afdx_config.specs.Lawful.{IsLawful, IsSystem, IsLink}
 use Rattle.afdx_config.specs.Reading.{system_at_port}
 use Rattle.afdx_frame.specs.Flows.{Flow, is_class, of_class, burst, load, high_wait, low_wait}
 use Rattle.afdx_frame.specs.Flows.{high_load, IsPortAdmitted}
+use Rattle.afdx_frame.proofs.ListLemmas.{AllByRecursion-slice_get, slice_get-within}
 use Rattle.afdx_config.specs.Admission.{greatest_jitter}
 use Rattle.afdx_config.specs.Admission.{IsAdmitted, byte_ns, links_from, flows_to, sender_jitter}
-use Rattle.afdx_config.proofs.EachRowLemmas.{all_at}
 use Rattle.afdx_config.proofs.LookUpLemmas.{each_row-found}
 use Rattle.afdx_admit.specs.declared.fault.AdmitFault.{AdmitFault}
 use Rattle.afdx_admit.specs.declared.fault.AdmitFault.TheVariants.{Overload, Buffer, HighLatency}
@@ -30,7 +30,6 @@ use Rattle.afdx_admit.specs.Lines.{lines_of_link, jitter_at, high_line, low_line
 use Rattle.afdx_admit.proofs.FirstFalseLemmas.{first_false-skip, first_false-nil, first_false-append, le-true, true-le}
 use Rattle.afdx_admit.specs.Late.{class_line}
 use Rattle.afdx_admit.proofs.PortLemmas.{loaded_output_at-some, loaded_output_at-none, found_within}
-use Rattle.afdx_admit.proofs.TakenLemmas.{at_place}
 
 -- ---- lists of lines
 
@@ -201,7 +200,7 @@ module _ (t : Rows) (lawful : IsLawful t) where
       ap (λ o. first_false (option_map_or (output_lines t.buffer port) o []))
       (loaded_output_at-none t port e) ∙ first_false-nil
   admitted_port admitted port (Some place) e =
-      let s = at_place t.systems place (found_within t port place e) in
+      let s = slice_get-within t.systems place (found_within t port place e) in
       ap (λ o. first_false (option_map_or (output_lines t.buffer port) o []))
       (loaded_output_at-some t port place s.0 e s.1)
       ∙ admitted_output t.buffer port
@@ -250,7 +249,7 @@ module _ (t : Rows) (lawful : IsLawful t) where
       (each_from (link_lines t) 0 (length t.links)) front.1 in
       record {
         ports = λ i s at.
-            let row = all_at (IsSystem t.profile) t.systems i s lawful.systems.each at in
+            let row = AllByRecursion-slice_get (IsSystem t.profile) t.systems i s lawful.systems.each at in
             port_admitted i s at (each_holds (port_lines t) 1 24 front.0 s.port row.port.0 (omega (arith, row.port.1)));
         senders = λ i s at.
             let within = slice_get_within t.systems i s at in
@@ -275,12 +274,12 @@ module _ (t : Rows) (lawful : IsLawful t) where
       (holds_each (port_lines t) 1 24 (λ k low high. admitted_port admitted k (system_at_port t.systems k) refl))
       (holds_append (each_from (sender_lines t) 0 (length t.systems)) (each_from (link_lines t) 0 (length t.links))
       (holds_each (sender_lines t) 0 (length t.systems) (λ k low high.
-      let s = at_place t.systems k (omega (arith, high)) in
+      let s = slice_get-within t.systems k (omega (arith, high)) in
       holds_sender k (subst (λ n. n ≤ greatest_jitter) (sym (jitter_is k s.0 s.1)) (admitted.senders k s.0 s.1))))
       (holds_each (link_lines t) 0 (length t.links) (λ k low high.
-      let l = at_place t.links k (omega (arith, high)) in
-      let row = all_at (IsLink (length t.systems)) t.links k l.0 lawful.links.each l.1 in
-      let s = at_place t.systems l.0.from row.from in
+      let l = slice_get-within t.links k (omega (arith, high)) in
+      let row = AllByRecursion-slice_get (IsLink (length t.systems)) t.links k l.0 lawful.links.each l.1 in
+      let s = slice_get-within t.systems l.0.from row.from in
       holds_link k l.0 l.1 (subst (λ n. n ≤ 1000 * l.0.jitter_us) (sym (jitter_is l.0.from s.0 s.1))
       (admitted.jitters k l.0 s.0 l.1 s.1))
       (admitted.skews k l.0 l.1))))

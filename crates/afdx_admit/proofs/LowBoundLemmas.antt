@@ -5,7 +5,7 @@ use Rattle.std.specs.Int.{div_ceil}
 use Rattle.afdx_frame.specs.Regulation.{byte_units}
 use Rattle.afdx_config.specs.Lawful.{IsSystem}
 use Rattle.afdx_frame.specs.Flows.{low_wait, high_load}
-use Rattle.afdx_config.proofs.EachRowLemmas.{all_at}
+use Rattle.afdx_frame.proofs.ListLemmas.{AllByRecursion-slice_get}
 use Rattle.afdx_admit.specs.Lines.{loaded_output_to, low_bound_of}
 use Rattle.afdx_admit.specs.Laws.{LowBoundIsANumber}
 use Rattle.afdx_admit.proofs.OutputLemmas.{left_some_at, rates_some}
@@ -16,7 +16,7 @@ unfolding low_bound_of
 low_bound-number t lawful place s at fits f stands =
     let o = loaded_output_to t place s in
     let h = high_load o.byte_ns o.flows in
-    let row = all_at (IsSystem t.profile) t.systems place s lawful.systems.each at in
+    let row = AllByRecursion-slice_get (IsSystem t.profile) t.systems place s lawful.systems.each at in
     let rate = is_rate t.profile s.rate row.rate in
     let left = left_some_at o.byte_ns rate.fast o.flows f
     (rates_some (length t.systems) place t.links lawful.links.each) fits stands in

@@ -1,24 +1,14 @@
 -- How great bursts and loads can be.
-use Rattle.std.proofs.Common.{◌≡◌, ℕ, ◌+◌, ◌*◌, ◌/◌, ◌≤◌, Bool, true, false, ◌||◌, ◌==◌, List, []}
-use Rattle.std.proofs.Common.{◌∷◌, nat_eq, if◌then◌else◌, refl, ap, subst, arith}
+use Rattle.std.proofs.Common.{◌≡◌, ℕ, ◌+◌, ◌*◌, ◌/◌, ◌≤◌, Bool, true, false, ◌==◌, []}
+use Rattle.std.proofs.Common.{◌∷◌, if◌then◌else◌, refl, ap, arith}
 use Rattle.std.proofs.Math.Nat.{mul-le-mul_left}
-use Rattle.std.specs.List.{list_any, AllByRecursion}
 use Rattle.std.specs.Prelude.{IsTrue}
-use Rattle.std.proofs.lemmas.Bool.{eqb-true}
 use Rattle.afdx_frame.specs.Regulation.{gaps, is_bag, cap, fill_rate}
+use Rattle.afdx_frame.proofs.ListLemmas.{AllByRecursion-one_of}
 use Rattle.afdx_config.specs.Rows.{LinkRow}
 use Rattle.afdx_config.specs.Reading.{rates}
 use Rattle.afdx_config.specs.Lawful.{IsLink, IsOneOf}
 use Rattle.afdx_config.specs.Flows.{regulation_of_link}
-
--- what holds of each of some numbers holds of one of them
-one_of_each : (P : ℕ → Type 0) (n : ℕ) (ns : List ℕ) → AllByRecursion P ns → IsOneOf ns n → P n
-one_of_each P n [] h e = absurd cc
-one_of_each P n (m ∷ ns) h e = by (nat_eq m n) refl (one_of_each P n ns h.1) e
-  where
-    by : (b : Bool) → nat_eq m n ≡ b → (IsOneOf ns n → P n) → b || list_any (λ x. nat_eq x n) ns ≡ true → P n
-    by true same later e = subst P (eqb-true _ _ same) h.0
-    by false other later e = later e
 
 -- a gap, and how often 128 ms holds it
 pub record IsGap (b : ℕ) : Type 0 where
@@ -28,7 +18,7 @@ pub record IsGap (b : ℕ) : Type 0 where
   pub many : 128 / b ≤ 128
 
 pub is_gap : (b : ℕ) → IsTrue (is_bag b) → IsGap b
-is_gap b h = one_of_each IsGap b gaps (
+is_gap b h = AllByRecursion-one_of IsGap b gaps (
   record { whole = refl; some = omega arith; often = omega arith; many = omega arith },
   (
     record { whole = refl; some = omega arith; often = omega arith; many = omega arith },
@@ -61,14 +51,14 @@ pub is_rate : (profile r : ℕ) → IsOneOf (rates profile) r → IsRate r
 is_rate profile r h = by (profile == 2) h
   where
     by : (b : Bool) → IsOneOf (if b then 10 ∷ 100 ∷ 1000 ∷ [] else 10 ∷ 100 ∷ []) r → IsRate r
-    by true h = one_of_each IsRate r (10 ∷ 100 ∷ 1000 ∷ []) (
+    by true h = AllByRecursion-one_of IsRate r (10 ∷ 100 ∷ 1000 ∷ []) (
       record { some = omega arith; fast = omega arith; slow = omega arith },
       (
         record { some = omega arith; fast = omega arith; slow = omega arith },
         (record { some = omega arith; fast = omega arith; slow = omega arith }, tt),
       ),
     ) h
-    by false h = one_of_each IsRate r (10 ∷ 100 ∷ []) (
+    by false h = AllByRecursion-one_of IsRate r (10 ∷ 100 ∷ []) (
       record { some = omega arith; fast = omega arith; slow = omega arith },
       (record { some = omega arith; fast = omega arith; slow = omega arith }, tt),
     ) h

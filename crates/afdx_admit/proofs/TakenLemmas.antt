@@ -1,7 +1,7 @@
 -- The rows that pass a test, among one row more.
-use Rattle.std.proofs.Common.{◌≡◌, ℕ, zero, suc, ◌+◌, ◌<◌, Bool, true, false, cond, List, [], ◌∷◌}
-use Rattle.std.proofs.Common.{◌++◌, map, filter, take, slice_get, Some, length, refl, ap}
-use Rattle.std.proofs.Common.{◌∙◌, arith}
+use Rattle.std.proofs.Common.{◌≡◌, ℕ, ◌+◌, Bool, true, false, cond, List, [], ◌∷◌}
+use Rattle.std.proofs.Common.{◌++◌, map, filter, take, slice_get, Some, refl, ap}
+use Rattle.std.proofs.Common.{◌∙◌}
 use Rattle.std.proofs.lemmas.List.{append-nil}
 use Rattle.std.proofs.lemmas.Option.{get_or_from_slice_get, slice_get_within}
 use Rattle.std.proofs.lemmas.List.Elements.{filter_more}
@@ -40,9 +40,3 @@ pub without_flow_to : (links : List LinkRow) (i system : ℕ) (l : LinkRow)
     → slice_get links i ≡ Some l → is_to system l ≡ false →
     flows_to (take (i + 1) links) system ≡ flows_to (take i links) system
 without_flow_to links i system l at stays = ap (map flow_of_link) (without_row (is_to system) links i l at stays)
-
--- a row stands at each place within
-pub at_place : {R : Type 0} (rows : List R) (i : ℕ) → i < length rows → (r : R) × (slice_get rows i ≡ Some r)
-at_place [] i h = absurd (omega arith)
-at_place (r ∷ rs) zero h = (r, refl)
-at_place (r ∷ rs) (suc i) h = at_place rs i (omega (arith, h))

@@ -14,7 +14,7 @@ use crate::fault::AdmitFault;
 use crate::lines::{GREATEST_JITTER, is_late, sender_jitters};
 use crate::sums::{link_at, sums_to};
 use afdx_config::{SystemId, Tables};
-use afdx_frame::{BYTE_UNITS, LAST_PORT, Priority, VlId};
+use afdx_frame::{BYTE_UNITS, LAST_PORT, Priority, VlId, port_at};
 use std::alloc::{AllocError, Global};
 
 /// Adds the fault of a line, if it is false.
@@ -130,9 +130,8 @@ fn add_ports(found: &mut Vec<AdmitFault>, tables: &Tables) -> Result<(), AllocEr
     ensures { OnOk result (found.new.items ≡ found.old.items ++ spec.false_lines
         (spec.each_from (spec.port_lines tables.now) 1 last_port)) }
 {
-    for count in 0..LAST_PORT {
-        let port = count + 1;
-        add_port(found, tables, port)?;
+    for place in 0..LAST_PORT {
+        add_port(found, tables, port_at(place))?;
     }
     Ok(())
 }

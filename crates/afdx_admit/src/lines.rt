@@ -16,7 +16,7 @@ ghost use Rattle.afdx_admit.specs.Known.{IsKnown};
 use crate::fault::AdmitFault;
 use crate::sums::{link_at, sums_to, wire_size};
 use afdx_config::{Link, SystemId, Tables};
-use afdx_frame::{BYTE_UNITS, LAST_PORT, Priority, VlId};
+use afdx_frame::{BYTE_UNITS, LAST_PORT, PORT_COUNT, Priority, VlId};
 
 /// The jitter that each system has of its own, in ns (ARINC 664 Part 7).
 const FIXED_JITTER: u64 = 40_000;
@@ -130,11 +130,11 @@ fn sender_jitter(tables: &Tables, id: SystemId) -> u64
 }
 
 /// The jitters at the outputs of all systems, by their places, in ns.
-pub fn sender_jitters(tables: &Tables) -> [u64; 24]
+pub fn sender_jitters(tables: &Tables) -> [u64; PORT_COUNT]
     ensures jitters { AreJitters tables.now result }
     ensures lawful { IsLawful tables.now }
 {
-    let mut jitters = [0; 24];
+    let mut jitters = [0; PORT_COUNT];
     let count = tables.system_count();
     for i in 0..count {
         jitters[i] = sender_jitter(tables, SystemId(i as u8));

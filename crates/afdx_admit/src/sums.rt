@@ -11,7 +11,7 @@ ghost use Rattle.afdx_admit.specs.Sums.{CanSend, IsSums, IsSmall, AreSumsTo, gre
 ghost use Rattle.afdx_admit.specs.Sums.{greatest_load};
 
 use afdx_config::{Link, SystemId, Tables};
-use afdx_frame::{BYTE_UNITS, Priority, WIRE_EXTRA};
+use afdx_frame::{BYTE_UNITS, LONGEST_GAP_MS, Priority, WIRE_EXTRA};
 
 /// Bursts in units of a byte over `BYTE_UNITS`, loads in such units for the time of a byte.
 #[derive(Clone, Copy)]
@@ -141,7 +141,9 @@ fn burst_of(link: &Link) -> u64
     ensures burst { result ≡ cap (regulation_of_link (link_row link.now)) }
     ensures small { result ≤ greatest_burst }
 {
-    wire_size(link) * (128 / link.bag_ms) * (1_000_000 * link.bag_ms + 1000 * link.jitter_us)
+    wire_size(link)
+        * (LONGEST_GAP_MS / link.bag_ms)
+        * (1_000_000 * link.bag_ms + 1000 * link.jitter_us)
 }
 
 /// What a link may send in the time of a byte.
@@ -151,7 +153,7 @@ fn load_of(byte_ns: u64, link: &Link) -> u64
     ensures load { result ≡ fill_rate (regulation_of_link (link_row link.now)) * byte_ns }
     ensures small { result ≤ greatest_load }
 {
-    wire_size(link) * (128 / link.bag_ms) * byte_ns
+    wire_size(link) * (LONGEST_GAP_MS / link.bag_ms) * byte_ns
 }
 
 /// The link at a place.

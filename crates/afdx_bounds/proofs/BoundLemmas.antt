@@ -6,10 +6,10 @@ use Rattle.std.proofs.Math.Nat.{mul-le-mul_left}
 use Rattle.std.proofs.lemmas.Option.{slice_get_within}
 use Rattle.afdx_frame.specs.declared.link.Priority.TheVariants.{High, Low}
 use Rattle.afdx_frame.specs.Regulation.{byte_units}
+use Rattle.afdx_frame.proofs.ListLemmas.{slice_get-push_before, slice_get-push_last}
 use Rattle.afdx_port.specs.Schedule.{Entry, Turn, has_turn, end_of, IsWithoutTurn, IsNext, AreTurns}
 use Rattle.afdx_port.specs.Schedule.{bytes_without_turn, waiting_bytes}
 use Rattle.afdx_port.specs.ScheduleOf.{AreInOrder}
-use Rattle.afdx_port.proofs.TurnLemmas.{get_longer, get_last}
 use Rattle.afdx_bounds.specs.CurveLaws.{WaitingIsBounded, HighIsBounded, LowIsBounded}
 use Rattle.afdx_bounds.specs.Curve.{Curve, KeepsCurve, wire_in, wire_between, left_over}
 use Rattle.afdx_bounds.proofs.RateLemmas.{few, soon-high, soon-low}
@@ -24,8 +24,8 @@ module _ {X : Type 0} where
   few_wait byte_ns high low entries turns new some rates order highs lows schedule =
       let come : (i : ℕ) (e : Entry X) → slice_get entries i ≡ Some e → e.time ≤ new.time
       = λ i e g. order i (length entries) e new
-      (let within = slice_get_within entries i e g in omega arith) (get_longer entries new i e g)
-      (get_last entries new) in
+      (let within = slice_get_within entries i e g in omega arith) (slice_get-push_before entries new i e g)
+      (slice_get-push_last entries new) in
       let weight : Entry X → ℕ = λ e. wire_in High 0 new.time e + wire_in Low 0 new.time e in
       let full : (i : ℕ) (e : Entry X) → slice_get entries i ≡ Some e → weight e ≡ e.bytes + 20
       = λ i e g. both_full 0 new.time new.time e (omega arith) (λ c. come i e g) (λ c. come i e g) in

@@ -8,9 +8,10 @@ use Rattle.std.proofs.lemmas.List.{reverse-append}
 use Rattle.std.proofs.lemmas.List.Elements.{All-push}
 use Rattle.afdx_frame.specs.Regulation.{Regulation}
 use Rattle.afdx_frame.specs.Flows.{Flow}
+use Rattle.afdx_frame.proofs.ListLemmas.{slice_get-push_before, slice_get-push_cases}
 use Rattle.afdx_port.specs.Schedule.{Entry, waiting_bytes}
 use Rattle.afdx_port.specs.ScheduleOf.{AreInOrder, schedule_of}
-use Rattle.afdx_port.proofs.TurnLemmas.{get_either, get_longer, nat_lt-false}
+use Rattle.afdx_port.proofs.TurnLemmas.{nat_lt-false}
 use Rattle.afdx_port.proofs.ScheduleLemmas.{schedule_of_is}
 use Rattle.afdx_police.specs.Laws.{EachAccountMoves}
 use Rattle.afdx_police.specs.Window.{Charged, fits, accepted_of}
@@ -65,13 +66,13 @@ module _ {X : Type 0} where
   pub order-push : (entries : List (Entry X)) (new : Entry X) → AreInOrder entries →
       All (λ e. e.time ≤ new.time) entries → AreInOrder (entries ++ new ∷ [])
   order-push entries new order come i j d e le g k =
-      elim (get_either entries new j e k) [
-        | inl old-j ↦ elim (get_either entries new i d g) [
+      elim (slice_get-push_cases entries new j e k) [
+        | inl old-j ↦ elim (slice_get-push_cases entries new i d g) [
           | inl old-i ↦ order i j d e le old-i old-j
           | inr new-i ↦ absurd (let within = slice_get_within entries j e old-j in omega (arith, new-i.0, le, within))
         ]
         | inr new-j ↦ (let late : e.time ≡ new.time = ap (λ z. z.time) new-j.1 in
-            elim (get_either entries new i d g) [
+            elim (slice_get-push_cases entries new i d g) [
               | inl old-i ↦ (let came = get_all (λ z. z.time ≤ new.time) entries i d come old-i in
                   omega (arith, came, late))
               | inr new-i ↦ (let same : d.time ≡ new.time = ap (λ z. z.time) new-i.1 in omega (arith, same, late))
@@ -132,12 +133,12 @@ module _ {X : Type 0} where
     line = regulated.line;
     flows_are = regulated.flows_are;
     admitted = regulated.admitted;
-    in_order = λ i j d e le g k. regulated.in_order i j d e le (get_longer entries last i d g)
-        (get_longer entries last j e k);
+    in_order = λ i j d e le g k. regulated.in_order i j d e le (slice_get-push_before entries last i d g)
+        (slice_get-push_before entries last j e k);
     policed = record {
       charged = all_get (λ e. IsCharged vl_of charge_of flows e) entries
           (λ i e g. get_all (λ d. IsCharged vl_of charge_of flows d) (entries ++ last ∷ []) i e
-          regulated.policed.charged (get_longer entries last i e g));
+          regulated.policed.charged (slice_get-push_before entries last i e g));
       accepted = λ f k. (let own = regulated.policed.accepted f k in
           let push = charged-push vl_of charge_of f.vl entries last in
           elim (cases_Bool (vl_of last.item == f.vl)) [

@@ -1,16 +1,17 @@
 -- The ports of admitted tables.
 use Rattle.std.proofs.Common.{◌≡◌, ℕ, ◌+◌, ◌*◌, ◌/◌, ◌<◌, ◌≤◌, ◌==◌, Bool, true, false, ◌||◌, List}
-use Rattle.std.proofs.Common.{[], ◌∷◌, length, map, filter, Some, inl, inr, refl, sym, ap}
+use Rattle.std.proofs.Common.{[], ◌∷◌, length, map, Some, inl, inr, refl, sym, ap}
 use Rattle.std.proofs.Common.{subst, arith, ◌∙◌, suc, zero, if◌then◌else◌}
 use Rattle.std.specs.Prelude.{All, Contains, IsTrue, nat_eq, slice_index_or, sum_by, Option, None}
 use Rattle.std.specs.Option.{option_map_or}
-use Rattle.std.specs.List.{slice_get, AllByRecursion}
+use Rattle.std.specs.List.{slice_get}
 use Rattle.std.proofs.lemmas.Bool.{cases_Bool, eqb-true}
 use Rattle.std.proofs.lemmas.List.Sums.{sum_by-cons}
 use Rattle.std.proofs.lemmas.Option.{slice_get_cases}
 use Rattle.afdx_frame.specs.declared.link.Priority.{Priority}
 use Rattle.afdx_frame.specs.declared.link.Side.{Side}
 use Rattle.afdx_frame.specs.Flows.{IsPortAdmitted}
+use Rattle.afdx_frame.proofs.ListLemmas.{AllByRecursion-slice_get, slice_get-filter}
 use Rattle.afdx_config.specs.Admission.{IsServing, byte_ns, flows_to, links_from}
 use Rattle.afdx_config.specs.Flows.{flow_of_link}
 use Rattle.afdx_config.specs.Lawful.{IsLawfulUpTo, IsOneOf, IsLink, IsLinkUpTo, IsSystem, AreDistinct}
@@ -52,18 +53,12 @@ some-time n (inl is) = omega (arith, is)
 some-time n (inr (inl is)) = omega (arith, is)
 some-time n (inr (inr is)) = omega (arith, is)
 
-pub each-at : {Y : Type 0} (P : Y → Type 0) (xs : List Y) (i : ℕ) (y : Y) → AllByRecursion P xs →
-    slice_get xs i ≡ Some y → P y
-each-at P [] i y h at = absurd (cc at)
-each-at P (x ∷ xs) zero y h at = let same : x ≡ y = cc at in subst P same h.0
-each-at P (x ∷ xs) (suc i) y h at = each-at P xs i y h.1 at
-
 -- so it does on the line of each system
 pub system-time : {greatest_jitter : ℕ → ℕ} (t : Rows) (i : ℕ) (s : SystemRow)
     → IsLawfulUpTo greatest_jitter t → slice_get t.systems i ≡ Some s
     → IsByteTime (byte_ns s)
 system-time t i s lawful at =
-    line-time t.profile s (each-at (IsSystem t.profile) t.systems i s lawful.systems.each at)
+    line-time t.profile s (AllByRecursion-slice_get (IsSystem t.profile) t.systems i s lawful.systems.each at)
 
 -- what is the byte time of each row at this place, where one stands
 pub line-at : {greatest_jitter : ℕ → ℕ} (t : Rows) (i n : ℕ) → IsLawfulUpTo greatest_jitter t → i < length t.systems
@@ -110,22 +105,6 @@ all-mapped P f [] h k d lt = absurd (omega (arith, lt))
 all-mapped P f (x ∷ xs) h zero d lt = h 0 x refl
 all-mapped P f (x ∷ xs) h (suc k) d lt = all-mapped P f xs (λ i y at. h (suc i) y at) k d (omega (arith, lt))
 
--- an element of a filtered list stands in the list
-filtered : {Y : Type 0} (p : Y → Bool) (xs : List Y) (i : ℕ) (y : Y) → slice_get (filter p xs) i ≡ Some y →
-    (j : ℕ) × (slice_get xs j ≡ Some y)
-filtered p [] i y at = absurd (cc at)
-filtered p (x ∷ xs) i y at =
-    elim (cases_Bool (p x)) [
-      | inr out ↦ (let rest = filtered p xs i y (rw out at at) in (suc rest.0, rest.1))
-      | inl kept ↦ by_place i (rw kept at at) (λ k h. filtered p xs k y h)
-    ]
-  where
-    by_place : (k : ℕ) → slice_get (x ∷ filter p xs) k ≡ Some y →
-        ((n : ℕ) → slice_get (filter p xs) n ≡ Some y → (j : ℕ) × (slice_get xs j ≡ Some y)) →
-        (j : ℕ) × (slice_get (x ∷ xs) j ≡ Some y)
-    by_place zero h rest = (0, h)
-    by_place (suc k) h rest = let r = rest k h in (suc r.0, r.1)
-
 -- two links of one identifier are one
 one-link : (links : List LinkRow) (i j : ℕ) (k l : LinkRow) → AreDistinct (λ m. m.vl) links →
     slice_get links i ≡ Some k → slice_get links j ≡ Some l → k.vl ≡ l.vl → k ≡ l
@@ -139,7 +118,7 @@ pub rows-are : {greatest_jitter : ℕ → ℕ} (t : Rows) → IsLawfulUpTo great
 unfolding rows_of rule_of
 rows-are {greatest_jitter} t lawful = record {
   gaps = all-mapped (λ r. IsTrue (is_bag r.rule.bag_ms)) (row_of t) t.links
-      (λ i l at. (each-at (IsLinkUpTo greatest_jitter (length t.systems)) t.links i l lawful.links.each at).bag_ms);
+      (λ i l at. (AllByRecursion-slice_get (IsLinkUpTo greatest_jitter (length t.systems)) t.links i l lawful.links.each at).bag_ms);
   distinct = λ r s k l same. (let a = mapped (row_of t) t.links r k in
       let b = mapped (row_of t) t.links s l in
       let vls : a.own.vl ≡ b.own.vl = ap (λ z. z.rule.vl) a.is ∙ same ∙ sym (ap (λ z. z.rule.vl) b.is) in
@@ -219,12 +198,12 @@ system-sender t class system s lawful admitted at =
       line = some-time (byte_ns s) (system-time t system s lawful at);
       flows_are = record {
         gaps = all-mapped (λ f. IsTrue (is_bag f.link.bag_ms)) (sent_flow (byte_ns s) class own) own (λ i l k.
-            let in-links = filtered (λ m. nat_eq m.from system) t.links i l k in
-            (each-at (IsLink (length t.systems)) t.links in-links.0 l lawful.links.each in-links.1).bag_ms);
+            let in-links = slice_get-filter (λ m. nat_eq m.from system) t.links i l k in
+            (AllByRecursion-slice_get (IsLink (length t.systems)) t.links in-links.0 l lawful.links.each in-links.1).bag_ms);
         distinct = λ f g k l same. (let a = mapped (sent_flow (byte_ns s) class own) own f k in
             let b = mapped (sent_flow (byte_ns s) class own) own g l in
-            let a-in = filtered (λ m. nat_eq m.from system) t.links a.place a.own a.stands in
-            let b-in = filtered (λ m. nat_eq m.from system) t.links b.place b.own b.stands in
+            let a-in = slice_get-filter (λ m. nat_eq m.from system) t.links a.place a.own a.stands in
+            let b-in = slice_get-filter (λ m. nat_eq m.from system) t.links b.place b.own b.stands in
             let vls : a.own.vl ≡ b.own.vl = ap (λ z. z.vl) a.is ∙ same ∙ sym (ap (λ z. z.vl) b.is) in
             sym a.is ∙ ap (λ z. sent_flow (byte_ns s) class own z)
             (one-link t.links a-in.0 b-in.0 a.own b.own lawful.links.identifiers a-in.1 b-in.1 vls) ∙ b.is);

@@ -118,7 +118,7 @@ brought-by side to byte_ns entries [] t are over = tt
 brought-by side to byte_ns entries (s ∷ earlier) t are over =
     by s.too_old (brought-by side to byte_ns entries earlier t are.1
     (let after = are.0.after in let ends = ends_after byte_ns entries earlier s are.0 in
-        omega (arith, after, ends, over)))
+    omega (arith, after, ends, over)))
   where
     by : (b : Bool) → AllByRecursion (λ x. x.time ≤ t) (brought_by side to earlier)
         → AllByRecursion (λ x. x.time ≤ t) (map (brought side to) (if not b then s ∷ slots earlier else slots earlier))

@@ -41,7 +41,7 @@ use Rattle.afdx_cascade.proofs.WayLemmas.{all-accepted}
 
 -- ---- the tables of the first switch
 
-lawful-before : IsLawfulSwitch tables → IsLawfulSwitch tables_before
+pub lawful-before : IsLawfulSwitch tables → IsLawfulSwitch tables_before
 unfolding is_name are_apart reading.goes_to
 lawful-before is = record {
   profile = is.profile;
@@ -99,7 +99,7 @@ port-admitted = record {
   low_in_time = base.all-one LowLine (flow_of_link link_before) (λ low. absurd (cc low));
 }
 
-admitted-before : IsServing tables_before
+pub admitted-before : IsServing tables_before
 admitted-before = record {
   ports = base.two-at (λ i (s : SystemRow). IsPortAdmitted (byte_ns s) 126 (flows_to (link_before ∷ []) i))
       sender receiver base.none-there port-admitted;
@@ -125,7 +125,7 @@ own-one : BuiltIsComputed → at_port (rule_at first_switch) (own 1 A one) ≡ o
 unfolding rule_of port_of
 own-one computed = rw (base.first-named computed A) refl
 
-accepted-first : BuiltIsComputed → accepted_at first_switch A ≡ one
+pub accepted-first : BuiltIsComputed → accepted_at first_switch A ≡ one
 unfolding rule_of port_of
 accepted-first computed =
     let long = (base.first-is computed A).long in

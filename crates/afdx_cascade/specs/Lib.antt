@@ -1,3 +1,14 @@
 pub mod Cables
 pub mod Ways
 pub mod Examples
+pub mod SwitchEvents
+pub mod Once
+pub mod Runs
+pub mod Again
+pub mod Scan
+pub mod Due
+pub mod Found
+pub mod Standing
+pub mod Turning
+pub mod Keeping
+pub mod TwoHops

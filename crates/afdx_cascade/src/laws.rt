@@ -1,10 +1,22 @@
-//! What several switches promise that are joined by cables and whose tables are all admitted.
+//! What is true of several switches that are joined by cables: of a link along its way where the
+//! tables of all are admitted, and of all events of a cascade.
 
 ghost use Rattle.afdx_cascade.specs.Cables.{FirstFramesLeave, AllFramesLeave};
 ghost use Rattle.afdx_cascade.specs.Cables.{CablesBringInOrder, AcceptedIsAcceptedAgain};
 ghost use Rattle.afdx_cascade.specs.Ways.{FirstAreAccepted, FirstLeave};
 ghost use Rattle.afdx_cascade.specs.Ways.{AllAreAccepted, AllLeave, FramesAreAlone};
 ghost use Rattle.afdx_cascade.specs.Examples.{PremisesAreMet};
+ghost use Rattle.afdx_cascade.specs.Once.{AcceptsAtMostListed, AcceptsLineOnce, EventsAreFew};
+ghost use Rattle.afdx_cascade.specs.Runs.{EventsBegin, EventsAreOne};
+ghost use Rattle.afdx_cascade.specs.Again.{BroughtIsAccepted};
+ghost use Rattle.afdx_cascade.specs.Due.{TurnComesNext, FrameComesNext};
+ghost use Rattle.afdx_cascade.specs.Found.{ScanFindsLeast, NothingIsDue};
+ghost use Rattle.afdx_cascade.specs.Standing.{NothingHappened, LineArrives, FrameArrives};
+ghost use Rattle.afdx_cascade.specs.Standing.{TurnEnds, FrameIsCarried};
+ghost use Rattle.afdx_cascade.specs.TwoHops.{FramePassesBoth};
+ghost use Rattle.afdx_cascade.specs.Keeping.{StartKeeps, TurnKeeps};
+ghost use Rattle.afdx_cascade.specs.Keeping.{FrontCanArrive, FrontKeeps, LineKeeps};
+ghost use Rattle.afdx_cascade.specs.Standing.{SlotJoinsBehind, TurnStaysBehind, ArrivalStaysBehind};
 
 use afdx_frame::laws::built_is_computed;
 
@@ -41,6 +53,86 @@ pub fn frames_are_alone()
 /// a frame that passes both.
 pub fn premises_are_met()
     ensures { PremisesAreMet }
+{
+    built_is_computed()
+}
+
+/// On a side each switch accepts, of any frames, at most as many as the list has there. So it
+/// accepts a line's frame at most once, and there are few events for each line.
+pub fn accepted_at_most_listed()
+    ensures any { AcceptsAtMostListed }
+    ensures line { AcceptsLineOnce }
+    ensures few { EventsAreFew }
+{}
+
+/// A list of frames has one list of events: after some events and with what is left of the list,
+/// one event comes next.
+pub fn events_are_one()
+    ensures begin { EventsBegin }
+    ensures one { EventsAreOne }
+{}
+
+/// Of the events of a cascade too: what an admitted switch accepted of a link, and a cable brings
+/// to an admitted switch, is accepted there.
+pub fn brought_is_accepted()
+    ensures { BroughtIsAccepted }
+{}
+
+/// What comes next is found by one number of each side's switch, and by a ring of what cables carry
+/// now.
+pub fn next_is_found()
+    ensures turn { TurnComesNext }
+    ensures frame { FrameComesNext }
+{}
+
+/// The scan of all switches finds the least of these numbers. If that is the number of no turn, and
+/// the ring is empty, these were all events.
+pub fn scan_finds_least()
+    ensures least { ScanFindsLeast }
+    ensures end { NothingIsDue }
+{}
+
+/// Networks, one for each switch, and a ring that stand for the events so far stand for one event
+/// more, once one network has taken it in: a frame that arrives, of the list or of a cable, or a
+/// turn that is over. New ones stand for no events.
+pub fn stand_for_more()
+    ensures first { NothingHappened }
+    ensures line { LineArrives }
+    ensures frame { FrameArrives }
+    ensures turn { TurnEnds }
+    ensures carried { FrameIsCarried }
+{}
+
+/// Through each event the ring stays in the order in which its frames arrive.
+pub fn ring_stays_in_order()
+    ensures joins { SlotJoinsBehind }
+    ensures turn { TurnStaysBehind }
+    ensures arrival { ArrivalStaysBehind }
+{}
+
+/// New networks and an empty ring keep to no events.
+pub fn nothing_has_happened()
+    ensures { StartKeeps }
+{}
+
+/// A turn is over. If it is the one that the scan finds, it is the next event, and networks and
+/// ring keep to one event more.
+pub fn turns_go_on()
+    ensures { TurnKeeps }
+{}
+
+/// A frame arrives, from the front of the ring or of the list: it is the next event, and networks
+/// and ring keep to one event more.
+pub fn arrivals_go_on()
+    ensures can { FrontCanArrive }
+    ensures front { FrontKeeps }
+    ensures line { LineKeeps }
+{}
+
+/// The premises of the laws of events can be met: by a list whose one frame passes two switches, in
+/// four events.
+pub fn events_can_be_met()
+    ensures { FramePassesBoth }
 {
     built_is_computed()
 }

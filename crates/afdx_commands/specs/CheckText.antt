@@ -103,43 +103,42 @@ pub record BeginsCheck (text : Rows → List ℕ) (config : List ℕ) (old new :
 
 -- how the command ends, by what its output and its error output were and are
 module _ {O E : Type 0} (text : Rows → List ℕ) (bytes : O → Option (List ℕ))
-    (error_bytes : E → Option (List ℕ)) (config : List ℕ)
-    (old new : Watched O) (old_errors new_errors : Watched E) where
+    (error_bytes : E → Option (List ℕ)) (config : List ℕ) (old new : Watched O × Watched E) where
   -- the configuration is read, its tables are admitted, and that is written
   pub record IsChecked : Type 0 where
     pub tables : Rows
-    pub writes : WritesCheck text config (bytes (device_of old)) (bytes (device_of new)) tables
+    pub writes : WritesCheck text config (bytes (device_of old.0)) (bytes (device_of new.0)) tables
     pub admitted : IsAdmitted tables
-    pub told : new_errors ≡ old_errors
+    pub told : new.1 ≡ old.1
 
   -- it is read, its tables are not admitted, and that is written
   pub record IsDenied : Type 0 where
     pub tables : Rows
-    pub writes : WritesCheck text config (bytes (device_of old)) (bytes (device_of new)) tables
+    pub writes : WritesCheck text config (bytes (device_of old.0)) (bytes (device_of new.0)) tables
     pub denied : IsAdmitted tables → ⊥
-    pub told : new_errors ≡ old_errors
+    pub told : new.1 ≡ old.1
 
   -- it has a fault, and nothing is written
   pub record IsFaulty : Type 0 where
-    pub refuses : RefusesConfig error_bytes old_errors new_errors config 1
-    pub written : new ≡ old
+    pub refuses : RefusesConfig error_bytes old.1 new.1 config 1
+    pub written : new.0 ≡ old.0
 
   -- the output failed, and a beginning of the text is written
   pub record IsCut : Type 0 where
-    pub failed : has_failed new ≡ true
+    pub failed : has_failed new.0 ≡ true
     pub tables : Rows
-    pub begins : BeginsCheck text config (bytes (device_of old)) (bytes (device_of new)) tables
-    pub told : TellsLine error_bytes old_errors new_errors
+    pub begins : BeginsCheck text config (bytes (device_of old.0)) (bytes (device_of new.0)) tables
+    pub told : TellsLine error_bytes old.1 new.1
 
   -- memory was refused, and nothing is written
   pub record IsUnchecked : Type 0 where
-    pub wants : WantsMemory error_bytes old_errors new_errors 4
-    pub written : new ≡ old
+    pub wants : WantsMemory error_bytes old.1 new.1 4
+    pub written : new.0 ≡ old.0
 
   -- and by its exit status
   pub record Checks (status : ℕ) : Type 0 where
     pub statuses : (status ≡ 0) ⊎ (status ≡ 1) ⊎ (status ≡ 4)
-    pub device : has_failed new ≡ true → status ≡ 4
+    pub device : has_failed new.0 ≡ true → status ≡ 4
     pub checked : status ≡ 0 → IsChecked
     pub refused : status ≡ 1 → IsDenied ⊎ IsFaulty
     pub stopped : status ≡ 4 → IsCut ⊎ IsUnchecked

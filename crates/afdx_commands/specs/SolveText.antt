@@ -107,48 +107,39 @@ pub record IsDenial (o : SolveOptions) (config text : List ℕ) : Type 0 where
 
 -- how the command ends, by what its output and its error output were and are
 module _ {O E : Type 0} (o : SolveOptions) (bytes : O → Option (List ℕ))
-    (error_bytes : E → Option (List ℕ)) (config : List ℕ)
-    (old new : Watched O) (old_errors new_errors : Watched E) where
+    (error_bytes : E → Option (List ℕ)) (config : List ℕ) (old new : Watched O × Watched E) where
   -- the solution is written, and its needs are told
   pub record IsSolved : Type 0 where
     pub text : List ℕ
     pub needs : List ℕ
     pub solution : IsSolution o config text needs
-    pub written : Appends (bytes (device_of old)) (bytes (device_of new)) text
-    pub told : Tells error_bytes old_errors new_errors needs
+    pub written : Appends (bytes (device_of old.0)) (bytes (device_of new.0)) text
+    pub told : Tells error_bytes old.1 new.1 needs
 
   -- there is none, and the line that says so is written
   pub record IsUnsolved : Type 0 where
     pub text : List ℕ
     pub denial : IsDenial o config text
-    pub written : Appends (bytes (device_of old)) (bytes (device_of new)) text
-    pub told : new_errors ≡ old_errors
+    pub written : Appends (bytes (device_of old.0)) (bytes (device_of new.0)) text
+    pub told : new.1 ≡ old.1
 
   -- the configuration has a fault, and nothing is written
   pub record IsFaulty : Type 0 where
     pub fault : ConfigFault
     pub is_its : IsFaultKeeping o.kept config fault
-    pub told : IsToldRefused error_bytes old_errors new_errors 1 (config_line fault)
-    pub written : new ≡ old
+    pub told : IsToldRefused error_bytes old.1 new.1 1 (config_line fault)
+    pub written : new.0 ≡ old.0
 
   -- the output failed, and a beginning of what was to be written is
   pub record IsCut : Type 0 where
-    pub failed : has_failed new ≡ true
+    pub failed : has_failed new.0 ≡ true
     pub text : List ℕ
     pub needs : List ℕ
     pub answer : IsSolution o config text needs ⊎ IsDenial o config text
-    pub begun : AppendsFront (bytes (device_of old)) (bytes (device_of new)) text
-    pub told : TellsLine error_bytes old_errors new_errors
+    pub begun : AppendsFront (bytes (device_of old.0)) (bytes (device_of new.0)) text
+    pub told : TellsLine error_bytes old.1 new.1
 
   -- memory was refused, and nothing is written
   pub record IsUnmade : Type 0 where
-    pub told : WantsMemory error_bytes old_errors new_errors 4
-    pub written : new ≡ old
-
-  -- and by its exit status
-  pub record Solves (status : ℕ) : Type 0 where
-    pub statuses : (status ≡ 0) ⊎ (status ≡ 1) ⊎ (status ≡ 4)
-    pub device : has_failed new ≡ true → status ≡ 4
-    pub solution : status ≡ 0 → IsSolved
-    pub refused : status ≡ 1 → IsUnsolved ⊎ IsFaulty
-    pub stopped : status ≡ 4 → IsCut ⊎ IsUnmade
+    pub told : WantsMemory error_bytes old.1 new.1 4
+    pub written : new.0 ≡ old.0

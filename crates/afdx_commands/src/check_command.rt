@@ -1,10 +1,9 @@
 //! The command `check`.
 
-ghost use Rattle.std.specs.Prelude.{◌≡◌, ◌⊎◌, ◌<◌, ◌++◌, All, OnOk, IfOk, true, false, length, Some};
+ghost use Rattle.std.specs.Prelude.{◌≡◌, ◌⊎◌, ◌<◌, ◌++◌, All, Ok, OnOk, IfOk, true, false, Some};
 ghost use Rattle.std.specs.List.{flat_map};
 ghost use Rattle.afdx_frame.specs.Ports.{last_port};
 ghost use Rattle.afdx_config.specs.Admission.{IsAdmitted, links_to};
-ghost use Rattle.afdx_config.specs.Reading.{system_at_port};
 ghost use Rattle.afdx_admit.specs.Bounds.{IsBounds};
 ghost use Rattle.afdx_admit.specs.Known.{IsKnown};
 ghost use Rattle.afdx_admit.specs.Lines.{false_lines, first_false, lines};
@@ -181,47 +180,58 @@ fn put_faults(
     Ok(())
 }
 
-/// Adds that the tables are admitted, or the first line that is false, and tells which.
-fn put_first(alloc: Global, text: &mut Text, tables: Tables) -> Result<bool, AllocError>
+/// What is answered of tables.
+#[derive(Clone, Copy)]
+enum Answer {
+    Admitted,
+    Denied,
+}
+
+/// Adds that the tables are admitted, or the first line that is false.
+fn put_first(alloc: Global, text: &mut Text, tables: Tables) -> Result<Answer, AllocError>
     ensures text { OnOk result (text_bytes text.new ≡ text_bytes text.old
         ++ answer_line tables (first_false (lines tables))) }
-    ensures admitted { IfOk result (λ yes. yes ≡ true → IsAdmitted tables) }
-    ensures refused { IfOk result (λ yes. yes ≡ false → IsAdmitted tables → ⊥) }
+    ensures admitted { result ≡ Ok Answer.Admitted → IsAdmitted tables }
+    ensures denied { result ≡ Ok Answer.Denied → IsAdmitted tables → ⊥ }
 {
     match admit(tables) {
         Ok(_admitted) => {
             OutLine::Admitted.put(text)?;
-            Ok(true)
+            Ok(Answer::Admitted)
         }
         Err((tables, fault)) => {
             put_fault(alloc, text, &tables, fault)?;
-            Ok(false)
+            Ok(Answer::Denied)
         }
     }
 }
 
-/// Adds that the tables are admitted, or all lines that are false, and tells which.
-fn put_all(alloc: Global, text: &mut Text, tables: &Tables) -> Result<bool, AllocError>
+/// Adds that the tables are admitted, or all lines that are false.
+fn put_all(alloc: Global, text: &mut Text, tables: &Tables) -> Result<Answer, AllocError>
     ensures text { OnOk result (text_bytes text.new ≡ text_bytes text.old
         ++ answer_lines tables.now (false_lines (lines tables.now))) }
-    ensures admitted { IfOk result (λ yes. yes ≡ true → IsAdmitted tables.now) }
-    ensures refused { IfOk result (λ yes. yes ≡ false → IsAdmitted tables.now → ⊥) }
+    ensures admitted { result ≡ Ok Answer.Admitted → IsAdmitted tables.now }
+    ensures denied { result ≡ Ok Answer.Denied → IsAdmitted tables.now → ⊥ }
 {
     let faults = all_faults(alloc, tables)?;
     if faults.is_empty() {
         OutLine::Admitted.put(text)?;
-        return Ok(true);
+        return Ok(Answer::Admitted);
     }
     put_faults(alloc, text, tables, faults.as_slice())?;
-    Ok(false)
+    Ok(Answer::Denied)
 }
 
-/// Adds the answer, and tells whether it is that the tables are admitted.
-fn put_answer(alloc: Global, all: bool, text: &mut Text, tables: Tables) -> Result<bool, AllocError>
-    ensures text { OnOk result
-        (text_bytes text.new ≡ text_bytes text.old ++ answer all tables) }
-    ensures admitted { IfOk result (λ yes. yes ≡ true → IsAdmitted tables) }
-    ensures refused { IfOk result (λ yes. yes ≡ false → IsAdmitted tables → ⊥) }
+/// Adds the answer: the first line that is false, or all.
+fn put_answer(
+    alloc: Global,
+    all: bool,
+    text: &mut Text,
+    tables: Tables,
+) -> Result<Answer, AllocError>
+    ensures text { OnOk result (text_bytes text.new ≡ text_bytes text.old ++ answer all tables) }
+    ensures admitted { result ≡ Ok Answer.Admitted → IsAdmitted tables }
+    ensures denied { result ≡ Ok Answer.Denied → IsAdmitted tables → ⊥ }
 {
     if all {
         put_all(alloc, text, &tables)
@@ -239,61 +249,20 @@ pub struct CheckOptions {
     pub margins: bool,
 }
 
-/// What is to be said of the tables, and whether they are admitted.
+/// What is to be said of the tables, and what is answered of them.
 fn checked_text(
     alloc: Global,
     options: CheckOptions,
     tables: Tables,
-) -> Result<(Text, bool), AllocError>
+) -> Result<(Text, Answer), AllocError>
     ensures text { IfOk result (λ checked. text_bytes checked.0 ≡ check_text_of options tables) }
-    ensures admitted { IfOk result (λ checked. checked.1 ≡ true → IsAdmitted tables) }
-    ensures denied { IfOk result (λ checked. checked.1 ≡ false → IsAdmitted tables → ⊥) }
+    ensures admitted { IfOk result (λ checked. checked.1 ≡ Answer.Admitted → IsAdmitted tables) }
+    ensures denied { IfOk result (λ checked. checked.1 ≡ Answer.Denied → IsAdmitted tables → ⊥) }
 {
     let mut text = Text::new(alloc);
     put_ports(&mut text, &tables, options.margins)?;
-    let is_admitted = put_answer(alloc, options.all, &mut text, tables)?;
-    Ok((text, is_admitted))
-}
-
-/// What `check_lines` does, a clause for each part of `Checks`.
-fn check_with<O: Write, E: Write>(
-    alloc: Global,
-    options: CheckOptions,
-    config: &[u8],
-    output: &mut Watched<O>,
-    errors: &mut Watched<E>,
-) -> u8
-    requires { has_failed output.old ≡ false }
-    ensures statuses { (result ≡ 0) ⊎ (result ≡ 1) ⊎ (result ≡ 4) }
-    ensures device { has_failed output.new ≡ true → result ≡ 4 }
-    ensures checked { result ≡ 0 → IsChecked (check_text_of options) O.contents E.contents
-        config.now output.old output.new errors.old errors.new }
-    ensures refused { result ≡ 1 →
-        IsDenied (check_text_of options) O.contents E.contents config.now
-        output.old output.new errors.old errors.new
-        ⊎ IsFaulty (check_text_of options) O.contents E.contents config.now
-        output.old output.new errors.old errors.new }
-    ensures stopped { result ≡ 4 →
-        IsCut (check_text_of options) O.contents E.contents config.now
-        output.old output.new errors.old errors.new
-        ⊎ IsUnchecked (check_text_of options) O.contents E.contents config.now
-        output.old output.new errors.old errors.new }
-{
-    let tables = match read_tables(alloc, config) {
-        Ok(tables) => tables,
-        Err(fault) => return refuse_config(fault, errors),
-    };
-    let Ok((text, is_admitted)) = checked_text(alloc, options, tables) else {
-        return want_memory(errors);
-    };
-    match write_text(output, text.as_bytes()) {
-        Ok(()) if is_admitted => DONE,
-        Ok(()) => REFUSED,
-        Err(fault) => {
-            tell_fault(errors, &fault);
-            fault.status()
-        }
-    }
+    let answer = put_answer(alloc, options.all, &mut text, tables)?;
+    Ok((text, answer))
 }
 
 /// Reads a configuration and writes the bounds of each output port, `P port high low buffer`, and
@@ -313,10 +282,38 @@ pub fn check_lines<O: Write, E: Write>(
     errors: &mut Watched<E>,
 ) -> u8
     requires { has_failed output.old ≡ false }
-    ensures checks { Checks (check_text_of options) O.contents E.contents config.now
-        output.old output.new errors.old errors.new result }
+    ensures statuses { (result ≡ 0) ⊎ (result ≡ 1) ⊎ (result ≡ 4) }
+    ensures device { has_failed output.new ≡ true → result ≡ 4 }
+    ensures checked { result ≡ 0 → IsChecked (check_text_of options) O.contents E.contents
+        config.now (output.old, errors.old) (output.new, errors.new) }
+    ensures refused { result ≡ 1 →
+        IsDenied (check_text_of options) O.contents E.contents config.now
+        (output.old, errors.old) (output.new, errors.new)
+        ⊎ IsFaulty (check_text_of options) O.contents E.contents config.now
+        (output.old, errors.old) (output.new, errors.new) }
+    ensures stopped { result ≡ 4 →
+        IsCut (check_text_of options) O.contents E.contents config.now
+        (output.old, errors.old) (output.new, errors.new)
+        ⊎ IsUnchecked (check_text_of options) O.contents E.contents config.now
+        (output.old, errors.old) (output.new, errors.new) }
 {
-    check_with(alloc, options, config, output, errors)
+    let tables = match read_tables(alloc, config) {
+        Ok(tables) => tables,
+        Err(fault) => return refuse_config(fault, errors),
+    };
+    let Ok((text, answer)) = checked_text(alloc, options, tables) else {
+        return want_memory(errors);
+    };
+    match write_text(output, text.as_bytes()) {
+        Ok(()) => match answer {
+            Answer::Admitted => DONE,
+            Answer::Denied => REFUSED,
+        },
+        Err(fault) => {
+            tell_fault(errors, &fault);
+            fault.status()
+        }
+    }
 }
 
 /// The same, with the bounds and the first line that is false alone.
@@ -328,7 +325,7 @@ pub fn check<O: Write, E: Write>(
 ) -> u8
     requires { has_failed output.old ≡ false }
     ensures checks { Checks check_text O.contents E.contents config.now
-        output.old output.new errors.old errors.new result }
+        (output.old, errors.old) (output.new, errors.new) result }
 {
     let options = CheckOptions {
         all: false,

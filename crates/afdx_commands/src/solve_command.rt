@@ -1,20 +1,16 @@
 //! The command `solve`.
 
 ghost use Rattle.std.specs.Prelude.{◌≡◌, ◌⊎◌, ◌<◌, ◌++◌, OnOk, IfOk, true, false, length, string_bytes, ℕ, List};
-ghost use Rattle.std.specs.Option.{option_map_or};
-ghost use Rattle.afdx_frame.specs.Ports.{last_port};
-ghost use Rattle.afdx_config.specs.Admission.{IsAdmitted};
 ghost use Rattle.afdx_config.specs.Asked.{Asks};
 ghost use Rattle.afdx_config.specs.Lawful.{IsLawful};
-ghost use Rattle.afdx_config.specs.Reading.{system_at_port, SpellsKeeping};
+ghost use Rattle.afdx_config.specs.Reading.{SpellsKeeping};
 ghost use Rattle.afdx_config.specs.Rows.{Rows, link_row};
 ghost use Rattle.afdx_admit.specs.Bounds.{IsBounds};
 ghost use Rattle.afdx_admit.specs.Known.{IsKnown};
 ghost use Rattle.afdx_commands.specs.CheckText.{fault_line, class_bound_at};
-ghost use Rattle.afdx_commands.specs.Refusals.{WantsMemory};
 ghost use Rattle.afdx_commands.specs.SolveText.{told_need, need_over, need_line, need_at, asked_by};
-ghost use Rattle.afdx_commands.specs.SolveText.{needs_of_first, needs_at, needs_at_first, needs_text};
-ghost use Rattle.afdx_commands.specs.SolveText.{IsSolution, IsDenial, Solves};
+ghost use Rattle.afdx_commands.specs.SolveText.{needs_of_first, needs_at, needs_text};
+ghost use Rattle.afdx_commands.specs.SolveText.{IsSolution, IsDenial};
 ghost use Rattle.afdx_commands.specs.SolveText.{IsSolved, IsUnsolved, IsFaulty, IsCut, IsUnmade};
 ghost use Rattle.afdx_lists.specs.Watching.{has_failed};
 
@@ -136,24 +132,6 @@ fn put_needs_to(
 }
 
 /// Adds the lines at a port of the switch, if it has a system.
-fn put_needs_by(
-    text: &mut String,
-    tables: &Tables,
-    asked: &[Option<u64>],
-    port: u8,
-    bounds: &PortBounds,
-) -> Result<(), AllocError>
-    requires { IsBounds tables.now port bounds.now }
-    ensures { OnOk result (string_bytes text.new
-        ≡ string_bytes text.old ++ needs_at tables.now asked.now port) }
-{
-    match tables.system_at(port) {
-        Some(system) => put_needs_to(text, tables, asked, port, system, bounds),
-        None => Ok(()),
-    }
-}
-
-/// Adds the lines at a port of the switch.
 fn put_needs_at(
     text: &mut String,
     tables: &Tables,
@@ -163,8 +141,11 @@ fn put_needs_at(
     ensures { OnOk result (string_bytes text.new
         ≡ string_bytes text.old ++ needs_at tables.now asked.now port) }
 {
-    match bounds_of(tables, port) {
-        Some(bounds) => put_needs_by(text, tables, asked, port, &bounds),
+    match tables.system_at(port) {
+        Some(system) => match bounds_of(tables, port) {
+            Some(bounds) => put_needs_to(text, tables, asked, port, system, &bounds),
+            None => Ok(()),
+        },
         None => Ok(()),
     }
 }
@@ -216,6 +197,7 @@ fn answer_of(
 {
     match solve(tables, options) {
         Ok(admitted) => {
+            // (a law: it does nothing, and lets the proof cite that each solved key is the least)
             each_is_least();
             let tables = admitted.tables();
             let text = config_text(alloc, tables)?;
@@ -227,6 +209,7 @@ fn answer_of(
             })
         }
         Err((tables, fault)) => {
+            // (a law: tables are admitted just where no line of admission is false)
             lines_are_admission();
             let text = denial(alloc, &tables, fault)?;
             Ok(Answer {
@@ -234,50 +217,6 @@ fn answer_of(
                 needs: String::new(alloc),
                 is_solution: false,
             })
-        }
-    }
-}
-
-/// What `solve_config` does, a clause for each part of `Solves`.
-fn solve_with<O: Write, E: Write>(
-    alloc: Global,
-    options: SolveOptions,
-    config: &[u8],
-    output: &mut Watched<O>,
-    errors: &mut Watched<E>,
-) -> u8
-    requires { has_failed output.old ≡ false }
-    ensures statuses { (result ≡ 0) ⊎ (result ≡ 1) ⊎ (result ≡ 4) }
-    ensures device { has_failed output.new ≡ true → result ≡ 4 }
-    ensures solution { result ≡ 0 → IsSolved options O.contents E.contents config.now
-        output.old output.new errors.old errors.new }
-    ensures refused { result ≡ 1 →
-        IsUnsolved options O.contents E.contents config.now
-        output.old output.new errors.old errors.new
-        ⊎ IsFaulty options O.contents E.contents config.now
-        output.old output.new errors.old errors.new }
-    ensures stopped { result ≡ 4 →
-        IsCut options O.contents E.contents config.now
-        output.old output.new errors.old errors.new
-        ⊎ IsUnmade options O.contents E.contents config.now
-        output.old output.new errors.old errors.new }
-{
-    let (tables, asked) = match read_to_solve_asking(alloc, config, options.kept) {
-        Ok(read) => read,
-        Err(fault) => return refuse_config(fault, errors),
-    };
-    let Ok(answer) = answer_of(alloc, options, tables, asked.as_slice()) else {
-        return want_memory(errors);
-    };
-    match write_text(output, answer.text.as_bytes()) {
-        Ok(()) if answer.is_solution => {
-            tell(errors, answer.needs.as_bytes());
-            DONE
-        }
-        Ok(()) => REFUSED,
-        Err(fault) => {
-            tell_fault(errors, &fault);
-            fault.status()
         }
     }
 }
@@ -304,8 +243,37 @@ pub fn solve_config<O: Write, E: Write>(
     errors: &mut Watched<E>,
 ) -> u8
     requires { has_failed output.old ≡ false }
-    ensures solves { Solves options O.contents E.contents config.now
-        output.old output.new errors.old errors.new result }
+    ensures statuses { (result ≡ 0) ⊎ (result ≡ 1) ⊎ (result ≡ 4) }
+    ensures device { has_failed output.new ≡ true → result ≡ 4 }
+    ensures solution { result ≡ 0 → IsSolved options O.contents E.contents config.now
+        (output.old, errors.old) (output.new, errors.new) }
+    ensures refused { result ≡ 1 →
+        IsUnsolved options O.contents E.contents config.now
+        (output.old, errors.old) (output.new, errors.new)
+        ⊎ IsFaulty options O.contents E.contents config.now
+        (output.old, errors.old) (output.new, errors.new) }
+    ensures stopped { result ≡ 4 →
+        IsCut options O.contents E.contents config.now
+        (output.old, errors.old) (output.new, errors.new)
+        ⊎ IsUnmade options O.contents E.contents config.now
+        (output.old, errors.old) (output.new, errors.new) }
 {
-    solve_with(alloc, options, config, output, errors)
+    let (tables, asked) = match read_to_solve_asking(alloc, config, options.kept) {
+        Ok(read) => read,
+        Err(fault) => return refuse_config(fault, errors),
+    };
+    let Ok(answer) = answer_of(alloc, options, tables, asked.as_slice()) else {
+        return want_memory(errors);
+    };
+    match write_text(output, answer.text.as_bytes()) {
+        Ok(()) if answer.is_solution => {
+            tell(errors, answer.needs.as_bytes());
+            DONE
+        }
+        Ok(()) => REFUSED,
+        Err(fault) => {
+            tell_fault(errors, &fault);
+            fault.status()
+        }
+    }
 }

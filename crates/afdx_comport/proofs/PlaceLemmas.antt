@@ -1,19 +1,20 @@
-use Rattle.std.proofs.Common.{◌≡◌, ℕ, zero, suc, ◌+◌, ◌<◌, Bool, true, false, cond, ◌||◌, ◌&&◌, inl}
-use Rattle.std.proofs.Common.{inr, Option, Some, None, List, [], ◌∷◌, ◌++◌, take, length}
+use Rattle.std.proofs.Common.{◌≡◌, ℕ, suc, ◌+◌, ◌<◌, Bool, true, false, cond, ◌||◌, ◌&&◌}
+use Rattle.std.proofs.Common.{Option, Some, None, List, [], ◌∷◌, ◌++◌, take, length}
 use Rattle.std.proofs.Common.{map, nat_eq, refl, sym, subst, ◌∙◌, ap, arith, append-nil}
 use Rattle.std.specs.Prelude.{slice_get, slice_set, position, filter, is_some, IfSome, nat_lt}
 use Rattle.std.specs.List.{list_any, position_from, position_or_len}
 use Rattle.std.specs.Option.{option_or}
-use Rattle.std.proofs.lemmas.Bool.{eqb-true, cond-false, and_parts, or_parts, or_cases, ltb-true, false_from_ne_true}
+use Rattle.std.proofs.lemmas.Bool.{eqb-true, cond-false, and_parts, or_parts, ltb-true, false_from_ne_true}
 use Rattle.std.proofs.lemmas.Iterator.Adapters.{position_from-zero}
-use Rattle.std.proofs.lemmas.List.{take_more, map-append}
+use Rattle.std.proofs.lemmas.List.{map-append}
 use Rattle.std.proofs.lemmas.List.Elements.{filter-append}
 use Rattle.std.proofs.lemmas.List.Folds.{position_or_len-set}
 use Rattle.std.proofs.Math.ListN.{get_or, length-set}
-use Rattle.std.proofs.lemmas.Option.{get_or_from_slice_get, slice_get_within}
+use Rattle.std.proofs.lemmas.Option.{get_or_from_slice_get}
 use Rattle.std.specs.HashMap as hash
 use Rattle.std.specs.HashMap.{HashMap}
 use Rattle.afdx_frame.specs.declared.link.VlId.{VlId}
+use Rattle.afdx_frame.proofs.ListLemmas.{take-one_more, list_any-take}
 use Rattle.afdx_config.specs.Rows.{PortRow}
 use Rattle.afdx_config.specs.declared.rows.Kind.TheVariants.{Sampling}
 use Rattle.afdx_config.specs.Reading.{has_port}
@@ -78,10 +79,6 @@ known_at p xs o e = subst (λ (o : Option ℕ). IfSome o (λ i. i < length xs)) 
 
 -- ---- the rows so far
 
-one_more : {X : Type 0} (xs : List X) (i : ℕ) (x : X) → slice_get xs i ≡ Some x → take (i + 1) xs ≡ take i xs ++ x ∷ []
-one_more xs i x here = take_more xs i x (slice_get_within xs i x here)
-    ∙ ap (λ y. take i xs ++ y ∷ []) (get_or_from_slice_get xs i x x here)
-
 -- whether a port is that of the same system, link and UDP port
 abbrev is_same_port : PortRow → PortRow → Bool
 is_same_port port other = nat_eq other.system port.system && nat_eq other.link port.link && nat_eq other.udp port.udp
@@ -95,25 +92,12 @@ same_triple a b h =
     and_parts (nat_eq b.system a.system) (nat_eq b.link a.link) outer.0 in
     rw (eqb-true b.system a.system inner.0, eqb-true b.link a.link inner.1, eqb-true b.udp a.udp outer.1) refl
 
--- a row before a place that passes a test
-found_before : {X : Type 0} (p : X → Bool) (xs : List X) (i : ℕ) → list_any p (take i xs) ≡ true →
-    (j : ℕ) × (x : X) × (j < i) × (slice_get xs j ≡ Some x) × (p x ≡ true)
-found_before p [] zero h = absurd (cc)
-found_before p [] (suc i) h = absurd (cc)
-found_before p (x ∷ xs) zero h = absurd (cc)
-found_before p (x ∷ xs) (suc i) h =
-    elim (or_cases (p x) (list_any p (take i xs)) h) [
-      | inl here ↦ (0, x, omega arith, refl, here)
-      | inr later ↦ let found = found_before p xs i later in
-          (suc found.0, found.1, omega (arith, found.2), found.3, found.4)
-    ]
-
 -- the rows are distinct: none before one has its system, link and UDP port
 none_before : (rows : List PortRow) (i : ℕ) (row : PortRow) → AreDistinct triple rows → slice_get rows i ≡ Some row →
     list_any (is_same_port row) (take i rows) ≡ false
 unfolding AreDistinct
 none_before rows i row distinct here = false_from_ne_true (list_any (is_same_port row) (take i rows)) (λ h.
-    let found = found_before (is_same_port row) rows i h in
+    let found = list_any-take (is_same_port row) rows i h in
     let same : found.0 ≡ i = distinct found.0 i found.1 row found.3 here (same_triple row found.1 found.4) in
     omega (arith, found.2, same))
 
@@ -135,7 +119,7 @@ any_listed row (x ∷ xs) = at (nat_eq x.system row.system) (any_listed row xs)
 listed_one : (system : ℕ) (rows : List PortRow) (i : ℕ) (row : PortRow) → slice_get rows i ≡ Some row →
     ports_at_first system (take (i + 1) rows) ≡ ports_at_first system (take i rows) ++ ports_at_first system (row ∷ [])
 listed_one system rows i row here =
-    ap (ports_at_first system) (one_more rows i row here)
+    ap (ports_at_first system) (take-one_more rows i row here)
     ∙ ap (map port_at_first) (filter-append (λ (r : PortRow). nat_eq r.system system) (take i rows) (row ∷ []))
     ∙ map-append port_at_first (filter (λ (r : PortRow). nat_eq r.system system) (take i rows))
     (filter (λ (r : PortRow). nat_eq r.system system) (row ∷ []))

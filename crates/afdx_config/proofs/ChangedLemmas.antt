@@ -4,6 +4,7 @@ use Rattle.std.proofs.Common.{Some, slice_get, nat_eq, refl, sym, ap, ◌∙◌}
 use Rattle.std.specs.List.{AllByRecursion}
 use Rattle.std.specs.Option.{option_map_or}
 use Rattle.std.specs.Map.{values_of}
+use Rattle.std.proofs.lemmas.Option.{same_Some}
 use Rattle.indexmap.specs.IndexMap.{set_value_at}
 use Rattle.afdx_frame.specs.declared.link.VlId.{VlId}
 use Rattle.afdx_config.specs.declared.rows.Times.{Times}
@@ -14,15 +15,12 @@ use Rattle.afdx_config.specs.Reading.{goes_to}
 use Rattle.afdx_config.specs.Lawful.{IsLink, AreLinks, IsPort, AreDistinct, IsLawful}
 use Rattle.afdx_config.specs.Changed.{with_times, changed_at, with_link_at}
 
-same_of_some : {X : Type 0} (x y : X) → Some x ≡ Some y → x ≡ y
-same_of_some x y e = cc
-
 -- a row of the changed ones, as it was
 stood : (i : ℕ) (times : Times) (ls : List LinkRow) (j : ℕ) (b : LinkRow) → slice_get (changed_at i times ls) j ≡ Some b
     → (a : LinkRow) × (slice_get ls j ≡ Some a) × (a.vl ≡ b.vl)
 unfolding changed_at
 stood i times [] j b at = absurd (cc at)
-stood zero times (l ∷ ls) zero b at = (l, refl, ap (λ r. r.vl) (same_of_some (with_times times l) b at))
+stood zero times (l ∷ ls) zero b at = (l, refl, ap (λ r. r.vl) (same_Some (with_times times l) b at))
 stood zero times (l ∷ ls) (suc j) b at = (b, at, refl)
 stood (suc i) times (l ∷ ls) zero b at = (b, at, refl)
 stood (suc i) times (l ∷ ls) (suc j) b at = stood i times ls j b at
@@ -124,12 +122,12 @@ pub rows-set : (times : Times) (es : List (VlId × Link)) (i : ℕ) (l : Link) �
 unfolding changed_at
 rows-set times [] i l at = refl
 rows-set times (e ∷ es) zero l at =
-    ap (λ x. link_row (changed_link times x) ∷ link_rows es) (sym (same_of_some e.1 l at))
+    ap (λ x. link_row (changed_link times x) ∷ link_rows es) (sym (same_Some e.1 l at))
 rows-set times (e ∷ es) (suc i) l at = ap (λ rs. link_row e.1 ∷ rs) (rows-set times es i l at)
 
 pub keys-set : (times : Times) (es : List (VlId × Link)) (i : ℕ) (l : Link) → slice_get (values_of es) i ≡ Some l
     → AllByRecursion IsUnderItsIdentifier es
     → AllByRecursion IsUnderItsIdentifier (set_value_at es i (changed_link times l))
 keys-set times [] i l at h = tt
-keys-set times (e ∷ es) zero l at h = (h.0 ∙ ap (λ x. x.vl.0) (same_of_some e.1 l at), h.1)
+keys-set times (e ∷ es) zero l at h = (h.0 ∙ ap (λ x. x.vl.0) (same_Some e.1 l at), h.1)
 keys-set times (e ∷ es) (suc i) l at h = (h.0, keys-set times es i l at h.1)

@@ -1,19 +1,12 @@
 -- Rows that are distinct stay so when one is added that differs from each of them.
 use Rattle.std.proofs.Common.{◌≡◌, ℕ, suc, ◌+◌, ◌<◌, ◌≤◌, Bool, true, false, not, cond, ◌||◌, List}
-use Rattle.std.proofs.Common.{[], ◌∷◌, ◌++◌, length, Some, None, ◌⊎◌, inl, inr, refl, sym, ap}
+use Rattle.std.proofs.Common.{[], ◌∷◌, ◌++◌, length, Some, None, inl, inr, refl, sym, ap}
 use Rattle.std.proofs.Common.{subst, ◌∙◌, arith, nat_lt, position, zero}
 use Rattle.std.specs.List.{slice_get, list_any, position_or_len}
 use Rattle.std.proofs.lemmas.Bool.{cases_Bool, ltb-false, lt-ltb}
 use Rattle.std.proofs.lemmas.Option.{slice_get_within}
+use Rattle.afdx_frame.proofs.ListLemmas.{slice_get-push_cases}
 use Rattle.afdx_config.specs.Lawful.{AreDistinct}
-
-get_either : {R : Type 0} (rows : List R) (new : R) (i : ℕ) (a : R) → slice_get (rows ++ new ∷ []) i
-    ≡ Some a → (slice_get rows i ≡ Some a) ⊎ ((i ≡ length rows) × (a ≡ new))
-get_either [] new zero a h = inr (refl, cc)
-get_either [] new (suc i) a h = cc
-get_either (r ∷ rs) new zero a h = inl h
-get_either (r ∷ rs) new (suc i) a h =
-    elim (get_either rs new i a h) [ inl old ↦ inl old | inr last ↦ inr (omega (arith, last.0), last.1) ]
 
 neither : (a b : Bool) → a || b ≡ false → (a ≡ false) × (b ≡ false)
 neither true b h = absurd cc
@@ -58,12 +51,12 @@ pub distinct-push : {R A : Type 0} (f : R → A) (p : R → Bool) (rows : List R
     → AreDistinct f (rows ++ new ∷ [])
 unfolding AreDistinct
 distinct-push f p rows new distinct none finds = λ i j a b at at' same.
-    elim (get_either rows new i a at) [
-      | inl old ↦ elim (get_either rows new j b at') [
+    elim (slice_get-push_cases rows new i a at) [
+      | inl old ↦ elim (slice_get-push_cases rows new j b at') [
         | inl old' ↦ distinct i j a b old old' same
         | inr last' ↦ absurd (cc (none_at p rows i a none old, finds a (same ∙ ap f last'.1)))
       ]
-      | inr last ↦ elim (get_either rows new j b at') [
+      | inr last ↦ elim (slice_get-push_cases rows new j b at') [
         | inl old' ↦ absurd (cc (none_at p rows j b none old', finds b (sym same ∙ ap f last.1)))
         | inr last' ↦ last.0 ∙ sym last'.0
       ]

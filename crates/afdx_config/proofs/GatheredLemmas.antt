@@ -8,12 +8,18 @@ use Rattle.std.specs.Map.{keys_of}
 use Rattle.std.specs.Str.{bytes_eq}
 use Rattle.toml.specs.View.{members_view}
 use Rattle.toml.specs.declared.value.Value.{Value}
+use Rattle.afdx_frame.proofs.ListLemmas.{AllByRecursion-push}
 use Rattle.afdx_config.specs.declared.rows.SystemId.{SystemId}
 use Rattle.afdx_config.specs.declared.rows.ComRow.{ComRow}
 use Rattle.afdx_config.specs.Rows.{system_places, PortRow, port_row, port_rows}
 use Rattle.std.specs.List.{AllByRecursion}
 use Rattle.std.proofs.lemmas.Bool.{eqb-true}
 use Rattle.afdx_config.specs.Keys.{Key, are_among, key_rows}
+
+-- under a name that code can cite
+pub all_push : {X : Type 0} (P : X → Type 0) (xs : List X) (x : X) → AllByRecursion P xs → P x
+    → AllByRecursion P (xs ++ x ∷ [])
+all_push P xs x all one = AllByRecursion-push P xs x all one
 
 -- what was read before, and what is still read
 abbrev pub with_front : {A : Type 0} → List A → Option (List A) → Option (List A)

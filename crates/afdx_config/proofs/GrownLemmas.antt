@@ -4,11 +4,11 @@ use Rattle.std.proofs.Common.{◌≡◌, ℕ, ◌<◌, Bool, true, false, ◌&&�
 use Rattle.std.proofs.Common.{length, None, nat_eq, refl, sym, ap, arith, length-append}
 use Rattle.std.specs.Str.{bytes_eq}
 use Rattle.std.proofs.lemmas.Slice.Eq.{bytes_eq-Decides}
+use Rattle.afdx_frame.proofs.ListLemmas.{AllByRecursion-push}
 use Rattle.afdx_config.specs.Rows.{SystemRow, LinkRow, PortRow}
 use Rattle.afdx_config.specs.Reading.{system_named, system_at_port, has_id, link_of, has_port}
 use Rattle.afdx_config.specs.New.{IsNewSystem}
 use Rattle.afdx_config.specs.Lawful.{IsSystem, AreSystems, IsLink, AreLinks, IsPort, ArePorts, triple}
-use Rattle.afdx_config.proofs.EachRowLemmas.{all_push}
 use Rattle.afdx_config.proofs.DistinctLemmas.{distinct-nil, distinct-push, none_found}
 
 bytes_eq-same : (xs ys : List ℕ) → xs ≡ ys → bytes_eq ys xs ≡ true
@@ -29,7 +29,7 @@ pub systems_push : (profile : ℕ) (rows : List SystemRow) (new : SystemRow) →
 unfolding system_named system_at_port has_id
 systems_push profile rows new old room lawful fresh = record {
   count = omega (arith, length-append rows (new ∷ []));
-  each = all_push (IsSystem profile) rows new old.each lawful;
+  each = AllByRecursion-push (IsSystem profile) rows new old.each lawful;
   names = distinct-push (λ s. s.name) (λ s. bytes_eq new.name s.name) rows new old.names
       (none_found (λ s. bytes_eq new.name s.name) rows fresh.name)
       (λ a e. bytes_eq-same a.name new.name e);
@@ -47,7 +47,7 @@ pub links_push : (systems : ℕ) (rows : List LinkRow) (new : LinkRow) → AreLi
 unfolding link_of
 links_push systems rows new old room lawful fresh = record {
   count = omega (arith, length-append rows (new ∷ []));
-  each = all_push (IsLink systems) rows new old.each lawful;
+  each = AllByRecursion-push (IsLink systems) rows new old.each lawful;
   identifiers = distinct-push (λ l. l.vl) (λ l. nat_eq new.vl l.vl) rows new old.identifiers
       (none_found (λ l. nat_eq new.vl l.vl) rows fresh) (λ a e. eq-eqb new.vl a.vl (sym e));
 }
@@ -67,7 +67,7 @@ pub ports_push : (systems : ℕ) (links : List LinkRow) (rows : List PortRow) (n
 unfolding has_port
 ports_push systems links rows new old room lawful fresh = record {
   count = omega (arith, length-append rows (new ∷ []));
-  each = all_push (IsPort systems links) rows new old.each lawful;
+  each = AllByRecursion-push (IsPort systems links) rows new old.each lawful;
   triples = distinct-push triple
       (λ p. (nat_eq p.system new.system && nat_eq p.link new.link) && nat_eq p.udp new.udp) rows new
       old.triples fresh

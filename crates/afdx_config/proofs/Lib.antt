@@ -1,7 +1,6 @@
 pub mod AmongOthersLemmas
 pub mod ChangedLemmas
 pub mod DistinctLemmas
-pub mod EachRowLemmas
 mod AskedLemmas
 pub mod EntryLemmas
 pub mod GatheredLemmas

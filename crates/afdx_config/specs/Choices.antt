@@ -5,7 +5,7 @@ use Rattle.toml.specs.Data.{Data, Members, get_member, as_integer}
 use Rattle.afdx_config.specs.declared.fault.ConfigFault.{ConfigFault}
 use Rattle.afdx_config.specs.declared.fault.ConfigFault.TheVariants.{WrongKind, OutOfRange}
 use Rattle.afdx_config.specs.declared.rows.KeptKeys.{KeptKeys}
-use Rattle.afdx_config.specs.Fault.{◌>>=◌, or_fault}
+use Rattle.afdx_frame.specs.Checks.{◌>>=◌, or_else}
 use Rattle.afdx_config.specs.Keys.{Spot, whole}
 
 -- a whole number from 0 on, as the nearest in the key's range
@@ -16,7 +16,7 @@ from_zero at (negsuc n) = Err (OutOfRange at.place)
 -- a key that is absent has its least value
 abbrev pub whole_from_zero : Spot → Data → Result ℕ ConfigFault
 whole_from_zero at value = do
-  number ← or_fault (WrongKind at.place) (as_integer value)
+  number ← or_else (as_integer value) (WrongKind at.place)
   from_zero at number
 
 abbrev pub free_value : Spot → Option Data → Result ℕ ConfigFault

@@ -17,7 +17,7 @@ use Rattle.afdx_config.specs.declared.fault.Place.{Place}
 use Rattle.afdx_config.specs.declared.fault.ConfigFault.{ConfigFault}
 use Rattle.afdx_config.specs.declared.fault.ConfigFault.TheVariants.{Missing, WrongKind, UnknownKey}
 use Rattle.afdx_config.specs.declared.fault.ConfigFault.TheVariants.{OutOfRange}
-use Rattle.afdx_config.specs.Fault.{◌>>=◌, ◌>>◌, check, or_fault}
+use Rattle.afdx_frame.specs.Checks.{◌>>=◌, ◌>>◌, check, or_else}
 
 -- where a check looks: the part, the table's place in it, and the key's number
 abbrev pub place : Part → ℕ → ℕ → Place
@@ -105,8 +105,8 @@ in_range at low high (negsuc n) = Err (OutOfRange at)
 -- a whole number of a key
 unfoldable pub whole : Spot → Members → Result ℕ ConfigFault
 whole at t = do
-  value ← or_fault (Missing at.place) (get_member at.name t)
-  number ← or_fault (WrongKind at.place) (as_integer value)
+  value ← or_else (get_member at.name t) (Missing at.place)
+  number ← or_else (as_integer value) (WrongKind at.place)
   in_range at.place at.least at.greatest number
 
 -- one of some numbers in its range
@@ -119,8 +119,8 @@ one_of at numbers t = do
 -- a text of a key
 unfoldable pub text : Spot → Members → Result (List ℕ) ConfigFault
 text at t = do
-  value ← or_fault (Missing at.place) (get_member at.name t)
-  or_fault (WrongKind at.place) (as_str value)
+  value ← or_else (get_member at.name t) (Missing at.place)
+  or_else (as_str value) (WrongKind at.place)
 
 -- what a word stands for, among some words
 abbrev pub meaning : {A : Type 0} → List (List ℕ × A) → List ℕ → Option A
@@ -131,7 +131,7 @@ meaning (w ∷ ws) s = if bytes_eq s w.0 then Some w.1 else meaning ws s
 unfoldable pub word : {A : Type 0} → Spot → List (List ℕ × A) → Members → Result A ConfigFault
 word at words t = do
   s ← text at t
-  or_fault (OutOfRange at.place) (meaning words s)
+  or_else (meaning words s) (OutOfRange at.place)
 
 -- the items of an array, where each is of the kind
 abbrev pub all_as : {A : Type 0} → (Data → Option A) → Items → Option (List A)
@@ -142,8 +142,8 @@ all_as f (item d ds) = option_and_then (λ x. option_map (λ xs. x ∷ xs) (all_
 abbrev pub tables_or_none : Place → Option Data → Result (List Members) ConfigFault
 tables_or_none at None = Ok []
 tables_or_none at (Some d) = do
-  items ← or_fault (WrongKind at) (as_array d)
-  or_fault (WrongKind at) (all_as as_table items)
+  items ← or_else (as_array d) (WrongKind at)
+  or_else (all_as as_table items) (WrongKind at)
 
 -- at most as many tables as its range says
 unfoldable pub tables : Spot → Members → Result (List Members) ConfigFault
@@ -155,9 +155,9 @@ tables at t = do
 -- an array of texts, as many as its range says
 unfoldable pub texts : Spot → Members → Result (List (List ℕ)) ConfigFault
 texts at t = do
-  value ← or_fault (Missing at.place) (get_member at.name t)
-  items ← or_fault (WrongKind at.place) (as_array value)
-  words ← or_fault (WrongKind at.place) (all_as as_str items)
+  value ← or_else (get_member at.name t) (Missing at.place)
+  items ← or_else (as_array value) (WrongKind at.place)
+  words ← or_else (all_as as_str items) (WrongKind at.place)
   check (nat_le at.least (length words) && nat_le (length words) at.greatest)
       (OutOfRange at.place)
   Ok words

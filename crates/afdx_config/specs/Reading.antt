@@ -25,7 +25,7 @@ use Rattle.afdx_config.specs.declared.read_links.Treatment.{Treatment}
 use Rattle.afdx_config.specs.declared.read_ports.Socket.{Socket}
 use Rattle.afdx_config.specs.Rows.{SystemRow, LinkRow, PortRow, Rows, is_to}
 use Rattle.afdx_config.specs.Choices.{choice, all_kept}
-use Rattle.afdx_config.specs.Fault.{◌>>=◌, ◌>>◌, check, or_fault}
+use Rattle.afdx_frame.specs.Checks.{◌>>=◌, ◌>>◌, check, or_else}
 use Rattle.afdx_config.specs.Keys as keys
 use Rattle.afdx_config.specs.Keys.{Spot, top_at, at_least, at_most, whole, one_of, text, word}
 use Rattle.afdx_config.specs.Keys.{tables, texts}
@@ -47,7 +47,7 @@ has_id systems id = list_any (λ s. s.id == id) systems
 unfoldable pub named : Spot → List SystemRow → Members → Result ℕ ConfigFault
 named at systems t = do
   name ← text at t
-  or_fault (NoSuchSystem at.place) (system_named systems name)
+  or_else (system_named systems name) (NoSuchSystem at.place)
 
 -- what each of a list stands for, where each stands for something
 abbrev pub all_of : {X A : Type 0} → (X → Option A) → List X → Option (List A)
@@ -67,7 +67,7 @@ are_apart from to = not (list_any (λ j. nat_eq j from) to) && not (has_repeat t
 unfoldable pub destinations : Spot → List SystemRow → ℕ → Members → Result (List ℕ) ConfigFault
 destinations at systems from t = do
   names ← texts at t
-  to ← or_fault (NoSuchSystem at.place) (all_of (system_named systems) names)
+  to ← or_else (all_of (system_named systems) names) (NoSuchSystem at.place)
   check (are_apart from to) (Twice at.place)
   Ok to
 

@@ -1,6 +1,6 @@
 -- What the tables of a configuration hold, as plain data.
-use Rattle.std.specs.Prelude.{ℕ, Bool, List, [], ◌∷◌, map, string_bytes, nat_eq}
-use Rattle.std.specs.List.{list_any}
+use Rattle.std.specs.Prelude.{ℕ, ◌<◌, Bool, List, [], ◌∷◌, length, map, string_bytes, nat_eq}
+use Rattle.std.specs.List.{list_any, AllByRecursion}
 use Rattle.afdx_frame.specs.declared.link.Priority.{Priority}
 use Rattle.afdx_frame.specs.declared.link.Priority.TheVariants.{High}
 use Rattle.afdx_frame.specs.declared.link.Policing.{Policing}
@@ -90,6 +90,10 @@ system_row s = record {
 
 abbrev pub system_places : List SystemId → List ℕ
 system_places ids = map (λ i. i.0) ids
+
+-- each is the place of one of these systems
+abbrev pub AreKnown : {S : Type 0} → List S → List SystemId → Type 0
+AreKnown systems ids = AllByRecursion (λ i. i < length systems) (system_places ids)
 
 abbrev pub link_row : Link → LinkRow
 link_row l = record {

@@ -9,7 +9,8 @@ ghost use Rattle.toml.specs.View.{view, table_view, items_view};
 ghost use Rattle.std.specs.List.{list_any, list_all};
 ghost use Rattle.std.specs.Str.{bytes_eq};
 ghost use Rattle.afdx_config.specs.Lawful.{IsWithin, IsOneOf};
-ghost use Rattle.afdx_config.specs.Fault.{Gives, or_fault};
+ghost use Rattle.afdx_frame.specs.Checks.{or_else};
+ghost use Rattle.afdx_config.specs.Fault.{Gives};
 ghost use Rattle.afdx_config.specs.Trees.{trees, lent_texts};
 ghost use Rattle.afdx_config.specs.Keys as spec;
 
@@ -120,7 +121,7 @@ pub(crate) fn member<'a>(table: &'a Table, key: &str) -> Option<&'a Value>
 /// The value at a key that has to be there.
 fn required<'a>(table: &'a Table, at: At) -> Result<&'a Value, ConfigFault>
     ensures value { Gives (λ v. view v.now) result
-        (or_fault (ConfigFault.Missing at.place) (get_member at.name.now (table_view table.now))) }
+        (or_else (get_member at.name.now (table_view table.now)) (ConfigFault.Missing at.place)) }
     ensures fault { IfErr result (λ e. e ≢ ConfigFault.Memory) }
 {
     match member(table, at.name) {
@@ -191,7 +192,7 @@ fn tables_in<'a>(
     at: Place,
 ) -> Result<Vec<&'a Table>, ConfigFault>
     ensures { Gives (λ v. trees v.items) result
-        (or_fault (ConfigFault.WrongKind at) (spec.all_as as_table (items_view items.now))) }
+        (or_else (spec.all_as as_table (items_view items.now)) (ConfigFault.WrongKind at)) }
 {
     let mut rows = Vec::new(alloc);
     for item in items {
@@ -205,7 +206,7 @@ fn tables_in<'a>(
 
 fn array<'a>(value: &'a Value, at: Place) -> Result<&'a [Value], ConfigFault>
     ensures { Gives (λ items. items_view items.now) result
-        (or_fault (ConfigFault.WrongKind at) (as_array (view value.now))) }
+        (or_else (as_array (view value.now)) (ConfigFault.WrongKind at)) }
 {
     match value.as_array() {
         Some(items) => Ok(items.as_slice()),
@@ -251,7 +252,7 @@ pub(crate) fn tables<'a>(
 
 fn texts_in<'a>(alloc: Global, items: &'a [Value], at: Place) -> Result<Vec<&'a str>, ConfigFault>
     ensures { Gives (λ v. lent_texts v.items) result
-        (or_fault (ConfigFault.WrongKind at) (spec.all_as as_str (items_view items.now))) }
+        (or_else (spec.all_as as_str (items_view items.now)) (ConfigFault.WrongKind at)) }
 {
     let mut words = Vec::new(alloc);
     for item in items {

@@ -10,8 +10,9 @@ ghost use Rattle.afdx_frame.specs.Lengths.{least_frame, greatest_frame};
 ghost use Rattle.afdx_frame.specs.Regulation.{is_bag};
 ghost use Rattle.afdx_frame.specs.Ports.{last_port};
 ghost use Rattle.afdx_config.specs.Lawful.{IsLink, AreLinks, IsWithin};
-ghost use Rattle.afdx_config.specs.Rows.{link_row, system_places};
-ghost use Rattle.afdx_config.specs.Fault.{Gives, or_fault};
+ghost use Rattle.afdx_config.specs.Rows.{AreKnown, link_row, system_places};
+ghost use Rattle.afdx_frame.specs.Checks.{or_else};
+ghost use Rattle.afdx_config.specs.Fault.{Gives};
 ghost use Rattle.afdx_config.specs.Trees.{trees, lent_texts};
 ghost use Rattle.afdx_config.specs.Keys as keys;
 ghost use Rattle.afdx_config.specs.Reading as spec;
@@ -27,19 +28,18 @@ use afdx_frame::{GAPS_MS, Policing, Priority, VlId};
 use std::alloc::Global;
 use toml::Table;
 
-#[tactic(auto, using(crate::proofs::EachRowLemmas::all_push))]
+#[tactic(auto, using(crate::proofs::GatheredLemmas::all_push))]
 fn all_named(
     alloc: Global,
     at: Place,
     names: &[&str],
     systems: &Systems,
 ) -> Result<Vec<SystemId>, ConfigFault>
-    ensures known { IfOk result
-        (λ v. AllByRecursion (λ i. i < length systems.now) (system_places v.items)) }
+    ensures known { IfOk result (λ v. AreKnown systems.now v.items) }
     ensures count { IfOk result (λ v. length v.items ≡ length names.now) }
     ensures value { Gives (λ v. system_places v.items) result
-        (or_fault (ConfigFault.NoSuchSystem at)
-        (spec.all_of (spec.system_named systems.now) (lent_texts names.now))) }
+        (or_else (spec.all_of (spec.system_named systems.now) (lent_texts names.now))
+        (ConfigFault.NoSuchSystem at)) }
 {
     let mut ids = Vec::new(alloc);
     for name in names {
@@ -83,8 +83,7 @@ fn destinations(
     systems: &Systems,
     from: SystemId,
 ) -> Result<Vec<SystemId>, ConfigFault>
-    ensures known { IfOk result
-        (λ v. AllByRecursion (λ i. i < length systems.now) (system_places v.items)) }
+    ensures known { IfOk result (λ v. AreKnown systems.now v.items) }
     ensures count { IfOk result
         (λ v. IsWithin (keys.spot_of at).least (keys.spot_of at).greatest (length v.items)) }
     ensures apart { IfOk result (λ v. spec.are_apart from.0 (system_places v.items) ≡ true) }
@@ -208,8 +207,7 @@ fn to_of(
     systems: &Systems,
     from: SystemId,
 ) -> Result<Vec<SystemId>, ConfigFault>
-    ensures known { IfOk result
-        (λ v. AllByRecursion (λ i. i < length systems.now) (system_places v.items)) }
+    ensures known { IfOk result (λ v. AreKnown systems.now v.items) }
     ensures count { IfOk result (λ v. IsWithin 1 last_port (length v.items)) }
     ensures apart { IfOk result (λ v. spec.are_apart from.0 (system_places v.items) ≡ true) }
     ensures value { Gives (λ v. system_places v.items) result

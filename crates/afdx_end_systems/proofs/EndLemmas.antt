@@ -2,9 +2,9 @@
 use Rattle.std.proofs.Common.{◌≡◌, ℕ, List, [], length, Some, ap, sym, subst}
 use Rattle.std.specs.Prelude.{slice_get}
 use Rattle.std.specs.Option.{option_map_or}
+use Rattle.afdx_frame.proofs.ListLemmas.{AllByRecursion-slice_get}
 use Rattle.afdx_config.specs.Rows.{Rows, SystemRow}
 use Rattle.afdx_config.specs.Lawful.{IsLawful}
-use Rattle.afdx_config.proofs.EachRowLemmas.{all_at}
 use Rattle.afdx_comport.specs.Held.{IsRead}
 use Rattle.afdx_comport.specs.Ports.{ports_at_first}
 use Rattle.afdx_comport.specs.declared.com_ports.ComPort.{ComPort}
@@ -21,7 +21,7 @@ pub read_at_first : (rows : Rows) (system : ℕ) (ports : List ComPort) → IsLa
     → ports ≡ ports_at_first system rows.ports → AreRead ports
 read_at_first rows system ports lawful are =
     subst AreRead (sym are) (λ place port is.
-    all_at (λ (p : ComPort). IsRead p.held) (ports_at_first system rows.ports) place port
+    AllByRecursion-slice_get (λ (p : ComPort). IsRead p.held) (ports_at_first system rows.ports) place port
     (all_read_at_first (length rows.systems) system rows.links rows.ports lawful.ports.each) is)
 
 pub found_at_first : (rows : Rows) (system : ℕ) (ports : List ComPort)

@@ -6,10 +6,10 @@ use Rattle.std.specs.List.{AllByRecursion}
 use Rattle.std.proofs.lemmas.Bool.{cases_eq, and_parts, eqb-true}
 use Rattle.std.proofs.lemmas.List.Quantifiers.{position-Some}
 use Rattle.std.proofs.lemmas.Option.{get_or_from_slice_get}
+use Rattle.afdx_frame.proofs.ListLemmas.{AllByRecursion-slice_get}
 use Rattle.afdx_config.specs.Rows.{Rows, PortRow}
 use Rattle.afdx_config.specs.declared.rows.Kind.{Kind}
 use Rattle.afdx_config.specs.declared.rows.Kind.TheVariants as kind
-use Rattle.afdx_config.proofs.EachRowLemmas.{all_at}
 use Rattle.afdx_receive.specs.Arrivals.{Arrived}
 use Rattle.afdx_receive.specs.Answers.{Answer, Message, Dropped, answer_to}
 use Rattle.afdx_receive.specs.declared.reception.DropReason.{DropReason}
@@ -46,7 +46,7 @@ pub newest_at_first : (rows : Rows) (system : ℕ) (ports : List ComPort)
     → ports ≡ ports_at_first system rows.ports → HoldNewest rows system [] ports
 unfolding newest_to
 newest_at_first rows system ports are = λ vl udp place port found here.
-    all_at (λ (p : ComPort). HoldsNewest None p.held) (ports_at_first system rows.ports) place port
+    AllByRecursion-slice_get (λ (p : ComPort). HoldsNewest None p.held) (ports_at_first system rows.ports) place port
     (all_empty system rows.ports) (ap (λ (xs : List ComPort). slice_get xs place) (sym are) ∙ here)
 
 -- ---- what arrives

@@ -267,7 +267,7 @@ module _ (rows : Rows) (systems : Systems) (before : List HandedOver) (d : Hande
       subst (λ (o : Option EndSystem). ReadsBackAt o (option_and_then (λ (e : Option EndSystem). e)
       (slice_get (slice_set systems.at_ports.items place now) d.port)) time (option_map answer_of told))
       (sym (ap (λ (n : ℕ). system_in systems n) (sym are.port)
-          ∙ ap (option_and_then (λ (e : Option EndSystem). e)) are.here))
+      ∙ ap (option_and_then (λ (e : Option EndSystem). e)) are.here))
       (subst (λ (o : Option EndSystem). ReadsBackAt at o time (option_map answer_of told))
       (sym (ap (λ (n : ℕ). option_and_then (λ (e : Option EndSystem). e)
       (slice_get (slice_set systems.at_ports.items place now) n)) (sym are.port)

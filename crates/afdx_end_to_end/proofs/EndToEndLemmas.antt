@@ -14,11 +14,11 @@ use Rattle.afdx_config.specs.Lawful.{IsSystem, IsLink, IsLawful, AreDistinct}
 use Rattle.afdx_config.specs.Numbers.{next_number, after_steps}
 use Rattle.afdx_config.specs.Reading.{has_port}
 use Rattle.afdx_config.specs.Rows.{SystemRow, LinkRow, Rows, is_to}
-use Rattle.afdx_config.proofs.EachRowLemmas.{all_at}
 use Rattle.afdx_lists.specs.FrameLines as frame
 use Rattle.afdx_lists.specs.FrameLines.{line_says}
 use Rattle.afdx_lists.specs.Lines.{lines_of, most_lines}
 use Rattle.afdx_frame.specs.Times.{latest_listed}
+use Rattle.afdx_frame.proofs.ListLemmas.{AllByRecursion-slice_get, slice_get-filter}
 use Rattle.afdx_police.specs.Arrival.{Arrival}
 use Rattle.afdx_port.specs.Schedule.{Turn}
 use Rattle.afdx_send.specs.Complete.{IsFor, HasSentAll, EmitsAll, IsOfTaken, AllIsSent}
@@ -29,7 +29,7 @@ use Rattle.afdx_send.specs.Laws.{IsBuildable}
 use Rattle.afdx_send.specs.Releases.{Submission, Release, IsMessage}
 use Rattle.afdx_send.specs.Sender.{SenderHistory}
 use Rattle.afdx_send.proofs.MessageLemmas.{can_be_sent}
-use Rattle.afdx_send.proofs.NewLemmas.{from_filter, distinct_links}
+use Rattle.afdx_send.proofs.NewLemmas.{distinct_links}
 use Rattle.afdx_send.proofs.NextLemmas.{split_last}
 use Rattle.afdx_promises.specs.Lines.{Line, messages_told}
 use Rattle.afdx_promises.specs.Promises.{EachIsToldOnce, EachIsToldOnceSoFar, most_come}
@@ -93,7 +93,7 @@ pub turn-buildable : (n profile : ℕ) (s : SystemRow) (h : SenderHistory) → I
     → AllByRecursion (IsGood l) (own_submissions h.taken i)) → (turn : Turn Frame)
     → IsOfTaken h turn → IsBuildable s turn
 turn-buildable n profile s h system links good turn k =
-    let g = all_at (IsGood k.row) (own_submissions h.taken k.link) k.place k.submission
+    let g = AllByRecursion-slice_get (IsGood k.row) (own_submissions h.taken k.link) k.place k.submission
     (good k.link k.row k.stands) k.taken in
     let m = k.submission.message in
     let can = can_be_sent profile n s k.row m system (links k.link k.row k.stands) g.is_message g.for.fits in
@@ -252,15 +252,15 @@ module _ (laws : Laws) (t : Rows) (lawful : IsLawful t) (admitted : IsAdmitted t
   h = calls_in s links events 1200000000000000
 
   is_system : IsSystem t.profile s
-  is_system = all_at (IsSystem t.profile) t.systems sender s lawful.systems.each sent.stands
+  is_system = AllByRecursion-slice_get (IsSystem t.profile) t.systems sender s lawful.systems.each sent.stands
 
   said : AllByRecursion (IsSaid most_lines) (submissions_in events)
   said = subst (λ (z : List Handed). AllByRecursion (IsSaid most_lines) z)
       (sym sent.are_events.submissions_are) (all-said given (length given) sent.sound)
 
   is_link : (i : ℕ) (l : LinkRow) → slice_get links i ≡ Some l → IsLink (length t.systems) l
-  is_link i l at = (let r = from_filter (λ x. nat_eq x.from sender) t.links i l at in
-      all_at (IsLink (length t.systems)) t.links r.0 l lawful.links.each r.1)
+  is_link i l at = (let r = slice_get-filter (λ x. nat_eq x.from sender) t.links i l at in
+      AllByRecursion-slice_get (IsLink (length t.systems)) t.links r.0 l lawful.links.each r.1)
 
   good : (i : ℕ) (l : LinkRow) → slice_get links i ≡ Some l → AllByRecursion (IsGood l) (taken_by l.vl events)
   good i l at = taken-good most_lines s links (distinct_links t.links sender lawful.links.identifiers)

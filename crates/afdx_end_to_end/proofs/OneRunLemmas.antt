@@ -5,10 +5,10 @@ use Rattle.std.proofs.Common.{arith, append_assoc, append-nil}
 use Rattle.std.specs.List.{slice_get, AllByRecursion}
 use Rattle.std.proofs.lemmas.Bool.{cases_lt}
 use Rattle.std.proofs.lemmas.List.{length-append}
+use Rattle.afdx_frame.proofs.ListLemmas.{AllByRecursion-slice_get}
 use Rattle.afdx_config.specs.Admission.{byte_ns, links_from}
 use Rattle.afdx_config.specs.Lawful.{AreDistinct}
 use Rattle.afdx_config.specs.Rows.{SystemRow, LinkRow}
-use Rattle.afdx_config.proofs.EachRowLemmas.{all_at}
 use Rattle.afdx_lists.specs.SubmissionLines as list
 use Rattle.afdx_port.specs.Schedule.{Turn, end_of}
 use Rattle.afdx_send.specs.Complete.{IsFor}
@@ -205,7 +205,7 @@ module _ (s : SystemRow) (links : List LinkRow) (distinct : AreDistinct (λ l. l
   all-subs events follow i l at j m here =
       let taken = taken-each (λ l m. IsFor l m) (λ x. Unit {0}) (λ l x can q. can) s links distinct
       events follow (no-fact (submissions_in events)) i l at in
-      (all_at (IsFor l) (taken_by l.vl events) j m taken
+      (AllByRecursion-slice_get (IsFor l) (taken_by l.vl events) j m taken
       (subst (λ (z : List Submission). slice_get z j ≡ Some m)
       (own-taken (λ vl. taken_by vl events) links i l at) here)).sub
 

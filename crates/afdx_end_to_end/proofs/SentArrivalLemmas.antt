@@ -4,10 +4,10 @@ use Rattle.std.proofs.Common.{sym, ap, subst, zero, suc, nat_eq}
 use Rattle.std.specs.Prelude.{◌⊎◌}
 use Rattle.std.specs.List.{slice_get, AllByRecursion}
 use Rattle.afdx_frame.specs.Reading.{BuiltIsComputed}
+use Rattle.afdx_frame.proofs.ListLemmas.{AllByRecursion-slice_get, slice_get-filter}
 use Rattle.afdx_config.specs.Admission.{links_from}
 use Rattle.afdx_config.specs.Lawful.{IsSystem, IsLink, IsLawful}
 use Rattle.afdx_config.specs.Rows.{SystemRow, LinkRow, Rows}
-use Rattle.afdx_config.proofs.EachRowLemmas.{all_at}
 use Rattle.afdx_lists.specs.Lines.{most_lines}
 use Rattle.afdx_port.specs.Schedule.{Turn}
 use Rattle.afdx_send.specs.Complete.{IsOfTaken}
@@ -16,7 +16,7 @@ use Rattle.afdx_send.specs.Emissions.{entries_of}
 use Rattle.afdx_send.specs.Frames.{Frame}
 use Rattle.afdx_send.specs.Releases.{Submission}
 use Rattle.afdx_send.specs.Sender.{SenderHistory, IsNextIn}
-use Rattle.afdx_send.proofs.NewLemmas.{from_filter, distinct_links}
+use Rattle.afdx_send.proofs.NewLemmas.{distinct_links}
 use Rattle.afdx_send.specs.Laws.{IsBuildable}
 use Rattle.afdx_engine.specs.Listed.{Handed}
 use Rattle.afdx_sending.specs.Events.{Event, Emitted, Submitted, submissions_in}
@@ -65,11 +65,11 @@ module _ (t : Rows) (sender : ℕ) (s : SystemRow) (lawful : IsLawful t)
   links = links_from t.links sender
 
   is_system : IsSystem t.profile s
-  is_system = all_at (IsSystem t.profile) t.systems sender s lawful.systems.each stands
+  is_system = AllByRecursion-slice_get (IsSystem t.profile) t.systems sender s lawful.systems.each stands
 
   is_link : (i : ℕ) (l : LinkRow) → slice_get links i ≡ Some l → IsLink (length t.systems) l
-  is_link i l at = (let r = from_filter (λ x. nat_eq x.from sender) t.links i l at in
-      all_at (IsLink (length t.systems)) t.links r.0 l lawful.links.each r.1)
+  is_link i l at = (let r = slice_get-filter (λ x. nat_eq x.from sender) t.links i l at in
+      AllByRecursion-slice_get (IsLink (length t.systems)) t.links r.0 l lawful.links.each r.1)
 
   own-good : (events : List Event) (time : ℕ) → EachFollows s links events
       → AllByRecursion (IsSaid most_lines) (submissions_in events) → (i : ℕ) (l : LinkRow)

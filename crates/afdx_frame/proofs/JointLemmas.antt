@@ -1,5 +1,5 @@
 -- What the window adds to a message, and how each block changes it.
-use Rattle.std.proofs.Common.{◌≡◌, ℕ, zero, suc, ◌+◌, ◌-◌, ◌*◌, ◌^◌, ◌<◌, ◌≤◌, inl, inr}
+use Rattle.std.proofs.Common.{◌≡◌, ℕ, zero, suc, ◌+◌, ◌-◌, ◌*◌, ◌^◌, ◌<◌, ◌≤◌}
 use Rattle.std.proofs.Common.{List, [], ◌∷◌, ◌++◌, length, take, drop, replicate}
 use Rattle.std.proofs.Common.{refl, sym, ap, ap₂, ◌∙◌, arith, subst, zero-add}
 use Rattle.std.specs.Prelude.{bit_xor}
@@ -7,16 +7,13 @@ use Rattle.std.specs.Int.Bits.{xor_lt, xor_block, xor_zero_l, xor_zero_r, xor_co
 use Rattle.std.specs.Simd.Lanes.{zip2, put_chunk}
 use Rattle.std.specs.Int.{w32, to_le_bytes}
 use Rattle.std.proofs.lemmas.List.{drop-drop, length-take, length-drop, take-append-drop, take_all}
-use Rattle.std.proofs.lemmas.List.{get_or-take, get_or_past}
-use Rattle.std.proofs.lemmas.Bool.{cases_lt}
 use Rattle.std.proofs.lemmas.Simd.{length-zip2, length-put_chunk}
 use Rattle.std.proofs.Math.Nat.{suc-add}
-use Rattle.std.proofs.Common.{pow-add}
 use Rattle.afdx_frame.specs.Register.{shift, number}
 use Rattle.afdx_frame.specs.Folding.{number_from, joint_block, joint, joined, after_rest}
 use Rattle.afdx_frame.specs.Sealing.{AreBytes}
 use Rattle.afdx_frame.proofs.RegisterLemmas.{shift_front}
-use Rattle.afdx_frame.proofs.LeftLemmas.{number-append, number_lt, AreBytes-drop}
+use Rattle.afdx_frame.proofs.LeftLemmas.{number-append, number_lt, AreBytes-take, AreBytes-drop, pow_byte}
 use Rattle.afdx_frame.proofs.TableLemmas.{bytes_and_more}
 use Rattle.afdx_frame.proofs.FoldingLemmas.{behind, taken_away, gathered}
 
@@ -29,12 +26,6 @@ pub record Parts (whole rest : ℕ) (block : List ℕ) : Type 0 where
 
 small : (block : List ℕ) → AreBytes block → length block ≡ 16 → number block < 2 ^ 128
 small block h l = subst (λ (n : ℕ). number block < 2 ^ (8 * n)) l (number_lt block h)
-
-AreBytes-take : (n : ℕ) (bytes : List ℕ) → AreBytes bytes → AreBytes (take n bytes)
-AreBytes-take n bytes h i = elim (cases_lt i n) [
-  | inl lt ↦ rw (get_or-take n bytes i 0 lt) (h i)
-  | inr le ↦ rw (get_or_past (take n bytes) i 0 (omega (arith, length-take n bytes))) (omega arith)
-]
 
 parts_from : (bytes : List ℕ) (at : ℕ) → AreBytes bytes → at + 16 ≤ length bytes
     → Parts (number_from bytes at) (number_from bytes (at + 16)) (take 16 (drop at bytes))
@@ -105,11 +96,6 @@ number_put [] [] l h = refl
 number_put [] (y ∷ ys) l h = absurd (omega arith)
 number_put (x ∷ xs) [] l h = h
 number_put (x ∷ xs) (y ∷ ys) l h = ap (λ (n : ℕ). n * 256 + y) (number_put xs ys (omega arith) (omega arith))
-
-pow_byte : (d : ℕ) → 2 ^ (8 * suc d) ≡ 2 ^ (8 * d) * 256
-pow_byte d = ap (λ (k : ℕ). 2 ^ k) width ∙ pow-add 2 (8 * d) 8 where
-  width : 8 * suc d ≡ 8 * d + 8
-  width = omega arith
 
 put_behind : (d : ℕ) (xs ys : List ℕ) → AreBytes xs → d + length ys ≤ length xs → number (drop d xs) ≡ 0
     → number (put_chunk d xs ys) ≡ bit_xor (number xs) (number ys * 2 ^ (8 * d))

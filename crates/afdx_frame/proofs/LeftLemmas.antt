@@ -30,7 +30,7 @@ pub left-none : (register : ℕ) → left [] register ≡ register
 unfolding left number shift
 left-none register = xor_zero_r register
 
-pow_byte : (n : ℕ) → 2 ^ (8 * suc n) ≡ 2 ^ (8 * n) * 256
+pub pow_byte : (n : ℕ) → 2 ^ (8 * suc n) ≡ 2 ^ (8 * n) * 256
 pow_byte n = ap (λ (k : ℕ). 2 ^ k) (width n) ∙ pow-add 2 (8 * n) 8 where
   width : (n : ℕ) → 8 * suc n ≡ 8 * n + 8
   width n = omega arith
@@ -92,6 +92,12 @@ left-block bytes i register next h within e =
       | inl lt ↦ rw (get_or-take 8 (drop (i * 8) bytes) k 0 lt, get_or-drop) (h (i * 8 + k))
       | inr le ↦ rw (get_or_past (take 8 (drop (i * 8) bytes)) k 0 (omega (arith, long))) (omega arith)
     ]
+
+pub AreBytes-take : (n : ℕ) (bytes : List ℕ) → AreBytes bytes → AreBytes (take n bytes)
+AreBytes-take n bytes h i = elim (cases_lt i n) [
+  | inl lt ↦ rw (get_or-take n bytes i 0 lt) (h i)
+  | inr le ↦ rw (get_or_past (take n bytes) i 0 (omega (arith, length-take n bytes))) (omega arith)
+]
 
 pub AreBytes-drop : (n : ℕ) (bytes : List ℕ) → AreBytes bytes → AreBytes (drop n bytes)
 AreBytes-drop n bytes h i = rw get_or-drop (h (n + i))

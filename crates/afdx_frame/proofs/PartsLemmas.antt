@@ -18,8 +18,8 @@ use Rattle.afdx_frame.specs.Sealing.{is_sealed, AreBytes}
 use Rattle.afdx_frame.specs.Layout.{IsTo, IsFrame, FrameFault, link_named_by, unsealed}
 use Rattle.afdx_frame.specs.Parts.{FrameParts, type_of_frame, body_of_frame, number_of_frame}
 use Rattle.afdx_frame.specs.Parts.{frame_with, frame_of, IsFrameOf, AreAtPlaces, FrameIsComputed}
-use Rattle.afdx_frame.proofs.LeftLemmas.{AreBytes-drop}
-use Rattle.afdx_frame.proofs.SealingLemmas.{is_sealed-decides, AreBytes-take}
+use Rattle.afdx_frame.proofs.LeftLemmas.{AreBytes-take, AreBytes-drop}
+use Rattle.afdx_frame.proofs.SealingLemmas.{is_sealed-decides}
 use Rattle.afdx_frame.proofs.LayoutLemmas.{is_frame}
 use Rattle.afdx_frame.proofs.LinkLemmas.{link_is_computed}
 use Rattle.afdx_frame.proofs.SoundLemmas.{frames_are_sound, frame_is_to}

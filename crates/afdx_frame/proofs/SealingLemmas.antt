@@ -1,6 +1,6 @@
 -- What computes of a check sequence agrees with the remainder.
 use Rattle.std.proofs.Common.{◌≡◌, ℕ, zero, suc, ◌+◌, ◌-◌, ◌*◌, ◌/◌, ◌%◌, ◌^◌, ◌<◌, ◌≤◌, inl, inr}
-use Rattle.std.proofs.Common.{Bool, true, false, cond, List, [], ◌∷◌, ◌++◌, length, take, drop}
+use Rattle.std.proofs.Common.{Bool, true, false, cond, List, ◌++◌, length, take, drop}
 use Rattle.std.proofs.Common.{refl, sym, ap, ap₂, subst, ◌∙◌, arith}
 use Rattle.std.specs.Prelude.{bit_xor, ◌==◌, ◌&&◌, nat_le}
 use Rattle.std.specs.Bool.{Decides}
@@ -18,7 +18,7 @@ use Rattle.afdx_frame.specs.Register.{shifted, shift, number}
 use Rattle.afdx_frame.specs.Sealing.{sequence_of, sealed, sealed_wrongly, is_sealed, AreBytes}
 use Rattle.afdx_frame.specs.Sealing.{SequenceIsComputed, SealingIsComputed}
 use Rattle.afdx_frame.proofs.RegisterLemmas.{sequence_is}
-use Rattle.afdx_frame.proofs.LeftLemmas.{number_lt}
+use Rattle.afdx_frame.proofs.LeftLemmas.{number_lt, AreBytes-take}
 use Rattle.afdx_frame.proofs.OnlyOneLemmas.{only_one}
 use Rattle.afdx_frame.proofs.SealedLemmas as last
 
@@ -89,12 +89,6 @@ is_sealed-short bytes h =
     ap (λ (b : Bool). b && bytes_eq (drop (length bytes - 4) bytes)
     (to_le_bytes w32 (sequence_of (take (length bytes - 4) bytes))))
     (false_from_ne_true (nat_le 4 (length bytes)) (λ e. absurd (omega (arith, leb-true 4 (length bytes) e))))
-
-pub AreBytes-take : (n : ℕ) (bytes : List ℕ) → AreBytes bytes → AreBytes (take n bytes)
-AreBytes-take zero bytes h i = omega arith
-AreBytes-take (suc n) [] h i = omega arith
-AreBytes-take (suc n) (b ∷ bytes) h zero = h 0
-AreBytes-take (suc n) (b ∷ bytes) h (suc i) = AreBytes-take n bytes (λ k. h (suc k)) i
 
 pub is_sealed-decides : (bytes : List ℕ) → AreBytes bytes → Decides (is_sealed bytes) (IsSealed bytes)
 is_sealed-decides bytes h = elim (cases_lt (length bytes) 4) [

@@ -7,6 +7,10 @@ use Rattle.std.specs.List.{list_any}
 abbrev pub gaps : List ℕ
 gaps = 1 ∷ 2 ∷ 4 ∷ 8 ∷ 16 ∷ 32 ∷ 64 ∷ 128 ∷ []
 
+-- the longest of them
+abbrev pub longest_gap : ℕ
+longest_gap = 128
+
 abbrev pub is_bag : ℕ → Bool
 is_bag ms = list_any (λ bag. bag == ms) gaps
 
@@ -44,7 +48,7 @@ byte_units = 128000000
 
 -- the units by which the account is filled in a nanosecond: the greatest wire size in each gap
 abbrev pub fill_rate : Regulation → ℕ
-fill_rate link = link.smax * (128 / link.bag_ms)
+fill_rate link = link.smax * (longest_gap / link.bag_ms)
 
 -- the units of a full account
 abbrev pub cap : Regulation → ℕ

@@ -1,16 +1,15 @@
 -- The check sequence as a function of a message, and what is sealed by it.
-use Rattle.std.specs.Prelude.{◌≡◌, ◌↔◌, ℕ, ◌-◌, ◌*◌, ◌<◌, ◌^◌, Bool, false, ◌&&◌, nat_le, IsTrue}
-use Rattle.std.specs.Prelude.{List, ◌++◌, length, take, drop, slice_index, bit_xor}
+use Rattle.std.specs.Prelude.{◌≡◌, ◌↔◌, ℕ, ◌-◌, ◌<◌, ◌^◌, Bool, false, ◌&&◌, nat_le, IsTrue}
+use Rattle.std.specs.Prelude.{List, ◌++◌, length, take, drop, slice_index}
 use Rattle.std.specs.Int.{w32, to_le_bytes}
 use Rattle.std.specs.Str.{bytes_eq}
 use Rattle.afdx_frame.specs.Sequence.{IsSequence, IsSealed}
-use Rattle.afdx_frame.specs.Register.{number, shift}
+use Rattle.afdx_frame.specs.Register.{left_by}
 
 -- the sequence of a message: what the message, its first 32 bits complemented, leaves in the
 -- register, complemented
 unfoldable pub sequence_of : List ℕ → ℕ
-sequence_of message =
-    0xffff_ffff - shift (8 * length message) (bit_xor 0xffff_ffff (number message))
+sequence_of message = 0xffff_ffff - left_by message
 
 -- these bytes and their sequence
 abbrev pub sealed : List ℕ → List ℕ

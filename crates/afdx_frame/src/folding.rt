@@ -8,7 +8,7 @@
 
 ghost use Rattle.std.specs.Prelude.{◌≡◌, ◌+◌, ◌*◌, ◌≤◌, bit_xor, length};
 ghost use Rattle.afdx_frame.specs.Folding.{joint_block, number_from, joined, after_rest};
-ghost use Rattle.afdx_frame.specs.Register.{number, shift};
+ghost use Rattle.afdx_frame.specs.Register.{number, shift, left_by};
 
 use crate::register::{after_bytes, block_step};
 use std::simd::prelude::*;
@@ -113,7 +113,7 @@ fn fold(bytes: &[u8]) -> (u32, usize)
 /// The register after a long message. Its front is folded.
 #[inline(never)]
 fn after_long(bytes: &[u8]) -> u32
-    ensures { result ≡ shift (8 * length bytes.now) (bit_xor 0xffff_ffff (number bytes.now)) }
+    ensures { result ≡ left_by bytes.now }
 {
     let (front, folded) = fold(bytes);
     after_bytes(front, &bytes[folded..])
@@ -122,7 +122,7 @@ fn after_long(bytes: &[u8]) -> u32
 /// The register after a message.
 #[inline(always)]
 pub(crate) fn after_message(bytes: &[u8]) -> u32
-    ensures { result ≡ shift (8 * length bytes.now) (bit_xor 0xffff_ffff (number bytes.now)) }
+    ensures { result ≡ left_by bytes.now }
 {
     if bytes.len() < LEAST_FOLDED {
         return after_bytes(u32::MAX, bytes);

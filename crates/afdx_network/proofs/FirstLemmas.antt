@@ -5,6 +5,7 @@ use Rattle.std.proofs.lemmas.Grind.{common_steps}
 use Rattle.std.specs.List.{AllByRecursion}
 use Rattle.afdx_frame.specs.declared.link.Side.{Side}
 use Rattle.afdx_frame.specs.declared.link.Side.TheVariants.{A, B}
+use Rattle.afdx_frame.proofs.ListLemmas.{slice_get-within}
 use Rattle.afdx_config.specs.Rows.{Rows}
 use Rattle.afdx_port.specs.Schedule.{Turn, AreTurns}
 use Rattle.afdx_port.specs.ScheduleOf.{AreInOrder as AreTimed}
@@ -17,7 +18,6 @@ use Rattle.afdx_switch.specs.Switching.{SwitchHistory, IsDone, taken_at}
 use Rattle.afdx_switch.specs.Tables.{byte_ns_at, entries_at}
 use Rattle.afdx_switch.specs.declared.switch_state.SwitchState.{SwitchState}
 use Rattle.afdx_switch.proofs.LawLemmas.{taken-turns}
-use Rattle.afdx_switch.proofs.StandsLemmas.{found-at}
 use Rattle.afdx_network.specs.Events.{Event, Came, Left, turns_at, departures_of, all_events}
 use Rattle.afdx_network.specs.Events.{arrivals_in, turns_on, calls_on}
 use Rattle.afdx_network.specs.Order.{key, is_below, is_before, IsAmong, AreEvents, AreEventsSoFar}
@@ -33,7 +33,7 @@ entries-timed : (t : Rows) (side : Side) (w : SwitchState) (h : SwitchHistory) (
     → switch.StandsFor t side w h → 1 ≤ port → port ≤ 24 → AreTimed (entries_at t side port h.arrivals)
 entries-timed t side w h zero st low high = absurd (omega (arith, low))
 entries-timed t side w h (suc i) st low high =
-    let p = found-at w.ports.items i (omega (arith, st.port_count, high)) in
+    let p = slice_get-within w.ports.items i (omega (arith, st.port_count, high)) in
     subst (λ k. AreTimed (entries_at t side k h.arrivals)) (omega arith) (st.ports i p.0 p.1).in_order
 
 -- the turns of a port are those that were taken, and later ones

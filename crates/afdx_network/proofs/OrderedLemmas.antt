@@ -214,7 +214,7 @@ are-events t arrivals = record {
 }
 
 -- those that pass a test
-filter-own : (p : Event → Bool) (e : Event) (es : List Event) → IsAmong e (filter p es) → IsAmong e es × IsTrue (p e)
+pub filter-own : (p : Event → Bool) (e : Event) (es : List Event) → IsAmong e (filter p es) → IsAmong e es × IsTrue (p e)
 filter-own p e [] h = absurd h
 filter-own p e (x ∷ es) h = by (p x) refl h (filter-own p e es)
   where
@@ -224,7 +224,7 @@ filter-own p e (x ∷ es) h = by (p x) refl h (filter-own p e es)
     by true is (inr later) more = let r = more later in (inr r.0, r.1)
     by false is later more = let r = more later in (inr r.0, r.1)
 
-filter-all : (p : Event → Bool) (e : Event) (es : List Event) → IsAmong e es → p e ≡ true → IsAmong e (filter p es)
+pub filter-all : (p : Event → Bool) (e : Event) (es : List Event) → IsAmong e es → p e ≡ true → IsAmong e (filter p es)
 filter-all p e [] h passes = absurd h
 filter-all p e (x ∷ es) h passes = by (p x) refl h (λ among. filter-all p e es among passes)
   where
@@ -235,7 +235,7 @@ filter-all p e (x ∷ es) h passes = by (p x) refl h (λ among. filter-all p e e
     by false is (inl same) more = absurd (let passes_x : p x ≡ true = subst (λ z. p z ≡ true) same passes in cc)
     by false is (inr later) more = more later
 
-filter-order : (p : Event → Bool) (es : List Event) → AreInOrder es → AreInOrder (filter p es)
+pub filter-order : (p : Event → Bool) (es : List Event) → AreInOrder es → AreInOrder (filter p es)
 filter-order p [] h = tt
 filter-order p (x ∷ es) h = by (p x) (filter-order p es h.1)
   where

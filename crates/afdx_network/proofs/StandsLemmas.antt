@@ -28,7 +28,7 @@ use Rattle.afdx_network.specs.Events.{Event, Came, Left, departure_with, admissi
 use Rattle.afdx_network.specs.Events.{arrivals_in, turns_on, calls_on}
 use Rattle.afdx_network.specs.Order.{phase_of, side_number, key, is_below, is_before, IsAmong}
 use Rattle.afdx_network.specs.First.{IsAFirst, IsBFirst, IsFirstSide}
-use Rattle.afdx_network.specs.Network.{IsUntil, IsQuiet, departure_after, IsNextOn, StandsFor, Gives}
+use Rattle.afdx_network.specs.Network.{IsUntil, IsQuiet, departure_after, IsNextOn, StandsFor, GoesFirst, Gives}
 use Rattle.afdx_network.specs.declared.network.Network.{Network}
 use Rattle.afdx_network.proofs.OrderLemmas.{below_first, below_next, below_trans, before_trans, all_from}
 use Rattle.afdx_network.proofs.EventLemmas.{ports-same, taken-same, taken-other}
@@ -178,7 +178,7 @@ module _ (t : Rows) (n : Network) (events : List Event) (st : StandsFor t n even
       switch.StandsFor t A a (with_take (calls_on A events (switch.last_time n.switches.a))
       (record { port = port; turn = s }) until) →
       StandsFor t (record { switches = record { a = a; b = n.switches.b } })
-          (Left (departure_after events A port s) ∷ events)
+      (Left (departure_after events A port s) ∷ events)
   stands-left-a a until port s low high next first by later is = record {
     lawful = st.lawful;
     on_a = subst (λ time. switch.StandsFor t A a
@@ -202,7 +202,7 @@ module _ (t : Rows) (n : Network) (events : List Event) (st : StandsFor t n even
       switch.StandsFor t B b (with_take (calls_on B events (switch.last_time n.switches.b))
       (record { port = port; turn = s }) until) →
       StandsFor t (record { switches = record { a = n.switches.a; b = b } })
-          (Left (departure_after events B port s) ∷ events)
+      (Left (departure_after events B port s) ∷ events)
   stands-left-b b until port s low high next first by later is = record {
     lawful = st.lawful;
     on_a = st.on_a;
@@ -304,15 +304,48 @@ module _ (t : Rows) (n : Network) (events : List Event) (st : StandsFor t n even
   if-more None m k le h = tt
   if-more (Some d) m k le h = omega (arith, le, h)
 
+  any-time : (side : Side) (time : ℕ) (gone : PortTurn) → IsNextOf t side (calls_on side events time) gone
+      → IsNextOf t side (calls_on side events 0) gone
+  any-time side time gone next = record {
+    port_first = next.port_first;
+    port_last = next.port_last;
+    next = next.next;
+    first = next.first;
+  }
+
+  goes-first-a : (time : ℕ) (gone : PortTurn) → IsNextOf t A (calls_on A events time) gone
+      → ((number : ℕ) (r : Turn HeldFrame) → 1 ≤ number → number ≤ 24 → IsNextOn t events B number r
+      → order_of (due_at gone.turn) ≤ order_of (due_at r)) → GoesFirst t events A gone.turn
+  goes-first-a time gone next others A number r low high is_next = elim (next.first number r low high is_next) [
+    | inl lt ↦ inl lt
+    | inr same ↦ inr (same.0, omega arith)
+  ]
+  goes-first-a time gone next others B number r low high is_next =
+      let le = others number r low high is_next in
+      elim (cases_eq (order_of (due_at gone.turn)) (order_of (due_at r))) [
+        | inl same ↦ inr (same, omega arith)
+        | inr other ↦ inl (omega (arith, le, other))
+      ]
+
+  goes-first-b : (time : ℕ) (gone : PortTurn) → IsNextOf t B (calls_on B events time) gone
+      → ((number : ℕ) (r : Turn HeldFrame) → 1 ≤ number → number ≤ 24 → IsNextOn t events A number r
+      → order_of (due_at gone.turn) + 1 ≤ order_of (due_at r)) → GoesFirst t events B gone.turn
+  goes-first-b time gone next others B number r low high is_next = elim (next.first number r low high is_next) [
+    | inl lt ↦ inl lt
+    | inr same ↦ inr (same.0, omega arith)
+  ]
+  goes-first-b time gone next others A number r low high is_next =
+      inl (let le = others number r low high is_next in omega (arith, le))
+
   gives-a : (a : SwitchState) (until : ℕ) (value : switch_departure.Departure)
       (due_a due_b : Option Due) → IsAFirst until due_a due_b → switch.last_time n.switches.a ≤ until →
       IfSome due_a (λ d. IsDue t A (calls_on A events (switch.last_time n.switches.a)) d)
       → IfSome due_b (λ d. IsDue t B (calls_on B events (switch.last_time n.switches.b)) d) →
       ((port : ℕ) → 1 ≤ port → port ≤ 24 → IfNone due_b
-          (IsDone t B (calls_on B events (switch.last_time n.switches.b)) port)) →
+      (IsDone t B (calls_on B events (switch.last_time n.switches.b)) port)) →
       switch.Gives t A (calls_on A events (switch.last_time n.switches.a)) until value a
       → Gives t events until (record { side = A; departure = value })
-        (record { switches = record { a = a; b = n.switches.b } })
+      (record { switches = record { a = a; b = n.switches.b } })
   gives-a a until value due_a due_b first clock comes_a comes_b done_b g =
       let due : IsDue t A (calls_on A events (switch.last_time n.switches.a)) first.due =
       subst (λ z. IfSome z (λ d. IsDue t A (calls_on A events (switch.last_time n.switches.a)) d))
@@ -328,6 +361,8 @@ module _ (t : Rows) (n : Network) (events : List Event) (st : StandsFor t n even
         stands = stands-left-a a until g.gone.port g.gone.turn g.next.port_first g.next.port_last
             g.next.next (first-a (switch.last_time n.switches.a) g.gone.port g.gone.turn g.next others)
             g.in_time clock g.stands;
+        next = any-time A (switch.last_time n.switches.a) g.gone g.next;
+        first = goes-first-a (switch.last_time n.switches.a) g.gone g.next others;
       }
 
   gives-b : (b : SwitchState) (until : ℕ) (value : switch_departure.Departure)
@@ -335,10 +370,10 @@ module _ (t : Rows) (n : Network) (events : List Event) (st : StandsFor t n even
       IfSome due_b (λ d. IsDue t B (calls_on B events (switch.last_time n.switches.b)) d)
       → IfSome due_a (λ d. IsDue t A (calls_on A events (switch.last_time n.switches.a)) d) →
       ((port : ℕ) → 1 ≤ port → port ≤ 24 → IfNone due_a
-          (IsDone t A (calls_on A events (switch.last_time n.switches.a)) port)) →
+      (IsDone t A (calls_on A events (switch.last_time n.switches.a)) port)) →
       switch.Gives t B (calls_on B events (switch.last_time n.switches.b)) until value b
       → Gives t events until (record { side = B; departure = value })
-        (record { switches = record { a = n.switches.a; b = b } })
+      (record { switches = record { a = n.switches.a; b = b } })
   gives-b b until value due_a due_b first clock comes_b comes_a done_a g =
       let due : IsDue t B (calls_on B events (switch.last_time n.switches.b)) first.due =
       subst (λ z. IfSome z (λ d. IsDue t B (calls_on B events (switch.last_time n.switches.b)) d))
@@ -355,6 +390,8 @@ module _ (t : Rows) (n : Network) (events : List Event) (st : StandsFor t n even
         stands = stands-left-b b until g.gone.port g.gone.turn g.next.port_first g.next.port_last
             g.next.next (first-b (switch.last_time n.switches.b) g.gone.port g.gone.turn g.next others)
             g.in_time clock g.stands;
+        next = any-time B (switch.last_time n.switches.b) g.gone g.next;
+        first = goes-first-b (switch.last_time n.switches.b) g.gone g.next others;
       }
 
   -- a frame arrived at side A
@@ -418,7 +455,7 @@ module _ (t : Rows) (n : Network) (events : List Event) (st : StandsFor t n even
           IsTrue (is_before e (Came (admission_after t (arrivals_in events)
           (arrival_with tag time A port bytes))))) events
           (came-after time until (arrival_with tag time A port bytes) refl
-              (record { switches = record { a = a; b = n.switches.b } })
+          (record { switches = record { a = a; b = n.switches.b } })
           later quiet),
       st.in_order,
     );
@@ -469,7 +506,7 @@ module _ (t : Rows) (n : Network) (events : List Event) (st : StandsFor t n even
           IsTrue (is_before e (Came (admission_after t (arrivals_in events)
           (arrival_with tag time B port bytes))))) events
           (came-after time until (arrival_with tag time B port bytes) refl
-              (record { switches = record { a = n.switches.a; b = b } })
+          (record { switches = record { a = n.switches.a; b = b } })
           later quiet),
       st.in_order,
     );
@@ -527,9 +564,9 @@ module _ (t : Rows) (n : Network) (events : List Event) (st : StandsFor t n even
       IfSome due_a (λ d. IsDue t A (calls_on A events (switch.last_time n.switches.a)) d)
       → IfSome due_b (λ d. IsDue t B (calls_on B events (switch.last_time n.switches.b)) d) →
       ((port : ℕ) → 1 ≤ port → port ≤ 24 → IfNone due_a
-          (IsDone t A (calls_on A events (switch.last_time n.switches.a)) port)) →
+      (IsDone t A (calls_on A events (switch.last_time n.switches.a)) port)) →
       ((port : ℕ) → 1 ≤ port → port ≤ 24 → IfNone due_b
-          (IsDone t B (calls_on B events (switch.last_time n.switches.b)) port)) →
+      (IsDone t B (calls_on B events (switch.last_time n.switches.b)) port)) →
       switch.Gives t side (calls_on side events (switch.last_time (on side n.switches))) until value new
       → Gives t events until (record { side = side; departure = value })
       (record { switches = with_on side n.switches new })

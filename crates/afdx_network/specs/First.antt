@@ -6,6 +6,13 @@ use Rattle.afdx_port.specs.declared.left.Due.{Due}
 use Rattle.afdx_port.specs.Due.{given_at, IsBy, IsAfter, order_of}
 use Rattle.afdx_port.specs.Times.{drain_end}
 
+-- of two turns that stand here in the order of turns, of side A and of side B, this is the first
+pub record IsFirstOf (a b order : ℕ) (side : Side) : Type 0 where
+  pub least_a : order ≤ a
+  pub least_b : order ≤ b
+  pub at_a : side ≡ A → order ≡ a
+  pub at_b : side ≡ B → (order ≡ b) × (order < a)
+
 -- the turn that is due at A is given by then, and goes before that of B or together with it
 pub record IsAFirst (until : ℕ) (a b : Option Due) : Type 0 where
   pub due : Due

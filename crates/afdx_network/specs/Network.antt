@@ -1,25 +1,27 @@
 -- What the switches of both sides have to do with the events so far.
-use Rattle.std.specs.Prelude.{ℕ, ◌≡◌, ◌+◌, ◌≤◌, true, Option, Some, None, List, [], ◌∷◌, length, filter}
+use Rattle.std.specs.Prelude.{ℕ, ◌≡◌, ◌+◌, ◌<◌, ◌≤◌, ◌⊎◌, true, Option, Some, None, List, [], ◌∷◌, length, filter}
 use Rattle.afdx_frame.specs.declared.link.Side.{Side}
 use Rattle.afdx_frame.specs.declared.link.Side.TheVariants.{A, B}
 use Rattle.afdx_frame.specs.Ports.{last_port}
 use Rattle.afdx_config.specs.Lawful.{IsLawful}
 use Rattle.afdx_config.specs.Rows.{Rows}
 use Rattle.afdx_police.specs.declared.shape.Reason.{Reason}
-use Rattle.afdx_port.specs.Due.{IsBy}
+use Rattle.afdx_port.specs.Due.{IsBy, order_of}
 use Rattle.afdx_port.specs.History.{left_of, due_at}
 use Rattle.afdx_port.specs.Schedule.{Turn}
+use Rattle.afdx_switch.specs.Calls as calls
 use Rattle.afdx_switch.specs.Departures.{as_given, giving_port}
 use Rattle.afdx_switch.specs.HeldFrames.{HeldFrame}
 use Rattle.afdx_switch.specs.Switching as switch
-use Rattle.afdx_switch.specs.Switching.{IsNextAt, taken_at}
+use Rattle.afdx_switch.specs.Switching.{IsNextAt, IsNextOf, taken_at}
 use Rattle.afdx_switch.specs.Ports.{holds}
 use Rattle.afdx_switch.specs.declared.ports.PortSet.{PortSet}
 use Rattle.afdx_switch.specs.Verdicts.{numbers}
 use Rattle.afdx_switch.specs.declared.verdict.Verdict.{Verdict}
 use Rattle.afdx_switch.specs.declared.verdict.Verdict.TheVariants.{Dropped, Accepted}
 use Rattle.afdx_network.specs.Events.{Event, Came, Left, Admission, Departure, departure_with, admission_after, arrivals_in, turns_on, calls_on}
-use Rattle.afdx_network.specs.Order.{IsAmong, AreInOrder, is_below, is_before, key}
+use Rattle.afdx_network.specs.First.{IsFirstOf}
+use Rattle.afdx_network.specs.Order.{IsAmong, AreInOrder, is_below, is_before, key, side_number}
 use Rattle.afdx_network.specs.declared.network.Departed.{Departed}
 use Rattle.afdx_network.specs.declared.network.Network.{Network}
 
@@ -64,6 +66,14 @@ pub record IsQuiet (n : Network) (time : ℕ) : Type 0 where
   pub on_a : switch.IsQuiet n.switches.a time
   pub on_b : switch.IsQuiet n.switches.b time
 
+-- the first turn of both sides stands here in the order of turns, and is that of this side
+pub record TellsOrder (n : Network) (order : ℕ) (side : Side) : Type 0 where
+  pub a : ℕ
+  pub b : ℕ
+  pub tells_a : calls.TellsOrder n.switches.a a
+  pub tells_b : calls.TellsOrder n.switches.b b
+  pub first : IsFirstOf a b order side
+
 -- how many frames the output ports of both switches hold
 abbrev pub frames_held : Network → ℕ
 frames_held n = switch.frames_held n.switches.a + switch.frames_held n.switches.b
@@ -105,10 +115,23 @@ pub record Hands (value : Departed) (d : Departure) : Type 0 where
   pub port : giving_port value.departure ≡ d.port
   pub left : as_given value.departure ≡ left_of d.turn
 
--- the next event is a departure, it is given by then, and its frame is handed out
+-- no turn of either side goes before this one of a side
+abbrev pub GoesFirst : Rows → List Event → Side → Turn HeldFrame → Type 0
+GoesFirst t events side s = (other : Side) (port : ℕ) (r : Turn HeldFrame) →
+    1 ≤ port →
+    port ≤ last_port →
+    IsNextOn t events other port r →
+    (order_of (due_at s) < order_of (due_at r))
+    ⊎ ((order_of (due_at s) ≡ order_of (due_at r)) × (side_number side ≤ side_number other))
+
+-- the next event is a departure, it is given by then, and its frame is handed out; it is the first
+-- turn of its side's switch, and of both
 pub record Gives (t : Rows) (events : List Event) (until : ℕ) (value : Departed)
     (new : Network) : Type 0 where
   pub departure : Departure
   pub in_time : IsBy until (due_at departure.turn)
   pub hands : Hands value departure
   pub stands : StandsFor t new (Left departure ∷ events)
+  pub next : IsNextOf t departure.side (calls_on departure.side events 0)
+      (record { port = departure.port; turn = departure.turn })
+  pub first : GoesFirst t events departure.side departure.turn

@@ -6,11 +6,11 @@ ghost use Rattle.afdx_frame.specs.Ports.{last_port};
 ghost use Rattle.afdx_port.specs.Times.{drain_end, latest_put};
 ghost use Rattle.afdx_port.specs.Ports.{order_at};
 ghost use Rattle.afdx_port.specs.declared.left.Due.{Due};
-ghost use Rattle.afdx_network.specs.First.{IsFirstSide, IsLimited};
+ghost use Rattle.afdx_network.specs.First.{IsFirstOf, IsFirstSide, IsLimited};
 
 use afdx_config::Tables;
 use afdx_frame::{BySide, Checked, Side};
-use afdx_port::is_given;
+use afdx_port::TurnOrder;
 use afdx_switch::{Departure, Switch, Verdict};
 use std::alloc::{AllocError, Global};
 
@@ -21,18 +21,26 @@ pub struct Departed {
     pub departure: Departure,
 }
 
-/// The side whose turn goes first, if it is given by `until`: by time, at one time slots before
-/// drops, then side A.
-fn first_side(order_a: u64, order_b: u64, until: u64) -> Option<Side>
-    ensures { (a b : Option Due) → order_a ≡ order_at a → order_b ≡ order_at b →
-        IsLimited a → IsLimited b → IsFirstSide until a b result }
+/// The first of the next turns of both sides: where it stands in the order of turns, and its side,
+/// which is A if both stand at one place.
+fn first_of(order_a: TurnOrder, order_b: TurnOrder) -> (TurnOrder, Side)
+    ensures { IsFirstOf order_a.0 order_b.0 result.0.0 result.1 }
 {
-    let (order, side) = if order_a <= order_b {
+    if order_a.goes_before(order_b) {
         (order_a, Side::A)
     } else {
         (order_b, Side::B)
-    };
-    if is_given(order, until) {
+    }
+}
+
+/// The side whose turn goes first, if it is given by `until`: by time, at one time slots before
+/// drops, then side A.
+fn first_side(order_a: TurnOrder, order_b: TurnOrder, until: u64) -> Option<Side>
+    ensures { (a b : Option Due) → order_a.0 ≡ order_at a → order_b.0 ≡ order_at b →
+        IsLimited a → IsLimited b → IsFirstSide until a b result }
+{
+    let (order, side) = first_of(order_a, order_b);
+    if order.is_given(until) {
         Some(side)
     } else {
         None
@@ -58,7 +66,7 @@ impl Network {
     ghost use Rattle.afdx_switch.specs.Verdicts.{shape_fault};
     ghost use Rattle.afdx_network.specs.Events.{Event, Came, admission_after, arrivals_in};
     ghost use Rattle.afdx_network.specs.Order.{AreEvents};
-    ghost use Rattle.afdx_network.specs.Network.{IsUntil, IsQuiet, StandsFor, Tells, Gives, frames_held};
+    ghost use Rattle.afdx_network.specs.Network.{IsUntil, IsQuiet, StandsFor, Tells, TellsOrder, Gives, frames_held};
 
     /// The switches of these tables at time 0, with full accounts and idle ports.
     /// The error says that memory was refused.
@@ -124,6 +132,14 @@ impl Network {
             shape_fault t arrival ≡ None → IsEarlyBy t (arrivals_in events) arrival result }
     {
         self.switches.get(side).early(time, port, frame)
+    }
+
+    /// Where the next turn of both sides stands in the order of turns, and whose it is: by time, at
+    /// one time slots before drops, then side A.
+    pub fn order(&self) -> (TurnOrder, Side)
+        ensures { TellsOrder self.now result.0.0 result.1 }
+    {
+        first_of(self.switches.a.order(), self.switches.b.order())
     }
 
     /// The next departure of both sides by `until`, in ns: a slot that ends at or before `until`,

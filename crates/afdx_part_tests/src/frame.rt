@@ -6,8 +6,8 @@ ghost use Rattle.afdx_frame.specs.Parts.{bytes_of};
 ghost use Rattle.afdx_frame.specs.Reading.{NoneRead};
 
 use afdx_frame::{
-    Address, Checked, Datagram, IpFault, MacFault, MacView, Seal, Side, VlId, build, build_both,
-    fcs, is_sealed, seal, unseal, vl_of,
+    Address, Checked, Datagram, IpFault, LAST_PORT, MacFault, MacView, Seal, Side, VlId, build,
+    build_both, fcs, is_sealed, port_at, seal, unseal, vl_of,
 };
 use afdx_samples::{HELLO, all_right, equal, hello, sealed};
 use std::alloc::{AllocError, Global};
@@ -233,6 +233,11 @@ fn tells_sealed_frames() -> Result<(), Fail> {
         is_sealed(b"abc"),
     ];
     equal(sealed, [true, false, false])
+}
+
+#[test]
+fn numbers_the_ports() -> Result<(), Fail> {
+    equal([port_at(0), port_at(LAST_PORT - 1)], [1, LAST_PORT])
 }
 
 #[test]

@@ -1,10 +1,11 @@
 -- By how much a frame comes too early: the time in which its account is filled with what it lacks.
-use Rattle.std.proofs.Common.{◌≡◌, ℕ, ◌+◌, ◌*◌, ◌-◌, ◌/◌, ◌<◌, ◌≤◌, ◌↔◌, true, List, [], ◌∷◌, refl, sym, ◌∙◌}
+use Rattle.std.proofs.Common.{◌≡◌, ℕ, ◌+◌, ◌*◌, ◌-◌, ◌/◌, ◌<◌, ◌≤◌, ◌↔◌, true, List, ◌∷◌, refl, sym, ◌∙◌}
 use Rattle.std.proofs.Common.{ap, arith, subst}
 use Rattle.std.specs.Int.{div_ceil}
-use Rattle.std.specs.Prelude.{All, IsTrue, Option, Some, None, Bool, false}
+use Rattle.std.specs.Prelude.{All, IsTrue, Option, Some, None}
 use Rattle.std.proofs.Math.Nat.{mul-le-mul_right}
 use Rattle.std.proofs.lemmas.Bool.{false_from_ne_true}
+use Rattle.std.proofs.Common.{Bool, not, true≢false}
 use Rattle.std.proofs.lemmas.Grind.{div_ceil_times}
 use Rattle.afdx_frame.specs.Regulation.{Regulation, is_bag, bag, jitter, byte_units, fill_rate, cap}
 use Rattle.afdx_frame.specs.declared.link.Policing.{Policing}
@@ -16,12 +17,13 @@ use Rattle.afdx_police.specs.LinkAccounts.{IsOfferedAs}
 use Rattle.afdx_police.specs.Offers.{offers_of}
 use Rattle.afdx_police.specs.Policer.{Offer, StandsFor, accepted_offers, charged_offer}
 use Rattle.afdx_police.specs.Rule.{Rule, IsRule, regulation_of}
-use Rattle.afdx_police.specs.Shape.{fault_of, faults, first_of}
+use Rattle.afdx_police.specs.Shape.{fault_of, faults}
 use Rattle.afdx_police.specs.declared.shape.Reason.{Reason}
 use Rattle.afdx_police.specs.declared.shape.Reason.TheVariants.{OverRate}
-use Rattle.afdx_police.specs.Verdicts.{accepted_own, charged_by, drop_reason, reason_after}
+use Rattle.afdx_police.specs.Verdicts.{accepted_own, charged_by, drop_reason, is_over_rate, reason_after}
 use Rattle.afdx_police.specs.Window.{Charged, fits}
 use Rattle.afdx_police.proofs.AccountLemmas.{factor_positive, fits-room, is_bag-divides, missing-later}
+use Rattle.afdx_police.proofs.FirstOfLemmas.{first_of-each}
 use Rattle.afdx_police.proofs.VerdictLemmas.{accepted_own-offers, verdict_decides}
 
 -- over numbers: a quotient that is rounded up is the least that reaches
@@ -85,7 +87,7 @@ least_wait-fill link accepted last is-bag some at-most came =
           let short = ceil-least lack rate less filled below in
           false_from_ne_true (fits link accepted (charged_later less last))
           (λ fit. let room = (fits-later link accepted last less is-bag came).0 fit in
-              absurd (omega (arith, short, room)));
+          absurd (omega (arith, short, room)));
     }
 
 -- what an account that is filled up to the offer's time lacks
@@ -158,35 +160,16 @@ reason-refused rule past x y reason dropped =
     ap (λ (accepted : List Charged). drop_reason rule accepted y) ((verdict_decides rule past x).dropped reason dropped)
 
 -- the rate is no fault of a shape
-abbrev AreNoRate : List (Bool × Reason) → Type 0
-AreNoRate [] = Unit {0}
-AreNoRate (test ∷ tests) = (test.1 ≡ OverRate → ⊥) × AreNoRate tests
-
-first-not_rate : (tests : List (Bool × Reason)) → AreNoRate tests → first_of tests ≡ Some OverRate → ⊥
-first-not_rate [] none is = absurd (cc)
-first-not_rate ((true, reason) ∷ tests) none is = none.0 (cc)
-first-not_rate ((false, reason) ∷ tests) none is = first-not_rate tests none.1 is
+abbrev is_of_shape : Reason → Bool
+is_of_shape reason = not (is_over_rate (Some reason))
 
 pub fault-not_rate : (rule : Option Rule) (port : ℕ) (bytes : List ℕ) → fault_of rule port bytes ≡ Some OverRate → ⊥
 unfolding fault_of
-fault-not_rate None port bytes is = first-not_rate (faults None port bytes)
-    (λ e. absurd (cc), (λ e. absurd (cc), (λ e. absurd (cc), (λ e. absurd (cc), (λ e. absurd (cc), tt))))) is
-fault-not_rate (Some rule) port bytes is = first-not_rate (faults (Some rule) port bytes) (
-  λ e. absurd (cc),
-  (
-    λ e. absurd (cc),
-    (
-      λ e. absurd (cc),
-      (
-        λ e. absurd (cc),
-        (
-          λ e. absurd (cc),
-          (
-            λ e. absurd (cc),
-            (λ e. absurd (cc), (λ e. absurd (cc), tt)),
-          ),
-        ),
-      ),
-    ),
-  ),
-) is
+fault-not_rate None port bytes is =
+    true≢false (sym (first_of-each is_of_shape (faults None port bytes) OverRate refl is))
+fault-not_rate (Some rule) port bytes is =
+    true≢false (sym (first_of-each is_of_shape (faults (Some rule) port bytes) OverRate refl is))
+
+pub is_over_rate-true : (reason : Option Reason) → is_over_rate reason ≡ true → reason ≡ Some OverRate
+is_over_rate-true (Some OverRate) is = refl
+is_over_rate-true reason is = absurd cc

@@ -1,8 +1,10 @@
 -- The first of the tests of a list that is true.
-use Rattle.std.proofs.Common.{◌≡◌, Bool, true, false, List, [], ◌∷◌, ◌++◌, refl, ◌∙◌, sym}
+use Rattle.std.proofs.Common.{◌≡◌, Bool, true, false, List, [], ◌∷◌, ◌++◌, refl, ◌∙◌, sym, ap}
 use Rattle.std.specs.Prelude.{Option, Some, None, if◌then◌else◌}
-use Rattle.std.specs.List.{AllByRecursion}
+use Rattle.std.specs.List.{AllByRecursion, list_all}
 use Rattle.std.specs.Option.{option_or}
+use Rattle.std.proofs.lemmas.Bool.{and_parts}
+use Rattle.std.proofs.lemmas.Option.{same_Some}
 use Rattle.afdx_police.specs.Shape.{first_of}
 
 -- of two lists, one behind the other
@@ -33,6 +35,20 @@ pub first_of-same : {R : Type 0} (xs : List (Bool × R)) (r : R) (more less : Li
     → first_of (xs ++ (true, r) ∷ more) ≡ first_of (xs ++ (true, r) ∷ less)
 first_of-same xs r more less =
     first_of-append xs ((true, r) ∷ more) ∙ sym (first_of-append xs ((true, r) ∷ less))
+
+-- what passes for the answer of each test passes for that of the first one
+pub first_of-each : {R : Type 0} (p : R → Bool) (xs : List (Bool × R)) (r : R)
+    → list_all (λ x. p x.1) xs ≡ true → first_of xs ≡ Some r → p r ≡ true
+first_of-each p [] r each is = absurd cc
+first_of-each p (x ∷ xs) r each is =
+    let both : (p x.1 ≡ true) × (list_all (λ y. p y.1) xs ≡ true) =
+    and_parts (p x.1) (list_all (λ y. p y.1) xs) each in
+    by x.0 both.0 (first_of-each p xs r both.1) is
+  where
+    by : (b : Bool) → p x.1 ≡ true → (first_of xs ≡ Some r → p r ≡ true)
+        → (if b then Some x.1 else first_of xs) ≡ Some r → p r ≡ true
+    by true here later is = ap p (sym (same_Some x.1 r is)) ∙ here
+    by false here later is = later is
 
 -- there is none where all are false, and only there
 pub none-false : {R : Type 0} (xs : List (Bool × R)) → first_of xs ≡ None

@@ -1,7 +1,7 @@
 -- Which arrivals of a link are accepted, and why the others are dropped. Lists have the newest
 -- first.
 use Rattle.std.specs.Prelude.{if◌then◌else◌, is_none, Option, Some, None, List, [], ◌∷◌}
-use Rattle.std.specs.Prelude.{length}
+use Rattle.std.specs.Prelude.{Bool, true, false, length}
 use Rattle.std.specs.Option.{option_or}
 use Rattle.afdx_frame.specs.Regulation.{wire_of}
 use Rattle.afdx_police.specs.declared.shape.Reason.{Reason}
@@ -25,6 +25,11 @@ abbrev pub drop_reason : Rule → List Charged → Arrival → Option Reason
 drop_reason rule accepted x =
     option_or (fault_of (Some rule) x.port x.bytes)
     (if fits (regulation_of rule) accepted (charged_by rule x) then None else Some OverRate)
+
+-- whether an arrival is dropped for its link's rate
+abbrev pub is_over_rate : Option Reason → Bool
+is_over_rate (Some OverRate) = true
+is_over_rate reason = false
 
 -- those that are accepted of a link's own arrivals
 unfoldable pub accepted_own : Rule → List Arrival → List Charged

@@ -25,6 +25,17 @@ pub enum LinkAccount {
     ByFrame(Policer<FrameCharge>),
 }
 
+/// Why a frame without a fault in its shape is dropped, if its link's account doesn't cover it.
+fn over_rate(is_covered: bool) -> Option<Reason>
+    ensures { result ≡ (if is_covered then None else Some Reason.OverRate) }
+{
+    if is_covered {
+        None
+    } else {
+        Some(Reason::OverRate)
+    }
+}
+
 impl LinkAccount {
     ghost use Rattle.afdx_police.specs.Early.{IsEarlyBy, early_after};
     ghost use Rattle.afdx_police.specs.LinkAccounts.{IsOfferedAs, StandsForOwn, account_of};
@@ -65,32 +76,6 @@ impl LinkAccount {
         fault_by(self.rule(), port, view.vl(), frame)
     }
 
-    /// Whether the account covers an arrival of this length, in bytes, at this time, in
-    /// nanoseconds. If it doesn't, nothing is charged.
-    fn passes(&mut self, time: u64, length: u64) -> bool
-        requires in_time { last_time self.old ≤ time }
-        requires shortest { least_frame ≤ length }
-        requires longest { length ≤ (account_of self.old).rule.lmax }
-
-        ensures rule { (account_of self.new).rule ≡ (account_of self.old).rule }
-        ensures time { last_time self.new ≡ time }
-
-        // Whatever own arrivals led here, the answer is the one on the arrival that was offered.
-        ensures answer { (rule : Rule) (past : List Arrival) (x : Arrival) →
-            StandsForOwn rule self.old past →
-            IsOfferedAs rule x (record { time = time; length = length }) →
-            (if result then None else Some Reason.OverRate) ≡ reason_after rule past x }
-        ensures stands { (rule : Rule) (past : List Arrival) (x : Arrival) →
-            StandsForOwn rule self.old past →
-            IsOfferedAs rule x (record { time = time; length = length }) →
-            StandsForOwn rule self.new (x ∷ past) }
-    {
-        match self {
-            LinkAccount::ByByte(policer) => policer.offer(time, length),
-            LinkAccount::ByFrame(policer) => policer.offer(time, length),
-        }
-    }
-
     /// Why an arrival of the link without a fault in its shape is dropped, if it is, by its time in
     /// nanoseconds and its length in bytes. One that is dropped is charged nothing.
     pub fn offer(&mut self, time: u64, length: u64) -> Option<Reason>
@@ -111,10 +96,9 @@ impl LinkAccount {
             IsOfferedAs rule x (record { time = time; length = length }) →
             StandsForOwn rule self.new (x ∷ past) }
     {
-        if self.passes(time, length) {
-            None
-        } else {
-            Some(Reason::OverRate)
+        match self {
+            LinkAccount::ByByte(policer) => over_rate(policer.offer(time, length)),
+            LinkAccount::ByFrame(policer) => over_rate(policer.offer(time, length)),
         }
     }
 

@@ -3,7 +3,9 @@
 ghost use Rattle.std.specs.Prelude.{◌≡◌, ◌↔◌, IsSome, IfSome};
 ghost use Rattle.afdx_police.specs.Rule.{IsRule, rule_with};
 
-use afdx_frame::{GAPS_MS, GREATEST_FRAME, LAST_PORT, LEAST_FRAME, Policing, VlId, WIRE_EXTRA};
+use afdx_frame::{
+    GAPS_MS, GREATEST_FRAME, LAST_PORT, LEAST_FRAME, LONGEST_GAP_MS, Policing, VlId, WIRE_EXTRA,
+};
 
 /// How one virtual link is filtered and policed at a switch (ARINC 664 Part 7).
 ///
@@ -85,7 +87,7 @@ impl LinkRule {
     pub(crate) fn fill_rate(&self) -> u64
         ensures { result ≡ fill_rate (regulation_of (rule_of self.now)) }
     {
-        self.smax() * (128 / self.bag_ms)
+        self.smax() * (LONGEST_GAP_MS / self.bag_ms)
     }
 
     /// The nanoseconds in which an empty account is filled.

@@ -6,6 +6,7 @@ use Rattle.std.specs.List.{AllByRecursion}
 use Rattle.std.proofs.lemmas.Option.{slice_get_within}
 use Rattle.afdx_frame.specs.declared.link.Priority.{Priority}
 use Rattle.afdx_frame.specs.declared.link.Priority.TheVariants.{High, Low}
+use Rattle.afdx_frame.proofs.ListLemmas.{slice_get-push_cases}
 use Rattle.afdx_port.specs.declared.left.Left.{Left}
 use Rattle.afdx_port.specs.declared.left.Due.{Due}
 use Rattle.afdx_port.specs.declared.port_state.Waiting.{Waiting}
@@ -16,7 +17,7 @@ use Rattle.afdx_port.specs.Schedule.{bytes_without_turn, waiting_bytes, IsLost}
 use Rattle.afdx_port.specs.Due.{given_at, IsAfter}
 use Rattle.afdx_port.specs.Held.{ready, choice, choice_of, queue_of, due_from, IsQuiet}
 use Rattle.afdx_port.specs.History.{PortHistory, at, with_put, waiting_entry, IsQueue, HasBegun, StandsFor}
-use Rattle.afdx_port.proofs.TurnLemmas.{turns_stay, no_turn_past, bytes_served, bytes_longer, get_either, waiting_is}
+use Rattle.afdx_port.proofs.TurnLemmas.{turns_stay, no_turn_past, bytes_served, bytes_longer, waiting_is}
 use Rattle.afdx_port.proofs.QueueLemmas.{Chosen, front_turn, high_next, low_next, next_chosen, queue_push, queue_other}
 use Rattle.afdx_port.proofs.DueLemmas.{due_busy}
 
@@ -173,18 +174,18 @@ module _ {X : Type 0} where
           bytes_longer st.begun 0 h.entries (waiting_entry facts c w)
               (subst (λ (n : ℕ). has_turn st.begun n ≡ false) (omega arith) room),
         );
-        in_order = λ i j d f le g k. elim (get_either h.entries (waiting_entry facts c w) j f k) [
-          | inl old_j ↦ elim (get_either h.entries (waiting_entry facts c w) i d g) [
+        in_order = λ i j d f le g k. elim (slice_get-push_cases h.entries (waiting_entry facts c w) j f k) [
+          | inl old_j ↦ elim (slice_get-push_cases h.entries (waiting_entry facts c w) i d g) [
             | inl old_i ↦ st.in_order i j d f le old_i old_j
             | inr new_i ↦ absurd (let within = slice_get_within h.entries j f old_j in omega (arith, new_i.0))
           ]
           | inr new_j ↦ (let late : f.time ≡ w.time = ap (λ z. z.time) new_j.1 in
-              elim (get_either h.entries (waiting_entry facts c w) i d g) [
+              elim (slice_get-push_cases h.entries (waiting_entry facts c w) i d g) [
                 | inl old_i ↦ (let came = st.come i d old_i in omega arith)
                 | inr new_i ↦ (let same : d.time ≡ w.time = ap (λ z. z.time) new_i.1 in omega arith)
               ])
         ];
-        come = λ i f g. elim (get_either h.entries (waiting_entry facts c w) i f g) [
+        come = λ i f g. elim (slice_get-push_cases h.entries (waiting_entry facts c w) i f g) [
           | inl old_i ↦ (let came = st.come i f old_i in omega arith)
           | inr new_i ↦ (let same : f.time ≡ w.time = ap (λ z. z.time) new_i.1 in omega arith)
         ];

@@ -7,6 +7,7 @@ use Rattle.std.proofs.lemmas.Option.{slice_get_within}
 use Rattle.std.proofs.lemmas.Bool.{cases_lt}
 use Rattle.afdx_frame.specs.declared.link.Priority.{Priority}
 use Rattle.afdx_frame.specs.declared.link.Priority.TheVariants.{High, Low}
+use Rattle.afdx_frame.proofs.ListLemmas.{slice_get-push_last}
 use Rattle.afdx_port.specs.declared.port_state.Waiting.{Waiting}
 use Rattle.afdx_port.specs.Schedule.{Entry, Turn, has_turn, end_of, IsWithoutTurn, IsNext}
 use Rattle.afdx_port.specs.Facts.{Facts}
@@ -14,7 +15,7 @@ use Rattle.afdx_port.specs.ScheduleOf.{turn_at}
 use Rattle.afdx_port.specs.Held.{ready, choice, due_from}
 use Rattle.afdx_port.specs.History.{due_at, waiting_entry, IsFirst, IsQueue}
 use Rattle.afdx_port.proofs.TurnLemmas.{eqb-other, eqb-same, nat_lt-true, nat_lt-false}
-use Rattle.afdx_port.proofs.TurnLemmas.{without_either, without_longer, get_last, same_next}
+use Rattle.afdx_port.proofs.TurnLemmas.{without_either, without_longer, same_next}
 use Rattle.afdx_port.proofs.TurnLemmas.{priority_cases}
 
 or_left : (a b : Bool) → (a || b) ≡ false → a ≡ false
@@ -118,7 +119,7 @@ module _ {X : Type 0} where
     length entries,
     record {
       from_on = le;
-      own = record { stands = get_last entries (waiting_entry facts c w); without = free };
+      own = record { stands = slice_get-push_last entries (waiting_entry facts c w); without = free };
       first = λ q d up v class. elim (without_either entries (waiting_entry facts c w) turns q d v)
           [ inl old ↦ absurd (h q d up old class) | inr new ↦ omega (arith, new.0) ];
     },

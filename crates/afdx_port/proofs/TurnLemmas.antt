@@ -8,6 +8,7 @@ use Rattle.std.proofs.lemmas.Bool.{cases_lt}
 use Rattle.std.proofs.lemmas.Bool.Decides.{nat_tests}
 use Rattle.afdx_frame.specs.declared.link.Priority.{Priority}
 use Rattle.afdx_frame.specs.declared.link.Priority.TheVariants.{High, Low}
+use Rattle.afdx_frame.proofs.ListLemmas.{slice_get-push_before, slice_get-push_cases}
 use Rattle.afdx_port.specs.Schedule.{Entry, Turn, has_turn, IsWithoutTurn, IsNext, AreTurns}
 use Rattle.afdx_port.specs.Schedule.{IsSchedule, begun_before, bytes_without_turn, waiting_bytes}
 
@@ -31,25 +32,6 @@ same_priority : (b c : Priority) → (b ≡ High → c ≡ High) → (c ≡ High
 same_priority High c f g = sym (f refl)
 same_priority Low High f g = g refl
 same_priority Low Low f g = refl
-
--- an element of a longer list
-pub get_longer : {Y : Type 0} (xs : List Y) (y : Y) (i : ℕ) (x : Y) → slice_get xs i ≡ Some x
-    → slice_get (xs ++ y ∷ []) i ≡ Some x
-get_longer [] y i x h = cc
-get_longer (z ∷ zs) y zero x h = h
-get_longer (z ∷ zs) y (suc i) x h = get_longer zs y i x h
-
-pub get_last : {Y : Type 0} (xs : List Y) (y : Y) → slice_get (xs ++ y ∷ []) (length xs) ≡ Some y
-get_last [] y = refl
-get_last (z ∷ zs) y = get_last zs y
-
-pub get_either : {Y : Type 0} (xs : List Y) (y : Y) (i : ℕ) (x : Y) → slice_get (xs ++ y ∷ []) i
-    ≡ Some x → (slice_get xs i ≡ Some x) ⊎ ((i ≡ length xs) × (x ≡ y))
-get_either [] y zero x h = inr (refl, cc)
-get_either [] y (suc i) x h = cc
-get_either (z ∷ zs) y zero x h = inl h
-get_either (z ∷ zs) y (suc i) x h =
-    elim (get_either zs y i x h) [ inl a ↦ inl a | inr b ↦ inr (omega (arith, b.0), b.1) ]
 
 module _ {X : Type 0} where
   turn : ℕ → Entry X → ℕ → ℕ → Bool → Turn X
@@ -191,14 +173,14 @@ module _ {X : Type 0} where
       (d : Entry X) → IsWithoutTurn (entries ++ e ∷ []) turns place d
       → IsWithoutTurn entries turns place d ⊎ ((place ≡ length entries) × (d ≡ e))
   without_either entries e turns place d h =
-      elim (get_either entries e place d h.stands)
+      elim (slice_get-push_cases entries e place d h.stands)
       [ inl a ↦ inl (record { stands = a; without = h.without }) | inr b ↦ inr b ]
 
   pub without_longer : (entries : List (Entry X)) (e : Entry X) (turns : List (Turn X)) (place : ℕ)
       (d : Entry X) → IsWithoutTurn entries turns place d
       → IsWithoutTurn (entries ++ e ∷ []) turns place d
   without_longer entries e turns place d h =
-      record { stands = get_longer entries e place d h.stands; without = h.without }
+      record { stands = slice_get-push_before entries e place d h.stands; without = h.without }
 
   -- a turn that began before an entry came stays the next one
   pub next_stays : (byte_ns : ℕ) (entries : List (Entry X)) (e : Entry X) (earlier : List (Turn X))

@@ -13,6 +13,6 @@ mod serving;
 
 pub use has_length::HasLength;
 pub use left::{Due, Left};
-pub use order::is_given;
+pub use order::TurnOrder;
 pub use port::Port;
 pub use serving::Serving;

@@ -1,4 +1,4 @@
-//! The order in which ports are served together, as numbers.
+//! The order in which ports are served together.
 
 ghost use Rattle.std.specs.Prelude.{◌≡◌, ◌≤◌, ◌↔◌, Option, IsTrue, IfSome};
 ghost use Rattle.afdx_port.specs.Due.{given_at};
@@ -8,41 +8,66 @@ ghost use Rattle.afdx_port.specs.declared.left.Due.{Due as DueTurn};
 
 use crate::left::Due;
 
-/// The place of a port that has no turn to come: after each turn.
-const ORDER_WITHOUT_TURN: u64 = 1 << 52;
+/// Where a port without a turn to come stands: after each turn.
+const WITHOUT_TURN: u64 = 1 << 52;
 
-/// The place of a turn.
-pub(crate) fn order(due: Option<Due>) -> u64
-    requires { IfSome due (λ d. given_at d ≤ drain_end) }
-    ensures { result ≡ order_at due }
-{
-    match due {
-        Some(due) => due.order(),
-        None => ORDER_WITHOUT_TURN,
+/// Where a port's next turn stands in the order in which ports are served together: by time, and
+/// at one time slots before drops. A port without a turn to come stands after all others.
+///
+/// It is one number: twice the time, and one more for a drop.
+#[derive(Clone, Copy, Debug, PartialEq, Eq)]
+pub struct TurnOrder(pub(crate) u64);
+
+impl TurnOrder {
+    /// That of the turn that is due, if one is.
+    pub(crate) fn of(due: Option<Due>) -> TurnOrder
+        requires { IfSome due (λ d. given_at d ≤ drain_end) }
+        ensures { result.0 ≡ order_at due }
+    {
+        match due {
+            Some(due) => TurnOrder(due.order()),
+            None => TurnOrder(WITHOUT_TURN),
+        }
     }
-}
 
-/// The turn that has this place.
-#[inline]
-pub(crate) fn due_of(order: u64) -> Option<Due>
-    ensures { (due : Option DueTurn) → order ≡ order_at due →
-        IfSome due (λ d. given_at d ≤ drain_end) → result ≡ due }
-{
-    if order >= ORDER_WITHOUT_TURN {
-        return None;
+    /// The turn that is due, if one is.
+    #[inline]
+    pub(crate) fn due(self) -> Option<Due>
+        ensures { (due : Option DueTurn) → self.0 ≡ order_at due →
+            IfSome due (λ d. given_at d ≤ drain_end) → result ≡ due }
+    {
+        if self.0 >= WITHOUT_TURN {
+            return None;
+        }
+        Some(Due {
+            time: self.0 / 2,
+            too_old: self.0 % 2 == 1,
+        })
     }
-    Some(Due {
-        time: order / 2,
-        too_old: order % 2 == 1,
-    })
-}
 
-/// Whether the turn that has this place is given by `until`: a slot if it ends at or before, a drop
-/// if its moment is before.
-#[inline]
-pub fn is_given(order: u64, until: u64) -> bool
-    ensures { (due : Option DueTurn) → order ≡ order_at due →
-        IfSome due (λ d. given_at d ≤ drain_end) → (IsTrue result ↔ IsGivenBy until due) }
-{
-    order < ORDER_WITHOUT_TURN && order.div_ceil(2) <= until
+    /// Whether the turn is given by `until`: a slot if it ends at or before, a drop if its moment
+    /// is before.
+    #[inline]
+    pub fn is_given(self, until: u64) -> bool
+        ensures { (due : Option DueTurn) → self.0 ≡ order_at due →
+            IfSome due (λ d. given_at d ≤ drain_end) → (IsTrue result ↔ IsGivenBy until due) }
+    {
+        self.0 < WITHOUT_TURN && self.0.div_ceil(2) <= until
+    }
+
+    /// The number: twice the time, and one more for a drop; 2^52 for a port without a turn to come.
+    #[inline]
+    pub fn number(self) -> u64
+        ensures { result ≡ self.0 }
+    {
+        self.0
+    }
+
+    /// Whether no turn of the other port goes before: at one place this one goes first.
+    #[inline]
+    pub fn goes_before(self, other: TurnOrder) -> bool
+        ensures { IsTrue result ↔ self.0 ≤ other.0 }
+    {
+        self.0 <= other.0
+    }
 }

@@ -8,7 +8,7 @@ ghost use Rattle.afdx_port.specs.Due.{given_at};
 
 use crate::has_length::HasLength;
 use crate::left::{Due, Left};
-use crate::order::{self, is_given, order};
+use crate::order::TurnOrder;
 use crate::port_state::PortState;
 use afdx_frame::Priority;
 use std::alloc::{AllocError, Global};
@@ -20,8 +20,8 @@ use std::marker::Model;
 #[derive(Drop)]
 pub struct Port<T: HasLength> {
     state: PortState<T>,
-    /// The place of the next turn in the order in which ports are served together.
-    order: u64,
+    /// Where the next turn stands among those of ports that are served together.
+    order: TurnOrder,
 }
 
 impl<T: HasLength> Model for Port<T> {
@@ -38,7 +38,7 @@ impl<T: HasLength> Model for Port<T> {
     ghost use Rattle.afdx_port.specs.Ports.{order_at};
 
     ghost invariant = { λ p. IsPortSound T.facts p.state
-        × (p.order ≡ order_at (due_of T.facts p.state)) };
+        × (p.order.0 ≡ order_at (due_of T.facts p.state)) };
 }
 
 impl<T: HasLength> Port<T> {
@@ -61,7 +61,7 @@ impl<T: HasLength> Port<T> {
     {
         Ok(Port {
             state: PortState::new(alloc, byte_ns, buffer)?,
-            order: order(None),
+            order: TurnOrder::of(None),
         })
     }
 
@@ -78,7 +78,7 @@ impl<T: HasLength> Port<T> {
     {
         let taken = self.state.put(time, priority, item);
         if !self.state.is_sending() {
-            self.order = order(self.state.due());
+            self.order = TurnOrder::of(self.state.due());
         }
         taken
     }
@@ -96,14 +96,14 @@ impl<T: HasLength> Port<T> {
             IfNone result (IsSchedule h.byte_ns h.entries h.taken) }
         ensures limit { IfSome result (λ due. given_at due ≤ drain_end) }
     {
-        order::due_of(self.order)
+        self.order.due()
     }
 
-    /// The place of the next turn in the order in which ports are served together; that after each
-    /// turn if the port holds nothing.
-    pub fn order(&self) -> u64
-        ensures is { result ≡ order_at (due_of T.facts self.now) }
-        ensures most { result ≤ order_without_turn }
+    /// Where the next turn stands among those of ports that are served together; after each turn if
+    /// the port holds nothing.
+    pub fn order(&self) -> TurnOrder
+        ensures is { result.0 ≡ order_at (due_of T.facts self.now) }
+        ensures most { result.0 ≤ order_without_turn }
         ensures limit { IfSome (due_of T.facts self.now) (λ due. given_at due ≤ drain_end) }
     {
         self.order
@@ -113,7 +113,7 @@ impl<T: HasLength> Port<T> {
     pub fn is_quiet(&self, time: u64) -> bool
         ensures { IsTrue result ↔ IsQuiet T.facts self.now time }
     {
-        !is_given(self.order, time)
+        !self.order.is_given(time)
     }
 
     /// The next turn, if it is over by `until`, in ns: a slot that ends at or before `until`, or a
@@ -129,7 +129,7 @@ impl<T: HasLength> Port<T> {
             return None;
         }
         let left = self.state.take(until);
-        self.order = order(self.state.due());
+        self.order = TurnOrder::of(self.state.due());
         left
     }
 }

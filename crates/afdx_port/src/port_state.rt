@@ -201,6 +201,7 @@ impl<T: HasLength> PortState<T> {
             return;
         }
         let Some(waiting) = self.pop(priority) else {
+            // Never: the choice is of a class in which a frame waits.
             unreachable!();
         };
         let due = self.turn_of(&waiting, moment);

@@ -1,22 +1,33 @@
-//! Which of 24 ports is served first.
+//! Which of a switch's ports is served first.
 
 ghost use Rattle.std.specs.Prelude.{◌≡◌, ℕ, ◌<◌, ◌≤◌, List, length, slice_set};
 ghost use Rattle.afdx_frame.specs.Ports.{last_port};
 ghost use Rattle.afdx_port.specs.Keys.{key_of, AreRanked, IsLeastIn};
 
 use crate::has_length::HasLength;
+use crate::order::TurnOrder;
 use crate::port::Port;
+use afdx_frame::PORT_COUNT;
 
-/// The places of 24 ports in the order in which they are served together, kept so that the first
-/// of all is at hand.
+/// How many places a key has room for, more than there are ports.
+const KEY_PLACES: u64 = 32;
+
+/// The ports of a group.
+const GROUP: usize = 4;
+
+/// The groups.
+const GROUPS: usize = PORT_COUNT / GROUP;
+
+/// The places of all ports of a switch in the order in which they are served together, kept so that
+/// the first of all is at hand.
 ///
 /// A port's key is its order, and below it its place among the ports. So the least key is that of
 /// the port whose turn goes first.
 #[derive(Drop)]
 pub struct Serving {
-    keys: [u64; 24],
-    /// The least of each four keys.
-    least: [u64; 6],
+    keys: [u64; PORT_COUNT],
+    /// The least key of each group.
+    least: [u64; GROUPS],
     ghost ranked: { ∥ AreRanked keys least ∥₁ },
 }
 
@@ -39,16 +50,16 @@ impl Serving {
     ghost use Rattle.afdx_port.specs.Ports.{AreServed, order_without_turn};
     ghost use Rattle.afdx_port.specs.Serving.{IsServing};
 
-    /// The order in which 24 ports are served as they are.
+    /// The order in which a switch's ports are served as they are.
     pub fn of<T: HasLength>(ports: &[Port<T>]) -> Serving
         requires { length ports.now ≡ last_port }
         ensures { IsServing T.facts ports.now result }
     {
         let mut serving = Serving {
-            keys: [0; 24],
-            least: [0; 6],
+            keys: [0; PORT_COUNT],
+            least: [0; GROUPS],
         };
-        for place in 0..24 {
+        for place in 0..PORT_COUNT {
             serving.set(place, ports[place].order());
         }
         serving
@@ -56,14 +67,14 @@ impl Serving {
 
     /// From now on the port at this place has this order.
     #[inline(always)]
-    fn set(&mut self, place: usize, order: u64)
+    fn set(&mut self, place: usize, order: TurnOrder)
         requires place { place < last_port }
-        requires order { order ≤ order_without_turn }
-        ensures { self.new.keys ≡ slice_set self.old.keys place (key_of order place) }
+        requires order { order.0 ≤ order_without_turn }
+        ensures { self.new.keys ≡ slice_set self.old.keys place (key_of order.0 place) }
     {
-        self.keys[place] = 32 * order + place as u64;
-        let group = place / 4;
-        self.least[group] = least_in(&self.keys, 4 * group, 4 * group + 4);
+        self.keys[place] = KEY_PLACES * order.0 + place as u64;
+        let group = place / GROUP;
+        self.least[group] = least_in(&self.keys, GROUP * group, GROUP * group + GROUP);
     }
 
     /// The port at this place has changed, and is now this one.
@@ -83,6 +94,6 @@ impl Serving {
         ensures { (ports : List (PortState T)) → IsServing T.facts ports self.now →
             AreServed T.facts ports result }
     {
-        (least_in(&self.least, 0, 6) % 32) as usize
+        (least_in(&self.least, 0, GROUPS) % KEY_PLACES) as usize
     }
 }

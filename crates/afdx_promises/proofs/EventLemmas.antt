@@ -32,6 +32,7 @@ use Rattle.afdx_network.specs.Order.{events_so_far}
 use Rattle.afdx_network.proofs.OrderLemmas.{before_trans, below_trans, same_events}
 use Rattle.afdx_network.proofs.EventLemmas.{turn-of, at-port-of, is-departure, is-either}
 use Rattle.afdx_network.proofs.TurnLemmas.{next-after}
+use Rattle.afdx_network.proofs.OrderedLemmas.{filter-own, filter-all, filter-order}
 use Rattle.afdx_promises.specs.Receptions.{brought, is_from, order_of, ComeInOrder, brought_by, AreReceptions}
 use Rattle.afdx_promises.specs.NetworkPromises.{IsAsPromised}
 use Rattle.afdx_promises.specs.NetworkPromises.{EventsAreAsPromised, EventsSoFarAreAsPromised}
@@ -67,45 +68,6 @@ departures-ordered side port byte_ns entries (x ∷ (y ∷ earlier)) some are =
       ),
       rest,
     )
-
-filter-all : (P : Event → Type 0) (p : Event → Bool) (es : List Event) → AllByRecursion P es
-    → AllByRecursion P (filter p es)
-filter-all P p [] all = tt
-filter-all P p (e ∷ es) all = by (p e) (filter-all P p es all.1)
-  where
-    by : (b : Bool) → AllByRecursion P (filter p es) → AllByRecursion P (if b then e ∷ filter p es else filter p es)
-    by true rest = (all.0, rest)
-    by false rest = rest
-
-pub filter-ordered : (p : Event → Bool) (es : List Event) → AreInOrder es → AreInOrder (filter p es)
-filter-ordered p [] order = tt
-filter-ordered p (e ∷ es) order = by (p e) (filter-ordered p es order.1)
-  where
-    by : (b : Bool) → AreInOrder (filter p es) → AreInOrder (if b then e ∷ filter p es else filter p es)
-    by true rest = (filter-all (λ d. IsTrue (is_before d e)) p es order.0, rest)
-    by false rest = rest
-
-pub filter-own : (p : Event → Bool) (e : Event) (es : List Event) → IsAmong e (filter p es)
-    → IsAmong e es × (p e ≡ true)
-filter-own p e [] h = absurd h
-filter-own p e (d ∷ ds) h = by (p d) refl h (filter-own p e ds)
-  where
-    by : (b : Bool) → p d ≡ b → IsAmong e (if b then d ∷ filter p ds else filter p ds)
-        → (IsAmong e (filter p ds) → IsAmong e ds × (p e ≡ true)) → IsAmong e (d ∷ ds) × (p e ≡ true)
-    by true passes (inl same) rest = (inl same, ap p same ∙ passes)
-    by true passes (inr later) rest = let r = rest later in (inr r.0, r.1)
-    by false fails later rest = let r = rest later in (inr r.0, r.1)
-
-pub filter-has : (p : Event → Bool) (e : Event) (es : List Event) → IsAmong e es → p e ≡ true → IsAmong e (filter p es)
-filter-has p e [] h passes = absurd h
-filter-has p e (d ∷ ds) h passes = by (p d) refl h (λ later. filter-has p e ds later passes)
-  where
-    by : (b : Bool) → p d ≡ b → IsAmong e (d ∷ ds) → (IsAmong e ds → IsAmong e (filter p ds))
-        → IsAmong e (if b then d ∷ filter p ds else filter p ds)
-    by true own (inl same) rest = inl same
-    by true own (inr later) rest = inr (rest later)
-    by false fails (inl same) rest = absurd (let q : p d ≡ true = sym (ap p same) ∙ passes in cc)
-    by false fails (inr later) rest = rest later
 
 came-is : (t : Rows) (side : Side) (port : ℕ) (arrivals : List Arrival) (e : Event)
     → IsAmong e (admissions t arrivals) → is_at side port e ≡ false
@@ -148,7 +110,7 @@ module _ {greatest_jitter : ℕ → ℕ} (t : Rows) (arrivals : List Arrival) (e
 
   at-all : (e : Event) → IsAmong e (departures_of side port (turns_at t side port arrivals))
       → IsAmong e (filter (is_at side port) events)
-  at-all e h = filter-has (is_at side port) e events
+  at-all e h = filter-all (is_at side port) e events
       (are.all e (is-departure t side arrivals port e low high h))
       (turn-is-at side port (turns_at t side port arrivals) e h)
 
@@ -157,7 +119,7 @@ module _ {greatest_jitter : ℕ → ℕ} (t : Rows) (arrivals : List Arrival) (e
   at-port-are = same_events
       (λ e. IsAmong e (departures_of side port (turns_at t side port arrivals)))
       (filter (is_at side port) events) (departures_of side port (turns_at t side port arrivals))
-      (record { in_order = filter-ordered (is_at side port) events are.in_order; own = at-own; all = at-all })
+      (record { in_order = filter-order (is_at side port) events are.in_order; own = at-own; all = at-all })
       (record {
         in_order = departures-ordered side port (byte_ns_at t port)
             (entries_at t side port arrivals) (turns_at t side port arrivals)

@@ -416,7 +416,7 @@ premises-met computed = record {
   fed = is-fed computed;
   delivers = λ came are. messages-once computed tables arrivals 1 0 receiver link
       (heard ∷ unheard ∷ []) stream came (is-lawful 11 (omega arith) (omega arith)) run refl refl
-          refl (is-stream computed 11)
+      refl (is-stream computed 11)
       (is-fed computed) are ∙ heard-only;
   told_once = told-once computed tables arrivals (is-lawful 11 (omega arith) (omega arith)) run 1 0
       receiver link (heard ∷ unheard ∷ []) stream refl refl refl (is-stream computed 11) (is-fed computed) ∙ heard-only;

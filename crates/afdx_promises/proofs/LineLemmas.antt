@@ -25,7 +25,8 @@ use Rattle.afdx_promises.specs.Lines.{Line, Departed, Judged, Leaving, IsIn, jud
 use Rattle.afdx_promises.specs.Lines.{arrivals_judged, left_in, is_leaving, frames_at, arrived_as}
 use Rattle.afdx_promises.specs.Lines.{came_at, leaving, with_reception, told_by}
 use Rattle.afdx_promises.specs.Receptions.{brought, brought_by}
-use Rattle.afdx_promises.proofs.EventLemmas.{is_at, turns_in, filter-own, filter-has, filter-ordered}
+use Rattle.afdx_network.proofs.OrderedLemmas.{filter-own, filter-all, filter-order}
+use Rattle.afdx_promises.proofs.EventLemmas.{is_at, turns_in}
 use Rattle.afdx_promises.proofs.PortLemmas.{entries_back, NoneIsOld}
 use Rattle.afdx_promises.proofs.RuleLemmas.{verdicts_of}
 
@@ -173,9 +174,9 @@ came-are : (t : Rows) (arrivals : List Arrival) (events : List Event) → AreTim
 came-are t arrivals events timed order own all =
     same_events (λ e. IsAmong e (admissions t arrivals)) (filter is_came events) (admissions t arrivals)
     (record {
-      in_order = filter-ordered is_came events order;
+      in_order = filter-order is_came events order;
       own = λ e h. (let r = filter-own is_came e events h in only-admissions t arrivals e (own e r.0) r.1);
-      all = λ e h. filter-has is_came e events (all e h) (came-is t arrivals e h);
+      all = λ e h. filter-all is_came e events (all e h) (came-is t arrivals e h);
     })
     (record { in_order = admissions-ordered t arrivals timed; own = λ e h. h; all = λ e h. h })
 

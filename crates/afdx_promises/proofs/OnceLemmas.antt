@@ -10,12 +10,12 @@ use Rattle.afdx_frame.specs.declared.fault.MacFault.{MacFault}
 use Rattle.afdx_frame.specs.declared.link.Side.{Side}
 use Rattle.afdx_frame.specs.declared.link.Side.TheVariants.{A, B}
 use Rattle.afdx_frame.specs.Sides.{is_side}
+use Rattle.afdx_frame.proofs.ListLemmas.{AllByRecursion-slice_get}
 use Rattle.afdx_config.specs.Lawful.{IsLink, IsLawful}
 use Rattle.afdx_config.specs.LawfulStream.{Sending}
 use Rattle.afdx_config.specs.Reading.{has_port}
 use Rattle.afdx_config.specs.Rows.{SystemRow, LinkRow, Rows, is_to}
 use Rattle.afdx_config.specs.SentList.{Message}
-use Rattle.afdx_config.proofs.EachRowLemmas.{all_at}
 use Rattle.afdx_police.specs.Arrival.{Arrival, own}
 use Rattle.afdx_port.specs.Schedule.{Entry, Turn, AreTurns}
 use Rattle.afdx_receive.specs.Arrivals.{Arrived, incoming, with_frame, frames_of}
@@ -284,7 +284,7 @@ module _ (computed : BuiltIsComputed) (t : Rows) (arrivals : List Arrival) (syst
       messages)
   come-so-far =
       let link : IsLink (length t.systems) l =
-      all_at (IsLink (length t.systems)) t.links place l alone.links.each at in
+      AllByRecursion-slice_get (IsLink (length t.systems)) t.links place l alone.links.each at in
       let copies = both-sides (1000 * l.latency_us) stream (frames_of l.vl came)
       (frames-in-time l.vl came are.in_order) (λ side. (copies-on side).are) in
       ap (λ answers. reverse (messages_in answers)) (answers-own t system place l run.lawful at goes came)

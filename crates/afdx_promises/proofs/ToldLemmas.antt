@@ -2,10 +2,10 @@
 use Rattle.std.proofs.Common.{◌≡◌, ◌*◌, List, sym, ap, ◌∙◌, subst}
 use Rattle.std.specs.Prelude.{reverse}
 use Rattle.afdx_frame.specs.Reading.{BuiltIsComputed}
+use Rattle.afdx_frame.proofs.ListLemmas.{AllByRecursion-slice_get}
 use Rattle.afdx_config.specs.Lawful.{IsSystem}
 use Rattle.afdx_config.specs.Reading.{has_port}
 use Rattle.afdx_config.specs.Rows.{Rows}
-use Rattle.afdx_config.proofs.EachRowLemmas.{all_at}
 use Rattle.afdx_police.specs.Arrival.{Arrival}
 use Rattle.afdx_receive.specs.Arrivals.{frames_of}
 use Rattle.afdx_switch.specs.Admitted.{IsAdmittedRun}
@@ -90,7 +90,7 @@ module _ (t : Rows) (arrivals : List Arrival) (run : IsAdmittedRun t arrivals) w
 
 pub told-once : BuiltIsComputed → MessagesAreToldOnce
 told-once computed t arrivals alone run system place s l messages stream stands at goes is fed =
-    let row : IsSystem t.profile s = all_at (IsSystem t.profile) t.systems system s run.lawful.systems.each stands in
+    let row : IsSystem t.profile s = AllByRecursion-slice_get (IsSystem t.profile) t.systems system s run.lawful.systems.each stands in
     ap reverse (messages-by-events t system s l.vl run.lawful stands (events_of t arrivals) (slots t arrivals run))
     ∙ messages-once computed t arrivals system place s l messages stream _ alone run stands at goes is fed
     (events-bring t arrivals (events_of t arrivals) s.port run.lawful run.timed row.port.0
@@ -98,7 +98,7 @@ told-once computed t arrivals alone run system place s l messages stream stands 
 
 pub told-once-so-far : BuiltIsComputed → MessagesAreToldOnceSoFar
 told-once-so-far computed t arrivals alone run system place s l messages stream stands at goes is sent =
-    let row : IsSystem t.profile s = all_at (IsSystem t.profile) t.systems system s run.lawful.systems.each stands in
+    let row : IsSystem t.profile s = AllByRecursion-slice_get (IsSystem t.profile) t.systems system s run.lawful.systems.each stands in
     ap reverse (messages-by-events t system s l.vl run.lawful stands (events_of t arrivals) (slots t arrivals run))
     ∙ messages-so-far computed t arrivals system place s l messages stream _ alone run stands at goes is sent
     (events-bring t arrivals (events_of t arrivals) s.port run.lawful run.timed row.port.0

@@ -6,7 +6,7 @@ use Rattle.std.specs.Prelude.{MatchOption, IfSome, filter, slice_get, max}
 use Rattle.std.proofs.Math.ListN.{get_or}
 use Rattle.std.proofs.Math.Nat.{mul-suc, mul-le-mul_left}
 use Rattle.std.proofs.lemmas.Bool.{cond-true, cond-false, cases_lt, leb-false}
-use Rattle.std.proofs.lemmas.Option.{slice_get_within, slice_get-get_or, IfSome_then}
+use Rattle.std.proofs.lemmas.Option.{slice_get_within, slice_get-get_or, IfSome_then, same_Some}
 use Rattle.afdx_frame.specs.declared.link.Side.{Side}
 use Rattle.afdx_frame.specs.Sides.{is_side}
 use Rattle.afdx_frame.proofs.SideLemmas.{is_side-same}
@@ -30,12 +30,9 @@ pub record IsSpaced (gap shift : ℕ) (moments : List ℕ) (stream : List Sendin
   pub shaped : (k r : ℕ) (y : Sending) → slice_get moments k ≡ Some r → slice_get stream k ≡ Some y
       → (r ≤ y.time) × (y.time ≤ r + shift)
 
-same_some : {X : Type 0} (x y : X) → Some x ≡ Some y → x ≡ y
-same_some x y e = cc
-
 one_value : {X : Type 0} (xs : List X) (i j : ℕ) (x y : X) → i ≡ j → slice_get xs i ≡ Some x
     → slice_get xs j ≡ Some y → x ≡ y
-one_value xs i j x y e here there = same_some x y (sym here ∙ ap (slice_get xs) e ∙ there)
+one_value xs i j x y e here there = same_Some x y (sym here ∙ ap (slice_get xs) e ∙ there)
 
 add_none : (j : ℕ) → j ≡ j + 0
 add_none j = omega arith

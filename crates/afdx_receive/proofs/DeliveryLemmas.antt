@@ -8,6 +8,7 @@ use Rattle.std.proofs.lemmas.List.Elements.{filter-append}
 use Rattle.afdx_frame.specs.declared.link.Side.TheVariants.{A, B}
 use Rattle.afdx_frame.specs.declared.fault.IpFault.{IpFault}
 use Rattle.afdx_frame.specs.Carried.{Carried, carried_by}
+use Rattle.afdx_frame.proofs.ListLemmas.{take-one_more}
 use Rattle.afdx_config.specs.SentList as sent
 use Rattle.afdx_receive.specs.Integrity.{Incoming}
 use Rattle.afdx_receive.specs.Standing.{standing}
@@ -18,7 +19,6 @@ use Rattle.afdx_receive.specs.declared.reception.DropReason.TheVariants as drop
 use Rattle.afdx_receive.specs.TwoStreams.{count_of, is_first_copy, first_copies, AreTwoStreams}
 use Rattle.afdx_receive.specs.Delivery.{with_answer, delivered, CarriesSent, AllCarrySent}
 use Rattle.afdx_receive.proofs.StreamLemmas.{stand, own_place, counted}
-use Rattle.afdx_receive.proofs.TableLemmas.{one_more}
 use mathlib.Core.List.{reverse-cons}
 
 -- what is delivered of a frame that carries a message and stands so
@@ -87,7 +87,7 @@ delivered_first skew is_open messages (frame ∷ before) streams all =
         ∙ sym (filter-append (λ (m : sent.Message). is_open m.udp)
         (take (length (first_copies before)) messages) (here.message ∷ []))
         ∙ ap (filter (λ (m : sent.Message). is_open m.udp))
-        (sym (one_more messages (length (first_copies before)) here.message place) ∙ ap
+        (sym (take-one_more messages (length (first_copies before)) here.message place) ∙ ap
         (λ n. take n messages) (plus_one (length (first_copies before)) ∙ sym (ap length now)))
     at false e so_far =
         let stood : standing skew before frame ≡ Redundant = (stand skew before frame streams).0

@@ -5,18 +5,14 @@ use Rattle.std.proofs.Common.{nat_eq, refl, sym, ◌∙◌, ap, arith}
 use Rattle.std.specs.Prelude.{slice_get, slice_set, option_and_then, ◌⊎◌}
 use Rattle.std.proofs.lemmas.Bool.{cases_eq, eqb-true, eqb-false, eq-eqb, ne_eqb}
 use Rattle.std.proofs.lemmas.List.{length_push}
-use Rattle.std.proofs.lemmas.Option.{slice_get_read}
+use Rattle.std.proofs.lemmas.Option.{slice_get_read, same_Some}
 use Rattle.std.proofs.Math.ListN.{get_or}
+use Rattle.afdx_frame.proofs.ListLemmas.{slice_get-push_last, slice_get-set_here, slice_get-set_there}
 use Rattle.afdx_receive.specs.Places.{Paged, place_in}
 use Rattle.afdx_receive.specs.Kept.{Kept, IsKept, memory_at}
-use Rattle.afdx_receive.proofs.PlacesLemmas.{set_here, set_there}
 use Rattle.afdx_receive.specs.declared.memory.LinkMemory.{LinkMemory}
 
 module _ {X : Type 0} where
-  push_here : (xs : List X) (y : X) → slice_get (xs ++ y ∷ []) (length xs) ≡ Some y
-  push_here [] y = refl
-  push_here (x ∷ xs) y = push_here xs y
-
   push_before : (xs : List X) (y : X) (i : ℕ) → i < length xs → slice_get (xs ++ y ∷ []) i ≡ slice_get xs i
   push_before [] y i within = absurd (omega (arith, within))
   push_before (x ∷ xs) y zero within = refl
@@ -73,9 +69,6 @@ module _ (kept : Kept) (is : IsKept kept) (vl : ℕ) (memory : LinkMemory) (plac
   placed_there q other = updates q ∙ ap (λ b. cond b (Some (length kept.memories)) (place_in kept.places q))
       (ne_eqb vl q (λ e. other (sym e)))
 
-  some_same : (a b : ℕ) → Some a ≡ Some b → a ≡ b
-  some_same a b e = cc
-
   pub link_kept : IsKept with_link
   link_kept = record {
     within = λ q place e. within q place e (cases_eq q vl);
@@ -87,7 +80,7 @@ module _ (kept : Kept) (is : IsKept kept) (vl : ℕ) (memory : LinkMemory) (plac
           → place < length with_link.memories
       within q place e (inl same) =
           let last : length kept.memories ≡ place =
-          some_same (length kept.memories) place
+          same_Some (length kept.memories) place
           (sym placed_here ∙ ap (place_in with_link.places) (sym same) ∙ e) in
           omega (arith, last, length_push kept.memories memory)
       within q place e (inr other) =
@@ -99,7 +92,7 @@ module _ (kept : Kept) (is : IsKept kept) (vl : ℕ) (memory : LinkMemory) (plac
           → place_in with_link.places vl ≡ Some place → ⊥
       apart q place other e f =
           let old : place < length kept.memories = is.within q place (sym (placed_there q other) ∙ e) in
-          let last : length kept.memories ≡ place = some_same (length kept.memories) place (sym placed_here ∙ f) in
+          let last : length kept.memories ≡ place = same_Some (length kept.memories) place (sym placed_here ∙ f) in
           omega (arith, old, last)
 
       own : (a b place : ℕ) → place_in with_link.places a ≡ Some place → place_in with_link.places b ≡ Some place →
@@ -125,7 +118,7 @@ module _ (kept : Kept) (is : IsKept kept) (vl : ℕ) (memory : LinkMemory) (plac
       at true e =
           let here : place_in with_link.places q ≡ Some (length kept.memories) =
           ap (place_in with_link.places) (sym (eqb-true vl q e)) ∙ placed_here in
-          ap (option_and_then (λ place. slice_get with_link.memories place)) here ∙ push_here kept.memories memory
+          ap (option_and_then (λ place. slice_get with_link.memories place)) here ∙ slice_get-push_last kept.memories memory
       at false e =
           ap (option_and_then (λ place. slice_get with_link.memories place))
           (placed_there q (λ same. eqb-false vl q e (sym same)))
@@ -161,7 +154,7 @@ module _ (kept : Kept) (is : IsKept kept) (vl place : ℕ)
       other : (o : Option ℕ) → ((p : ℕ) → o ≡ Some p → p ≡ place → ⊥) →
           option_and_then (λ p. slice_get with_memory.memories p) o ≡ option_and_then (λ p. slice_get kept.memories p) o
       other None apart = refl
-      other (Some p) apart = set_there kept.memories place p moved (apart p refl)
+      other (Some p) apart = slice_get-set_there kept.memories place p moved (apart p refl)
 
       at : (b : Bool) → nat_eq vl q ≡ b →
           option_and_then (λ p. slice_get with_memory.memories p) (place_in kept.places q)
@@ -169,7 +162,7 @@ module _ (kept : Kept) (is : IsKept kept) (vl place : ℕ)
       at true e =
           let here : place_in kept.places q ≡ Some place = ap (place_in kept.places) (sym (eqb-true vl q e)) ∙ placed in
           ap (option_and_then (λ p. slice_get with_memory.memories p)) here
-          ∙ set_here kept.memories place moved (is.within vl place placed)
+          ∙ slice_get-set_here kept.memories place moved (is.within vl place placed)
       at false e = other (place_in kept.places q) (λ p here same.
           eqb-false vl q e (is.own vl q place placed (here ∙ ap Some same)))
 

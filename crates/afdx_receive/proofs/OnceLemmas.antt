@@ -125,7 +125,7 @@ pub stream_delivered_once : BuiltIsComputed
     (is_open : ℕ → Bool)
     (came : List Incoming) →
     IsLink systems l → l.latency_us ≤ l.skew_us → IsLawfulStream s l messages stream
-        → AreCopies (1000 * l.latency_us) stream came →
+    → AreCopies (1000 * l.latency_us) stream came →
     reverse (delivered (1000 * l.skew_us) is_open came)
     ≡ filter (λ (m : Message). is_open m.udp)
     (take (max (count_of A came) (count_of B came)) messages)

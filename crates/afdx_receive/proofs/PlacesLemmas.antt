@@ -6,27 +6,13 @@ use Rattle.std.specs.Prelude.{slice_get, slice_set, option_map, option_and_then,
 use Rattle.std.specs.Option.{option_copied, option_flatten}
 use Rattle.std.specs.Slice.{IsItemAt}
 use Rattle.std.proofs.lemmas.Bool.{cases_eq, eqb-true, eqb-false}
-use Rattle.std.proofs.lemmas.List.{get_or-set_same, get_or-set_other}
-use Rattle.std.proofs.lemmas.Option.{slice_get-get_or, slice_get_past, slice_get_cases, slice_get_read, unwrap_or-slice_get}
+use Rattle.std.proofs.lemmas.Option.{slice_get_read, unwrap_or-slice_get}
 use Rattle.std.proofs.Math.ListN.{get_or, length-set}
+use Rattle.std.proofs.lemmas.Option.{same_Some}
+use Rattle.afdx_frame.proofs.ListLemmas.{slice_get-set_here, slice_get-set_there}
 use Rattle.afdx_receive.specs.Places.{Paged, IsPaged, found_at, number_in, slot_in, place_in}
 
 module _ {X : Type 0} where
-  pub set_here : (xs : List X) (i : ℕ) (x : X) → i < length xs → slice_get (slice_set xs i x) i ≡ Some x
-  set_here xs i x within =
-      slice_get-get_or (slice_set xs i x) i x (subst (λ n. i < n) (sym (length-set xs i x)) within)
-      ∙ ap Some (get_or-set_same xs i x x within)
-
-  pub set_there : (xs : List X) (i j : ℕ) (x : X) → (j ≡ i → ⊥) → slice_get (slice_set xs i x) j ≡ slice_get xs j
-  set_there xs i j x other =
-      elim (slice_get_cases xs j).1 [
-        | inl found ↦
-            slice_get-get_or (slice_set xs i x) j found.0 (subst (λ n. j < n) (sym (length-set xs i x)) found.1)
-            ∙ ap Some (get_or-set_other xs i j x found.0 other ∙ found.3) ∙ sym found.2
-        | inr past ↦ slice_get_past (slice_set xs i x) j
-            (subst (λ n. n ≤ j) (sym (length-set xs i x)) past.0) ∙ sym past.1
-      ]
-
   before : (xs ys : List X) (i : ℕ) → i < length xs → slice_get (xs ++ ys) i ≡ slice_get xs i
   before [] ys i within = absurd (omega (arith, within))
   before (x ∷ xs) ys zero within = refl
@@ -54,9 +40,6 @@ module _ {X : Type 0} where
 some_none : (a : ℕ) → None ≡ Some a → ⊥
 some_none a e = cc
 
-some_same : (a b : ℕ) → Some a ≡ Some b → a ≡ b
-some_same a b e = cc
-
 -- what a slot is of
 record Slot (paged : Paged) (vl slot : ℕ) : Type 0 where
   pub number : ℕ
@@ -73,7 +56,7 @@ module _ (paged : Paged) (is : IsPaged paged) where
       at (Some number) here e = record {
         number = number;
         page = here;
-        is = sym (some_same (16 * number + vl % 16) slot e);
+        is = sym (same_Some (16 * number + vl % 16) slot e);
       }
 
   pub slot_within : (vl slot : ℕ) → slot_in paged vl ≡ Some slot → slot < length paged.slots
@@ -112,7 +95,7 @@ module _ (paged : Paged) (is : IsPaged paged) where
             option_and_then (λ s. option_flatten (slice_get with_place.slots s)) o
             ≡ option_and_then (λ s. option_flatten (slice_get paged.slots s)) o
         other None apart = refl
-        other (Some s) apart = ap option_flatten (set_there paged.slots slot s (Some place) (apart s refl))
+        other (Some s) apart = ap option_flatten (slice_get-set_there paged.slots slot s (Some place) (apart s refl))
 
         at : (b : Bool) → nat_eq vl q ≡ b →
             option_and_then (λ s. option_flatten (slice_get with_place.slots s)) (slot_in paged q)
@@ -120,7 +103,7 @@ module _ (paged : Paged) (is : IsPaged paged) where
         at true e =
             let its : slot_in paged q ≡ Some slot = ap (slot_in paged) (sym (eqb-true vl q e)) ∙ here in
             ap (option_and_then (λ s. option_flatten (slice_get with_place.slots s))) its
-            ∙ ap option_flatten (set_here paged.slots slot (Some place) (slot_within vl slot here))
+            ∙ ap option_flatten (slice_get-set_here paged.slots slot (Some place) (slot_within vl slot here))
         at false e = other (slot_in paged q) (λ s there same.
             eqb-false vl q e (slot_own vl q slot here (there ∙ ap Some same)))
 
@@ -151,10 +134,10 @@ module _ (paged : Paged) (is : IsPaged paged) where
       }
 
       pub numbered : number_in with_page page ≡ Some number
-      numbered = ap option_flatten (set_here pages page (Some number) room)
+      numbered = ap option_flatten (slice_get-set_here pages page (Some number) room)
 
       others : (q : ℕ) → (q ≡ page → ⊥) → number_in with_page q ≡ number_in paged q
-      others q other = ap option_flatten (set_there pages page q (Some number) other) ∙ same q
+      others q other = ap option_flatten (slice_get-set_there pages page q (Some number) other) ∙ same q
 
       pub page_longer : length with_page.slots ≡ length paged.slots + 16
       page_longer = long paged.slots (replicate 16 None)
@@ -168,7 +151,7 @@ module _ (paged : Paged) (is : IsPaged paged) where
       }
         where
           new : (q n : ℕ) → number_in with_page q ≡ Some n → q ≡ page → n ≡ number
-          new q n e its = some_same n number (sym e ∙ ap (number_in with_page) its ∙ numbered)
+          new q n e its = same_Some n number (sym e ∙ ap (number_in with_page) its ∙ numbered)
 
           old : (q n : ℕ) → number_in with_page q ≡ Some n → (q ≡ page → ⊥) → 16 * n + 16 ≤ length paged.slots
           old q n e other = is.within q n (sym (others q other) ∙ e)

@@ -9,6 +9,7 @@ use Rattle.afdx_frame.specs.declared.link.Side.{Side}
 use Rattle.afdx_frame.specs.declared.link.Side.TheVariants.{A, B}
 use Rattle.afdx_frame.specs.Sides.{is_side}
 use Rattle.afdx_frame.proofs.SideLemmas.{is_side-same}
+use Rattle.afdx_frame.proofs.ListLemmas.{take-one_more}
 use Rattle.afdx_config.specs.Numbers.{next_number, after_steps}
 use Rattle.afdx_config.proofs.NumberLemmas.{steps_low}
 use Rattle.afdx_receive.specs.Steps.{is_within_steps}
@@ -18,7 +19,6 @@ use Rattle.afdx_receive.specs.Standing.{standing}
 use Rattle.afdx_receive.specs.declared.memory.Standing.TheVariants.{Winner, OutOfSequence, Redundant}
 use Rattle.afdx_receive.specs.TwoStreams.{other_side, count_of, is_first_copy, first_copies, AreTwoStreams, CarrySent}
 use Rattle.afdx_receive.proofs.StepsLemmas.{Where, where_steps, within_some, some_within}
-use Rattle.afdx_receive.proofs.TableLemmas.{one_more}
 use mathlib.Core.List.{reverse-cons}
 
 -- ---- numbers
@@ -291,7 +291,7 @@ carried_first carried sent (frame ∷ before) all =
         ap (slice_get sent) (sym (own_place before frame e)) ∙ all.0 in
         ap (λ fs. reverse (map carried fs)) now ∙ reverse-cons (carried frame) (map carried (first_copies before))
         ∙ ap (λ xs. xs ++ carried frame ∷ []) so_far
-        ∙ sym (one_more sent (length (first_copies before)) (carried frame) here)
+        ∙ sym (take-one_more sent (length (first_copies before)) (carried frame) here)
         ∙ ap (λ n. take n sent) (plus_one (length (first_copies before)) ∙ sym (ap length now))
     at false e so_far =
         let now : first_copies (frame ∷ before) ≡ first_copies before =

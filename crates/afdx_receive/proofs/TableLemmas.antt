@@ -1,40 +1,21 @@
-use Rattle.std.proofs.Common.{◌≡◌, ℕ, zero, suc, ◌+◌, ◌<◌, inl, inr, Bool, true, false, cond, ◌||◌}
-use Rattle.std.proofs.Common.{◌&&◌, Option, Some, None, List, [], ◌∷◌, ◌++◌, take, eqb}
+use Rattle.std.proofs.Common.{◌≡◌, ℕ, zero, suc, ◌+◌, Bool, true, false, cond, ◌||◌}
+use Rattle.std.proofs.Common.{◌&&◌, Option, Some, None, List, [], ◌∷◌, take, eqb}
 use Rattle.std.proofs.Common.{nat_eq, refl, sym, ◌∙◌, ap, arith}
 use Rattle.std.specs.Prelude.{find, slice_get, option_map}
 use Rattle.std.specs.List.{list_any}
 use Rattle.std.specs.Option.{option_or}
 use Rattle.std.proofs.lemmas.Bool.{eqb-true, eq-eqb, cond-true, cond-false, and_parts, and_from}
-use Rattle.std.proofs.lemmas.Bool.{and_left, and_right, or_cases, or_parts, false_from_ne_true}
-use Rattle.std.proofs.lemmas.List.{take_more}
+use Rattle.std.proofs.lemmas.Bool.{and_left, and_right, or_parts, false_from_ne_true}
 use Rattle.std.proofs.lemmas.List.Folds.{find-append, list_any-append}
-use Rattle.std.proofs.lemmas.Option.{get_or_from_slice_get, slice_get_within}
 use Rattle.std.specs.HashSet as bag
 use Rattle.std.specs.HashSet.{HashSet}
+use Rattle.afdx_frame.proofs.ListLemmas.{take-one_more, list_any-take}
 use Rattle.afdx_config.specs.Rows.{LinkRow, PortRow, is_to}
 use Rattle.afdx_config.specs.Reading.{has_port}
 use Rattle.afdx_config.specs.Lawful.{AreDistinct}
 use Rattle.afdx_receive.specs.StandsFor.{is_same_endpoint, memory_at_first}
 use Rattle.afdx_receive.specs.Kept.{Kept, memory_at}
 use Rattle.afdx_receive.specs.declared.receiver.Endpoint.{Endpoint}
-
-pub one_more : {X : Type 0} (xs : List X) (i : ℕ) (x : X) → slice_get xs i ≡ Some x
-    → take (i + 1) xs ≡ take i xs ++ x ∷ []
-one_more xs i x here = take_more xs i x (slice_get_within xs i x here)
-    ∙ ap (λ y. take i xs ++ y ∷ []) (get_or_from_slice_get xs i x x here)
-
--- one before a place that passes a test
-found_before : {X : Type 0} (p : X → Bool) (xs : List X) (i : ℕ) → list_any p (take i xs) ≡ true →
-    (j : ℕ) × (x : X) × (j < i) × (slice_get xs j ≡ Some x) × (p x ≡ true)
-found_before p [] zero h = absurd (cc)
-found_before p [] (suc i) h = absurd (cc)
-found_before p (x ∷ xs) zero h = absurd (cc)
-found_before p (x ∷ xs) (suc i) h =
-    elim (or_cases (p x) (list_any p (take i xs)) h) [
-      | inl here ↦ (0, x, omega arith, refl, here)
-      | inr later ↦ let found = found_before p xs i later in
-          (suc found.0, found.1, omega (arith, found.2), found.3, found.4)
-    ]
 
 none_found : {X : Type 0} (p : X → Bool) (xs : List X) → list_any p xs ≡ false → find p xs ≡ None
 none_found p [] h = refl
@@ -53,7 +34,7 @@ none_before : (system vl : ℕ) (links : List LinkRow) (i : ℕ) (link : LinkRow
 unfolding AreDistinct
 none_before system vl links i link distinct here named =
     none_found (is_for system vl) (take i links) (false_from_ne_true (list_any (is_for system vl) (take i links)) (λ h.
-    let found = found_before (is_for system vl) links i h in
+    let found = list_any-take (is_for system vl) links i h in
     let both : (nat_eq found.1.vl vl ≡ true) × (is_to system found.1 ≡ true) =
     and_parts (nat_eq found.1.vl vl) (is_to system found.1) found.4 in
     let same : found.0 ≡ i = distinct found.0 i found.1 link found.3 here (eqb-true found.1.vl vl both.0 ∙ sym named) in
@@ -93,7 +74,7 @@ LinksSoFar system links i held = (vl : ℕ)
 
 find_one : (p : LinkRow → Bool) (links : List LinkRow) (i : ℕ) (link : LinkRow) → slice_get links i ≡ Some link →
     find p (take (i + 1) links) ≡ option_or (find p (take i links)) (cond (p link) (Some link) None)
-find_one p links i link here = ap (find p) (one_more links i link here) ∙ find-append p (take i links) (link ∷ [])
+find_one p links i link here = ap (find p) (take-one_more links i link here) ∙ find-append p (take i links) (link ∷ [])
 
 or_none : {X : Type 0} (o : Option X) → option_or o None ≡ o
 or_none None = refl
@@ -155,7 +136,7 @@ configured ports system to = refl
 
 any_one : (p : PortRow → Bool) (ports : List PortRow) (i : ℕ) (port : PortRow) → slice_get ports i ≡ Some port →
     list_any p (take (i + 1) ports) ≡ (list_any p (take i ports) || (p port || false))
-any_one p ports i port here = ap (list_any p) (one_more ports i port here)
+any_one p ports i port here = ap (list_any p) (take-one_more ports i port here)
     ∙ list_any-append p (take i ports) (port ∷ [])
 
 or_no : (a : Bool) → (a || (false || false)) ≡ a

@@ -3,7 +3,7 @@
 ghost use Rattle.std.specs.Prelude.{◌≡◌, ℕ, ◌+◌, ◌*◌, ◌%◌, ◌<◌, ◌≤◌, cond, nat_eq, None, Some};
 ghost use Rattle.std.specs.Prelude.{length, IfOk, OnOk, OnErr};
 ghost use Rattle.afdx_frame.specs.Layout.{identifier_count};
-ghost use Rattle.afdx_receive.specs.Places.{found_at, number_in, slot_in, place_in};
+ghost use Rattle.afdx_receive.specs.Places.{found_at, number_in, page_size, slot_in, place_in};
 
 use afdx_frame::VlId;
 use std::alloc::{AllocError, Global};
@@ -12,7 +12,7 @@ use std::marker::Model;
 /// So many identifiers are on a page.
 const PAGE: usize = 16;
 
-/// By identifier, a place. The identifiers lie on pages of 16, and only those pages have slots that
+/// By identifier, a place. The identifiers lie on pages, and only those pages have slots that
 /// have a place: few links take little room, whatever their identifiers are.
 #[derive(Drop)]
 pub(crate) struct Places {
@@ -36,7 +36,7 @@ impl Model for Places {
 /// The slot of an identifier, on a page of this number.
 #[inline(always)]
 fn slot_on(number: u16, vl: VlId) -> usize
-    ensures { result ≡ 16 * number + vl.0 % 16 }
+    ensures { result ≡ page_size * number + vl.0 % page_size }
 {
     PAGE * number as usize + vl.0 as usize % PAGE
 }
@@ -76,11 +76,11 @@ impl Places {
     /// Takes room for the slots of a page that has none, and gives its number.
     fn add_page(&mut self, page: usize) -> Result<u16, AllocError>
         requires page { page < identifier_count }
-        requires few { length self.old.slots < 16 * identifier_count }
+        requires few { length self.old.slots < page_size * identifier_count }
         requires none { number_in self.old page ≡ None }
         ensures same { (q : ℕ) → place_in self.new q ≡ place_in self.old q }
         ensures number { IfOk result (λ number. number_in self.new page ≡ Some number) }
-        ensures count { length self.new.slots ≤ length self.old.slots + 16 }
+        ensures count { length self.new.slots ≤ length self.old.slots + page_size }
     {
         lengthen(&mut self.pages, page)?;
         let number = (self.slots.len() / PAGE) as u16;
@@ -91,10 +91,10 @@ impl Places {
 
     /// The slot of an identifier, for whose page room is taken if it has none.
     fn make_room(&mut self, vl: VlId) -> Result<usize, AllocError>
-        requires few { length self.old.slots < 16 * identifier_count }
+        requires few { length self.old.slots < page_size * identifier_count }
         ensures same { (q : ℕ) → place_in self.new q ≡ place_in self.old q }
         ensures slot { IfOk result (λ slot. slot_in self.new vl.0 ≡ Some slot) }
-        ensures count { length self.new.slots ≤ length self.old.slots + 16 }
+        ensures count { length self.new.slots ≤ length self.old.slots + page_size }
     {
         let page = vl.0 as usize / PAGE;
         if let Some(number) = self.number_of(page) {
@@ -106,11 +106,11 @@ impl Places {
 
     /// Makes this the place of an identifier.
     pub(crate) fn insert(&mut self, vl: VlId, place: u16) -> Result<(), AllocError>
-        requires few { length self.old.slots < 16 * identifier_count }
+        requires few { length self.old.slots < page_size * identifier_count }
         ensures updates { OnOk result ((q : ℕ) →
             place_in self.new q ≡ cond (nat_eq vl.0 q) (Some place) (place_in self.old q)) }
         ensures same { OnErr result ((q : ℕ) → place_in self.new q ≡ place_in self.old q) }
-        ensures count { length self.new.slots ≤ length self.old.slots + 16 }
+        ensures count { length self.new.slots ≤ length self.old.slots + page_size }
     {
         let slot = self.make_room(vl)?;
         self.slots[slot] = Some(place);

@@ -4,27 +4,16 @@ use Rattle.std.proofs.Common.{Bool, IfSome, length, subst, ◌⊎◌, inl, inr}
 use Rattle.afdx_config.specs.Rows.{Rows}
 use Rattle.afdx_police.specs.Arrival.{Arrival}
 use Rattle.afdx_police.specs.declared.shape.Reason.{Reason}
-use Rattle.afdx_police.specs.declared.shape.Reason.TheVariants.{TooShort, TooLong, BadFcs, BadAddress, UnknownLink}
-use Rattle.afdx_police.specs.declared.shape.Reason.TheVariants.{WrongPort, OverLmax, UnderLmin, OverRate}
+use Rattle.afdx_police.specs.declared.shape.Reason.TheVariants.{OverRate}
+use Rattle.afdx_police.specs.Verdicts.{is_over_rate}
+use Rattle.afdx_police.proofs.EarlyLemmas.{is_over_rate-true}
 use Rattle.afdx_lists.specs.declared.watched.Watched.{Watched}
 use Rattle.afdx_switch.specs.Early.{IsEarlyBy}
 use Rattle.afdx_switch.specs.Verdicts.{reason_of, shape_fault}
 use Rattle.afdx_switch.proofs.EarlyLemmas.{early-dropped, over-rate-sound}
 use Rattle.afdx_text.specs.Telling.{Tells}
 use Rattle.afdx_text.proofs.TellingLemmas.{Tells-more, Tells-none}
-use Rattle.afdx_replay.specs.replaying.Early.{HearsEarly, TellsEarly, IsLineOn, early_line, is_over_rate}
-
-over-rate : (reason : Option Reason) → is_over_rate reason ≡ true → reason ≡ Some OverRate
-over-rate None is = absurd (cc)
-over-rate (Some TooShort) is = absurd (cc)
-over-rate (Some TooLong) is = absurd (cc)
-over-rate (Some BadFcs) is = absurd (cc)
-over-rate (Some BadAddress) is = absurd (cc)
-over-rate (Some UnknownLink) is = absurd (cc)
-over-rate (Some WrongPort) is = absurd (cc)
-over-rate (Some OverLmax) is = absurd (cc)
-over-rate (Some UnderLmin) is = absurd (cc)
-over-rate (Some OverRate) is = refl
+use Rattle.afdx_replay.specs.replaying.Early.{HearsEarly, TellsEarly, IsLineOn, early_line}
 
 module _ {D : Type 0} (contents : D → Option (List ℕ)) (t : Rows) where
   -- no arrival is told yet
@@ -53,7 +42,7 @@ module _ {D : Type 0} (contents : D → Option (List ℕ)) (t : Rows) where
       → (shape_fault t x ≡ None → IsEarlyBy t (x ∷ past) x wait) → Tells contents before after (early_line x.tag wait)
       → TellsEarly contents t start after (x ∷ past)
   early-more start before after past x reason wait h is over early told =
-      let dropped : reason_of t past x ≡ Some OverRate = sym is ∙ over-rate reason over in
+      let dropped : reason_of t past x ≡ Some OverRate = sym is ∙ is_over_rate-true reason over in
       more start before after past x true (early_line x.tag wait) h (ap is_over_rate (sym is) ∙ over)
       (wait, early-dropped t past x OverRate wait dropped (early (over-rate-sound t past x dropped)), refl) told
 

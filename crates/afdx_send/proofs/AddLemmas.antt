@@ -13,6 +13,7 @@ use Rattle.std.proofs.lemmas.Bool.{cases_eq}
 use Rattle.std.proofs.lemmas.Bool.Decides.{nat_tests}
 use Rattle.afdx_config.specs.Rows.{LinkRow}
 use Rattle.afdx_frame.specs.Sealing.{AreBytes}
+use Rattle.afdx_frame.proofs.ListLemmas.{slice_get-push_cases, slice_get-one}
 use Rattle.afdx_send.specs.declared.agenda.Agenda.{Agenda}
 use Rattle.afdx_send.specs.declared.fault.SendFault.{SendFault}
 use Rattle.afdx_send.specs.declared.fault.SendFault.TheVariants.{NotMyLink, NoSuchSub, Empty}
@@ -33,9 +34,9 @@ use Rattle.afdx_send.specs.Sender.{HoldsSame, IsIdle, IsPlaceOf, IsRefused, Link
 use Rattle.afdx_send.specs.Sender.{AreUnreleased}
 use Rattle.afdx_send.proofs.LineLemmas.{Takes, line_takes}
 use Rattle.afdx_port.proofs.TurnLemmas.{eqb-same}
-use Rattle.afdx_send.proofs.OwnLemmas.{own_set, own_before, all_stay, before_longer, same_get}
+use Rattle.afdx_send.proofs.OwnLemmas.{own_set, own_before, all_stay, before_longer}
 use Rattle.afdx_send.proofs.RegulatorLemmas.{due, not_none}
-use Rattle.afdx_send.proofs.ReleaseLemmas.{get_either, get_set_same, get_set_other, length_set}
+use Rattle.afdx_send.proofs.ReleaseLemmas.{get_set_same, get_set_other, length_set}
 use Rattle.afdx_send.proofs.StandLemmas.{none_before, held_more}
 
 -- where a queue has a front that has come by t, the next release isn't after t
@@ -164,7 +165,7 @@ submission_stands w h place index line line' m ag st k =
       come = λ i q d g. elim (own_set h.taken place i (own_submissions h.taken place ++ s ∷ [])
           below' (cases_eq i place)) [
             | inl e ↦ (let g' = subst (λ (z : List Submission). slice_get z q ≡ Some d) e.1 g in
-                elim (get_either (own_submissions h.taken place) s q d g') [
+                elim (slice_get-push_cases (own_submissions h.taken place) s q d g') [
                   | inl old ↦ (let c = st.come place q d old in omega arith)
                   | inr new ↦ (let c : d.time ≡ m.time = ap (λ z. z.time) new.1 in omega arith)
                 ])
@@ -370,7 +371,7 @@ count_is ss rs c from (s ∷ rest) ms g h =
         shift i = omega arith
 
     same : (d : Submission) → IsUnreleased ss rs from d → d ≡ s
-    same d w = same_get ss from d s w.stands stands
+    same d w = slice_get-one ss from d s w.stands stands
 
     by : (b : Bool) → has_release rs from ≡ b → (e : Bool) → (s.sub == c) ≡ e
         → ((qs : List Queued) → IsQueue ss rs c (from + 1) qs → count_without rs c (from + 1) rest

@@ -4,7 +4,7 @@ use Rattle.std.proofs.Common.{replicate, Option, Some, None, option_map, MatchOp
 use Rattle.std.proofs.Common.{refl, sym, ap, subst, arith, ◌∙◌, map, drop, suc, zero, slice_set}
 use Rattle.std.proofs.Common.{slice_index_or}
 use Rattle.std.specs.List.{slice_get}
-use Rattle.std.proofs.lemmas.List.{map-set}
+use Rattle.std.proofs.lemmas.List.{map-set, length-replicate}
 use Rattle.std.proofs.lemmas.Option.{slice_get-map, slice_get-get_or, slice_get_within}
 use Rattle.std.proofs.lemmas.Bool.{cases_lt, cases_eq}
 use Rattle.afdx_send.specs.declared.agenda.Next.{Next}
@@ -67,15 +67,11 @@ map_replicate : {Y Z : Type 0} (f : Y → Z) (n : ℕ) (y : Y) → map f (replic
 map_replicate f zero y = refl
 map_replicate f (suc n) y = ap (λ z. f y ∷ z) (map_replicate f n y)
 
-length_replicate : {Y : Type 0} (n : ℕ) (y : Y) → length (replicate n y) ≡ n
-length_replicate zero y = refl
-length_replicate (suc n) y = ap (λ k. suc k) (length_replicate n y)
-
 -- no link has a release
 pub new_tournament : (count : ℕ) (nodes : List (Option Next)) → count ≤ 4096
     → nodes ≡ replicate (2 * count) None → IsTournament count nodes
 new_tournament count nodes small e = subst (λ (z : List (Option Next)). IsTournament count z) (sym e) (record {
-  size = length_replicate (2 * count) None;
+  size = length-replicate (2 * count) None;
   small = small;
   leaves = λ k x h. absurd (let f : Some x ≡ None = get_replicate (2 * count) (count + k) None (Some x) h in cc f);
   winners = λ i le lt a b c ha hb hc. record {

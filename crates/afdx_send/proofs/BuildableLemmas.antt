@@ -2,6 +2,7 @@
 use Rattle.std.proofs.Common.{◌≡◌, ℕ, List, [], ◌∷◌, length, Some, inl, inr, sym, subst}
 use Rattle.std.proofs.Common.{arith}
 use Rattle.std.specs.List.{slice_get, AllByRecursion}
+use Rattle.afdx_frame.proofs.ListLemmas.{slice_get-push_cases}
 use Rattle.afdx_config.specs.Admission.{byte_ns}
 use Rattle.afdx_config.specs.Rows.{SystemRow, LinkRow}
 use Rattle.afdx_port.specs.Schedule.{Entry, Turn, AreTurns}
@@ -15,7 +16,6 @@ use Rattle.afdx_send.proofs.KeptLemmas.{all_fit}
 use Rattle.afdx_send.proofs.LawLemmas.{TakenAreTurns, emitted_are}
 use Rattle.afdx_send.proofs.MessageLemmas.{AllMessages, all_messages, can_be_sent}
 use Rattle.afdx_send.proofs.NumberLemmas.{number-small}
-use Rattle.afdx_send.proofs.ReleaseLemmas.{get_either}
 
 module _ (s : SystemRow) (links : List LinkRow) (taken : List (List Submission))
     (sent : AreSent s links) (fit : AllFit links taken) (good : AllMessages links taken) where
@@ -23,7 +23,7 @@ module _ (s : SystemRow) (links : List LinkRow) (taken : List (List Submission))
       → (i : ℕ) → slice_get (entries_of xs) i ≡ Some turn.entry → IsBuildable s turn
   entry-buildable [] are turn i at = absurd (cc at)
   entry-buildable (x ∷ xs) are turn i at =
-      elim (get_either (entries_of xs) (entry_for x (length (own x.place xs))) i turn.entry at) [
+      elim (slice_get-push_cases (entries_of xs) (entry_for x (length (own x.place xs))) i turn.entry at) [
         | inl old ↦ entry-buildable xs are.1 turn i old
         | inr new ↦ this (length (own x.place xs)) new.1
       ]

@@ -5,6 +5,7 @@ use Rattle.std.specs.Prelude.{All}
 use Rattle.std.specs.List.{slice_get, AllByRecursion}
 use Rattle.std.proofs.lemmas.List.{length-append}
 use Rattle.afdx_frame.specs.declared.link.Priority.TheVariants.{Low}
+use Rattle.afdx_frame.proofs.ListLemmas.{slice_get-push_cases}
 use Rattle.afdx_config.specs.Admission.{byte_ns}
 use Rattle.afdx_config.specs.LawfulStream.{Sending}
 use Rattle.afdx_config.specs.Rows.{LinkRow, Rows}
@@ -26,7 +27,6 @@ use Rattle.afdx_send.proofs.MessageLemmas.{AllMessages}
 use Rattle.afdx_send.proofs.NewLemmas.{are_sent}
 use Rattle.afdx_send.proofs.OrderLemmas.{all-get, are-releases-of-all}
 use Rattle.afdx_send.proofs.OwnLemmas.{own_releases, next_later}
-use Rattle.afdx_send.proofs.ReleaseLemmas.{get_either}
 use Rattle.afdx_send.proofs.StreamLemmas.{stream_of, emits_lawfully}
 
 -- ---- the entries of a port are in order
@@ -37,7 +37,7 @@ come-before : (links : List LinkRow) (taken : List (List Submission)) (x : LinkR
 come-before links taken x [] h i e at = absurd (cc at)
 come-before links taken x (y ∷ ys) h i e at =
     let later = next_later links taken y ys x.place x.row x.release h.0.stands h.1 h.0.next in
-    elim (get_either (entries_of ys) (entry_for y (length (own y.place ys))) i e at) [
+    elim (slice_get-push_cases (entries_of ys) (entry_for y (length (own y.place ys))) i e at) [
       | inl old ↦ (let le = come-before links taken y ys h.1 i e old in omega (arith, le, later))
       | inr new ↦ (let same : e.time ≡ y.release.time = ap (λ d. d.time) new.1 in omega (arith, same, later))
     ]

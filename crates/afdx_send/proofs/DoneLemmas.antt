@@ -3,7 +3,7 @@ use Rattle.std.proofs.Common.{◌≡◌, ℕ, ◌<◌, ◌≤◌, Bool, true, fa
 use Rattle.std.proofs.Common.{None, option_map, IfNone, refl, ap, subst, arith, ◌∙◌}
 use Rattle.std.specs.List.{slice_get}
 use Rattle.std.proofs.lemmas.Option.{slice_get_within, slice_get-map}
-use Rattle.afdx_admit.proofs.TakenLemmas.{at_place}
+use Rattle.afdx_frame.proofs.ListLemmas.{slice_get-within}
 use Rattle.afdx_config.specs.Admission.{byte_ns}
 use Rattle.afdx_config.specs.Rows.{LinkRow}
 use Rattle.afdx_port.specs.Schedule.{Turn, IsSchedule}
@@ -25,8 +25,8 @@ all_released : (w : SenderState) (h : SenderHistory) (st : StandsFor w h) (t : �
     → 1000032768000000 < t → (i place : ℕ) (l : LinkRow) → slice_get h.links i ≡ Some l
     → place < length (own_submissions h.taken i) → has_release (own i st.released) place ≡ true
 all_released w h st t none late i place l row lt =
-    let r = at_place w.lines.items i (let k = slice_get_within h.links i l row in let c = st.count in omega arith) in
-    let d = at_place (own_submissions h.taken i) place lt in
+    let r = slice_get-within w.lines.items i (let k = slice_get_within h.links i l row in let c = st.count in omega arith) in
+    let d = slice_get-within (own_submissions h.taken i) place lt in
     by r.0 r.1 d.0 d.1 (has_release (own i st.released) place) refl
   where
     never : (line : Line) → slice_get w.lines.items i ≡ Some line

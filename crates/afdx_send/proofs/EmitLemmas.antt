@@ -5,6 +5,7 @@ use Rattle.std.proofs.Common.{ap, subst, arith, ◌∙◌, suc, zero}
 use Rattle.std.specs.Prelude.{◌↔◌, is_some}
 use Rattle.std.specs.List.{slice_get}
 use Rattle.std.proofs.lemmas.Option.{slice_get_within}
+use Rattle.std.proofs.lemmas.List.{append-nil}
 use Rattle.afdx_frame.specs.declared.link.Priority.TheVariants.{High, Low}
 use Rattle.afdx_frame.specs.declared.link.Side.{Side}
 use Rattle.afdx_frame.specs.declared.link.Side.TheVariants.{A, B}
@@ -27,7 +28,7 @@ use Rattle.afdx_send.specs.Frames.{Frame, IsReadAs, facts, address_with}
 use Rattle.afdx_send.specs.Releases.{Submission, Release}
 use Rattle.afdx_send.specs.Sender.{SenderHistory, at, HasGiven, IsIdle, IsNextIn, StandsFor, Gives, port_history, sending_of}
 use Rattle.afdx_send.proofs.LineLemmas.{mul_most}
-use Rattle.afdx_send.proofs.NextLemmas.{AllSubs, comparable, append_none, append_append}
+use Rattle.afdx_send.proofs.NextLemmas.{AllSubs, comparable, append_append}
 use Rattle.afdx_send.proofs.OwnLemmas.{next_later}
 use Rattle.afdx_send.proofs.StandLemmas.{none_before}
 
@@ -141,7 +142,7 @@ pub more_of : (links : List LinkRow) (taken : List (List Submission)) (xs later 
     → IsNextOf taken xs i l r → t ≤ r.time) →
     AreAllReleases links taken (later ++ xs) → IsMore xs later t
 more_of links taken xs [] t none h =
-    record { more = []; is = sym (append_none (entries_of xs)); late = λ i e k. absurd (cc k) }
+    record { more = []; is = sym (append-nil (entries_of xs)); late = λ i e k. absurd (cc k) }
 more_of links taken xs (x ∷ later) t none h =
     let m = more_of links taken xs later t none h.1 in
     let d : Entry Frame = entry_for x (length (own x.place (later ++ xs))) in

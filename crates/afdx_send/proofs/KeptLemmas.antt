@@ -3,6 +3,7 @@ use Rattle.std.proofs.Common.{◌≡◌, ℕ, ◌+◌, ◌<◌, ◌≤◌, List,
 use Rattle.std.proofs.Common.{None, inl, inr, refl, sym, ap, subst, arith, suc, zero}
 use Rattle.std.specs.List.{slice_get}
 use Rattle.std.proofs.lemmas.Option.{slice_get_within}
+use Rattle.afdx_frame.proofs.ListLemmas.{slice_get-push_cases}
 use Rattle.afdx_config.specs.Admission.{byte_ns}
 use Rattle.afdx_config.specs.Rows.{LinkRow}
 use Rattle.afdx_bounds.specs.Sender.{SenderIsNeverFull}
@@ -17,18 +18,17 @@ use Rattle.afdx_send.specs.Lines.{LineStands, LineReleases}
 use Rattle.afdx_send.specs.Releases.{Submission, Release}
 use Rattle.afdx_send.specs.Sender.{SenderHistory, nexts_of, StandsFor}
 use Rattle.afdx_send.proofs.FullLemmas.{AllFit, not_lost}
-use Rattle.afdx_send.proofs.ReleaseLemmas.{get_either}
 use Rattle.afdx_send.proofs.StandLemmas.{IsDueLine, line_at, next_of_all, entry_is}
 
 pub order_push : (es : List (Entry Frame)) (e : Entry Frame) (t : ℕ) → AreInOrder es
     → ((i : ℕ) (d : Entry Frame) → slice_get es i ≡ Some d → d.time ≤ t) → t ≤ e.time
     → AreInOrder (es ++ e ∷ [])
-order_push es e t order come late i j c d le h k = elim (get_either es e j d k) [
-  | inl old ↦ elim (get_either es e i c h) [
+order_push es e t order come late i j c d le h k = elim (slice_get-push_cases es e j d k) [
+  | inl old ↦ elim (slice_get-push_cases es e i c h) [
     | inl first ↦ order i j c d le first old
     | inr last ↦ absurd (let n = slice_get_within es j d old in let m = last.0 in omega arith)
   ]
-  | inr new ↦ elim (get_either es e i c h) [
+  | inr new ↦ elim (slice_get-push_cases es e i c h) [
     | inl first ↦ (let a = come i c first in let b : d.time ≡ e.time = ap (λ z. z.time) new.1 in omega arith)
     | inr last ↦ (let a : c.time ≡ e.time = ap (λ z. z.time) last.1 in let b : d.time ≡ e.time =
         ap (λ z. z.time) new.1 in omega arith)

@@ -1,12 +1,14 @@
 -- Emissions are the releases, shaped: each in time, and those of a link a lawful stream.
 use Rattle.std.proofs.Common.{◌≡◌, ℕ, ◌+◌, ◌<◌, ◌≤◌, ◌==◌, ◌||◌, Bool, true, false, List, []}
 use Rattle.std.proofs.Common.{◌∷◌, ◌++◌, length, Option, Some, None, inl, inr, refl, sym, ap}
-use Rattle.std.proofs.Common.{subst, arith, ◌∙◌, suc, zero}
+use Rattle.std.proofs.Common.{subst, arith, ◌∙◌, suc}
 use Rattle.std.specs.Prelude.{All}
 use Rattle.std.specs.List.{slice_get}
 use Rattle.std.proofs.lemmas.Option.{slice_get_within}
 use Rattle.std.proofs.lemmas.Bool.{cases_eq, cases_lt}
+use Rattle.std.proofs.lemmas.List.{append-nil}
 use Rattle.afdx_frame.specs.declared.link.Priority.TheVariants.{Low}
+use Rattle.afdx_frame.proofs.ListLemmas.{slice_get-push_last, slice_get-within}
 use Rattle.afdx_config.specs.Admission.{byte_ns}
 use Rattle.afdx_config.specs.Rows.{LinkRow}
 use Rattle.afdx_bounds.specs.Sender.{SenderIsInTime, one_of_each}
@@ -23,9 +25,8 @@ use Rattle.afdx_send.specs.Sender.{SenderHistory, HasGiven, flows_of, StandsFor,
 use Rattle.afdx_send.proofs.EmitLemmas.{AreOurs, are_ours, more_of, get_more}
 use Rattle.afdx_send.proofs.FullLemmas.{vl_of, charge_of, charged_all, released_all}
 use Rattle.afdx_send.proofs.KeptLemmas.{all_fit}
-use Rattle.afdx_send.proofs.NextLemmas.{append_none, append_append, split_last}
+use Rattle.afdx_send.proofs.NextLemmas.{append_append, split_last}
 use Rattle.afdx_port.proofs.TurnLemmas.{eqb-same, eqb-other}
-use Rattle.afdx_send.proofs.ReleaseLemmas.{get_last}
 
 -- the law of ports: what a port took are the turns of its entries
 abbrev pub TakenAreTurns : Type 0
@@ -63,18 +64,13 @@ pub record GoInOrder (n : ℕ) (turns : List (Turn Frame)) : Type 0 where
   pub yes : (p : ℕ) → p < n → has_turn turns p ≡ true
   pub no : (p : ℕ) → n ≤ p → has_turn turns p ≡ false
 
-element : {Y : Type 0} (xs : List Y) (i : ℕ) → i < length xs → (x : Y) × (slice_get xs i ≡ Some x)
-element [] i lt = absurd (omega arith)
-element (x ∷ xs) zero lt = (x, refl)
-element (x ∷ xs) (suc i) lt = element xs i (omega arith)
-
 pub next_place : (b n : ℕ) (es : List (Entry Frame)) (earlier : List (Turn Frame)) (s : Turn Frame)
     → AreOurs es → GoInOrder n earlier → IsNext b es earlier s → s.place ≡ n
 next_place b n es earlier s ours g k =
     let within = slice_get_within es s.place s.entry k.own.stands in
     elim (cases_lt s.place n) [
       | inl lt ↦ absurd (let y = g.yes s.place lt in let w = k.own.without in let e : true ≡ false = sym y ∙ w in cc e)
-      | inr ge ↦ (let e = element es n (omega arith) in
+      | inr ge ↦ (let e = slice_get-within es n (omega arith) in
           let le = k.in_order n e.0 (record { stands = e.1; without = g.no n (omega arith) })
           ((ours n e.0 e.1).class ∙ sym (ours s.place s.entry k.own.stands).class) in
           omega arith)
@@ -136,7 +132,7 @@ pub paired : (links : List LinkRow) (taken : List (List Submission)) (b : ℕ)
     (all : List LinkRelease) (turns : List (Turn Frame)) → AreAllReleases links taken all
     → AreTurns b (entries_of all) turns → Paired all turns
 unfolding Pairs
-paired links taken b all [] h are = record { first = []; later = all; is = sym (append_none all); pairs = tt }
+paired links taken b all [] h are = record { first = []; later = all; is = sym (append-nil all); pairs = tt }
 paired links taken b all (s ∷ earlier) h are =
     let r = paired links taken b all earlier h are.1 in
     let n : length earlier ≡ length r.first = pairs_length earlier r.first r.pairs in
@@ -159,7 +155,7 @@ paired links taken b all (s ∷ earlier) h are =
           let got : slice_get (entries_of all) s.place ≡ Some d = ap (λ z. slice_get z s.place) es
           ∙ subst (λ (z : ℕ). slice_get ((entries_of r.first ++ d ∷ []) ++ m.more) z ≡ Some d)
           at (get_more (entries_of r.first ++ d ∷ []) m.more (length (entries_of r.first)) d
-          (get_last (entries_of r.first) d)) in
+          (slice_get-push_last (entries_of r.first) d)) in
           let same : Some s.entry ≡ Some d = sym are.0.own.stands ∙ got in
           let entry : s.entry ≡ d = cc same in
           record { first = x ∷ r.first; later = some.0; is = whole; pairs = (entry, r.pairs) })

@@ -6,6 +6,7 @@ use Rattle.std.specs.List.{slice_get, AllByRecursion}
 use Rattle.std.proofs.lemmas.List.{length-map}
 use Rattle.std.proofs.lemmas.List.Sums.{sum_by-cons}
 use Rattle.std.proofs.lemmas.Bool.{cases_lt, cases_eq}
+use Rattle.afdx_frame.proofs.ListLemmas.{slice_get-push_cases}
 use Rattle.afdx_config.specs.Numbers.{after_steps, next_number}
 use Rattle.afdx_config.specs.Rows.{LinkRow}
 use Rattle.afdx_send.specs.declared.line.Line.{Line}
@@ -17,7 +18,7 @@ use Rattle.afdx_send.specs.Regulator.{Regulates, Releases, Serves, Pushes, HasQu
 use Rattle.afdx_send.specs.Regulator.{waiting_of, next_time_of, sub_count}
 use Rattle.afdx_send.specs.Releases.{Submission, Release, IsMessage, IsNext, earliest_after}
 use Rattle.afdx_send.proofs.RegulatorLemmas.{due}
-use Rattle.afdx_send.proofs.ReleaseLemmas.{pushed, get_either, get_set_same, get_set_other, length_set, popped_sum}
+use Rattle.afdx_send.proofs.ReleaseLemmas.{pushed, get_set_same, get_set_other, length_set, popped_sum}
 
 mul_step : (k b : ℕ) → (k + 1) * b ≡ k * b + b
 mul_step k b = omega arith
@@ -195,7 +196,7 @@ line_takes line line' index m l ss rs k st early before come =
       regulates = pushed line.regulator ss rs index m line'.regulator st.regulates k.can.within
           k.pushes k.bag k.earliest k.served before come;
       timely = record {
-        limit = λ i s h. elim (get_either ss (submission_of (index + 1) m) i s h) [
+        limit = λ i s h. elim (slice_get-push_cases ss (submission_of (index + 1) m) i s h) [
           | inl old ↦ st.timely.limit i s old
           | inr new ↦ (let t : s.time ≡ m.time = ap (λ z. z.time) new.1 in omega arith)
         ];
@@ -203,13 +204,13 @@ line_takes line line' index m l ss rs k st early before come =
         full = full;
         balance = omega arith;
       };
-      fits = λ i s h. elim (get_either ss (submission_of (index + 1) m) i s h) [
+      fits = λ i s h. elim (slice_get-push_cases ss (submission_of (index + 1) m) i s h) [
         | inl old ↦ st.fits i s old
         | inr new ↦ (let t : length s.message.payload ≡ length m.payload.items =
             ap (λ z. length z.message.payload) new.1 in let f = k.can.fits in let g = is.longest in
             omega arith)
       ];
-      messages = λ i s h. elim (get_either ss (submission_of (index + 1) m) i s h) [
+      messages = λ i s h. elim (slice_get-push_cases ss (submission_of (index + 1) m) i s h) [
         | inl old ↦ st.messages i s old
         | inr new ↦ subst (λ (z : Submission). IsMessage z.message) (sym new.1) k.can.message
       ];

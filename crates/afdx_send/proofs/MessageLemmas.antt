@@ -3,10 +3,10 @@ use Rattle.std.proofs.Common.{◌≡◌, ℕ, ◌+◌, ◌≤◌, List, length, 
 use Rattle.std.proofs.Common.{arith}
 use Rattle.std.specs.List.{slice_get}
 use Rattle.std.proofs.lemmas.Option.{slice_get_within}
+use Rattle.afdx_frame.proofs.ListLemmas.{slice_get-within}
 use Rattle.afdx_config.specs.Lawful.{IsSystem, IsLink}
 use Rattle.afdx_config.specs.Rows.{SystemRow, LinkRow}
 use Rattle.afdx_config.specs.SentList.{Message, CanBeSent}
-use Rattle.afdx_admit.proofs.TakenLemmas.{at_place}
 use Rattle.afdx_send.specs.declared.sender_state.SenderState.{SenderState}
 use Rattle.afdx_send.specs.Emissions.{own_submissions}
 use Rattle.afdx_send.specs.Releases.{Submission, IsMessage}
@@ -21,7 +21,7 @@ pub all_messages : (w : SenderState) (h : SenderHistory) → StandsFor w h → A
 all_messages w h st i j l s row here =
     let below = slice_get_within h.links i l row in
     let count = st.count in
-    let line = at_place w.lines.items i (omega (arith, below, count)) in
+    let line = slice_get-within w.lines.items i (omega (arith, below, count)) in
     (st.lines i line.0 l line.1 row).messages j s here
 
 pub can_be_sent : (profile n : ℕ) (s : SystemRow) (l : LinkRow) (m : Message) → IsSystem profile s

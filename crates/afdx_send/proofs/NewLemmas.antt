@@ -13,8 +13,6 @@ use Rattle.afdx_config.specs.Admission.{byte_ns, links_from, sender_jitter, IsAd
 use Rattle.afdx_config.specs.Lawful.{IsSystem, IsLink, IsLawful, AreDistinct}
 use Rattle.afdx_config.specs.Numbers.{after_steps}
 use Rattle.afdx_config.specs.Rows.{SystemRow, LinkRow, Rows}
-use Rattle.afdx_admit.proofs.TakenLemmas.{at_place}
-use Rattle.afdx_config.proofs.EachRowLemmas.{all_at}
 use Rattle.afdx_port.specs.Schedule as slots
 use Rattle.afdx_port.specs.declared.left.Left.{Left}
 use Rattle.afdx_bounds.specs.Sender.{one_of_each}
@@ -22,6 +20,8 @@ use Rattle.afdx_bounds.specs.Tables.{EachSystemIsSender, sent_flow}
 use Rattle.afdx_config.specs.Flows.{regulation_of_link}
 use Rattle.afdx_frame.specs.Flows.{Flow}
 use Rattle.afdx_frame.specs.Regulation.{jitter}
+use Rattle.afdx_frame.proofs.ListLemmas.{slice_get-push_cases, AllByRecursion-slice_get, slice_get-filter}
+use Rattle.afdx_frame.proofs.ListLemmas.{slice_get-within}
 use Rattle.std.proofs.lemmas.Bool.{eqb-true}
 use Rattle.afdx_port.specs.Held as held
 use Rattle.afdx_port.specs.History as port
@@ -38,7 +38,7 @@ use Rattle.afdx_send.specs.Releases.{Submission}
 use Rattle.afdx_send.specs.Sender.{HasGiven, no_calls, AreSent, flows_of, IsQuiet, IsPlaceOf}
 use Rattle.afdx_send.specs.Sender.{StandsFor, nexts_of, messages_held, frames_held, ready_count}
 use Rattle.afdx_send.specs.Sender.{port_history}
-use Rattle.afdx_send.proofs.ReleaseLemmas.{get_either, get_set_same, get_set_other, length_set}
+use Rattle.afdx_send.proofs.ReleaseLemmas.{get_set_same, get_set_other, length_set}
 
 -- the queues of a new regulator are empty
 none_waits : (line : Line) → Regulates line.regulator [] [] → (i : ℕ) (ms : List Queued)
@@ -76,12 +76,12 @@ pub lines_push : (links : List LinkRow) (lines : List Line) (l : LinkRow) (line 
     → AreNewLines links lines → IsNewLine l line → AreNewLines (links ++ l ∷ []) (lines ++ line ∷ [])
 lines_push links lines l line a new = record {
   count = length_push lines line ∙ ap (λ z. z + 1) a.count ∙ sym (length_push links l);
-  each = λ i l1 line1 h k. elim (get_either links l i l1 h) [
-    | inl old ↦ elim (get_either lines line i line1 k) [
+  each = λ i l1 line1 h k. elim (slice_get-push_cases links l i l1 h) [
+    | inl old ↦ elim (slice_get-push_cases lines line i line1 k) [
       | inl old' ↦ a.each i l1 line1 old old'
       | inr last ↦ absurd (let w = slice_get_within links i l1 old in let e = last.0 in let c = a.count in omega arith)
     ]
-    | inr last ↦ elim (get_either lines line i line1 k) [
+    | inr last ↦ elim (slice_get-push_cases lines line i line1 k) [
       | inl old' ↦ absurd (let w = slice_get_within lines i line1 old' in let e = last.0 in let c =
           a.count in omega arith)
       | inr last' ↦ subst (λ (z : LinkRow). IsNewLine z line1) (sym last.1)
@@ -154,18 +154,6 @@ passes_filter p (y ∷ ys) i x h = by (p y) refl i h (λ k g. passes_filter p ys
     by true e (suc k) g rec = rec k g
     by false e k g rec = rec k g
 
-pub from_filter : {Y : Type 0} (p : Y → Bool) (xs : List Y) (i : ℕ) (x : Y)
-    → slice_get (filter p xs) i ≡ Some x → (j : ℕ) × (slice_get xs j ≡ Some x)
-from_filter p [] i x h = absurd (cc h)
-from_filter p (y ∷ ys) i x h = by (p y) i h (λ k g. from_filter p ys k x g)
-  where
-    by : (b : Bool) (k : ℕ) → slice_get (if b then y ∷ filter p ys else filter p ys) k ≡ Some x
-        → ((m : ℕ) → slice_get (filter p ys) m ≡ Some x → (j : ℕ) × (slice_get ys j ≡ Some x))
-        → (j : ℕ) × (slice_get (y ∷ ys) j ≡ Some x)
-    by true zero g rec = (0, g)
-    by true (suc k) g rec = let r = rec k g in (suc r.0, r.1)
-    by false k g rec = let r = rec k g in (suc r.0, r.1)
-
 abbrev Distinct : {Y : Type 0} → (Y → ℕ) → List Y → Type 0
 Distinct {Y} f xs = (i j : ℕ) (a b : Y) → slice_get xs i ≡ Some a → slice_get xs j ≡ Some b → f a ≡ f b → i ≡ j
 
@@ -180,9 +168,9 @@ filter_distinct f p (x ∷ xs) d i j a b h k e =
         → Distinct f (filter p xs) → m ≡ n
     by true zero zero g l rest = refl
     by true zero (suc n) g l rest =
-        absurd (let q = from_filter p xs n b l in let t = d 0 (suc q.0) a b g q.1 e in omega arith)
+        absurd (let q = slice_get-filter p xs n b l in let t = d 0 (suc q.0) a b g q.1 e in omega arith)
     by true (suc m) zero g l rest =
-        absurd (let q = from_filter p xs m a g in let t = d (suc q.0) 0 a b q.1 l e in omega arith)
+        absurd (let q = slice_get-filter p xs m a g in let t = d (suc q.0) 0 a b q.1 l e in omega arith)
     by true (suc m) (suc n) g l rest = ap (λ z. suc z) (rest m n a b g l e)
     by false m n g l rest = rest m n a b g l e
 
@@ -208,7 +196,7 @@ jitters_are : (t : Rows) (place : ℕ) (s : SystemRow) → IsAdmitted t → slic
     one_of_each (byte_ns s) (flows_of s (links_from t.links place)) ≤ jitter (regulation_of_link l)
 jitters_are t place s admitted row i l h =
     let p : LinkRow → Bool = λ l. nat_eq l.from place in
-    let r = from_filter p t.links i l h in
+    let r = slice_get-filter p t.links i l h in
     let from : l.from ≡ place = eqb-true l.from place (passes_filter p t.links i l h) in
     let sum = admitted.jitters r.0 l s r.1 (subst (λ (z : ℕ). slice_get t.systems z ≡ Some s) (sym from) row) in
     let sum' : sender_jitter (byte_ns s) (links_from t.links place) ≤ 1000 * l.jitter_us =
@@ -220,10 +208,10 @@ jitters_are t place s admitted row i l h =
 pub are_sent : (t : Rows) (place : ℕ) (s : SystemRow) → EachSystemIsSender → IsLawful t
     → IsAdmitted t → slice_get t.systems place ≡ Some s → AreSent s (links_from t.links place)
 are_sent t place s law lawful admitted row = record {
-  system = (t.profile, all_at (IsSystem t.profile) t.systems place s lawful.systems.each row);
+  system = (t.profile, AllByRecursion-slice_get (IsSystem t.profile) t.systems place s lawful.systems.each row);
   is_sender = law t Low place s lawful admitted row;
-  lawful = λ i l h. (let r = from_filter (λ l. nat_eq l.from place) t.links i l h in
-      (length t.systems, all_at (IsLink (length t.systems)) t.links r.0 l lawful.links.each r.1));
+  lawful = λ i l h. (let r = slice_get-filter (λ l. nat_eq l.from place) t.links i l h in
+      (length t.systems, AllByRecursion-slice_get (IsLink (length t.systems)) t.links r.0 l lawful.links.each r.1));
   distinct = distinct_links t.links place lawful.links.identifiers;
   jitters = jitters_are t place s admitted row;
 }
@@ -317,13 +305,13 @@ stands_new w t place s are n =
 
     line_of : (i : ℕ) (l : LinkRow) → slice_get (links_from t.links place) i ≡ Some l
         → (line : Line) × (slice_get w.lines.items i ≡ Some line)
-    line_of i l h = at_place w.lines.items i
+    line_of i l h = slice_get-within w.lines.items i
         (let k = slice_get_within (links_from t.links place) i l h in let c = n.lines.count in
         omega arith)
 
     row_of : (i : ℕ) (line : Line) → slice_get w.lines.items i ≡ Some line → (l : LinkRow)
         × (slice_get (links_from t.links place) i ≡ Some l)
-    row_of i line h = at_place (links_from t.links place) i
+    row_of i line h = slice_get-within (links_from t.links place) i
         (let k = slice_get_within w.lines.items i line h in let c = n.lines.count in omega arith)
 
     place_of : (vl : ℕ) (p : Option ℕ) → IsPlaceIn w.lines.items vl p → IsPlaceOf (links_from t.links place) vl p

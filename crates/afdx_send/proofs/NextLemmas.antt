@@ -2,12 +2,14 @@
 use Rattle.std.proofs.Common.{◌≡◌, ℕ, ◌+◌, ◌≤◌, List, [], ◌∷◌, ◌++◌, Some, ◌⊎◌, inl, inr, refl, sym}
 use Rattle.std.proofs.Common.{ap, subst, arith, ◌∙◌, suc, zero}
 use Rattle.std.specs.List.{slice_get}
+use Rattle.std.proofs.lemmas.List.{append-nil}
 use Rattle.afdx_frame.specs.Regulation.{bag}
+use Rattle.afdx_frame.proofs.ListLemmas.{slice_get-one}
 use Rattle.afdx_config.specs.Flows.{regulation_of_link}
 use Rattle.afdx_config.specs.Rows.{LinkRow}
 use Rattle.afdx_send.specs.Emissions.{LinkRelease, own, own_submissions, IsNextOf, IsNextOfAll, AreAllReleases}
 use Rattle.afdx_send.specs.Releases.{Submission, Release, IsNext, AreReleases, last_served, turn}
-use Rattle.afdx_send.proofs.OwnLemmas.{own_releases, same_get}
+use Rattle.afdx_send.proofs.OwnLemmas.{own_releases}
 use Rattle.afdx_send.proofs.RegulatorLemmas.{turn_same}
 
 -- the sub-VLs of what was taken are those of the link
@@ -60,7 +62,7 @@ one_next b subs ss rs q r are h n m =
     let place : q.place ≡ r.place = omega arith in
     let stands : slice_get ss r.place ≡ Some q.submission =
     subst (λ (z : ℕ). slice_get ss z ≡ Some q.submission) place n.own.stands in
-    release_is q r place (same_get ss r.place q.submission r.submission stands m.own.stands) time
+    release_is q r place (slice_get-one ss r.place q.submission r.submission stands m.own.stands) time
 
 link_release_is : (x y : LinkRelease) → x.place ≡ y.place → x.row ≡ y.row → x.release ≡ y.release → x ≡ y
 link_release_is x y a b c = ap (λ z. record x { place = z }) a
@@ -78,7 +80,7 @@ one_next_of_all links taken xs x y are h n m =
     let p2 = m.first x.place x.row x.release n.stands n.next (omega arith) in
     let place : x.place ≡ y.place = omega arith in
     let row : x.row ≡ y.row =
-    same_get links y.place x.row y.row
+    slice_get-one links y.place x.row y.row
     (subst (λ (z : ℕ). slice_get links z ≡ Some x.row) place n.stands) m.stands in
     let next' : IsNextOf taken xs y.place y.row x.release =
     subst (λ (z : LinkRow). IsNextOf taken xs y.place z x.release) row
@@ -87,10 +89,6 @@ one_next_of_all links taken xs x y are h n m =
     (one_next (bag (regulation_of_link y.row)) y.row.subs (own_submissions taken y.place)
     (own y.place xs) x.release y.release (are y.place y.row m.stands)
     (own_releases links taken y.place y.row xs m.stands h) next' m.next)
-
-pub append_none : {Y : Type 0} (xs : List Y) → xs ++ [] ≡ xs
-append_none [] = refl
-append_none (y ∷ ys) = ap (λ z. y ∷ z) (append_none ys)
 
 pub append_append : {Y : Type 0} (xs ys zs : List Y) → (xs ++ ys) ++ zs ≡ xs ++ (ys ++ zs)
 append_append [] ys zs = refl
@@ -115,7 +113,7 @@ pub comparable : (links : List LinkRow) (taken : List (List Submission))
     (ones twos : List LinkRelease) → AllSubs links taken → AreAllReleases links taken ones
     → AreAllReleases links taken twos →
     ((later : List LinkRelease) × (twos ≡ later ++ ones)) ⊎ ((later : List LinkRelease) × (ones ≡ later ++ twos))
-comparable links taken ones [] are ha hb = inr (ones, sym (append_none ones))
+comparable links taken ones [] are ha hb = inr (ones, sym (append-nil ones))
 comparable links taken ones (x ∷ twos) are ha hb = elim (comparable links taken ones twos are ha hb.1) [
   | inl r ↦ inl (x ∷ r.0, ap (λ z. x ∷ z) r.1)
   | inr r ↦ elim (split_last r.0) [

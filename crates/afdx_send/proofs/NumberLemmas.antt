@@ -11,11 +11,11 @@ use Rattle.afdx_frame.specs.Reading.{BuiltIsComputed}
 use Rattle.afdx_frame.specs.declared.fault.MacFault.{MacFault}
 use Rattle.afdx_frame.specs.declared.link.Side.{Side}
 use Rattle.afdx_frame.specs.declared.link.Side.TheVariants.{A, B}
+use Rattle.afdx_frame.proofs.ListLemmas.{slice_get-within}
 use Rattle.afdx_config.specs.LawfulStream.{IsSent}
 use Rattle.afdx_config.specs.Numbers.{next_number, after_steps}
 use Rattle.afdx_config.specs.Rows.{SystemRow, LinkRow}
 use Rattle.afdx_config.specs.SentList.{Message, address_of, CanBeSent}
-use Rattle.afdx_admit.proofs.TakenLemmas.{at_place}
 use Rattle.afdx_send.specs.Laws.{ZeroComesFirst}
 
 -- a step leads to a number from 1 to 255
@@ -59,7 +59,7 @@ pub zero-comes-first : BuiltIsComputed → ZeroComesFirst
 zero-comes-first computed s l messages stream lawful k y some at m can =
     let within = slice_get_within stream k y at in
     let count = lawful.message_count in
-    let one = at_place messages k (omega (arith, within, count)) in
+    let one = slice_get-within messages k (omega (arith, within, count)) in
     let number : ℕ = after_steps k 0 in
     let sent : IsSent s l (record { message = one.0; number = number }) y =
     lawful.sent k (record { message = one.0; number = number }) y

@@ -3,6 +3,7 @@ use Rattle.std.proofs.Common.{◌≡◌, ℕ, ◌+◌, ◌<◌, true, false, Lis
 use Rattle.std.proofs.Common.{inr, refl, sym, ap, subst, ◌∙◌, arith}
 use Rattle.std.specs.List.{slice_get, AllByRecursion}
 use Rattle.std.proofs.lemmas.Option.{slice_get_within}
+use Rattle.afdx_frame.proofs.ListLemmas.{slice_get-one}
 use Rattle.afdx_config.specs.Rows.{LinkRow}
 use Rattle.afdx_port.specs.Schedule.{Entry, Turn, IsNext, has_turn, is_past, lasting}
 use Rattle.afdx_send.specs.Emissions.{LinkRelease, own_submissions, AreAllReleases}
@@ -13,7 +14,6 @@ use Rattle.afdx_send.specs.Sender.{SenderHistory, IsNextIn, AreAllEmitted}
 use Rattle.afdx_send.proofs.EmitLemmas.{are_ours, get_more, more_of}
 use Rattle.afdx_send.proofs.LawLemmas.{GoInOrder, next_place, order_after}
 use Rattle.afdx_send.proofs.NextLemmas.{AllSubs, comparable, append_append, split_last, all_first}
-use Rattle.afdx_send.proofs.OwnLemmas.{same_get}
 
 -- ---- one next emission
 
@@ -36,7 +36,7 @@ same-turn : (b : ℕ) (es more : List (Entry Frame)) (earlier : List (Turn Frame
 same-turn b es more earlier s d n k place =
     let there = subst (λ (z : ℕ). slice_get (es ++ more) z ≡ Some s.entry) place
     (get_more es more s.place s.entry n.own.stands) in
-    let entry : s.entry ≡ d.entry = same_get (es ++ more) d.place s.entry d.entry there k.own.stands in
+    let entry : s.entry ≡ d.entry = slice_get-one (es ++ more) d.place s.entry d.entry there k.own.stands in
     let at : s.entry.time ≡ d.entry.time = ap (λ e. e.time) entry in
     let come_s = n.come in
     let come_d = k.come in

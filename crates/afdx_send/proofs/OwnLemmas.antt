@@ -6,6 +6,7 @@ use Rattle.std.specs.List.{slice_get, AllByRecursion}
 use Rattle.std.proofs.lemmas.List.{get_or-set_same, get_or-set_other}
 use Rattle.std.proofs.lemmas.Bool.{cases_lt, cases_eq}
 use Rattle.afdx_frame.specs.Regulation.{bag}
+use Rattle.afdx_frame.proofs.ListLemmas.{slice_get-one}
 use Rattle.afdx_config.specs.Flows.{regulation_of_link}
 use Rattle.afdx_config.specs.Rows.{LinkRow}
 use Rattle.afdx_port.proofs.TurnLemmas.{eqb-same, eqb-other}
@@ -95,9 +96,6 @@ all_stay links taken place s (x ∷ xs) below before h = (
           | inr a ↦ subst (λ (z : List Submission). IsNext (bag (regulation_of_link l)) l.subs z (own i xs) r) a.1 n
         ]
 
-pub same_get : {Y : Type 0} (xs : List Y) (i : ℕ) (a b : Y) → slice_get xs i ≡ Some a → slice_get xs i ≡ Some b → a ≡ b
-same_get xs i a b h k = let e : Some a ≡ Some b = sym h ∙ k in cc e
-
 -- each link's own are its releases
 pub own_releases : (links : List LinkRow) (taken : List (List Submission)) (i : ℕ) (l : LinkRow)
     (xs : List LinkRelease) → slice_get links i ≡ Some l → AreAllReleases links taken xs →
@@ -105,7 +103,7 @@ pub own_releases : (links : List LinkRow) (taken : List (List Submission)) (i : 
 own_releases links taken i l [] row h = tt
 own_releases links taken i l (x ∷ xs) row h = elim (cases_eq i x.place) [
   | inl e ↦ (let same : x.row ≡ l =
-      same_get links x.place x.row l h.0.stands (subst (λ (z : ℕ). slice_get links z ≡ Some l) e row) in
+      slice_get-one links x.place x.row l h.0.stands (subst (λ (z : ℕ). slice_get links z ≡ Some l) e row) in
       let rest = own_releases links taken i l xs row h.1 in
       let P : List Release → Type 0 =
       λ z. AreReleases (bag (regulation_of_link l)) l.subs (own_submissions taken i) z in

@@ -1,5 +1,5 @@
 -- The queues of a regulator: their fronts, and whose turn it is.
-use Rattle.std.proofs.Common.{◌≡◌, ℕ, ◌+◌, ◌<◌, ◌≤◌, max, min, nat_lt, true, false, List, [], ◌∷◌}
+use Rattle.std.proofs.Common.{◌≡◌, ℕ, ◌+◌, ◌<◌, ◌≤◌, max, min, List, [], ◌∷◌}
 use Rattle.std.proofs.Common.{length, Option, Some, None, ◌⊎◌, inl, inr, refl, sym, ap, arith, ◌∙◌}
 use Rattle.std.proofs.Common.{map, suc, zero, option_map, slice_index_or, slice_set, option_to_list}
 use Rattle.std.proofs.Common.{MatchOption, ◌++◌, IsTrue, Result, Ok, Err, OnErr, drop, nat_le}
@@ -11,16 +11,11 @@ use Rattle.std.proofs.lemmas.Option.{slice_get-map, slice_get-get_or, slice_get_
 use Rattle.std.specs.List.{AllByRecursion}
 use Rattle.std.proofs.lemmas.Bool.{cases_lt}
 use Rattle.std.proofs.lemmas.Bool.Decides.{nat_tests}
+use Rattle.afdx_port.proofs.TurnLemmas.{nat_lt-true, nat_lt-false}
 use Rattle.afdx_send.specs.declared.regulator.Queued.{Queued}
 use Rattle.afdx_send.specs.Releases.{turn}
 use Rattle.afdx_send.specs.Regulator.{HasQueue, IsReady, Pops, Pushes, first_time, waiting_of, next_time_of}
 use Rattle.afdx_send.specs.declared.regulator.Regulator.{Regulator}
-
-pub nat_lt-true : (a b : ℕ) → a < b → nat_lt a b ≡ true
-nat_lt-true a b h = grind (arith, nat_tests)
-
-pub nat_lt-false : (a b : ℕ) → b ≤ a → nat_lt a b ≡ false
-nat_lt-false a b h = grind (arith, nat_tests)
 
 -- the sub-VL one more than the place served + step has the turn step + 1
 pub turn_of : (subs served step index : ℕ) → step < subs → served ≤ subs → (index ≡ served + step)

@@ -7,6 +7,7 @@ use Rattle.std.proofs.lemmas.List.{length-map}
 use Rattle.std.proofs.lemmas.List.Sums.{sum_by-set}
 use Rattle.std.proofs.lemmas.Option.{get_or_from_slice_get, slice_get_within, slice_get-get_or}
 use Rattle.std.proofs.lemmas.Bool.{cases_eq}
+use Rattle.afdx_frame.proofs.ListLemmas.{slice_get-push_before, slice_get-push_last, slice_get-push_cases}
 use Rattle.afdx_port.proofs.TurnLemmas.{eqb-same, eqb-other}
 use Rattle.afdx_send.specs.declared.regulator.Queued.{Queued}
 use Rattle.afdx_send.specs.declared.regulator.Regulator.{Regulator}
@@ -23,25 +24,6 @@ or_left true b h = h
 or_right : (a b : Bool) → (a || b) ≡ false → b ≡ false
 or_right false b h = h
 or_right true b h = cc
-
--- an element of a longer list
-pub get_longer : {Y : Type 0} (xs : List Y) (y : Y) (i : ℕ) (x : Y) → slice_get xs i ≡ Some x
-    → slice_get (xs ++ y ∷ []) i ≡ Some x
-get_longer [] y i x h = cc
-get_longer (z ∷ zs) y zero x h = h
-get_longer (z ∷ zs) y (suc i) x h = get_longer zs y i x h
-
-pub get_last : {Y : Type 0} (xs : List Y) (y : Y) → slice_get (xs ++ y ∷ []) (length xs) ≡ Some y
-get_last [] y = refl
-get_last (z ∷ zs) y = get_last zs y
-
-pub get_either : {Y : Type 0} (xs : List Y) (y : Y) (i : ℕ) (x : Y) → slice_get (xs ++ y ∷ []) i
-    ≡ Some x → (slice_get xs i ≡ Some x) ⊎ ((i ≡ length xs) × (x ≡ y))
-get_either [] y zero x h = inr (refl, cc)
-get_either [] y (suc i) x h = cc
-get_either (z ∷ zs) y zero x h = inl h
-get_either (z ∷ zs) y (suc i) x h =
-    elim (get_either zs y i x h) [ inl a ↦ inl a | inr b ↦ inr (omega (arith, b.0), b.1) ]
 
 -- an element of a list of which one was replaced
 pub get_set_same : {Y : Type 0} (xs : List Y) (i : ℕ) (y z : Y) → slice_get (slice_set xs i y) i ≡ Some z → z ≡ y
@@ -67,12 +49,12 @@ pub without_either : (ss : List Submission) (s : Submission) (rs : List Release)
     (d : Submission) → IsUnreleased (ss ++ s ∷ []) rs place d → IsUnreleased ss rs place d
     ⊎ ((place ≡ length ss) × (d ≡ s))
 without_either ss s rs place d h =
-    elim (get_either ss s place d h.stands)
+    elim (slice_get-push_cases ss s place d h.stands)
     [ inl a ↦ inl (record { stands = a; without = h.without }) | inr b ↦ inr b ]
 
 pub without_longer : (ss : List Submission) (s : Submission) (rs : List Release) (place : ℕ)
     (d : Submission) → IsUnreleased ss rs place d → IsUnreleased (ss ++ s ∷ []) rs place d
-without_longer ss s rs place d h = record { stands = get_longer ss s place d h.stands; without = h.without }
+without_longer ss s rs place d h = record { stands = slice_get-push_before ss s place d h.stands; without = h.without }
 
 -- what has none of more releases has none of fewer
 without_fewer : (ss : List Submission) (r : Release) (rs : List Release) (q : ℕ) (d : Submission)
@@ -131,7 +113,7 @@ queue_push ss rs c from m [] free le h = (
   length ss,
   record {
     from_on = le;
-    own = record { stands = get_last ss (submission_of c m); without = free };
+    own = record { stands = slice_get-push_last ss (submission_of c m); without = free };
     first = λ q d up v class. elim (without_either ss (submission_of c m) rs q d v)
         [ inl old ↦ absurd (h q d up old class) | inr new ↦ omega (arith, new.0) ];
   },
@@ -360,17 +342,17 @@ pushed p ss rs index m new g below k bag earliest served before come =
       earliest = earliest ∙ g.earliest ∙ ap (λ b. earliest_after b rs) (sym bag);
       served = served ∙ g.served;
       queues = λ i ms h. queue_after i ms (subst (λ (z : List (List Queued)). slice_get z i ≡ Some ms) k.after h);
-      subs = λ place e h. elim (get_either ss s place e h) [
+      subs = λ place e h. elim (slice_get-push_cases ss s place e h) [
         | inl old ↦ (let w = g.subs place e old in (w.0, omega (arith, w.1)))
         | inr late ↦ (let f : e.sub ≡ index + 1 = ap (λ z. z.sub) late.1 in (omega arith, omega arith))
       ];
-      in_order = λ i j d e le a b. elim (get_either ss s j e b) [
-        | inl old_j ↦ elim (get_either ss s i d a) [
+      in_order = λ i j d e le a b. elim (slice_get-push_cases ss s j e b) [
+        | inl old_j ↦ elim (slice_get-push_cases ss s i d a) [
           | inl old_i ↦ g.in_order i j d e le old_i old_j
           | inr new_i ↦ absurd (let within = slice_get_within ss j e old_j in omega (arith, new_i.0))
         ]
         | inr new_j ↦ (let late : e.time ≡ m.time = ap (λ z. z.time) new_j.1 in
-            elim (get_either ss s i d a) [
+            elim (slice_get-push_cases ss s i d a) [
               | inl old_i ↦ (let came = come i d old_i in omega arith)
               | inr new_i ↦ (let same : d.time ≡ m.time = ap (λ z. z.time) new_i.1 in omega arith)
             ])

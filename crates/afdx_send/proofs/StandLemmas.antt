@@ -12,6 +12,7 @@ use Rattle.std.proofs.lemmas.Bool.{cases_eq}
 use Rattle.afdx_admit.proofs.SmallLemmas.{is_gap}
 use Rattle.afdx_frame.specs.declared.link.Priority.TheVariants.{Low}
 use Rattle.afdx_frame.specs.Regulation.{bag}
+use Rattle.afdx_frame.proofs.ListLemmas.{slice_get-one}
 use Rattle.afdx_config.specs.Flows.{regulation_of_link}
 use Rattle.afdx_config.specs.Admission.{byte_ns}
 use Rattle.afdx_config.specs.Lawful.{IsLink}
@@ -34,7 +35,7 @@ use Rattle.afdx_send.specs.Regulator.{next_time_of, sub_count}
 use Rattle.afdx_send.specs.Releases.{Submission, Release, IsNext}
 use Rattle.afdx_send.specs.Sender.{SenderHistory, at, HasGiven, messages_held, nexts_of, port_history, StandsFor}
 use Rattle.afdx_send.proofs.LineLemmas.{limited, time_limit, mul_most}
-use Rattle.afdx_send.proofs.OwnLemmas.{own_mine, own_other, before_longer, same_get}
+use Rattle.afdx_send.proofs.OwnLemmas.{own_mine, own_other, before_longer}
 use Rattle.afdx_send.proofs.ReleaseLemmas.{get_set_same, get_set_other, length_set, next_time_is}
 
 pub read_at : {Y : Type 0} (xs : List Y) (i : ℕ) (x : Y) → i < length xs → x ≡ slice_index_or xs i x
@@ -224,7 +225,7 @@ line_after w h st place line' l r row stands i line1 l1 a b =
       | inl e ↦ (let same : line1 ≡ line' =
           get_set_same w.lines.items place line' line1
           (subst (λ (z : ℕ). slice_get (slice_set w.lines.items place line') z ≡ Some line1) e a) in
-          let row_same : l ≡ l1 = same_get h.links place l l1 row
+          let row_same : l ≡ l1 = slice_get-one h.links place l l1 row
           (subst (λ (z : ℕ). slice_get h.links z ≡ Some l1) e b) in
           let one : LineStands line' l (own_submissions h.taken place)
           (own place (x ∷ st.released)) =
@@ -283,7 +284,7 @@ line_read w time place line soonest read =
     record {
       below = below;
       has = has;
-      due = same_get (nexts_of w) place (next_time_of line.regulator) (Some time) is soonest.own;
+      due = slice_get-one (nexts_of w) place (next_time_of line.regulator) (Some time) is soonest.own;
     }
 
 -- and it is within the limits of the port

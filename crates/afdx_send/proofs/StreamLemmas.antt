@@ -7,7 +7,9 @@ use Rattle.std.specs.List.{slice_get}
 use Rattle.std.specs.Option.{option_map}
 use Rattle.std.proofs.lemmas.Option.{slice_get_within}
 use Rattle.std.proofs.lemmas.Bool.{cases_eq}
+use Rattle.std.proofs.lemmas.List.{length_push}
 use Rattle.afdx_frame.specs.Regulation.{bag, jitter}
+use Rattle.afdx_frame.proofs.ListLemmas.{slice_get-push_cases}
 use Rattle.afdx_config.specs.Admission.{byte_ns}
 use Rattle.afdx_config.specs.Flows.{regulation_of_link}
 use Rattle.afdx_config.specs.Lawful.{IsLink, AreDistinct}
@@ -38,27 +40,22 @@ use Rattle.afdx_send.proofs.NewLemmas.{one_each}
 use Rattle.afdx_send.proofs.NextLemmas.{all_first}
 use Rattle.afdx_port.proofs.TurnLemmas.{eqb-same, eqb-other}
 use Rattle.afdx_send.proofs.OwnLemmas.{own_mine, own_other}
-use Rattle.afdx_send.proofs.ReleaseLemmas.{get_either}
-
-length_more : {Y : Type 0} (ys : List Y) (y : Y) → length (ys ++ y ∷ []) ≡ length ys + 1
-length_more [] y = refl
-length_more (z ∷ zs) y = let r = length_more zs y in omega arith
 
 moments_length : (rs : List Release) → length (times_of rs) ≡ length rs
 moments_length [] = refl
-moments_length (r ∷ rs) = length_more (times_of rs) r.time ∙ (let e = moments_length rs in omega arith)
+moments_length (r ∷ rs) = length_push (times_of rs) r.time ∙ (let e = moments_length rs in omega arith)
 
 sent_length : (rs : List Release) → length (sent_list rs) ≡ length rs
 sent_length [] = refl
-sent_length (r ∷ rs) = length_more (sent_list rs) r.submission.message ∙ (let e = sent_length rs in omega arith)
+sent_length (r ∷ rs) = length_push (sent_list rs) r.submission.message ∙ (let e = sent_length rs in omega arith)
 
 -- the last moment is a gap before the next release
 last_moment : (b t k r : ℕ) (rs : List Release) → earliest_after b rs ≤ t
     → slice_get (times_of rs) k ≡ Some r → k + 1 ≡ length (times_of rs) → r + b ≤ t
 last_moment b t k r [] le h e = absurd (cc h)
-last_moment b t k r (q ∷ rs) le h e = elim (get_either (times_of rs) q.time k r h) [
+last_moment b t k r (q ∷ rs) le h e = elim (slice_get-push_cases (times_of rs) q.time k r h) [
   | inl old ↦ absurd (let w = slice_get_within (times_of rs) k r old in let n =
-      length_more (times_of rs) q.time in omega arith)
+      length_push (times_of rs) q.time in omega arith)
   | inr new ↦ (let s : r ≡ q.time = new.1 in omega arith)
 ]
 
@@ -94,7 +91,7 @@ sent_same ms m k x h = by (slice_get (ms ++ m ∷ []) k) refl h
         → (sent_at ms k ≡ Some x) ⊎ ((k ≡ length ms)
         × (x ≡ record { message = m; number = after_steps k 0 }))
     by None e g = absurd (cc g)
-    by (Some d) e g = elim (get_either ms m k d e) [
+    by (Some d) e g = elim (slice_get-push_cases ms m k d e) [
       | inl old ↦ inl (ap (λ o. option_map {T = Message} {U = Sent}
           (λ d. record { message = d; number = after_steps k 0 }) o) old ∙ g)
       | inr new ↦ inr (
@@ -118,42 +115,42 @@ push_sending s l span r rs stream y a gap low soon most can sent =
     record {
       lawful = record {
         moments = times_of rs ++ r.time ∷ [];
-        moment_count = length_more (times_of rs) r.time ∙ (let e = length_more stream y in omega arith);
-        message_count = length_more (sent_list rs) r.submission.message ∙ (let e = length_more stream y in omega arith);
-        sendable = λ k m h. elim (get_either (sent_list rs) r.submission.message k m h) [
+        moment_count = length_push (times_of rs) r.time ∙ (let e = length_push stream y in omega arith);
+        message_count = length_push (sent_list rs) r.submission.message ∙ (let e = length_push stream y in omega arith);
+        sendable = λ k m h. elim (slice_get-push_cases (sent_list rs) r.submission.message k m h) [
           | inl old ↦ a.lawful.sendable k m old
           | inr new ↦ subst (CanBeSent s l) (sym new.1) can
         ];
-        apart = λ k q later h g. elim (get_either (times_of rs) r.time (k + 1) later g) [
-          | inl old ↦ elim (get_either (times_of rs) r.time k q h) [
+        apart = λ k q later h g. elim (slice_get-push_cases (times_of rs) r.time (k + 1) later g) [
+          | inl old ↦ elim (slice_get-push_cases (times_of rs) r.time k q h) [
             | inl first ↦ a.lawful.apart k q later (ap (λ z. slice_get z k) a.moments ∙ first)
                 (ap (λ z. slice_get z (k + 1)) a.moments ∙ old)
             | inr last ↦ absurd (let w = slice_get_within (times_of rs) (k + 1) later old in
                 let e = last.0 in omega arith)
           ]
-          | inr new ↦ elim (get_either (times_of rs) r.time k q h) [
+          | inr new ↦ elim (slice_get-push_cases (times_of rs) r.time k q h) [
             | inl first ↦ (let b = last_moment (bag (regulation_of_link l)) r.time k q rs gap first new.0 in
                 let e : later ≡ r.time = new.1 in omega arith)
             | inr last ↦ absurd (let e = last.0 in let f = new.0 in omega arith)
           ]
         ];
-        shaped = λ k q z h g. elim (get_either (times_of rs) r.time k q h) [
-          | inl first ↦ elim (get_either stream y k z g) [
+        shaped = λ k q z h g. elim (slice_get-push_cases (times_of rs) r.time k q h) [
+          | inl first ↦ elim (slice_get-push_cases stream y k z g) [
             | inl old ↦ a.lawful.shaped k q z (ap (λ z. slice_get z k) a.moments ∙ first) old
             | inr new ↦ absurd (let w = slice_get_within (times_of rs) k q first in let e = new.0 in omega arith)
           ]
-          | inr last ↦ elim (get_either stream y k z g) [
+          | inr last ↦ elim (slice_get-push_cases stream y k z g) [
             | inl old ↦ absurd (let w = slice_get_within stream k z old in let e = last.0 in omega arith)
             | inr new ↦ (let e : q ≡ r.time = last.1 in let f : z.time ≡ y.time =
                 ap (λ v. v.time) new.1 in (omega arith, omega arith))
           ]
         ];
         sent = λ k x z h g. elim (sent_same (sent_list rs) r.submission.message k x h) [
-          | inl first ↦ elim (get_either stream y k z g) [
+          | inl first ↦ elim (slice_get-push_cases stream y k z g) [
             | inl old ↦ a.lawful.sent k x z first old
             | inr new ↦ absurd (let w = sent_within (sent_list rs) k x first in let e = new.0 in omega arith)
           ]
-          | inr last ↦ elim (get_either stream y k z g) [
+          | inr last ↦ elim (slice_get-push_cases stream y k z g) [
             | inl old ↦ absurd (let w = slice_get_within stream k z old in let e = last.0 in omega arith)
             | inr new ↦ (let at : k ≡ length rs = (let e = last.0 in omega arith) in
                 let is : x ≡ record {
@@ -169,12 +166,12 @@ push_sending s l span r rs stream y a gap low soon most can sent =
         ];
       };
       moments = refl;
-      in_time = λ k q z h g. elim (get_either (times_of rs) r.time k q h) [
-        | inl first ↦ elim (get_either stream y k z g) [
+      in_time = λ k q z h g. elim (slice_get-push_cases (times_of rs) r.time k q h) [
+        | inl first ↦ elim (slice_get-push_cases stream y k z g) [
           | inl old ↦ a.in_time k q z first old
           | inr new ↦ absurd (let w = slice_get_within (times_of rs) k q first in let e = new.0 in omega arith)
         ]
-        | inr last ↦ elim (get_either stream y k z g) [
+        | inr last ↦ elim (slice_get-push_cases stream y k z g) [
           | inl old ↦ absurd (let w = slice_get_within stream k z old in let e = last.0 in omega arith)
           | inr new ↦ (let e : q ≡ r.time = last.1 in let f : z.time ≡ y.time =
               ap (λ v. v.time) new.1 in omega arith)
@@ -248,7 +245,7 @@ stream_of s links taken b span es place l are fit good row most (t ∷ ts) (x �
         (fit x.place x.release.place x.row x.release.submission h.0.stands h.0.next.own.stands) in
         let is_message = good x.place x.release.place x.row x.release.submission h.0.stands h.0.next.own.stands in
         let can = can_be_sent are.system.0 link.0 s l x.release.submission.message are.system.1
-            link.1 is_message fits in
+        link.1 is_message fits in
         let sent = is_sent s l link.0 x k t.end y same link.1 fits is' in
         let sent' : IsSent s l (record {
           message = x.release.submission.message;

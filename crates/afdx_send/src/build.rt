@@ -83,6 +83,7 @@ pub(crate) fn build(
     ensures clock { IfOk result (λ w. last_time w ≡ 0) }
     ensures held { IfOk result (λ w. frames_held w ≡ 0) }
 {
+    // A law, for the proof: what admitted tables let a sender wait with fits its port.
     tables_are_served();
     let tables = tables.tables();
     let row = tables.system(system);

@@ -99,6 +99,7 @@ impl Regulator {
                 return index;
             }
         }
+        // Never: the next release is due, so a message that has come waits in some queue.
         unreachable!()
     }
 
@@ -127,6 +128,7 @@ impl Regulator {
     {
         let index = self.next_in_turn(time);
         let Some(message) = self.pop(index) else {
+            // Never: the queue whose turn it is has a message.
             unreachable!();
         };
         self.served = index + 1;

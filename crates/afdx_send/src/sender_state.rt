@@ -126,12 +126,15 @@ impl SenderState {
             ≡ held.frames_held self.old.output + 1 }
         ensures clock { self.new.clock ≡ self.old.clock }
     {
+        // Two laws, for the proof: what an admitted sender has waiting never fills its port, and a
+        // port has one schedule.
         sender_is_bounded::<Released>();
         one_schedule::<Released>();
         let released = self.lines[place].release(time);
         let next = self.lines[place].regulator.next_time();
         self.agenda.set(place, next);
         let Ok(()) = self.output.put(time, Priority::Low, released) else {
+            // Never, by the first law.
             unreachable!();
         };
     }
@@ -210,6 +213,8 @@ impl SenderState {
         ensures sound { IsSenderSound self.new }
         ensures emits { Emits self.old self.new until result }
     {
+        // Three laws, for the proof: what a port gives is on its schedule, and what is due is next
+        // on it; what a sender emits keeps the gap and the jitter of each link.
         taken_are_on_schedule::<Released>();
         due_is_next::<Released>();
         emissions_are_lawful();
@@ -311,6 +316,8 @@ impl SenderState {
         ensures sound { IsSenderSound self.new }
         ensures submits { Submits self.old self.new time vl.0 sub udp payload.now result }
     {
+        // Two laws, for the proof: what a port gives is on its schedule, and what is due is next on
+        // it.
         taken_are_on_schedule::<Released>();
         due_is_next::<Released>();
         self.prepare(time);

@@ -31,12 +31,12 @@ tables-run : (t : Rows) → (q : List (List ℕ)) × (run (no_nodes, []) (config
 unfolding root
 tables-run t =
     let systems = rows-run (codes "system") system_fields system_nodes system-made t.systems
-        (top_nodes t) [] (no-system t) in
+    (top_nodes t) [] (no-system t) in
     let links = rows-run (codes "link") (link_fields t.systems) (link_nodes t.systems)
-        (link-made t.systems) t.links _ systems.0
+    (link-made t.systems) t.links _ systems.0
     (no-link t (systems_node t)) in
     let ports = rows-run (codes "port") (port_fields t.systems) (port_nodes t.systems)
-        (port-made t.systems) t.ports _ links.0
+    (port-made t.systems) t.ports _ links.0
     (no-port t (systems_node t) (links_node t)) in (
       ports.0,
       after _ _ (field_lines (top_fields t)) _ (top-run t)
@@ -55,7 +55,7 @@ text-parses t lawful =
     let (q, ran) = tables-run t in
     let all = config-lines t lawful in
     let read = read_lines false false (config_expressions t) text text (no_nodes, [])
-        (suc (length text)) all.lines all.printed
+    (suc (length text)) all.lines all.printed
     refl (omega arith) in
     document_some text (tables_root t, q) (rw (no-bom t) (read ∙ ran))
 

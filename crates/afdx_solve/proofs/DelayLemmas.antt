@@ -3,6 +3,7 @@ use Rattle.std.proofs.Common.{◌≡◌, ℕ, ◌+◌, ◌<◌, ◌≤◌, max, 
 use Rattle.std.proofs.Common.{◌∙◌, add-one, arith, min, subst, Bool, true, false}
 use Rattle.std.specs.List.{AllByRecursion}
 use Rattle.std.specs.Option.{option_map_or}
+use Rattle.std.proofs.lemmas.Option.{same_Some}
 use Rattle.afdx_frame.specs.declared.link.Priority.{Priority}
 use Rattle.afdx_frame.specs.declared.link.Priority.TheVariants.{High, Low}
 use Rattle.afdx_config.specs.declared.rows.Times.{Times}
@@ -49,9 +50,6 @@ all_within few many le (p ∷ ps) h = (omega (arith, le, h.0), all_within few ma
 
 -- ---- what a link takes, it may have
 
-same_of_some : {X : Type 0} (x y : X) → Some x ≡ Some y → x ≡ y
-same_of_some x y e = cc
-
 pub chosen-within : (keep raise_only : Bool) (low high as_is least : ℕ) → IsWithin low high as_is
     → IsWithin low high least
     → IsWithin low high (chosen keep raise_only as_is least)
@@ -88,7 +86,7 @@ pub times-lawful : (o : SolveOptions) (times : Times) (needed systems : ℕ) (li
     → with_times times link ≡ with_delays_for o needed link → 1 ≤ needed → IsLink systems link
     → IsLink systems (with_times times l)
 times-lawful o times needed systems link l same e some h =
-    subst (λ r. IsLink systems (with_times times r)) (same_of_some link l same)
+    subst (λ r. IsLink systems (with_times times r)) (same_Some link l same)
     (subst (IsLink systems) (sym e) (delays-lawful o needed systems link some h))
 
 pub delays-of_class : (t : Rows) (d : Delays) → AreDelays t High d.high → AreDelays t Low d.low → (class : Priority)

@@ -1,7 +1,6 @@
 -- A key that a tree has, of its kind and in its range, reads as its value.
-use Rattle.std.proofs.Common.{◌≡◌, ℕ, ◌≤◌, Bool, true, false, ◌||◌, List, [], ◌∷◌, length, nat_eq, Some, Ok, refl, subst}
-use Rattle.std.proofs.lemmas.Bool.{le-leb, eqb-true}
-use Rattle.std.specs.List.{list_any, AllByRecursion}
+use Rattle.std.proofs.Common.{◌≡◌, ℕ, ◌≤◌, List, [], ◌∷◌, length, Some, Ok, refl}
+use Rattle.std.proofs.lemmas.Bool.{le-leb}
 use Rattle.toml.specs.Data.{string, array, Members, get_member, as_str}
 use Rattle.afdx_config.specs.Keys.{Spot, whole, one_of, text, word, meaning, texts, tables, all_as, tables_or_none}
 use Rattle.afdx_config.specs.Lawful.{IsWithin, IsOneOf}
@@ -43,12 +42,3 @@ module _ (at : Spot) (t : Members) where
       → tables at t ≡ Ok ts
   unfolding tables
   tables-read ts found within = rw (found, le-leb (length ts) at.greatest within)
-
--- what holds of each of some numbers holds of one of them
-pub one_of_each : (P : ℕ → Type 0) (n : ℕ) (ns : List ℕ) → AllByRecursion P ns → IsOneOf ns n → P n
-one_of_each P n [] h e = absurd cc
-one_of_each P n (m ∷ ns) h e = by (nat_eq m n) refl (one_of_each P n ns h.1) e
-  where
-    by : (b : Bool) → nat_eq m n ≡ b → (IsOneOf ns n → P n) → b || list_any (λ x. nat_eq x n) ns ≡ true → P n
-    by true same later e = subst P (eqb-true _ _ same) h.0
-    by false other later e = later e

@@ -12,15 +12,14 @@ use Rattle.afdx_frame.specs.declared.link.Priority.{Priority}
 use Rattle.afdx_frame.specs.declared.link.Priority.TheVariants.{High, Low}
 use Rattle.afdx_frame.specs.Regulation.{byte_units}
 use Rattle.afdx_frame.specs.Flows.{Flow, of_class, is_class, burst, high_wait, low_wait, high_load}
+use Rattle.afdx_frame.proofs.ListLemmas.{AllByRecursion-slice_get, slice_get-within}
 use Rattle.afdx_config.specs.Rows.{SystemRow, LinkRow, Rows, is_to}
 use Rattle.afdx_config.specs.Flows.{flow_of_link}
 use Rattle.afdx_config.specs.Lawful.{IsSystem, IsLink, IsLawful}
 use Rattle.afdx_config.specs.Admission.{IsAdmitted, byte_ns, flows_to, links_to, links_from, sender_jitter}
-use Rattle.afdx_config.proofs.EachRowLemmas.{all_at}
 use Rattle.afdx_admit.specs.Lines.{loaded_output_to, high_bound_of, low_bound_of, buffer_need_of, jitter_at}
 use Rattle.afdx_admit.proofs.OutputLemmas.{left_some_at, rates_some}
 use Rattle.afdx_admit.proofs.SmallLemmas.{is_rate}
-use Rattle.afdx_admit.proofs.TakenLemmas.{at_place}
 use Rattle.afdx_solve.specs.declared.options.SolveOptions.{SolveOptions}
 use Rattle.afdx_solve.specs.Solved.{chosen, with_jitter, with_jitters, need_to, greatest_need, least_buffer, with_least_buffer}
 use Rattle.afdx_solve.specs.Solved.{in_us, delay_to, latency_over, with_delay, with_delays, solved}
@@ -127,7 +126,7 @@ delay-least t High place s us at soon left =
     let flows = flows_to t.links place in
     let bound = div_ceil-least (high_wait ns flows) byte_units (1000 * us) (omega arith) soon in
     let least = div_ceil-least (div_ceil (high_wait ns flows) byte_units) 1000 us (omega arith)
-        (omega (arith, bound)) in
+    (omega (arith, bound)) in
     subst (λ n. n ≤ us) (sym (delay-stands t High place s at)) least
 delay-least t Low place s us at soon left =
     let ns = byte_ns s in
@@ -157,12 +156,12 @@ low_stands : (place : ℕ) (ls : List LinkRow) (i : ℕ) (l : LinkRow) → slice
 low_stands place [] i l at goes low = absurd (cc at)
 low_stands place (x ∷ ls) zero l at goes low =
     subst (λ b. Contains (of_class Low (map flow_of_link
-        (cond b (x ∷ links_to ls place) (links_to ls place)))) (flow_of_link l))
+    (cond b (x ∷ links_to ls place) (links_to ls place)))) (flow_of_link l))
     (sym goes_x)
     (subst (λ b. Contains (cond b (flow_of_link x ∷ of_class Low (flows_to ls place))
-        (of_class Low (flows_to ls place)))
+    (of_class Low (flows_to ls place)))
     (flow_of_link l)) (sym low_x) (subst (λ y. Contains
-        (flow_of_link x ∷ of_class Low (flows_to ls place)) (flow_of_link y)) same
+    (flow_of_link x ∷ of_class Low (flows_to ls place)) (flow_of_link y)) same
     (0, omega arith, refl)))
   where
     same_of_some : {X : Type 0} (x y : X) → Some x ≡ Some y → x ≡ y
@@ -181,7 +180,7 @@ low_stands place (x ∷ ls) (suc i) l at goes low =
   where
     in_more : (a b : Bool) → Contains (of_class Low (flows_to ls place)) (flow_of_link l)
         → Contains (of_class Low (map flow_of_link
-          (cond a (x ∷ links_to ls place) (links_to ls place)))) (flow_of_link l)
+        (cond a (x ∷ links_to ls place) (links_to ls place)))) (flow_of_link l)
     in_more false b h = h
     in_more true b h = by b (is_class Low x.priority) refl h
       where
@@ -200,7 +199,7 @@ left_some : (t : Rows) → IsLawful t → IsAdmitted t → (place : ℕ) (s : Sy
     → (i : ℕ) (l : LinkRow) → slice_get t.links i ≡ Some l → is_to place l ≡ true → l.priority ≡ Low
     → 0 < byte_units - high_load (byte_ns s) (flows_to t.links place)
 left_some t lawful admitted place s stands i l at goes low =
-    let row = all_at (IsSystem t.profile) t.systems place s lawful.systems.each stands in
+    let row = AllByRecursion-slice_get (IsSystem t.profile) t.systems place s lawful.systems.each stands in
     left_some_at (byte_ns s) (is_rate t.profile s.rate row.rate).fast (flows_to t.links place) (flow_of_link l)
     (rates_some (length t.systems) place t.links lawful.links.each)
     (admitted.ports place s stands).no_overload (low_stands place t.links i l at goes low)
@@ -222,13 +221,13 @@ least_latencies o t keep raise lawful admitted = λ i l at us some soon.
     let f = with_delay o t in
     let x = mapped f t.links i l at in
     let t3 = record t { links = map f t.links } in
-    let row = all_at (IsLink (length t.systems)) t3.links i l lawful.links.each at in
+    let row = AllByRecursion-slice_get (IsLink (length t.systems)) t3.links i l lawful.links.each at in
     let before : AllByRecursion (λ p. p < length t.systems) x.0.to =
     subst (λ r. AllByRecursion (λ p. p < length t.systems) r.to) (sym x.2) row.to in
     let each : (p : ℕ) → p < length t.systems → list_any (λ q. nat_eq q p) x.0.to ≡ true
-        → delay_to t x.0.priority p ≤ us =
+    → delay_to t x.0.priority p ≤ us =
     λ p less among.
-    let s = at_place t.systems p less in
+    let s = slice_get-within t.systems p less in
     let goes : is_to p l ≡ true = ap (is_to p) (sym x.2) ∙ among in
     let class : x.0.priority ≡ l.priority = ap (λ r. r.priority) x.2 in
     let soon_l = in_time-before o t p (byte_ns s.0) (1000 * us) l.priority (soon p s.0 s.1 goes) in

@@ -14,13 +14,12 @@ use Rattle.afdx_frame.specs.declared.link.Priority.{Priority}
 use Rattle.afdx_frame.specs.declared.link.Priority.TheVariants.{High, Low}
 use Rattle.afdx_frame.specs.declared.link.Policing.{Policing}
 use Rattle.afdx_frame.specs.declared.link.Policing.TheVariants.{Byte, Frame}
+use Rattle.afdx_frame.proofs.ListLemmas.{AllByRecursion-slice_get, slice_get-within}
 use Rattle.afdx_config.specs.declared.rows.Kind.{Kind}
 use Rattle.afdx_config.specs.declared.rows.Kind.TheVariants.{Sampling, Queuing}
 use Rattle.afdx_config.specs.Lawful.{IsLawful, IsSystem, IsLink, IsPort, IsWithin}
 use Rattle.afdx_config.specs.Reading.{is_name, deepest}
 use Rattle.afdx_config.specs.Rows.{SystemRow, LinkRow, PortRow, Rows}
-use Rattle.afdx_config.proofs.EachRowLemmas.{all_at}
-use Rattle.afdx_admit.proofs.TakenLemmas.{at_place}
 use Rattle.afdx_solve.specs.ConfigText.{in_quotes, listed, number_line, text_line, texts_line, header, class_word, policing_word, kind_word, name_at}
 use Rattle.afdx_solve.specs.ConfigText.{system_text, way_text, traffic_text, treatment_text, link_text, port_text, config_text}
 use Rattle.afdx_solve.proofs.NameLemmas.{IsWord, word-text}
@@ -54,7 +53,7 @@ AreWords ss = AllByRecursion IsWord ss
 
 items-text : (is_first : Bool) (s : List ℕ) (more : List (List ℕ)) → AreWords (s ∷ more)
     → IsItemsText false false is_first (texts (s ∷ more))
-      (before_item false is_first ++ (listed (s ∷ more) ++ codes "]"))
+    (before_item false is_first ++ (listed (s ∷ more) ++ codes "]"))
 items-text is_first s [] words = (in_quotes s, codes "]", refl, sym (word-text s words.0), refl)
 items-text is_first s (u ∷ more) words = (
   in_quotes s,
@@ -158,8 +157,8 @@ pub names-words : (profile : ℕ) (systems : List SystemRow)
     → AllByRecursion (IsSystem profile) systems → AreNamesWords systems
 unfolding name_at
 names-words profile systems are i within =
-    let (s, at) = at_place systems i within in
-    rw at (name-word profile s (all_at (IsSystem profile) systems i s are at))
+    let (s, at) = slice_get-within systems i within in
+    rw at (name-word profile s (AllByRecursion-slice_get (IsSystem profile) systems i s are at))
 
 places-words : (systems : List SystemRow) → AreNamesWords systems → (to : List ℕ)
     → AllByRecursion (λ i. i < length systems) to
@@ -251,13 +250,13 @@ config-lines t lawful =
     let profile = line-number (codes "profile") t.profile refl (omega (arith, lawful.profile.1)) in
     let buffer = numbered (codes "buffer") t.buffer refl (omega (arith, lawful.buffer.1)) in
     let systems = all-lines (codes "system") system_fields system_text t.systems
-        (IsSystem t.profile) lawful.systems.each
+    (IsSystem t.profile) lawful.systems.each
     (system-lines t.profile) in
     let links = all-lines (codes "link") (link_fields t.systems) (link_text t.systems) t.links
-        (IsLink (length t.systems))
+    (IsLink (length t.systems))
     lawful.links.each (link-lines t.systems words) in
     let ports = all-lines (codes "port") (port_fields t.systems) (port_text t.systems) t.ports
-        (IsPort (length t.systems) t.links)
+    (IsPort (length t.systems) t.links)
     lawful.ports.each (λ p is. port-lines t.systems t.links p words lawful.links.each is) in
     let rest = and buffer (and systems (and links ports)) in
     record {

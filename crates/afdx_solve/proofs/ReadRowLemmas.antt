@@ -12,6 +12,7 @@ use Rattle.afdx_frame.specs.declared.link.Priority.{Priority}
 use Rattle.afdx_frame.specs.declared.link.Priority.TheVariants.{High, Low}
 use Rattle.afdx_frame.specs.declared.link.Policing.{Policing}
 use Rattle.afdx_frame.specs.declared.link.Policing.TheVariants.{Byte, Frame}
+use Rattle.afdx_frame.proofs.ListLemmas.{AllByRecursion-one_of}
 use Rattle.afdx_config.specs.declared.rows.Kind.{Kind}
 use Rattle.afdx_config.specs.declared.rows.Kind.TheVariants.{Sampling, Queuing}
 use Rattle.afdx_config.specs.Choices.{choice, all_kept}
@@ -24,7 +25,7 @@ use Rattle.afdx_config.specs.Reading.{system_at, new_name, rates, system_named, 
 use Rattle.afdx_config.specs.Reading.{traffic_at, treatment_at, deepest}
 use Rattle.afdx_config.specs.Rows.{SystemRow, LinkRow, PortRow, is_to}
 use Rattle.afdx_solve.specs.ConfigText.{class_word, policing_word, kind_word, name_at}
-use Rattle.afdx_solve.proofs.KeyLemmas.{whole-reads, one_of-reads, text-reads, word-reads, texts-read, one_of_each}
+use Rattle.afdx_solve.proofs.KeyLemmas.{whole-reads, one_of-reads, text-reads, word-reads, texts-read}
 use Rattle.afdx_solve.proofs.TreeLemmas.{system_nodes, link_nodes, port_nodes}
 
 -- ---- systems
@@ -36,9 +37,9 @@ pub rate-within : (profile n : ℕ) → IsOneOf (rates profile) n → IsWithin 1
 rate-within profile n one = by (profile == 2) one
   where
     by : (two : Bool) → IsOneOf (if two then 10 ∷ 100 ∷ 1000 ∷ [] else 10 ∷ 100 ∷ []) n → IsWithin 10 1000 n
-    by true one = one_of_each (IsWithin 10 1000) n (10 ∷ 100 ∷ 1000 ∷ [])
+    by true one = AllByRecursion-one_of (IsWithin 10 1000) n (10 ∷ 100 ∷ 1000 ∷ [])
         ((omega arith, omega arith), ((omega arith, omega arith), ((omega arith, omega arith), tt))) one
-    by false one = one_of_each (IsWithin 10 1000) n (10 ∷ 100 ∷ [])
+    by false one = AllByRecursion-one_of (IsWithin 10 1000) n (10 ∷ 100 ∷ [])
         ((omega arith, omega arith), ((omega arith, omega arith), tt)) one
 
 -- no row before has its name, its port or its id
@@ -68,7 +69,7 @@ module _ (profile : ℕ) (before : List SystemRow) (s : SystemRow) (is : IsSyste
   unfolding system_nodes system_keys
   rate-read = one_of-reads (keys.system_at (length before + 1) 5) (system_tree s) (rates profile) s.rate
       (whole-reads (keys.system_at (length before + 1) 5) (system_tree s) s.rate refl
-          (rate-within profile s.rate is.rate)) is.rate
+      (rate-within profile s.rate is.rate)) is.rate
 
   only-read : only_system_keys (length before + 1) (system_tree s) ≡ Ok tt
   unfolding system_nodes system_keys only_system_keys only are_among
@@ -101,7 +102,7 @@ places-named systems named_back (i ∷ to) within =
     rw (named_back i within.0, places-named systems named_back to within.1)
 
 pub bag-within : (n : ℕ) → IsOneOf gaps n → IsWithin 1 128 n
-bag-within n one = one_of_each (IsWithin 1 128) n gaps (
+bag-within n one = AllByRecursion-one_of (IsWithin 1 128) n gaps (
   (omega arith, omega arith),
   (
     (omega arith, omega arith),
@@ -109,8 +110,13 @@ bag-within n one = one_of_each (IsWithin 1 128) n gaps (
       (omega arith, omega arith),
       (
         (omega arith, omega arith),
-        ((omega arith, omega arith), ((omega arith, omega arith),
-            ((omega arith, omega arith), ((omega arith, omega arith), tt)))),
+        (
+          (omega arith, omega arith),
+          (
+            (omega arith, omega arith),
+            ((omega arith, omega arith), ((omega arith, omega arith), tt)),
+          ),
+        ),
       ),
     ),
   ),
@@ -177,8 +183,13 @@ module _ (systems : List SystemRow) (i : ℕ) (l : LinkRow) (is : IsLink (length
       )
 
   treatment-read : treatment_at all_kept i (link_tree systems l)
-      ≡ Ok (record { priority = l.priority; policing = l.policing; latency_us = l.latency_us;
-          skew_us = l.skew_us; subs = l.subs })
+      ≡ Ok (record {
+        priority = l.priority;
+        policing = l.policing;
+        latency_us = l.latency_us;
+        skew_us = l.skew_us;
+        subs = l.subs;
+      })
   unfolding link_nodes link_keys treatment_at
   treatment-read =
       let t = link_tree systems l in
@@ -229,7 +240,7 @@ identifier-within n (l ∷ links) vl system are there = by (nat_eq vl l.vl) refl
     by : (b : Bool) → nat_eq vl l.vl ≡ b
         → (option_map_or (is_to system) (find (λ m. nat_eq vl m.vl) links) false ≡ true → IsWithin 0 65535 vl)
         → option_map_or (is_to system) (cond b (Some l) (find (λ m. nat_eq vl m.vl) links))
-          false ≡ true → IsWithin 0 65535 vl
+        false ≡ true → IsWithin 0 65535 vl
     by true same later there = subst (IsWithin 0 65535) (sym (eqb-true vl l.vl same)) are.0.vl
     by false other later there = later there
 
@@ -238,8 +249,11 @@ module _ (systems : List SystemRow) (links : List LinkRow) (i : ℕ) (p : PortRo
   at-system : AreNamed systems → named (keys.port_at i 1) systems (port_tree systems p) ≡ Ok p.system
   unfolding port_nodes port_keys named
   at-system named_back =
-      rw (text-reads (keys.port_at i 1) (port_tree systems p)
-          (name_at systems p.system) refl, named_back p.system is.system)
+      rw (
+        text-reads (keys.port_at i 1) (port_tree systems p)
+            (name_at systems p.system) refl,
+        named_back p.system is.system,
+      )
 
   at-link : AllByRecursion (IsLink (length systems)) links → whole (keys.port_at i 2) (port_tree systems p) ≡ Ok p.link
   unfolding port_nodes port_keys

@@ -7,6 +7,7 @@ use Rattle.std.specs.Str.{bytes_eq}
 use Rattle.std.proofs.lemmas.Bool.{or_parts, and_parts, eqb-true, le-ltb}
 use Rattle.std.proofs.lemmas.List.{length-map}
 use Rattle.std.proofs.lemmas.Slice.Eq.{bytes_eq-Decides}
+use Rattle.afdx_frame.proofs.ListLemmas.{AllByRecursion-slice_get, slice_get-within}
 use Rattle.toml.specs.Data.{Members}
 use Rattle.toml.specs.Tables.{Node, Nodes, close}
 use Rattle.afdx_config.specs.declared.fault.ConfigFault.{ConfigFault}
@@ -16,9 +17,7 @@ use Rattle.afdx_config.specs.Keys.{Spot, top_keys, whole, tables, all_as, tables
 use Rattle.afdx_config.specs.Lawful.{IsLawful, AreDistinct, IsSystem, IsLink, IsPort, triple}
 use Rattle.afdx_config.specs.Reading.{each, tables_at, system_at, link_at, port_at, system_named, system_at_port, has_id, link_of, has_port}
 use Rattle.afdx_config.specs.Rows.{SystemRow, LinkRow, PortRow, Rows}
-use Rattle.afdx_config.proofs.EachRowLemmas.{all_at}
 use Rattle.afdx_config.proofs.LookUpLemmas.{each_row-found}
-use Rattle.afdx_admit.proofs.TakenLemmas.{at_place}
 use Rattle.afdx_solve.specs.ConfigText.{name_at}
 use Rattle.afdx_solve.proofs.KeyLemmas.{whole-reads, tables-read}
 use Rattle.afdx_solve.proofs.ReadRowLemmas.{IsNewSystem, AreNamed, system_tree, link_tree, port_tree, system-reads, link-reads, port-reads, choice-kept}
@@ -45,8 +44,11 @@ fresh f p (x ∷ before) after r distinct only =
     by (p x) refl (fresh f p before after r (distinct-tail f x (before ++ r ∷ after) distinct) only)
   where
     by : (b : Bool) → p x ≡ b → list_any p before ≡ false → b || list_any p before ≡ false
-    by true here later = absurd (omega (arith, distinct 0 (suc (length before)) x r refl
-        (at-end before after r) (only x here)))
+    by true here later = absurd (omega (
+      arith,
+      distinct 0 (suc (length before)) x r refl
+          (at-end before after r) (only x here),
+    ))
     by false here later = later
 
 none-length : {R : Type 0} (p : R → Bool) (rows : List R) → list_any p rows ≡ false
@@ -71,13 +73,13 @@ each-reads row_at tree all reads before (r ∷ rest) e =
 
 row-of : {R : Type 0} (P : R → Type 0) (all before after : List R) (r : R) → AllByRecursion P all
     → all ≡ before ++ r ∷ after → P r
-row-of P all before after r are e = all_at P all (length before) r are (rw e (at-end before after r))
+row-of P all before after r are e = AllByRecursion-slice_get P all (length before) r are (rw e (at-end before after r))
 
 module _ (t : Rows) (lawful : IsLawful t) where
   pub systems-named : AreNamed t.systems
   unfolding name_at
   systems-named i within =
-      let (s, at) = at_place t.systems i within in
+      let (s, at) = slice_get-within t.systems i within in
       rw at ((each_row-found t lawful).by_name i s at)
 
   system-new : (before after : List SystemRow) (s : SystemRow) → t.systems ≡ before ++ s ∷ after → IsNewSystem before s
@@ -96,7 +98,7 @@ module _ (t : Rows) (lawful : IsLawful t) where
   systems-read = each-reads (system_at t.profile) system_tree t.systems
       (λ before after s e. system-reads t.profile before s
       (row-of (IsSystem t.profile) t.systems before after s lawful.systems.each e)
-          (system-new before after s e)) [] t.systems refl
+      (system-new before after s e)) [] t.systems refl
 
   link-new : (before after : List LinkRow) (l : LinkRow) → t.links ≡ before ++ l ∷ after → link_of before l.vl ≡ None
   unfolding link_of
@@ -108,7 +110,7 @@ module _ (t : Rows) (lawful : IsLawful t) where
   links-read = each-reads (link_at all_kept t.systems) (link_tree t.systems) t.links
       (λ before after l e. link-reads t.systems before l
       (row-of (IsLink (length t.systems)) t.links before after l lawful.links.each e) systems-named
-          (link-new before after l e))
+      (link-new before after l e))
       [] t.links refl
 
   same-triple : (p r : PortRow) → ((nat_eq r.system p.system && nat_eq r.link p.link) && nat_eq
@@ -129,7 +131,7 @@ module _ (t : Rows) (lawful : IsLawful t) where
   ports-read = each-reads (port_at t.systems t.links) (port_tree t.systems) t.ports
       (λ before after p e. port-reads t.systems t.links before p
       (row-of (IsPort (length t.systems) t.links) t.ports before after p lawful.ports.each e)
-          lawful.links.each systems-named
+      lawful.links.each systems-named
       (port-new before after p e)) [] t.ports refl
 
 -- ---- the top

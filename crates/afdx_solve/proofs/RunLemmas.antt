@@ -31,7 +31,7 @@ table_lines k fields = (([], k), array_table) ∷ field_lines fields
 fields-step : (fs : Fields) (p : List (List ℕ)) (f : List ℕ × Data) (root : Nodes) (o : Option Nodes)
     → o ≡ along_header p (put ([], f.0) f.1) root
     → ((r : Nodes) → Exists p r → run (r, p) (field_lines fs) ≡ option_map (λ x. (x, p))
-      (along_header p (put_all fs) r))
+    (along_header p (put_all fs) r))
     → option_and_then (λ next. run next (field_lines fs)) (option_map (λ r. (r, p)) o)
     ≡ option_map (λ x. (x, p)) (option_and_then (along_header p (put_all fs)) o)
 fields-step fs p f root None e ih = refl
@@ -45,7 +45,7 @@ run-fields [] p root there = rw there
 run-fields (f ∷ fs) p root there =
     rw (along_seq p (put ([], f.0) f.1) (put_all fs) root)
     (fields-step fs p f root (along_header p (put ([], f.0) f.1) root) refl
-        (λ r there_now. run-fields fs p r there_now))
+    (λ r there_now. run-fields fs p r there_now))
 
 -- in the newest table of an array
 last-fields : (k : List ℕ) (fs : Fields) (done : Items) (n : Nodes) (root : Nodes) → put_all fs no_nodes ≡ Some n

@@ -1,15 +1,13 @@
 -- Links that are changed one after the other.
 use Rattle.std.proofs.Common.{◌≡◌, ℕ, zero, suc, ◌+◌, ◌≤◌, List, [], ◌∷◌, length, map, Some}
 use Rattle.std.proofs.Common.{slice_get, refl, sym, ap, ◌∙◌, arith}
+use Rattle.std.proofs.lemmas.Option.{same_Some}
 use Rattle.afdx_config.specs.declared.rows.Times.{Times}
 use Rattle.afdx_config.specs.Rows.{LinkRow, Rows}
 use Rattle.afdx_config.specs.Changed.{with_times, changed_at, with_link_at}
 
 abbrev pub with_links : Rows → List LinkRow → Rows
 with_links t ls = record t { links = ls }
-
-same_of_some : {X : Type 0} (x y : X) → Some x ≡ Some y → x ≡ y
-same_of_some x y e = cc
 
 module _ (f : LinkRow → LinkRow) where
   -- the first ones, as many as this, are changed
@@ -39,7 +37,7 @@ module _ (f : LinkRow → LinkRow) where
   unfolding changed_first changed_at
   set-first times zero [] l at same = refl
   set-first times zero (x ∷ ls) l at same =
-      ap (λ y. y ∷ ls) (ap (with_times times) (same_of_some x l at) ∙ same ∙ ap f (sym (same_of_some x l at)))
+      ap (λ y. y ∷ ls) (ap (with_times times) (same_Some x l at) ∙ same ∙ ap f (sym (same_Some x l at)))
   set-first times (suc i) [] l at same = refl
   set-first times (suc i) (x ∷ ls) l at same = ap (λ rest. f x ∷ rest) (set-first times i ls l at same)
 

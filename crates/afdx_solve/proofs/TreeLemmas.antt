@@ -155,19 +155,54 @@ pub record IsTop (t : Rows) (systems links ports : Option Node) (tree : Members)
 
 pub root-top : (t : Rows) (s l p : Option Node) → IsTop t s l p (close (root t s l p))
 unfolding root top_nodes
-root-top t None None None = record { profile = refl; buffer = refl; systems_at = refl;
-    links_at = refl; ports_at = refl }
-root-top t None None (Some z) = record { profile = refl; buffer = refl; systems_at = refl;
-    links_at = refl; ports_at = refl }
-root-top t None (Some y) None = record { profile = refl; buffer = refl; systems_at = refl;
-    links_at = refl; ports_at = refl }
-root-top t None (Some y) (Some z) = record { profile = refl; buffer = refl; systems_at = refl;
-    links_at = refl; ports_at = refl }
-root-top t (Some x) None None = record { profile = refl; buffer = refl; systems_at = refl;
-    links_at = refl; ports_at = refl }
-root-top t (Some x) None (Some z) = record { profile = refl; buffer = refl; systems_at = refl;
-    links_at = refl; ports_at = refl }
-root-top t (Some x) (Some y) None = record { profile = refl; buffer = refl; systems_at = refl;
-    links_at = refl; ports_at = refl }
+root-top t None None None = record {
+  profile = refl;
+  buffer = refl;
+  systems_at = refl;
+  links_at = refl;
+  ports_at = refl;
+}
+root-top t None None (Some z) = record {
+  profile = refl;
+  buffer = refl;
+  systems_at = refl;
+  links_at = refl;
+  ports_at = refl;
+}
+root-top t None (Some y) None = record {
+  profile = refl;
+  buffer = refl;
+  systems_at = refl;
+  links_at = refl;
+  ports_at = refl;
+}
+root-top t None (Some y) (Some z) = record {
+  profile = refl;
+  buffer = refl;
+  systems_at = refl;
+  links_at = refl;
+  ports_at = refl;
+}
+root-top t (Some x) None None = record {
+  profile = refl;
+  buffer = refl;
+  systems_at = refl;
+  links_at = refl;
+  ports_at = refl;
+}
+root-top t (Some x) None (Some z) = record {
+  profile = refl;
+  buffer = refl;
+  systems_at = refl;
+  links_at = refl;
+  ports_at = refl;
+}
+root-top t (Some x) (Some y) None = record {
+  profile = refl;
+  buffer = refl;
+  systems_at = refl;
+  links_at = refl;
+  ports_at = refl;
+}
 root-top t (Some x) (Some y) (Some z) = record
     { profile = refl; buffer = refl; systems_at = refl; links_at = refl; ports_at = refl }

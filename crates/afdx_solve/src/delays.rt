@@ -13,7 +13,7 @@ ghost use Rattle.afdx_solve.specs.Solved as spec;
 use crate::options::{SolveOptions, chosen};
 use afdx_admit::bounds_to;
 use afdx_config::{Link, SystemId, Tables, Times};
-use afdx_frame::Priority;
+use afdx_frame::{PORT_COUNT, Priority};
 
 /// The most that a latency or a skew may be, in us.
 const GREATEST_DELAY: u64 = 100_000;
@@ -42,10 +42,10 @@ fn delay_to(tables: &Tables, class: Priority, system: SystemId) -> u64
 
 /// The latencies that links of a class need at the output ports to all systems, by their places, in
 /// us.
-fn delays_of(tables: &Tables, class: Priority) -> [u64; 24]
+fn delays_of(tables: &Tables, class: Priority) -> [u64; PORT_COUNT]
     ensures { AreDelays tables.now class result }
 {
-    let mut delays = [0; 24];
+    let mut delays = [0; PORT_COUNT];
     let count = tables.system_count();
     for i in 0..count {
         delays[i] = delay_to(tables, class, SystemId(i as u8));
@@ -90,8 +90,8 @@ fn times_of(link: &Link, delays: &[u64], options: SolveOptions) -> Times
 /// What the links of each class need.
 #[derive(Clone, Copy)]
 struct Delays {
-    high: [u64; 24],
-    low: [u64; 24],
+    high: [u64; PORT_COUNT],
+    low: [u64; PORT_COUNT],
 }
 
 impl Delays {

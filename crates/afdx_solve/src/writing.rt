@@ -2,7 +2,7 @@
 
 ghost use Rattle.std.specs.Prelude.{◌≡◌, ◌++◌, ◌<◌, length, map, string_bytes, IfOk, OnOk, codes};
 ghost use Rattle.std.specs.List.{AllByRecursion, flat_map};
-ghost use Rattle.afdx_config.specs.Rows.{system_row, link_row, port_row, system_places};
+ghost use Rattle.afdx_config.specs.Rows.{AreKnown, system_row, link_row, port_row, system_places};
 ghost use Rattle.afdx_config.specs.Lawful.{IsLink, IsPort};
 ghost use Rattle.afdx_config.specs.Reading.{Spells};
 ghost use Rattle.afdx_solve.specs.ConfigText.{number_line, text_line, texts_line, header, listed};
@@ -67,7 +67,7 @@ fn name_of(tables: &Tables, id: SystemId) -> &str
 /// Adds the names of some systems in quotes, with commas between them.
 #[tactic(auto, using(std::proofs::Common::append_assoc))]
 fn put_names(text: &mut String, tables: &Tables, systems: &[SystemId]) -> Result<(), AllocError>
-    requires { AllByRecursion (λ i. i < length tables.now.systems) (system_places systems.now) }
+    requires { AreKnown tables.now.systems systems.now }
     ensures { OnOk result (string_bytes text.new ≡ string_bytes text.old
         ++ listed (map (name_at tables.now.systems) (system_places systems.now))) }
 {

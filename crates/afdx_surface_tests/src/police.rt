@@ -5,21 +5,6 @@ use afdx_police::{ByteCharge, Charge, FrameCharge, LinkRule, Policer, Reason, ju
 use afdx_samples::{equal, hello};
 use std::test::Fail;
 
-/// The place of a reason in the order in which they are answered.
-fn place(reason: Reason) -> u8 {
-    match reason {
-        Reason::TooShort => 1,
-        Reason::TooLong => 2,
-        Reason::BadFcs => 3,
-        Reason::BadAddress => 4,
-        Reason::UnknownLink => 5,
-        Reason::WrongPort => 6,
-        Reason::OverLmax => 7,
-        Reason::UnderLmin => 8,
-        Reason::OverRate => 9,
-    }
-}
-
 /// The rule of link 1, at port 1.
 fn rule() -> Option<LinkRule> {
     let (vl, port, policing): (VlId, u8, Policing) = (VlId(1), 1, Policing::Byte);
@@ -55,7 +40,36 @@ fn verdicts() -> Result<(), Fail> {
     let wrong: Option<Reason> = judge(Some(&rule), port, bytes);
     let unknown: Option<Reason> = judge(None, port, bytes);
     equal(policing, Policing::Byte)?;
-    equal((wrong.map(place), unknown.map(place)), (Some(6), Some(5)))
+    equal(
+        (wrong, unknown),
+        (Some(Reason::WrongPort), Some(Reason::UnknownLink)),
+    )
+}
+
+#[test]
+fn reasons() -> Result<(), Fail> {
+    let of_frames: [&str; 4] = [
+        Reason::TooShort.word(),
+        Reason::TooLong.word(),
+        Reason::BadFcs.word(),
+        Reason::BadAddress.word(),
+    ];
+    let of_links: [&str; 5] = [
+        Reason::UnknownLink.word(),
+        Reason::WrongPort.word(),
+        Reason::OverLmax.word(),
+        Reason::UnderLmin.word(),
+        Reason::OverRate.word(),
+    ];
+    let frame_words = ["too-short", "too-long", "bad-fcs", "bad-address"];
+    let link_words = [
+        "unknown-link",
+        "wrong-port",
+        "over-lmax",
+        "under-lmin",
+        "over-rate",
+    ];
+    equal((of_frames, of_links), (frame_words, link_words))
 }
 
 #[test]

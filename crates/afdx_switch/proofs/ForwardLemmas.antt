@@ -6,6 +6,8 @@ use Rattle.std.proofs.lemmas.Bool.{cases_eq}
 use Rattle.std.proofs.lemmas.List.{length-set, length_push}
 use Rattle.std.proofs.lemmas.Option.{slice_get_within}
 use Rattle.afdx_frame.specs.declared.link.Priority.{Priority}
+use Rattle.afdx_frame.proofs.ListLemmas.{slice_get-set_here, slice_get-set_there, slice_get-push_last}
+use Rattle.afdx_frame.proofs.ListLemmas.{slice_get-push_before}
 use Rattle.afdx_port.specs.Held as held
 use Rattle.afdx_port.specs.History as queue
 use Rattle.afdx_port.specs.Serving.{IsServing}
@@ -17,8 +19,7 @@ use Rattle.afdx_switch.specs.HeldFrames.{HeldFrame, facts}
 use Rattle.afdx_switch.specs.Ports.{holds}
 use Rattle.afdx_switch.specs.Lines.{is_among, ArePlaces}
 use Rattle.afdx_switch.specs.Shares.{AreKept, AreShares, IsOffered, share_of}
-use Rattle.afdx_switch.proofs.ListLemmas.{slice_get-set_here, slice_get-set_there, slice_get_last}
-use Rattle.afdx_switch.proofs.ListLemmas.{slice_get_before, all-set, all-at, bool_cases}
+use Rattle.afdx_switch.proofs.ListLemmas.{all-set, all-at, bool_cases}
 use Rattle.afdx_switch.proofs.PlaceLemmas.{among-at, not-among-at}
 use Rattle.afdx_switch.proofs.StandsLemmas.{all-from}
 
@@ -98,12 +99,12 @@ module _ (time : ℕ) (priority : Priority) (places : List ℕ) (are : ArePlaces
 
       share-is : (c : HeldFrame) → AreShares c shares0 → share ≡ c
       share-is c all = all-at (λ s. s ≡ c) shares (length rest_shares) share (inv.same c all)
-          (rw popped (slice_get_last rest_shares share))
+          (rw popped (slice_get-push_last rest_shares share))
 
       all-rest : (c : HeldFrame) → AreShares c shares → AreShares c rest_shares
       all-rest c all = all-from (λ s. s ≡ c) rest_shares
           (λ i s at. all-at (λ z. z ≡ c) shares i s all
-          (rw popped (slice_get_before rest_shares share i s at)))
+          (rw popped (slice_get-push_before rest_shares share i s at)))
 
       at : (c : HeldFrame) (j i : ℕ) (o2 n2 : PortState HeldFrame) → AreShares c shares0 → j < k + 1
           → slice_get places j ≡ Some i → slice_get ports0 i ≡ Some o2

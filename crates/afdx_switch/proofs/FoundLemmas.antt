@@ -3,6 +3,7 @@ use Rattle.std.proofs.Common.{◌≡◌, ℕ, ◌≤◌, ◌&&◌, List, [], len
 use Rattle.std.proofs.Common.{arith, subst, inl, inr}
 use Rattle.std.specs.Prelude.{Option, Some, None, All, find, slice_get}
 use Rattle.std.proofs.lemmas.Option.{slice_get_within}
+use Rattle.afdx_frame.proofs.ListLemmas.{slice_get-set_here}
 use Rattle.afdx_config.specs.Rows.{Rows}
 use Rattle.afdx_police.specs.Arrival.{Arrival, is_side, names, own}
 use Rattle.afdx_police.specs.LinkAccounts.{IsOfferedAs}
@@ -22,7 +23,7 @@ use Rattle.afdx_switch.specs.declared.line.Line.{Line}
 use Rattle.afdx_switch.specs.declared.switch_state.SwitchState.{SwitchState}
 use Rattle.afdx_switch.proofs.ArrivalLemmas.{no-row-named, shape-named, reason-named, sends-named}
 use Rattle.afdx_switch.proofs.ArrivalLemmas.{not-accepted}
-use Rattle.afdx_switch.proofs.ListLemmas.{all-at, all-set, bool_cases, find-none, slice_get-set_here}
+use Rattle.afdx_switch.proofs.ListLemmas.{all-at, all-set, bool_cases, find-none}
 use Rattle.afdx_switch.proofs.StandsLemmas.{LinesAfter, line-other, line-named, lines-with, stands-dropped}
 use Rattle.afdx_switch.proofs.TakeLemmas.{lines-later}
 
@@ -94,7 +95,7 @@ module _ (t : Rows) (x : Arrival) (reason : Reason) (f : IsFaulted t x reason) w
       → new ≡ record w { clock = x.time } → StandsFor t x.side new (with_arrival h x)
   stands-faulted w new h st is = subst (λ z. StandsFor t x.side z (with_arrival h x)) (sym is)
       (stands-dropped t x w h st (record w { clock = x.time })
-          (λ port. faulted-sent (output_at t x.side port) h.arrivals)
+      (λ port. faulted-sent (output_at t x.side port) h.arrivals)
       (faulted-lines w h st) refl refl refl refl)
 
 -- a line that was offered a frame stands where it stood

@@ -6,6 +6,7 @@ use Rattle.afdx_frame.specs.Layout.{link_named_by}
 use Rattle.afdx_frame.specs.declared.link.Priority.TheVariants.{Low}
 use Rattle.afdx_frame.specs.declared.link.Side.{Side}
 use Rattle.afdx_frame.specs.declared.link.VlId.{VlId}
+use Rattle.afdx_frame.proofs.ListLemmas.{slice_get-within}
 use Rattle.afdx_config.specs.Lawful.{IsLawfulUpTo}
 use Rattle.afdx_config.specs.Reading.{link_of}
 use Rattle.afdx_config.specs.Rows.{Rows}
@@ -34,7 +35,6 @@ use Rattle.afdx_switch.proofs.ListLemmas.{find-none, find-found}
 use Rattle.afdx_switch.proofs.NamedLemmas.{unnamed, no-row, row-at}
 use Rattle.afdx_switch.proofs.ArrivalLemmas.{sends-named, row-named, dropped-sent, accepted-sent}
 use Rattle.afdx_switch.proofs.ArrivalLemmas.{entries-with, entries-kept, own-apart}
-use Rattle.afdx_switch.proofs.StandsLemmas.{found-at}
 use Rattle.afdx_switch.proofs.NewLemmas.{place-of, pushed}
 
 pub verdicts-own : VerdictsAreOwn
@@ -219,7 +219,7 @@ one-class t side port vl arrivals lawful = by (link_of t.links vl) (place-of t l
 pub taken-turns : TakenAreTurns
 taken-turns t side w h zero st low high = absurd (omega (arith, low))
 taken-turns t side w h (suc i) st low high =
-    let p = found-at w.ports.items i (omega (arith, st.port_count, high)) in
+    let p = slice_get-within w.ports.items i (omega (arith, st.port_count, high)) in
     subst (λ n. AreTurns (byte_ns_at t n) (entries_at t side n h.arrivals) (taken_at n h.taken)) (omega arith)
     (taken_turns facts p.0 (calls_at t side (i + 1) h p.0.clock) (st.ports i p.0 p.1))
 

@@ -1,5 +1,5 @@
 -- Lists that are set at one place, searched, or lent.
-use Rattle.std.proofs.Common.{◌≡◌, ◌≢◌, ℕ, zero, suc, ◌<◌, ◌≤◌, Bool, true, false, List, [], ◌∷◌}
+use Rattle.std.proofs.Common.{◌≡◌, ◌≢◌, ℕ, zero, suc, ◌<◌, Bool, true, false, List, [], ◌∷◌}
 use Rattle.std.proofs.Common.{◌++◌, length, take, drop, set, get_or, refl, sym, ap, subst, arith}
 use Rattle.std.proofs.Common.{◌∙◌, inl, inr, true≢false, IsTrue, not, ◌↔◌}
 use Rattle.std.specs.Prelude.{All, Some, None, slice_get, find, if◌then◌else◌, ◌⊎◌}
@@ -7,7 +7,8 @@ use Rattle.std.specs.List.{list_any}
 use Rattle.std.proofs.lemmas.Bool.{cases_eq}
 use Rattle.std.proofs.lemmas.List.{get_or-set_same, get_or-set_other, length-set, take-append-le}
 use Rattle.std.proofs.Math.Seq.{take-length}
-use Rattle.std.proofs.lemmas.Option.{slice_get-get_or, slice_get_past, slice_get_cases}
+use Rattle.std.proofs.lemmas.Option.{slice_get_cases}
+use Rattle.afdx_frame.proofs.ListLemmas.{slice_get-set_here, slice_get-set_there}
 
 pub bool_cases : (b : Bool) → (b ≡ true) ⊎ (b ≡ false)
 bool_cases true = inl refl
@@ -20,21 +21,6 @@ none_held (false ∷ xs) none (suc p) = none_held xs none p
 none_held (true ∷ xs) none p = absurd (true≢false none)
 
 module _ {X : Type 0} where
-  -- a list that was set at one place, read there and elsewhere
-  pub slice_get-set_here : (xs : List X) (i : ℕ) (x : X) → i < length xs → slice_get (set xs i x) i ≡ Some x
-  slice_get-set_here xs i x within =
-      slice_get-get_or (set xs i x) i x (subst (λ n. i < n) (sym (length-set xs i x)) within)
-      ∙ ap Some (get_or-set_same xs i x x within)
-
-  pub slice_get-set_there : (xs : List X) (i j : ℕ) (x : X) → j ≢ i → slice_get (set xs i x) j ≡ slice_get xs j
-  slice_get-set_there xs i j x other =
-      elim (slice_get_cases xs j).1 [
-        | inl found ↦
-            slice_get-get_or (set xs i x) j found.0 (subst (λ n. j < n) (sym (length-set xs i x)) found.1)
-            ∙ ap Some (get_or-set_other xs i j x found.0 other ∙ found.3) ∙ sym found.2
-        | inr past ↦ slice_get_past (set xs i x) j (subst (λ n. n ≤ j) (sym (length-set xs i x)) past.0) ∙ sym past.1
-      ]
-
   -- what stands in it is the new one, or an old one from elsewhere
   pub set-cases : (xs : List X) (i : ℕ) (x : X) (j : ℕ) (y : X) → i < length xs → slice_get (set xs i x) j ≡ Some y
       → ((j ≡ i) × (y ≡ x)) ⊎ ((j ≢ i) × (slice_get xs j ≡ Some y))
@@ -45,17 +31,6 @@ module _ {X : Type 0} where
         let is : y ≡ x = cc in inl (same, is))
     | inr other ↦ inr (other, sym (slice_get-set_there xs i j x other) ∙ at)
   ]
-
-  -- a list that was pushed to, read at its end and before
-  pub slice_get_last : (xs : List X) (y : X) → slice_get (xs ++ y ∷ []) (length xs) ≡ Some y
-  slice_get_last [] y = refl
-  slice_get_last (x ∷ xs) y = slice_get_last xs y
-
-  pub slice_get_before : (xs : List X) (y : X) (i : ℕ) (x : X) → slice_get xs i ≡ Some x
-      → slice_get (xs ++ y ∷ []) i ≡ Some x
-  slice_get_before [] y i x at = absurd cc
-  slice_get_before (z ∷ xs) y zero x at = at
-  slice_get_before (z ∷ xs) y (suc i) x at = slice_get_before xs y i x at
 
   -- a vector whose items were lent as a slice of the same length
   pub items-are : (len : ℕ) (xs ys : List X) → length xs ≡ len → take len (xs ++ drop (length xs) ys) ≡ xs

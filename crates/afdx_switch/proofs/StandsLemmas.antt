@@ -4,8 +4,9 @@ use Rattle.std.proofs.Common.{length, set, refl, sym, ap, ◌∙◌, arith, subs
 use Rattle.std.specs.Prelude.{Option, Some, None, IfSome, All, slice_get, sum_by, vec_len, find, ◌⊎◌}
 use Rattle.std.proofs.lemmas.List.Sums.{sum_by-cons}
 use Rattle.std.proofs.lemmas.Bool.{cases_eq}
-use Rattle.std.proofs.lemmas.Option.{slice_get_within, slice_get_cases, slice_get-get_or}
+use Rattle.std.proofs.lemmas.Option.{slice_get_within, slice_get-get_or}
 use Rattle.afdx_frame.specs.declared.link.Priority.{Priority}
+use Rattle.afdx_frame.proofs.ListLemmas.{slice_get-within, slice_get-set_here, slice_get-set_there}
 use Rattle.afdx_config.specs.Rows.{Rows}
 use Rattle.afdx_police.specs.Arrival.{Arrival, names, own}
 use Rattle.afdx_police.specs.LinkAccounts.{StandsForOwn}
@@ -28,16 +29,12 @@ use Rattle.afdx_switch.specs.declared.switch_state.SwitchState.{SwitchState}
 use Rattle.afdx_switch.proofs.ArrivalLemmas.{own-other, own-named, entries-kept, with-share-is}
 use Rattle.afdx_switch.proofs.ArrivalLemmas.{loses-share-is}
 use Rattle.afdx_switch.proofs.PlaceLemmas.{buffer-is}
-use Rattle.afdx_switch.proofs.ListLemmas.{slice_get-set_here, slice_get-set_there, all-at, bool_cases}
+use Rattle.afdx_switch.proofs.ListLemmas.{all-at, bool_cases}
 
 -- what holds at each place holds of all
 pub all-from : {X : Type 0} (P : X → Type 0) (xs : List X)
     → ((i : ℕ) (x : X) → slice_get xs i ≡ Some x → P x) → All P xs
 all-from P xs each k d below = each k _ (slice_get-get_or xs k d below)
-
-pub found-at : {X : Type 0} (xs : List X) (i : ℕ) → i < length xs → (x : X) × (slice_get xs i ≡ Some x)
-found-at xs i below = elim (slice_get_cases xs i).1
-    [ inl found ↦ (found.0, found.2) | inr past ↦ absurd (omega (arith, below, past.0)) ]
 
 -- the line that was charged is otherwise as it was
 pub line-charged : (old new : List Line) (place : ℕ) (line : Line) (account : LinkAccount)
@@ -178,7 +175,7 @@ module _ (t : Rows) (x : Arrival) (w : SwitchState) (h : SwitchHistory) (st : St
         → queue.StandsFor facts p (calls_at t x.side (i + 1) (with_arrival h x) p.clock)
     port-after i p at_p =
         let below : i < 24 = omega (arith, slice_get_within ports i p at_p, new_count) in
-        let old = found-at w.ports.items i (omega (arith, below, old_count)) in
+        let old = slice_get-within w.ports.items i (omega (arith, below, old_count)) in
         let one = offered-at i old.0 p below old.1 at_p in
         subst (λ es. queue.StandsFor facts p
         (record {
@@ -197,8 +194,8 @@ module _ (t : Rows) (x : Arrival) (w : SwitchState) (h : SwitchHistory) (st : St
     lost-is zero low high = absurd (omega (arith, low))
     lost-is (suc i) low high =
         let below : i < 24 = omega (arith, high) in
-        let old = found-at w.ports.items i (omega (arith, below, old_count)) in
-        let new = found-at ports i (omega (arith, below, new_count)) in
+        let old = slice_get-within w.ports.items i (omega (arith, below, old_count)) in
+        let new = slice_get-within ports i (omega (arith, below, new_count)) in
         let one = offered-at i old.0 new.0 below old.1 new.1 in
         let same : i + 1 ≡ suc i = omega arith in
         subst (λ k. holds lost k ≡ is_lost_at t h.arrivals x k) same
@@ -238,7 +235,7 @@ module _ (time clock : ℕ) (priority : Priority) (old ports : List (PortState H
     → slice_get ports i ≡ Some p → IsOffered time priority (share i) o p (holds lost (i + 1))) where
   old-at : (i : ℕ) (p : PortState HeldFrame) → slice_get ports i ≡ Some p → (o : PortState HeldFrame)
       × (slice_get old i ≡ Some o)
-  old-at i p at_p = found-at old i (omega (arith, slice_get_within ports i p at_p, new_count, old_count))
+  old-at i p at_p = slice_get-within old i (omega (arith, slice_get_within ports i p at_p, new_count, old_count))
 
   pub ports-sound : All (IsPortSound clock) old → All (IsPortSound time) ports
   ports-sound all = all-from (IsPortSound time) ports (λ i p at_p.

@@ -13,6 +13,7 @@ use Rattle.afdx_port.specs.Schedule.{Turn}
 use Rattle.afdx_port.specs.Times.{drain_end}
 use Rattle.afdx_port.specs.declared.left.Due.{Due}
 use Rattle.afdx_switch.specs.Admitted.{IsAdmittedRun, LosesNothing, IsInTime, HaveLeft}
+use Rattle.afdx_switch.specs.Early.{IsEarlyBy}
 use Rattle.afdx_switch.specs.HeldFrames.{HeldFrame}
 use Rattle.afdx_switch.specs.LinkFrames.{AreFirstEntered}
 use Rattle.afdx_switch.specs.Regular.{IsRegularAt, IsAccepted}
@@ -81,6 +82,13 @@ pub record TellsOrder (w : SwitchState) (result : ℕ) : Type 0 where
   pub due : Option Due
   pub tells : TellsDue w due
   pub is : result ≡ order_at due
+
+-- `early` says by how much a frame without a fault in its shape comes too early
+abbrev pub TellsEarly : SwitchState → (time port : ℕ) → List ℕ → (result : ℕ) → Type 0
+TellsEarly w time port bytes result = (t : Rows) (side : Side) (h : SwitchHistory) (tag : ℕ) →
+    StandsFor t side w h →
+    let arrival = arrival_with tag time side port bytes in
+    shape_fault t arrival ≡ None → IsEarlyBy t h.arrivals arrival result
 
 -- `take` gives the next turn of all ports, if it is over by a time
 pub record Takes (old new : SwitchState) (until : ℕ) (result : Option Departure) : Type 0 where

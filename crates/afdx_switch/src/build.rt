@@ -24,7 +24,7 @@ use crate::frame::Frame;
 use crate::line::Line;
 use crate::switch_state::SwitchState;
 use afdx_config::{Link, Tables};
-use afdx_frame::{LAST_PORT, LEAST_FRAME, VlId};
+use afdx_frame::{LAST_PORT, LEAST_FRAME, PORT_COUNT, VlId, port_at};
 use afdx_police::{LinkAccount, LinkRule};
 use afdx_port::{Port, Serving};
 use arrayvec::ArrayVec;
@@ -82,7 +82,7 @@ fn longest_wait(tables: &Tables, link: &Link) -> Option<u64>
 }
 
 /// The places of the output ports to which the link at this place goes.
-fn ports_of(tables: &Tables, link: usize) -> ArrayVec<u8, 24>
+fn ports_of(tables: &Tables, link: usize) -> ArrayVec<u8, PORT_COUNT>
     requires { link < length tables.now.links }
     ensures places { ArePlaces result.items }
     ensures each { (l : LinkRow) (place : ℕ) → slice_get tables.now.links link ≡ Some l →
@@ -90,7 +90,7 @@ fn ports_of(tables: &Tables, link: usize) -> ArrayVec<u8, 24>
 {
     let mut places = ArrayVec::new();
     for place in 0..LAST_PORT {
-        if goes(tables, link, place + 1) {
+        if goes(tables, link, port_at(place)) {
             places.push(place);
         }
     }
@@ -114,6 +114,7 @@ fn line(tables: &Tables, place: usize) -> Line
         link.jitter_us,
         link.policing,
     ) else {
+        // Never: the reading of the tables kept each value in its range.
         unreachable!();
     };
     Line {
@@ -171,7 +172,7 @@ fn new_ports(alloc: Global, tables: &Tables) -> Result<Vec<Port<Frame>>, AllocEr
 {
     let mut ports = Vec::new(alloc);
     for place in 0..LAST_PORT {
-        let port = place + 1;
+        let port = port_at(place);
         ports.push(Port::new(alloc, byte_ns(tables, port), buffer(tables, port))?)?;
     }
     Ok(ports)

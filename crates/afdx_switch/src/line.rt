@@ -1,6 +1,6 @@
 //! What a switch keeps of a link.
 
-use afdx_frame::Priority;
+use afdx_frame::{PORT_COUNT, Priority};
 use afdx_police::LinkAccount;
 use arrayvec::ArrayVec;
 
@@ -12,5 +12,5 @@ pub struct Line {
     /// How long its frames may wait for their turn, in ns, if there is a limit.
     pub(crate) longest_wait: Option<u64>,
     /// The places of the output ports that the link goes to, in ascending order.
-    pub(crate) goes: ArrayVec<u8, 24>,
+    pub(crate) goes: ArrayVec<u8, PORT_COUNT>,
 }

@@ -23,26 +23,7 @@ pub(crate) struct Store {
     next: usize,
 }
 
-/// Puts another frame in the place of one, if no port holds that. Answers whether it did.
-fn renew(
-    kept: &mut Rc<Stored>,
-    tag: u64,
-    longest_wait: Option<u64>,
-    message: &[u8],
-) -> Result<bool, AllocError>
-    ensures { IfOk result (λ is_new. IsTrue is_new →
-        stored_frame kept.new.value ≡ held_frame tag longest_wait (sealed message.now)) }
-{
-    match Rc::get_mut(kept) {
-        Some(stored) => {
-            stored.renew(tag, longest_wait, message)?;
-            Ok(true)
-        }
-        None => Ok(false),
-    }
-}
-
-/// Puts another frame in the place of one, whose ports keep theirs.
+/// Puts another frame in the place of one: in its memory, or in new memory if a port holds the one.
 fn replace(
     alloc: Global,
     kept: &mut Rc<Stored>,
@@ -53,9 +34,10 @@ fn replace(
     ensures { OnOk result
         (stored_frame kept.new.value ≡ held_frame tag longest_wait (sealed message.now)) }
 {
-    if !renew(kept, tag, longest_wait, message)? {
-        *kept = Rc::new(alloc, Stored::new(alloc, tag, longest_wait, message)?)?;
+    if let Some(stored) = Rc::get_mut(kept) {
+        return stored.renew(tag, longest_wait, message);
     }
+    *kept = Rc::new(alloc, Stored::new(alloc, tag, longest_wait, message)?)?;
     Ok(())
 }
 

@@ -10,8 +10,8 @@ use crate::store::Store;
 use crate::switch_state::SwitchState;
 use crate::verdict::Verdict;
 use afdx_config::Tables;
-use afdx_frame::{Checked, GREATEST_FRAME, Seal, fcs};
-use afdx_port::{Due, Left};
+use afdx_frame::{Checked, GREATEST_FRAME, PORT_COUNT, Seal, fcs};
+use afdx_port::{Due, Left, TurnOrder};
 use arrayvec::ArrayVec;
 use std::alloc::{AllocError, Global};
 use std::marker::Model;
@@ -22,6 +22,7 @@ fn append(bytes: &mut ArrayVec<u8, GREATEST_FRAME>, more: &[u8])
     ensures { bytes.new.items ≡ bytes.old.items ++ more.now }
 {
     let Ok(()) = bytes.try_extend_from_slice(more) else {
+        // Never: there is room for the longest frame.
         unreachable!()
     };
 }
@@ -126,7 +127,7 @@ impl Switch {
     ghost use Rattle.afdx_frame.specs.Parts.{bytes_of};
     ghost use Rattle.afdx_config.specs.Rows.{Rows};
     ghost use Rattle.afdx_frame.specs.declared.link.Side.{Side};
-    ghost use Rattle.afdx_switch.specs.Calls.{Arrives, TellsDue, TellsOrder, Takes};
+    ghost use Rattle.afdx_switch.specs.Calls.{Arrives, TellsDue, TellsEarly, TellsOrder, Takes};
     ghost use Rattle.afdx_police.specs.Arrival.{arrival_with};
     ghost use Rattle.afdx_switch.specs.Early.{IsEarlyBy};
     ghost use Rattle.afdx_switch.specs.Switching.{StandsFor, IsQuiet, no_calls, frames_held};
@@ -145,7 +146,7 @@ impl Switch {
         Ok(Switch {
             state: build(alloc, tables)?,
             store: Store::new(alloc)?,
-            shares: Vec::with_capacity(alloc, 24)?,
+            shares: Vec::with_capacity(alloc, PORT_COUNT)?,
         })
     }
 
@@ -195,10 +196,7 @@ impl Switch {
     /// accepted. Of a frame with something wrong in its shape it says nothing.
     pub fn early(&self, time: u64, port: u8, frame: Checked<'_>) -> u64
         requires clock { last_time self.now ≤ time }
-        ensures { (t : Rows) (side : Side) (h : SwitchHistory) (tag : ℕ) →
-            StandsFor t side self.now h →
-            let arrival = arrival_with tag time side port (bytes_of frame.entry) in
-            shape_fault t arrival ≡ None → IsEarlyBy t h.arrivals arrival result }
+        ensures { TellsEarly self.now time port (bytes_of frame.entry) result }
     {
         self.state.early(time, port, frame)
     }
@@ -212,10 +210,9 @@ impl Switch {
     }
 
     /// Where the turn that `due` tells stands in the order of turns: by time, at one time slots
-    /// before drops; after each turn, if there is none. `afdx_port::is_given` tells of it whether
-    /// the turn is given by a time.
-    pub fn order(&self) -> u64
-        ensures { TellsOrder self.now result }
+    /// before drops; after each turn, if there is none.
+    pub fn order(&self) -> TurnOrder
+        ensures { TellsOrder self.now result.0 }
     {
         self.state.order()
     }

@@ -22,9 +22,9 @@ use crate::ports::PortSet;
 use crate::store::Store;
 use crate::switch::Departure;
 use crate::verdict::Verdict;
-use afdx_frame::{Checked, MacView, Priority, VlId};
+use afdx_frame::{Checked, MacView, Priority, VlId, port_at};
 use afdx_police::Reason;
-use afdx_port::{Due, Port, Serving};
+use afdx_port::{Due, Port, Serving, TurnOrder};
 use std::alloc::AllocError;
 
 /// What a switch works with.
@@ -120,10 +120,11 @@ fn forward(
     let mut lost = PortSet::new();
     for place in places {
         let Some(share) = shares.pop() else {
+            // Never: there is a share for each place.
             unreachable!();
         };
         if offer(&mut ports[*place as usize], time, priority, share) {
-            lost.add(*place + 1);
+            lost.add(port_at(*place));
         }
     }
     lost
@@ -147,7 +148,7 @@ impl SwitchState {
     ghost use Rattle.afdx_frame.specs.Parts.{bytes_of};
     ghost use Rattle.afdx_frame.specs.Sealing.{sealed};
     ghost use Rattle.afdx_police.specs.Arrival.{arrival_with};
-    ghost use Rattle.afdx_switch.specs.Calls.{Arrives, TellsDue, TellsOrder, Takes};
+    ghost use Rattle.afdx_switch.specs.Calls.{Arrives, TellsDue, TellsEarly, TellsOrder, Takes};
     ghost use Rattle.afdx_switch.specs.Early.{IsEarlyBy};
     ghost use Rattle.afdx_switch.specs.Found.{Found, IsFaulted};
     ghost use Rattle.afdx_switch.specs.Lines.{IsPlaceOf};
@@ -276,10 +277,7 @@ impl SwitchState {
     pub(crate) fn early(&self, time: u64, port: u8, frame: Checked<'_>) -> u64
         requires sound { IsSwitchSound self.now }
         requires clock { last_time self.now ≤ time }
-        ensures { (t : Rows) (side : Side) (h : SwitchHistory) (tag : ℕ) →
-            StandsFor t side self.now h →
-            let arrival = arrival_with tag time side port (bytes_of frame.entry) in
-            shape_fault t arrival ≡ None → IsEarlyBy t h.arrivals arrival result }
+        ensures { TellsEarly self.now time port (bytes_of frame.entry) result }
     {
         match self.judged(port, frame) {
             Ok(place) => {
@@ -299,9 +297,9 @@ impl SwitchState {
     }
 
     /// Where the next turn stands in the order of turns.
-    pub(crate) fn order(&self) -> u64
+    pub(crate) fn order(&self) -> TurnOrder
         requires { IsSwitchSound self.now }
-        ensures { TellsOrder self.now result }
+        ensures { TellsOrder self.now result.0 }
     {
         self.ports[self.first].order()
     }

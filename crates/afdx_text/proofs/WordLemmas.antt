@@ -1,7 +1,8 @@
 -- Why a frame was dropped is a short word.
-use Rattle.std.proofs.Common.{◌≡◌, ◌≤◌, ℕ, Bool, true, length, refl}
+use Rattle.std.proofs.Common.{◌≡◌, ◌≤◌, ℕ, zero, suc, Bool, true, ◌&&◌, List, [], ◌∷◌, length, slice_index_or, refl}
+use Rattle.std.specs.List.{list_all}
 use Rattle.std.proofs.Math.Dec.{leb}
-use Rattle.std.proofs.lemmas.Bool.{leb-true}
+use Rattle.std.proofs.lemmas.Bool.{leb-true, and_parts}
 use Rattle.afdx_frame.specs.Words.{mac_word, mac_words, ip_word, ip_words}
 use Rattle.afdx_frame.specs.declared.fault.MacFault.{MacFault}
 use Rattle.afdx_frame.specs.declared.fault.MacFault.TheVariants as mac
@@ -9,22 +10,25 @@ use Rattle.afdx_frame.specs.declared.fault.IpFault.{IpFault}
 use Rattle.afdx_frame.specs.declared.fault.IpFault.TheVariants as ip
 use Rattle.afdx_police.specs.Words.{reason_word, words}
 use Rattle.afdx_police.specs.declared.shape.Reason.{Reason}
-use Rattle.afdx_police.specs.declared.shape.Reason.TheVariants as reason
+use Rattle.afdx_police.specs.contracts.shape.Reason.{the_type}
 use Rattle.afdx_receive.specs.Words.{drop_word, own_words}
 use Rattle.afdx_receive.specs.declared.reception.DropReason.{DropReason}
 use Rattle.afdx_receive.specs.declared.reception.DropReason.TheVariants as drop
+use denote.Enum.Declared.{tag_of}
 
-reason_fits : (r : Reason) → leb (length (reason_word r)) 15 ≡ true
+abbrev fits : List ℕ → Bool
+fits word = leb (length word) 15
+
+-- where each word of a table fits, the one at any place does
+fits_at : (table : List (List ℕ)) (place : ℕ) → list_all fits table ≡ true
+    → fits (slice_index_or table place []) ≡ true
+fits_at [] place all = refl
+fits_at (word ∷ table) zero all = (and_parts (fits word) (list_all fits table) all).0
+fits_at (word ∷ table) (suc place) all = fits_at table place (and_parts (fits word) (list_all fits table) all).1
+
+reason_fits : (r : Reason) → fits (reason_word r) ≡ true
 unfolding words
-reason_fits reason.TooShort = refl
-reason_fits reason.TooLong = refl
-reason_fits reason.BadFcs = refl
-reason_fits reason.BadAddress = refl
-reason_fits reason.UnknownLink = refl
-reason_fits reason.WrongPort = refl
-reason_fits reason.OverLmax = refl
-reason_fits reason.UnderLmin = refl
-reason_fits reason.OverRate = refl
+reason_fits r = fits_at words (tag_of the_type r) refl
 
 -- at a switch
 pub reason_word_short : (r : Reason) → length (reason_word r) ≤ 15

@@ -4,8 +4,7 @@ use Rattle.std.specs.Prelude.{ℕ, ◌≡◌, Bool, true, false, Option, Some, N
 use Rattle.std.specs.Prelude.{codes, decimal}
 use Rattle.afdx_config.specs.Rows.{Rows}
 use Rattle.afdx_police.specs.Arrival.{Arrival}
-use Rattle.afdx_police.specs.declared.shape.Reason.{Reason}
-use Rattle.afdx_police.specs.declared.shape.Reason.TheVariants.{OverRate}
+use Rattle.afdx_police.specs.Verdicts.{is_over_rate}
 use Rattle.afdx_lists.specs.declared.frame_line.Heading.{Heading}
 use Rattle.afdx_lists.specs.declared.watched.Watched.{Watched}
 use Rattle.afdx_switch.specs.Early.{IsEarlyBy}
@@ -16,10 +15,6 @@ use Rattle.afdx_engine.specs.Items.{arrivals}
 use Rattle.afdx_replay.specs.replaying.Replayed.{Known}
 use Rattle.afdx_replay.specs.replaying.Told.{TellsItems, TellsAll, BeginsItems}
 use Rattle.afdx_replay.specs.declared.replaying.run.Replay.{Replay}
-
-abbrev pub is_over_rate : Option Reason → Bool
-is_over_rate (Some OverRate) = true
-is_over_rate reason = false
 
 -- the frame of line n came so many nanoseconds too early
 abbrev pub early_line : ℕ → ℕ → List ℕ

@@ -10,7 +10,8 @@ ghost use Rattle.afdx_network.specs.Events.{Event, arrivals_in};
 ghost use Rattle.afdx_network.specs.Network as network_stands;
 ghost use Rattle.afdx_engine.specs.Listed.{arrival_at};
 ghost use Rattle.afdx_lists.specs.declared.watched.Watched.{Watched as Device};
-ghost use Rattle.afdx_replay.specs.replaying.Early.{HearsEarly, early_line, is_over_rate as over_rate};
+ghost use Rattle.afdx_police.specs.Verdicts.{is_over_rate as over_rate};
+ghost use Rattle.afdx_replay.specs.replaying.Early.{HearsEarly, early_line};
 ghost use Rattle.afdx_text.specs.Telling.{Tells};
 
 use crate::replaying::run::Replay;

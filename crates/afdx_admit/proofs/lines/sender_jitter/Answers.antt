@@ -3,12 +3,13 @@ use Rattle.std.specs.List.{sum_by}
 use Rattle.std.specs.Option.{option_map_or}
 use Rattle.std.proofs.lemmas.List.{take_all}
 use Rattle.std.proofs.lemmas.List.Sums.{sum_by_push}
+use Rattle.afdx_frame.proofs.ListLemmas.{slice_get-within}
 use Rattle.afdx_config.specs.Rows.{LinkRow, SystemRow, link_row}
 use Rattle.afdx_config.specs.Flows.{regulation_of_link}
 use Rattle.afdx_config.specs.Admission.{byte_ns, links_from, sender_jitter}
 use Rattle.afdx_admit.specs.Lines.{jitter_at}
 use Rattle.afdx_admit.proofs.SmallLemmas.{frame_small}
-use Rattle.afdx_admit.proofs.TakenLemmas.{with_row, without_row, at_place}
+use Rattle.afdx_admit.proofs.TakenLemmas.{with_row, without_row}
 use Rattle.afdx_admit.proofs.lines.sender_jitter.Goals as goal
 use Rattle.afdx_admit.proofs.lines.sender_jitter.Goals.{then-eq, else-eq}
 
@@ -51,7 +52,7 @@ pub returns : goal.returns
 unfolding jitter_at
 returns c =
     let links = c.args.tables.now.links in
-    let s = at_place c.args.tables.now.systems c.args.id.0 c.requires in
+    let s = slice_get-within c.args.tables.now.systems c.args.id.0 c.requires in
     let past : length links ≤ c.loop-i.i = omega arith in
     c.loop-i.invariant.sum
     ∙ ap (λ ls. sender_jitter c.byte_ns-byte_ns.result (links_from ls c.args.id.0)) (take_all c.loop-i.i links past)

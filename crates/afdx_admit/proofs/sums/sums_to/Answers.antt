@@ -2,6 +2,7 @@ use Rattle.std.proofs.Common.{◌≡◌, ◌≤◌, ◌+◌, take, length, List,
 use Rattle.std.proofs.lemmas.List.{take_all}
 use Rattle.afdx_config.specs.Rows.{link_row}
 use Rattle.afdx_frame.specs.Flows.{Flow}
+use Rattle.afdx_frame.proofs.ListLemmas.{slice_get-within}
 use Rattle.afdx_config.specs.Flows.{flow_of_link}
 use Rattle.afdx_config.specs.Admission.{flows_to, byte_ns}
 use Rattle.afdx_admit.specs.declared.sums.Sums.{Sums}
@@ -9,7 +10,7 @@ use Rattle.afdx_admit.specs.Lines.{LoadedOutput}
 use Rattle.afdx_admit.specs.Sums.{IsSums, IsSmall}
 use Rattle.afdx_admit.proofs.PushedLemmas.{sums_push, small_push}
 use Rattle.afdx_admit.proofs.SmallLemmas.{cap_small, load_small, smax_small}
-use Rattle.afdx_admit.proofs.TakenLemmas.{with_flow_to, without_flow_to, at_place}
+use Rattle.afdx_admit.proofs.TakenLemmas.{with_flow_to, without_flow_to}
 use Rattle.afdx_admit.proofs.sums.sums_to.Goals as goal
 use Rattle.afdx_admit.proofs.sums.sums_to.Goals.{then-goes_to, else-goes_to}
 
@@ -73,7 +74,7 @@ returns-clause-small c =
 pub returns-clause-sums : goal.returns-clause-sums
 returns-clause-sums c =
     let links = c.args.tables.now.links in
-    let s = at_place c.args.tables.now.systems c.args.system.0 c.requires in
+    let s = slice_get-within c.args.tables.now.systems c.args.system.0 c.requires in
     let past : length links ≤ c.loop-i.i = omega arith in
     let all : take c.loop-i.i links ≡ links = take_all c.loop-i.i links past in
     let time : c.empty-sums.result.byte_ns ≡ byte_ns s.0 = c.empty-sums.ensures.sums.byte_ns

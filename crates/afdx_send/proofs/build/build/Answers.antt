@@ -1,5 +1,5 @@
 use Rattle.std.proofs.Common.{ℕ, sym, arith, refl, ap, ◌∙◌, subst, ◌≡◌, slice_get, Some, None, replicate}
-use Rattle.afdx_admit.proofs.TakenLemmas.{at_place}
+use Rattle.afdx_frame.proofs.ListLemmas.{slice_get-within, slice_get-one}
 use Rattle.afdx_config.specs.Admission.{links_from}
 use Rattle.afdx_config.specs.Lawful.{IsLawful}
 use Rattle.afdx_config.specs.Rows.{SystemRow, Rows, system_row}
@@ -11,7 +11,6 @@ use Rattle.afdx_send.specs.Frames.{facts}
 use Rattle.afdx_send.specs.New.{AreNewLines}
 use Rattle.afdx_send.specs.Sender.{no_calls}
 use Rattle.afdx_send.proofs.NewLemmas.{are_sent, stands_new, quiet_new, held_new, IsNew}
-use Rattle.afdx_send.proofs.OwnLemmas.{same_get}
 use Rattle.afdx_send.proofs.build.build.Goals as goal
 
 made : goal.In_ok-output → SenderState
@@ -40,7 +39,7 @@ is_new : (c : goal.In_ok-output) (s : SystemRow)
 unfolding made
 is_new c s at =
     let same : system_row c.system-row.result.now ≡ s =
-    same_get c.args.tables.now.systems c.args.system.0 (system_row c.system-row.result.now) s
+    slice_get-one c.args.tables.now.systems c.args.system.0 (system_row c.system-row.result.now) s
     (subst (λ (t : Rows). slice_get t.systems c.args.system.0
     ≡ Some (system_row c.system-row.result.now)) c.tables-tables.ensures.tables
     c.system-row.ensures.row) at in
@@ -77,16 +76,16 @@ returns-clause-stands c = λ s at.
 
 pub returns-clause-sound : goal.returns-clause-sound
 returns-clause-sound c = let r =
-    at_place c.args.tables.now.systems c.args.system.0 c.requires.system in
+    slice_get-within c.args.tables.now.systems c.args.system.0 c.requires.system in
     (no_calls c.args.tables.now c.args.system.0 r.0, returns-clause-stands c r.0 r.1)
 
 pub returns-clause-quiet : goal.returns-clause-quiet
 unfolding made
 returns-clause-quiet c = λ t. let r =
-    at_place c.args.tables.now.systems c.args.system.0 c.requires.system in
+    slice_get-within c.args.tables.now.systems c.args.system.0 c.requires.system in
     quiet_new (made c) c.args.tables.now c.args.system.0 r.0 (returns-clause-stands c r.0 r.1) t
 
 pub returns-clause-held : goal.returns-clause-held
 unfolding made
-returns-clause-held c = let r = at_place c.args.tables.now.systems c.args.system.0 c.requires.system
+returns-clause-held c = let r = slice_get-within c.args.tables.now.systems c.args.system.0 c.requires.system
     in held_new (made c) c.args.tables.now c.args.system.0 r.0 (is_new c r.0 r.1)

@@ -1,8 +1,7 @@
 use Rattle.std.proofs.Common.{◌≡◌, ◌<◌, ◌≤◌, length, slice_get, slice_index, Some, ap, ◌∙◌, arith}
+use Rattle.afdx_frame.proofs.ListLemmas.{AllByRecursion-slice_get, slice_get-within}
 use Rattle.afdx_config.specs.Rows.{Rows}
 use Rattle.afdx_config.specs.Lawful.{IsLink}
-use Rattle.afdx_config.proofs.EachRowLemmas.{all_at}
-use Rattle.afdx_admit.proofs.TakenLemmas.{at_place}
 use Rattle.afdx_solve.specs.declared.delays.Delays.{Delays}
 use Rattle.afdx_solve.specs.Delays.{of_class}
 use Rattle.afdx_solve.specs.Solved.{with_delay, with_delays_for, with_delays, delay_to, latency_over}
@@ -37,16 +36,16 @@ loop-i-preserved c =
     let i = c.loop-i.i in
     let f = with_delay c.args.options t in
     let within : i < length t.links = omega (arith, c.link_count-count.ensures.count) in
-    let row = at_place t.links i within in
+    let row = slice_get-within t.links i within in
     let l = row.0 in
     let here : slice_get c.loop-i.tables.links i ≡ Some l =
     ap (λ (r : Rows). slice_get r.links i) c.loop-i.invariant ∙ get-first f i t.links ∙ row.1 in
-    let lawful = all_at (IsLink (length t.systems)) t.links i l c.link_count-count.ensures.lawful.links.each row.1 in
+    let lawful = AllByRecursion-slice_get (IsLink (length t.systems)) t.links i l c.link_count-count.ensures.lawful.links.each row.1 in
     let d : Delays = record { high = c.delays_of.result; low = c.delays_of-2.result } in
     let kept = delays-of_class t d c.delays_of.ensures c.delays_of-2.ensures l.priority in
     let needed : latency_over (slice_index (of_class l.priority d)) l.to ≡ latency_over (delay_to t l.priority) l.to =
     latency_over-same (slice_index (of_class l.priority d)) (delay_to t l.priority)
-        (length t.systems) kept.each l.to lawful.to in
+    (length t.systems) kept.each l.to lawful.to in
     stage-next f t c.loop-i.tables c.set_times.new.self i c.times_at-times.result l c.loop-i.invariant row.1
     (c.times_at-times.ensures.changed l here ∙ ap (λ n. with_delays_for c.args.options n l) needed)
     c.set_times.ensures.changed

@@ -1,18 +1,19 @@
 use Rattle.std.proofs.Common.{sym, ◌∙◌, subst, arith, refl, Some, []}
 use Rattle.std.proofs.lemmas.Option.{slice_get_within}
+use Rattle.afdx_frame.proofs.ListLemmas.{slice_get-within}
 use Rattle.afdx_port.specs.Held as held
 use Rattle.afdx_port.specs.Serving.{IsServing}
 use Rattle.afdx_switch.specs.HeldFrames.{facts}
 use Rattle.afdx_switch.specs.Lines.{IsLine}
 use Rattle.afdx_switch.specs.Sound.{IsLineSound, IsPortSound}
-use Rattle.afdx_switch.proofs.StandsLemmas.{all-from, found-at}
+use Rattle.afdx_switch.proofs.StandsLemmas.{all-from}
 use Rattle.afdx_switch.proofs.NewLemmas.{row-here, row-is, place-of, port-stands, sum-none, rows-counted}
 use Rattle.afdx_switch.proofs.build.build.Goals as goal
 
 pub returns-clause-sound : goal.returns-clause-sound
 returns-clause-sound c = record {
   lines = all-from (IsLineSound 0) c.in_ok-lines.lines.items (λ i line at.
-      let l = found-at c.args.tables.now.links i
+      let l = slice_get-within c.args.tables.now.links i
       (omega (
         arith,
         slice_get_within c.in_ok-lines.lines.items i line at,

@@ -13,9 +13,10 @@ loop-place-preserved c =
     (queue.no_calls (byte_ns_at c.args.tables.now (c.loop-place.place + 1))
     (buffer_at c.args.tables.now (c.loop-place.place + 1))) =
     subst (λ (n : ℕ). queue.StandsFor facts p
-    (queue.no_calls n (buffer_at c.args.tables.now (c.loop-place.place + 1)))) c.byte_ns.ensures.is
+    (queue.no_calls n (buffer_at c.args.tables.now (c.loop-place.place + 1))))
+    (rw c.port_at-port.ensures at c.byte_ns.ensures.is)
     (subst (λ (b : ℕ). queue.StandsFor facts p (queue.no_calls c.byte_ns.result b))
-    c.buffer.ensures.is c.in_ok-new.ensures.stands) in
+    (rw c.port_at-port.ensures at c.buffer.ensures.is) c.in_ok-new.ensures.stands) in
     rw c.in_ok-push.ensures.items
     (gathered-push (λ i q. IsNewPort c.args.tables.now i q) c.loop-place.place
     c.loop-place.ports.items p c.loop-place.invariant

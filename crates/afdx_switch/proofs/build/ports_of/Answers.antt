@@ -10,10 +10,10 @@ pub loop-place-preserved : goal.loop-place-preserved
 loop-place-preserved c = elim c.if-goes.branch [
   | then-goes w ↦ rw (w.places-is, w.push.ensures.items)
       (place-pushed _ c.loop-place.place c.loop-place.places.items c.loop-place.invariant
-      (λ l at. rw w.if-goes.true at (c.goes.ensures l at)))
+      (λ l at. rw (w.if-goes.true, c.port_at.ensures) at (c.goes.ensures l at)))
   | else-goes w ↦ rw w.places-is
       (place-skipped _ c.loop-place.place c.loop-place.places.items c.loop-place.invariant
-      (λ l at. rw w.if-goes.false at (c.goes.ensures l at)))
+      (λ l at. rw (w.if-goes.false, c.port_at.ensures) at (c.goes.ensures l at)))
 ]
 
 pub returns-clause-places : goal.returns-clause-places

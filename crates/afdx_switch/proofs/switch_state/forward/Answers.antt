@@ -21,8 +21,8 @@ loop-place-preserved c =
           here _ c.offer.new.port c.in-Some.share c.offer.result w.add.new.self
           at c.in-Some.ensures.items c.offer.ensures
           (record {
-            here = w.add.ensures.added ∙ sym w.if-offer.true;
-            others = w.add.ensures.others;
+            here = rw w.port_at.ensures at w.add.ensures.added ∙ sym w.if-offer.true;
+            others = rw w.port_at.ensures at w.add.ensures.others;
           }))
       | else-offer w ↦
           rw w.lost-is

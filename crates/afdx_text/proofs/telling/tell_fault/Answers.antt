@@ -9,5 +9,5 @@ returns g c =
     let line : c.as_bytes.result.now ≡ text ++ codes "\n" =
     c.as_bytes.ensures.value ∙ c.as_str-2.ensures.value ∙ c.push_str-2.ensures.bytes
     ∙ ap (λ (l : List ℕ). l ++ codes "\n") (c.push_str.ensures.bytes
-      ∙ ap (λ (l : List ℕ). l ++ text) c.new-line.ensures) in
+    ∙ ap (λ (l : List ℕ). l ++ text) c.new-line.ensures) in
     (text, subst (Tells g.W.Write.contents c.args.device.now c.tell.new.device) line c.tell.ensures)

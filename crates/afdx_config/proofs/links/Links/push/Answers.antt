@@ -1,8 +1,8 @@
 use Rattle.std.proofs.Common.{◌≡◌, ◌++◌, ◌∷◌, [], length, ap, ◌∙◌, refl, arith, None, nat_eq, length-append}
+use Rattle.afdx_frame.proofs.ListLemmas.{AllByRecursion-push}
 use Rattle.afdx_config.specs.Rows.{link_row}
 use Rattle.afdx_config.specs.Kept.{IsUnderItsIdentifier, link_rows}
 use Rattle.afdx_config.specs.Reading.{link_of}
-use Rattle.afdx_config.proofs.EachRowLemmas.{all_push}
 use Rattle.afdx_config.proofs.EntryLemmas.{insert_entry-fresh, rows_of-push, length-rows}
 use Rattle.afdx_config.proofs.links.Links.push.Goals as goal
 
@@ -24,7 +24,7 @@ invariant_of-self-2 c =
         ap length c.self.view_is,
         c.requires.room,
       ),
-      all_push IsUnderItsIdentifier es (vl, c.args.link) c.self.invariant.1 refl,
+      AllByRecursion-push IsUnderItsIdentifier es (vl, c.args.link) c.self.invariant.1 refl,
     )
 
 pub returns : goal.returns

@@ -14,7 +14,7 @@ returns-clause-place c =
     (λ k. bytes_eq c.args.name.now (string_bytes k)) IsUnderItsName
     (λ e h. ap (bytes_eq c.args.name.now) h) c.self.inside.by_name.entries c.self.invariant.1 in
     sym c.in_ok-index.was ∙ c.get_index_of.ensures.index ∙ found
-        ∙ ap (λ rs. system_named rs c.args.name.now) c.self.view_is
+    ∙ ap (λ rs. system_named rs c.args.name.now) c.self.view_is
 
 pub returns-in_err-index-clause-place : goal.returns-in_err-index-clause-place
 unfolding system_named

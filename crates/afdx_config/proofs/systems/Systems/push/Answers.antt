@@ -1,10 +1,10 @@
 use Rattle.std.proofs.Common.{◌≡◌, ◌++◌, ◌∷◌, [], length, ap, ◌∙◌, rules, refl, arith, string_bytes}
 use Rattle.std.proofs.Common.{None, length-append}
 use Rattle.std.specs.Str.{bytes_eq}
+use Rattle.afdx_frame.proofs.ListLemmas.{AllByRecursion-push}
 use Rattle.afdx_config.specs.Rows.{system_row}
 use Rattle.afdx_config.specs.Kept.{IsUnderItsName, system_rows}
 use Rattle.afdx_config.specs.Reading.{system_named}
-use Rattle.afdx_config.proofs.EachRowLemmas.{all_push}
 use Rattle.afdx_config.proofs.EntryLemmas.{insert_entry-fresh, rows_of-push, length-rows}
 use Rattle.afdx_config.proofs.systems.Systems.push.Goals as goal
 
@@ -30,7 +30,7 @@ invariant_of-self-2 c =
         ap length c.self.view_is,
         c.requires.room,
       ),
-      all_push IsUnderItsName es (c.in_ok-name.name, c.args.system) c.self.invariant.1 same,
+      AllByRecursion-push IsUnderItsName es (c.in_ok-name.name, c.args.system) c.self.invariant.1 same,
     )
 
 pub returns : goal.returns

@@ -1,9 +1,9 @@
 use Rattle.std.proofs.Common.{length, ◌≡◌, ◌<◌, slice_get, Some, option_map, refl, sym, ap, ◌∙◌, arith}
 use Rattle.std.proofs.lemmas.List.{length-map}
 use Rattle.std.proofs.lemmas.Option.{slice_get-map, slice_get_read}
+use Rattle.afdx_frame.proofs.ListLemmas.{AllByRecursion-slice_get}
 use Rattle.afdx_config.specs.Rows.{port_row}
 use Rattle.afdx_config.specs.Lawful.{IsPort, IsLawful}
-use Rattle.afdx_config.proofs.EachRowLemmas.{all_at}
 use Rattle.afdx_config.proofs.tables.Tables.com.Goals as goal
 
 pub returns-clause-lawful_row : goal.returns-clause-lawful_row
@@ -17,5 +17,5 @@ returns-clause-lawful_row c =
     let row : slice_get c.args.self.now.ports c.args.index ≡ Some (port_row c.index.result.now) =
     ap (λ t. slice_get t.ports c.args.index) (sym c.self.view_is)
     ∙ slice_get-map port_row coms c.args.index ∙ ap (option_map port_row) at in
-    all_at (IsPort (length c.args.self.now.systems) c.args.self.now.links) c.args.self.now.ports
+    AllByRecursion-slice_get (IsPort (length c.args.self.now.systems) c.args.self.now.links) c.args.self.now.ports
     c.args.index (port_row c.index.result.now) lawful.ports.each row

@@ -10,7 +10,7 @@ invariant_of-self c =
     let inside = c.self.inside in
     let t = rows_with inside.profile inside.buffer inside.systems inside.links (port_rows inside.coms.items) in
     let may : (l : LinkRow) → slice_get t.links c.args.index ≡ Some l
-        → IsLink (length t.systems) (with_times c.args.times l) =
+    → IsLink (length t.systems) (with_times c.args.times l) =
     subst (λ (r : Rows). (l : LinkRow) → slice_get r.links c.args.index ≡ Some l
     → IsLink (length r.systems) (with_times c.args.times l)) (sym c.self.view_is) c.requires.lawful in
     rw c.set_times.ensures (lawful-changed t c.args.index c.args.times c.self.invariant may)

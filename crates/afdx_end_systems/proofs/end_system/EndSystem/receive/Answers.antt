@@ -74,7 +74,7 @@ returns-in_ok-pass_on-in-Message-clause-newest c = λ rows system past is hold.
     newest_passed rows system past (arrival_of (handed_over c.args.handover)) c.in-Message.vl.0 c.in-Message.udp
     c.in-Some.place c.in-Message.bytes.now c.args.self.now.ports c.pass_on.new.ports port.0
     (found rows system past (arrival_of (handed_over c.args.handover)) c.in-Message.vl.0
-        c.in-Message.udp c.in-Some.place
+    c.in-Message.udp c.in-Some.place
     c.in-Message.bytes.now c.args.self.now.ports is.found c.in-Some.ensures.place
     (c.in-Message.ensures.selected rows system past is.receives).computed) (sym c.in-Some.ensures.place) port.1
     c.pass_on.ensures.found (c.in_ok-pass_on-in-Message.ensures.passed is.read) is.read hold

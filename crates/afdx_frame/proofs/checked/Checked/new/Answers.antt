@@ -1,5 +1,5 @@
 use Rattle.std.proofs.Common.{◌∙◌, sym, arith, length, take, ◌-◌}
-use Rattle.afdx_frame.proofs.SealingLemmas.{AreBytes-take}
+use Rattle.afdx_frame.proofs.LeftLemmas.{AreBytes-take}
 use Rattle.afdx_frame.proofs.SealsLemmas.{is_whole, known-right, known-missing, whole-missing}
 use Rattle.afdx_frame.proofs.checked.Checked.new.Goals as goal
 

@@ -38,7 +38,7 @@ returns-in_err-departure-clause-none c =
     absurd (must-give c.in_ok-side.side c.args.self.now c.args.until c.order.ensures.due c.order-2.ensures.due first
     c.order.ensures.tells.quiet c.order-2.ensures.tells.quiet
     (subst (λ (w : SwitchState). switch.IsQuiet w c.args.until) c.get_mut.ensures.value
-        c.in_err-departure.ensures.gives))
+    c.in_err-departure.ensures.gives))
 
 pub returns-in_err-departure-clause-quiet : goal.returns-in_err-departure-clause-quiet
 returns-in_err-departure-clause-quiet c =
@@ -47,7 +47,7 @@ returns-in_err-departure-clause-quiet c =
     absurd (must-give c.in_ok-side.side c.args.self.now c.args.until c.order.ensures.due c.order-2.ensures.due first
     c.order.ensures.tells.quiet c.order-2.ensures.tells.quiet
     (subst (λ (w : SwitchState). switch.IsQuiet w c.args.until) c.get_mut.ensures.value
-        c.in_err-departure.ensures.gives))
+    c.in_err-departure.ensures.gives))
 
 pub returns-in_err-departure-clause-all_done : goal.returns-in_err-departure-clause-all_done
 returns-in_err-departure-clause-all_done c t events st late =
@@ -56,7 +56,7 @@ returns-in_err-departure-clause-all_done c t events st late =
     absurd (must-give c.in_ok-side.side c.args.self.now c.args.until c.order.ensures.due c.order-2.ensures.due first
     c.order.ensures.tells.quiet c.order-2.ensures.tells.quiet
     (subst (λ (w : SwitchState). switch.IsQuiet w c.args.until) c.get_mut.ensures.value
-        c.in_err-departure.ensures.gives))
+    c.in_err-departure.ensures.gives))
 
 pub returns-clause-given : goal.returns-clause-given
 returns-clause-given c t events st =
@@ -68,14 +68,14 @@ returns-clause-given c t events st =
     (sym is) (stands-on t n events st side) in
     let gives = c.in_ok-departure.ensures.given t side (calls_on side events (switch.last_time w)) stands in
     gives-at t n events st side c.take.new.self c.args.until c.in_ok-departure.departure
-        c.order.ensures.due c.order-2.ensures.due
+    c.order.ensures.due c.order-2.ensures.due
     (c.in_ok-side.ensures c.order.ensures.due c.order-2.ensures.due c.order.ensures.is
     c.order-2.ensures.is c.order.ensures.tells.limit c.order-2.ensures.tells.limit) c.requires.clock
     (c.order.ensures.tells.comes t A (calls_on A events (switch.last_time n.switches.a)) st.on_a)
     (c.order-2.ensures.tells.comes t B (calls_on B events (switch.last_time n.switches.b)) st.on_b)
     (λ port low high. c.order.ensures.tells.all_done t A
-        (calls_on A events (switch.last_time n.switches.a)) port st.on_a low high)
+    (calls_on A events (switch.last_time n.switches.a)) port st.on_a low high)
     (λ port low high. c.order-2.ensures.tells.all_done t B
-        (calls_on B events (switch.last_time n.switches.b)) port st.on_b low high)
+    (calls_on B events (switch.last_time n.switches.b)) port st.on_b low high)
     (subst (λ (z : SwitchState). switch.Gives t side (calls_on side events (switch.last_time z)) c.args.until
     c.in_ok-departure.departure c.take.new.self) is gives)

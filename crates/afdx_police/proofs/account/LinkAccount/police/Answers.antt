@@ -65,7 +65,7 @@ returns-in-Some-clause-stands_in c rule all tag side stands =
       bytes = (bytes_of c.args.frame);
     }) all c.in-Some.reason
     (judged rule _ c.args.port (bytes_of c.args.frame) _
-        (c.rule.ensures ∙ stands.by_rule) c.in-Some.ensures.reason) stands
+    (c.rule.ensures ∙ stands.by_rule) c.in-Some.ensures.reason) stands
 
 pub returns-in-None-clause-stands : goal.returns-in-None-clause-stands
 unfolding offer_at

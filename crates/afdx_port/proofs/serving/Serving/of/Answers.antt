@@ -15,7 +15,7 @@ loop-place-preserved g c =
     let at = slice_get_read c.args.ports.now (length c.args.ports.now) c.loop-place.place
     c.index-ports-place.result refl within c.index-ports-place.is in
     keys-next g.T.HasLength.facts c.args.ports.now c.loop-place.serving.keys
-    c.set.new.self.keys c.loop-place.place c.order.result c.index-ports-place.result
+    c.set.new.self.keys c.loop-place.place c.order.result.0 c.index-ports-place.result
     c.loop-place-test.true at c.loop-place.invariant c.order.ensures.is c.order.ensures.limit
     c.set.ensures
 

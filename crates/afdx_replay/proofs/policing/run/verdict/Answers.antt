@@ -30,7 +30,7 @@ returns-clause-seen c rule past tag seen =
     let side = c.args.heading.now.side in
     seen-with c.args.accounts.now rule past seen
     tag c.args.heading.now.time side c.args.heading.now.port
-        (whole c.args.heading.now.seal c.args.message.now) c.police.new.self
+    (whole c.args.heading.now.seal c.args.message.now) c.police.new.self
     (rw c.frame.ensures at (c.police.ensures.stands_in rule past tag side
     (subst (λ (held : LinkAccount). StandsForOwn rule held (own rule.vl side past)) (sym c.get_mut.ensures.value)
     (seen-on c.args.accounts.now rule past seen side))))

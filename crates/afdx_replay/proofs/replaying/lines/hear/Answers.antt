@@ -12,7 +12,7 @@ use Rattle.afdx_replay.proofs.replaying.lines.hear.Goals as goal
 pub returns-in_ok-put-in-Ok-Some-Message-clause-delivered : goal.returns-in_ok-put-in-Ok-Some-Message-clause-delivered
 returns-in_ok-put-in-Ok-Some-Message-clause-delivered g c t before stands =
     sym (told-as t before (handed_over c.args.handover) _
-        (rw (c.in-Ok-Some-Message.field-0-is, c.in-Ok-Some-Message.field-0-0-is)
+    (rw (c.in-Ok-Some-Message.field-0-is, c.in-Ok-Some-Message.field-0-0-is)
     at (c.in-Ok-Some-Message.ensures.answer t before stands))).1
 
 pub returns-in_ok-put-in-Ok-Some-Message-clause-line : goal.returns-in_ok-put-in-Ok-Some-Message-clause-line
@@ -39,7 +39,7 @@ returns-in_err-put-in-Ok-Some-Message-clause-front g c t before stands =
 pub returns-in_ok-put-in-Ok-Some-Dropped-clause-delivered : goal.returns-in_ok-put-in-Ok-Some-Dropped-clause-delivered
 returns-in_ok-put-in-Ok-Some-Dropped-clause-delivered g c t before stands =
     sym (told-as t before (handed_over c.args.handover) _
-        (rw (c.in-Ok-Some-Dropped.field-0-is, c.in-Ok-Some-Dropped.field-0-0-is)
+    (rw (c.in-Ok-Some-Dropped.field-0-is, c.in-Ok-Some-Dropped.field-0-0-is)
     at (c.in-Ok-Some-Dropped.ensures.answer t before stands))).1
 
 pub returns-in_ok-put-in-Ok-Some-Dropped-clause-line : goal.returns-in_ok-put-in-Ok-Some-Dropped-clause-line
@@ -61,7 +61,7 @@ returns-in_err-put-in-Ok-Some-Dropped-clause-front g c t before stands =
     (c.name_at-in-Ok-Some-Dropped.ensures t (d ∷ before) (c.receive.ensures.stands t before stands)) ∙ sym told.0 in
     on-err c.from_residual-in_err-put-in-Ok-Some-Dropped.result _
     (subst (λ x. AppendsFront (g.O.Sink.written c.args.output.now)
-        (g.O.Sink.written c.put-in-Ok-Some-Dropped.new.self) x) e
+    (g.O.Sink.written c.put-in-Ok-Some-Dropped.new.self) x) e
     c.in_err-put-in-Ok-Some-Dropped.ensures.front)
 
 pub returns-in-Ok-None-clause-delivered : goal.returns-in-Ok-None-clause-delivered

@@ -11,7 +11,7 @@ returns-in_err-put-clause-front g c =
     on-err c.from_residual.result _
     (verdict-front c.args.n c.args.side _ _ (g.O.Sink.written c.args.output.now) (g.O.Sink.written c.put.new.self)
     c.reason_of-reason.ensures (loss_lines c.args.n c.args.side (lost_in c.args.verdict.now))
-        c.in_err-put.ensures.front)
+    c.in_err-put.ensures.front)
 
 pub returns-in-Accepted-clause-lines : goal.returns-in-Accepted-clause-lines
 returns-in-Accepted-clause-lines g c =

@@ -1,12 +1,12 @@
 use Rattle.std.proofs.Common.{arith, ap, ◌∙◌, subst, sym, ◌≡◌, ◌+◌, ◌-◌, length}
 use Rattle.afdx_frame.specs.Sealing.{AreBytes}
+use Rattle.afdx_frame.proofs.ListLemmas.{slice_get-one}
 use Rattle.afdx_send.specs.declared.line.Line.{Line}
 use Rattle.afdx_send.specs.Lines.{CanTake}
 use Rattle.afdx_send.specs.Regulator.{submission_of}
 use Rattle.afdx_send.specs.Releases.{Submission}
 use Rattle.afdx_send.specs.Sender.{StandsFor, submission, with_submission}
 use Rattle.afdx_send.proofs.AddLemmas.{refuses, admits, place_below, submission_is, can_take}
-use Rattle.afdx_send.proofs.OwnLemmas.{same_get}
 use Rattle.afdx_send.proofs.StandLemmas.{read_at}
 use Rattle.afdx_send.proofs.sender_state.SenderState.accept.Goals as goal
 
@@ -60,7 +60,7 @@ add-requires-clause-queue c = λ line has.
     let w = c.args.self.now in let h = c.requires.sound.0 in let st = c.requires.sound.1 in
     let has' = read_at w.lines.items c.in-Some.place c.index.result.now
     (place_below w h c.args.vl.0 c.in-Some.place st (c.in-Some.ensures h st)) c.index.ensures in
-    let same = same_get w.lines.items c.in-Some.place c.index.result.now line has' has in
+    let same = slice_get-one w.lines.items c.in-Some.place c.index.result.now line has' has in
     let lets = c.in_default-check.ensures.ok in
     let from : c.from.result ≡ c.args.sub = c.from.ensures in
     let some = lets.is_sub.0 in

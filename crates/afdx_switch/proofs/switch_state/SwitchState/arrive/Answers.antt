@@ -114,7 +114,7 @@ send_on-lost-requires-clause-share_count c line there =
     let w = c.args.self.now in
     let mine = c.index-line.result.now in
     let at = slice_get_read w.lines.items _ c.in-Ok.place mine w.lines.ok.0 c.in-Ok.ensures.within
-        c.index-line.ensures in
+    c.index-line.ensures in
     let charged = c.in_default.ensures.charged mine at in
     let here = charged-at c.args.time _ c.in-Ok.place mine _ w.lines.items _ charged at in
     let new : Line = record mine { account = charged.account } in
@@ -130,7 +130,7 @@ returns-clause-arrives c =
     let rest = c.send_on-lost.ensures.rest in
     let mine = c.index-line.result.now in
     let at = slice_get_read w.lines.items _ c.in-Ok.place mine w.lines.ok.0 c.in-Ok.ensures.within
-        c.index-line.ensures in
+    c.index-line.ensures in
     let charged = c.in_default.ensures.charged mine at in
     let carried : HeldFrame = held_frame c.args.tag mine.longest_wait bytes in
     let shared : AreShares carried c.share_out.new.shares.items =
@@ -139,7 +139,7 @@ returns-clause-arrives c =
     c.in_ok-share_out.ensures.each in
     let old_count : length w.ports.items ≡ 24 = omega (arith, w.ports.ok.0, c.requires.sound.port_count) in
     let new_count : length new.ports.items ≡ 24 = omega
-        (arith, new.ports.ok.0, c.send_on-lost.ensures.sound.port_count) in
+    (arith, new.ports.ok.0, c.send_on-lost.ensures.sound.port_count) in
     let small = (all-at (IsLineSound w.clock) w.lines.items c.in-Ok.place mine c.requires.sound.lines at).wait in
     let offered = c.send_on-lost.ensures.offered (record mine { account = charged.account }) carried
     (charged-at c.args.time _ c.in-Ok.place mine _ w.lines.items _ charged at) shared in

@@ -15,7 +15,7 @@ early-requires-clause-in_time c =
     let at = slice_get_read w.lines.items _ c.in-Ok.place c.index-line.result.now w.lines.ok.0
     c.in-Ok.ensures.within c.index-line.ensures in
     let sound = all-at (IsLineSound w.clock) w.lines.items c.in-Ok.place c.index-line.result.now
-        c.requires.sound.lines at in
+    c.requires.sound.lines at in
     omega (arith, sound.in_time, c.requires.clock)
 
 pub early-requires-clause-longest : goal.early-requires-clause-longest
@@ -38,7 +38,7 @@ returns-in-Ok c t side h tag st sound =
     let account = subst (λ (l : Line). StandsForOwn f.named.row.rule l.account past) same f.is.account in
     found-early t x w h c.in-Ok.place f c.early.result
     (c.early.ensures.least f.named.row.rule past x account
-        (rw c.length.ensures (found-offered t x w h c.in-Ok.place f)))
+    (rw c.length.ensures (found-offered t x w h c.in-Ok.place f)))
 
 pub returns-in-Err : goal.returns-in-Err
 returns-in-Err c t side h tag st sound =

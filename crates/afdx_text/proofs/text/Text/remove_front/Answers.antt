@@ -27,11 +27,16 @@ returns c =
     let within : count ≤ text.end = omega (arith, length-take text.end text.room.items, c.requires) in
     let same : left ≡ 0 + left = omega arith in
     let back : count + left ≡ text.end = omega (arith, within) in
-    let long : text.end ≤ length all = omega (arith, text.within, text.room.ok.0, ap length
-        c.as_mut_slice.ensures.value) in
+    let long : text.end ≤ length all = omega (
+      arith,
+      text.within,
+      text.room.ok.0,
+      ap length
+          c.as_mut_slice.ensures.value,
+    ) in
     let rest : left ≤ length (drop count all) = omega (arith, long, length-drop count all) in
     ap (take left) (with_items_is text.room c.copy_within.new.self (search (rules, places))
-        ∙ c.copy_within.ensures.after)
+    ∙ c.copy_within.ensures.after)
     ∙ ap (λ (k : ℕ). take k (paste all 0 (drop count all) left)) same
     ∙ take-paste all 0 (drop count all) left (omega arith) rest
     ∙ sym (drop-take count left all) ∙ ap (λ (k : ℕ). drop count (take k all)) back
