@@ -8,9 +8,8 @@
 - Each piece of code in docs/LIBRARIES.md is a part of a file of afdx_surface_tests, white space
   aside.
 - The pages that bin/pages prints from the sources are as it prints them.
-- The closed lists of the program, which stand in tables of its sources, are those of the documents
-  and of the tools, in the same order; each key of a configuration has its number, its part, its
-  name and its range in its text.
+- The conditions of admission and the refusals of messages in documents by hand are those of
+  docs/FORMATS.md, and the texts of the faults of lists and recordings those of its tables.
 - Each must-fail edit finds the text that it changes, once.
 - Out of memory is made only where a growth was refused: in a `From`, or in the one function of a
   crate that hands it on (MEMORY).
@@ -143,84 +142,20 @@ def wrong_edits() -> list[str]:
     return faults
 
 
-# of each list that a document has a table of: the document, the heading, the column, and the words
-RECEIVER = lists.DROP_REASONS[:3] + lists.IP_FAULTS + lists.DROP_REASONS[3:]
-LIST_LINES = [form for form in lists.RUN_FAULTS if form.startswith("list ")]
-RECORDING_WORDS = [form.split()[1] for form in lists.RECORDING_FAULTS]
-LISTED = [
-    ("docs/NETWORK.md", "| Line | Must hold | In plain words |", 0, lists.ADMISSION),
-    ("docs/FORMATS.md", "| WORD | The frame |", 0, lists.REASONS),
-    ("docs/FORMATS.md", "| WORD of X | The frame |", 0, RECEIVER[1:]),
-    ("docs/FORMATS.md", "| Last line | What is wrong | What may help |", 0, lists.ADMISSION),
-    ("docs/FORMATS.md", "| Text | When |", 0, lists.SEND_FAULTS[:5]),
-    ("docs/FORMATS.md", "| Line on standard error | When |", 0, lists.CONFIG_FAULTS[:8]),
-    ("docs/FORMATS.md", "| Recording fault | n | When |", 0, RECORDING_WORDS),
-    ("docs/FORMATS.md", "| WORD of a skipped number | When |", 0, lists.SKIPPED),
-]
-LIST_TABLE = ("docs/FORMATS.md", "| Order | Line on standard error | When |")
-KEY_TABLE = ("docs/FORMATS.md", "| Part | Number | Key | Value |")
-PARTS = {"top": "the top", "system": "a system", "link": "a link", "port": "a port"}
-
-
-def rows_below(document: str, heading: str) -> list[list[str]]:
-    """The cells of a document's table, without marks; none where it has no such table."""
-    _, found, rest = text_of(TOP / document).partition("\n" + heading + "\n")
-    rows = rest.split("\n\n")[0].splitlines()[1:] if found else []
-    return [[cell.strip().replace("`", "") for cell in row.strip("|").split("|")] for row in rows]
-
-
-def word_of(cell: str) -> str:
-    """The word of a list in a cell: alone, or behind the first word of its line."""
-    first, *rest = cell.split()
-    return rest[0] if rest and first in ("no", "config", "recording") else first
-
-
 def lists_apart() -> list[str]:
+    """Documents by hand that have other words than FORMATS, and faults with other texts."""
     faults = []
-    for document, heading, column, wanted in LISTED:
-        words = [word_of(row[column]) for row in rows_below(document, heading)]
-        if words != wanted:
-            faults.append(f"{document}: {heading} has {words}, the program {wanted}")
-    for word in [*lists.ADMISSION, *lists.SEND_FAULTS[:5]]:
+    rows = lists.rows_below("| Line | Must hold | In plain words |", TOP / "docs/NETWORK.md")
+    if [row[0] for row in rows] != lists.ADMISSION:
+        faults.append(f"docs/NETWORK.md has other conditions than {lists.ADMISSION}")
+    for word in [*lists.ADMISSION, *lists.REFUSALS]:
         if not re.search(rf"\b{word}\b", text_of(TOP / "docs/afdx.1")):
             faults.append(f"docs/afdx.1 doesn't have {word}")
-    told = {row[1] for row in rows_below(*LIST_TABLE) if row[1].startswith("list ")}
-    if told != set(LIST_LINES):
-        faults.append(f"{LIST_TABLE[0]} has other faults of a list: {told ^ set(LIST_LINES)}")
-    for file, forms in (("fault", lists.RUN_FAULTS), ("recording_fault", lists.RECORDING_FAULTS)):
+    for file, forms in (("fault", lists.LIST_FAULTS), ("recording_fault", lists.RECORDING_FAULTS)):
         source = text_of(CRATES / f"afdx_lists/src/{file}.rt")
-        derived = re.findall(r'#\[error\("((?!\{0\} [AB]").*?)"\)\]', source)
-        if [text.replace("{0}", "n") for text in derived] != forms:
+        derived = re.findall(r'#\[error\("((?:list|recording) .*?)"\)\]', source)
+        if {text.replace("{0}", "n") for text in derived} != set(forms):
             faults.append(f"the texts of the faults of {file}.rt are {derived}")
-    return faults
-
-
-def keys_apart() -> list[str]:
-    """Keys whose row and whose texts don't say the same, and documents that have other keys."""
-    faults = []
-    wanted = []
-    for part, rows in lists.KEY_ROWS.items():
-        for number, (name, least, greatest, forms, meaning) in enumerate(rows, 1):
-            wanted.append([part, str(number), name])
-            values = meaning.split("\n")[0]
-            if number == 1 and part == "top":
-                continue
-            if not meaning.startswith(f"Key {number} of {PARTS[part]} is {name}: "):
-                faults.append(f"the text of key {number} of {PARTS[part]} begins otherwise")
-            if not re.fullmatch(rf"config [A-Za-z|]+ {part} [0n] key {number}", forms):
-                faults.append(f"the form of key {number} of {PARTS[part]} is {forms}")
-            numbers = {int(digits) for digits in re.findall(r"\b\d+\b", values)}
-            if greatest and "name" not in values and greatest not in numbers | {1518, 128000}:
-                faults.append(f"key {number} of {PARTS[part]} goes to {greatest}: {values}")
-    rows = [row[:3] for row in rows_below(*KEY_TABLE)]
-    if rows != wanted:
-        others = [row for row in rows if row not in wanted]
-        faults.append(f"{KEY_TABLE[0]} has other keys, or in another order: {others}")
-    unknown = " ".join(lists.table("UNKNOWN_KEYS")[0][1].split())
-    for part, names in lists.KEYS.items():
-        said = f"{', '.join(names[:-1])} and {names[-1]}."
-        if f"Keys of {PARTS[part]} are {said}" not in unknown:
-            faults.append(f"what is said of unknown keys has other keys of {PARTS[part]}")
     return faults
 
 
@@ -279,7 +214,6 @@ def main() -> int:
         "pages printed from the sources": other_pages(),
         "code in LIBRARIES": foreign_code(),
         "closed lists": lists_apart(),
-        "keys of a configuration": keys_apart(),
         "must-fail edits": wrong_edits(),
         "out of memory": made_up_memory(),
         "heads of source files": headless(),
