@@ -54,6 +54,7 @@ section { background: var(--sheet); border: 1px solid var(--rule); border-radius
 .find { margin-top: 16px; } .find input { font: inherit; padding: 4px 8px; width: 22em;
   max-width: 100%; }
 .box { max-height: 560px; overflow: auto; } #words .box { max-height: none; }
+.long { content-visibility: auto; contain-intrinsic-size: auto 560px; }
 table { border-collapse: collapse; font-variant-numeric: tabular-nums; font-size: 12.5px;
   width: 100%; }
 caption { text-align: left; font-size: 16px; font-weight: 600; padding-bottom: 4px; }
