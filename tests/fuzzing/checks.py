@@ -13,24 +13,24 @@ sys.path.insert(0, os.path.join(os.path.dirname(os.path.abspath(__file__)), ".."
 import closed_lists as lists  # noqa: E402
 from program import must  # noqa: E402
 
+PARTS = ("system", "link", "port")
 CONFIG_FAULT = re.compile(
-    rf"config ({'|'.join(lists.CONFIG_FAULTS[:2])}|({'|'.join(lists.CONFIG_FAULTS[2:8])})"
-    rf" (top 0|({'|'.join(lists.PARTS[1:])}) [1-9][0-9]*) key [0-9]+)\n"
+    rf"config ({'|'.join(lists.CONFIG_FAULTS[:2])}|({'|'.join(lists.CONFIG_FAULTS[2:])})"
+    rf" (top 0|({'|'.join(PARTS)}) [1-9][0-9]*) key [0-9]+)\n"
 )
-LINES = lists.table("ADMISSION")
-# the form behind `admit`; one that --all alone writes stands behind it, in a line of its own
+# of each condition its word, and its fields: the name of a system, or numbers
 FORMS = [
-    forms.split("|admit ")[1].split("\n")[0].replace("?", word) for word, forms, _ in LINES
+    word + "".join(r" \w+" if field == "system" else " [0-9]+" for field in fields)
+    for word, *fields in map(str.split, lists.ADMISSION_LINES)
 ]
-ADMISSION = f"({'|'.join(FORMS)})".replace("*", r"\w+").replace(" n", " [0-9]+")
+ADMISSION = f"({'|'.join(FORMS)})"
 ADMIT_FAULT = re.compile(rf"admit {ADMISSION}\n")
-LIST_FAULTS = [form for form in lists.RUN_FAULTS if form.startswith("list ")]
 LIST_FAULT = re.compile(
-    "(?:" + "|".join(form.replace(" n", " [1-9][0-9]*") for form in LIST_FAULTS) + r")\n"
+    "(?:" + "|".join(form.replace(" n", " [1-9][0-9]*") for form in lists.LIST_FAULTS) + r")\n"
 )
 NUMBER = r"(?:0|[1-9][0-9]*)"
 DROPS = "|".join(lists.REASONS)
-UNREAD = "|".join(lists.DROP_REASONS[1:] + lists.IP_FAULTS)
+UNREAD = "|".join(lists.NOT_RECEIVED)
 PORT = "(?:[1-9]|1[0-9]|2[0-4])"
 EVENT = re.compile(
     rf"V {NUMBER} [AB] (?:accept|drop (?:{DROPS}))"

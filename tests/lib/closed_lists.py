@@ -1,66 +1,41 @@
-"""The closed lists of the program, read off the tables of its sources.
-
-Each is one table `pub const NAME` beside its type; `afdx explain --list` prints the same.
-"""
+"""The closed lists of the program, as docs/FORMATS.md has them: bin/pages prints their tables from
+what `afdx explain --list` prints, and bin/test compares the two."""
 from __future__ import annotations
 
-import ast
 import pathlib
-import re
 
-CRATES = pathlib.Path(__file__).resolve().parent.parent.parent / "crates"
-TEXT = r'"(?:[^"\\]|\\[\s\S])*"'
+FORMATS = pathlib.Path(__file__).resolve().parent.parent.parent / "docs" / "FORMATS.md"
 
 
-# the files that the tables stand in, by their crates
-FILES = [
-    "afdx_frame/src/fault.rt",
-    "afdx_police/src/shape.rt",
-    "afdx_config/src/fault.rt",
-    "afdx_config/src/key_tables.rt",
-    "afdx_admit/src/fault.rt",
-    "afdx_receive/src/reception.rt",
-    "afdx_send/src/fault.rt",
-    "afdx_lists/src/fault.rt",
-    "afdx_lists/src/recording_fault.rt",
-    "afdx_recorded/src/skipped.rt",
+def rows_below(heading: str, page: pathlib.Path = FORMATS) -> list[list[str]]:
+    """The cells of the table with this heading, without marks; none where there is no such."""
+    _, found, rest = page.read_text(encoding="utf-8").partition("\n" + heading + "\n")
+    rows = rest.split("\n\n")[0].splitlines()[1:] if found else []
+    return [[cell.strip().replace("`", "") for cell in row.strip("|").split(" | ")] for row in rows]
+
+
+def firsts(heading: str, column: int = 0) -> list[str]:
+    """A column of such a table."""
+    rows = rows_below(heading)
+    if not rows:
+        raise SystemExit(f"{FORMATS} has no table {heading}")
+    return [row[column] for row in rows]
+
+
+# why a switch drops a frame, why a system drops one that a switch passed to it
+REASONS = firsts("| WORD | The frame |")
+NOT_RECEIVED = firsts("| WORD of X | The frame |")
+REFUSALS = firsts("| Text | When |")
+SKIPPED = firsts("| WORD of a skipped number | When |")
+# of each condition of admission its line, behind `no`
+ADMISSION_LINES = [
+    line.removeprefix("no ") for line in firsts("| Last line | What is wrong | What may help |")
 ]
-SOURCES = "\n".join((CRATES / file).read_text(encoding="utf-8") for file in FILES)
-
-
-def constant(name: str) -> str:
-    """What stands behind the name of a constant."""
-    body = rf'((?:{TEXT}|[^";])*);'
-    found = re.search(rf"pub(?:\(crate\))? const {name}: [^;=]*(?:; \d+\])? =\s{body}", SOURCES)
-    if found is None:
-        raise SystemExit(f"there is no constant {name}")
-    return found.group(1)
-
-
-def table(name: str) -> list[tuple]:
-    """The rows of a table: its texts and numbers, without the variants of an enum."""
-    rows = re.sub(rf"({TEXT})|\b[A-Z][a-z]\w*::\w+,", lambda m: m.group(1) or "", constant(name))
-    named = rf"({TEXT})|\b[A-Z][A-Z_]+\b"
-    rows = re.sub(named, lambda m: m.group(1) or constant(m.group(0)), rows)
-    return ast.literal_eval(re.sub(TEXT, lambda m: f'""{m.group(0)}""', rows))
-
-
-def words(name: str) -> list[str]:
-    """The words of a table, in their order."""
-    return [row[0] for row in table(name)]
-
-
-PARTS = ("top", "system", "link", "port")
-MAC_FAULTS = words("MAC_FAULTS")
-IP_FAULTS = words("IP_FAULTS")
-REASONS = words("REASONS")
-DROP_REASONS = words("DROP_REASONS")
-SEND_FAULTS = words("SEND_FAULTS")
-ADMISSION = words("ADMISSION")
-CONFIG_FAULTS = words("CONFIG_FAULTS")
-RUN_FAULTS = words("RUN_FAULTS")
-RECORDING_FAULTS = words("RECORDING_FAULTS")
-SKIPPED = words("SKIPPED")
-# of each part its keys in their order: name, least, greatest, forms, meaning
-KEY_ROWS = {part: table(f"{part.upper()}_KEYS") for part in PARTS}
-KEYS = {part: [row[0] for row in rows] for part, rows in KEY_ROWS.items()}
+ADMISSION = [line.split()[0] for line in ADMISSION_LINES]
+CONFIG_FAULTS = [line.split()[1] for line in firsts("| Line on standard error | When |")]
+LIST_FAULTS = [
+    line for line in firsts("| Order | Line on standard error | When |", 1) if line[0] != "("
+]
+RECORDING_FAULTS = firsts("| Recording fault | When |")
+# of each key its part, its number, its name and its values
+KEYS = rows_below("| Part | Number | Key | Value |")

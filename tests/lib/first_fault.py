@@ -5,14 +5,35 @@ from __future__ import annotations
 import re
 from typing import Iterator
 
-from closed_lists import KEY_ROWS, KEYS
 from tables import tomllib
 
 BAGS = (1, 2, 4, 8, 16, 32, 64, 128)
 MOST_LINES, LONGEST_LINE, LATEST = 1_000_000, 4_200, 10**15
-MOST_ROWS = {row[0]: row[2] for row in KEY_ROWS["top"] if row[0] in KEY_ROWS}
+# of each part its keys by their numbers, with the least and the greatest value; of a text or an
+# array of its length, of tables of their count; where a text is one of two words 0 and 0
+KEY_ROWS = {
+    "top": {
+        "profile": (1, 2), "buffer": (64, 4_194_304), "system": (0, 24), "link": (0, 4_096),
+        "port": (0, 4_096),
+    },
+    "system": {
+        "name": (1, 16), "port": (1, 24), "id": (0, 65_535), "partition": (0, 255),
+        "rate": (10, 1_000),
+    },
+    "link": {
+        "vl": (0, 65_535), "from": (1, 16), "to": (1, 24), "bag_ms": (1, 128), "lmin": (64, 1_518),
+        "lmax": (64, 1_518), "jitter_us": (0, 128_000), "priority": (0, 0), "policing": (0, 0),
+        "latency_us": (1, 100_000), "skew_us": (1, 100_000), "subs": (1, 4),
+    },
+    "port": {
+        "system": (1, 16), "link": (0, 65_535), "udp": (1, 65_535), "kind": (0, 0),
+        "depth": (1, 64),
+    },
+}
+KEYS = {part: list(rows) for part, rows in KEY_ROWS.items()}
+MOST_ROWS = {part: most for part, (_, most) in KEY_ROWS["top"].items() if part in KEY_ROWS}
 TEXTS = ("name", "from", "priority", "policing", "kind")
-RANGES = {(part, row[0]): row[1:3] for part, rows in KEY_ROWS.items() for row in rows}
+RANGES = {(part, key): rows[key] for part, rows in KEY_ROWS.items() for key in rows}
 
 
 def is_whole(value: object) -> bool:
@@ -104,10 +125,9 @@ def faults_of(tables: dict) -> Iterator[str]:
     for part in MOST_ROWS:
         for place, row in enumerate(tables[part]):
             at = f"{part} {place + 1} key"
-            for number, (key, _, _, forms, _) in enumerate(KEY_ROWS[part], 1):
+            for number, key in enumerate(KEYS[part], 1):
                 if key not in row:
-                    if "Missing" in forms:
-                        yield f"Missing {at} {number}"
+                    yield f"Missing {at} {number}"
                     continue
                 if not is_of_kind(part, key, row[key]):
                     yield f"WrongKind {at} {number}"

@@ -7,11 +7,9 @@
   README set in code occurs in the sources.
 - Each piece of code in docs/LIBRARIES.md is a part of a file of afdx_surface_tests, white space
   aside.
-- Each crate has its row in docs/ARCHITECTURE.md, which names what it may cite, as crates.txt does,
-  and each of its files of definitions.
-- The closed lists of the program, which stand in tables of its sources, are those of the documents
-  and of the tools, in the same order; each key of a configuration has its number, its part, its
-  name and its range in its text.
+- The pages that bin/pages prints from the sources are as it prints them.
+- The conditions of admission and the refusals of messages in documents by hand are those of
+  docs/FORMATS.md, and the texts of the faults of lists and recordings those of its tables.
 - Each must-fail edit finds the text that it changes, once.
 - Out of memory is made only where a growth was refused: in a `From`, or in the one function of a
   crate that hands it on (MEMORY).
@@ -23,6 +21,7 @@ Prints a line for each fault, then `N passed, M failed`; ends with status 1 if t
 """
 import pathlib
 import re
+import subprocess
 import sys
 
 TOP = pathlib.Path(__file__).resolve().parent.parent.parent
@@ -50,7 +49,7 @@ MEMORY = {
     "crates/afdx_text/src/line.rt": {"room_wanted"},
 }
 SCRIPTS = ["tests/**/*.py", "tests/**/*.sh", "tests/**/*.c", "examples/*.py"]
-SCRIPTS += ["bench/*", "bin/*", "tools/*", ".ci/*"]
+SCRIPTS += ["bench/*", "bin/*", "bin/printing/*.py", "tools/*", ".ci/*"]
 
 
 def text_of(path: pathlib.Path) -> str:
@@ -66,22 +65,12 @@ def sources(*patterns: str) -> list[pathlib.Path]:
     return sorted(p for pattern in patterns for p in TOP.glob(pattern) if not made(p))
 
 
-def crates_cited() -> dict[str, str]:
-    """Each crate, and what it may cite as ARCHITECTURE has it: no prefix, commas between."""
-    cited = {}
-    for line in text_of(TOP / "crates.txt").splitlines():
-        if line and line[0] not in "# ":
-            crate, _, names = line.partition(":")
-            short = [name.removeprefix("afdx_") for name in names.split()]
-            cited[crate.split()[0]] = ", ".join(short) or "none"
-    return cited
-
-
 def known_words() -> set[str]:
     """All words of the sources, and the names of files and folders."""
     words: set[str] = set()
     named = ["crates/**/*.rt", "crates/**/*.antt", "crates/*/must-fail/*", "tests/*/*"]
-    for path in sources(*named, "bench/*", "tools/*", "bin/*", "examples/*.toml"):
+    named += ["bench/*", "tools/*", "bin/*", "bin/printing/*.py", "examples/*.toml"]
+    for path in sources(*named):
         if path.is_file():
             words.update(re.findall(r"\w+", text_of(path)))
             words.update(re.findall(r"\w+", str(path.relative_to(TOP))))
@@ -100,34 +89,11 @@ def wrong_names() -> list[str]:
     return faults
 
 
-def definitions_of(crate: str) -> list[str]:
-    """The names of its files of definitions, those of a folder as `folder.File`."""
-    specs = CRATES / crate / "specs"
-    files = [path.relative_to(specs).with_suffix("") for path in sorted(specs.glob("**/*.antt"))]
-    return [
-        ".".join(file.parts)
-        for file in files
-        if file.name != "Lib" and not (specs / file).is_dir() and "out" not in file.parts
-    ]
-
-
-def missing_rows() -> list[str]:
-    document = "docs/ARCHITECTURE.md"
-    rows, faults = {}, []
-    for line in text_of(TOP / document).splitlines():
-        found = re.match(r"\| `(\w+)` \|", line)
-        if found:
-            rows[found.group(1)] = line
-    for crate, cited in crates_cited().items():
-        if crate not in rows:
-            faults.append(f"{document} has no row for {crate}")
-            continue
-        if f"| {cited} |" not in rows[crate]:
-            faults.append(f"{document}: {crate} may cite, by crates.txt, {cited}")
-        for name in definitions_of(crate):
-            if f"`{name}`" not in rows[crate]:
-                faults.append(f"{document}: the row of {crate} doesn't name `{name}`")
-    return faults
+def other_pages() -> list[str]:
+    """Which pages aren't what is printed from the sources."""
+    words = [sys.executable, str(TOP / "bin" / "pages"), "--check"]
+    ran = subprocess.run(words, capture_output=True, text=True, check=False)
+    return (ran.stdout + ran.stderr).splitlines() if ran.returncode else []
 
 
 def without_space(text: str) -> str:
@@ -176,84 +142,20 @@ def wrong_edits() -> list[str]:
     return faults
 
 
-# of each list that a document has a table of: the document, the heading, the column, and the words
-RECEIVER = lists.DROP_REASONS[:3] + lists.IP_FAULTS + lists.DROP_REASONS[3:]
-LIST_LINES = [form for form in lists.RUN_FAULTS if form.startswith("list ")]
-RECORDING_WORDS = [form.split()[1] for form in lists.RECORDING_FAULTS]
-LISTED = [
-    ("docs/NETWORK.md", "| Line | Must hold | In plain words |", 0, lists.ADMISSION),
-    ("docs/FORMATS.md", "| WORD | The frame |", 0, lists.REASONS),
-    ("docs/FORMATS.md", "| WORD of X | The frame |", 0, RECEIVER[1:]),
-    ("docs/FORMATS.md", "| Last line | What is wrong | What may help |", 0, lists.ADMISSION),
-    ("docs/FORMATS.md", "| Text | When |", 0, lists.SEND_FAULTS[:5]),
-    ("docs/FORMATS.md", "| Line on standard error | When |", 0, lists.CONFIG_FAULTS[:8]),
-    ("docs/FORMATS.md", "| Recording fault | n | When |", 0, RECORDING_WORDS),
-    ("docs/FORMATS.md", "| WORD of a skipped number | When |", 0, lists.SKIPPED),
-]
-LIST_TABLE = ("docs/FORMATS.md", "| Order | Line on standard error | When |")
-KEY_TABLE = ("docs/FORMATS.md", "| Part | Number | Key | Value |")
-PARTS = {"top": "the top", "system": "a system", "link": "a link", "port": "a port"}
-
-
-def rows_below(document: str, heading: str) -> list[list[str]]:
-    """The cells of a document's table, without marks; none where it has no such table."""
-    _, found, rest = text_of(TOP / document).partition("\n" + heading + "\n")
-    rows = rest.split("\n\n")[0].splitlines()[1:] if found else []
-    return [[cell.strip().replace("`", "") for cell in row.strip("|").split("|")] for row in rows]
-
-
-def word_of(cell: str) -> str:
-    """The word of a list in a cell: alone, or behind the first word of its line."""
-    first, *rest = cell.split()
-    return rest[0] if rest and first in ("no", "config", "recording") else first
-
-
 def lists_apart() -> list[str]:
+    """Documents by hand that have other words than FORMATS, and faults with other texts."""
     faults = []
-    for document, heading, column, wanted in LISTED:
-        words = [word_of(row[column]) for row in rows_below(document, heading)]
-        if words != wanted:
-            faults.append(f"{document}: {heading} has {words}, the program {wanted}")
-    for word in [*lists.ADMISSION, *lists.SEND_FAULTS[:5]]:
+    rows = lists.rows_below("| Line | Must hold | In plain words |", TOP / "docs/NETWORK.md")
+    if [row[0] for row in rows] != lists.ADMISSION:
+        faults.append(f"docs/NETWORK.md has other conditions than {lists.ADMISSION}")
+    for word in [*lists.ADMISSION, *lists.REFUSALS]:
         if not re.search(rf"\b{word}\b", text_of(TOP / "docs/afdx.1")):
             faults.append(f"docs/afdx.1 doesn't have {word}")
-    told = {row[1] for row in rows_below(*LIST_TABLE) if row[1].startswith("list ")}
-    if told != set(LIST_LINES):
-        faults.append(f"{LIST_TABLE[0]} has other faults of a list: {told ^ set(LIST_LINES)}")
-    for file, forms in (("fault", lists.RUN_FAULTS), ("recording_fault", lists.RECORDING_FAULTS)):
+    for file, forms in (("fault", lists.LIST_FAULTS), ("recording_fault", lists.RECORDING_FAULTS)):
         source = text_of(CRATES / f"afdx_lists/src/{file}.rt")
-        derived = re.findall(r'#\[error\("((?!\{0\} [AB]").*?)"\)\]', source)
-        if [text.replace("{0}", "n") for text in derived] != forms:
+        derived = re.findall(r'#\[error\("((?:list|recording) .*?)"\)\]', source)
+        if {text.replace("{0}", "n") for text in derived} != set(forms):
             faults.append(f"the texts of the faults of {file}.rt are {derived}")
-    return faults
-
-
-def keys_apart() -> list[str]:
-    """Keys whose row and whose texts don't say the same, and documents that have other keys."""
-    faults = []
-    wanted = []
-    for part, rows in lists.KEY_ROWS.items():
-        for number, (name, least, greatest, forms, meaning) in enumerate(rows, 1):
-            wanted.append([part, str(number), name])
-            values = meaning.split("\n")[0]
-            if number == 1 and part == "top":
-                continue
-            if not meaning.startswith(f"Key {number} of {PARTS[part]} is {name}: "):
-                faults.append(f"the text of key {number} of {PARTS[part]} begins otherwise")
-            if not re.fullmatch(rf"config [A-Za-z|]+ {part} [0n] key {number}", forms):
-                faults.append(f"the form of key {number} of {PARTS[part]} is {forms}")
-            numbers = {int(digits) for digits in re.findall(r"\b\d+\b", values)}
-            if greatest and "name" not in values and greatest not in numbers | {1518, 128000}:
-                faults.append(f"key {number} of {PARTS[part]} goes to {greatest}: {values}")
-    rows = [row[:3] for row in rows_below(*KEY_TABLE)]
-    if rows != wanted:
-        others = [row for row in rows if row not in wanted]
-        faults.append(f"{KEY_TABLE[0]} has other keys, or in another order: {others}")
-    unknown = " ".join(lists.table("UNKNOWN_KEYS")[0][1].split())
-    for part, names in lists.KEYS.items():
-        said = f"{', '.join(names[:-1])} and {names[-1]}."
-        if f"Keys of {PARTS[part]} are {said}" not in unknown:
-            faults.append(f"what is said of unknown keys has other keys of {PARTS[part]}")
     return faults
 
 
@@ -309,10 +211,9 @@ def headless() -> list[str]:
 def main() -> int:
     checks = {
         "names in documents": wrong_names(),
-        "rows of crates": missing_rows(),
+        "pages printed from the sources": other_pages(),
         "code in LIBRARIES": foreign_code(),
         "closed lists": lists_apart(),
-        "keys of a configuration": keys_apart(),
         "must-fail edits": wrong_edits(),
         "out of memory": made_up_memory(),
         "heads of source files": headless(),

@@ -10,7 +10,8 @@ use Rattle.afdx_network.specs.Network.{TellsOrder}
 use Rattle.afdx_network.specs.Order.{is_below, side_number}
 use Rattle.afdx_network.specs.declared.network.Network.{Network}
 use Rattle.afdx_network.proofs.OrderLemmas.{below_first, below_next, below_trans}
-use Rattle.afdx_cascade.specs.Scan.{First, IsFirstFrom, by_side, earlier_of, first_with}
+use Rattle.afdx_cascade.specs.Scan.{IsFirstFrom, by_side, earlier_of, first_with}
+use Rattle.afdx_cascade.specs.declared.scan.First.{First}
 use Rattle.afdx_cascade.proofs.NumberLemmas.{beyond, told, number-small}
 
 -- ---- the least of them

@@ -16,6 +16,13 @@ pub mod MoreLemmas
 pub mod StandingLemmas
 pub mod CarriedLemmas
 pub mod BehindLemmas
+pub mod ComesLemmas
+pub mod LaterLemmas
+pub mod KeepLemmas
+pub mod FrontLemmas
+pub mod TurningLemmas
+pub mod NextLemmas
+pub mod EndLemmas
 pub mod OneFrameLemmas
 pub mod TwoHopsLemmas
 pub mod TwoHopsRunLemmas

@@ -20,7 +20,8 @@ use Rattle.afdx_network.specs.Network.{IsNextOn}
 use Rattle.afdx_network.specs.declared.network.Network.{Network}
 use Rattle.afdx_network.proofs.StandsLemmas.{due-least}
 use Rattle.afdx_cascade.specs.SwitchEvents.{Plan, SwitchEvent, at_switch}
-use Rattle.afdx_cascade.specs.Scan.{First, IsFirstFrom}
+use Rattle.afdx_cascade.specs.Scan.{IsFirstFrom}
+use Rattle.afdx_cascade.specs.declared.scan.First.{First}
 use Rattle.afdx_cascade.proofs.AcceptedLemmas.{no-entries}
 
 -- ---- the numbers

@@ -20,7 +20,8 @@ use Rattle.afdx_network.specs.Network.{IsNextOn}
 use Rattle.afdx_network.specs.Order.{is_below, side_number}
 use Rattle.afdx_network.specs.declared.network.Network.{Network}
 use Rattle.afdx_cascade.specs.SwitchEvents.{Plan, SwitchEvent, at_switch}
-use Rattle.afdx_cascade.specs.Scan.{First, IsFirstFrom}
+use Rattle.afdx_cascade.specs.Scan.{IsFirstFrom}
+use Rattle.afdx_cascade.specs.declared.scan.First.{First}
 use Rattle.afdx_cascade.specs.Found.{ScanFindsLeast, NothingIsDue}
 use Rattle.afdx_cascade.proofs.RingLemmas.{no-frames}
 use Rattle.afdx_cascade.proofs.NumberLemmas.{told, nothing-next, told-least}
@@ -70,7 +71,7 @@ scan-least c so_far ns f stand is =
 
 -- a switch whose number is that of no turn has none to come
 module _ (t : Rows) (events : List Event) (side : Side) (h : switch.SwitchHistory) where
-  none-comes : (o : Option Due) (port : ℕ) (s : Turn HeldFrame) → order_without_turn ≤ order_at o
+  pub none-comes : (o : Option Due) (port : ℕ) (s : Turn HeldFrame) → order_without_turn ≤ order_at o
       → IfSome o (λ d. given_at d ≤ 1200000000000000)
       → ((p : ℕ) → 1 ≤ p → p ≤ 24 → IfNone o (switch.IsDone t side h p)) → 1 ≤ port → port ≤ 24
       → switch.IsNextAt t side h port s → ⊥

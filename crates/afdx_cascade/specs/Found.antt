@@ -7,7 +7,8 @@ use Rattle.afdx_network.specs.declared.network.Network.{Network}
 use Rattle.afdx_cascade.specs.SwitchEvents.{Plan, SwitchEvent, at_switch}
 use Rattle.afdx_cascade.specs.Due.{AreOrders, IsLeastOf, IsRing}
 use Rattle.afdx_cascade.specs.Runs.{IsDue}
-use Rattle.afdx_cascade.specs.Scan.{First, IsFirstFrom}
+use Rattle.afdx_cascade.specs.Scan.{IsFirstFrom}
+use Rattle.afdx_cascade.specs.declared.scan.First.{First}
 
 -- the networks stand for what happened at their switches, and nothing happened at others
 pub record AllStand (c : Plan) (ns : List Network) (so_far : List SwitchEvent) : Type 0 where

@@ -9,4 +9,6 @@ pub mod Scan
 pub mod Due
 pub mod Found
 pub mod Standing
+pub mod Turning
+pub mod Keeping
 pub mod TwoHops

@@ -4,13 +4,11 @@ use Rattle.afdx_frame.specs.declared.link.Side.{Side}
 use Rattle.afdx_frame.specs.declared.link.Side.TheVariants.{A, B}
 use Rattle.afdx_network.specs.Network.{TellsOrder}
 use Rattle.afdx_network.specs.declared.network.Network.{Network}
+use Rattle.afdx_cascade.specs.declared.scan.First.{First}
 
--- the first turn of several switches: where it stands in the order of turns, the number of its
--- switch, and the side
-pub record First : Type 0 where
-  pub order : ℕ
-  pub switch : ℕ
-  pub side : Side
+-- how many switches a side may have
+abbrev pub switches_most : ℕ
+switches_most = 24
 
 -- of two turns with one number: that of side A, and of one side the first
 abbrev pub by_side : Side → Side → First → First → First

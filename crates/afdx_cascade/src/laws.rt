@@ -14,6 +14,8 @@ ghost use Rattle.afdx_cascade.specs.Found.{ScanFindsLeast, NothingIsDue};
 ghost use Rattle.afdx_cascade.specs.Standing.{NothingHappened, LineArrives, FrameArrives};
 ghost use Rattle.afdx_cascade.specs.Standing.{TurnEnds, FrameIsCarried};
 ghost use Rattle.afdx_cascade.specs.TwoHops.{FramePassesBoth};
+ghost use Rattle.afdx_cascade.specs.Keeping.{StartKeeps, TurnKeeps};
+ghost use Rattle.afdx_cascade.specs.Keeping.{FrontCanArrive, FrontKeeps, LineKeeps};
 ghost use Rattle.afdx_cascade.specs.Standing.{SlotJoinsBehind, TurnStaysBehind, ArrivalStaysBehind};
 
 use afdx_frame::laws::built_is_computed;
@@ -106,6 +108,25 @@ pub fn ring_stays_in_order()
     ensures joins { SlotJoinsBehind }
     ensures turn { TurnStaysBehind }
     ensures arrival { ArrivalStaysBehind }
+{}
+
+/// New networks and an empty ring keep to no events.
+pub fn nothing_has_happened()
+    ensures { StartKeeps }
+{}
+
+/// A turn is over. If it is the one that the scan finds, it is the next event, and networks and
+/// ring keep to one event more.
+pub fn turns_go_on()
+    ensures { TurnKeeps }
+{}
+
+/// A frame arrives, from the front of the ring or of the list: it is the next event, and networks
+/// and ring keep to one event more.
+pub fn arrivals_go_on()
+    ensures can { FrontCanArrive }
+    ensures front { FrontKeeps }
+    ensures line { LineKeeps }
 {}
 
 /// The premises of the laws of events can be met: by a list whose one frame passes two switches, in

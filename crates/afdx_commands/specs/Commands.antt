@@ -1,5 +1,6 @@
 -- How a command ends that runs over a list or a recording.
-use Rattle.std.specs.Prelude.{ℕ, ◌≡◌, ◌||◌, Bool, List, ◌++◌, Option, Result, Ok, Err, OnOk, OnErr, true, codes, decimal}
+use Rattle.std.specs.Prelude.{ℕ, ◌≡◌, ◌||◌, Bool, List, ◌++◌, Option, Result, Ok, Err, OnOk, OnErr}
+use Rattle.std.specs.Prelude.{◌⊎◌, true, false, codes, decimal}
 use Rattle.std.specs.Result.{result_ok}
 use Rattle.afdx_frame.specs.declared.by_side.BySide.{BySide}
 use Rattle.afdx_lists.specs.declared.fault.RunFault.{RunFault}
@@ -15,6 +16,22 @@ use Rattle.afdx_commands.specs.declared.summary.Summary.{Summary}
 abbrev pub status_of_answer : Result Summary RunFault → ℕ
 status_of_answer (Ok summary) = 0
 status_of_answer (Err fault) = status_of fault
+
+-- an exit status of a command that takes a configuration and an input
+abbrev pub IsInputStatus : ℕ → Type 0
+IsInputStatus status = (status ≡ 0) ⊎ (status ≡ 1) ⊎ (status ≡ 3) ⊎ (status ≡ 4)
+
+-- 0 comes only where the input came to its end, and neither its device nor the output's failed
+abbrev pub IsWholeIfDone : {R : Type 0} → ℕ → (input : Watched R) → (output_failed : Bool) →
+    Type 0
+IsWholeIfDone status input output_failed = status ≡ 0 →
+    (has_ended input ≡ true) × (has_failed input ≡ false) × (output_failed ≡ false)
+
+-- 4 comes wherever one of them failed
+abbrev pub IsFourIfFailed : {R : Type 0} → ℕ → (input : Watched R) → (output_failed : Bool) →
+    Type 0
+IsFourIfFailed status input output_failed =
+    (has_failed input || output_failed) ≡ true → status ≡ 4
 
 -- A command ends as its run answered: that decides the exit status, the counts that are handed out
 -- and what the error output is told, which a run that is done leaves alone, and says whether its
@@ -45,14 +62,6 @@ have_ended inputs = (has_ended inputs.a ≡ true) × (has_ended inputs.b ≡ tru
 -- the device of one of two inputs failed
 abbrev pub one_has_failed : {R : Type 0} → BySide (Watched R) → Bool
 one_has_failed inputs = has_failed inputs.a || has_failed inputs.b
-
--- the same of a run over two inputs
-abbrev pub EndsAsPair : {R E : Type 0} → (E → Option (List ℕ)) → (inputs : BySide (Watched R)) →
-    (output_failed : Bool) → (old_errors new_errors : Watched E) → Ended →
-    Result Summary RunFault → Type 0
-EndsAsPair error_bytes inputs output_failed old_errors new_errors ended answer =
-    EndsWith error_bytes (have_ended inputs) (one_has_failed inputs) output_failed
-    old_errors new_errors ended answer
 
 -- a word, a number, and what follows
 abbrev pub counted : (word : List ℕ) → ℕ → (rest : List ℕ) → List ℕ

@@ -1,10 +1,9 @@
 //! The command `check`.
 
-ghost use Rattle.std.specs.Prelude.{◌≡◌, ◌⊎◌, ◌<◌, ◌++◌, All, Ok, OnOk, IfOk, true, false, length, Some};
+ghost use Rattle.std.specs.Prelude.{◌≡◌, ◌⊎◌, ◌<◌, ◌++◌, All, Ok, OnOk, IfOk, true, false, Some};
 ghost use Rattle.std.specs.List.{flat_map};
 ghost use Rattle.afdx_frame.specs.Ports.{last_port};
 ghost use Rattle.afdx_config.specs.Admission.{IsAdmitted, links_to};
-ghost use Rattle.afdx_config.specs.Reading.{system_at_port};
 ghost use Rattle.afdx_admit.specs.Bounds.{IsBounds};
 ghost use Rattle.afdx_admit.specs.Known.{IsKnown};
 ghost use Rattle.afdx_admit.specs.Lines.{false_lines, first_false, lines};

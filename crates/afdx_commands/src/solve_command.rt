@@ -1,19 +1,15 @@
 //! The command `solve`.
 
 ghost use Rattle.std.specs.Prelude.{◌≡◌, ◌⊎◌, ◌<◌, ◌++◌, OnOk, IfOk, true, false, length, string_bytes, ℕ, List};
-ghost use Rattle.std.specs.Option.{option_map_or};
-ghost use Rattle.afdx_frame.specs.Ports.{last_port};
-ghost use Rattle.afdx_config.specs.Admission.{IsAdmitted};
 ghost use Rattle.afdx_config.specs.Asked.{Asks};
 ghost use Rattle.afdx_config.specs.Lawful.{IsLawful};
-ghost use Rattle.afdx_config.specs.Reading.{system_at_port, SpellsKeeping};
+ghost use Rattle.afdx_config.specs.Reading.{SpellsKeeping};
 ghost use Rattle.afdx_config.specs.Rows.{Rows, link_row};
 ghost use Rattle.afdx_admit.specs.Bounds.{IsBounds};
 ghost use Rattle.afdx_admit.specs.Known.{IsKnown};
 ghost use Rattle.afdx_commands.specs.CheckText.{fault_line, class_bound_at};
-ghost use Rattle.afdx_commands.specs.Refusals.{WantsMemory};
 ghost use Rattle.afdx_commands.specs.SolveText.{told_need, need_over, need_line, need_at, asked_by};
-ghost use Rattle.afdx_commands.specs.SolveText.{needs_of_first, needs_at, needs_at_first, needs_text};
+ghost use Rattle.afdx_commands.specs.SolveText.{needs_of_first, needs_at, needs_text};
 ghost use Rattle.afdx_commands.specs.SolveText.{IsSolution, IsDenial};
 ghost use Rattle.afdx_commands.specs.SolveText.{IsSolved, IsUnsolved, IsFaulty, IsCut, IsUnmade};
 ghost use Rattle.afdx_lists.specs.Watching.{has_failed};
@@ -136,24 +132,6 @@ fn put_needs_to(
 }
 
 /// Adds the lines at a port of the switch, if it has a system.
-fn put_needs_by(
-    text: &mut String,
-    tables: &Tables,
-    asked: &[Option<u64>],
-    port: u8,
-    bounds: &PortBounds,
-) -> Result<(), AllocError>
-    requires { IsBounds tables.now port bounds.now }
-    ensures { OnOk result (string_bytes text.new
-        ≡ string_bytes text.old ++ needs_at tables.now asked.now port) }
-{
-    match tables.system_at(port) {
-        Some(system) => put_needs_to(text, tables, asked, port, system, bounds),
-        None => Ok(()),
-    }
-}
-
-/// Adds the lines at a port of the switch.
 fn put_needs_at(
     text: &mut String,
     tables: &Tables,
@@ -163,8 +141,11 @@ fn put_needs_at(
     ensures { OnOk result (string_bytes text.new
         ≡ string_bytes text.old ++ needs_at tables.now asked.now port) }
 {
-    match bounds_of(tables, port) {
-        Some(bounds) => put_needs_by(text, tables, asked, port, &bounds),
+    match tables.system_at(port) {
+        Some(system) => match bounds_of(tables, port) {
+            Some(bounds) => put_needs_to(text, tables, asked, port, system, &bounds),
+            None => Ok(()),
+        },
         None => Ok(()),
     }
 }
@@ -216,6 +197,7 @@ fn answer_of(
 {
     match solve(tables, options) {
         Ok(admitted) => {
+            // (a law: it does nothing, and lets the proof cite that each solved key is the least)
             each_is_least();
             let tables = admitted.tables();
             let text = config_text(alloc, tables)?;
@@ -227,6 +209,7 @@ fn answer_of(
             })
         }
         Err((tables, fault)) => {
+            // (a law: tables are admitted just where no line of admission is false)
             lines_are_admission();
             let text = denial(alloc, &tables, fault)?;
             Ok(Answer {

@@ -30,6 +30,7 @@ pub fn messages_are_delivered()
 pub fn stream_is_told_once()
     ensures { StreamIsToldOnce }
 {
+    // (the same of the rules alone: a law of `afdx_receive`)
     stream_is_delivered_once();
 }
 

@@ -18,7 +18,7 @@ use Rattle.afdx_engine.proofs.RunLemmas.{GaveLines-taken, GaveLines-end, GaveLin
 use Rattle.afdx_engine.proofs.RunLemmas.{stops-at-start, stops-more, stops-output}
 use Rattle.afdx_engine.specs.ListRun.{Of, IsDone, ListAnswers}
 
-not_read : (fault : RunFault) → IsOfOutput fault → is_read fault ≡ false
+pub not_read : (fault : RunFault) → IsOfOutput fault → is_read fault ≡ false
 not_read fault (inl e) = rw e refl
 not_read fault (inr e) = rw e refl
 

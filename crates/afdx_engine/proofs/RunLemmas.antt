@@ -21,7 +21,8 @@ use Rattle.afdx_lists.specs.Faults.{fault_at, fault_of_line, IsErrorOf}
 use Rattle.afdx_text.specs.Sinks.{IsOfOutput}
 use Rattle.afdx_engine.specs.Lists.{Kind, latest_in, with_item, items_of, item_said, fault_in}
 use Rattle.afdx_engine.specs.Lists.{fault_said, HaveFirstFault}
-use Rattle.afdx_engine.specs.Stops.{GaveLines, GavePart, GaveFault, IsToldOf, StopsAtFault, StopsIn}
+use Rattle.afdx_engine.specs.Causes.{Cause, cause_of, FailedRead, FailedWrite, NoMemory, BadInput}
+use Rattle.afdx_engine.specs.Stops.{GaveLines, GavePart, GaveFault, IsToldOf, StopsAtFault, StopsAs, StopsIn}
 pub use Rattle.afdx_engine.specs.ListRun.{IsDone}
 use Rattle.afdx_engine.specs.Progress.{HasRead, HasComeIn}
 
@@ -238,29 +239,21 @@ module _ {Y X : Type 0} (k : Kind Y X) where
   module _ (all beginning all' beginning' : List X → Type 0) (bytes : List ℕ) (rest : Option (List ℕ))
       (f : (n : ℕ) → all (items_of k (lines_of bytes) n) → all' (items_of k (lines_of bytes) n))
       (g : (n : ℕ) → beginning (items_of k (lines_of bytes) n) → beginning' (items_of k (lines_of bytes) n)) where
-    told-more : (fault : RunFault) → StopsAtFault k all bytes rest fault → StopsAtFault k all' bytes rest fault
-    told-more fault h = record { line = h.line; read = h.read; first = h.first; are_told = f h.line h.are_told }
-
     part-more : {told told' : List X → Type 0} (n : ℕ)
         → (told (items_of k (lines_of bytes) n) → told' (items_of k (lines_of bytes) n))
         → IsToldOf k told (lines_of bytes) n → IsToldOf k told' (lines_of bytes) n
     part-more n more h = record { within = h.within; sound = h.sound; are_told = more h.are_told }
 
+    more-by : (fault : RunFault) (cause : Cause) → StopsAs k all beginning bytes rest fault cause
+        → StopsAs k all' beginning' bytes rest fault cause
+    more-by fault FailedRead (n, gave, told) = (n, gave, part-more n (f n) told)
+    more-by fault FailedWrite (n, gave, told) = (n, gave, part-more n (g n) told)
+    more-by fault NoMemory (n, gave, told) = (n, gave, part-more n (g n) told)
+    more-by fault BadInput h = record { line = h.line; read = h.read; first = h.first; are_told = f h.line h.are_told }
+
     pub stops-more : (fault : RunFault) → StopsIn k all beginning bytes rest fault
         → StopsIn k all' beginning' bytes rest fault
-    stops-more run.Read (n, gave, told) = (n, gave, part-more n (f n) told)
-    stops-more run.Write (n, gave, told) = (n, gave, part-more n (g n) told)
-    stops-more run.Memory (n, gave, told) = (n, gave, part-more n (g n) told)
-    stops-more run.TooManyLines h = told-more run.TooManyLines h
-    stops-more (run.LineTooLong m) h = told-more (run.LineTooLong m) h
-    stops-more (run.BadLine m) h = told-more (run.BadLine m) h
-    stops-more (run.BadHex m) h = told-more (run.BadHex m) h
-    stops-more (run.TimeBack m) h = told-more (run.TimeBack m) h
-    stops-more (run.TimeTooLarge m) h = told-more (run.TimeTooLarge m) h
-    stops-more (run.BadPort m) h = told-more (run.BadPort m) h
-    stops-more (run.RecordingOfA m) h = told-more (run.RecordingOfA m) h
-    stops-more (run.RecordingOfB m) h = told-more (run.RecordingOfB m) h
-    stops-more (run.Recording f) h = told-more (run.Recording f) h
+    stops-more fault h = more-by fault (cause_of fault) h
 
   -- ---- a run that has read these things
 
@@ -345,24 +338,16 @@ module _ {Y X : Type 0} (k : Kind Y X) where
         }
     stop_answers all beginning bytes rest between after oe ne u v run.Read h stop gave taken honest by a =
         (n, gave refl, told_so_far all bytes rest h a)
-    stop_answers all beginning bytes rest between after oe ne u v run.Memory h stop gave taken honest by a = absurd stop
-    stop_answers all beginning bytes rest between after oe ne u v run.Write h stop gave taken honest by a = absurd stop
-    stop_answers all beginning bytes rest between after oe ne u v
-        (run.BadLine m) h stop gave taken honest by a = absurd stop
-    stop_answers all beginning bytes rest between after oe ne u v
-        (run.BadHex m) h stop gave taken honest by a = absurd stop
-    stop_answers all beginning bytes rest between after oe ne u v
-        (run.TimeBack m) h stop gave taken honest by a = absurd stop
-    stop_answers all beginning bytes rest between after oe ne u v
-        (run.TimeTooLarge m) h stop gave taken honest by a = absurd stop
-    stop_answers all beginning bytes rest between after oe ne u v
-        (run.BadPort m) h stop gave taken honest by a = absurd stop
-    stop_answers all beginning bytes rest between after oe ne u v
-        (run.RecordingOfA m) h stop gave taken honest by a = absurd stop
-    stop_answers all beginning bytes rest between after oe ne u v
-        (run.RecordingOfB m) h stop gave taken honest by a = absurd stop
-    stop_answers all beginning bytes rest between after oe ne u v
-        (run.Recording f) h stop gave taken honest by a = absurd stop
+    stop_answers _ _ _ _ _ _ _ _ _ _ run.Memory _ stop _ _ _ _ _ = absurd stop
+    stop_answers _ _ _ _ _ _ _ _ _ _ run.Write _ stop _ _ _ _ _ = absurd stop
+    stop_answers _ _ _ _ _ _ _ _ _ _ (run.BadLine m) _ stop _ _ _ _ _ = absurd stop
+    stop_answers _ _ _ _ _ _ _ _ _ _ (run.BadHex m) _ stop _ _ _ _ _ = absurd stop
+    stop_answers _ _ _ _ _ _ _ _ _ _ (run.TimeBack m) _ stop _ _ _ _ _ = absurd stop
+    stop_answers _ _ _ _ _ _ _ _ _ _ (run.TimeTooLarge m) _ stop _ _ _ _ _ = absurd stop
+    stop_answers _ _ _ _ _ _ _ _ _ _ (run.BadPort m) _ stop _ _ _ _ _ = absurd stop
+    stop_answers _ _ _ _ _ _ _ _ _ _ (run.RecordingOfA m) _ stop _ _ _ _ _ = absurd stop
+    stop_answers _ _ _ _ _ _ _ _ _ _ (run.RecordingOfB m) _ stop _ _ _ _ _ = absurd stop
+    stop_answers _ _ _ _ _ _ _ _ _ _ (run.Recording f) _ stop _ _ _ _ _ = absurd stop
 
     pub stops-reader : (all beginning : List X → Type 0) (input left between after : Option (List ℕ))
         (old_ended new_ended : Bool) (u v : List ℕ) (fault : RunFault) → HasComeIn k past latest n input left

@@ -1,3 +1,4 @@
+pub mod Causes
 pub mod Engine
 pub mod Lists
 pub mod Listed

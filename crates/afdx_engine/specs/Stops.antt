@@ -4,10 +4,10 @@ use Rattle.std.specs.Io.KnownBytes.{Consumes, IsAtEnd}
 use Rattle.afdx_police.specs.Arrival.{Arrival}
 use Rattle.afdx_lists.specs.Lines.{lines_of, longest_line, GaveWhole}
 use Rattle.afdx_lists.specs.declared.fault.RunFault.{RunFault}
-use Rattle.afdx_lists.specs.declared.fault.RunFault.TheVariants.{Read, Write, Memory}
 use Rattle.afdx_lists.specs.declared.fault.RunFault.TheVariants.{TooManyLines, LineTooLong}
 use Rattle.afdx_engine.specs.Lists.{Kind, items_of, HaveNoFault, HaveFirstFault}
 use Rattle.afdx_engine.specs.Listed.{frames}
+use Rattle.afdx_engine.specs.Causes.{Cause, cause_of, FailedRead, BadInput}
 
 -- the first n lines were read: the input gave at least n whole ones; or nothing of it is left, so
 -- that its last line was read too, which may have no line feed
@@ -47,15 +47,18 @@ module _ {Y X : Type 0} (k : Kind Y X) where
   -- a failed read all is told of the lines whose line feed was read. After a failed write, or want
   -- of memory, a beginning is told of some lines that were read. At a fault of the list all is told
   -- of the lines before it.
+  abbrev pub StopsAs : (all beginning : List X → Type 0) → List ℕ → Option (List ℕ) →
+      RunFault → Cause → Type 0
+  StopsAs all beginning bytes rest fault FailedRead =
+      (n : ℕ) × GaveWhole (Some bytes) rest n × IsToldOf all (lines_of bytes) n
+  StopsAs all beginning bytes rest fault BadInput = StopsAtFault all bytes rest fault
+  StopsAs all beginning bytes rest fault _ =
+      (n : ℕ) × GaveLines (Some bytes) rest n × IsToldOf beginning (lines_of bytes) n
+
   abbrev pub StopsIn : (all beginning : List X → Type 0) → List ℕ → Option (List ℕ) →
       RunFault → Type 0
-  StopsIn all beginning bytes rest Read =
-      (n : ℕ) × GaveWhole (Some bytes) rest n × IsToldOf all (lines_of bytes) n
-  StopsIn all beginning bytes rest Write =
-      (n : ℕ) × GaveLines (Some bytes) rest n × IsToldOf beginning (lines_of bytes) n
-  StopsIn all beginning bytes rest Memory =
-      (n : ℕ) × GaveLines (Some bytes) rest n × IsToldOf beginning (lines_of bytes) n
-  StopsIn all beginning bytes rest fault = StopsAtFault all bytes rest fault
+  StopsIn all beginning bytes rest fault =
+      StopsAs all beginning bytes rest fault (cause_of fault)
 
 -- a run over a list of frames
 abbrev pub StopsAt : (all beginning : List Arrival → Type 0) → List ℕ → Option (List ℕ) →

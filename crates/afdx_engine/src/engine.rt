@@ -93,6 +93,7 @@ pub trait Machine<H: Head> {
             × H.can_follow past (item_of n head.now bytes.now) }
         ensures failed { O.failed output.new ≡ is_failed_write result }
         ensures fault { IfErr result IsOfOutput }
+        ensures settings { O.settings output.new ≡ O.settings output.old }
         ensures told { (rules : Rules) (start : Bytes) (past : List (Item H)) →
             Told rules self.old start (O.written output.old) past →
             H.can_follow past (item_of n head.now bytes.now) →
@@ -111,6 +112,7 @@ pub trait Machine<H: Head> {
             × Told rules self.old start (O.written output.old) past }
         ensures failed { O.failed output.new ≡ is_failed_write result }
         ensures fault { IfErr result IsOfOutput }
+        ensures settings { O.settings output.new ≡ O.settings output.old }
         ensures done { (rules : Rules) (start : Bytes) (past : List (Item H)) →
             Told rules self.old start (O.written output.old) past →
             OnOk result (Done rules self.new start (O.written output.new) past) }
@@ -136,6 +138,7 @@ pub fn drive<H: Head, I, S: Source<H, I>, M: Machine<H>, O: Sink>(
         (O.written output.old) (O.written output.old) [] }
     ensures write { O.failed output.new ≡ is_failed_write result }
     ensures settings { S.settings source.new ≡ S.settings source.old }
+    ensures output { O.settings output.new ≡ O.settings output.old }
     ensures answer { (rules : M.Rules) → M.Told rules machine.old
         (O.written output.old) (O.written output.old) [] →
         Runs (S.Gave input.old source.new input.new) (S.Ended input.old source.new input.new)

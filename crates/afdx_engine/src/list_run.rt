@@ -35,6 +35,7 @@ pub fn run_list<H: Listed, R: Read, M: Machine<H>, O: Sink>(
     ensures read { has_failed input.new ≡ is_failed_read result }
     ensures write { O.failed output.new ≡ is_failed_write result }
     ensures calls { calls_of input.new ≤ calls_of input.old + most_reads }
+    ensures output { O.settings output.new ≡ O.settings output.old }
 
     // Where the input's bytes are known: what is answered and written for the list that they are.
     ensures answer { (rules : M.Rules) → M.Told rules machine.old

@@ -17,14 +17,13 @@ use afdx_engine::Machine;
 use afdx_frame::BySide;
 use afdx_lists::{RunFault, Watched};
 use afdx_recorded::{NumberLine, PairOptions, RecordingOptions, SystemPorts, Tally, UnsaidPort};
-use afdx_text::{OutLine, Sink, Text};
+use afdx_text::{OutLine, Sink};
 use std::alloc::Global;
 use std::io::Read;
 
 /// Puts the line of number n.
 fn put_number<O: Sink>(
     output: &mut O,
-    scratch: &mut Text,
     n: u64,
     line: &NumberLine,
     bytes: &[u8],
@@ -32,6 +31,7 @@ fn put_number<O: Sink>(
     requires sound { O.failed output.old ≡ false }
     ensures failed { O.failed output.new ≡ is_failed_write result }
     ensures fault { IfErr result IsOfOutput }
+    ensures settings { O.settings output.new ≡ O.settings output.old }
     ensures whole { OnOk result (Appends (O.written output.old) (O.written output.new)
         (text.number_text n line.now bytes.now)) }
     ensures front { OnErr result (AppendsFront (O.written output.old) (O.written output.new)
@@ -51,32 +51,21 @@ fn put_number<O: Sink>(
                 port: *port,
                 bytes,
             };
-            output.put(&line, scratch)
+            output.put(&line)
         }
         NumberLine::Skipped(reason) => {
             let line = OutLine::Remark {
                 word: reason.word(),
                 n,
             };
-            output.put(&line, scratch)
+            output.put(&line)
         }
     }
 }
 
 /// Writes the line of each number.
 #[derive(Drop)]
-pub(crate) struct Lister {
-    scratch: Text,
-}
-
-impl Lister {
-    /// It wrote nothing yet.
-    pub(crate) fn new(alloc: Global) -> Lister {
-        Lister {
-            scratch: Text::new(alloc),
-        }
-    }
-}
+pub(crate) struct Lister;
 
 impl Machine<NumberLine> for Lister {
     ghost use Rattle.afdx_inputs.specs.ListText.{WritesLines, WritesSomeLines};
@@ -96,7 +85,7 @@ impl Machine<NumberLine> for Lister {
         bytes: &[u8],
         output: &mut O,
     ) -> Result<(), RunFault> {
-        put_number(output, &mut self.scratch, n, head, bytes)?;
+        put_number(output, n, head, bytes)?;
         Ok(())
     }
 
@@ -136,7 +125,7 @@ pub fn list_recording<R: Read, O: Sink>(
         (R.remaining (device_of input.new)) (O.written output.old) (O.written output.new) result) }
 {
     let mut lines = read_one(alloc, options, ports)?;
-    run_over(&mut lines, &mut Lister::new(alloc), input, output)
+    run_over(&mut lines, &mut Lister, input, output)
 }
 
 /// Writes two recordings that are read at once, of network A and of network B, as the frame list
@@ -175,5 +164,5 @@ pub fn list_pair<R: Read, O: Sink>(
         (O.written output.old) (O.written output.new) result) }
 {
     let mut lines = read_pair(alloc, options, unsaid)?;
-    run_over(&mut lines, &mut Lister::new(alloc), inputs, output)
+    run_over(&mut lines, &mut Lister, inputs, output)
 }

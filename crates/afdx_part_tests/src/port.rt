@@ -329,3 +329,21 @@ fn the_first_of_several_ports(rt: HostRuntime) -> Result<(), Fail> {
     let first = first_of(ports.as_slice(), 6719, 1000000);
     equal(first, Some((2, true, false)))
 }
+
+/// Whether the first port's turn goes no later than the third's, whether it is the other way round,
+/// and whether the third's is given by this time. None: they aren't as many.
+fn compared(ports: &[Port<Frame>], time: u64) -> Option<(bool, bool, bool)> {
+    if ports.len() < 3 {
+        return None;
+    }
+    let (first, third) = (ports[0].order(), ports[2].order());
+    let given = third.is_given(time);
+    Some((first.goes_before(third), third.goes_before(first), given))
+}
+
+#[test]
+fn turns_go_by_time(rt: HostRuntime) -> Result<(), Fail> {
+    let mut ports = Vec::new(rt.alloc());
+    add_ports(&mut ports, rt.alloc())?;
+    equal(compared(ports.as_slice(), 6720), Some((false, true, true)))
+}

@@ -63,9 +63,9 @@ const ACCEPTED: OutLine<'static> = OutLine::Verdict {
 
 /// Puts so many lines, each if the one before it was, and flushes the output if that is asked for.
 /// False: a call failed.
-fn put_lines(output: &mut Output<WeakWriter>, text: &mut Text, count: u64, flush: bool) -> bool {
+fn put_lines(output: &mut Output<WeakWriter>, count: u64, flush: bool) -> bool {
     for _ in 0..count {
-        if output.failed() || output.put(&ACCEPTED, text).is_err() {
+        if output.failed() || output.put(&ACCEPTED).is_err() {
             return false;
         }
     }
@@ -86,8 +86,7 @@ fn is_held(alloc: Global, row: &Held) -> Result<bool, AllocError> {
         at_end: Break::Fails,
     };
     let mut output = Output::new(alloc, room, device)?;
-    let mut text = Text::new(alloc);
-    let went_well = put_lines(&mut output, &mut text, count, flush);
+    let went_well = put_lines(&mut output, count, flush);
     let written = output.into_device().written;
     Ok((went_well, written.len()) == (is_well, length))
 }

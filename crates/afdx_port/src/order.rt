@@ -55,6 +55,14 @@ impl TurnOrder {
         self.0 < WITHOUT_TURN && self.0.div_ceil(2) <= until
     }
 
+    /// The number: twice the time, and one more for a drop; 2^52 for a port without a turn to come.
+    #[inline]
+    pub fn number(self) -> u64
+        ensures { result ≡ self.0 }
+    {
+        self.0
+    }
+
     /// Whether no turn of the other port goes before: at one place this one goes first.
     #[inline]
     pub fn goes_before(self, other: TurnOrder) -> bool

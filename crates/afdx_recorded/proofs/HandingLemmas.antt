@@ -238,11 +238,11 @@ arrivals-in-order most past e =
 
 -- ---- the latest of them
 
-moment-same : (n : Number) (a b : ℕ) → is_arrival n ≡ true → moment_or n a ≡ moment_or n b
+pub moment-same : (n : Number) (a b : ℕ) → is_arrival n ≡ true → moment_or n a ≡ moment_or n b
 moment-same (Arrival found) a b is = refl
 moment-same (Skipped reason) a b is = absurd (cc)
 
-moment-none : (n : Number) (a : ℕ) → is_arrival n ≡ false → moment_or n a ≡ a
+pub moment-none : (n : Number) (a : ℕ) → is_arrival n ≡ false → moment_or n a ≡ a
 moment-none (Arrival found) a is = absurd (cc)
 moment-none (Skipped reason) a is = refl
 

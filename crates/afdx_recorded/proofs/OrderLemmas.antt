@@ -6,18 +6,15 @@ use Rattle.std.proofs.lemmas.List.{reverse-append}
 use Rattle.afdx_lists.specs.declared.fault.RunFault.{RunFault}
 use Rattle.afdx_engine.specs.Engine.{Item}
 use Rattle.afdx_engine.specs.Items.{arrivals}
-use Rattle.afdx_engine.specs.Lists.{latest_in}
-use Rattle.afdx_engine.specs.Listed.{frames}
 use Rattle.afdx_recorded.specs.declared.becoming.Found.{Found}
 use Rattle.afdx_recorded.specs.declared.number.Number.{Number}
 use Rattle.afdx_recorded.specs.declared.number.Number.TheVariants as number
-use Rattle.afdx_recorded.specs.declared.number_line.NumberLine.{NumberLine}
-use Rattle.afdx_recorded.specs.declared.number_line.NumberLine.TheVariants as line
 use Rattle.afdx_recorded.specs.Laws.{AreInOrder}
 use Rattle.afdx_recorded.specs.Merging.{Merged, merge, merged, rest_of_b, behind_a, at_head_of_a, by_head_of_a, is_first}
 use Rattle.afdx_recorded.specs.NumberLines.{Lines, arrivals_listed, as_arrival, latest_time, time_or}
 use Rattle.afdx_recorded.specs.Sequences.{Numbers, latest_of, moment_or}
 use Rattle.afdx_recorded.specs.Timing.{Timed, is_late, line_by, origin_in, time_next, timed}
+use Rattle.afdx_recorded.proofs.ArrivingLemmas.{listed-latest}
 use Rattle.afdx_recorded.proofs.HandingLemmas.{AreOrdered}
 use Rattle.afdx_recorded.proofs.TimingLemmas.{Line-of, IsInTime, in-time, in-time-more, time-grows}
 
@@ -175,17 +172,6 @@ merged-ordered a b fault_a fault_b h k =
 abbrev Arrivals-of : Lines → Type 0
 Arrivals-of lines = AreInOrder (arrivals (arrivals_listed lines))
 
-latest-listed : (lines : Lines) → latest_in frames (arrivals (arrivals_listed lines)) ≡ latest_time lines
-unfolding arrivals_listed latest_time
-latest-listed [] = refl
-latest-listed (x ∷ lines) = by x.head (latest-listed lines)
-  where
-    by : (head : NumberLine) → latest_in frames (arrivals (arrivals_listed lines)) ≡ latest_time lines
-        → latest_in frames (arrivals (as_arrival x.number x.bytes head (arrivals_listed lines)))
-        ≡ time_or head (latest_time lines)
-    by (line.Arrival kind time side port) e = refl
-    by (line.Skipped reason) e = e
-
 -- one line more
 line-ordered : (origin : Option ℕ) (x : Item Number) (moment : ℕ) (lines : Lines)
     → IsInTime origin moment (latest_time lines) → moment ≤ moment_or x.head moment
@@ -198,7 +184,7 @@ line-ordered origin x moment lines h le early o = by x.head refl
     by (number.Arrival found) is =
         let e = subst (λ (n : Number). is_late origin n ≡ false) is early in
         let le' = subst (λ (n : Number). moment ≤ moment_or n moment) is le in (
-          subst (λ (t : ℕ). t ≤ time_or (line_by origin (number.Arrival found)) t) (sym (latest-listed lines))
+          subst (λ (t : ℕ). t ≤ time_or (line_by origin (number.Arrival found)) t) (sym (listed-latest lines))
               (time-grows origin (number.Arrival found) moment (latest_time lines) h le'),
           (in-time-more origin (number.Arrival found) moment (latest_time lines) h e).early,
           o,

@@ -8,7 +8,6 @@ use Rattle.std.specs.List.Sorted.{IsPermutation}
 use Rattle.afdx_engine.specs.Engine.{Item}
 use Rattle.afdx_recorded.specs.declared.number.AsRead.{AsRead}
 use Rattle.afdx_recorded.specs.declared.number.Number.{Number}
-use Rattle.afdx_recorded.specs.declared.number.Number.TheVariants.{Arrival, Skipped}
 use Rattle.afdx_recorded.specs.Holding.{ComesFirst}
 use Rattle.afdx_recorded.specs.NumberLines.{NumberFollows, ReadFollows}
 use Rattle.afdx_recorded.specs.OrderedSource.{AreForward, AreHeld, AreLeft}
@@ -24,14 +23,6 @@ use Rattle.afdx_recorded.proofs.SortingLemmas as sorting
 use Rattle.std.proofs.lemmas.List.{length-map}
 
 -- ---- moments
-
-pub skipped-moment : (head : Number) (latest : ℕ) → is_arrival head ≡ false → moment_or head latest ≡ latest
-skipped-moment (Skipped reason) latest e = refl
-skipped-moment (Arrival found) latest e = absurd (cc)
-
-pub arrival-moment : (head : Number) (m n : ℕ) → is_arrival head ≡ true → moment_or head m ≡ moment_or head n
-arrival-moment (Arrival found) m n e = refl
-arrival-moment (Skipped reason) m n e = absurd (cc)
 
 pub latest-next : (x : Item Number) (past : Numbers) → latest_of (x ∷ past) ≡ moment_or x.head (latest_of past)
 unfolding latest_of

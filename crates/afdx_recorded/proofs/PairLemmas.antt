@@ -18,13 +18,14 @@ use Rattle.afdx_recorded.specs.declared.ahead.AtHead.TheVariants as at
 use Rattle.afdx_recorded.specs.declared.pair.Pair.{Pair}
 use Rattle.afdx_recorded.specs.Merging.{is_first, merge}
 use Rattle.afdx_recorded.specs.NumberLines.{NumberFollows}
-use Rattle.afdx_recorded.specs.Sequences.{Numbers, is_arrival, latest_of, moment_or}
+use Rattle.afdx_recorded.specs.Sequences.{Numbers, is_arrival, latest_of}
 use Rattle.afdx_recorded.specs.PairSource.{CanCome, GivesSkipped, HasMoment, IsAhead, IsAheadBy, IsKnown, IsPaired, IsPairedToEnd}
 use Rattle.afdx_recorded.specs.PairSource.{IsSought, Joins, NoneIsBefore, StopsPairing}
 use Rattle.afdx_recorded.specs.PairSource.{fault_named, head_by, later_side, next_side}
 use Rattle.afdx_recorded.proofs.MergeLemmas.{merge-alone-b, merge-arrival-a, merge-arrival-alone, merge-fault-a}
 use Rattle.afdx_recorded.proofs.MergeLemmas.{merge-fault-alone, merge-fault-b, merge-first-b, merge-skipped-a}
 use Rattle.afdx_recorded.proofs.MergeLemmas.{reverse-taken}
+use Rattle.afdx_recorded.proofs.HandingLemmas.{moment-none}
 
 latest-arrival : (past : Numbers) (x : Item Number) (found : Found) → x.head ≡ Arrival found
     → latest_of (x ∷ past) ≡ found.moment
@@ -35,13 +36,9 @@ latest-moment : (past : Numbers) (x : Item Number) (moment : ℕ) → HasMoment 
     → latest_of (x ∷ past) ≡ moment
 latest-moment past x moment h = latest-arrival past x h.0 h.1 ∙ h.2
 
-moment-skipped : (head : Number) (latest : ℕ) → is_arrival head ≡ false → moment_or head latest ≡ latest
-moment-skipped (Arrival found) latest is = absurd (cc)
-moment-skipped (Skipped reason) latest is = refl
-
 latest-skipped : (past : Numbers) (x : Item Number) → is_arrival x.head ≡ false → latest_of (x ∷ past) ≡ latest_of past
 unfolding latest_of
-latest-skipped past x is = moment-skipped x.head (latest_of past) is
+latest-skipped past x is = moment-none x.head (latest_of past) is
 
 few-of : (x : Item Number) (head : AtHead) (taken : Numbers) → length (head_by x head ++ taken) ≤ most_numbers
     → length taken ≤ most_numbers
@@ -248,10 +245,10 @@ module _ {S I : Type 0} (current : S → Item Number) (gave ended : I → S → 
   -- a number of A that is skipped
   pub skipped-a : (start : BySide I) (pair : Pair S) (inputs : BySide I) (past : Numbers) (from : Side) (a : Ahead S)
       (input : I) (p : IsPaired current gave ended start pair inputs past)
-      → GivesSkipped current gave ended (latest_of past) start.a pair.a a input p.taken_a
+      → pair.a.head ≡ at.Unknown → GivesSkipped current gave ended (latest_of past) start.a a input p.taken_a
       → Follows start (record { a = a; b = pair.b; from = from }) (record { a = input; b = inputs.b }) past
       (current a.source)
-  skipped-a start pair inputs past from a input p g =
+  skipped-a start pair inputs past from a input p unknown g =
       let x = current a.source in
       let same = latest-skipped past x g.skipped in (
         record {
@@ -261,7 +258,7 @@ module _ {S I : Type 0} (current : S → Item Number) (gave ended : I → S → 
           b = ahead-same (latest_of past) (latest_of (x ∷ past)) start.b pair.b inputs.b p.taken_b same p.b;
           sum = omega (arith, p.sum);
           joins = λ xs ys fx fy can_a can_b.
-              let joins = rw g.unknown at p.joins in
+              let joins = rw unknown at p.joins in
               rw g.still (
               ap (λ (all : Numbers). merge [] all fx
               (reverse p.taken_b ++ (head_by (current pair.b.source) pair.b.head ++ ys)) fy)
@@ -335,16 +332,16 @@ module _ {S I : Type 0} (current : S → Item Number) (gave ended : I → S → 
   -- one that is skipped
   pub skipped-b : (start : BySide I) (pair : Pair S) (inputs : BySide I) (past : Numbers) (from : Side) (b : Ahead S)
       (input : I) (p : IsPaired current gave ended start pair inputs past) → IsKnown pair.a.head
-      → GivesSkipped current gave ended (latest_of past) start.b pair.b b input p.taken_b
+      → pair.b.head ≡ at.Unknown → GivesSkipped current gave ended (latest_of past) start.b b input p.taken_b
       → Follows start (record { a = pair.a; b = b; from = from }) (record { a = inputs.a; b = input }) past
       (current b.source)
-  skipped-b start pair inputs past from b input p known g =
+  skipped-b start pair inputs past from b input p known unknown g =
       let y = current b.source in
       let same = latest-skipped past y g.skipped in
       given-b start pair inputs past from b input p
       (first-skipped (gave start.a pair.a.source inputs.a) (ended start.a pair.a.source inputs.a)
       (current pair.a.source) pair.a.head p.taken_a y known p.a.known g.skipped)
-      (λ xs ys fx fy can_a. let joins = rw g.unknown at p.joins in joins xs (y ∷ ys) fx fy can_a tt)
+      (λ xs ys fx fy can_a. let joins = rw unknown at p.joins in joins xs (y ∷ ys) fx fy can_a tt)
       (ahead-same (latest_of past) (latest_of (y ∷ past)) start.b b input (y ∷ p.taken_b) same g.ahead)
       (before-same (latest_of past) (latest_of (y ∷ past)) pair.a.head p.taken_a same p.a.order)
       g.still (omega (arith, same)) g.fewer

@@ -20,9 +20,10 @@ use Rattle.afdx_recorded.specs.Ordering.{goes_back, handed_on, in_order, moment_
 use Rattle.afdx_recorded.specs.Sequences.{Numbers, latest_of, moment_or, number_read, numbers_read}
 use Rattle.std.specs.List.Sorted.{IsPermutation}
 use Rattle.afdx_recorded.proofs.FallingLemmas.{permutes-length}
-use Rattle.afdx_recorded.proofs.OrderedLemmas.{arrival-moment, back-told, exchange-held, follows-handed, give-left}
+use Rattle.afdx_recorded.proofs.OrderedLemmas.{back-told, exchange-held, follows-handed, give-left}
 use Rattle.afdx_recorded.proofs.OrderedLemmas.{hold-held, latest-next, left-at-end, more-forward, none-left, pass-held}
-use Rattle.afdx_recorded.proofs.OrderedLemmas.{skipped-forward, skipped-moment, stand-held}
+use Rattle.afdx_recorded.proofs.OrderedLemmas.{skipped-forward, stand-held}
+use Rattle.afdx_recorded.proofs.HandingLemmas.{moment-none, moment-same}
 use Rattle.std.proofs.Common.{take}
 
 module _ {S I : Type 0} (current : S → Item AsRead) (gave ended : I → S → I → List (Item AsRead) → Type 0)
@@ -100,7 +101,7 @@ module _ {S I : Type 0} (current : S → Item AsRead) (gave ended : I → S → 
                 read = X ∷ read;
                 are_forward = g;
                 latest = latest ∙ sym (latest-next (number_read X) past
-                    ∙ skipped-moment X.head.becomes (latest_of past) p.skipped);
+                    ∙ moment-none X.head.becomes (latest_of past) p.skipped);
                 gave_them = gave_one;
                 are_held = k;
               });
@@ -119,7 +120,7 @@ module _ {S I : Type 0} (current : S → Item AsRead) (gave ended : I → S → 
           gave_them = still-reading start _ input (number_read X ∷ past) reading (record {
             read = X ∷ read;
             are_forward = g;
-            latest = arrival-moment X.head.becomes 0 (latest_of past) a ∙ sym (latest-next (number_read X) past);
+            latest = moment-same X.head.becomes 0 (latest_of past) a ∙ sym (latest-next (number_read X) past);
             gave_them = gave_one;
             are_held = k;
           });

@@ -5,7 +5,7 @@ use Rattle.std.proofs.lemmas.List.Sums.{count_by-le-length, sum_by-cons}
 use Rattle.std.specs.List.{count_by, range_with_len}
 use Rattle.std.specs.Option.{is_some}
 use Rattle.std.specs.Prelude.{cond}
-use Rattle.afdx_recordings.specs.Pcapng.{most_interfaces}
+use Rattle.afdx_recordings.specs.Limits.{most_interfaces}
 use Rattle.afdx_recorded.specs.declared.places.Place.{Place}
 use Rattle.afdx_recorded.specs.Places.{unused_behind}
 

@@ -1,6 +1,6 @@
 -- How many numbers of a recording were skipped, and why.
 use Rattle.std.specs.Prelude.{ℕ, ◌+◌, ◌≤◌, Bool, if◌then◌else◌}
-use Rattle.afdx_recordings.specs.Pcapng.{most_interfaces}
+use Rattle.afdx_recordings.specs.Limits.{most_interfaces}
 use Rattle.afdx_recordings.specs.Recordings.{most_numbers, plus_lost}
 use Rattle.afdx_recorded.specs.declared.counts.Counts.{Counts}
 use Rattle.afdx_recorded.specs.declared.number.Number.{Number}

@@ -1,5 +1,5 @@
 -- What one step of a source of numbers in order does.
-use Rattle.std.specs.Prelude.{ℕ, ◌≡◌, ◌+◌, ◌≤◌, ◌<◌, ◌⊎◌, Bool, true, false, nat_lt, List, ◌∷◌, length, Some, None, Result, Ok, Err}
+use Rattle.std.specs.Prelude.{ℕ, ◌≡◌, ◌+◌, ◌≤◌, ◌<◌, ◌⊎◌, true, false, nat_lt, List, ◌∷◌, length, Some, None, Result, Ok, Err}
 use Rattle.std.specs.List.Sorted.{IsPermutation}
 use Rattle.afdx_lists.specs.declared.fault.RunFault.{RunFault}
 use Rattle.afdx_lists.specs.declared.next.Progress.{Progress}
@@ -85,7 +85,8 @@ module _ {S : Type 0} where
 
   -- what happens to the number that was read last
   abbrev pub TakesIn : Item AsRead → (old new : Ordered S) → Result Progress RunFault → Type 0
-  TakesIn x old new (Ok progress.Given) = Passes x old new ⊎ (Stands x old new ⊎ Exchanges x old new)
+  TakesIn x old new (Ok progress.Given) =
+      Passes x old new ⊎ (Stands x old new ⊎ Exchanges x old new)
   TakesIn x old new (Ok progress.NotYet) = Holds x old new ⊎ GoesBack x old new
   TakesIn x old new (Err fault) = (fault ≡ run.Memory)
       × (new.source ≡ old.source) × (new.most ≡ old.most)

@@ -83,10 +83,9 @@ module _ {S I : Type 0} (current : S → Item Number) (gave ended : I → S → 
       pub order : NoneIsBefore latest ahead.head taken
       pub few : length (head_of ahead ++ taken) ≤ most_numbers
 
-    -- a number that is skipped was given, of one whose head nobody knows
-    pub record GivesSkipped (latest : ℕ) (start : I) (old new : Ahead S) (input : I)
-        (taken : Numbers) : Type 0 where
-      pub unknown : old.head ≡ at.Unknown
+    -- a number that is skipped was given, and nobody knows the head
+    pub record GivesSkipped (latest : ℕ) (start : I) (new : Ahead S) (input : I) (taken : Numbers)
+        : Type 0 where
       pub still : new.head ≡ at.Unknown
       pub skipped : is_arrival (current new.source).head ≡ false
       pub ahead : IsAhead latest start new input (current new.source ∷ taken)

@@ -2,7 +2,7 @@
 use Rattle.std.specs.Prelude.{ℕ, ◌-◌, Bool, true, false, ◌==◌, count_by, Option, Some, None, is_some, slice_get, if◌then◌else◌}
 use Rattle.std.specs.List.{range_with_len}
 use Rattle.afdx_frame.specs.declared.link.Side.{Side}
-use Rattle.afdx_recordings.specs.Pcapng.{most_interfaces}
+pub use Rattle.afdx_recordings.specs.Limits.{most_interfaces}
 use Rattle.afdx_recorded.specs.Tables.{known}
 use Rattle.afdx_recorded.specs.declared.places.Place.{Place}
 use Rattle.afdx_recorded.specs.declared.places.Place.TheVariants.{LeftOut, OnSide, AtPort}

@@ -51,11 +51,13 @@ pub(crate) fn seek<I, S: Source<Number, I>>(
         × IsAhead S.current S.Gave S.Ended latest start ahead.old input.old taken }
     ensures skipped { (latest : ℕ) (start : I) (taken : Numbers) →
         IsAhead S.current S.Gave S.Ended latest start ahead.old input.old taken →
-        result ≡ Ok Progress.Given → GivesSkipped S.current S.Gave S.Ended latest start ahead.old ahead.new
-        input.new taken }
+        result ≡ Ok Progress.Given →
+        GivesSkipped S.current S.Gave S.Ended latest start ahead.new input.new taken }
+    ensures unknown { result ≡ Ok Progress.Given → ahead.old.head ≡ AtHead.Unknown }
     ensures known { (latest : ℕ) (start : I) (taken : Numbers) →
         IsAhead S.current S.Gave S.Ended latest start ahead.old input.old taken →
-        result ≡ Ok Progress.NotYet → IsAhead S.current S.Gave S.Ended latest start ahead.new input.new taken
+        result ≡ Ok Progress.NotYet →
+        IsAhead S.current S.Gave S.Ended latest start ahead.new input.new taken
         × IsKnown ahead.new.head × IsSought ahead.old ahead.new }
     ensures stop { (latest : ℕ) (start : I) (taken : Numbers) →
         IsAhead S.current S.Gave S.Ended latest start ahead.old input.old taken →

@@ -1,6 +1,7 @@
 //! How many numbers of a recording were skipped, and why.
 
 ghost use Rattle.std.specs.Prelude.{◌≡◌, ◌<◌, ◌≤◌, ◌+◌};
+ghost use Rattle.afdx_recordings.specs.Limits.{most_numbers};
 ghost use Rattle.afdx_recorded.specs.Counting as spec;
 ghost use Rattle.afdx_recorded.specs.Counting.{AreFew, IsFew};
 
@@ -43,7 +44,7 @@ impl Counts {
     /// Counts a number that was skipped for this reason.
     #[tactic(auto, unfolding(crate::specs::Counting::skip_one, crate::specs::Counting::skipped_in))]
     pub(crate) fn skip(&mut self, reason: Skipped)
-        requires { spec.skipped_in self.old < 100000000000000000 }
+        requires { spec.skipped_in self.old < most_numbers }
         ensures counts { self.new ≡ spec.skip_one reason self.old }
         ensures skipped { spec.skipped_in self.new ≡ spec.skipped_in self.old + 1 }
         ensures claimed { self.new.claimed ≡ self.old.claimed }
@@ -81,8 +82,8 @@ impl Counts {
     /// Counts an arrival, which may be claimed, and contradicted.
     #[tactic(auto, unfolding(crate::specs::Counting::take_one, crate::specs::Counting::skipped_in))]
     pub(crate) fn arrive(&mut self, is_claimed: bool, is_contradicted: bool)
-        requires claimed { self.old.claimed < 100000000000000000 }
-        requires contradicted { self.old.contradicted < 100000000000000000 }
+        requires claimed { self.old.claimed < most_numbers }
+        requires contradicted { self.old.contradicted < most_numbers }
         ensures counts { self.new ≡ spec.take_one is_claimed is_contradicted self.old }
         ensures skipped { spec.skipped_in self.new ≡ spec.skipped_in self.old }
         ensures claimed { self.new.claimed ≤ self.old.claimed + 1 }

@@ -85,8 +85,8 @@ impl<S> Ordered<S> {
     }
 }
 
-/// Reads one number more. If none is given it is held, or the end is known. A fault that is returned
-/// is none of the recording.
+/// Reads one number more. If none is given it is held, or the end is known. A fault that is
+/// returned is none of the recording.
 #[inline(always)]
 fn read_one<I, S: Source<AsRead, I>>(
     ordered: &mut Ordered<S>,

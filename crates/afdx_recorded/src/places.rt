@@ -2,12 +2,11 @@
 
 ghost use Rattle.std.specs.Prelude.{◌≡◌, ◌<◌, ℕ, IfOk, OnOk, OnErr, Ok, Some, None, true, false};
 ghost use Rattle.std.specs.Prelude.{vec_len};
+ghost use Rattle.afdx_recordings.specs.Limits.{most_interfaces};
 
 use afdx_frame::Side;
+use afdx_recordings::MOST_INTERFACES;
 use std::alloc::{AllocError, Global};
-
-/// How many interfaces a recording may have in a section.
-pub const INTERFACES: usize = 4_096;
 
 /// Where the frames of an interface came in.
 #[derive(Clone, Copy, Debug, PartialEq, Eq)]
@@ -24,7 +23,7 @@ pub enum Place {
 #[derive(Debug, Drop)]
 pub struct Interfaces {
     places: Vec<Option<Place>>,
-    ghost room: { vec_len places ≡ 4096 },
+    ghost room: { vec_len places ≡ most_interfaces },
 }
 
 impl Interfaces {
@@ -36,7 +35,7 @@ impl Interfaces {
         ensures { IfOk result (λ interfaces. (k : ℕ) → place_of interfaces k ≡ None) }
     {
         Ok(Interfaces {
-            places: vec![in alloc; None; INTERFACES]?,
+            places: vec![in alloc; None; MOST_INTERFACES]?,
         })
     }
 
@@ -57,7 +56,7 @@ impl Interfaces {
         ensures { result ≡ unused_behind count (place_of self.now) }
     {
         let mut unused = 0;
-        for interface in count..INTERFACES {
+        for interface in count..MOST_INTERFACES {
             if self.place(interface as u16).is_some() {
                 unused += 1;
             }
@@ -68,7 +67,7 @@ impl Interfaces {
     /// Says where the frames of this interface came in, in the place of what was said before.
     #[tactic(auto, unfolding(crate::specs::Places::place_of))]
     pub fn put(&mut self, interface: u16, place: Place)
-        requires { interface < 4096 }
+        requires { interface < most_interfaces }
         ensures { (k : ℕ) →
             place_of self.new k ≡ places_but (place_of self.old) interface place k }
     {

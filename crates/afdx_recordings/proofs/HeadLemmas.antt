@@ -7,7 +7,7 @@ use Rattle.afdx_recordings.specs.declared.block.Kind.{Kind}
 use Rattle.afdx_recordings.specs.declared.block.Kind.TheVariants as kind
 use Rattle.afdx_recordings.specs.declared.block.Head.{Head}
 use Rattle.afdx_recordings.specs.Orders.{number_in}
-use Rattle.afdx_recordings.specs.Recordings.{State}
+use Rattle.afdx_recordings.specs.Recordings.{State, most_numbers}
 use Rattle.afdx_recordings.specs.Blocks.{kind_of, least_of, order_by, is_ordered, head_of_kind, head_by}
 use Rattle.afdx_recordings.specs.Pcapng.{block_rest, behind_head}
 use Rattle.afdx_recordings.proofs.OrderLemmas.{number_at-append, number_at-take}
@@ -75,10 +75,10 @@ unfolding block_rest
 block_rest-append state xs more within = rw (head_by-append state.order xs more within) refl
 
 -- the head tells how many bytes follow
-pub block_rest-told : (state : State) (xs : List ℕ) (head : Head) → state.blocks < 100000000000000000
+pub block_rest-told : (state : State) (xs : List ℕ) (head : Head) → state.blocks < most_numbers
     → head_by state.order xs ≡ Some head → block_rest state xs ≡ Some (behind_head head)
 unfolding block_rest
-block_rest-told state xs head few told = rw (less state.blocks 100000000000000000 few, told) refl
+block_rest-told state xs head few told = rw (less state.blocks most_numbers few, told) refl
 
 least_at : (k : Kind) → 12 ≤ least_of k
 least_at kind.Section = omega arith

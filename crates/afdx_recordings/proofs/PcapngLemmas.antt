@@ -13,7 +13,7 @@ use Rattle.afdx_lists.specs.declared.recording_fault.RecordingFault.TheVariants.
 use Rattle.afdx_recordings.specs.declared.form.Form.TheVariants as form
 use Rattle.afdx_recordings.specs.declared.block.Head.{Head}
 use Rattle.afdx_recordings.specs.Holding.{Standing, Gives, Passes}
-use Rattle.afdx_recordings.specs.Recordings.{State, Ends, Over, Faulted, Meaning, Numbered, by_meaning, totals_by}
+use Rattle.afdx_recordings.specs.Recordings.{State, Ends, Over, Faulted, Meaning, Numbered, by_meaning, most_numbers, totals_by}
 use Rattle.afdx_recordings.specs.Blocks.{head_by}
 use Rattle.afdx_recordings.specs.Pcapng.{block_rest, block_meaning, behind_head}
 use Rattle.afdx_recordings.specs.Reading.{step_by, SaysEnding, SaysNothing, Meant, TellsBlock}
@@ -31,7 +31,7 @@ back : (head : Head) → 12 ≤ head.size → 12 + behind_head head ≡ head.siz
 back head h = omega (arith, h)
 
 -- the block stands whole
-whole : (before : State) (head : Head) (xs more : List ℕ) → before.blocks < 100000000000000000
+whole : (before : State) (head : Head) (xs more : List ℕ) → before.blocks < most_numbers
     → head_by before.order xs ≡ Some head → 12 ≤ head.size → head.size ≤ length xs
     → step_by (Some form.Pcapng) before (xs ++ more) ≡ by_meaning head.size (block_meaning before (take head.size xs))
 whole before head xs more few told least within =
@@ -44,7 +44,7 @@ whole before head xs more few told least within =
     (take-append-le head.size xs more within)
 
 -- less than the block is there
-cut : (before : State) (head : Head) (xs : List ℕ) → before.blocks < 100000000000000000
+cut : (before : State) (head : Head) (xs : List ℕ) → before.blocks < most_numbers
     → head_by before.order xs ≡ Some head → 12 ≤ head.size → 12 ≤ length xs → length xs < head.size
     → step_by (Some form.Pcapng) before xs ≡ Ends (Faulted (Ended before.numbers))
 cut before head xs few told least held short =
@@ -55,7 +55,7 @@ cut before head xs few told least held short =
 -- what a call read tells of the block which stands first
 pub TellsBlock-meant : (result : Result Progress RunFault) (old new : Standing) (before after : State) (item : Numbered)
     (head : Head) (given : List ℕ) → before.form ≡ Some form.Pcapng → after.form ≡ before.form → Gives old new given
-    → before.blocks < 100000000000000000 → head_by before.order (old.held ++ given) ≡ Some head → 12 ≤ head.size
+    → before.blocks < most_numbers → head_by before.order (old.held ++ given) ≡ Some head → 12 ≤ head.size
     → head.size ≤ length (old.held ++ given)
     → OnOk result (new.held ≡ drop head.size (old.held ++ given))
     → Meant (block_meaning before (take head.size (old.held ++ given))) result after item
@@ -121,7 +121,7 @@ told_in_all old new before head passes held told =
 -- the block was held whole
 pub TellsBlock-held : (result : Result Progress RunFault) (old mid new : Standing) (before after : State) (item : Numbered)
     (head : Head) → before.form ≡ Some form.Pcapng → after.form ≡ before.form → Passes old mid []
-    → before.blocks < 100000000000000000 → head_by before.order mid.held ≡ Some head → 12 ≤ head.size
+    → before.blocks < most_numbers → head_by before.order mid.held ≡ Some head → 12 ≤ head.size
     → head.size ≤ length mid.held → new.left ≡ mid.left → new.over ≡ mid.over → new.calls ≡ mid.calls
     → OnOk result (new.held ≡ drop head.size mid.held)
     → Meant (block_meaning before (take head.size mid.held)) result after item
@@ -139,7 +139,7 @@ behind_passed passed rest n h = rw (← h) (drop-append-add passed rest 4)
 pub TellsBlock-skipped : (result : Result Progress RunFault) (old mid new : Standing)
     (before after : State) (item : Numbered)
     (head : Head) (passed : List ℕ) → before.form ≡ Some form.Pcapng → after.form ≡ before.form
-    → Passes old mid passed → before.blocks < 100000000000000000 → 12 ≤ length old.held
+    → Passes old mid passed → before.blocks < most_numbers → 12 ≤ length old.held
     → head_by before.order old.held ≡ Some head → 12 ≤ head.size → length passed + 4 ≡ head.size
     → 4 ≤ length mid.held → new.left ≡ mid.left → new.over ≡ mid.over → new.calls ≡ mid.calls
     → OnOk result (new.held ≡ drop 4 mid.held)
@@ -163,7 +163,7 @@ told_behind old new before head passed passes held told =
 -- the input ended within the block
 pub SaysEnding-within : (old new : Standing) (before : State) (head : Head) (passed : List ℕ)
     → before.form ≡ Some form.Pcapng → (passes : Passes old new passed) → new.ended ≡ true
-    → before.blocks < 100000000000000000 → 12 ≤ length old.held → head_by before.order old.held ≡ Some head
+    → before.blocks < most_numbers → 12 ≤ length old.held → head_by before.order old.held ≡ Some head
     → 12 ≤ head.size → length passed + length new.held < head.size
     → SaysEnding old new before (Faulted (Ended before.numbers)) (totals_by before)
 SaysEnding-within old new before head passed h passes ended few held told least short =
@@ -180,7 +180,7 @@ SaysEnding-within old new before head passed h passes ended few held told least 
 -- it failed there
 pub SaysNothing-within : (old new : Standing) (before : State) (head : Head) (passed : List ℕ)
     → before.form ≡ Some form.Pcapng → (passes : Passes old new passed)
-    → before.blocks < 100000000000000000 → 12 ≤ length old.held → head_by before.order old.held ≡ Some head
+    → before.blocks < most_numbers → 12 ≤ length old.held → head_by before.order old.held ≡ Some head
     → 12 ≤ head.size → length passed + length new.held < head.size → SaysNothing old new before
 SaysNothing-within old new before head passed h passes few held told least short =
     let all : old.held ++ passes.given ≡ passed ++ new.held = passes.parts in

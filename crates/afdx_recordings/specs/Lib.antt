@@ -1,5 +1,6 @@
 pub mod Orders
 pub mod Holding
+pub mod Limits
 pub mod Recordings
 pub mod Stamps
 pub mod Options

@@ -3,6 +3,7 @@ use Rattle.std.specs.Prelude.{ℕ, Bool, ◌≡◌, ◌≤◌, ◌+◌, ◌-◌,
 use Rattle.afdx_lists.specs.declared.fault.RunFault.{RunFault}
 use Rattle.afdx_lists.specs.declared.fault.RunFault.TheVariants as run
 use Rattle.afdx_lists.specs.declared.recording_fault.RecordingFault.TheVariants.{Damaged, BadVersion}
+use Rattle.afdx_recordings.specs.Limits.{most_interfaces}
 use Rattle.afdx_recordings.specs.declared.order.Order.{Order}
 use Rattle.afdx_recordings.specs.declared.interface.Interface.{Interface}
 use Rattle.afdx_recordings.specs.declared.interface.Losses.{Losses}
@@ -16,10 +17,6 @@ use Rattle.afdx_recordings.specs.Recordings.{State, Meaning, Wrong, Says, after_
 use Rattle.afdx_recordings.specs.Interfaces.{interface_by, losses_by, with_losses}
 use Rattle.afdx_recordings.specs.Packets.{numbered, packet_by, simple_by}
 use Rattle.afdx_recordings.specs.Blocks.{head_by}
-
--- the most interfaces of a section
-abbrev pub most_interfaces : ℕ
-most_interfaces = 4096
 
 -- the bytes of a block before its body, and those that tell it apart
 abbrev pub body_start : ℕ

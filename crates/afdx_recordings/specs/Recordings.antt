@@ -2,6 +2,7 @@
 use Rattle.std.specs.Prelude.{ℕ, ◌+◌, ◌-◌, ◌^◌, ◌==◌, min, max, List, [], ◌∷◌, length, take, nat_lt, Option, Some, None, if◌then◌else◌}
 use Rattle.afdx_lists.specs.declared.recording_fault.RecordingFault.{RecordingFault}
 use Rattle.afdx_lists.specs.declared.recording_fault.RecordingFault.TheVariants.{Damaged, Ended}
+pub use Rattle.afdx_recordings.specs.Limits.{most_numbers}
 use Rattle.afdx_recordings.specs.declared.recorded.Recorded.{Recorded}
 use Rattle.afdx_recordings.specs.declared.interface.Interface.{Interface}
 use Rattle.afdx_recordings.specs.declared.form.Form.{Form}
@@ -42,10 +43,6 @@ in_front item recording = record {
   ending = recording.ending;
   totals = recording.totals;
 }
-
--- the most numbers, and the most blocks
-abbrev pub most_numbers : ℕ
-most_numbers = 100000000000000000
 
 -- the most bytes that are captured of a frame
 abbrev pub longest_capture : ℕ

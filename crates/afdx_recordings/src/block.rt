@@ -1,7 +1,9 @@
 //! Heads of the blocks of a pcapng.
 
 ghost use Rattle.std.specs.Prelude.{◌≡◌, ◌≤◌, length, true, IfSome};
-ghost use Rattle.afdx_recordings.specs.Blocks.{kind_of, least_of, is_held, is_size, order_by, is_ordered, head_by, head_of_kind};
+ghost use Rattle.afdx_recordings.specs.Blocks.{kind_of, least_of, is_held, is_size, order_by};
+ghost use Rattle.afdx_recordings.specs.Blocks.{is_ordered, head_by, head_of_kind};
+ghost use Rattle.afdx_recordings.specs.Pcapng.{block_head};
 
 use crate::order::Order;
 
@@ -103,7 +105,7 @@ impl Kind {
 
     /// The order of its bytes, in a section of this order.
     fn order(self, before: Order, head: &[u8]) -> Order
-        requires { 12 ≤ length head.now }
+        requires { block_head ≤ length head.now }
         ensures { result ≡ order_by self before head.now }
     {
         match self {
@@ -120,7 +122,7 @@ impl Kind {
 
     /// Whether a section tells its order.
     fn tells_order(self, order: Order, head: &[u8]) -> bool
-        requires { 12 ≤ length head.now }
+        requires { block_head ≤ length head.now }
         ensures { result ≡ is_ordered self order head.now }
     {
         match self {
@@ -136,7 +138,7 @@ impl Kind {
 #[inline(always)]
 #[tactic(auto, unfolding(crate::specs::Blocks::head_by, crate::specs::Blocks::kind_of))]
 pub fn head_of(before: Order, head: &[u8]) -> Option<Head>
-    requires { 12 ≤ length head.now }
+    requires { block_head ≤ length head.now }
     ensures told { result ≡ head_by before head.now }
     ensures least { IfSome result (λ head. least_of head.kind ≤ head.size) }
 {
@@ -151,7 +153,7 @@ pub fn head_of(before: Order, head: &[u8]) -> Option<Head>
 /// The same of a block of this kind.
 #[inline(always)]
 fn head_of_kind(kind: Kind, before: Order, head: &[u8]) -> Option<Head>
-    requires { 12 ≤ length head.now }
+    requires { block_head ≤ length head.now }
     ensures told { result ≡ head_of_kind kind (order_by kind before head.now) head.now }
     ensures least { IfSome result (λ head. least_of head.kind ≤ head.size) }
 {

@@ -1,7 +1,8 @@
 //! How a recording begins, which tells its form.
 
 ghost use Rattle.std.specs.Prelude.{◌≡◌, ◌≤◌, length};
-ghost use Rattle.afdx_recordings.specs.Pcap.{check_sequence_of, is_pcap_version, pcap_check, pcap_form};
+ghost use Rattle.afdx_recordings.specs.Pcap.{check_sequence_of, is_pcap_version, pcap_check};
+ghost use Rattle.afdx_recordings.specs.Pcap.{pcap_form, pcap_head};
 ghost use Rattle.afdx_recordings.specs.Reading.{is_packed, magic_of};
 
 use crate::order::Order;
@@ -70,7 +71,7 @@ pub fn magic_named(number: u32) -> Option<Magic>
 /// Whether the header of a pcap says version 2.4.
 #[tactic(auto, unfolding(crate::specs::Pcap::is_pcap_version))]
 pub fn is_known_version(order: Order, header: &[u8]) -> bool
-    requires { 24 ≤ length header.now }
+    requires { pcap_head ≤ length header.now }
     ensures { result ≡ is_pcap_version order header.now }
 {
     order.half(header, 4) == 2 && order.half(header, 6) == 4
@@ -103,7 +104,7 @@ fn check_by_word(word: u32) -> CheckSequence
 /// What the header of a pcap says of all its frames.
 #[tactic(auto, unfolding(crate::specs::Pcap::pcap_form))]
 pub fn form_of(order: Order, nanoseconds: bool, header: &[u8]) -> PcapForm
-    requires { 24 ≤ length header.now }
+    requires { pcap_head ≤ length header.now }
     ensures { result ≡ pcap_form order nanoseconds header.now }
 {
     let word = order.word(header, 20);

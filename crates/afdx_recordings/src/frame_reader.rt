@@ -37,7 +37,7 @@ impl FrameReader {
     ghost use Rattle.afdx_lists.specs.Watching.{has_ended, has_failed};
     ghost use Rattle.afdx_recordings.specs.Holding.{unread, standing, IsTrueToEnd};
     ghost use Rattle.afdx_recordings.specs.Recordings.{at_start, after_number, totals_by, most_numbers};
-    ghost use Rattle.afdx_recordings.specs.Pcap.{captured_by};
+    ghost use Rattle.afdx_recordings.specs.Pcap.{captured_by, packet_head};
     ghost use Rattle.afdx_recordings.specs.Reading.{state_of, latest, magic_of, Tells, SaysSame};
     ghost use Rattle.afdx_recordings.specs.Orders.{number_in};
     ghost use Rattle.afdx_recordings.specs.declared.form.Form.TheVariants.{Pcap};
@@ -249,8 +249,8 @@ impl FrameReader {
     /// The bytes that follow the header of a frame in a pcap.
     #[tactic(auto, unfolding(crate::specs::Pcap::captured_by))]
     fn captured(&self) -> Result<u32, RunFault>
-        requires { 16 ≤ length (unread self.now.held) }
-        ensures few { OnOk result (self.now.known.blocks < 100000000000000000) }
+        requires { packet_head ≤ length (unread self.now.held) }
+        ensures few { OnOk result (self.now.known.blocks < most_numbers) }
         ensures told { MatchResult result
             (λ n. captured_by (state_of self.now) (unread self.now.held) ≡ Some n)
             (λ fault. (fault ≡ RunFault.Recording (RecordingFault.Damaged self.now.known.numbers))

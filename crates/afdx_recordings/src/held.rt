@@ -133,7 +133,8 @@ impl Held {
         Ok(Next::Given)
     }
 
-    /// Passes `n` bytes, which needn't be held at once, or fewer where the input gave its end before.
+    /// Passes `n` bytes, which needn't be held at once, or fewer where the input gave its end
+    /// before.
     /// `Read` comes where the input failed and there were fewer so far.
     pub fn skip<R: Read>(&mut self, input: &mut Watched<R>, n: usize) -> Result<Next, RunFault>
         requires sound { has_failed input.old ≡ false }

@@ -1,6 +1,7 @@
 //! What is known of a recording before a block.
 
 ghost use Rattle.std.specs.Prelude.{◌≡◌, ◌≤◌, ◌<◌, ◌+◌, length, slice_get, vec_len, IfSome, MatchResult};
+ghost use Rattle.afdx_recordings.specs.Limits.{most_interfaces, most_numbers};
 
 use crate::block::Kind;
 use crate::block_packet::{Placed, packet_of, simple_packet_of};
@@ -14,7 +15,7 @@ use std::alloc::{AllocError, Global};
 /// The most numbers, and the most blocks.
 pub const MOST_NUMBERS: u64 = 100_000_000_000_000_000;
 /// The most interfaces of a section.
-const MOST_INTERFACES: usize = 4096;
+pub const MOST_INTERFACES: usize = 4_096;
 /// What is no frame has no bytes.
 const NO_FRAME: Placed = Placed {
     what: Recorded::NoFrame,
@@ -40,8 +41,8 @@ pub struct Known {
     /// The blocks so far.
     pub blocks: u64,
     ghost few: { numbers ≤ blocks },
-    ghost few_interfaces: { vec_len interfaces ≤ 4096 },
-    ghost within: { blocks ≤ 100000000000000000 },
+    ghost few_interfaces: { vec_len interfaces ≤ most_interfaces },
+    ghost within: { blocks ≤ most_numbers },
 }
 
 impl Known {
@@ -102,7 +103,7 @@ impl Known {
 
     /// A block more, which took a number.
     pub fn count_number(&mut self)
-        requires { self.old.blocks < 100000000000000000 }
+        requires { self.old.blocks < most_numbers }
         ensures { state_of_known self.new ≡ after_number (state_of_known self.old) }
     {
         self.numbers += 1;
@@ -111,7 +112,7 @@ impl Known {
 
     /// A block more, which took none.
     fn count_block(&mut self)
-        requires { self.old.blocks < 100000000000000000 }
+        requires { self.old.blocks < most_numbers }
         ensures { state_of_known self.new ≡ after_block (state_of_known self.old) }
     {
         self.blocks += 1;
@@ -127,7 +128,7 @@ impl Known {
     /// The interface at a place.
     fn interface_at(&self, place: usize) -> Option<Interface>
         ensures found { result ≡ slice_get self.now.interfaces.items place }
-        ensures few { IfSome result (λ _. place < 4096) }
+        ensures few { IfSome result (λ _. place < most_interfaces) }
     {
         if place < self.interfaces.len() {
             Some(self.interfaces[place])
@@ -140,7 +141,7 @@ impl Known {
     #[inline(never)]
     #[tactic(auto, unfolding(crate::specs::Pcapng::section_meaning, crate::specs::Recordings::most_by))]
     fn begin_section(&mut self, order: Order, body: &[u8]) -> Result<Option<Placed>, RunFault>
-        requires few { self.old.blocks < 100000000000000000 }
+        requires few { self.old.blocks < most_numbers }
         requires long { 16 ≤ length body.now }
         ensures means { Means (section_meaning (state_of_known self.old) order body.now) result
             (state_of_known self.new) body.now }
@@ -163,8 +164,8 @@ impl Known {
 
     /// Keeps an interface more, if there is room.
     fn keep(&mut self, interface: Interface) -> Result<(), AllocError>
-        requires few { self.old.blocks < 100000000000000000 }
-        requires few_interfaces { vec_len self.old.interfaces < 4096 }
+        requires few { self.old.blocks < most_numbers }
+        requires few_interfaces { vec_len self.old.interfaces < most_interfaces }
         ensures { MatchResult result
             (λ _. state_of_known self.new ≡ after_interface (state_of_known self.old) interface)
             (λ _. state_of_known self.new ≡ state_of_known self.old) }
@@ -178,7 +179,7 @@ impl Known {
     #[inline(never)]
     #[tactic(auto, unfolding(crate::specs::Pcapng::interface_meaning))]
     fn add_interface(&mut self, order: Order, body: &[u8]) -> Result<Option<Placed>, RunFault>
-        requires few { self.old.blocks < 100000000000000000 }
+        requires few { self.old.blocks < most_numbers }
         requires long { 8 ≤ length body.now }
         ensures means { Means (interface_meaning (state_of_known self.old) order body.now) result
             (state_of_known self.new) body.now }
@@ -202,7 +203,7 @@ impl Known {
     #[inline(never)]
     #[tactic(auto, unfolding(crate::specs::Pcapng::statistics_meaning))]
     fn add_statistics(&mut self, order: Order, body: &[u8]) -> Result<Option<Placed>, RunFault>
-        requires few { self.old.blocks < 100000000000000000 }
+        requires few { self.old.blocks < most_numbers }
         requires long { 12 ≤ length body.now }
         ensures means { Means (statistics_meaning (state_of_known self.old) order body.now) result
             (state_of_known self.new) body.now }
@@ -231,7 +232,7 @@ impl Known {
         place: usize,
         body: &[u8],
     ) -> Result<Option<Placed>, RunFault>
-        requires few { self.old.blocks < 100000000000000000 }
+        requires few { self.old.blocks < most_numbers }
         requires long { 20 ≤ length body.now }
         ensures means { Means (packet_meaning_at (state_of_known self.old) order place body.now)
             result (state_of_known self.new) body.now }
@@ -252,7 +253,7 @@ impl Known {
     /// A packet of the old form.
     #[inline(never)]
     fn take_old_packet(&mut self, order: Order, body: &[u8]) -> Result<Option<Placed>, RunFault>
-        requires few { self.old.blocks < 100000000000000000 }
+        requires few { self.old.blocks < most_numbers }
         requires long { 20 ≤ length body.now }
         ensures means { Means (packet_meaning_at (state_of_known self.old) order
             (half_at order 0 body.now) body.now) result (state_of_known self.new) body.now }
@@ -267,7 +268,7 @@ impl Known {
     #[inline(never)]
     #[tactic(auto, unfolding(crate::specs::Pcapng::simple_meaning))]
     fn take_simple_packet(&mut self, order: Order, body: &[u8]) -> Result<Option<Placed>, RunFault>
-        requires few { self.old.blocks < 100000000000000000 }
+        requires few { self.old.blocks < most_numbers }
         requires long { 4 ≤ length body.now }
         ensures means { Means (simple_meaning (state_of_known self.old) order body.now)
             result (state_of_known self.new) body.now }
@@ -296,7 +297,7 @@ impl Known {
         order: Order,
         body: &[u8],
     ) -> Result<Option<Placed>, RunFault>
-        requires few { self.old.blocks < 100000000000000000 }
+        requires few { self.old.blocks < most_numbers }
         requires long { least_of kind ≤ 12 + length body.now }
         ensures means { Means (kind_meaning kind (state_of_known self.old) order body.now)
             result (state_of_known self.new) body.now }

@@ -19,4 +19,5 @@ mod stamp;
 
 pub use beginning::is_recording;
 pub use frame_reader::FrameReader;
+pub use known::MOST_INTERFACES;
 pub use recorded::{CheckSequence, Recorded, RecordedFrame, Stamp};

@@ -1,7 +1,7 @@
 //! A frame of a pcap.
 
 ghost use Rattle.std.specs.Prelude.{◌≡◌, ◌≤◌, length};
-ghost use Rattle.afdx_recordings.specs.Pcap.{pcap_frame};
+ghost use Rattle.afdx_recordings.specs.Pcap.{packet_head, pcap_frame};
 
 use crate::form::PcapForm;
 use crate::order::Order;
@@ -11,7 +11,7 @@ use crate::stamp::stamp_of;
 /// A frame, by its header.
 #[tactic(auto, unfolding(crate::specs::Pcap::pcap_frame))]
 pub fn frame_of(form: PcapForm, order: Order, header: &[u8]) -> RecordedFrame
-    requires { 16 ≤ length header.now }
+    requires { packet_head ≤ length header.now }
     ensures { result ≡ pcap_frame form order header.now }
 {
     RecordedFrame {

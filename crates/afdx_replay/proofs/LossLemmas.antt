@@ -1,6 +1,6 @@
 -- The ports of a switch, one after another, and the lines of the copies that were lost there.
 use Rattle.std.proofs.Common.{◌≡◌, ℕ, zero, suc, ◌+◌, ◌≤◌, ◌<◌, Bool, true, false, List, [], ◌∷◌}
-use Rattle.std.proofs.Common.{◌++◌, length, take, drop, take-append-drop, refl, ap, sym, ◌∙◌, subst, arith, append_assoc, add-one, Option}
+use Rattle.std.proofs.Common.{◌++◌, length, take, drop, take-append-drop, refl, ap, sym, ◌∙◌, subst, arith, append_assoc, append-nil, add-one, Option}
 use Rattle.std.proofs.Common.{if◌then◌else◌}
 use Rattle.std.specs.Prelude.{filter}
 use Rattle.std.specs.Io.KnownBytes.{Appends}
@@ -58,11 +58,7 @@ filter-push f (x ∷ xs) y = by (f x) (filter-push f xs y)
 lines-push : (n : ℕ) (side : Side) (xs : List ℕ) (y : ℕ) (b : Bool)
     → loss_lines n side (xs ++ (if b then y ∷ [] else [])) ≡ loss_lines n side xs
     ++ (if b then loss_line n side y else [])
-lines-push n side [] y true = append_nil (loss_line n side y)
-  where
-    append_nil : (zs : List ℕ) → zs ++ [] ≡ zs
-    append_nil [] = refl
-    append_nil (z ∷ zs) = ap (λ (ws : List ℕ). z ∷ ws) (append_nil zs)
+lines-push n side [] y true = append-nil (loss_line n side y)
 lines-push n side [] y false = refl
 lines-push n side (x ∷ xs) y b =
     ap (λ (zs : List ℕ). loss_line n side x ++ zs) (lines-push n side xs y b)
@@ -158,10 +154,6 @@ count-more f i b count more total below is e k s =
     ∙ count-push (lost_below f i) (i + 1) (f (i + 1)) in
     let one : more ≡ (if f (i + 1) then 1 else 0) = k ∙ ap (λ (c : Bool). if c then 1 else 0) is in
     omega (arith, pushed, one, e, s)
-
-pub one-more : (b : Bool) (more : ℕ) → more ≡ (if b then 1 else 0) → more ≤ 1
-one-more true more e = omega (arith, e)
-one-more false more e = omega (arith, e)
 
 none-pass : (f : ℕ → Bool) (xs : List ℕ) → ((p : ℕ) → f p ≡ false) → filter f xs ≡ []
 none-pass f [] none = refl

@@ -1,6 +1,6 @@
 -- What a replay has told, one event more, and what it answers then.
 use Rattle.std.proofs.Common.{◌≡◌, ℕ, ◌+◌, ◌≤◌, List, [], ◌∷◌, ◌++◌, length, refl, ap, sym, ◌∙◌}
-use Rattle.std.proofs.Common.{subst, Option, Some, None, Bool, true, false, arith, append_assoc}
+use Rattle.std.proofs.Common.{subst, Option, Some, None, Bool, true, false, arith, append_assoc, append-nil}
 use Rattle.std.proofs.Common.{if◌then◌else◌}
 use Rattle.std.specs.Prelude.{IfSome}
 use Rattle.std.specs.Io.KnownBytes.{Appends}
@@ -36,7 +36,7 @@ use Rattle.afdx_engine.specs.Listed.{frames, arrivals_of}
 use Rattle.afdx_commands.specs.declared.summary.Summary.{Summary}
 use Rattle.afdx_engine.specs.Stops.{StopsAt}
 use Rattle.afdx_engine.proofs.RunLemmas.{IsDone, GaveLines-start}
-use Rattle.afdx_replay.proofs.TextLemmas.{front-whole, front-more, front-longer}
+use Rattle.afdx_text.proofs.OutputLemmas.{whole_front as front-whole, front-more, front-longer}
 
 abbrev pub hand : Side → ℕ → ℕ → ℕ → List ℕ → HandedOver
 hand side port time line bytes = record { side = side; port = port; time = time; line = line; bytes = bytes }
@@ -72,13 +72,9 @@ module _ (t : Rows) (before : List Event) (d : Departure) where
   -- the lines of a departure that was too old, and of one whose frame came to its system
   old-lines : d.turn.too_old ≡ true →
       departure_line true d.turn.entry.item.tag d.turn.end d.side d.port ≡ lines_after t before (Left d)
-  old-lines e = sym (append_nil (departure_line true d.turn.entry.item.tag d.turn.end d.side d.port))
+  old-lines e = sym (append-nil (departure_line true d.turn.entry.item.tag d.turn.end d.side d.port))
       ∙ ap (λ b. departure_line b d.turn.entry.item.tag d.turn.end d.side d.port
       ++ heard b t (frames_left before) (handed_over d)) (sym e)
-    where
-      append_nil : (xs : List ℕ) → xs ++ [] ≡ xs
-      append_nil [] = refl
-      append_nil (x ∷ xs) = ap (λ (ys : List ℕ). x ∷ ys) (append_nil xs)
 
   pub left-lines : d.turn.too_old ≡ false →
       departure_line false d.turn.entry.item.tag d.turn.end d.side d.port
@@ -204,14 +200,10 @@ told-came t n after s counts counts_after old middle new before c reason lost li
 
 -- ---- beginnings
 
-append_nothing : (xs : List ℕ) → xs ++ [] ≡ xs
-append_nothing [] = refl
-append_nothing (x ∷ xs) = ap (λ (ys : List ℕ). x ∷ ys) (append_nothing xs)
-
 -- the text of more events begins with that of these
 text-later : (t : Rows) (later events : List Event) → (rest : List ℕ)
     × (replay_text t (later ++ events) ≡ replay_text t events ++ rest)
-text-later t [] events = ([], sym (append_nothing (replay_text t events)))
+text-later t [] events = ([], sym (append-nil (replay_text t events)))
 text-later t (e ∷ later) events =
     let r = text-later t later events in (
       r.0 ++ lines_after t (later ++ events) e,

@@ -2,7 +2,7 @@
 use Rattle.std.proofs.Common.{◌≡◌, ℕ, List, [], ◌∷◌, Option, Some, None, Result, Ok, Err, refl, ap, arith, Bool, ◌⊎◌, inl, inr}
 use Rattle.std.proofs.KnownBytes.{Appends-nil}
 use Rattle.std.specs.Io.KnownBytes.{Appends}
-use Rattle.std.specs.Prelude.{OnErr, OnOk}
+use Rattle.std.specs.Prelude.{IfSome, OnErr, OnOk}
 use Rattle.std.specs.Result.{result_ok}
 use Rattle.afdx_config.proofs.AmongOthersLemmas.{among-others, admitted-serving}
 use Rattle.afdx_config.specs.Admission.{IsAdmitted}
@@ -27,7 +27,7 @@ use Rattle.afdx_engine.specs.Items.{arrivals}
 use Rattle.afdx_lists.specs.declared.frame_line.Heading.{Heading}
 use Rattle.afdx_replay.specs.declared.replaying.run.Replay.{Replay}
 use Rattle.afdx_replay.proofs.ReplayLemmas.{are-some, are-so-far}
-use Rattle.afdx_commands.specs.Commands.{EndsWith, status_of_answer}
+use Rattle.afdx_commands.specs.Commands.{status_of_answer}
 use Rattle.afdx_commands.specs.declared.summary.Summary.{Summary}
 use Rattle.afdx_replay.specs.Inputs.{answer_of, summary_in, tally_in, EndsInputAs}
 use Rattle.afdx_replay.specs.declared.input_ending.InputEnded.{InputEnded}
@@ -37,7 +37,7 @@ use Rattle.afdx_replay.specs.policing.Policed.{WritesText, WritesBeginning}
 use Rattle.afdx_replay.specs.policing.Text as policing
 use Rattle.afdx_replay.specs.policing.Told as police_told
 use Rattle.afdx_replay.specs.declared.policing.run.Police.{Police}
-use Rattle.afdx_replay.proofs.TextLemmas.{front-whole}
+use Rattle.afdx_text.proofs.OutputLemmas.{whole_front as front-whole}
 use Rattle.afdx_replay.specs.replaying.Early.{ExplainsAll, ExplainsItems, ExplainsSome, HearsEarly, HearsMost}
 use Rattle.afdx_replay.specs.replaying.Input.{Hears, Replays, Taking, Writes, WritesPromised, counts_of}
 use Rattle.afdx_replay.specs.replaying.PromisedRun.{IsAsPromised, WritesPromisedSoFar, WritesPromisedSome}
@@ -84,15 +84,15 @@ answers-so t past counts old new A B C (Err fault) h = refl
 
 module _ {D : Type 0} (contents : D → Option (List ℕ)) (t : Rows) (takes : Taking) (early now : Option (Watched D))
     (old new : Known) where
-  abbrev pub Heard : Taking
-  Heard past count = Hears t past count contents early now
+  abbrev pub HearsSo : Taking
+  HearsSo past count = Hears t past count contents early now
 
   pub replays-by : (past : List Arrival) (count : Result InputCount RunFault) (counts : Summary) → takes past count
       → DontGoBack past
       → By count (ToldAll t counts old new past × HearsEarly contents t early now past)
       (WritesSoFar t old new past × HearsEarly contents t early now past)
       (WritesSome t old new past × HearsMost contents t early now past)
-      → Replays t takes Heard old new (answer_of counts count)
+      → Replays t takes HearsSo old new (answer_of counts count)
   replays-by past count counts taken ordered h =
       let written : Writes t past count old new =
       by-more count (ToldAll t counts old new past × HearsEarly contents t early now past)
@@ -130,7 +130,7 @@ module _ {D : Type 0} (contents : D → Option (List ℕ)) (t : Rows) (takes : T
       → ((past : List Arrival) (answer : Result InputCount RunFault) → takes past answer → DontGoBack past)
       → Took (ExplainsAll contents (t, early) replay now old new)
       (ExplainsItems contents (t, early) replay now old new) (ExplainsSome contents (t, early) now old new) takes r
-      → Replays t takes (Heard contents t takes early now old new) old new (answer_of replay.counts r)
+      → Replays t takes (HearsSo contents t takes early now old new) old new (answer_of replay.counts r)
   replays-told r orders (items, taken, told) =
       replays-by contents t takes early now old new (arrivals items) r replay.counts taken
       (orders (arrivals items) r taken)
@@ -143,6 +143,21 @@ module _ {D : Type 0} (contents : D → Option (List ℕ)) (t : Rows) (takes : T
       (WritesSome t old new (arrivals items) × HearsMost contents t early now (arrivals items))
       (λ a. a) (λ a. (are-so-far _ _ _ _ _ _ _ a.0.told, a.1)) (λ a. either items a) told)
 
+-- the same where the input's bytes are known
+pub replays-known : {D B : Type 0} (contents : D → Option (List ℕ)) (t : Rows) (takes : B → Taking)
+    (early now : Option (Watched D)) (replay : Replay) (old new : Known) (known : Option B)
+    (r : Result InputCount RunFault)
+    → ((bytes : B) (past : List Arrival) (answer : Result InputCount RunFault) → takes bytes past answer
+    → DontGoBack past)
+    → IfSome known (λ bytes. Took (ExplainsAll contents (t, early) replay now old new)
+    (ExplainsItems contents (t, early) replay now old new) (ExplainsSome contents (t, early) now old new)
+    (takes bytes) r)
+    → IfSome known (λ bytes. Replays t (takes bytes) (HearsSo contents t (takes bytes) early now old new) old new
+    (answer_of replay.counts r))
+replays-known contents t takes early now replay old new None r orders h = tt
+replays-known contents t takes early now replay old new (Some bytes) r orders h =
+    replays-told contents t (takes bytes) early now replay old new r (orders bytes) h
+
 -- ---- nothing was told yet
 
 pub hears-start : {D : Type 0} (contents : D → Option (List ℕ)) (t : Rows) (early : Option (Watched D))
@@ -152,7 +167,7 @@ hears-start contents t (Some drops) = early-start contents t drops
 
 pub replays-none : {D : Type 0} (contents : D → Option (List ℕ)) (t : Rows) (takes : Taking)
     (early : Option (Watched D)) (output : Known) → takes [] (Err run.Memory)
-    → Replays t takes (Heard contents t takes early early output output) output output (Err run.Memory)
+    → Replays t takes (HearsSo contents t takes early early output output) output output (Err run.Memory)
 replays-none contents t takes early output taken =
     replays-by contents t takes early early output output [] (Err run.Memory) (counts_of t []) taken tt
     (([], replay_text t (events_of t []), refl, Appends-nil output), inl (hears-start contents t early))
@@ -217,3 +232,11 @@ module _ (rule : Rule) (takes : Taking) (police : Police) (old new : Known) wher
         (WritesBeginning rule old new (arrivals items))
         (λ a. a.told.written) (λ a. a.told.written) (λ a. begun items a) told;
   }
+
+pub polices-known : {B : Type 0} (rule : Rule) (takes : B → Taking) (police : Police) (old new : Known)
+    (known : Option B) (r : Result InputCount RunFault)
+    → IfSome known (λ bytes. Took (police_told.TellsItems rule police old new)
+    (police_told.TellsItems rule police old new) (police_told.BeginsItems rule old new) (takes bytes) r)
+    → IfSome known (λ bytes. Polices rule (takes bytes) old new (answer_of (Counts rule (takes bytes) police old new) r))
+polices-known rule takes police old new None r h = tt
+polices-known rule takes police old new (Some bytes) r h = polices-told rule (takes bytes) police old new r h

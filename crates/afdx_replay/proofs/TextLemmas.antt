@@ -1,12 +1,15 @@
--- The text and the counts of one arrival more.
+-- The text and the counts of one arrival more; what is known of a device that was lent.
 use Rattle.std.proofs.Common.{◌≡◌, ◌+◌, suc, List, [], ◌∷◌, ◌++◌, refl, ap, sym, ◌∙◌, Option}
-use Rattle.std.proofs.Common.{Bool, true, false, arith, cond}
+use Rattle.std.proofs.Common.{Bool, true, false, arith, cond, subst}
 use Rattle.afdx_police.specs.declared.shape.Reason.{Reason}
 use Rattle.afdx_police.specs.Arrival.{Arrival}
 use Rattle.afdx_police.specs.Rule.{Rule}
 use Rattle.afdx_police.specs.Verdicts.{verdict_in}
 use Rattle.afdx_replay.specs.policing.Text.{text_of, count_judged, verdict_line}
-pub use Rattle.afdx_text.proofs.OutputLemmas.{whole_front as front-whole, front-more, front-longer}
+
+-- what holds of it where it was lent holds of it once it is back
+pub once-back : {X : Type 0} (lent : X) (P : X → Type 0) {back : X} → P lent → lent ≡ back → P back
+once-back lent P h e = subst P e h
 
 pub text_of-none : (rule : Rule) → text_of rule [] ≡ []
 unfolding text_of

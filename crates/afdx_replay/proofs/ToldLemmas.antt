@@ -23,7 +23,8 @@ use Rattle.afdx_replay.specs.policing.Accounts.{HaveSeen}
 use Rattle.afdx_replay.specs.policing.Told.{HasTold}
 use Rattle.afdx_engine.proofs.RunLemmas.{IsDone, stops-at-start}
 use Rattle.afdx_replay.proofs.TextLemmas.{text_of-none, text_of-more, judged-none}
-use Rattle.afdx_replay.proofs.TextLemmas.{judged-more, judged-same, front-whole, front-more}
+use Rattle.afdx_replay.proofs.TextLemmas.{judged-more, judged-same}
+use Rattle.afdx_text.proofs.OutputLemmas.{whole_front as front-whole, front-more}
 
 pub told-start : (rule : Rule) (accounts : BySide LinkAccount) (output : Option (List ℕ))
     → HaveSeen accounts rule [] → HasTold rule accounts 0 0 output output []

@@ -11,6 +11,7 @@ ghost use Rattle.afdx_inputs.specs.RecordingRun.{AreCutOffInPair, IfBothKnown, t
 ghost use Rattle.afdx_lists.specs.declared.fault.RunFault.{RunFault as Fault};
 ghost use Rattle.afdx_recorded.specs.declared.counts.Tally.{Tally as Counted};
 ghost use Rattle.afdx_text.specs.Telling.{TellsLine};
+ghost use Rattle.afdx_commands.specs.Commands.{IsFourIfFailed, IsInputStatus, IsWholeIfDone};
 ghost use Rattle.afdx_commands.specs.Commands.{have_ended, one_has_failed};
 ghost use Rattle.afdx_replay.specs.Listing.{EndsListed, IsAskedOnceFor, IsNotListed, ListsIn, status_of_listing};
 
@@ -110,12 +111,10 @@ pub fn list_and_count<R: Read, O: Sink, E: Write>(
 
     // 0 comes only where the recording came to its end, 4 wherever a device failed; counts come
     // with 0.
-    ensures statuses { let status = result.status in
-        (status ≡ 0) ⊎ (status ≡ 1) ⊎ (status ≡ 3) ⊎ (status ≡ 4) }
+    ensures statuses { IsInputStatus result.status }
     ensures counts { IsSome result.tally ↔ (result.status ≡ 0) }
-    ensures done { result.status ≡ 0 → (has_ended input.new ≡ true) × (has_failed input.new ≡ false)
-        × (O.failed output.new ≡ false) }
-    ensures device { (has_failed input.new || O.failed output.new) ≡ true → result.status ≡ 4 }
+    ensures done { IsWholeIfDone result.status input.new (O.failed output.new) }
+    ensures device { IsFourIfFailed result.status input.new (O.failed output.new) }
     ensures calls { IsAskedOnceFor R.remaining input.old input.new }
 
     // The command ends as the listing answered, or nothing is read and nothing is written.
@@ -161,8 +160,7 @@ pub fn list_pair_and_count<R: Read, O: Sink, E: Write>(
     requires sound_output { O.failed output.old ≡ false }
 
     // 0 comes only where both came to their ends, 4 wherever a device failed; counts come with 0.
-    ensures statuses { let status = result.status in
-        (status ≡ 0) ⊎ (status ≡ 1) ⊎ (status ≡ 3) ⊎ (status ≡ 4) }
+    ensures statuses { IsInputStatus result.status }
     ensures counts { IsSome result.tally ↔ (result.status ≡ 0) }
     ensures done { result.status ≡ 0 →
         (has_ended inputs.new.a ≡ true) × (has_ended inputs.new.b ≡ true)

@@ -19,8 +19,8 @@ use crate::texts::short_text;
 use afdx_frame::{Policing, VlId};
 use afdx_police::LinkRule;
 use afdx_replay::{
-    CommandedRule, NO_COUNTS, Peeked, RecordingOptions, RunFault, Summary, Watched, police_input,
-    run_police,
+    CommandedRule, NO_COUNTS, Output, Peeked, RecordingOptions, RunFault, Summary, Watched,
+    police_input, run_police,
 };
 use afdx_samples::{ShortText, all_right, spelled};
 use std::alloc::Global;
@@ -139,10 +139,10 @@ type Commanded = (u8, bool, ShortText, ShortText);
 fn police_with(alloc: Global, rule: &CommandedRule, list: &[u8]) -> Result<Commanded, Fail> {
     let options = RecordingOptions::none(alloc)?;
     let mut input = Watched::new(Peeked::new(list));
-    let mut output = Watched::new(Vec::new(alloc));
+    let mut output = Output::new(alloc, 0, Vec::new(alloc))?;
     let mut errors = Watched::new(Vec::new(alloc));
     let ended = police_input(alloc, options, rule, &mut input, &mut output, &mut errors);
-    let text = short_text(output.into_inner().as_slice())?;
+    let text = short_text(output.into_device().as_slice())?;
     let line = short_text(errors.into_inner().as_slice())?;
     let has_counts = ended.ended.summary.is_some();
     Ok((ended.ended.status, has_counts, text, line))

@@ -2,7 +2,7 @@
 use Rattle.std.proofs.Common.{◌≡◌, ℕ, zero, suc, ◌+◌, ◌<◌, ◌≤◌, ◌==◌, true, false, if◌then◌else◌}
 use Rattle.std.proofs.Common.{List, [], ◌∷◌, ◌++◌, map, length, Option, Some, None, refl, ap, sym}
 use Rattle.std.proofs.Common.{◌∙◌, subst, arith, replicate, slice_set, slice_index_or}
-use Rattle.std.specs.Prelude.{IfSome, IfNone, Result, Ok, Err, IsOk}
+use Rattle.std.specs.Prelude.{IfSome, IfNone, Result}
 use Rattle.std.specs.List.{slice_get}
 use Rattle.std.specs.Io.KnownBytes.{Appends}
 use Rattle.std.proofs.KnownBytes.{Appends-trans, Appends-nil}
@@ -474,10 +474,11 @@ none-of (Some x) h = absurd (h x refl)
 
 -- ---- the command
 
-element : {T : Type 0} (xs : List T) (i : ℕ) → i < length xs → (x : T) × (slice_get xs i ≡ Some x)
-element [] i within = absurd (omega arith)
-element (x ∷ xs) zero within = (x, refl)
-element (x ∷ xs) (suc i) within = element xs i (omega arith)
+-- a place within some rows has a row
+pub row-at : {T : Type 0} (xs : List T) (i : ℕ) → i < length xs → (x : T) × (slice_get xs i ≡ Some x)
+row-at [] i within = absurd (omega arith)
+row-at (x ∷ xs) zero within = (x, refl)
+row-at (x ∷ xs) (suc i) within = row-at xs i (omega arith)
 
 -- what a run answers, for the row of its system, is what the command does
 pub sends-in : (config name : List ℕ) (t : Rows) (place : ℕ) (input rest old new : Option (List ℕ))
@@ -487,7 +488,7 @@ pub sends-in : (config name : List ℕ) (t : Rows) (place : ℕ) (input rest old
     → IfSome input (λ bytes. Answers (source_at t place row) bytes rest old new answer)) →
     Sends config name input rest old new answer
 sends-in config name t place input rest old new answer spelled named admitted within h =
-    let e = element t.systems place within in
+    let e = row-at t.systems place within in
     record {
       tables = t;
       spelled = spelled;
@@ -498,11 +499,3 @@ sends-in config name t place input rest old new answer spelled named admitted wi
       stands = e.1;
       answers = h e.0 e.1;
     }
-
-pub is-ok : {V E : Type 0} (r : Result V E) (v : V) → r ≡ Ok v → IsOk r
-is-ok (Ok w) v is = refl
-is-ok (Err e) v is = absurd (cc is)
-
-pub not-ok : {V E : Type 0} (r : Result V E) (e : E) → r ≡ Err e → IsOk r → ⊥
-not-ok (Ok v) e is h = absurd (cc is)
-not-ok (Err f) e is h = cc h

@@ -1,7 +1,5 @@
 -- What a run that sends has told at its start.
-use Rattle.std.proofs.Common.{◌≡◌, ℕ, ◌<◌, ◌≤◌, List, [], length, get_or, Option, Some, None, ◌⊎◌, inl, inr, refl, arith}
-use Rattle.std.specs.List.{slice_get}
-use Rattle.std.proofs.lemmas.Option.{slice_get_cases}
+use Rattle.std.proofs.Common.{◌≡◌, ℕ, List, [], Option, refl, arith}
 use Rattle.afdx_config.specs.Rows.{SystemRow, Rows}
 use Rattle.afdx_send.specs.Sender.{StandsFor, no_calls, frames_held, last_time}
 use Rattle.afdx_commands.specs.Counts.{no_counts}
@@ -23,12 +21,3 @@ items-start t system row sending output stands clock held port counts = record {
   few = omega arith;
   room = rw counts (room-start _ _ held refl);
 }
-
--- a place within some rows has a row
-pub row-at : {X : Type 0} (xs : List X) (i : ℕ) → i < length xs → (x : X) × (slice_get xs i ≡ Some x)
-row-at {X} xs i within = row_in (slice_get_cases xs i).1
-  where
-    row_in : ((x : X) × (i < length xs) × (slice_get xs i ≡ Some x) × (get_or xs i x ≡ x))
-        ⊎ ((length xs ≤ i) × (slice_get xs i ≡ None)) → (x : X) × (slice_get xs i ≡ Some x)
-    row_in (inl (x, lt, is, same)) = (x, is)
-    row_in (inr (past, none)) = absurd (omega (arith, within, past))

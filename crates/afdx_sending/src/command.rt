@@ -1,10 +1,10 @@
 //! The command `send`.
 
-ghost use Rattle.std.specs.Prelude.{◌≡◌, ◌≤◌, ◌+◌, ◌||◌, ◌⊎◌, ◌↔◌, Result, IsSome, false, true};
+ghost use Rattle.std.specs.Prelude.{◌≡◌, ◌≤◌, ◌+◌, ◌⊎◌, ◌↔◌, Result, IsSome, false};
 ghost use Rattle.afdx_lists.specs.Lines.{most_reads};
 ghost use Rattle.afdx_lists.specs.Watching.{calls_of, device_of, has_ended, has_failed};
 ghost use Rattle.afdx_lists.specs.declared.fault.RunFault.{RunFault};
-ghost use Rattle.afdx_commands.specs.Commands.{EndsAs};
+ghost use Rattle.afdx_commands.specs.Commands.{EndsAs, IsFourIfFailed, IsWholeIfDone};
 ghost use Rattle.afdx_commands.specs.declared.summary.Summary.{Summary};
 ghost use Rattle.afdx_sending.specs.Command.{IsNotSent, Sends};
 ghost use Rattle.afdx_commands.specs.declared.ending.Ended.{Ended as End};
@@ -15,7 +15,7 @@ use afdx_commands::refusing::{refuse_config, refuse_name, refuse_tables};
 use afdx_commands::{Ended, end};
 use afdx_config::read_tables;
 use afdx_lists::Watched;
-use afdx_text::Sink;
+use afdx_text::{AtOnce, Sink, Text};
 use std::alloc::Global;
 use std::io::{Read, Write};
 
@@ -43,11 +43,10 @@ pub fn send_and_count<R: Read, O: Sink, E: Write>(
     ensures statuses { let status = result.status in
         (status ≡ 0) ⊎ (status ≡ 1) ⊎ (status ≡ 2) ⊎ (status ≡ 3) ⊎ (status ≡ 4) }
     ensures counts { IsSome result.summary ↔ (result.status ≡ 0) }
-    ensures done { result.status ≡ 0 →
-        (has_ended input.new ≡ true) × (has_failed input.new ≡ false)
-        × (O.failed output.new ≡ false) }
-    ensures device { (has_failed input.new || O.failed output.new) ≡ true → result.status ≡ 4 }
+    ensures done { IsWholeIfDone result.status input.new (O.failed output.new) }
+    ensures device { IsFourIfFailed result.status input.new (O.failed output.new) }
     ensures calls { calls_of input.new ≤ calls_of input.old + most_reads }
+    ensures settings { O.settings output.new ≡ O.settings output.old }
 
     // The command ends as a run over the list answered, or nothing is read and nothing is written.
     ensures sends { ((answer : Result Summary RunFault)
@@ -87,9 +86,8 @@ pub fn send<R: Read, O: Write, E: Write>(
     requires unended { has_ended input.old ≡ false }
     requires sound_output { has_failed output.old ≡ false }
     ensures statuses { (result ≡ 0) ⊎ (result ≡ 1) ⊎ (result ≡ 2) ⊎ (result ≡ 3) ⊎ (result ≡ 4) }
-    ensures done { result ≡ 0 → (has_ended input.new ≡ true) × (has_failed input.new ≡ false)
-        × (has_failed output.new ≡ false) }
-    ensures device { (has_failed input.new || has_failed output.new) ≡ true → result ≡ 4 }
+    ensures done { IsWholeIfDone result input.new (has_failed output.new) }
+    ensures device { IsFourIfFailed result input.new (has_failed output.new) }
     ensures calls { calls_of input.new ≤ calls_of input.old + most_reads }
     ensures sends { (ended : End) × (ended.status ≡ result)
         × (((answer : Result Summary RunFault)
@@ -100,6 +98,7 @@ pub fn send<R: Read, O: Write, E: Write>(
         ⊎ (IsNotSent E.contents config.now system.now errors.old errors.new ended.status
         × (input.new ≡ input.old) × (output.new ≡ output.old))) }
 {
-    let ended = send_and_count(alloc, config, system, input, output, errors);
-    ended.status
+    let mut text = Text::new(alloc);
+    let mut output = AtOnce::new(output, &mut text);
+    send_and_count(alloc, config, system, input, &mut output, errors).status
 }

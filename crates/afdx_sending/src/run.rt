@@ -1,6 +1,6 @@
 //! A run that sends the messages of a list.
 
-ghost use Rattle.std.specs.Prelude.{◌≡◌, ◌<◌, ◌≤◌, ◌+◌, ◌^◌, ◌⊎◌, ◌↔◌, ◌++◌, ◌∷◌, [], ℕ, List, Option, Some, IfOk, IfErr, IfSome, IsTrue, OnOk, OnErr, length, slice_get, true, false};
+ghost use Rattle.std.specs.Prelude.{◌≡◌, ◌<◌, ◌≤◌, ◌+◌, ◌⊎◌, ◌∷◌, [], ℕ, List, Option, Some, IfOk, IfErr, IfSome, OnOk, OnErr, length, slice_get, true, false};
 ghost use Rattle.afdx_frame.specs.Times.{latest_listed};
 ghost use Rattle.afdx_lists.specs.Lines.{most_lines, most_reads};
 ghost use Rattle.afdx_config.specs.Rows.{SystemRow};
@@ -22,7 +22,7 @@ use afdx_engine::{Machine, run_list};
 use afdx_frame::{Side, VlId};
 use afdx_lists::{FrameKind, Handed, RunFault, Watched};
 use afdx_send::{Emission, SendFault, Sender};
-use afdx_text::{OutLine, Sink, Text};
+use afdx_text::{AtOnce, OutLine, Sink, Text};
 use std::alloc::{AllocError, Global};
 use std::io::{Read, Write};
 
@@ -30,15 +30,11 @@ use std::io::{Read, Write};
 const DRAIN_END: u64 = 1_200_000_000_000_000;
 
 /// Puts the lines of an emission.
-fn put_emission<O: Sink>(
-    output: &mut O,
-    text: &mut Text,
-    port: u8,
-    emission: &Emission,
-) -> Result<(), RunFault>
+fn put_emission<O: Sink>(output: &mut O, port: u8, emission: &Emission) -> Result<(), RunFault>
     requires sound { O.failed output.old ≡ false }
     ensures failed { O.failed output.new ≡ is_failed_write result }
     ensures fault { IfErr result IsOfOutput }
+    ensures settings { O.settings output.new ≡ O.settings output.old }
     ensures lines { OnOk result (Appends (O.written output.old) (O.written output.new)
         (emission_lines port (sending_of emission.now))) }
     ensures front { OnErr result (AppendsFront (O.written output.old) (O.written output.new)
@@ -58,8 +54,8 @@ fn put_emission<O: Sink>(
         port,
         bytes: emission.b.as_slice(),
     };
-    output.put(&on_a, text)?;
-    output.put(&on_b, text)
+    output.put(&on_a)?;
+    output.put(&on_b)
 }
 
 /// Why a message was refused, but where it is memory that was: that is handed on.
@@ -79,24 +75,12 @@ fn refusal_of(fault: SendFault) -> Result<SendFault, AllocError>
 }
 
 /// What a run that sends works with.
+#[derive(Drop)]
 struct Sending {
     sender: Sender,
     /// The switch port of its system.
     port: u8,
-    text: Text,
     counts: Summary,
-}
-
-impl Drop for Sending {
-    // (written out, it is one call wherever a value is let go)
-    fn drop(self) {
-        let Self {
-            sender,
-            port,
-            text,
-            counts,
-        } = self;
-    }
 }
 
 impl Sending {
@@ -113,7 +97,6 @@ impl Sending {
         Ok(Sending {
             sender,
             port: tables.tables().system(system).port,
-            text: Text::new(alloc),
             counts: NO_COUNTS,
         })
     }
@@ -126,6 +109,7 @@ impl Sending {
         requires sound { O.failed output.old ≡ false }
         ensures failed { O.failed output.new ≡ is_failed_write result }
         ensures fault { IfErr result IsOfOutput }
+        ensures settings { O.settings output.new ≡ O.settings output.old }
         ensures clock { OnOk result (last_time self.new.sender ≡ until) }
         ensures quiet { OnOk result (IsQuiet self.new.sender until) }
         ensures room { (n : ℕ) → HasRoom self.old.counts (frames_held self.old.sender) n →
@@ -142,7 +126,7 @@ impl Sending {
             (WritesSome s start (O.written output.new) (submissions_in events)) }
     {
         while let Some(emission) = self.sender.emit(until)? {
-            put_emission(output, &mut self.text, self.port, &emission)?;
+            put_emission(output, self.port, &emission)?;
             self.counts.departed += 1;
         }
         Ok(())
@@ -199,6 +183,7 @@ impl Sending {
         requires sound { O.failed output.old ≡ false }
         ensures failed { O.failed output.new ≡ is_failed_write result }
         ensures fault { IfErr result IsOfOutput }
+        ensures settings { O.settings output.new ≡ O.settings output.old }
         ensures clock { OnOk result (last_time self.new.sender ≡ handed.now.time) }
         ensures room { (m : ℕ) → HasRoom self.old.counts (frames_held self.old.sender) m →
             OnOk result (HasRoom self.new.counts (frames_held self.new.sender) (m + 1)) }
@@ -220,7 +205,7 @@ impl Sending {
                 n,
                 word: fault.word(),
             };
-            output.put(&line, &mut self.text)?;
+            output.put(&line)?;
         }
         Ok(())
     }
@@ -270,6 +255,7 @@ pub(crate) fn send_into<R: Read, O: Sink>(
     ensures read { has_failed input.new ≡ is_failed_read result }
     ensures write { O.failed output.new ≡ is_failed_write result }
     ensures calls { calls_of input.new ≤ calls_of input.old + most_reads }
+    ensures settings { O.settings output.new ≡ O.settings output.old }
 
     // Where the input's bytes are known: what is answered and written for the list that they are.
     ensures answer { (row : SystemRow) → slice_get tables.now.systems system.0 ≡ Some row →
@@ -315,5 +301,7 @@ pub fn run_send<R: Read, W: Write>(
         Answers (source_at tables.now system.0 row) bytes (R.remaining (device_of input.new))
         (W.contents (device_of output.old)) (W.contents (device_of output.new)) result) }
 {
-    send_into(alloc, tables, system, input, output)
+    let mut text = Text::new(alloc);
+    let mut output = AtOnce::new(output, &mut text);
+    send_into(alloc, tables, system, input, &mut output)
 }

@@ -1,22 +1,9 @@
 //! The items of `afdx_police`.
 
 use afdx_frame::{Policing, VlId};
-use afdx_police::{
-    ByteCharge, Charge, FrameCharge, LinkRule, Policer, REASONS, Reason, judge,
-};
+use afdx_police::{ByteCharge, Charge, FrameCharge, LinkRule, Policer, Reason, judge};
 use afdx_samples::{equal, hello};
 use std::test::Fail;
-
-/// Whether the table has a row of each of these reasons, with its word.
-fn are_listed(reasons: &[Reason]) -> bool {
-    for reason in reasons {
-        let word: &str = reason.word();
-        if !REASONS.iter().any(|row| row.0 == *reason && row.1 == word) {
-            return false;
-        }
-    }
-    true
-}
 
 /// The rule of link 1, at port 1.
 fn rule() -> Option<LinkRule> {
@@ -61,20 +48,28 @@ fn verdicts() -> Result<(), Fail> {
 
 #[test]
 fn reasons() -> Result<(), Fail> {
-    let of_frames = [
-        Reason::TooShort,
-        Reason::TooLong,
-        Reason::BadFcs,
-        Reason::BadAddress,
+    let of_frames: [&str; 4] = [
+        Reason::TooShort.word(),
+        Reason::TooLong.word(),
+        Reason::BadFcs.word(),
+        Reason::BadAddress.word(),
     ];
-    let of_links = [
-        Reason::UnknownLink,
-        Reason::WrongPort,
-        Reason::OverLmax,
-        Reason::UnderLmin,
-        Reason::OverRate,
+    let of_links: [&str; 5] = [
+        Reason::UnknownLink.word(),
+        Reason::WrongPort.word(),
+        Reason::OverLmax.word(),
+        Reason::UnderLmin.word(),
+        Reason::OverRate.word(),
     ];
-    equal((are_listed(&of_frames), are_listed(&of_links)), (true, true))
+    let frame_words = ["too-short", "too-long", "bad-fcs", "bad-address"];
+    let link_words = [
+        "unknown-link",
+        "wrong-port",
+        "over-lmax",
+        "under-lmin",
+        "over-rate",
+    ];
+    equal((of_frames, of_links), (frame_words, link_words))
 }
 
 #[test]

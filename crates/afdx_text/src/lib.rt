@@ -19,7 +19,7 @@ mod writing;
 pub use line::OutLine;
 pub use offered::Offered;
 pub use output::Output;
-pub use sink::Sink;
+pub use sink::{AtOnce, Sink};
 pub use telling::{tell, tell_fault, tell_number};
 pub use text::Text;
 pub use whole_lines::WholeLines;

@@ -1,6 +1,6 @@
 //! The output of a run: lines that are held until there is no more room for them, before a device.
 
-ghost use Rattle.std.specs.Prelude.{◌≡◌, ◌≤◌, ◌+◌, [], OnOk, OnErr, IfOk, IfErr, false, true, is_err, nat_eq};
+ghost use Rattle.std.specs.Prelude.{◌≡◌, ◌≤◌, ◌+◌, [], Bool, OnOk, OnErr, IfOk, IfErr, false, true, is_err, nat_eq};
 ghost use Rattle.std.specs.Io.KnownBytes.{Appends, Keeps};
 ghost use Rattle.afdx_lists.specs.Calls.{AppendsFront, is_failed_write};
 ghost use Rattle.afdx_text.specs.OutLines.{line_text};
@@ -138,11 +138,15 @@ impl<W: Write + Drop> Sink for Output<W> {
 
     ghost failed = { λ o. device_has_failed o };
 
+    ghost Settings = { Bool };
+
+    ghost settings = { λ o. is_at_once o };
+
     /// Puts a line in its place among those that are held. Where that fails, none of it was put; or
     /// all of it, where it is handed over at once and the device failed. Where lines are handed
     /// over at once nothing is held after it.
     #[inline(always)]
-    fn put(&mut self, line: &OutLine<'_>, _scratch: &mut Text) -> Result<(), RunFault>
+    fn put(&mut self, line: &OutLine<'_>) -> Result<(), RunFault>
         requires sound { device_has_failed self.old ≡ false }
         ensures write { device_has_failed self.new ≡ is_failed_write result }
         ensures fault { IfErr result IsOfOutput }
@@ -151,7 +155,7 @@ impl<W: Write + Drop> Sink for Output<W> {
         ensures front { OnErr result (AppendsFront (written W.contents self.old)
             (written W.contents self.new) (line_text line.now)) }
         ensures at_once { is_at_once self.old ≡ true → OnOk result (held_bytes self.new ≡ []) }
-        ensures stays { is_at_once self.new ≡ is_at_once self.old }
+        ensures settings { is_at_once self.new ≡ is_at_once self.old }
     {
         self.hold(line)?;
         if self.is_at_once {

@@ -21,26 +21,54 @@ pub trait Sink {
     /// Whether its device has failed.
     ghost failed: { Self → Bool };
 
+    /// What it works by, which no call changes.
+    ghost Settings: { Type 0 };
+
+    ghost settings: { Self → Settings };
+
     /// Puts a line. Where that fails, a beginning of it was put, and the device isn't asked again.
-    /// A sink that hands each line over at once makes it in `scratch`, whose text is lost.
-    fn put(&mut self, line: &OutLine<'_>, scratch: &mut Text) -> Result<(), RunFault>
+    fn put(&mut self, line: &OutLine<'_>) -> Result<(), RunFault>
         requires sound { failed self.old ≡ false }
         ensures write { failed self.new ≡ is_failed_write result }
         ensures fault { IfErr result IsOfOutput }
         ensures whole { OnOk result
             (Appends (written self.old) (written self.new) (line_text line.now)) }
         ensures front { OnErr result
-            (AppendsFront (written self.old) (written self.new) (line_text line.now)) };
+            (AppendsFront (written self.old) (written self.new) (line_text line.now)) }
+        ensures settings { settings self.new ≡ settings self.old };
 }
 
-impl<W: Write> Sink for Watched<W> {
-    ghost written = { λ w. W.contents (device_of w) };
+/// Hands each line at once to a device that was lent to it.
+#[derive(Drop)]
+pub struct AtOnce<'a, W> {
+    device: &'a mut Watched<W>,
+    /// Where a line is put together.
+    text: &'a mut Text,
+}
 
-    ghost failed = { λ w. has_failed w };
+impl<'a, W> AtOnce<'a, W> {
+    /// A sink before this device. What `text` held is lost.
+    pub fn new(device: &'a mut Watched<W>, text: &'a mut Text) -> AtOnce<'a, W>
+        ensures same_reference { result.device.ghost_name ≡ device.entry.ghost_name }
+        ensures device { result.device.now ≡ device.old }
+    {
+        AtOnce { device, text }
+    }
+}
 
-    fn put(&mut self, line: &OutLine<'_>, scratch: &mut Text) -> Result<(), RunFault> {
-        scratch.clear();
-        line.put(scratch)?;
-        write_text(self, scratch.as_bytes())
+impl<W: Write> Sink for AtOnce<'_, W> {
+    ghost written = { λ sink. W.contents (device_of sink.device.now) };
+
+    ghost failed = { λ sink. has_failed sink.device.now };
+
+    /// The device that it was lent.
+    ghost Settings = { ℕ };
+
+    ghost settings = { λ sink. sink.device.ghost_name };
+
+    fn put(&mut self, line: &OutLine<'_>) -> Result<(), RunFault> {
+        self.text.clear();
+        line.put(&mut *self.text)?;
+        write_text(&mut *self.device, self.text.as_bytes())
     }
 }

@@ -1,8 +1,7 @@
 //! Faults are told, each in one line, without memory.
 
-ghost use Rattle.std.specs.Prelude.{◌≡◌, decimal, false, true};
+ghost use Rattle.std.specs.Prelude.{decimal};
 ghost use Rattle.afdx_text.specs.Telling.{Tells, TellsLine};
-ghost use Rattle.afdx_lists.specs.Watching.{has_failed};
 
 use crate::writing::write_text;
 use afdx_lists::{RunFault, Watched};

@@ -1,6 +1,6 @@
 //! Text that is put together line by line.
 
-ghost use Rattle.std.specs.Prelude.{◌≡◌, ◌≤◌, ◌<◌, ◌+◌, ◌++◌, [], OnOk, OnErr, is_ok, true, length, take, drop, vec_len, IsTrue, ◌↔◌};
+ghost use Rattle.std.specs.Prelude.{◌≡◌, ◌≤◌, ◌<◌, ◌+◌, ◌++◌, [], OnOk, OnErr, is_ok, true, length, drop, vec_len, IsTrue, ◌↔◌};
 
 use crate::kinds::Kept;
 use crate::line::OutLine;

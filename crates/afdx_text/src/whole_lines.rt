@@ -1,7 +1,7 @@
 //! Lines that go to a device whole, in however many pieces they come.
 
 ghost use Rattle.std.specs.Prelude.{◌≡◌, ◌≤◌, ◌+◌, ◌++◌, [], IfOk, OnErr, OnOk, Ok, false, true};
-ghost use Rattle.std.specs.Prelude.{drop, length, take};
+ghost use Rattle.std.specs.Prelude.{length, take};
 ghost use Rattle.std.specs.Io.{WritesAtMost};
 ghost use Rattle.std.specs.Io.KnownBytes.{Appends, Keeps, WriteAppends, append_known};
 ghost use Rattle.afdx_text.specs.WholeLines.{Fits, OffersWhole, device_under, ends_line};
@@ -21,6 +21,7 @@ fn append(held: &mut ArrayVec<u8, ROOM>, bytes: &[u8])
     ensures { held.new.items ≡ held.old.items ++ bytes.now }
 {
     let Ok(()) = held.try_extend_from_slice(bytes) else {
+        // (`Fits`: there is room for them)
         unreachable!()
     };
 }

@@ -1,6 +1,7 @@
 //! The options of a recording, and what their words say.
 
 ghost use Rattle.std.specs.Prelude.{◌<◌, IfSome};
+ghost use Rattle.afdx_recorded.specs.Places.{most_interfaces};
 
 use afdx_frame::{BySide, LAST_PORT, Side};
 use afdx_recorded::{Interfaces, PairOptions, Place, RecordingOptions};
@@ -164,7 +165,7 @@ fn place_in(word: &str) -> Option<Place> {
 
 /// The interface and the place that a word `K=PLACE` names.
 fn interface_in(word: &str) -> Option<(u16, Place)>
-    ensures { IfSome result (λ at. at.0 < 4096) }
+    ensures { IfSome result (λ at. at.0 < most_interfaces) }
 {
     let (interface, place) = word.split_once('=')?;
     let interface = number_in(interface, 4)?;
@@ -176,7 +177,7 @@ fn interface_in(word: &str) -> Option<(u16, Place)>
 
 /// Says where the frames of an interface came in, unless that was said before.
 fn put_once(interfaces: &mut Interfaces, interface: u16, place: Place) -> Result<(), Refused>
-    requires { interface < 4096 }
+    requires { interface < most_interfaces }
 {
     if interfaces.place(interface).is_some() {
         return Err(Refused::BadInterface);
@@ -200,7 +201,7 @@ fn interfaces_in(alloc: Global, words: &[&str]) -> Result<Interfaces, Refused> {
 /// Says where the frames of an interface came in, unless that was said before: in the recording of
 /// the place's side, or that they are left out of both.
 fn put_in_pair(pair: &mut BySide<Interfaces>, interface: u16, place: Place) -> Result<(), Refused>
-    requires { interface < 4096 }
+    requires { interface < most_interfaces }
 {
     match place {
         Place::LeftOut => {

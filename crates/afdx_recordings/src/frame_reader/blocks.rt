@@ -23,7 +23,7 @@ impl FrameReader {
     ghost use Rattle.afdx_recordings.specs.Holding.{unread, standing, IsTrueToEnd};
     ghost use Rattle.afdx_recordings.specs.Recordings.{most_numbers};
     ghost use Rattle.afdx_recordings.specs.Blocks.{least_of, is_held, head_by};
-    ghost use Rattle.afdx_recordings.specs.Pcapng.{block_rest, block_meaning};
+    ghost use Rattle.afdx_recordings.specs.Pcapng.{block_head, block_rest, block_meaning};
     ghost use Rattle.afdx_recordings.specs.Reading.{state_of, latest, Tells, TellsBlock, Meant};
     ghost use Rattle.afdx_recordings.specs.Reading.{CountsBlock};
     ghost use Rattle.afdx_recordings.specs.declared.form.Form.TheVariants.{Pcapng};
@@ -63,7 +63,7 @@ impl FrameReader {
         requires sound { has_failed input.old ≡ false }
         requires honest { IsTrueToEnd (standing R.remaining self.old.held input.old) }
         requires form { self.old.known.form ≡ Some Pcapng }
-        requires held { 12 ≤ length (unread self.old.held) }
+        requires held { block_head ≤ length (unread self.old.held) }
         ensures honest { IsTrueToEnd (standing R.remaining self.new.held input.new) }
         ensures failed { has_failed input.new ≡ is_failed_read result }
         ensures tells { TellsBlock result (standing R.remaining self.old.held input.old)
@@ -86,8 +86,8 @@ impl FrameReader {
     #[inline(always)]
     #[tactic(auto, unfolding(crate::specs::Pcapng::block_rest))]
     fn head(&self) -> Result<Head, RunFault>
-        requires { 12 ≤ length (unread self.now.held) }
-        ensures few { OnOk result (self.now.known.blocks < 100000000000000000) }
+        requires { block_head ≤ length (unread self.now.held) }
+        ensures few { OnOk result (self.now.known.blocks < most_numbers) }
         ensures least { IfOk result (λ head. least_of head.kind ≤ head.size) }
         ensures told { MatchResult result
             (λ head. head_by self.now.known.order (unread self.now.held) ≡ Some head)
@@ -113,8 +113,8 @@ impl FrameReader {
         requires sound { has_failed input.old ≡ false }
         requires honest { IsTrueToEnd (standing R.remaining self.old.held input.old) }
         requires form { self.old.known.form ≡ Some Pcapng }
-        requires held { 12 ≤ length (unread self.old.held) }
-        requires few { self.old.known.blocks < 100000000000000000 }
+        requires held { block_head ≤ length (unread self.old.held) }
+        requires few { self.old.known.blocks < most_numbers }
         requires least { least_of head.kind ≤ head.size }
         requires told { head_by self.old.known.order (unread self.old.held) ≡ Some head }
         ensures honest { IsTrueToEnd (standing R.remaining self.new.held input.new) }
@@ -141,8 +141,8 @@ impl FrameReader {
         requires sound { has_failed input.old ≡ false }
         requires honest { IsTrueToEnd (standing R.remaining self.old.held input.old) }
         requires form { self.old.known.form ≡ Some Pcapng }
-        requires held { 12 ≤ length (unread self.old.held) }
-        requires few { self.old.known.blocks < 100000000000000000 }
+        requires held { block_head ≤ length (unread self.old.held) }
+        requires few { self.old.known.blocks < most_numbers }
         requires least { least_of head.kind ≤ head.size }
         requires told { head_by self.old.known.order (unread self.old.held) ≡ Some head }
         ensures honest { IsTrueToEnd (standing R.remaining self.new.held input.new) }
@@ -159,7 +159,7 @@ impl FrameReader {
     /// Takes a block that is held whole.
     #[inline(always)]
     fn take_held(&mut self, head: Head) -> Result<Progress, RunFault>
-        requires few { self.old.known.blocks < 100000000000000000 }
+        requires few { self.old.known.blocks < most_numbers }
         requires least { least_of head.kind ≤ head.size }
         requires held { head.size ≤ length (unread self.old.held) }
         requires told { head_by self.old.known.order (unread self.old.held) ≡ Some head }
@@ -200,8 +200,8 @@ impl FrameReader {
         requires sound { has_failed input.old ≡ false }
         requires honest { IsTrueToEnd (standing R.remaining self.old.held input.old) }
         requires form { self.old.known.form ≡ Some Pcapng }
-        requires held { 12 ≤ length (unread self.old.held) }
-        requires few { self.old.known.blocks < 100000000000000000 }
+        requires held { block_head ≤ length (unread self.old.held) }
+        requires few { self.old.known.blocks < most_numbers }
         requires least { least_of head.kind ≤ head.size }
         requires skipped { is_held head.kind ≡ false }
         requires told { head_by self.old.known.order (unread self.old.held) ≡ Some head }
@@ -225,7 +225,7 @@ impl FrameReader {
     /// Takes a block of which the last bytes are held.
     #[inline(never)]
     fn take_skipped(&mut self, head: Head) -> Result<Progress, RunFault>
-        requires few { self.old.known.blocks < 100000000000000000 }
+        requires few { self.old.known.blocks < most_numbers }
         requires least { least_of head.kind ≤ head.size }
         requires skipped { is_held head.kind ≡ false }
         requires held { 4 ≤ length (unread self.old.held) }

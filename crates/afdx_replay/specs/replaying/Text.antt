@@ -10,6 +10,8 @@ use Rattle.afdx_network.specs.Events.{Event, Came, Left, Admission, Departure}
 use Rattle.afdx_replay.specs.policing.Text.{verdict_line}
 use Rattle.afdx_commands.specs.Counts.{no_counts}
 use Rattle.afdx_commands.specs.declared.summary.Summary.{Summary}
+use Rattle.afdx_replay.specs.declared.replaying.lines.Heard.{Heard}
+use Rattle.afdx_replay.specs.declared.replaying.lines.Heard.TheVariants.{Message, Nothing}
 pub use Rattle.afdx_text.specs.OutLines.{loss_line, letter_of, departure_line}
 
 -- the frame of a departure, as its port's system gets it
@@ -42,6 +44,11 @@ admission_lines c =
 abbrev pub heard : Bool → Rows → List HandedOver → HandedOver → List ℕ
 heard false t before d = reception_line t before d
 heard true t before d = []
+
+-- that is a message
+abbrev pub has_message : Heard → Bool
+has_message Message = true
+has_message Nothing = false
 
 -- the lines of an event that comes after these
 abbrev pub lines_after : Rows → List Event → Event → List ℕ

@@ -1,9 +1,9 @@
 //! The command `police`.
 
-ghost use Rattle.std.specs.Prelude.{◌≡◌, ◌≤◌, ◌+◌, ◌||◌, ◌⊎◌, ◌↔◌, ℕ, Result, IfSome, IsSome, codes, false, true};
+ghost use Rattle.std.specs.Prelude.{◌≡◌, ◌≤◌, ◌+◌, ◌||◌, ◌⊎◌, ◌↔◌, Result, IfSome, IsSome, codes, false};
 ghost use Rattle.afdx_lists.specs.Lines.{most_reads};
 ghost use Rattle.afdx_text.specs.Telling.{Tells};
-ghost use Rattle.afdx_commands.specs.Commands.{EndsAs};
+ghost use Rattle.afdx_commands.specs.Commands.{EndsAs, IsFourIfFailed, IsWholeIfDone};
 ghost use Rattle.afdx_replay.specs.policing.Command.{commanded_rule, usual_rule, IsCommanded};
 ghost use Rattle.afdx_replay.specs.policing.Policed.{Answers};
 ghost use Rattle.afdx_commands.specs.declared.ending.Ended.{Ended as End};
@@ -79,9 +79,8 @@ pub fn police<R: Read, O: Write, E: Write>(
     requires unended { has_ended input.old ≡ false }
     requires sound_output { has_failed output.old ≡ false }
     ensures statuses { (result ≡ 0) ⊎ (result ≡ 2) ⊎ (result ≡ 3) ⊎ (result ≡ 4) }
-    ensures done { result ≡ 0 → (has_ended input.new ≡ true) × (has_failed input.new ≡ false)
-        × (has_failed output.new ≡ false) }
-    ensures device { (has_failed input.new || has_failed output.new) ≡ true → result ≡ 4 }
+    ensures done { IsWholeIfDone result input.new (has_failed output.new) }
+    ensures device { IsFourIfFailed result input.new (has_failed output.new) }
     ensures calls { calls_of input.new ≤ calls_of input.old + most_reads }
     ensures out_of_range { (IsCommanded (usual_rule bag_ms lmax jitter_us) → ⊥) →
         (result ≡ 2) × Tells E.contents errors.old errors.new (codes "words BadRule\n")

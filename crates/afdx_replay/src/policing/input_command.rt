@@ -63,6 +63,7 @@ pub fn police_input<P: Drop, A: Arrivals<P>, O: Sink, E: Write>(
         (A.Takes options (one_port (commanded_rule given.now).port) bytes input.new)
         (O.written output.old) (O.written output.new) answer) }
 {
+    // (a law of the input: before it is asked for anything it hasn't failed)
     A::starts();
     let Some(rule) = given.rule() else {
         tell(errors, b"words BadRule\n");

@@ -37,7 +37,7 @@ pub(crate) fn police_over<P: Drop, A: Arrivals<P>, O: Sink>(
         (A.Takes options (one_port (rule_of rule.now).port) bytes input.new)
         (O.written output.old) (O.written output.new) result) }
 {
-    let mut police = Police::new(alloc, rule);
+    let mut police = Police::new(rule);
     let unsaid = UnsaidPort::One(rule.port);
     let count = input.tell_all(alloc, options, unsaid, &mut police, output)?;
     let counts = Summary {

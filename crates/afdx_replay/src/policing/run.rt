@@ -19,8 +19,8 @@ use afdx_engine::{Machine, run_list};
 use afdx_frame::BySide;
 use afdx_lists::{Heading, RunFault, Watched};
 use afdx_police::{LinkAccount, LinkRule, Reason};
-use afdx_text::{OutLine, Sink, Text};
-use std::alloc::{AllocError, Global};
+use afdx_text::{AtOnce, OutLine, Sink, Text};
+use std::alloc::Global;
 use std::io::{Read, Write};
 
 /// The accounts of one link, one at each switch.
@@ -62,37 +62,24 @@ fn count_if(count: u64, is_one_more: bool) -> u64
 }
 
 /// What a run that polices one link works with.
+#[derive(Drop)]
 pub(crate) struct Police {
     accounts: BySide<LinkAccount>,
-    text: Text,
     pub(crate) accepted: u64,
     pub(crate) dropped: u64,
-}
-
-impl Drop for Police {
-    // (written out, it is one call wherever a value is let go)
-    fn drop(self) {
-        let Self {
-            accounts,
-            text,
-            accepted,
-            dropped,
-        } = self;
-    }
 }
 
 impl Police {
     ghost use Rattle.afdx_replay.specs.policing.Told.{TellsItems};
 
     /// It has told nothing yet.
-    pub(crate) fn new(alloc: Global, rule: &LinkRule) -> Police
+    pub(crate) fn new(rule: &LinkRule) -> Police
         ensures { (output : Option (List ℕ)) →
             TellsItems (rule_of rule.now) result output output [] }
     {
         let accounts = new_accounts(rule);
         Police {
             accounts,
-            text: Text::new(alloc),
             accepted: 0,
             dropped: 0,
         }
@@ -127,7 +114,7 @@ impl Machine<Heading> for Police {
             side: heading.side,
             reason,
         };
-        output.put(&line, &mut self.text)?;
+        output.put(&line)?;
         Ok(())
     }
 
@@ -162,8 +149,10 @@ pub fn run_police<R: Read, W: Write>(
         Answers (rule_of rule.now) bytes (R.remaining (device_of input.new))
         (W.contents (device_of output.old)) (W.contents (device_of output.new)) result) }
 {
-    let mut police = Police::new(alloc, rule);
-    let lines = run_list(alloc, &mut police, input, output)?;
+    let mut text = Text::new(alloc);
+    let mut output = AtOnce::new(output, &mut text);
+    let mut police = Police::new(rule);
+    let lines = run_list(alloc, &mut police, input, &mut output)?;
     Ok(Summary {
         lines,
         accepted: police.accepted,

@@ -1,10 +1,10 @@
 //! The command `replay`.
 
-ghost use Rattle.std.specs.Prelude.{◌≡◌, ◌≤◌, ◌+◌, ◌||◌, ◌⊎◌, Result, false, true};
+ghost use Rattle.std.specs.Prelude.{◌≡◌, ◌≤◌, ◌+◌, ◌⊎◌, Result, false};
 ghost use Rattle.afdx_lists.specs.Lines.{most_reads};
 ghost use Rattle.afdx_lists.specs.Watching.{calls_of, device_of, has_ended, has_failed};
 ghost use Rattle.afdx_lists.specs.declared.fault.RunFault.{RunFault};
-ghost use Rattle.afdx_commands.specs.Commands.{EndsAs};
+ghost use Rattle.afdx_commands.specs.Commands.{EndsAs, IsFourIfFailed, IsInputStatus, IsWholeIfDone};
 ghost use Rattle.afdx_commands.specs.declared.summary.Summary.{Summary};
 ghost use Rattle.afdx_replay.specs.replaying.Command.{IsNotReplayed, Replays};
 ghost use Rattle.afdx_commands.specs.declared.ending.Ended.{Ended as End};
@@ -32,10 +32,9 @@ pub fn replay<R: Read, O: Write, E: Write>(
     requires sound_input { has_failed input.old ≡ false }
     requires unended { has_ended input.old ≡ false }
     requires sound_output { has_failed output.old ≡ false }
-    ensures statuses { (result ≡ 0) ⊎ (result ≡ 1) ⊎ (result ≡ 3) ⊎ (result ≡ 4) }
-    ensures done { result ≡ 0 → (has_ended input.new ≡ true) × (has_failed input.new ≡ false)
-        × (has_failed output.new ≡ false) }
-    ensures device { (has_failed input.new || has_failed output.new) ≡ true → result ≡ 4 }
+    ensures statuses { IsInputStatus result }
+    ensures done { IsWholeIfDone result input.new (has_failed output.new) }
+    ensures device { IsFourIfFailed result input.new (has_failed output.new) }
     ensures calls { calls_of input.new ≤ calls_of input.old + most_reads }
     // The command ends as a run over the list answered, or nothing is read and nothing is written.
     ensures replays { (ended : End) × (ended.status ≡ result)

@@ -3,6 +3,7 @@
 ghost use Rattle.std.specs.Prelude.{◌≡◌, ◌||◌, ◌⊎◌, ◌↔◌, Result, IsSome, IfSome, None, false, true};
 ghost use Rattle.afdx_lists.specs.declared.fault.RunFault.{RunFault};
 ghost use Rattle.afdx_recorded.specs.Claims.{ports_of_senders};
+ghost use Rattle.afdx_commands.specs.Commands.{IsInputStatus};
 ghost use Rattle.afdx_replay.specs.Inputs.{EndsInputAs};
 ghost use Rattle.afdx_replay.specs.replaying.Command.{IsNotReplayed};
 ghost use Rattle.afdx_replay.specs.replaying.Input.{Hears, Replays, RunsIn};
@@ -46,8 +47,7 @@ pub fn replay_input<P: Drop, A: Arrivals<P>, O: Sink, E: Write, D: Write + Drop>
     requires sound_output { O.failed output.old ≡ false }
 
     // 0 comes only where the input came to its end, 4 wherever a device failed; counts come with 0.
-    ensures statuses { let status = result.0.ended.status in
-        (status ≡ 0) ⊎ (status ≡ 1) ⊎ (status ≡ 3) ⊎ (status ≡ 4) }
+    ensures statuses { IsInputStatus result.0.ended.status }
     ensures counts { IsSome result.0.ended.summary ↔ (result.0.ended.status ≡ 0) }
     ensures done { result.0.ended.status ≡ 0 →
         A.ended input.new × (A.failed input.new ≡ false) × (O.failed output.new ≡ false) }
@@ -68,6 +68,7 @@ pub fn replay_input<P: Drop, A: Arrivals<P>, O: Sink, E: Write, D: Write + Drop>
         result.0.ended.status × (result.0.tally ≡ None) × (input.new ≡ input.old)
         × (output.new ≡ output.old) × (result.1 ≡ early)) }
 {
+    // (a law of the input: before it is asked for anything it hasn't failed)
     A::starts();
     let taken = match take_tables(alloc, admission, config, errors) {
         Ok(taken) => taken,

@@ -1,6 +1,6 @@
 //! The lines of the events of a replay.
 
-ghost use Rattle.std.specs.Prelude.{◌≡◌, ℕ, List, ◌++◌, ◌≤◌, ◌∷◌, [], if◌then◌else◌, OnOk, OnErr, IfOk, IfErr, length, false};
+ghost use Rattle.std.specs.Prelude.{◌≡◌, List, ◌++◌, ◌≤◌, ◌∷◌, OnOk, OnErr, IfOk, IfErr, length, false};
 ghost use Rattle.afdx_frame.specs.Ports.{last_port};
 ghost use Rattle.std.specs.Io.KnownBytes.{Appends};
 ghost use Rattle.afdx_lists.specs.Calls.{AppendsFront, is_failed_write};
@@ -12,7 +12,7 @@ ghost use Rattle.afdx_end_systems.specs.StandsFor.{StandsFor};
 ghost use Rattle.afdx_network.specs.Network.{reason_in, ports_in, lost_in};
 ghost use Rattle.afdx_switch.specs.Departures.{as_given, giving_port};
 ghost use Rattle.afdx_replay.specs.policing.Text.{verdict_line};
-ghost use Rattle.afdx_replay.specs.replaying.Text.{loss_line, loss_lines, departure_line};
+ghost use Rattle.afdx_replay.specs.replaying.Text.{loss_lines, departure_line, has_message};
 
 use afdx_end_systems::{Handover, Systems};
 use afdx_frame::{LAST_PORT, Side};
@@ -21,7 +21,7 @@ use afdx_network::Departed;
 use afdx_police::Reason;
 use afdx_receive::Reception;
 use afdx_switch::{PortSet, Verdict};
-use afdx_text::{OutLine, Sink, Text};
+use afdx_text::{OutLine, Sink};
 
 /// Why the frame was dropped, if it was.
 pub(crate) fn reason_of(verdict: &Verdict) -> Option<Reason>
@@ -33,42 +33,12 @@ pub(crate) fn reason_of(verdict: &Verdict) -> Option<Reason>
     }
 }
 
-/// Puts the line of a copy that was lost at a port, if it was, and counts it.
-fn put_loss<O: Sink>(
-    output: &mut O,
-    text: &mut Text,
-    n: u64,
-    side: Side,
-    port: u8,
-    is_lost: bool,
-) -> Result<u64, RunFault>
+/// Puts the lines of the copies that were lost, port by port, and counts them.
+fn put_losses<O: Sink>(output: &mut O, n: u64, side: Side, lost: &PortSet) -> Result<u64, RunFault>
     requires sound { O.failed output.old ≡ false }
     ensures failed { O.failed output.new ≡ is_failed_write result }
     ensures fault { IfErr result IsOfOutput }
-    ensures lines { OnOk result (Appends (O.written output.old) (O.written output.new)
-        (if is_lost then loss_line n side port else [])) }
-    ensures front { OnErr result (AppendsFront (O.written output.old) (O.written output.new)
-        (if is_lost then loss_line n side port else [])) }
-    ensures count { IfOk result (λ count. count ≡ (if is_lost then 1 else 0)) }
-{
-    if !is_lost {
-        return Ok(0);
-    }
-    output.put(&OutLine::Lost { n, side, port }, text)?;
-    Ok(1)
-}
-
-/// Puts the lines of the copies that were lost, and counts them, port by port.
-fn put_each_loss<O: Sink>(
-    output: &mut O,
-    text: &mut Text,
-    n: u64,
-    side: Side,
-    lost: &PortSet,
-) -> Result<u64, RunFault>
-    requires sound { O.failed output.old ≡ false }
-    ensures failed { O.failed output.new ≡ is_failed_write result }
-    ensures fault { IfErr result IsOfOutput }
+    ensures settings { O.settings output.new ≡ O.settings output.old }
     ensures lines { OnOk result (Appends (O.written output.old) (O.written output.new)
         (loss_lines n side (ports_in lost.now))) }
     ensures front { OnErr result (AppendsFront (O.written output.old) (O.written output.new)
@@ -77,42 +47,23 @@ fn put_each_loss<O: Sink>(
     ensures few { IfOk result (λ count. count ≤ last_port) }
 {
     let mut count = 0u64;
+    // (mostly none was)
+    if lost.is_empty() {
+        return Ok(count);
+    }
     for place in 0..LAST_PORT {
         let port = place + 1;
-        let more = put_loss(output, text, n, side, port, lost.holds(port))?;
-        count += more;
+        if lost.holds(port) {
+            output.put(&OutLine::Lost { n, side, port })?;
+            count += 1;
+        }
     }
     Ok(count)
-}
-
-/// Puts the lines of the copies that were lost, and counts them. Mostly none was.
-fn put_losses<O: Sink>(
-    output: &mut O,
-    text: &mut Text,
-    n: u64,
-    side: Side,
-    lost: &PortSet,
-) -> Result<u64, RunFault>
-    requires sound { O.failed output.old ≡ false }
-    ensures failed { O.failed output.new ≡ is_failed_write result }
-    ensures fault { IfErr result IsOfOutput }
-    ensures lines { OnOk result (Appends (O.written output.old) (O.written output.new)
-        (loss_lines n side (ports_in lost.now))) }
-    ensures front { OnErr result (AppendsFront (O.written output.old) (O.written output.new)
-        (loss_lines n side (ports_in lost.now))) }
-    ensures count { IfOk result (λ count. count ≡ length (ports_in lost.now)) }
-    ensures few { IfOk result (λ count. count ≤ last_port) }
-{
-    if lost.is_empty() {
-        return Ok(0);
-    }
-    put_each_loss(output, text, n, side, lost)
 }
 
 /// Puts the V line and the L lines of an arrival, and counts the copies that were lost.
 pub(crate) fn put_admission<O: Sink>(
     output: &mut O,
-    text: &mut Text,
     n: u64,
     side: Side,
     verdict: &Verdict,
@@ -120,6 +71,7 @@ pub(crate) fn put_admission<O: Sink>(
     requires sound { O.failed output.old ≡ false }
     ensures failed { O.failed output.new ≡ is_failed_write result }
     ensures fault { IfErr result IsOfOutput }
+    ensures settings { O.settings output.new ≡ O.settings output.old }
     ensures lines { OnOk result (Appends (O.written output.old) (O.written output.new)
         (verdict_line n side (reason_in verdict.now) ++ loss_lines n side (lost_in verdict.now))) }
     ensures front { OnErr result (AppendsFront (O.written output.old) (O.written output.new)
@@ -128,23 +80,20 @@ pub(crate) fn put_admission<O: Sink>(
     ensures few { IfOk result (λ count. count ≤ last_port) }
 {
     let reason = reason_of(verdict);
-    output.put(&OutLine::Verdict { n, side, reason }, text)?;
+    output.put(&OutLine::Verdict { n, side, reason })?;
     match verdict {
-        Verdict::Accepted { lost } => put_losses(output, text, n, side, lost),
+        Verdict::Accepted { lost } => put_losses(output, n, side, lost),
         Verdict::Dropped(_) => Ok(0),
     }
 }
 
 /// Puts the D or T line of a departure.
 #[inline(always)]
-pub(crate) fn put_departure<O: Sink>(
-    output: &mut O,
-    text: &mut Text,
-    departed: &Departed,
-) -> Result<(), RunFault>
+pub(crate) fn put_departure<O: Sink>(output: &mut O, departed: &Departed) -> Result<(), RunFault>
     requires sound { O.failed output.old ≡ false }
     ensures failed { O.failed output.new ≡ is_failed_write result }
     ensures fault { IfErr result IsOfOutput }
+    ensures settings { O.settings output.new ≡ O.settings output.old }
     ensures line { let left = as_given departed.now.departure in
         OnOk result (Appends (O.written output.old) (O.written output.new)
         (departure_line left.too_old left.item.tag left.end departed.now.side
@@ -161,24 +110,33 @@ pub(crate) fn put_departure<O: Sink>(
         port: departed.departure.port(),
         too_old: departed.departure.too_old(),
     };
-    output.put(&line, text)
+    output.put(&line)
 }
 
-/// Hands a frame over to the system of its port, puts the line of what that made of it, and tells
-/// whether it is a message.
+/// What a system heard in a frame.
+#[derive(Clone, Copy)]
+pub(crate) enum Heard {
+    /// A message to one of its ports.
+    Message,
+    /// None: it dropped the frame, or there is no system.
+    Nothing,
+}
+
+/// Hands a frame over to the system of its port, and puts the line of what that made of it.
 pub(crate) fn hear<O: Sink>(
     systems: &mut Systems,
     handover: Handover<'_>,
     output: &mut O,
-    text: &mut Text,
-) -> Result<bool, RunFault>
+) -> Result<Heard, RunFault>
     requires sound { O.failed output.old ≡ false }
     ensures failed { O.failed output.new ≡ is_failed_write result }
     ensures fault { IfErr result IsOfOutput }
+    ensures settings { O.settings output.new ≡ O.settings output.old }
     ensures stands { (t : Rows) (before : List HandedOver) → StandsFor t systems.old before →
         StandsFor t systems.new (handed_over handover.entry ∷ before) }
     ensures delivered { (t : Rows) (before : List HandedOver) → StandsFor t systems.old before →
-        IfOk result (λ yes. yes ≡ is_delivered t before (handed_over handover.entry)) }
+        IfOk result (λ heard.
+        has_message heard ≡ is_delivered t before (handed_over handover.entry)) }
     ensures line { (t : Rows) (before : List HandedOver) → StandsFor t systems.old before →
         OnOk result (Appends (O.written output.old) (O.written output.new)
         (reception_line t before (handed_over handover.entry))) }
@@ -195,8 +153,8 @@ pub(crate) fn hear<O: Sink>(
                 vl,
                 bytes,
             };
-            output.put(&line, text)?;
-            Ok(true)
+            output.put(&line)?;
+            Ok(Heard::Message)
         }
         Ok(Some(Reception::Dropped(why))) => {
             let line = OutLine::Unread {
@@ -205,10 +163,10 @@ pub(crate) fn hear<O: Sink>(
                 n,
                 why,
             };
-            output.put(&line, text)?;
-            Ok(false)
+            output.put(&line)?;
+            Ok(Heard::Nothing)
         }
-        Ok(None) => Ok(false),
+        Ok(None) => Ok(Heard::Nothing),
         Err(error) => Err(RunFault::from(error)),
     }
 }

@@ -40,6 +40,7 @@ pub(crate) fn replay_over<P: Drop, A: Arrivals<P>, O: Sink, D: Write + Drop>(
         (λ past count. Hears tables.now past count D.contents early result.1)
         (O.written output.old) (O.written output.new) result.0) }
 {
+    // (laws of the input: where memory is refused at once nothing is taken; times don't go back)
     A::starts();
     A::orders();
     let replay = match Replay::new(alloc, tables) {

@@ -1,6 +1,6 @@
 //! A run that replays a list through the switches of both sides and the systems behind them.
 
-ghost use Rattle.std.specs.Prelude.{◌≡◌, ℕ, ◌+◌, ◌*◌, ◌-◌, ◌^◌, ◌≤◌, ◌<◌, ◌⊎◌, ◌++◌, ◌∷◌, [], List, Option, length, OnOk, OnErr, IfOk, IfErr, IfSome, true, false};
+ghost use Rattle.std.specs.Prelude.{◌≡◌, ℕ, ◌+◌, ◌-◌, ◌≤◌, ◌<◌, ◌⊎◌, ◌∷◌, [], List, Option, OnOk, OnErr, IfOk, IfErr, IfSome, true, false};
 ghost use Rattle.afdx_port.specs.Times.{drain_end};
 ghost use Rattle.afdx_frame.specs.Ports.{last_port};
 ghost use Rattle.afdx_frame.specs.Seals.{IsSealedAs};
@@ -10,7 +10,6 @@ ghost use Rattle.afdx_engine.specs.Items.{most_frames};
 ghost use Rattle.afdx_config.specs.Lawful.{IsLawful};
 ghost use Rattle.afdx_config.specs.Rows.{Rows};
 ghost use Rattle.afdx_police.specs.Arrival.{Arrival};
-ghost use Rattle.afdx_police.specs.declared.shape.Reason.{Reason as DropReason};
 ghost use Rattle.afdx_lists.specs.Calls.{AppendsFront, is_failed_read, is_failed_write};
 ghost use Rattle.afdx_end_systems.specs.StandsFor as systems;
 ghost use Rattle.afdx_network.specs.Events.{Event, Departure, Left, arrivals_in};
@@ -24,7 +23,7 @@ ghost use Rattle.afdx_text.specs.Sinks.{IsOfOutput};
 ghost use Rattle.afdx_switch.specs.Verdicts.{reason_of as reason_after};
 ghost use Rattle.afdx_replay.specs.replaying.Text.{replay_counts, frames_left, lines_after, with_admission};
 
-use crate::replaying::lines::{hear, put_admission, put_departure, reason_of};
+use crate::replaying::lines::{Heard, hear, put_admission, put_departure, reason_of};
 use afdx_commands::{NO_COUNTS, Summary};
 use afdx_config::Tables;
 use afdx_end_systems::{Handover, Systems};
@@ -32,7 +31,7 @@ use afdx_engine::{Machine, run_list};
 use afdx_lists::{Heading, RunFault, Watched};
 use afdx_network::{Departed, Network};
 use afdx_police::Reason;
-use afdx_text::{Sink, Text};
+use afdx_text::{AtOnce, Sink, Text};
 use std::alloc::{AllocError, Global};
 use std::io::{Read, Write};
 
@@ -40,7 +39,6 @@ use std::io::{Read, Write};
 pub(crate) struct Replay {
     pub(crate) network: Network,
     systems: Systems,
-    text: Text,
     pub(crate) counts: Summary,
 }
 
@@ -50,7 +48,6 @@ impl Drop for Replay {
         let Self {
             network,
             systems,
-            text,
             counts,
         } = self;
     }
@@ -87,7 +84,6 @@ impl Replay {
         Ok(Replay {
             network,
             systems,
-            text: Text::new(alloc),
             counts: NO_COUNTS,
         })
     }
@@ -102,6 +98,7 @@ impl Replay {
         requires sound { O.failed output.old ≡ false }
         ensures failed { O.failed output.new ≡ is_failed_write result }
         ensures fault { IfErr result IsOfOutput }
+        ensures settings { O.settings output.new ≡ O.settings output.old }
         ensures network { self.new.network ≡ self.old.network }
         ensures room { (n held : ℕ) →
             HasRoom self.old.counts (held + 1) n → OnOk result (HasRoom self.new.counts held n) }
@@ -116,7 +113,7 @@ impl Replay {
             OnErr result (AppendsFront (O.written output.old) (O.written output.new)
             (lines_after t before (Left d))) }
     {
-        put_departure(output, &mut self.text, departed)?;
+        put_departure(output, departed)?;
         let departure = &departed.departure;
         if departure.too_old() {
             self.counts.too_old += 1;
@@ -130,9 +127,9 @@ impl Replay {
             frame: departure.frame(),
         };
         self.counts.departed += 1;
-        let is_delivered = hear(&mut self.systems, handover, output, &mut self.text)?;
-        if is_delivered {
-            self.counts.delivered += 1;
+        match hear(&mut self.systems, handover, output)? {
+            Heard::Message => self.counts.delivered += 1,
+            Heard::Nothing => {}
         }
         Ok(())
     }
@@ -148,6 +145,7 @@ impl Replay {
         requires sound { O.failed output.old ≡ false }
         ensures failed { O.failed output.new ≡ is_failed_write result }
         ensures fault { IfErr result IsOfOutput }
+        ensures settings { O.settings output.new ≡ O.settings output.old }
         ensures clock { network.IsUntil self.new.network until }
         ensures quiet { OnOk result (network.IsQuiet self.new.network until) }
         ensures room { (n : ℕ) → HasRoomFor self.old n → OnOk result (HasRoomFor self.new n) }
@@ -186,6 +184,7 @@ impl Replay {
         requires sound { O.failed output.old ≡ false }
         ensures failed { O.failed output.new ≡ is_failed_write result }
         ensures fault { IfErr result IsOfOutput }
+        ensures settings { O.settings output.new ≡ O.settings output.old }
         ensures clock { OnOk result (network.IsUntil self.new.network heading.now.time) }
         ensures room { (m : ℕ) → HasRoomFor self.old m → OnOk result (HasRoomFor self.new (m + 1)) }
         ensures told { (t : Rows) (start : Option (List ℕ)) (past : List Arrival) →
@@ -206,7 +205,7 @@ impl Replay {
         let (side, time, port) = (heading.side, heading.time, heading.port);
         let frame = heading.frame(message);
         let verdict = self.network.arrive(side, time, port, n, frame)?;
-        let lost = put_admission(output, &mut self.text, n, side, &verdict)?;
+        let lost = put_admission(output, n, side, &verdict)?;
         let reason = reason_of(&verdict);
         count_admission(&mut self.counts, reason, lost);
         Ok(reason)
@@ -275,8 +274,10 @@ pub fn run_unadmitted<R: Read, W: Write>(
         DefinedAnswers tables.now bytes (R.remaining (device_of input.new))
         (W.contents (device_of output.old)) (W.contents (device_of output.new)) result) }
 {
+    let mut text = Text::new(alloc);
+    let mut output = AtOnce::new(output, &mut text);
     let mut replay = Replay::new(alloc, tables)?;
-    let lines = run_list(alloc, &mut replay, input, output)?;
+    let lines = run_list(alloc, &mut replay, input, &mut output)?;
     let mut summary = replay.counts;
     summary.lines = lines;
     Ok(summary)

@@ -1,7 +1,7 @@
 //! Recordings that are written as frame lists.
 
 use crate::texts::short_text;
-use afdx_replay::{RecordingOptions, Watched, list_and_count};
+use afdx_replay::{Output, RecordingOptions, Watched, list_and_count};
 use afdx_samples::{HELLO, ShortText, base, equal, spelled};
 use std::alloc::{AllocError, Global};
 use std::test::Fail;
@@ -34,12 +34,12 @@ fn recording(alloc: Global) -> Result<Vec<u8>, AllocError> {
 /// The exit status for the bytes of a recording, and what is written and told.
 fn listed(alloc: Global, bytes: &[u8]) -> Result<(u8, ShortText, ShortText), Fail> {
     let mut input = Watched::new(bytes);
-    let mut output = Watched::new(Vec::new(alloc));
+    let mut output = Output::new(alloc, 0, Vec::new(alloc))?;
     let mut errors = Watched::new(Vec::new(alloc));
     let options = RecordingOptions::none(alloc)?;
     let config = base().as_bytes();
     let ended = list_and_count(alloc, options, config, &mut input, &mut output, &mut errors);
-    let text = short_text(output.into_inner().as_slice())?;
+    let text = short_text(output.into_device().as_slice())?;
     let line = short_text(errors.into_inner().as_slice())?;
     Ok((ended.status, text, line))
 }

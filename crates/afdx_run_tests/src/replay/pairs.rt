@@ -6,7 +6,7 @@ ghost use Rattle.afdx_lists.specs.Watching.{has_ended, has_failed};
 use crate::replay::recordings::{Told, claimed, early_text, recording, told};
 use crate::texts::short_text;
 use afdx_frame::BySide;
-use afdx_replay::{Interfaces, PairOptions, Watched, list_pair_and_count, replay_input};
+use afdx_replay::{Interfaces, Output, PairOptions, Watched, list_pair_and_count, replay_input};
 use afdx_samples::{ShortText, base, equal, spelled};
 use std::alloc::{AllocError, Global};
 use std::test::Fail;
@@ -42,7 +42,7 @@ fn inputs<'a>(a: &'a [u8], b: &'a [u8]) -> BySide<Watched<&'a [u8]>>
 fn replayed(alloc: Global, a: &[u8], b: &[u8]) -> Result<Told, Fail> {
     let options = no_options(alloc)?;
     let mut inputs = inputs(a, b);
-    let mut output = Watched::new(Vec::new(alloc));
+    let mut output = Output::new(alloc, 0, Vec::new(alloc))?;
     let mut errors = Watched::new(Vec::new(alloc));
     let early: Option<Watched<Vec<u8>>> = None;
     let config = base().as_bytes();
@@ -90,7 +90,7 @@ fn a_fault_names_its_network(rt: HostRuntime) -> Result<(), Fail> {
 fn early(alloc: Global, a: &[u8], b: &[u8]) -> Result<ShortText, Fail> {
     let options = no_options(alloc)?;
     let mut inputs = inputs(a, b);
-    let mut output = Watched::new(Vec::new(alloc));
+    let mut output = Output::new(alloc, 0, Vec::new(alloc))?;
     let mut errors = Watched::new(Vec::new(alloc));
     let drops = Some(Watched::new(Vec::new(alloc)));
     let config = base().as_bytes();
@@ -119,7 +119,7 @@ fn early_frames_of_two_recordings_are_told(rt: HostRuntime) -> Result<(), Fail> 
 fn listed(alloc: Global, a: &[u8], b: &[u8]) -> Result<(u8, ShortText, ShortText), Fail> {
     let options = no_options(alloc)?;
     let mut inputs = inputs(a, b);
-    let mut output = Watched::new(Vec::new(alloc));
+    let mut output = Output::new(alloc, 0, Vec::new(alloc))?;
     let mut errors = Watched::new(Vec::new(alloc));
     let config = base().as_bytes();
     let ended = list_pair_and_count(
@@ -130,7 +130,7 @@ fn listed(alloc: Global, a: &[u8], b: &[u8]) -> Result<(u8, ShortText, ShortText
         &mut output,
         &mut errors,
     );
-    let text = short_text(output.into_inner().as_slice())?;
+    let text = short_text(output.into_device().as_slice())?;
     let line = short_text(errors.into_inner().as_slice())?;
     Ok((ended.status, text, line))
 }

@@ -3,7 +3,8 @@
 use crate::texts::short_text;
 use afdx_frame::Policing;
 use afdx_replay::{
-    CommandedRule, InputEnded, Peeked, RecordingOptions, Watched, police_input, replay_input,
+    CommandedRule, InputEnded, Output, Peeked, RecordingOptions, Watched, police_input,
+    replay_input,
 };
 use afdx_samples::{HELLO, ShortText, base, equal};
 use std::alloc::{AllocError, Global};
@@ -31,10 +32,10 @@ pub type Told = (InputEnded, ShortText, ShortText);
 
 pub fn told(
     ended: InputEnded,
-    output: Watched<Vec<u8>>,
+    output: Output<Vec<u8>>,
     errors: Watched<Vec<u8>>,
 ) -> Result<Told, Fail> {
-    let text = short_text(output.into_inner().as_slice())?;
+    let text = short_text(output.into_device().as_slice())?;
     let line = short_text(errors.into_inner().as_slice())?;
     Ok((ended, text, line))
 }
@@ -51,7 +52,7 @@ fn replayed_behind(alloc: Global, reorder: u32, input: &[u8]) -> Result<Told, Fa
         ..RecordingOptions::none(alloc)?
     };
     let mut input = Watched::new(Peeked::new(input));
-    let mut output = Watched::new(Vec::new(alloc));
+    let mut output = Output::new(alloc, 0, Vec::new(alloc))?;
     let mut errors = Watched::new(Vec::new(alloc));
     let early: Option<Watched<Vec<u8>>> = None;
     let config = base().as_bytes();
@@ -158,7 +159,7 @@ const RULE: CommandedRule = CommandedRule {
 fn policed(alloc: Global, input: &[u8]) -> Result<Told, Fail> {
     let options = RecordingOptions::none(alloc)?;
     let mut input = Watched::new(Peeked::new(input));
-    let mut output = Watched::new(Vec::new(alloc));
+    let mut output = Output::new(alloc, 0, Vec::new(alloc))?;
     let mut errors = Watched::new(Vec::new(alloc));
     let ended = police_input(alloc, options, &RULE, &mut input, &mut output, &mut errors);
     told(ended, output, errors)
@@ -183,7 +184,7 @@ pub fn early_text(drops: Option<Watched<Vec<u8>>>) -> Result<ShortText, Fail> {
 fn early(alloc: Global, input: &[u8]) -> Result<ShortText, Fail> {
     let options = RecordingOptions::none(alloc)?;
     let mut input = Watched::new(Peeked::new(input));
-    let mut output = Watched::new(Vec::new(alloc));
+    let mut output = Output::new(alloc, 0, Vec::new(alloc))?;
     let mut errors = Watched::new(Vec::new(alloc));
     let drops = Some(Watched::new(Vec::new(alloc)));
     let config = base().as_bytes();

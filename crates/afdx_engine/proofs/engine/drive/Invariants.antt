@@ -8,6 +8,7 @@ invariant-loop-source g l =
     × (g.O.Sink.failed l.output ≡ false)
     × g.S.Source.Gave l.fn.input l.source l.input past
     × (g.S.Source.settings l.source ≡ g.S.Source.settings l.fn.source)
+    × (g.O.Sink.settings l.output ≡ g.O.Sink.settings l.fn.output)
     × ((rules : g.M.Machine.Rules) →
     g.M.Machine.Told rules l.fn.machine (g.O.Sink.written l.fn.output) (g.O.Sink.written l.fn.output) [] →
     g.M.Machine.Told rules l.machine (g.O.Sink.written l.fn.output) (g.O.Sink.written l.output) past)

@@ -1,4 +1,4 @@
-use Rattle.std.proofs.Common.{rules, refl, Ok, ap, sym, inr}
+use Rattle.std.proofs.Common.{rules, refl, sym, inr}
 use Rattle.afdx_recorded.proofs.PairLemmas.{seek-found}
 use Rattle.afdx_recorded.proofs.ahead.seek.Goals as goal
 

@@ -7,10 +7,10 @@ use Rattle.afdx_recorded.proofs.pair.next_of.Goals as goal
 
 pub returns-in-Ok-Given-clause-item : goal.returns-in-Ok-Given-clause-item
 returns-in-Ok-Given-clause-item g c start past p ok =
-    let gives = c.in-Ok-Given.ensures.skipped (latest_of past) start.a p.taken_a p.a
-    (ap Ok c.in-Ok-Given.field-0-is) in
+    let is = ap Ok c.in-Ok-Given.field-0-is in
+    let gives = c.in-Ok-Given.ensures.skipped (latest_of past) start.a p.taken_a p.a is in
     skipped-a g.S.Source.current g.S.Source.Gave g.S.Source.Ended start c.args.pair.now c.args.inputs.now past A
-    c.seek.new.ahead c.seek.new.input p gives
+    c.seek.new.ahead c.seek.new.input p (c.in-Ok-Given.ensures.unknown is) gives
 
 pub returns-in-Err-clause-stop : goal.returns-in-Err-clause-stop
 returns-in-Err-clause-stop g c start past p =
@@ -25,12 +25,12 @@ returns-in-Ok-Given-seek-clause-item g c start past p ok =
     (ap Ok c.in-Ok-NotYet.field-0-is) in
     let q = sought-a g.S.Source.current g.S.Source.Gave g.S.Source.Ended start c.args.inputs.now past c.args.pair.now
     c.seek.new.ahead c.seek.new.input p known_a.0 known_a.2 in
-    let gives = c.in-Ok-Given-seek.ensures.skipped (latest_of past) start.b q.taken_b q.b
-    (ap Ok c.in-Ok-Given-seek.field-0-is) in
+    let is = ap Ok c.in-Ok-Given-seek.field-0-is in
+    let gives = c.in-Ok-Given-seek.ensures.skipped (latest_of past) start.b q.taken_b q.b is in
     skipped-b g.S.Source.current g.S.Source.Gave g.S.Source.Ended start
     (record { a = c.seek.new.ahead; b = c.args.pair.now.b; from = c.args.pair.now.from })
     (record { a = c.seek.new.input; b = c.args.inputs.now.b }) past B
-    c.seek-2.new.ahead c.seek-2.new.input q known_a.1 gives
+    c.seek-2.new.ahead c.seek-2.new.input q known_a.1 (c.in-Ok-Given-seek.ensures.unknown is) gives
 
 pub returns-in-Err-seek-clause-stop : goal.returns-in-Err-seek-clause-stop
 returns-in-Err-seek-clause-stop g c start past p =

@@ -3,7 +3,7 @@ use Rattle.afdx_config.specs.Admission.{IsAdmitted}
 use Rattle.afdx_config.specs.Reading.{Spells, system_named}
 use Rattle.afdx_commands.proofs.RefusalLemmas.{config-refused, tables-refused}
 use Rattle.afdx_sending.proofs.NotSentLemmas.{config-not-sent, tables-not-sent}
-use Rattle.afdx_sending.proofs.SendLemmas.{sends-in, not-ok, is-ok}
+use Rattle.afdx_sending.proofs.SendLemmas.{sends-in}
 use Rattle.afdx_sending.proofs.command.send_and_count.Goals as goal
 
 pub returns-in-Err-clause-sends : goal.returns-in-Err-clause-sends
@@ -18,8 +18,7 @@ returns-in-Ok-admit-clause-sends g c =
     let named : system_named c.in-Ok-admit.admitted.systems c.args.system.now
     ≡ Some c.in-Some.place.0 = rw c.in-Ok-admit.ensures.same (sym c.in-Some.ensures.place) in
     let admitted : IsAdmitted c.in-Ok-admit.admitted =
-    rw c.in-Ok-admit.ensures.same (c.admit.ensures.exact.0
-    (is-ok c.admit.result _ c.in-Ok-admit.is)) in
+    rw c.in-Ok-admit.ensures.same (c.in-Ok-admit.ensures.exact.0 refl) in
     let known : c.in-Some.place.0 < length c.in-Ok-admit.admitted.systems =
     rw c.in-Ok-admit.ensures.same c.in-Some.ensures.known in
     inl (
@@ -41,8 +40,7 @@ pub returns-in-Err-admit-clause-sends : goal.returns-in-Err-admit-clause-sends
 returns-in-Err-admit-clause-sends g c =
     let refused = tables-refused _ _ _ _ _ c.in-Ok.tables c.in-Err-admit.tables c.in-Err-admit.fault
     c.in-Err-admit.ensures.handed_back c.in-Ok.ensures.ok
-    (λ a. not-ok c.admit.result _ c.in-Err-admit.is (c.admit.ensures.exact.1 a))
-    c.in-Err-admit.ensures.first c.refuse_tables.ensures in
+    (λ a. cc (c.in-Err-admit.ensures.exact.1 a)) c.in-Err-admit.ensures.first c.refuse_tables.ensures in
     inr (
       tables-not-sent _ _ _ _ _ _ _ c.without_counts-in-Err-admit.ensures.status
           (record {

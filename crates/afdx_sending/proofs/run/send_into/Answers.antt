@@ -6,8 +6,7 @@ use Rattle.afdx_sending.specs.Told.{TellsItems, BeginsItems, TellsAll}
 use Rattle.afdx_sending.specs.Sent.{source_at, WritesSoFar, WritesSome, WritesEvents}
 use Rattle.afdx_engine.proofs.ListRunLemmas.{answers-err, answers-ok}
 use Rattle.afdx_engine.proofs.RunLemmas.{stops-at-start}
-use Rattle.afdx_sending.proofs.SendLemmas.{are-some, are-so-far, start-some, told-done}
-use Rattle.afdx_sending.proofs.SendStartLemmas.{row-at}
+use Rattle.afdx_sending.proofs.SendLemmas.{are-some, are-so-far, row-at, start-some, told-done}
 use Rattle.afdx_sending.proofs.run.send_into.Goals as goal
 
 pub returns-in_err-sending-clause-answer : goal.returns-in_err-sending-clause-answer

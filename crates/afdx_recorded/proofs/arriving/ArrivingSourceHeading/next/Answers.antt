@@ -1,4 +1,4 @@
-use Rattle.std.proofs.Common.{rules, ◌∙◌, sym, ap, arith, Ok}
+use Rattle.std.proofs.Common.{rules, ◌∙◌, sym, arith}
 use Rattle.afdx_recorded.proofs.ArrivingLemmas.{arrival-given, skipped-given}
 use Rattle.afdx_recorded.proofs.arriving.ArrivingSourceHeading.next.Goals as goal
 

@@ -1,4 +1,4 @@
-use Rattle.std.proofs.Common.{rules, arith, ◌≡◌, ◌∙◌, refl, sym, ap, Ok, Err, true, false, ◌+◌}
+use Rattle.std.proofs.Common.{rules, arith, ◌≡◌, ◌∙◌, refl, sym, ap, Ok, Err, false, ◌+◌}
 use Rattle.afdx_recordings.specs.Holding.{standing}
 use Rattle.afdx_recordings.specs.Reading.{state_of, latest, SaysFirst}
 use Rattle.afdx_lists.specs.declared.next.Next.TheVariants as next

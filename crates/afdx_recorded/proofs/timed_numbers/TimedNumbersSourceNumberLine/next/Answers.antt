@@ -1,4 +1,4 @@
-use Rattle.std.proofs.Common.{rules, ◌≡◌, ◌∷◌, refl, arith, inr, Ok, true}
+use Rattle.std.proofs.Common.{rules, ◌≡◌, ◌∷◌, refl, arith, inr, Ok}
 use Rattle.afdx_lists.specs.declared.next.Next.TheVariants as next
 use Rattle.afdx_recorded.specs.Taking.{late_of_one}
 use Rattle.afdx_recorded.proofs.ClockLemmas.{clock-more, clock-follows, clock-late}

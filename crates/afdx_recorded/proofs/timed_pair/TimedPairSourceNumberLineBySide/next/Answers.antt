@@ -1,4 +1,4 @@
-use Rattle.std.proofs.Common.{rules, ◌≡◌, refl, Ok, Err, ◌∷◌, inl, inr, ap}
+use Rattle.std.proofs.Common.{rules, ◌≡◌, refl, Err, ◌∷◌, inl, inr}
 use Rattle.afdx_frame.specs.declared.link.Side.TheVariants.{A, B}
 use Rattle.afdx_recorded.specs.Taking.{late_of_both}
 use Rattle.afdx_recorded.specs.PairSource.{number_given}

@@ -2,6 +2,7 @@ use Rattle.std.proofs.Common.{◌≡◌, ◌-◌, false, Some}
 use Rattle.afdx_recordings.specs.declared.form.Form.TheVariants as form
 use Rattle.afdx_recordings.specs.Holding.{standing, IsTrueToEnd}
 use Rattle.afdx_recordings.specs.Reading.{state_of, SaysSame}
+use Rattle.afdx_recordings.specs.Limits.{most_numbers}
 use Rattle.afdx_recordings.proofs.frame_reader.FrameReader.next_in_blocks.Given as goal
 
 abbrev pub invariant-reads : goal.invariant-reads
@@ -15,4 +16,4 @@ invariant-reads g l = record {
 }
 
 abbrev pub decreases-reads : goal.decreases-reads
-decreases-reads g l = 100000000000000000 - l.self.known.blocks
+decreases-reads g l = most_numbers - l.self.known.blocks

@@ -1,4 +1,4 @@
-use Rattle.std.proofs.Common.{◌∷◌, List, subst, refl, arith}
+use Rattle.std.proofs.Common.{◌∷◌, ◌∙◌, List, subst, refl, arith}
 use Rattle.afdx_sending.specs.Sent.{WritesSome}
 use Rattle.afdx_engine.specs.Listed.{Handed}
 use Rattle.afdx_sending.specs.Events.{Emitted}
@@ -11,6 +11,7 @@ loop-emission-preserved g c =
     record {
       clock = omega (arith, c.emit.ensures.clock);
       sound = c.in_ok-put_emission.ensures.failed;
+      settings = c.put_emission.ensures.settings ∙ c.loop-emission.invariant.settings;
       room = λ n h.
           let r = c.loop-emission.invariant.room n h in
           let held = rw c.in-Some.is at c.in_ok-emission.ensures.held in

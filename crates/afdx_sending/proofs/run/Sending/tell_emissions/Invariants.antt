@@ -9,6 +9,7 @@ abbrev pub invariant-loop-emission : goal.invariant-loop-emission
 invariant-loop-emission g l = record {
   clock : last_time l.self.sender ≤ l.until;
   sound : g.O.Sink.failed l.output ≡ false;
+  settings : g.O.Sink.settings l.output ≡ g.O.Sink.settings l.fn.output;
   room : (n : ℕ) → HasRoom l.fn.self.counts (frames_held l.fn.self.sender) n
       → HasRoom l.self.counts (frames_held l.self.sender) n;
   told : (s : Source) (events : List Event) (start : Option (List ℕ))

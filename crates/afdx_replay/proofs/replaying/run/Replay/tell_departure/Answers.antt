@@ -4,7 +4,7 @@ use Rattle.afdx_frame.specs.Parts.{bytes_of}
 use Rattle.afdx_lists.specs.Calls.{AppendsFront}
 use Rattle.afdx_end_systems.specs.Receptions.{is_delivered}
 use Rattle.afdx_end_systems.specs.StandsFor as systems
-use Rattle.afdx_replay.specs.replaying.Text.{departure_line, frames_left, handed_over, heard}
+use Rattle.afdx_replay.specs.replaying.Text.{departure_line, frames_left, handed_over, heard, has_message}
 use Rattle.afdx_replay.proofs.ReplayLemmas.{line-is, old-is, handed-is, heard-whole, heard-front, tells-old, tells-left}
 use Rattle.afdx_replay.proofs.ReplayLemmas.{left-lines}
 use Rattle.afdx_text.proofs.OutputLemmas.{front-longer, on-err}
@@ -30,8 +30,8 @@ returns-then-too_old-clause-told g c t before d stands is counted =
     ∙ ap (λ b. departure_line b d.turn.entry.item.tag d.turn.end d.side d.port) old)
     c.in_ok-put_departure.ensures.line)
 
-pub returns-in_err-is_delivered-clause-begun : goal.returns-in_err-is_delivered-clause-begun
-returns-in_err-is_delivered-clause-begun g c t before d stands is =
+pub returns-in_err-hear-clause-begun : goal.returns-in_err-hear-clause-begun
+returns-in_err-hear-clause-begun g c t before d stands is =
     let left : d.turn.too_old ≡ false = sym (old-is c.args.departed.now d is)
     ∙ sym c.too_old.ensures ∙ c.if-too_old.false in
     let handed = handed-is c.args.departed.now d is c.port.result c.time.result c.tag.result
@@ -39,16 +39,16 @@ returns-in_err-is_delivered-clause-begun g c t before d stands is =
     let a = g.O.Sink.written c.args.output.now in
     let m = g.O.Sink.written c.put_departure.new.output in
     let b = g.O.Sink.written c.hear.new.output in
-    on-err c.from_residual-in_err-is_delivered.result _ (subst (λ x. AppendsFront a b x) (left-lines t before d left)
+    on-err c.from_residual-in_err-hear.result _ (subst (λ x. AppendsFront a b x) (left-lines t before d left)
     (heard-front t (frames_left before) _ (handed_over d) a m b
     (departure_line false d.turn.entry.item.tag d.turn.end d.side d.port) handed
     (subst (λ x. Appends a m x) (line-is c.args.departed.now d is
     ∙ ap (λ b. departure_line b d.turn.entry.item.tag d.turn.end d.side d.port) left)
     c.in_ok-put_departure.ensures.line)
-    (c.in_err-is_delivered.ensures.front t (frames_left before) stands)))
+    (c.in_err-hear.ensures.front t (frames_left before) stands)))
 
-pub returns-then-is_delivered-clause-told : goal.returns-then-is_delivered-clause-told
-returns-then-is_delivered-clause-told g c t before d stands is counted =
+pub returns-in-Message-clause-told : goal.returns-in-Message-clause-told
+returns-in-Message-clause-told g c t before d stands is counted =
     let left : d.turn.too_old ≡ false = sym (old-is c.args.departed.now d is)
     ∙ sym c.too_old.ensures ∙ c.if-too_old.false in
     let handed = handed-is c.args.departed.now d is c.port.result c.time.result c.tag.result
@@ -59,18 +59,18 @@ returns-then-is_delivered-clause-told g c t before d stands is counted =
     tells-left t before d _ _ _ a b true left
     (subst (λ h. systems.StandsFor t c.hear.new.systems (h ∷ frames_left before)) handed
     (c.hear.ensures.stands t (frames_left before) stands)) counted
-    (sym c.if-is_delivered.true
-    ∙ c.in_ok-is_delivered.ensures.delivered t (frames_left before) stands
+    (sym (ap has_message c.in-Message.is)
+    ∙ c.in_ok-hear.ensures.delivered t (frames_left before) stands
     ∙ ap (λ h. is_delivered t (frames_left before) h) handed) refl
     (heard-whole t (frames_left before) _ (handed_over d) a m b
     (departure_line false d.turn.entry.item.tag d.turn.end d.side d.port) handed
     (subst (λ x. Appends a m x) (line-is c.args.departed.now d is
     ∙ ap (λ b. departure_line b d.turn.entry.item.tag d.turn.end d.side d.port) left)
     c.in_ok-put_departure.ensures.line)
-    (c.in_ok-is_delivered.ensures.line t (frames_left before) stands))
+    (c.in_ok-hear.ensures.line t (frames_left before) stands))
 
-pub returns-else-is_delivered-clause-told : goal.returns-else-is_delivered-clause-told
-returns-else-is_delivered-clause-told g c t before d stands is counted =
+pub returns-in-Nothing-clause-told : goal.returns-in-Nothing-clause-told
+returns-in-Nothing-clause-told g c t before d stands is counted =
     let left : d.turn.too_old ≡ false = sym (old-is c.args.departed.now d is)
     ∙ sym c.too_old.ensures ∙ c.if-too_old.false in
     let handed = handed-is c.args.departed.now d is c.port.result c.time.result c.tag.result
@@ -81,12 +81,12 @@ returns-else-is_delivered-clause-told g c t before d stands is counted =
     tells-left t before d _ _ _ a b false left
     (subst (λ h. systems.StandsFor t c.hear.new.systems (h ∷ frames_left before)) handed
     (c.hear.ensures.stands t (frames_left before) stands)) counted
-    (sym c.if-is_delivered.false
-    ∙ c.in_ok-is_delivered.ensures.delivered t (frames_left before) stands
+    (sym (ap has_message c.in-Nothing.is)
+    ∙ c.in_ok-hear.ensures.delivered t (frames_left before) stands
     ∙ ap (λ h. is_delivered t (frames_left before) h) handed) refl
     (heard-whole t (frames_left before) _ (handed_over d) a m b
     (departure_line false d.turn.entry.item.tag d.turn.end d.side d.port) handed
     (subst (λ x. Appends a m x) (line-is c.args.departed.now d is
     ∙ ap (λ b. departure_line b d.turn.entry.item.tag d.turn.end d.side d.port) left)
     c.in_ok-put_departure.ensures.line)
-    (c.in_ok-is_delivered.ensures.line t (frames_left before) stands))
+    (c.in_ok-hear.ensures.line t (frames_left before) stands))

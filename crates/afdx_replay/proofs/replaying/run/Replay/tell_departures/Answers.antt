@@ -1,4 +1,4 @@
-use Rattle.std.proofs.Common.{◌∷◌, ℕ, List, subst, sym}
+use Rattle.std.proofs.Common.{◌∷◌, ◌∙◌, ℕ, List, subst, sym}
 use Rattle.afdx_police.specs.Arrival.{Arrival}
 use Rattle.afdx_network.specs.Events.{Left}
 use Rattle.afdx_network.specs.Network as network
@@ -28,6 +28,7 @@ loop-departed-preserved g c =
       clock = subst (λ (n : Network). network.IsUntil n c.args.until)
           (sym c.tell_departure.ensures.network) c.take.ensures.clock;
       sound = c.in_ok-tell_departure.ensures.failed;
+      settings = c.tell_departure.ensures.settings ∙ c.loop-departed.invariant.settings;
       room = λ n h.
           subst (λ (w : Network). HasRoom c.tell_departure.new.self.counts (network.frames_held w) n)
           (sym c.tell_departure.ensures.network)

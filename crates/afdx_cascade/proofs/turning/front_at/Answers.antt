@@ -1,0 +1,19 @@
+use Rattle.std.proofs.Common.{◌∙◌, ap, sym, subst}
+use Rattle.afdx_port.specs.declared.left.Left.{Left}
+use Rattle.afdx_switch.specs.HeldFrames.{HeldFrame}
+use Rattle.afdx_cascade.specs.Turning.{AreInTransit}
+use Rattle.afdx_cascade.proofs.turning.front_at.Goals as goal
+use Rattle.afdx_cascade.proofs.TurningLemmas.{split-transit}
+
+pub returns-clause-arrives : goal.returns-clause-arrives
+returns-clause-arrives c p at r rest so_far plan st are =
+    let parts = split-transit p c.args.transit.now.items c.in-Some.front.now r rest are c.in-Some.ensures.lookup in
+    record {
+      to = parts.0.to;
+      stands = c.in_ok-verdict.ensures.stands p at r rest so_far plan st parts.0.to parts.0.side parts.0.left;
+      in_transit = subst (λ w. AreInTransit p w rest) (sym c.pop_front.ensures.rest) parts.1;
+      side = parts.0.side;
+      time_is = c.time-time.ensures ∙ ap (λ (l : Left HeldFrame). l.end) parts.0.left;
+      tag = c.tag-tag.ensures ∙ ap (λ (l : Left HeldFrame). l.item.tag) parts.0.left;
+      verdict = c.in_ok-verdict.ensures.verdict p at r rest so_far st parts.0.side parts.0.left;
+    }

@@ -1,0 +1,119 @@
+//! A frame arrives at one of several switches, or a turn of one of them is over. Switches have the
+//! numbers of their networks' places, from 0.
+
+ghost use Rattle.std.specs.Prelude.{◌≡◌, ℕ, ◌<◌, ◌≤◌, ◌∷◌, List, OnOk, IfOk, OnErr, IfSome, IfNone, None, Some, length, slice_get};
+ghost use Rattle.afdx_frame.specs.Parts.{bytes_of};
+ghost use Rattle.afdx_port.specs.Times.{latest_put};
+ghost use Rattle.afdx_police.specs.Arrival.{arrival_with};
+ghost use Rattle.afdx_network.specs.declared.network.Network.{Network as At};
+ghost use Rattle.afdx_network.specs.Network as network;
+ghost use Rattle.afdx_network.specs.Events.{admission_after};
+ghost use Rattle.afdx_cascade.specs.Due.{OnCable};
+ghost use Rattle.afdx_port.specs.History.{left_of};
+ghost use Rattle.afdx_switch.specs.Departures.{as_given};
+ghost use Rattle.afdx_cascade.specs.Cables.{brought};
+ghost use Rattle.afdx_cascade.specs.SwitchEvents.{Plan, IsPlan, SwitchEvent, came_to, end_at};
+ghost use Rattle.afdx_cascade.specs.Runs.{arriving};
+ghost use Rattle.afdx_cascade.specs.Standing.{Stands};
+ghost use Rattle.afdx_cascade.specs.Turning.{GivesAt};
+
+use afdx_frame::{Checked, Side};
+use afdx_network::{Departed, Network};
+use afdx_switch::Verdict;
+use std::alloc::AllocError;
+
+/// A frame of the list arrives at a switch, at a port where no cable is. The error says that memory
+/// was refused: then nothing has changed.
+pub fn arrive_at(
+    networks: &mut [Network],
+    switch: usize,
+    side: Side,
+    time: u64,
+    port: u8,
+    tag: u64,
+    frame: Checked<'_>,
+) -> Result<Verdict, AllocError>
+    requires within { switch < length networks.old }
+    requires limit { time ≤ latest_put }
+    requires clock { (k : ℕ) (n : At) → slice_get networks.old k ≡ Some n →
+        network.IsUntil n time }
+    requires quiet { (n : At) → slice_get networks.old switch ≡ Some n →
+        network.IsQuiet n time }
+    ensures clock { (k : ℕ) (n : At) → slice_get networks.new k ≡ Some n →
+        network.IsUntil n time }
+    ensures still { (n : At) → slice_get networks.new switch ≡ Some n →
+        network.IsQuiet n time }
+    ensures length { length networks.new ≡ length networks.old }
+    ensures stands { (c : Plan) (at : ℕ) (ring : List OnCable) (so_far : List SwitchEvent) →
+        Stands c networks.old at ring so_far → c.far_end switch port ≡ None →
+        let x = arrival_with tag time side port (bytes_of frame.entry) in
+        OnOk result (Stands c networks.new at ring (arriving c so_far switch x ∷ so_far)) }
+    ensures verdict { (c : Plan) (at : ℕ) (ring : List OnCable) (so_far : List SwitchEvent) →
+        Stands c networks.old at ring so_far →
+        let x = arrival_with tag time side port (bytes_of frame.entry) in
+        IfOk result (λ verdict. network.Tells verdict
+        (admission_after (c.tables switch) (came_to switch so_far) x)) }
+    ensures refused { OnErr result (networks.new ≡ networks.old) }
+{
+    networks[switch].arrive(side, time, port, tag, frame)
+}
+
+/// The next turn of a switch that is given by `until`.
+pub(crate) fn take_at(networks: &mut [Network], switch: usize, until: u64) -> Option<Departed>
+    requires within { switch < length networks.old }
+    requires clock { (k : ℕ) (n : At) → slice_get networks.old k ≡ Some n →
+        network.IsUntil n until }
+    ensures clock { (k : ℕ) (n : At) → slice_get networks.new k ≡ Some n →
+        network.IsUntil n until }
+    ensures length { length networks.new ≡ length networks.old }
+    ensures none { (n : At) → slice_get networks.old switch ≡ Some n →
+        IfNone result (network.IsQuiet n until) }
+    ensures gives { (c : Plan) (at : ℕ) (ring : List OnCable) (so_far : List SwitchEvent) →
+        IsPlan c → Stands c networks.old at ring so_far →
+        IfSome result (GivesAt c networks.new at ring so_far switch until) }
+{
+    networks[switch].take(until)
+}
+
+/// A frame that left another switch arrives at the end of its cable, at a port of this one, when it
+/// left. The error says that memory was refused: then nothing has changed.
+pub(crate) fn bring_at(
+    networks: &mut [Network],
+    switch: usize,
+    port: u8,
+    departed: &Departed,
+) -> Result<Verdict, AllocError>
+    requires within { switch < length networks.old }
+    requires limit { (as_given departed.now.departure).end ≤ latest_put }
+    requires clock { (k : ℕ) (n : At) → slice_get networks.old k ≡ Some n →
+        network.IsUntil n (as_given departed.now.departure).end }
+    requires quiet { (n : At) → slice_get networks.old switch ≡ Some n →
+        network.IsQuiet n (as_given departed.now.departure).end }
+    ensures clock { (k : ℕ) (n : At) → slice_get networks.new k ≡ Some n →
+        network.IsUntil n (as_given departed.now.departure).end }
+    ensures still { (n : At) → slice_get networks.new switch ≡ Some n →
+        network.IsQuiet n (as_given departed.now.departure).end }
+    ensures length { length networks.new ≡ length networks.old }
+    ensures stands { (c : Plan) (at : ℕ) (r : OnCable) (rest : List OnCable)
+        (so_far : List SwitchEvent) → IsPlan c →
+        Stands c networks.old at (r ∷ rest) so_far →
+        c.far_end r.from.switch r.from.port ≡ Some (end_at switch port) →
+        departed.now.side ≡ r.side → as_given departed.now.departure ≡ left_of r.turn →
+        OnOk result (Stands c networks.new at rest
+        (arriving c so_far switch (brought r.side port r.turn) ∷ so_far)) }
+    ensures verdict { (c : Plan) (at : ℕ) (r : OnCable) (rest : List OnCable)
+        (so_far : List SwitchEvent) → Stands c networks.old at (r ∷ rest) so_far →
+        departed.now.side ≡ r.side → as_given departed.now.departure ≡ left_of r.turn →
+        IfOk result (λ verdict. network.Tells verdict
+        (admission_after (c.tables switch) (came_to switch so_far) (brought r.side port r.turn))) }
+    ensures refused { OnErr result (networks.new ≡ networks.old) }
+{
+    let departure = &departed.departure;
+    networks[switch].arrive(
+        departed.side,
+        departure.time(),
+        port,
+        departure.tag(),
+        departure.frame(),
+    )
+}

@@ -1,0 +1,34 @@
+//! The cables between switches, and the frames on them.
+
+ghost use Rattle.std.specs.Prelude.{◌≡◌, ◌+◌, ◌*◌, ◌<◌, slice_get};
+ghost use Rattle.afdx_cascade.specs.Scan.{switches_most};
+ghost use Rattle.afdx_cascade.specs.Turning.{entry_in};
+
+use afdx_network::Departed;
+
+/// How many entries a switch has in a table of the ends of cables: for the numbers 0 to 24, of
+/// which 1 to 24 are its ports.
+const ENTRIES: usize = 25;
+
+/// The other end of a cable: a port of the switch of this number.
+#[derive(Clone, Copy, Debug)]
+pub struct FarEnd {
+    pub switch: usize,
+    pub port: u8,
+}
+
+/// A frame on a cable, which ends at a port of the switch of this number.
+#[derive(Drop)]
+pub struct InTransit {
+    pub switch: usize,
+    pub port: u8,
+    pub departed: Departed,
+}
+
+/// The other end of the cable at a port of the switch of this number, if one is there.
+pub(crate) fn far_end(ends: &[Option<FarEnd>], switch: usize, port: u8) -> Option<FarEnd>
+    requires { switch < switches_most }
+    ensures { result ≡ entry_in (slice_get ends.now (switch * 25 + port)) }
+{
+    *ends.get(switch * ENTRIES + port as usize)?
+}

@@ -1,0 +1,121 @@
+//! A turn of one of several switches is over, or the frame at the front of the ring arrives. The
+//! ring holds the frames that cables carry now, in the order in which they arrive.
+
+ghost use Rattle.std.specs.Prelude.{◌≡◌, ℕ, ◌+◌, ◌*◌, ◌<◌, ◌≤◌, ◌∷◌, List, IfSome, IfNone, IfOk, OnErr, Some, length, slice_get};
+ghost use Rattle.std.specs.VecDeque.{deque_len, deque_capacity};
+ghost use Rattle.afdx_switch.specs.Departures.{as_given};
+ghost use Rattle.afdx_network.specs.declared.network.Network.{Network as At};
+ghost use Rattle.afdx_network.specs.Network as network;
+ghost use Rattle.afdx_cascade.specs.Due.{OnCable};
+ghost use Rattle.afdx_cascade.specs.SwitchEvents.{Plan, IsPlan, SwitchEvent};
+ghost use Rattle.afdx_cascade.specs.Scan.{switches_most};
+ghost use Rattle.afdx_cascade.specs.Standing.{Stands};
+ghost use Rattle.afdx_cascade.specs.Turning.{AreEnds, AreInTransit, TurnsAt, ArrivesAt, CanArrive};
+
+use crate::arriving::{bring_at, take_at};
+use crate::cable::{FarEnd, InTransit, far_end};
+use crate::told::{Brought, Sent, Turned};
+use afdx_network::Network;
+use std::alloc::AllocError;
+use std::collections::VecDeque;
+
+/// The latest time at which a frame may arrive, in ns: what leaves later arrives nowhere.
+const LATEST_ARRIVAL: u64 = 1_000_032_768_000_000;
+
+/// The next turn of a switch that is given by `until`. A frame that a cable then carries joins the
+/// ring, which has room for it.
+pub(crate) fn turn_at(
+    networks: &mut [Network],
+    ends: &[Option<FarEnd>],
+    transit: &mut VecDeque<InTransit>,
+    switch: usize,
+    until: u64,
+) -> Option<Turned>
+    requires within { switch < length networks.old }
+    requires few { length networks.old ≤ switches_most }
+    requires clock { (k : ℕ) (n : At) → slice_get networks.old k ≡ Some n →
+        network.IsUntil n until }
+    requires room { deque_len transit.old < deque_capacity transit.old }
+    ensures clock { (k : ℕ) (n : At) → slice_get networks.new k ≡ Some n →
+        network.IsUntil n until }
+    ensures length { length networks.new ≡ length networks.old }
+    ensures none { (n : At) → slice_get networks.old switch ≡ Some n →
+        IfNone result (network.IsQuiet n until) }
+    ensures gives { (c : Plan) (at : ℕ) (ring : List OnCable) (so_far : List SwitchEvent) →
+        IsPlan c → AreEnds c ends.now → Stands c networks.old at ring so_far →
+        AreInTransit c transit.old.items ring →
+        IfSome result (TurnsAt c networks.new transit.new.items at ring so_far switch until) }
+{
+    let departed = take_at(networks, switch, until)?;
+    let departure = &departed.departure;
+    if departure.too_old() {
+        return Some(Turned::Ended(departed));
+    }
+    let time = departure.time();
+    if time > LATEST_ARRIVAL {
+        return Some(Turned::Ended(departed));
+    }
+    let port = departure.port();
+    match far_end(ends, switch, port) {
+        None => Some(Turned::Ended(departed)),
+        Some(to) => {
+            let sent = Sent {
+                side: departed.side,
+                port,
+                time,
+                tag: departure.tag(),
+            };
+            transit.push_back_reserved(InTransit {
+                switch: to.switch,
+                port: to.port,
+                departed,
+            });
+            Some(Turned::Carried(sent))
+        }
+    }
+}
+
+/// The frame at the front of the ring arrives at the other end of its cable. The error says that
+/// memory was refused: then nothing has changed.
+pub(crate) fn front_at(
+    networks: &mut [Network],
+    transit: &mut VecDeque<InTransit>,
+) -> Result<Brought, AllocError>
+    requires front { (v : InTransit) × (behind : List InTransit) × (transit.old.items ≡ v ∷ behind)
+        × CanArrive networks.old v
+        × ((k : ℕ) (n : At) → slice_get networks.old k ≡ Some n →
+        network.IsUntil n (as_given v.departed.departure).end) }
+    ensures clock { (v : InTransit) → slice_get transit.old.items 0 ≡ Some v →
+        (k : ℕ) (n : At) → slice_get networks.new k ≡ Some n →
+        network.IsUntil n (as_given v.departed.departure).end }
+    ensures still { (v : InTransit) → slice_get transit.old.items 0 ≡ Some v →
+        (n : At) → slice_get networks.new v.switch ≡ Some n →
+        network.IsQuiet n (as_given v.departed.departure).end }
+    ensures length { length networks.new ≡ length networks.old }
+    ensures arrives { (c : Plan) (at : ℕ) (r : OnCable) (rest : List OnCable)
+        (so_far : List SwitchEvent) → IsPlan c →
+        Stands c networks.old at (r ∷ rest) so_far →
+        AreInTransit c transit.old.items (r ∷ rest) →
+        IfOk result (ArrivesAt c networks.new transit.new.items at r rest so_far) }
+    ensures refused { OnErr result ((networks.new ≡ networks.old)
+        × (transit.new.items ≡ transit.old.items)) }
+{
+    let Some(front) = transit.front() else {
+        unreachable!()
+    };
+    let switch = front.switch;
+    let port = front.port;
+    let side = front.departed.side;
+    let time = front.departed.departure.time();
+    let tag = front.departed.departure.tag();
+    let verdict = bring_at(networks, switch, port, &front.departed)?;
+    let _ = transit.pop_front();
+    Ok(Brought {
+        switch,
+        side,
+        port,
+        time,
+        tag,
+        verdict,
+    })
+}
