@@ -8,6 +8,7 @@ from afdx_tables import Row, cell, heads
 from afdx_where import Where, named_in
 
 MOST_ROWS = 10_000  # of a table on a page
+LONG = 60  # rows that don't find room in a box
 ON_PAPER = 800  # rows of all tables together: some 25 sheets
 MOST_BAD, LEAST_TOP = 50, 20  # of a table on paper: rows that aren't as they should be; the nearest
 # what isn't counted, and so has no commas
@@ -155,7 +156,8 @@ def section(name: str, title: str, words: str, body: str) -> str:
 
 def table_section(name: str, head: str, body: str) -> str:
     """A table, in a box that rolls on a screen and is whole on paper."""
+    box = "box long" if body.count("<tr") > LONG else "box"
     return (
-        f'<section id="{name}" class="table"><div class="box" tabindex="0" role="region" '
+        f'<section id="{name}" class="table"><div class="{box}" tabindex="0" role="region" '
         f'aria-label="{escape(head)}">{body}</div></section>'
     )

@@ -50,10 +50,12 @@ section { background: var(--sheet); border: 1px solid var(--rule); border-radius
 #cover .signatures td, #cover .signatures tbody th { padding-top: 26px; min-width: 6em; }
 #cover .signatures td:last-child { min-width: 14em; }
 #cover #made, #made { font-size: 12.5px; } #made td { white-space: normal; }
+#cover td, #cover th, #made td, #made th { vertical-align: baseline; }
 #made code { overflow-wrap: anywhere; } #cover #made th { white-space: nowrap; }
 .find { margin-top: 16px; } .find input { font: inherit; padding: 4px 8px; width: 22em;
   max-width: 100%; }
 .box { max-height: 560px; overflow: auto; } #words .box { max-height: none; }
+.long { content-visibility: auto; contain-intrinsic-size: auto 560px; }
 table { border-collapse: collapse; font-variant-numeric: tabular-nums; font-size: 12.5px;
   width: 100%; }
 caption { text-align: left; font-size: 16px; font-weight: 600; padding-bottom: 4px; }

@@ -19,8 +19,10 @@ use Rattle.afdx_recorded.specs.Laws.{AreInOrder}
 use Rattle.afdx_recorded.specs.NumberLines.{Lines, arrivals_listed}
 use Rattle.afdx_recorded.specs.Taking.{Taken, AreCutOff, arrivals_in, taken_of_bytes}
 use Rattle.afdx_recorded.proofs.LawLemmas.{bytes-in-order, cut-one-in-order}
-use Rattle.afdx_inputs.specs.Arrivals.{By, DontGoBack, TakesAs, TakesListed, TakesRecorded}
-use Rattle.afdx_inputs.specs.TakenRun.{FirstAreTold}
+use Rattle.afdx_engine.specs.Causes.{Cause, cause_of, FailedRead, FailedWrite, NoMemory, BadInput}
+use Rattle.afdx_engine.specs.Stops as listed
+use Rattle.afdx_inputs.specs.Arrivals.{By, ByCause, DontGoBack, TakesAs, TakesListed, TakesRecorded}
+use Rattle.afdx_inputs.specs.TakenRun.{FirstAreTold, StopsAs}
 use Rattle.afdx_inputs.specs.declared.input_run.InputCount.{InputCount}
 use Rattle.afdx_inputs.specs.declared.input_run.InputCount.TheVariants as count
 
@@ -46,22 +48,17 @@ module _ (whole : Taken) (AreCut : Lines → Type 0) (ordered : AreInOrder (arri
       subst DontGoBack h.are_told (first-in-order h.later h.past
       (subst DontGoBack h.parts (in-order (arrivals_in whole) ordered)))
 
+  stops-ordered : (fault : RunFault) (cause : Cause)
+      → StopsAs whole AreCut (λ all. all ≡ past) (λ all. all ≡ past) fault cause → DontGoBack past
+  stops-ordered fault FailedRead (lines, c, e) = subst DontGoBack e (in-order _ (cut lines c))
+  stops-ordered fault FailedWrite h = first-ordered h
+  stops-ordered fault NoMemory h = first-ordered h
+  stops-ordered fault BadInput h = all-ordered h.1
+
   pub recorded-ordered : (r : Result InputCount RunFault) → TakesRecorded whole AreCut past r → DontGoBack past
   recorded-ordered (Ok (count.Recorded tally)) h = all-ordered h.are_told
   recorded-ordered (Ok (count.Lines n)) h = absurd h
-  recorded-ordered (Err run.Read) (lines, c, e) = subst DontGoBack e (in-order _ (cut lines c))
-  recorded-ordered (Err run.Write) h = first-ordered h
-  recorded-ordered (Err run.Memory) h = first-ordered h
-  recorded-ordered (Err (run.Recording fault)) h = all-ordered h.1
-  recorded-ordered (Err (run.RecordingOfA fault)) h = all-ordered h.1
-  recorded-ordered (Err (run.RecordingOfB fault)) h = all-ordered h.1
-  recorded-ordered (Err (run.LineTooLong m)) h = all-ordered h.1
-  recorded-ordered (Err (run.BadLine m)) h = all-ordered h.1
-  recorded-ordered (Err (run.BadHex m)) h = all-ordered h.1
-  recorded-ordered (Err (run.TimeBack m)) h = all-ordered h.1
-  recorded-ordered (Err (run.TimeTooLarge m)) h = all-ordered h.1
-  recorded-ordered (Err (run.BadPort m)) h = all-ordered h.1
-  recorded-ordered (Err run.TooManyLines) h = all-ordered h.1
+  recorded-ordered (Err fault) h = stops-ordered fault (cause_of fault) h
 
 -- ---- of a list
 
@@ -83,22 +80,17 @@ module _ (bytes : List ℕ) (rest : Option (List ℕ)) (past : List Arrival) whe
   lines-ordered : (n : ℕ) → arrivals_of (lines_of bytes) n ≡ past → DontGoBack past
   lines-ordered n e = subst DontGoBack e (arrivals-ordered (lines_of bytes) n)
 
+  lines-stop : (fault : RunFault) (cause : Cause)
+      → listed.StopsAs frames (λ all. all ≡ past) (λ all. all ≡ past) bytes rest fault cause → DontGoBack past
+  lines-stop fault FailedRead (n, gave, h) = lines-ordered n h.are_told
+  lines-stop fault FailedWrite (n, gave, h) = lines-ordered n h.are_told
+  lines-stop fault NoMemory (n, gave, h) = lines-ordered n h.are_told
+  lines-stop fault BadInput h = lines-ordered h.line h.are_told
+
   listed-ordered : (r : Result InputCount RunFault) → TakesListed bytes rest past r → DontGoBack past
   listed-ordered (Ok (count.Lines n)) h = lines-ordered _ h.are_told
   listed-ordered (Ok (count.Recorded tally)) h = absurd h
-  listed-ordered (Err run.Read) (n, gave, h) = lines-ordered n h.are_told
-  listed-ordered (Err run.Write) (n, gave, h) = lines-ordered n h.are_told
-  listed-ordered (Err run.Memory) (n, gave, h) = lines-ordered n h.are_told
-  listed-ordered (Err (run.Recording fault)) h = lines-ordered h.line h.are_told
-  listed-ordered (Err (run.RecordingOfA fault)) h = lines-ordered h.line h.are_told
-  listed-ordered (Err (run.RecordingOfB fault)) h = lines-ordered h.line h.are_told
-  listed-ordered (Err (run.LineTooLong m)) h = lines-ordered h.line h.are_told
-  listed-ordered (Err (run.BadLine m)) h = lines-ordered h.line h.are_told
-  listed-ordered (Err (run.BadHex m)) h = lines-ordered h.line h.are_told
-  listed-ordered (Err (run.TimeBack m)) h = lines-ordered h.line h.are_told
-  listed-ordered (Err (run.TimeTooLarge m)) h = lines-ordered h.line h.are_told
-  listed-ordered (Err (run.BadPort m)) h = lines-ordered h.line h.are_told
-  listed-ordered (Err run.TooManyLines) h = lines-ordered h.line h.are_told
+  listed-ordered (Err fault) h = lines-stop fault (cause_of fault) h
 
 pub one-ordered : (options : Options) (ports : Ports) (is : Bool) (bytes : List ℕ) (rest : Option (List ℕ))
     (past : List Arrival) (r : Result InputCount RunFault)
@@ -138,20 +130,15 @@ if-more None P Q f h = tt
 if-more (Some bytes) P Q f h = f bytes h
 
 -- more is said of each
+by-cause : (cause : Cause) (so_far some more_so_far more_some : Type 0) → (so_far → more_so_far)
+    → (some → more_some) → ByCause cause so_far some → ByCause cause more_so_far more_some
+by-cause FailedRead a b c d g k h = g h
+by-cause FailedWrite a b c d g k h = k h
+by-cause NoMemory a b c d g k h = k h
+by-cause BadInput a b c d g k h = g h
+
 pub by-more : {X : Type 0} (r : Result X RunFault) (all so_far some more_all more_so_far more_some : Type 0)
     → (all → more_all) → (so_far → more_so_far) → (some → more_some)
     → By r all so_far some → By r more_all more_so_far more_some
 by-more (Ok x) a b c a' b' c' f g k h = f h
-by-more (Err run.Read) a b c a' b' c' f g k h = g h
-by-more (Err run.Write) a b c a' b' c' f g k h = k h
-by-more (Err run.Memory) a b c a' b' c' f g k h = k h
-by-more (Err (run.Recording fault)) a b c a' b' c' f g k h = g h
-by-more (Err (run.RecordingOfA fault)) a b c a' b' c' f g k h = g h
-by-more (Err (run.RecordingOfB fault)) a b c a' b' c' f g k h = g h
-by-more (Err (run.LineTooLong m)) a b c a' b' c' f g k h = g h
-by-more (Err (run.BadLine m)) a b c a' b' c' f g k h = g h
-by-more (Err (run.BadHex m)) a b c a' b' c' f g k h = g h
-by-more (Err (run.TimeBack m)) a b c a' b' c' f g k h = g h
-by-more (Err (run.TimeTooLarge m)) a b c a' b' c' f g k h = g h
-by-more (Err (run.BadPort m)) a b c a' b' c' f g k h = g h
-by-more (Err run.TooManyLines) a b c a' b' c' f g k h = g h
+by-more (Err fault) a b c a' b' c' f g k h = by-cause (cause_of fault) b c b' c' g k h

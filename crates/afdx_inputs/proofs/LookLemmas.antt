@@ -119,15 +119,15 @@ module _ (options : Options) (ports : Ports) (done told begins : List (Item Head
   )
 
   unread-input : (b : Bool) (bytes : List ℕ)
-      → InputAnswers options ports done told begins b bytes (Some bytes) (Err run.Read)
+      → InputAnswers (options, ports) done told begins b bytes (Some bytes) (Err run.Read)
   unread-input true bytes = unread-recording bytes
   unread-input false bytes = unread-list bytes
 
   -- what is answered then
   pub unread-answers : (b : Bool) (left rest : Option (List ℕ)) → Keeps left rest
-      → IfSome left (λ bytes. InputAnswers options ports done told begins b bytes rest (Err run.Read))
+      → IfSome left (λ bytes. InputAnswers (options, ports) done told begins b bytes rest (Err run.Read))
   unread-answers b None rest k = tt
   unread-answers b (Some bytes) None k = absurd k
   unread-answers b (Some bytes) (Some same) k =
-      subst (λ (xs : List ℕ). InputAnswers options ports done told begins b bytes (Some xs) (Err run.Read)) (sym k)
+      subst (λ (xs : List ℕ). InputAnswers (options, ports) done told begins b bytes (Some xs) (Err run.Read)) (sym k)
       (unread-input b bytes)

@@ -1,5 +1,5 @@
 -- What a run over recordings answers, by what is known of their source.
-use Rattle.std.proofs.Common.{◌≡◌, List, inl, inr, Option, Some, None, Result, Ok, Err, IfSome, refl, ap, sym, subst, ◌∙◌}
+use Rattle.std.proofs.Common.{◌≡◌, List, inl, inr, Option, Some, Result, Ok, Err, IfSome, ap, sym, subst, ◌∙◌}
 use Rattle.afdx_lists.specs.declared.fault.RunFault.{RunFault}
 use Rattle.afdx_lists.specs.declared.frame_line.Heading.{Heading}
 use Rattle.afdx_engine.specs.Engine.{Item, Runs}
@@ -10,12 +10,8 @@ use Rattle.afdx_recorded.specs.NumberLines.{AreItems, CanBePeeled, Lines, arriva
 use Rattle.afdx_inputs.specs.Over.{AreAllLines, AreFirstLines, StopsBehindLines, Takes}
 use Rattle.afdx_recorded.specs.Taking.{Taken}
 use Rattle.afdx_inputs.specs.TakenRun.{TakenAnswers}
+use Rattle.afdx_inputs.proofs.ArrivalsLemmas.{if-known}
 use Rattle.afdx_inputs.proofs.TakenLemmas.{hands-err, hands-ok}
-
-if-some : {B : Type 0} (known : Option B) (P : B → Type 0)
-    → ((bytes : B) → known ≡ Some bytes → P bytes) → IfSome known P
-if-some None P f = tt
-if-some (Some bytes) P f = f bytes refl
 
 module _ {H : Type 0} (gave ended : List (Item H) → Type 0) (stopped : List (Item H) → RunFault → Type 0)
     (done told begins : List (Item H) → Type 0) where
@@ -43,7 +39,7 @@ module _ {H : Type 0} (gave ended : List (Item H) → Type 0) (stopped : List (I
         → ((bytes : B) → Takes items_of (whole last bytes) (cut last bytes) gave ended stopped counted
         → TakenAnswers (whole last bytes) (cut last bytes) items_of done told begins r) → Answered r first
     by-first r f =
-        subst (Answered r) same (if-some known
+        subst (Answered r) same (if-known known
         (λ bytes. TakenAnswers (whole last bytes) (cut last bytes) items_of done told begins r)
         (λ bytes e. f bytes (takes bytes e (subst IsSet (sym same) set))))
 

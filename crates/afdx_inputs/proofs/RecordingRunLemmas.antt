@@ -15,7 +15,6 @@ use Rattle.afdx_recordings.specs.Holding.{Standing, standing, GivesSome, last_ca
 use Rattle.afdx_recordings.specs.Recordings.{State, Over, Faulted}
 use Rattle.afdx_recordings.specs.declared.held.Held.{Held}
 use Rattle.afdx_engine.specs.Engine.{Item}
-use Rattle.afdx_text.specs.Sinks.{IsOfOutput}
 use Rattle.afdx_recorded.specs.declared.becoming.RecordingOptions.{RecordingOptions}
 use Rattle.afdx_recorded.specs.declared.counts.Tally.{Tally}
 use Rattle.afdx_recorded.specs.declared.number.Number.{Number}
@@ -43,10 +42,6 @@ use Rattle.afdx_recorded.proofs.OrderedKnownLemmas.{stopped-memory, can-stop}
 use Rattle.afdx_inputs.specs.Over.{AreFirstLines, AreAllLines, IsAsked, IsSetOne, StopsBehindLines, Takes, way_of_one}
 use Rattle.afdx_inputs.proofs.TakenLemmas.{taken-start}
 use Rattle.afdx_recorded.proofs.TimingLemmas.{timed-extends, timed-stopped}
-
-pub not_read : (fault : RunFault) → IsOfOutput fault → is_read fault ≡ false
-not_read fault (inl e) = rw e refl
-not_read fault (inr e) = rw e refl
 
 -- ---- how often an input is asked
 

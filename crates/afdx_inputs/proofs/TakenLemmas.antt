@@ -5,6 +5,7 @@ use Rattle.afdx_lists.specs.declared.frame_line.Heading.{Heading}
 use Rattle.afdx_lists.specs.declared.fault.RunFault.{RunFault}
 use Rattle.afdx_lists.specs.declared.fault.RunFault.TheVariants as run
 use Rattle.afdx_police.specs.Arrival.{Arrival}
+use Rattle.afdx_engine.specs.Causes.{Cause, cause_of, FailedRead, FailedWrite, NoMemory, BadInput}
 use Rattle.afdx_engine.specs.Engine.{Item, Runs, without_newest}
 use Rattle.afdx_engine.specs.Items.{arrivals, thing_of}
 use Rattle.afdx_engine.specs.Listed.{frames}
@@ -14,10 +15,10 @@ use Rattle.afdx_recorded.specs.declared.counts.Tally.{Tally}
 use Rattle.afdx_recorded.specs.declared.number_line.NumberLine.{NumberLine}
 use Rattle.afdx_recorded.specs.declared.number_line.NumberLine.TheVariants as line
 use Rattle.afdx_inputs.specs.ListText.{lines_themselves}
-use Rattle.afdx_inputs.specs.Over.{AreFirstLines, AreAllLines, StopsBehindLines, Takes}
+use Rattle.afdx_inputs.specs.Over.{AreFirstLines, AreAllLines, StopsBehindAs, StopsBehindLines, Takes}
 use Rattle.afdx_recorded.specs.NumberLines.{AreItems, CanBePeeled, Lines, WithoutNewest, arrivals_listed, as_arrival}
 use Rattle.afdx_recorded.specs.Taking.{Taken, arrivals_in}
-use Rattle.afdx_inputs.specs.TakenRun.{TakenAnswers, FirstAreBegun}
+use Rattle.afdx_inputs.specs.TakenRun.{TakenAnswers, TakenStops, FirstAreBegun}
 
 -- ---- without the newest item
 
@@ -54,21 +55,16 @@ module _ {H : Type 0} (whole : Taken) (AreCut : Lines → Type 0) (items_of : Li
   Begun = FirstAreBegun whole AreCut items_of done told begins
 
   -- the source stopped
+  stop-by : (lines : Lines) (fault : RunFault) (cause : Cause) → StopsBehindAs whole AreCut lines fault cause
+      → told (items_of lines) → TakenStops whole AreCut items_of done told begins fault cause
+  stop-by lines fault FailedRead s t = (lines, s, t)
+  stop-by lines fault FailedWrite s t = absurd s
+  stop-by lines fault NoMemory s t = record { past = lines; later = s.0; parts = s.1; begun = inl t }
+  stop-by lines fault BadInput s t = (s.0, subst (λ (xs : Lines). told (items_of xs)) (sym s.1) t)
+
   pub taken-stop : (lines : Lines) (fault : RunFault) → StopsBehindLines whole AreCut lines fault
       → told (items_of lines) → Answers (Err fault)
-  taken-stop lines run.Read s t = (lines, s, t)
-  taken-stop lines run.Memory s t = record { past = lines; later = s.0; parts = s.1; begun = inl t }
-  taken-stop lines run.Write s t = absurd s
-  taken-stop lines (run.Recording f) s t = (s.0, subst (λ (xs : Lines). told (items_of xs)) (sym s.1) t)
-  taken-stop lines (run.RecordingOfA f) s t = (s.0, subst (λ (xs : Lines). told (items_of xs)) (sym s.1) t)
-  taken-stop lines (run.RecordingOfB f) s t = (s.0, subst (λ (xs : Lines). told (items_of xs)) (sym s.1) t)
-  taken-stop lines run.TooManyLines s t = (s.0, subst (λ (xs : Lines). told (items_of xs)) (sym s.1) t)
-  taken-stop lines (run.LineTooLong m) s t = (s.0, subst (λ (xs : Lines). told (items_of xs)) (sym s.1) t)
-  taken-stop lines (run.BadLine m) s t = (s.0, subst (λ (xs : Lines). told (items_of xs)) (sym s.1) t)
-  taken-stop lines (run.BadHex m) s t = (s.0, subst (λ (xs : Lines). told (items_of xs)) (sym s.1) t)
-  taken-stop lines (run.TimeBack m) s t = (s.0, subst (λ (xs : Lines). told (items_of xs)) (sym s.1) t)
-  taken-stop lines (run.TimeTooLarge m) s t = (s.0, subst (λ (xs : Lines). told (items_of xs)) (sym s.1) t)
-  taken-stop lines (run.BadPort m) s t = (s.0, subst (λ (xs : Lines). told (items_of xs)) (sym s.1) t)
+  taken-stop lines fault s t = stop-by lines fault (cause_of fault) s t
 
   -- the output failed, or the machine had no memory
   pub taken-begun : CanBePeeled items_of → (lines : Lines) → AreFirstLines whole lines
@@ -172,19 +168,14 @@ answers-same a b AreCut AreCut' items_of done told begins r e f h =
     some : FirstAreBegun a AreCut items_of done told begins → FirstAreBegun a AreCut' items_of done told begins
     some s = record { past = s.past; later = s.later; parts = s.parts; begun = s.begun }
 
+    by-cause : (fault : RunFault) (cause : Cause) → TakenStops a AreCut items_of done told begins fault cause
+        → TakenStops a AreCut' items_of done told begins fault cause
+    by-cause fault FailedRead h = (h.0, f h.0 h.1, h.2)
+    by-cause fault FailedWrite h = some h
+    by-cause fault NoMemory h = some h
+    by-cause fault BadInput h = h
+
     by : (r : Result Tally RunFault) → TakenAnswers a AreCut items_of done told begins r
         → TakenAnswers a AreCut' items_of done told begins r
     by (Ok tally) h = record { over = h.over; are_told = h.are_told; tally_is = h.tally_is }
-    by (Err run.Read) h = (h.0, f h.0 h.1, h.2)
-    by (Err run.Write) h = some h
-    by (Err run.Memory) h = some h
-    by (Err (run.Recording fault)) h = h
-    by (Err (run.RecordingOfA fault)) h = h
-    by (Err (run.RecordingOfB fault)) h = h
-    by (Err run.TooManyLines) h = h
-    by (Err (run.LineTooLong m)) h = h
-    by (Err (run.BadLine m)) h = h
-    by (Err (run.BadHex m)) h = h
-    by (Err (run.TimeBack m)) h = h
-    by (Err (run.TimeTooLarge m)) h = h
-    by (Err (run.BadPort m)) h = h
+    by (Err fault) h = by-cause fault (cause_of fault) h

@@ -2,25 +2,28 @@
 use Rattle.std.proofs.Common.{◌≡◌, ℕ, List, refl}
 use Rattle.std.proofs.Common.{Bool, true, false, Option, Some, None, Result, Ok, Err, IfSome, ◌⊎◌}
 use Rattle.afdx_lists.specs.FrameLines.{listed_frame}
+use Rattle.afdx_lists.specs.Lines.{lines_of}
 use Rattle.afdx_lists.specs.declared.frame_line.Heading.{Heading}
 use Rattle.afdx_lists.specs.declared.fault.RunFault.{RunFault}
-use Rattle.afdx_lists.specs.declared.fault.RunFault.TheVariants as run
 use Rattle.afdx_police.specs.Arrival.{Arrival}
+use Rattle.afdx_engine.specs.Causes.{Cause, cause_of, FailedRead, FailedWrite, NoMemory, BadInput}
 use Rattle.afdx_engine.specs.Engine.{Item}
 use Rattle.afdx_engine.specs.Items.{arrivals, thing_of}
 use Rattle.afdx_engine.specs.Listed.{frames}
 use Rattle.afdx_engine.specs.ListRun.{Of, ListAnswers}
-use Rattle.afdx_engine.specs.Stops.{StopsAtFault}
+use Rattle.afdx_engine.specs.Lists.{items_of}
+use Rattle.afdx_engine.specs.Stops.{IsToldOf}
+use Rattle.afdx_engine.specs.Stops as listed
 use Rattle.afdx_recorded.specs.Becoming.{Options}
 use Rattle.afdx_recorded.specs.Claims.{Ports}
 use Rattle.afdx_recorded.specs.NumberLines.{Lines, arrivals_listed}
 use Rattle.afdx_recorded.specs.Taking.{Taken, AreCutOff, taken_of_bytes}
 use Rattle.afdx_recorded.specs.declared.counts.Tally.{Tally}
-use Rattle.afdx_inputs.specs.Arrivals.{By, TakesAs, TakesListed, TakesRecorded}
+use Rattle.afdx_inputs.specs.Arrivals.{By, ByCause, TakesAs, TakesListed, TakesRecorded}
 use Rattle.afdx_inputs.specs.InputRun.{InputAnswers}
 use Rattle.afdx_inputs.specs.Over.{both}
 use Rattle.afdx_inputs.specs.RecordingRun.{IfBoth}
-use Rattle.afdx_inputs.specs.TakenRun.{FirstAreBegun, FirstAreTold, TakenAnswers}
+use Rattle.afdx_inputs.specs.TakenRun.{FirstAreBegun, FirstAreTold, StopsAs, TakenAnswers, TakenStops}
 use Rattle.afdx_inputs.specs.declared.input_run.InputCount.{InputCount}
 use Rattle.afdx_inputs.specs.declared.input_run.InputCount.TheVariants as count
 use Rattle.afdx_inputs.proofs.TakenLemmas.{first-arrivals}
@@ -59,6 +62,16 @@ module _ (done told begins : List (Item Heading) → Type 0) where
       s.begun,
     )
 
+    stops-took : (fault : RunFault) (cause : Cause)
+        → TakenStops whole AreCut arrivals_listed done told begins fault cause
+        → (items : List (Item Heading))
+        × StopsAs whole AreCut (λ all. all ≡ arrivals items) (λ all. all ≡ arrivals items) fault cause
+        × ByCause cause (told items) (told items ⊎ begins items)
+    stops-took fault FailedRead h = (arrivals_listed h.0, (h.0, h.1, refl), h.2)
+    stops-took fault FailedWrite h = first h
+    stops-took fault NoMemory h = first h
+    stops-took fault BadInput h = (arrivals_listed whole.lines, (h.0, refl), h.1)
+
     pub recorded-took : (r : Result Tally RunFault)
         → TakenAnswers whole AreCut arrivals_listed done told begins r
         → Took (TakesRecorded whole AreCut) (counted r)
@@ -67,19 +80,7 @@ module _ (done told begins : List (Item Heading) → Type 0) where
       record { over = h.over; are_told = refl; tally_is = h.tally_is },
       h.are_told,
     )
-    recorded-took (Err run.Read) h = (arrivals_listed h.0, (h.0, h.1, refl), h.2)
-    recorded-took (Err run.Write) h = first h
-    recorded-took (Err run.Memory) h = first h
-    recorded-took (Err (run.Recording fault)) h = (arrivals_listed whole.lines, (h.0, refl), h.1)
-    recorded-took (Err (run.RecordingOfA fault)) h = (arrivals_listed whole.lines, (h.0, refl), h.1)
-    recorded-took (Err (run.RecordingOfB fault)) h = (arrivals_listed whole.lines, (h.0, refl), h.1)
-    recorded-took (Err (run.LineTooLong m)) h = (arrivals_listed whole.lines, (h.0, refl), h.1)
-    recorded-took (Err (run.BadLine m)) h = (arrivals_listed whole.lines, (h.0, refl), h.1)
-    recorded-took (Err (run.BadHex m)) h = (arrivals_listed whole.lines, (h.0, refl), h.1)
-    recorded-took (Err (run.TimeBack m)) h = (arrivals_listed whole.lines, (h.0, refl), h.1)
-    recorded-took (Err (run.TimeTooLarge m)) h = (arrivals_listed whole.lines, (h.0, refl), h.1)
-    recorded-took (Err (run.BadPort m)) h = (arrivals_listed whole.lines, (h.0, refl), h.1)
-    recorded-took (Err run.TooManyLines) h = (arrivals_listed whole.lines, (h.0, refl), h.1)
+    recorded-took (Err fault) h = stops-took fault (cause_of fault) h
 
   -- ---- of a list
 
@@ -87,10 +88,19 @@ module _ (done told begins : List (Item Heading) → Type 0) where
     abbrev Said : (List (Item Heading) → Type 0) → List Arrival → Type 0
     Said said xs = Of (thing_of frames listed_frame) said xs
 
-    at-fault : (fault : RunFault) → StopsAtFault frames (Said told) bytes rest fault
-        → (items : List (Item Heading)) × StopsAtFault frames (λ all. all ≡ arrivals items) bytes rest fault
-        × told items
-    at-fault fault h = (
+    so : {told told' : List Arrival → Type 0} (n : ℕ) → IsToldOf frames told (lines_of bytes) n
+        → told' (items_of frames (lines_of bytes) n) → IsToldOf frames told' (lines_of bytes) n
+    so n h t = record { within = h.within; sound = h.sound; are_told = t }
+
+    lines-took : (fault : RunFault) (cause : Cause)
+        → listed.StopsAs frames (Said told) (Said (λ items. told items ⊎ begins items)) bytes rest fault cause
+        → (items : List (Item Heading))
+        × listed.StopsAs frames (λ all. all ≡ arrivals items) (λ all. all ≡ arrivals items) bytes rest fault cause
+        × ByCause cause (told items) (told items ⊎ begins items)
+    lines-took fault FailedRead (n, gave, h) = (h.are_told.0, (n, gave, so n h h.are_told.1), h.are_told.2)
+    lines-took fault FailedWrite (n, gave, h) = (h.are_told.0, (n, gave, so n h h.are_told.1), h.are_told.2)
+    lines-took fault NoMemory (n, gave, h) = (h.are_told.0, (n, gave, so n h h.are_told.1), h.are_told.2)
+    lines-took fault BadInput h = (
       h.are_told.0,
       record { line = h.line; read = h.read; first = h.first; are_told = h.are_told.1 },
       h.are_told.2,
@@ -104,37 +114,13 @@ module _ (done told begins : List (Item Heading) → Type 0) where
       record { all = h.all; sound = h.sound; are_told = h.are_told.1 },
       h.are_told.2,
     )
-    listed-took (Err run.Read) (n, gave, h) = (
-      h.are_told.0,
-      (n, gave, record { within = h.within; sound = h.sound; are_told = h.are_told.1 }),
-      h.are_told.2,
-    )
-    listed-took (Err run.Write) (n, gave, h) = (
-      h.are_told.0,
-      (n, gave, record { within = h.within; sound = h.sound; are_told = h.are_told.1 }),
-      h.are_told.2,
-    )
-    listed-took (Err run.Memory) (n, gave, h) = (
-      h.are_told.0,
-      (n, gave, record { within = h.within; sound = h.sound; are_told = h.are_told.1 }),
-      h.are_told.2,
-    )
-    listed-took (Err (run.Recording fault)) h = at-fault (run.Recording fault) h
-    listed-took (Err (run.RecordingOfA fault)) h = at-fault (run.RecordingOfA fault) h
-    listed-took (Err (run.RecordingOfB fault)) h = at-fault (run.RecordingOfB fault) h
-    listed-took (Err (run.LineTooLong m)) h = at-fault (run.LineTooLong m) h
-    listed-took (Err (run.BadLine m)) h = at-fault (run.BadLine m) h
-    listed-took (Err (run.BadHex m)) h = at-fault (run.BadHex m) h
-    listed-took (Err (run.TimeBack m)) h = at-fault (run.TimeBack m) h
-    listed-took (Err (run.TimeTooLarge m)) h = at-fault (run.TimeTooLarge m) h
-    listed-took (Err (run.BadPort m)) h = at-fault (run.BadPort m) h
-    listed-took (Err run.TooManyLines) h = at-fault run.TooManyLines h
+    listed-took (Err fault) h = lines-took fault (cause_of fault) h
 
   -- ---- of an input, which is one or the other
 
   pub input-took : (options : Options) (ports : Ports) (is : Bool) (bytes : List ℕ)
       (rest : Option (List ℕ)) (r : Result InputCount RunFault)
-      → InputAnswers options ports done told begins is bytes rest r
+      → InputAnswers (options, ports) done told begins is bytes rest r
       → Took (TakesAs is options ports bytes rest) r
   input-took options ports true bytes rest (Ok (count.Recorded tally)) h =
       recorded-took (taken_of_bytes options ports bytes) (AreCutOff options ports bytes rest) (Ok tally) h
@@ -147,7 +133,7 @@ module _ (done told begins : List (Item Heading) → Type 0) where
 
   pub one-took : (options : Options) (ports : Ports) (is : Option (List ℕ) → Bool)
       (left rest : Option (List ℕ)) (r : Result InputCount RunFault)
-      → IfSome left (λ bytes. InputAnswers options ports done told begins (is left) bytes rest r)
+      → IfSome left (λ bytes. InputAnswers (options, ports) done told begins (is left) bytes rest r)
       → IfSome left (λ bytes. Took (TakesAs (is (Some bytes)) options ports bytes rest) r)
   one-took options ports is None rest r h = tt
   one-took options ports is (Some bytes) rest r h =

@@ -7,9 +7,9 @@ use Rattle.afdx_lists.specs.Lines.{lines_of}
 use Rattle.afdx_lists.specs.Peeking.{is_untouched, left_in}
 use Rattle.afdx_lists.specs.Watching.{calls_of, device_of, has_ended, has_failed}
 use Rattle.afdx_lists.specs.declared.fault.RunFault.{RunFault}
-use Rattle.afdx_lists.specs.declared.fault.RunFault.TheVariants as run
 use Rattle.afdx_lists.specs.declared.peeked.Peeked.{Peeked}
 use Rattle.afdx_lists.specs.declared.watched.Watched.{Watched}
+use Rattle.afdx_engine.specs.Causes.{Cause, cause_of, FailedWrite, NoMemory}
 use Rattle.afdx_engine.specs.Listed.{frames}
 use Rattle.afdx_engine.specs.ListRun.{IsDone}
 use Rattle.afdx_engine.specs.Lists.{latest_in}
@@ -28,11 +28,14 @@ use Rattle.afdx_inputs.specs.declared.input_run.InputCount.TheVariants as count
 
 -- By a run's answer: Ok, all is so to the end; after a failed write, or want of memory, some is; at
 -- any other fault, all so far.
+abbrev pub ByCause : Cause → (so_far some : Type 0) → Type 0
+ByCause FailedWrite so_far some = some
+ByCause NoMemory so_far some = some
+ByCause _ so_far some = so_far
+
 abbrev pub By : {X : Type 0} → Result X RunFault → (all so_far some : Type 0) → Type 0
 By (Ok x) all so_far some = all
-By (Err run.Write) all so_far some = some
-By (Err run.Memory) all so_far some = some
-By (Err fault) all so_far some = so_far
+By (Err fault) all so_far some = ByCause (cause_of fault) so_far some
 
 -- ---- with this answer a run has taken these arrivals
 

@@ -37,13 +37,13 @@ abbrev pub IsAskedFew : RecordingOptions → (left rest : Option (List ℕ)) →
 IsAskedFew options left rest old new =
     IsAskedBy (is_read_recorded options left) left rest (old + looked_at) new
 
-module _ (options : Options) (ports : Ports) (done told begins : List (Item Heading) → Type 0) where
+module _ (way : Options × Ports) (done told begins : List (Item Heading) → Type 0) where
   -- what a run answers whose input has these bytes, and then has `rest`, as a recording or a list
   abbrev pub InputAnswers : Bool → List ℕ → Option (List ℕ) → Result InputCount RunFault → Type 0
   InputAnswers true bytes rest (Ok (Recorded tally)) =
-      RecordingAnswers options ports done told begins bytes rest (Ok tally)
+      RecordingAnswers way.0 way.1 done told begins bytes rest (Ok tally)
   InputAnswers true bytes rest (Err fault) =
-      RecordingAnswers options ports done told begins bytes rest (Err fault)
+      RecordingAnswers way.0 way.1 done told begins bytes rest (Err fault)
   InputAnswers false bytes rest (Ok (Lines n)) =
       ListAnswers frames (thing_of frames listed_frame) done told begins bytes rest (Ok n)
   InputAnswers false bytes rest (Err fault) =

@@ -3,8 +3,8 @@ use Rattle.std.specs.Prelude.{ℕ, ◌≡◌, false, List, ◌++◌, Option, Som
 use Rattle.afdx_frame.specs.declared.by_side.BySide.{BySide}
 use Rattle.afdx_lists.specs.Watching.{calls_of, device_of, has_failed, is_over}
 use Rattle.afdx_lists.specs.declared.fault.RunFault.{RunFault}
-use Rattle.afdx_lists.specs.declared.fault.RunFault.TheVariants as run
 use Rattle.afdx_lists.specs.declared.watched.Watched.{Watched}
+use Rattle.afdx_engine.specs.Causes.{Cause, cause_of, FailedRead, FailedWrite, NoMemory, BadInput}
 use Rattle.afdx_engine.specs.Engine.{Item}
 use Rattle.afdx_recorded.specs.Becoming.{options_of}
 use Rattle.afdx_recorded.specs.Claims.{ports_of}
@@ -39,11 +39,16 @@ pub record AreAllLines (whole : Taken) (lines : Lines) : Type 0 where
   pub lines_are : whole.lines ≡ lines
 
 -- this fault stands behind them
+abbrev pub StopsBehindAs : Taken → (AreCut : Lines → Type 0) → Lines → RunFault → Cause → Type 0
+StopsBehindAs whole AreCut lines fault FailedRead = AreCut lines
+StopsBehindAs whole AreCut lines fault FailedWrite = ⊥
+StopsBehindAs whole AreCut lines fault NoMemory = AreFirstLines whole lines
+StopsBehindAs whole AreCut lines fault BadInput =
+    (whole.fault ≡ Some fault) × (whole.lines ≡ lines)
+
 abbrev pub StopsBehindLines : Taken → (AreCut : Lines → Type 0) → Lines → RunFault → Type 0
-StopsBehindLines whole AreCut lines run.Read = AreCut lines
-StopsBehindLines whole AreCut lines run.Memory = AreFirstLines whole lines
-StopsBehindLines whole AreCut lines run.Write = ⊥
-StopsBehindLines whole AreCut lines fault = (whole.fault ≡ Some fault) × (whole.lines ≡ lines)
+StopsBehindLines whole AreCut lines fault =
+    StopsBehindAs whole AreCut lines fault (cause_of fault)
 
 -- what was given stands for lines of this whole; so many were counted at its end
 pub record Takes {H : Type 0} (items_of : Lines → List (Item H)) (whole : Taken)

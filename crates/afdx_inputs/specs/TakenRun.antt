@@ -1,8 +1,8 @@
 -- What a run answers that takes all of this: of a recording, or of two.
 use Rattle.std.specs.Prelude.{◌≡◌, ◌⊎◌, List, ◌++◌, Some, None, Result, Ok, Err}
 use Rattle.afdx_lists.specs.declared.fault.RunFault.{RunFault}
-use Rattle.afdx_lists.specs.declared.fault.RunFault.TheVariants as run
 use Rattle.afdx_police.specs.Arrival.{Arrival}
+use Rattle.afdx_engine.specs.Causes.{Cause, cause_of, FailedRead, BadInput}
 use Rattle.afdx_engine.specs.Engine.{Item}
 use Rattle.afdx_engine.specs.Items.{arrivals}
 use Rattle.afdx_recorded.specs.declared.counts.Tally.{Tally}
@@ -31,12 +31,14 @@ module _ {H : Type 0} (whole : Taken) (AreCut : Lines → Type 0)
     pub begun : told (items_of past) ⊎ begins (items_of past)
 
   -- what is answered. After a failed read, all is told of what was read
+  abbrev pub TakenStops : RunFault → Cause → Type 0
+  TakenStops fault FailedRead = (lines : Lines) × AreCut lines × told (items_of lines)
+  TakenStops fault BadInput = (whole.fault ≡ Some fault) × told (items_of whole.lines)
+  TakenStops fault _ = FirstAreBegun
+
   abbrev pub TakenAnswers : Result Tally RunFault → Type 0
   TakenAnswers (Ok tally) = AllAreTold tally
-  TakenAnswers (Err run.Read) = (lines : Lines) × AreCut lines × told (items_of lines)
-  TakenAnswers (Err run.Write) = FirstAreBegun
-  TakenAnswers (Err run.Memory) = FirstAreBegun
-  TakenAnswers (Err fault) = (whole.fault ≡ Some fault) × told (items_of whole.lines)
+  TakenAnswers (Err fault) = TakenStops fault (cause_of fault)
 
 -- ---- the same of the arrivals, whatever is told of them
 
@@ -57,10 +59,14 @@ module _ (whole : Taken) where
   -- A run stops with a fault. At a fault of a recording all is told of the arrivals before it.
   -- After a failed read all is told of the arrivals of what was read. After a failed write, or want
   -- of memory, a beginning is told of some first arrivals.
+  abbrev pub StopsAs : (AreCut : Lines → Type 0) → (all beginning : List Arrival → Type 0) →
+      RunFault → Cause → Type 0
+  StopsAs AreCut all beginning fault FailedRead =
+      (lines : Lines) × AreCut lines × all (arrivals (arrivals_listed lines))
+  StopsAs AreCut all beginning fault BadInput =
+      (whole.fault ≡ Some fault) × all (arrivals_in whole)
+  StopsAs AreCut all beginning fault _ = FirstAreTold beginning
+
   abbrev pub StopsTaken : (AreCut : Lines → Type 0) → (all beginning : List Arrival → Type 0) →
       RunFault → Type 0
-  StopsTaken AreCut all beginning run.Read =
-      (lines : Lines) × AreCut lines × all (arrivals (arrivals_listed lines))
-  StopsTaken AreCut all beginning run.Write = FirstAreTold beginning
-  StopsTaken AreCut all beginning run.Memory = FirstAreTold beginning
-  StopsTaken AreCut all beginning fault = (whole.fault ≡ Some fault) × all (arrivals_in whole)
+  StopsTaken AreCut all beginning fault = StopsAs AreCut all beginning fault (cause_of fault)

@@ -92,7 +92,7 @@ fn run_looked<R: Read, M: Machine<Heading>, O: Sink>(
     ensures answer { (rules : M.Rules) → M.Told rules machine.old
         (O.written output.old) (O.written output.old) [] →
         IfSome (left_in R.remaining (device_of input.old)) (λ bytes.
-        InputAnswers (options_of options) (ports_unsaid unsaid.entry)
+        InputAnswers (options_of options, ports_unsaid unsaid.entry)
         (M.Done rules machine.new (O.written output.old) (O.written output.new))
         (M.Told rules machine.new (O.written output.old) (O.written output.new))
         (M.Begins rules machine.new (O.written output.old) (O.written output.new))
@@ -140,7 +140,7 @@ pub fn run_input<R: Read, M: Machine<Heading>, O: Sink>(
     ensures answer { (rules : M.Rules) → M.Told rules machine.old
         (O.written output.old) (O.written output.old) [] →
         IfSome (left_in R.remaining (device_of input.old)) (λ bytes.
-        InputAnswers (options_of options) (ports_unsaid unsaid.entry)
+        InputAnswers (options_of options, ports_unsaid unsaid.entry)
         (M.Done rules machine.new (O.written output.old) (O.written output.new))
         (M.Told rules machine.new (O.written output.old) (O.written output.new))
         (M.Begins rules machine.new (O.written output.old) (O.written output.new))

@@ -38,7 +38,7 @@ returns-clause-answer g c law start =
     let rest = left_in g.R.Read.remaining c.run_looked.new.input.inner in
     looked-kept c.args.options (left_in g.R.Read.remaining c.args.input.now.inner)
     (left_in g.R.Read.remaining c.look.new.self.inner) (held c.look.new.self.inner)
-    (λ (is : Bool) (bytes : List ℕ). InputAnswers (options_of c.args.options) (ports_unsaid c.args.unsaid)
+    (λ (is : Bool) (bytes : List ℕ). InputAnswers (options_of c.args.options, ports_unsaid c.args.unsaid)
     (g.M.Machine.Done law machine old new) (g.M.Machine.Told law machine old new)
     (g.M.Machine.Begins law machine old new) is bytes rest c.run_looked.result)
     c.look.ensures.left (c.look.ensures.first c.if-look.false) (c.run_looked.ensures.answer law start)

@@ -1,7 +1,7 @@
 use Rattle.std.proofs.Common.{rules, ◌≡◌, Err, sym, ◌∙◌}
 use Rattle.afdx_lists.specs.Calls.{is_read}
 use Rattle.afdx_inputs.proofs.OverLemmas.{over-err, err-answers, ok-answers}
-use Rattle.afdx_inputs.proofs.RecordingRunLemmas.{not_read}
+use Rattle.afdx_engine.proofs.ListRunLemmas.{not_read}
 use Rattle.afdx_inputs.proofs.over.run_over.Goals as goal
 
 pub returns-in_err-drive-clause-read : goal.returns-in_err-drive-clause-read
