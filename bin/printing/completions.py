@@ -73,6 +73,7 @@ def checked(form: re.Pattern[str], text: str) -> str:
 
 
 def option_of(entry: Entry) -> Option:
+    """The option of an entry of a help."""
     names = tuple(checked(NAME, name) for name in entry.names)
     said = re.search(r"with commas: (.*?); (\w+) stands for", entry.text)
     if not entry.value:
@@ -168,6 +169,7 @@ def bash_call(kind: Kind) -> str:
 
 
 def bash_arm(pattern: str, kind: Kind) -> str:
+    """An arm of a `case` that offers it."""
     words = bash_call(kind).split(" ")
     line = f"        {pattern}) {' '.join(words)} ;;"
     if len(line) <= 100:
@@ -176,6 +178,7 @@ def bash_arm(pattern: str, kind: Kind) -> str:
 
 
 def bash_part(taken: dict[str, list[Taken]]) -> str:
+    """What is printed for bash."""
     every = [each for of_tool in taken.values() for each in of_tool]
     takes, values, places = [], {}, []
     for each in every:
@@ -213,6 +216,7 @@ def bash_part(taken: dict[str, list[Taken]]) -> str:
 
 
 def fish_quoted(text: str) -> str:
+    """A text in quotes."""
     return "'" + text.replace("'", "\\'") + "'"
 
 
@@ -227,6 +231,7 @@ def fish_offer(kind: Kind) -> str:
 
 
 def fish_option(tool: str, condition: list[str], option: Option) -> str:
+    """The line of an option."""
     words = ["complete", "-c", tool, *condition]
     if option.kind is not None and not option.optional:
         words.append("-x")
@@ -238,6 +243,7 @@ def fish_option(tool: str, condition: list[str], option: Option) -> str:
 
 
 def fish_part(taken: dict[str, list[Taken]], abouts: dict[str, str]) -> str:
+    """What is printed for fish; `abouts` say what each command does."""
     valued: dict[str, None] = {}
     lines = []
     for tool, of_tool in taken.items():
@@ -309,11 +315,13 @@ def zsh_option(option: Option) -> str:
 
 
 def zsh_place(place: Place) -> str:
+    """The word as `_arguments` takes it."""
     before = "*" if place.repeats else ":" if place.optional else ""
     return f"'{before}:{place.value.lower()}:{zsh_action(place)}'"
 
 
 def zsh_part(taken: dict[str, list[Taken]]) -> str:
+    """What is printed for zsh."""
     arms = []
     for of_tool in taken.values():
         for each in of_tool:

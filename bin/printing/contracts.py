@@ -123,6 +123,7 @@ def named_definitions(crate: str, clauses: list[Clause]) -> str:
 
 
 def section_of(crate: str) -> str:
+    """The section of a crate."""
     rows = [
         f"| {call.name} | {call.file} | {named_clauses(call.clauses)} "
         f"| {named_definitions(crate, call.clauses)} |\n"

@@ -79,6 +79,7 @@ def meaning(row: Row, before: str = "") -> str:
 
 
 def of_kind(rows: list[Row], kind: str) -> list[Row]:
+    """The rows of one of the lists."""
     return [row for row in rows if row.kind == kind]
 
 
@@ -89,12 +90,14 @@ def faults_of(rows: list[Row], *kinds: str) -> list[Row]:
 
 
 def words_and_devices(rows: list[Row]) -> str:
+    """The faults of words, devices and memory."""
     faults = faults_of(rows, *STATUSES)
     return table("| Line | Status | When |", (
         [f"`{row.word}`", str(STATUSES[row.word.split()[0]]), meaning(row)] for row in faults))
 
 
 def list_faults(rows: list[Row]) -> str:
+    """The faults of a list, in the order in which a line is checked."""
     faults = {row.word.split()[1]: row for row in faults_of(rows, "list")}
     if set(faults) != set(CHECKED) - {""}:
         raise SystemExit(f"docs/FORMATS.md: the faults of a list are {set(faults)}")
@@ -104,16 +107,19 @@ def list_faults(rows: list[Row]) -> str:
 
 
 def recording_faults(rows: list[Row]) -> str:
+    """The faults of a recording."""
     return table("| Recording fault | When |", (
         [f"`{row.word}`", meaning(row)] for row in faults_of(rows, "recording")))
 
 
 def skipped_numbers(rows: list[Row]) -> str:
+    """Why a number of a recording is skipped."""
     return table("| WORD of a skipped number | When |", (
         [f"`{row.word}`", meaning(row)] for row in of_kind(rows, "skipped")))
 
 
 def recording_counts(rows: list[Row]) -> str:
+    """The counts of a recording that are no such reasons."""
     counts = next(row for row in of_kind(rows, "line") if row.forms[-1].startswith("skipped "))
     said = re.findall(r"then ([a-z-]+): (.*?)(?=; then |$)", sentences(counts.text))
     if [word for word, _ in said] != list(counts.forms[:-1]):
@@ -122,6 +128,7 @@ def recording_counts(rows: list[Row]) -> str:
 
 
 def dropped(rows: list[Row]) -> str:
+    """Why a switch drops a frame."""
     return table("| WORD | The frame |", (
         [f"`{row.word}`", meaning(row, "the frame ")] for row in of_kind(rows, "drop")))
 
@@ -136,11 +143,13 @@ def not_received(rows: list[Row]) -> str:
 
 
 def refused(rows: list[Row]) -> str:
+    """Why a message is refused."""
     return table("| Text | When |", (
         [f"`{row.word}`", meaning(row)] for row in of_kind(rows, "refusal")))
 
 
 def admission(rows: list[Row]) -> str:
+    """The conditions of admission."""
     cells = []
     for row in of_kind(rows, "admission"):
         line, _, wrong = sentences(row.text).partition(": ")
@@ -164,6 +173,7 @@ def config_faults(rows: list[Row]) -> str:
 
 
 def keys(rows: list[Row]) -> str:
+    """The keys of a configuration."""
     pattern = r"[Kk]ey (\d+) of (?:the|a) (\w+)(?: is|:) (\w+): (.*?)\.(?:\s|$)"
     cells = []
     for row in of_kind(rows, "key"):

@@ -15,6 +15,7 @@ class Row:
 
     @property
     def word(self) -> str:
+        """The word, or the first of the forms."""
         return self.forms[0]
 
 

@@ -44,6 +44,7 @@ class Scope:
 
 
 def text_of(path: pathlib.Path) -> str:
+    """What stands in a file."""
     return path.read_text(encoding="utf-8")
 
 
@@ -54,6 +55,7 @@ def sources_of(crate: str) -> list[pathlib.Path]:
 
 
 def without_comments(text: str) -> str:
+    """Without what stands behind two slashes."""
     return re.sub(r"//.*", "", text)
 
 
@@ -77,6 +79,7 @@ def braced(text: str, start: int) -> str:
 
 @functools.cache
 def specs_text(crate: str, file: str) -> str:
+    """A file of definitions; empty if it is none of this repository."""
     path = CRATES / crate / "specs" / (file.replace(".", "/") + ".antt")
     return text_of(path) if path.is_file() else ""
 
