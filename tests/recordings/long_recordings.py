@@ -126,7 +126,10 @@ def long_memory(program: Program, run: Long) -> None:
     found = streamed(program, run, room + 64, "--summary")
     every = run.inputs * run.frames
     skips = "no-frame 0 left-out 0 not-afdx 0 unknown-sender 0 no-network 0 before-origin 0"
-    counts = f"skipped {skips} recorder-lost 0 claimed {every} contradicted 0 unused 0\n".encode()
+    # (all frames name network A, those of B's recording too)
+    others = every - run.frames
+    told = f"recorder-lost 0 claimed {every} contradicted {others} unused 0"
+    counts = f"skipped {skips} {told}\n".encode()
     if run.words[0] != "list":
         line, _, counts_told = found.err.partition(b"\n")
         begin = f"summary lines {every} accepted {every} dropped 0 ".encode()
