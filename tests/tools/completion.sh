@@ -133,7 +133,7 @@ each_help() { # FUNCTION WORD.. : calls it with the words, a command's name and 
         options_of tools/$name >"$work/options"
         "$@" "$name" "$work/options"
     done
-    if ! options_of "$program" replay | grep -qx -- --summary; then return; fi
+    if ! options_of "$program" replay | grep -x -- --summary >/dev/null; then return; fi
     for name in check list police replay send solve; do
         options_of "$program" "$name" >"$work/options"
         "$@" "afdx $name" "$work/options"

@@ -36,7 +36,7 @@ installed_tests() { # DEB
     launch dpkg --root="$root" --force-not-root,depends,script-chrootless --log=/dev/null -i "$1"
     tell 'the package is installed in a bare root' "$(
         is_status 0
-        dpkg --root="$root" --status afdx 2>&1 | grep -q '^Status: install ok installed' ||
+        dpkg --root="$root" --status afdx 2>&1 | grep '^Status: install ok installed' >/dev/null ||
             echo 'dpkg says that it is not'
         cmp "$program" "$root/usr/bin/afdx" 2>&1
         for file in share/man/man1/afdx{,-capture,-report,-campaign,-icd,-fill}.1.gz \
