@@ -144,7 +144,8 @@ END_OF_FILE
         wants_number "$proof/cover/report.json" 'r["run"]["files"][-1][0]' Cover
         wants_number "$proof/cover/report.json" 'r["run"]["files"][-1][2]' \
             "$(sha256sum "$proof/cover.toml" | cut -d ' ' -f 1)"
-        if ! sed 's/Signatures.*//' "$proof/cover/report.html" | grep 'What made this' >/dev/null; then
+        if ! sed 's/Signatures.*//' "$proof/cover/report.html" |
+            grep 'What made this' >/dev/null; then
             echo 'what made it stands behind the signatures'
         fi
         "$python" tests/tools/html_tags.py "$proof/cover/report.html"
