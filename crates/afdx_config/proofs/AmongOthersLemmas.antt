@@ -1,11 +1,15 @@
 -- The tables of the one switch on a side are those of a switch that may have others beside it.
-use Rattle.std.proofs.Common.{ℕ, List, [], ◌∷◌, length, arith}
+use Rattle.std.proofs.Common.{◌≡◌, ℕ, suc, ◌<◌, ◌≤◌, List, [], ◌∷◌, length, take, slice_get, Some, refl}
+use Rattle.std.proofs.Common.{ap, ◌∙◌, subst, arith}
 use Rattle.std.specs.List.{AllByRecursion}
-use Rattle.afdx_config.specs.Lawful.{IsLink, IsLinkUpTo, jitter_from_any}
-use Rattle.afdx_config.specs.Laws.{OneIsAmongOthers, AdmittedIsServing}
-use Rattle.afdx_config.specs.Rows.{LinkRow}
+use Rattle.std.proofs.Math.Seq.{take-length}
+use Rattle.afdx_frame.proofs.ListLemmas.{AllByRecursion-slice_get}
+use Rattle.afdx_config.specs.Lawful.{IsLink, IsLinkUpTo, IsPort, jitter_from_system, jitter_from_any}
+use Rattle.afdx_config.specs.Lawful.{IsLawful, IsLawfulSwitch, AreDistinct}
+use Rattle.afdx_config.specs.Laws.{AloneIsOne, AdmittedIsServing}
+use Rattle.afdx_config.specs.Rows.{SystemRow, LinkRow, Rows}
 
-link-among : (systems : ℕ) (l : LinkRow) → IsLink systems l → IsLinkUpTo jitter_from_any systems l
+pub link-among : (systems : ℕ) (l : LinkRow) → IsLink systems l → IsLinkUpTo jitter_from_any systems l
 link-among systems l is = record {
   vl = is.vl;
   from = is.from;
@@ -26,14 +30,76 @@ links-among : (systems : ℕ) (links : List LinkRow) → AllByRecursion (IsLink 
 links-among systems [] all = tt
 links-among systems (l ∷ links) all = (link-among systems l all.0, links-among systems links all.1)
 
-pub among-others : OneIsAmongOthers
-among-others t lawful = record {
+-- the port entries are of systems
+module _ (t : Rows) (lawful : IsLawful t) where
+  pub among_others : IsLawfulSwitch t
+  among_others = record {
+    profile = lawful.profile;
+    buffer = lawful.buffer;
+    own = omega (arith, lawful.own);
+    systems = record {
+      count = lawful.systems.count;
+      each = lawful.systems.each;
+      names = lawful.systems.names;
+      ports = lawful.systems.ports;
+      ids = rw lawful.own (rw (take-length t.systems) lawful.systems.ids);
+    };
+    links = record {
+      count = lawful.links.count;
+      each = links-among (length t.systems) t.links lawful.links.each;
+      identifiers = lawful.links.identifiers;
+    };
+    sent = λ i l at from.
+        (AllByRecursion-slice_get (IsLink (length t.systems)) t.links i l lawful.links.each at).jitter_us.1;
+    ports = lawful.ports;
+    heard = λ i p at. rw lawful.own
+        (AllByRecursion-slice_get (IsPort (length t.systems) t.links) t.ports i p lawful.ports.each at).system;
+  }
+
+-- a link of a switch without neighbours comes from a system
+link-alone : (systems : ℕ) (l : LinkRow) → IsLinkUpTo jitter_from_any systems l
+    → l.jitter_us ≤ jitter_from_system l.bag_ms → IsLink systems l
+link-alone systems l is most = record {
+  vl = is.vl;
+  from = is.from;
+  to = is.to;
+  to_count = is.to_count;
+  apart = is.apart;
+  bag_ms = is.bag_ms;
+  lmin = is.lmin;
+  lmax = is.lmax;
+  jitter_us = (omega arith, most);
+  latency_us = is.latency_us;
+  skew_us = is.skew_us;
+  subs = is.subs;
+}
+
+links-alone : (systems : ℕ) (links : List LinkRow) → AllByRecursion (IsLinkUpTo jitter_from_any systems) links
+    → ((i : ℕ) (l : LinkRow) → slice_get links i ≡ Some l → l.from < systems → l.jitter_us ≤ jitter_from_system l.bag_ms)
+    → AllByRecursion (IsLink systems) links
+links-alone systems [] all sent = tt
+links-alone systems (l ∷ links) all sent = (
+  link-alone systems l all.0 (sent 0 l refl all.0.from),
+  links-alone systems links all.1 (λ i l at. sent (suc i) l at),
+)
+
+pub alone-one : AloneIsOne
+alone-one t lawful own = record {
   profile = lawful.profile;
   buffer = lawful.buffer;
-  systems = lawful.systems;
+  own = own;
+  systems = record {
+    count = lawful.systems.count;
+    each = lawful.systems.each;
+    names = lawful.systems.names;
+    ports = lawful.systems.ports;
+    ids = subst (λ rows. AreDistinct (λ (s : SystemRow). s.id) rows)
+        (ap (λ n. take n t.systems) own ∙ take-length t.systems) lawful.systems.ids;
+  };
   links = record {
     count = lawful.links.count;
-    each = links-among (length t.systems) t.links lawful.links.each;
+    each = links-alone (length t.systems) t.links lawful.links.each
+        (λ i l at from. lawful.sent i l at (omega (arith, own, from)));
     identifiers = lawful.links.identifiers;
   };
   ports = lawful.ports;

@@ -1,6 +1,6 @@
 -- Tables stay lawful when a link gets times that it may have.
 use Rattle.std.proofs.Common.{◌≡◌, ℕ, zero, suc, Bool, true, false, cond, List, [], ◌∷◌, length, find}
-use Rattle.std.proofs.Common.{Some, slice_get, nat_eq, refl, sym, ap, ◌∙◌}
+use Rattle.std.proofs.Common.{Some, slice_get, nat_eq, refl, sym, ap, ◌∙◌, subst, ◌<◌, ◌≤◌}
 use Rattle.std.specs.List.{AllByRecursion}
 use Rattle.std.specs.Option.{option_map_or}
 use Rattle.std.specs.Map.{values_of}
@@ -12,8 +12,10 @@ use Rattle.afdx_config.specs.declared.rows.Link.{Link}
 use Rattle.afdx_config.specs.Rows.{LinkRow, PortRow, Rows, is_to, link_row}
 use Rattle.afdx_config.specs.Kept.{link_rows, IsUnderItsIdentifier}
 use Rattle.afdx_config.specs.Reading.{goes_to}
-use Rattle.afdx_config.specs.Lawful.{IsLink, AreLinks, IsPort, AreDistinct, IsLawful}
+use Rattle.afdx_config.specs.Lawful.{IsLink, IsLinkUpTo, AreLinksUpTo, IsPort, AreDistinct}
+use Rattle.afdx_config.specs.Lawful.{IsLawfulSwitch, jitter_from_system, jitter_from_any}
 use Rattle.afdx_config.specs.Changed.{with_times, changed_at, with_link_at}
+use Rattle.afdx_config.proofs.AmongOthersLemmas.{link-among}
 
 -- a row of the changed ones, as it was
 stood : (i : ℕ) (times : Times) (ls : List LinkRow) (j : ℕ) (b : LinkRow) → slice_get (changed_at i times ls) j ≡ Some b
@@ -38,18 +40,31 @@ all_changed P i times [] h new = tt
 all_changed P zero times (l ∷ ls) h new = (new l refl, h.1)
 all_changed P (suc i) times (l ∷ ls) h new = (h.0, all_changed P i times ls h.1 new)
 
-links-changed : (systems i : ℕ) (times : Times) (ls : List LinkRow) → AreLinks systems ls
-    → ((l : LinkRow) → slice_get ls i ≡ Some l → IsLink systems (with_times times l))
-    → AreLinks systems (changed_at i times ls)
+links-changed : (greatest : ℕ → ℕ) (systems i : ℕ) (times : Times) (ls : List LinkRow) → AreLinksUpTo greatest systems ls
+    → ((l : LinkRow) → slice_get ls i ≡ Some l → IsLinkUpTo greatest systems (with_times times l))
+    → AreLinksUpTo greatest systems (changed_at i times ls)
 unfolding AreDistinct
-links-changed systems i times ls old new = record {
+links-changed greatest systems i times ls old new = record {
   count = rw (length-changed_at i times ls) old.count;
-  each = all_changed (IsLink systems) i times ls old.each new;
+  each = all_changed (IsLinkUpTo greatest systems) i times ls old.each new;
   identifiers = λ j k a b at at' same.
       let x = stood i times ls j a at in
       let y = stood i times ls k b at' in
       old.identifiers j k x.0 y.0 x.1 y.1 (x.2 ∙ same ∙ sym y.2);
 }
+
+-- what holds of each row that was, and of the changed one
+each-changed : (P : LinkRow → Type 0) (i : ℕ) (times : Times) (ls : List LinkRow)
+    → ((j : ℕ) (l : LinkRow) → slice_get ls j ≡ Some l → P l)
+    → ((l : LinkRow) → slice_get ls i ≡ Some l → P (with_times times l))
+    → (j : ℕ) (l : LinkRow) → slice_get (changed_at i times ls) j ≡ Some l → P l
+unfolding changed_at
+each-changed P i times [] old new j l at = absurd (cc at)
+each-changed P zero times (x ∷ ls) old new zero l at = subst P (same_Some (with_times times x) l at) (new x refl)
+each-changed P zero times (x ∷ ls) old new (suc j) l at = old (suc j) l at
+each-changed P (suc i) times (x ∷ ls) old new zero l at = old zero l at
+each-changed P (suc i) times (x ∷ ls) old new (suc j) l at =
+    each-changed P i times ls (λ k m is. old (suc k) m is) new j l at
 
 -- where a link goes stays
 module _ (vl system : ℕ) where
@@ -94,19 +109,24 @@ each_port-changed systems i times ls [] h = tt
 each_port-changed systems i times ls (p ∷ ps) h =
     (port-changed systems i times ls p h.0, each_port-changed systems i times ls ps h.1)
 
-pub lawful-changed : (t : Rows) (i : ℕ) (times : Times) → IsLawful t
+pub lawful-changed : (t : Rows) (i : ℕ) (times : Times) → IsLawfulSwitch t
     → ((l : LinkRow) → slice_get t.links i ≡ Some l → IsLink (length t.systems) (with_times times l))
-    → IsLawful (with_link_at i times t)
+    → IsLawfulSwitch (with_link_at i times t)
 lawful-changed t i times old new = record {
   profile = old.profile;
   buffer = old.buffer;
+  own = old.own;
   systems = old.systems;
-  links = links-changed (length t.systems) i times t.links old.links new;
+  links = links-changed jitter_from_any (length t.systems) i times t.links old.links
+      (λ l at. link-among (length t.systems) (with_times times l) (new l at));
+  sent = each-changed (λ l. l.from < t.own → l.jitter_us ≤ jitter_from_system l.bag_ms) i times t.links old.sent
+      (λ l at from. (new l at).jitter_us.1);
   ports = record {
     count = old.ports.count;
     each = each_port-changed (length t.systems) i times t.links t.ports old.ports.each;
     triples = old.ports.triples;
   };
+  heard = old.heard;
 }
 
 -- as the rows of a map

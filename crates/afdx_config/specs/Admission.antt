@@ -1,6 +1,6 @@
 -- Admission: what a configuration satisfies in which every frame keeps its link's latency. It has
 -- seven lines: four at each output port, one for each system, and two for each link.
-use Rattle.std.specs.Prelude.{◌≡◌, ℕ, ◌+◌, ◌*◌, ◌/◌, ◌≤◌, List, filter, map, nat_eq, slice_get}
+use Rattle.std.specs.Prelude.{◌≡◌, ℕ, ◌+◌, ◌*◌, ◌/◌, ◌<◌, ◌≤◌, List, filter, map, nat_eq, slice_get}
 use Rattle.std.specs.Prelude.{Some}
 use Rattle.afdx_config.specs.Rows.{SystemRow, LinkRow, Rows, is_to}
 use Rattle.afdx_frame.specs.Flows.{Flow, sending_time, IsPortAdmitted}
@@ -51,11 +51,13 @@ pub record IsAdmitted (t : Rows) : Type 0 where
   -- a system's jitter is not more than it may be
   pub senders : (i : ℕ) (s : SystemRow) →
       slice_get t.systems i ≡ Some s →
+      i < t.own →
       sender_jitter (byte_ns s) (links_from t.links i) ≤ greatest_jitter
-  -- a link's jitter allows for that of its sender
+  -- a link's jitter allows for that of the system that sends it
   pub jitters : (i : ℕ) (l : LinkRow) (s : SystemRow) →
       slice_get t.links i ≡ Some l →
       slice_get t.systems l.from ≡ Some s →
+      l.from < t.own →
       sender_jitter (byte_ns s) (links_from t.links l.from) ≤ 1000 * l.jitter_us
   -- the copies of a frame are no further apart than the link's skew
   pub skews : (i : ℕ) (l : LinkRow) → slice_get t.links i ≡ Some l → l.latency_us ≤ l.skew_us

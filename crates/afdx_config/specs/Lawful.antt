@@ -1,7 +1,7 @@
 -- Every rule of the format, as a fact of the rows. A link's greatest jitter is a number of its own:
 -- it depends on who sends the link to this switch, a system or another switch.
 use Rattle.std.specs.Prelude.{◌≡◌, ℕ, ◌+◌, ◌*◌, ◌<◌, ◌≤◌, true, List, length, nat_eq, slice_get}
-use Rattle.std.specs.Prelude.{IsTrue, Some}
+use Rattle.std.specs.Prelude.{IsTrue, Some, take}
 use Rattle.std.specs.List.{list_any, AllByRecursion}
 use Rattle.afdx_frame.specs.Lengths.{least_frame, greatest_frame, greatest_buffer}
 use Rattle.afdx_frame.specs.Regulation.{is_bag}
@@ -75,6 +75,14 @@ pub record AreSystems (profile : ℕ) (systems : List SystemRow) : Type 0 where
   pub ports : AreDistinct (λ s. s.port) systems
   pub ids : AreDistinct (λ s. s.id) systems
 
+-- and of ends, of which the first `own` are systems: a neighbour has no id
+pub record AreEnds (profile own : ℕ) (ends : List SystemRow) : Type 0 where
+  pub count : length ends ≤ last_port
+  pub each : AllByRecursion (IsSystem profile) ends
+  pub names : AreDistinct (λ s. s.name) ends
+  pub ports : AreDistinct (λ s. s.port) ends
+  pub ids : AreDistinct (λ s. s.id) (take own ends)
+
 pub record AreLinksUpTo (greatest_jitter : ℕ → ℕ) (systems : ℕ) (links : List LinkRow) :
     Type 0 where
   pub count : length links ≤ most_links
@@ -89,17 +97,27 @@ pub record ArePorts (systems : ℕ) (links : List LinkRow) (ports : List PortRow
   pub each : AllByRecursion (IsPort systems links) ports
   pub triples : AreDistinct triple ports
 
-pub record IsLawfulUpTo (greatest_jitter : ℕ → ℕ) (t : Rows) : Type 0 where
+-- the tables of the one switch on a side: all that stands at its ports is a system
+pub record IsLawful (t : Rows) : Type 0 where
   pub profile : IsWithin 1 2 t.profile
   pub buffer : IsWithin least_frame greatest_buffer t.buffer
+  pub own : t.own ≡ length t.systems
   pub systems : AreSystems t.profile t.systems
-  pub links : AreLinksUpTo greatest_jitter (length t.systems) t.links
+  pub links : AreLinks (length t.systems) t.links
   pub ports : ArePorts (length t.systems) t.links t.ports
 
--- the tables of the one switch on a side
-abbrev pub IsLawful : Rows → Type 0
-IsLawful = IsLawfulUpTo jitter_from_system
-
--- the tables of a switch that may have other switches beside it, which send links to it
-abbrev pub IsLawfulSwitch : Rows → Type 0
-IsLawfulSwitch = IsLawfulUpTo jitter_from_any
+-- The tables of a switch that may have other switches beside it, which send links to it. A link
+-- that one of its own systems sends has no greater jitter than with one switch, and only a system
+-- has communication ports.
+pub record IsLawfulSwitch (t : Rows) : Type 0 where
+  pub profile : IsWithin 1 2 t.profile
+  pub buffer : IsWithin least_frame greatest_buffer t.buffer
+  pub own : t.own ≤ length t.systems
+  pub systems : AreEnds t.profile t.own t.systems
+  pub links : AreLinksUpTo jitter_from_any (length t.systems) t.links
+  pub sent : (i : ℕ) (l : LinkRow) →
+      slice_get t.links i ≡ Some l →
+      l.from < t.own →
+      l.jitter_us ≤ jitter_from_system l.bag_ms
+  pub ports : ArePorts (length t.systems) t.links t.ports
+  pub heard : (i : ℕ) (p : PortRow) → slice_get t.ports i ≡ Some p → p.system < t.own

@@ -1,7 +1,7 @@
 -- What is true of lawful tables.
-use Rattle.std.specs.Prelude.{◌≡◌, ℕ, slice_get, Some}
+use Rattle.std.specs.Prelude.{◌≡◌, ℕ, ◌<◌, length, slice_get, Some}
 use Rattle.afdx_config.specs.Rows.{SystemRow, LinkRow, Rows}
-use Rattle.afdx_config.specs.Reading.{system_named, system_at_port, link_of}
+use Rattle.afdx_config.specs.Reading.{system_named, system_at_port, link_of, listener_at}
 use Rattle.afdx_config.specs.Lawful.{IsLawful, IsLawfulSwitch}
 use Rattle.afdx_config.specs.Admission.{IsAdmitted, IsServing}
 
@@ -18,9 +18,26 @@ pub record RowsAreFound (t : Rows) : Type 0 where
 abbrev pub EachRowIsFound : Type 0
 EachRowIsFound = (t : Rows) → IsLawfulSwitch t → RowsAreFound t
 
+-- what hears at a port is the system there, and each system hears at its port
+pub record SystemsListen (t : Rows) : Type 0 where
+  pub only : (port i : ℕ) →
+      listener_at t port ≡ Some i →
+      (system_at_port t.systems port ≡ Some i) × (i < t.own)
+  pub each : (i : ℕ) (s : SystemRow) →
+      slice_get t.systems i ≡ Some s →
+      i < t.own →
+      listener_at t s.port ≡ Some i
+
+abbrev pub SystemsAlwaysListen : Type 0
+SystemsAlwaysListen = (t : Rows) → IsLawfulSwitch t → SystemsListen t
+
 -- what holds of the one switch on a side holds of it among others
 abbrev pub OneIsAmongOthers : Type 0
 OneIsAmongOthers = (t : Rows) → IsLawful t → IsLawfulSwitch t
+
+-- and a switch without neighbours is the one switch
+abbrev pub AloneIsOne : Type 0
+AloneIsOne = (t : Rows) → IsLawfulSwitch t → t.own ≡ length t.systems → IsLawful t
 
 abbrev pub AdmittedIsServing : Type 0
 AdmittedIsServing = (t : Rows) → IsAdmitted t → IsServing t

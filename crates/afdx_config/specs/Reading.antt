@@ -1,6 +1,7 @@
 -- The one order of the checks, over the tree that TOML reads: the top, then each system, each link
 -- and each port entry in file order. A table is read key by key, in the order of the keys' numbers.
 use Rattle.std.specs.Prelude.{◌≡◌, ℕ, ◌+◌, ◌*◌, Bool, false, not, ◌&&◌, ◌||◌, ◌==◌, nat_le, nat_eq}
+use Rattle.std.specs.Prelude.{nat_lt}
 use Rattle.std.specs.Prelude.{List, [], ◌∷◌, ◌++◌, length, codes, position, find, Option, Some}
 use Rattle.std.specs.Prelude.{None, is_some, option_map, option_and_then, Result, Ok, Err, IsUtf8}
 use Rattle.std.specs.Prelude.{◌⊎◌, if◌then◌else◌}
@@ -39,6 +40,11 @@ system_named systems name = position (λ s. bytes_eq name s.name) systems
 
 unfoldable pub system_at_port : List SystemRow → ℕ → Option ℕ
 system_at_port systems port = position (λ s. s.port == port) systems
+
+-- the place of the system that hears what leaves this port: a neighbour hears nothing
+unfoldable pub listener_at : Rows → ℕ → Option ℕ
+listener_at t port = option_and_then (λ i. if nat_lt i t.own then Some i else None)
+    (system_at_port t.systems port)
 
 unfoldable pub has_id : List SystemRow → ℕ → Bool
 has_id systems id = list_any (λ s. s.id == id) systems
@@ -242,6 +248,7 @@ tables_at kept t = do
   Ok (record {
     profile = profile;
     buffer = buffer;
+    own = length systems;
     systems = systems;
     links = links;
     ports = ports;

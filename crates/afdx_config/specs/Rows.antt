@@ -62,17 +62,26 @@ pub record PortRow : Type 0 where
   pub kind : Kind
   pub depth : ℕ
 
--- the buffer of each output port is in bytes
+-- The buffer of each output port is in bytes. The ends are what stands at the ports of the switch:
+-- first its own systems, then its neighbours, which are other switches. A neighbour's `id` and
+-- `partition` mean nothing.
 pub record Rows : Type 0 where
   pub profile : ℕ
   pub buffer : ℕ
+  pub own : ℕ
   pub systems : List SystemRow
   pub links : List LinkRow
   pub ports : List PortRow
 
-abbrev pub rows_with : ℕ → ℕ → List SystemRow → List LinkRow → List PortRow → Rows
-rows_with profile buffer systems links ports =
-    record { profile = profile; buffer = buffer; systems = systems; links = links; ports = ports }
+abbrev pub rows_with : ℕ → ℕ → ℕ → List SystemRow → List LinkRow → List PortRow → Rows
+rows_with profile buffer own systems links ports = record {
+  profile = profile;
+  buffer = buffer;
+  own = own;
+  systems = systems;
+  links = links;
+  ports = ports;
+}
 
 -- the link goes to this system
 abbrev pub is_to : ℕ → LinkRow → Bool

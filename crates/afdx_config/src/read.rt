@@ -36,7 +36,8 @@ fn profile_of(tree: &Table) -> Result<u64, ConfigFault>
 /// solved for, those that aren't kept may be absent or out of range.
 #[tactic(auto, unfolding(crate::specs::Reading::tables_at, crate::specs::Keys::top_keys))]
 fn tables_of(alloc: Global, tree: &Table, kept: KeptKeys) -> Result<Tables, ConfigFault>
-    ensures { Gives (λ t. t) result (spec.tables_at kept (table_view tree.now)) }
+    ensures lawful { IfOk result IsLawful }
+    ensures value { Gives (λ t. t) result (spec.tables_at kept (table_view tree.now)) }
 {
     let profile = profile_of(tree)?;
     let buffer = choice(tree, top_at(2), kept.buffer)?;

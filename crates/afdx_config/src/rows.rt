@@ -2,7 +2,7 @@
 
 use afdx_frame::{Policing, Priority, VlId};
 
-/// The place of a system in the configuration, from 0.
+/// The place of a system or neighbour in the configuration, from 0.
 #[derive(Clone, Copy, Debug, PartialEq, Eq, Hash)]
 pub struct SystemId(pub u8);
 

@@ -6,12 +6,17 @@ use crate::systems::Systems;
 use afdx_frame::VlId;
 use std::marker::Model;
 
-/// The tables of a network: its systems, its links and the communication ports of its systems, each
-/// in the order of the file. Every rule of the format holds in them.
+/// The tables of a switch: what stands at its ports, its links and the communication ports of its
+/// systems, each in the order of the file. Every rule of the format holds in them.
+///
+/// What stands at a port is a system or a neighbour, which is another switch. The systems come
+/// first. A neighbour has a port and a rate, and a link may come from it and go to it, but it hears
+/// nothing and has no communication ports.
 #[derive(Debug)]
 pub struct Tables {
     profile: u64,
     buffer: u64,
+    own: usize,
     systems: Systems,
     links: Links,
     coms: Vec<ComRow>,
@@ -23,6 +28,7 @@ impl Drop for Tables {
         let Self {
             profile,
             buffer,
+            own,
             systems,
             links,
             coms,
@@ -32,28 +38,31 @@ impl Drop for Tables {
 
 impl Model for Tables {
     ghost use Rattle.afdx_config.specs.Rows.{Rows, rows_with, port_rows};
-    ghost use Rattle.afdx_config.specs.Lawful.{IsLawful};
+    ghost use Rattle.afdx_config.specs.Lawful.{IsLawfulSwitch};
 
     ghost Value = { Rows };
 
-    ghost view = { λ t. rows_with t.profile t.buffer t.systems t.links (port_rows t.coms.items) };
+    ghost view = { λ t.
+        rows_with t.profile t.buffer t.own t.systems t.links (port_rows t.coms.items) };
 
     ghost invariant = { λ t.
-        IsLawful (rows_with t.profile t.buffer t.systems t.links (port_rows t.coms.items)) };
+        IsLawfulSwitch (rows_with t.profile t.buffer t.own t.systems t.links (port_rows t.coms.items)) };
 }
 
 impl Tables {
     ghost use Rattle.std.specs.Prelude.{◌≡◌, ◌<◌, ◌≤◌, length, slice_get};
-    ghost use Rattle.std.specs.Prelude.{Some, option_map, IfSome};
+    ghost use Rattle.std.specs.Prelude.{Some, nat_lt, option_map, IfSome};
     ghost use Rattle.afdx_config.specs.Rows.{SystemRow, LinkRow, system_row, link_row, port_row};
     ghost use Rattle.afdx_config.specs.Rows.{port_rows, rows_with, is_to};
     ghost use Rattle.afdx_frame.specs.Regulation.{slowest_byte};
     ghost use Rattle.afdx_config.specs.Admission.{byte_ns};
-    ghost use Rattle.afdx_config.specs.Reading.{system_named, system_at_port, link_of};
-    ghost use Rattle.afdx_config.specs.Lawful.{IsLawful, IsSystem, IsLink, IsPort, IsWithin};
+    ghost use Rattle.afdx_config.specs.Reading.{system_named, system_at_port, link_of, listener_at};
+    ghost use Rattle.afdx_config.specs.Lawful.{IsLawful, IsLawfulSwitch, IsSystem, IsLink, IsLinkUpTo};
+    ghost use Rattle.afdx_config.specs.Lawful.{IsPort, IsWithin, jitter_from_any};
     ghost use Rattle.afdx_config.specs.Changed.{with_buffer, with_times, with_link_at};
     ghost use Rattle.afdx_frame.specs.Lengths.{least_frame, greatest_buffer};
 
+    /// The tables of one switch, at whose ports systems alone stand.
     pub(crate) fn new(
         profile: u64,
         buffer: u64,
@@ -61,12 +70,16 @@ impl Tables {
         links: Links,
         coms: Vec<ComRow>,
     ) -> Tables
-        requires { IsLawful (rows_with profile buffer systems links (port_rows coms.items)) }
-        ensures { result ≡ rows_with profile buffer systems links (port_rows coms.items) }
+        requires { IsLawful
+            (rows_with profile buffer (length systems) systems links (port_rows coms.items)) }
+        ensures { result
+            ≡ rows_with profile buffer (length systems) systems links (port_rows coms.items) }
     {
+        let own = systems.len();
         Tables {
             profile,
             buffer,
+            own,
             systems,
             links,
             coms,
@@ -76,7 +89,7 @@ impl Tables {
     /// The profile, 1 or 2.
     pub fn profile(&self) -> u64
         ensures profile { result ≡ self.now.profile }
-        ensures lawful { IsLawful self.now }
+        ensures lawful { IsLawfulSwitch self.now }
     {
         self.profile
     }
@@ -84,30 +97,45 @@ impl Tables {
     /// The room of each output port, in bytes of waiting frames.
     pub fn buffer(&self) -> u64
         ensures buffer { result ≡ self.now.buffer }
-        ensures lawful { IsLawful self.now }
+        ensures lawful { IsLawfulSwitch self.now }
     {
         self.buffer
     }
 
-    /// How many systems there are, at most 24.
+    /// How many systems and neighbours there are, at most 24.
     pub fn system_count(&self) -> usize
         ensures count { result ≡ length self.now.systems }
-        ensures lawful { IsLawful self.now }
+        ensures lawful { IsLawfulSwitch self.now }
     {
         self.systems.len()
     }
 
-    /// The system at this place.
+    /// How many of them are systems; they stand before the neighbours.
+    pub fn own_count(&self) -> usize
+        ensures count { result ≡ self.now.own }
+        ensures lawful { IsLawfulSwitch self.now }
+    {
+        self.own
+    }
+
+    /// Whether a system stands at this place, not a neighbour.
+    pub fn is_own(&self, id: SystemId) -> bool
+        ensures { result ≡ nat_lt id.0 self.now.own }
+    {
+        (id.0 as usize) < self.own
+    }
+
+    /// The system or neighbour at this place.
     pub fn system(&self, id: SystemId) -> &System
         requires { id.0 < length self.now.systems }
         ensures row { slice_get self.now.systems id.0 ≡ Some (system_row result.now) }
         ensures lawful_row { IsSystem self.now.profile (system_row result.now) }
-        ensures lawful { IsLawful self.now }
+        ensures lawful { IsLawfulSwitch self.now }
     {
         self.systems.at(id)
     }
 
-    /// The time of a byte on the line of the system at this place, in ns: 8, 80 or 800.
+    /// The time of a byte on the line of the system or neighbour at this place, in ns: 8, 80 or 800.
     pub fn byte_ns(&self, id: SystemId) -> u64
         requires { id.0 < length self.now.systems }
         ensures time { (s : SystemRow) → slice_get self.now.systems id.0 ≡ Some s →
@@ -118,7 +146,7 @@ impl Tables {
         8000 / self.system(id).rate
     }
 
-    /// The system of this name, if there is one. A look-up.
+    /// The system or neighbour of this name, if there is one. A look-up.
     pub fn system_named(&self, name: &str) -> Option<SystemId>
         ensures place { option_map (λ i. i.0) result ≡ system_named self.now.systems name.now }
         ensures known { IfSome result (λ i. i.0 < length self.now.systems) }
@@ -126,19 +154,31 @@ impl Tables {
         self.systems.named(name)
     }
 
-    /// The system at this port of the switch, if there is one. It tries each system.
+    /// The system or neighbour at this port of the switch, if there is one. It tries each of them.
     pub fn system_at(&self, port: u8) -> Option<SystemId>
         ensures place { option_map (λ i. i.0) result ≡ system_at_port self.now.systems port }
         ensures known { IfSome result (λ i. i.0 < length self.now.systems) }
-        ensures lawful { IsLawful self.now }
+        ensures lawful { IsLawfulSwitch self.now }
     {
         self.systems.at_port(port)
+    }
+
+    /// The system that hears what leaves this port of the switch, if there is one: a neighbour hears
+    /// nothing.
+    #[tactic(auto, unfolding(crate::specs::Reading::listener_at))]
+    pub fn listener_at(&self, port: u8) -> Option<SystemId>
+        ensures place { option_map (λ i. i.0) result ≡ listener_at self.now port }
+        ensures known { IfSome result (λ i. i.0 < self.now.own) }
+        ensures lawful { IsLawfulSwitch self.now }
+    {
+        let id = self.system_at(port)?;
+        if self.is_own(id) { Some(id) } else { None }
     }
 
     /// How many links there are, at most 4,096.
     pub fn link_count(&self) -> usize
         ensures count { result ≡ length self.now.links }
-        ensures lawful { IsLawful self.now }
+        ensures lawful { IsLawfulSwitch self.now }
     {
         self.links.len()
     }
@@ -147,8 +187,9 @@ impl Tables {
     pub fn link(&self, index: usize) -> &Link
         requires { index < length self.now.links }
         ensures row { slice_get self.now.links index ≡ Some (link_row result.now) }
-        ensures lawful_row { IsLink (length self.now.systems) (link_row result.now) }
-        ensures lawful { IsLawful self.now }
+        ensures lawful_row { IsLinkUpTo jitter_from_any (length self.now.systems)
+            (link_row result.now) }
+        ensures lawful { IsLawfulSwitch self.now }
     {
         self.links.at(index)
     }
@@ -191,7 +232,7 @@ impl Tables {
     /// How many communication ports there are, at most 4,096.
     pub fn com_count(&self) -> usize
         ensures count { result ≡ length self.now.ports }
-        ensures lawful { IsLawful self.now }
+        ensures lawful { IsLawfulSwitch self.now }
     {
         self.coms.len()
     }
@@ -201,7 +242,7 @@ impl Tables {
         requires { index < length self.now.ports }
         ensures row { slice_get self.now.ports index ≡ Some (port_row result.now) }
         ensures lawful_row { IsPort (length self.now.systems) self.now.links (port_row result.now) }
-        ensures lawful { IsLawful self.now }
+        ensures lawful { IsLawfulSwitch self.now }
     {
         &self.coms[index]
     }

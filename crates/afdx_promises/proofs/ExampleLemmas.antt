@@ -1,5 +1,5 @@
 -- The example's numbers.
-use Rattle.afdx_config.proofs.AmongOthersLemmas.{among-others, admitted-serving}
+use Rattle.afdx_config.proofs.AmongOthersLemmas.{among_others, admitted-serving}
 use Rattle.afdx_switch.proofs.StreamLemmas.{accepted-stream}
 use Rattle.afdx_switch.specs.Regular.{at_port}
 use Rattle.afdx_promises.proofs.PromiseLemmas.{goes-there}
@@ -424,7 +424,7 @@ premises-met computed = record {
   where
     run : IsAdmittedRun tables arrivals
     run = record {
-      lawful = among-others tables (is-lawful 11 (omega arith) (omega arith));
+      lawful = among_others tables (is-lawful 11 (omega arith) (omega arith));
       admitted = admitted-serving tables is-admitted;
       timed = is-timed;
     }

@@ -3,7 +3,7 @@ use Rattle.std.proofs.Common.{◌≡◌, ℕ, zero, suc, ◌+◌, ◌≤◌}
 use Rattle.std.proofs.Common.{List, [], ◌∷◌, length, refl, ap, ◌∙◌, subst, arith, inl, inr}
 use Rattle.std.specs.Prelude.{Option, Some, None, Result, Ok, Err, All, IfSome, slice_index_or}
 use Rattle.std.specs.Io.KnownBytes.{Appends}
-use Rattle.afdx_config.proofs.AmongOthersLemmas.{among-others, admitted-serving}
+use Rattle.afdx_config.proofs.AmongOthersLemmas.{among_others, admitted-serving}
 use Rattle.afdx_config.specs.Admission.{IsAdmitted}
 use Rattle.afdx_config.specs.Lawful.{IsLawful}
 use Rattle.afdx_config.specs.Rows.{Rows}
@@ -133,7 +133,7 @@ some-promised t arrivals old new lawful run written =
 module _ (t : Rows) (bytes : List ℕ) (old new : Option (List ℕ)) (lawful : IsLawful t) (admitted : IsAdmitted t) where
   run-of : (n : ℕ) → IsAdmittedRun t (arrivals_of (lines_of bytes) n)
   run-of n = record {
-    lawful = among-others t lawful;
+    lawful = among_others t lawful;
     admitted = admitted-serving t admitted;
     timed = arrivals-timed (lines_of bytes) n;
   }

@@ -3,7 +3,7 @@ use Rattle.std.proofs.Common.{ℕ, List, length}
 use Rattle.std.specs.Prelude.{Option, Some, None, Result, Ok, Err, IfSome}
 use Rattle.afdx_config.specs.Lawful.{IsLawful}
 use Rattle.afdx_config.specs.Rows.{Rows}
-use Rattle.afdx_config.proofs.AmongOthersLemmas.{among-others}
+use Rattle.afdx_config.proofs.AmongOthersLemmas.{among_others}
 use Rattle.afdx_lists.specs.Lines.{lines_of}
 use Rattle.afdx_lists.specs.declared.fault.RunFault.{RunFault}
 use Rattle.afdx_network.specs.Order.{events_of, events_so_far}
@@ -24,7 +24,7 @@ module _ (t : Rows) (bytes : List ℕ) (old new : Option (List ℕ)) (lawful : I
       let past = arrivals_of (lines_of bytes) n in
       record {
         events = events_so_far t past;
-        are = so-far-by-definition t past (events_so_far t past) (among-others t lawful)
+        are = so-far-by-definition t past (events_so_far t past) (among_others t lawful)
             (arrivals-timed (lines_of bytes) n) (are-so-far t past);
         written = written;
       }
@@ -35,7 +35,7 @@ module _ (t : Rows) (bytes : List ℕ) (old new : Option (List ℕ)) (lawful : I
       let past = arrivals_of (lines_of bytes) n in
       record {
         events = events_of t past;
-        are = events-by-definition t past (events_of t past) (among-others t lawful)
+        are = events-by-definition t past (events_of t past) (among_others t lawful)
             (arrivals-timed (lines_of bytes) n) (are-events t past);
         written = written;
       }
@@ -52,7 +52,7 @@ module _ (t : Rows) (bytes : List ℕ) (old new : Option (List ℕ)) (lawful : I
         sound = all.sound;
         listed = arrivals-listed list (length list);
         events = events_of t past;
-        are = events-by-definition t past (events_of t past) (among-others t lawful)
+        are = events-by-definition t past (events_of t past) (among_others t lawful)
             (arrivals-timed list (length list)) (are-events t past);
         written = all.written;
         counted = all.counted;

@@ -4,7 +4,7 @@ use Rattle.std.proofs.KnownBytes.{Appends-nil}
 use Rattle.std.specs.Io.KnownBytes.{Appends}
 use Rattle.std.specs.Prelude.{IfSome, OnErr, OnOk}
 use Rattle.std.specs.Result.{result_ok}
-use Rattle.afdx_config.proofs.AmongOthersLemmas.{among-others, admitted-serving}
+use Rattle.afdx_config.proofs.AmongOthersLemmas.{among_others, admitted-serving}
 use Rattle.afdx_config.specs.Admission.{IsAdmitted}
 use Rattle.afdx_config.specs.Lawful.{IsLawful}
 use Rattle.afdx_config.specs.Rows.{Rows}
@@ -57,7 +57,7 @@ timed-of (x ∷ past) (later, rest) =
 module _ (t : Rows) (past : List Arrival) (ordered : DontGoBack past) where
   run-of : IsLawful t → IsAdmitted t → IsAdmittedRun t past
   run-of lawful admitted = record {
-    lawful = among-others t lawful;
+    lawful = among_others t lawful;
     admitted = admitted-serving t admitted;
     timed = timed-of past ordered;
   }

@@ -3,13 +3,13 @@ use Rattle.std.proofs.lemmas.List.{length-map}
 use Rattle.std.proofs.lemmas.Option.{slice_get-map, slice_get_read}
 use Rattle.afdx_frame.proofs.ListLemmas.{AllByRecursion-slice_get}
 use Rattle.afdx_config.specs.Rows.{port_row}
-use Rattle.afdx_config.specs.Lawful.{IsPort, IsLawful}
+use Rattle.afdx_config.specs.Lawful.{IsPort, IsLawfulSwitch}
 use Rattle.afdx_config.proofs.tables.Tables.com.Goals as goal
 
 pub returns-clause-lawful_row : goal.returns-clause-lawful_row
 returns-clause-lawful_row c =
     let coms = c.self.inside.coms.items in
-    let lawful : IsLawful c.args.self.now = rw c.self.view_is at c.self.invariant in
+    let lawful : IsLawfulSwitch c.args.self.now = rw c.self.view_is at c.self.invariant in
     let within : c.args.index < length coms =
     omega (arith, length-map coms port_row, ap (λ t. length t.ports) c.self.view_is, c.requires) in
     let at : slice_get coms c.args.index ≡ Some c.index.result.now =
