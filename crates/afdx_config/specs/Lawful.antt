@@ -113,3 +113,8 @@ pub record IsLawfulSwitch (t : Rows) : Type 0 where
       l.jitter_us ≤ jitter_from_system l.bag_ms
   pub ports : ArePorts (length t.systems) t.links t.ports
   pub heard : (i : ℕ) (p : PortRow) → slice_get t.ports i ≡ Some p → p.system < t.own
+
+-- the link comes from a system and goes to this one: neither is a neighbour
+pub record IsBetweenSystems (t : Rows) (system : ℕ) (l : LinkRow) : Type 0 where
+  pub from : l.from < t.own
+  pub to : system < t.own

@@ -12,7 +12,7 @@ use Rattle.afdx_frame.specs.declared.link.Side.TheVariants.{A, B}
 use Rattle.afdx_frame.specs.Ports.{last_port}
 use Rattle.afdx_config.specs.LawfulStream.{Sending}
 use Rattle.afdx_config.specs.Reading.{has_port, listener_at}
-use Rattle.afdx_config.specs.Lawful.{IsLawful, IsLawfulSwitch}
+use Rattle.afdx_config.specs.Lawful.{IsLawfulSwitch, IsBetweenSystems}
 use Rattle.afdx_config.specs.Rows.{SystemRow, LinkRow, Rows, is_to}
 use Rattle.afdx_config.specs.SentList as sent
 use Rattle.afdx_police.specs.Arrival.{Arrival, names, own}
@@ -169,9 +169,9 @@ EachIsToldOnce t arrivals lines =
     (system place : ℕ) (s : SystemRow) (l : LinkRow)
     (messages : List sent.Message) (stream : List Sending) →
     slice_get t.systems system ≡ Some s →
-    system < t.own →
     slice_get t.links place ≡ Some l →
     is_to system l ≡ true →
+    IsBetweenSystems t system l →
     IsStreamOf t l messages stream →
     ((side : Side) → IsFed t l stream side arrivals) →
     reverse (messages_told system l.vl lines)
@@ -188,9 +188,9 @@ EachIsToldOnceSoFar t arrivals lines =
     (system place : ℕ) (s : SystemRow) (l : LinkRow)
     (messages : List sent.Message) (stream : List Sending) →
     slice_get t.systems system ≡ Some s →
-    system < t.own →
     slice_get t.links place ≡ Some l →
     is_to system l ≡ true →
+    IsBetweenSystems t system l →
     IsStreamOf t l messages stream →
     ((side : Side) → AreFirstOf side stream (at_own_port t l side arrivals)) →
     reverse (messages_told system l.vl lines)
@@ -224,11 +224,9 @@ StreamsAreToldAcceptedSoFar = (t : Rows) (arrivals : List Arrival) → IsLawfulS
     StreamsAreAccepted t arrivals (told_so_far t arrivals)
 
 abbrev pub MessagesAreToldOnce : Type 0
-MessagesAreToldOnce = (t : Rows) (arrivals : List Arrival) → IsLawful t →
-    IsAdmittedRun t arrivals →
+MessagesAreToldOnce = (t : Rows) (arrivals : List Arrival) → IsAdmittedRun t arrivals →
     EachIsToldOnce t arrivals (told t arrivals)
 
 abbrev pub MessagesAreToldOnceSoFar : Type 0
-MessagesAreToldOnceSoFar = (t : Rows) (arrivals : List Arrival) → IsLawful t →
-    IsAdmittedRun t arrivals →
+MessagesAreToldOnceSoFar = (t : Rows) (arrivals : List Arrival) → IsAdmittedRun t arrivals →
     EachIsToldOnceSoFar t arrivals (told t arrivals)
