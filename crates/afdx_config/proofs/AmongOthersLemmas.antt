@@ -57,7 +57,7 @@ module _ (t : Rows) (lawful : IsLawful t) where
   }
 
 -- a link of a switch without neighbours comes from a system
-link-alone : (systems : ℕ) (l : LinkRow) → IsLinkUpTo jitter_from_any systems l
+pub link-alone : (systems : ℕ) (l : LinkRow) → IsLinkUpTo jitter_from_any systems l
     → l.jitter_us ≤ jitter_from_system l.bag_ms → IsLink systems l
 link-alone systems l is most = record {
   vl = is.vl;

@@ -75,6 +75,7 @@ unfolding is_name are_apart reading.goes_to
 is-lawful latency some most = record {
   profile = (omega arith, omega arith);
   buffer = (omega arith, omega arith);
+  own = refl;
   systems = record {
     count = omega arith;
     each = (
@@ -419,7 +420,7 @@ premises-met computed = record {
       refl (is-stream computed 11)
       (is-fed computed) are ∙ heard-only;
   told_once = told-once computed tables arrivals (is-lawful 11 (omega arith) (omega arith)) run 1 0
-      receiver link (heard ∷ unheard ∷ []) stream refl refl refl (is-stream computed 11) (is-fed computed) ∙ heard-only;
+      receiver link (heard ∷ unheard ∷ []) stream refl (omega arith) refl refl (is-stream computed 11) (is-fed computed) ∙ heard-only;
 }
   where
     run : IsAdmittedRun tables arrivals

@@ -6,12 +6,12 @@
 -- own arrivals alone; every accepted frame leaves each of its ports within the link's configured
 -- latency; and what a receiver delivers on a link is the integrity and redundancy rules' answer
 -- on that link's arrivals there alone.
-use Rattle.std.specs.Prelude.{◌≡◌, ℕ, ◌+◌, ◌*◌, ◌≤◌, true, false, if◌then◌else◌, Some, None, max, List, [], ◌++◌, filter, length, map, reverse, slice_get, take}
+use Rattle.std.specs.Prelude.{◌≡◌, ℕ, ◌+◌, ◌*◌, ◌<◌, ◌≤◌, true, false, if◌then◌else◌, Some, None, max, List, [], ◌++◌, filter, length, map, reverse, slice_get, take}
 use Rattle.afdx_frame.specs.declared.link.Side.{Side}
 use Rattle.afdx_frame.specs.declared.link.Side.TheVariants.{A, B}
 use Rattle.afdx_frame.specs.Ports.{last_port}
 use Rattle.afdx_config.specs.LawfulStream.{Sending}
-use Rattle.afdx_config.specs.Reading.{has_port, system_at_port}
+use Rattle.afdx_config.specs.Reading.{has_port, listener_at}
 use Rattle.afdx_config.specs.Lawful.{IsLawful, IsLawfulSwitch}
 use Rattle.afdx_config.specs.Rows.{SystemRow, LinkRow, Rows, is_to}
 use Rattle.afdx_config.specs.SentList as sent
@@ -81,7 +81,7 @@ AllLeaveInTime t lines = (d : Leaving) → IsIn d (left_in lines) → LeavesInTi
 -- an M or X line: it is of a frame that left the port of its system
 pub record IsHeard (t : Rows) (lines : List Line) (d : Leaving) (system : ℕ) : Type 0 where
   pub left : IsIn d (left_in lines)
-  pub at : system_at_port t.systems d.port ≡ Some system
+  pub at : listener_at t d.port ≡ Some system
 
 pub record AreReceived (t : Rows) (lines : List Line) : Type 0 where
   pub heard : (d : Leaving) (system : ℕ) (answer : Answer) →
@@ -92,6 +92,7 @@ pub record AreReceived (t : Rows) (lines : List Line) : Type 0 where
   -- the answers to a link's frames
   pub answers : (system place : ℕ) (s : SystemRow) (l : LinkRow) →
       slice_get t.systems system ≡ Some s →
+      system < t.own →
       slice_get t.links place ≡ Some l →
       is_to system l ≡ true →
       answers_told system l.vl lines
@@ -168,6 +169,7 @@ EachIsToldOnce t arrivals lines =
     (system place : ℕ) (s : SystemRow) (l : LinkRow)
     (messages : List sent.Message) (stream : List Sending) →
     slice_get t.systems system ≡ Some s →
+    system < t.own →
     slice_get t.links place ≡ Some l →
     is_to system l ≡ true →
     IsStreamOf t l messages stream →
@@ -186,6 +188,7 @@ EachIsToldOnceSoFar t arrivals lines =
     (system place : ℕ) (s : SystemRow) (l : LinkRow)
     (messages : List sent.Message) (stream : List Sending) →
     slice_get t.systems system ≡ Some s →
+    system < t.own →
     slice_get t.links place ≡ Some l →
     is_to system l ≡ true →
     IsStreamOf t l messages stream →
