@@ -1,17 +1,17 @@
 -- No line is false exactly where the tables are admitted.
 use Rattle.std.proofs.Common.{◌≡◌, inl, inr, ℕ, zero, suc, ◌+◌, ◌-◌, ◌*◌, ◌<◌, ◌≤◌, Bool, true}
-use Rattle.std.proofs.Common.{false, nat_le, List, [], ◌∷◌, ◌++◌, length, map, cond, Option}
+use Rattle.std.proofs.Common.{false, ◌||◌, nat_le, List, [], ◌∷◌, ◌++◌, length, map, cond, Option}
 use Rattle.std.proofs.Common.{Some, None, if◌then◌else◌, slice_get, refl, sym, ap, subst, ◌∙◌, arith}
 use Rattle.std.specs.List.{AllByRecursion}
 use Rattle.std.specs.Option.{option_map_or}
 use Rattle.std.proofs.lemmas.List.Elements.{All-from_recursion, recursion_from_All}
 use Rattle.std.proofs.lemmas.Option.{slice_get_within}
-use Rattle.std.proofs.lemmas.Bool.{cases_eq}
+use Rattle.std.proofs.lemmas.Bool.{cases_eq, cases_lt}
 use Rattle.afdx_frame.specs.declared.link.Priority.{Priority}
 use Rattle.afdx_frame.specs.declared.link.Priority.TheVariants.{High, Low}
 use Rattle.afdx_frame.specs.Regulation.{byte_units}
 use Rattle.afdx_config.specs.Rows.{SystemRow, LinkRow, Rows}
-use Rattle.afdx_config.specs.Lawful.{IsLawful, IsSystem, IsLink}
+use Rattle.afdx_config.specs.Lawful.{IsLawfulSwitch, IsSystem, IsLinkUpTo, jitter_from_any}
 use Rattle.afdx_config.specs.Reading.{system_at_port}
 use Rattle.afdx_frame.specs.Flows.{Flow, is_class, of_class, burst, load, high_wait, low_wait}
 use Rattle.afdx_frame.specs.Flows.{high_load, IsPortAdmitted}
@@ -26,8 +26,8 @@ use Rattle.afdx_admit.specs.declared.fault.AdmitFault.TheVariants.{LinkJitter, S
 use Rattle.afdx_admit.specs.Lines.{Line, line, first_false, each_from, lines, LoadedOutput}
 use Rattle.afdx_admit.specs.Lines.{loaded_output_to, output_lines, port_lines}
 use Rattle.afdx_admit.specs.Lines.{sender_lines, link_lines}
-use Rattle.afdx_admit.specs.Lines.{lines_of_link, jitter_at, high_line, low_line, high_bound_of, buffer_need_of, told_low_bound_of}
-use Rattle.afdx_admit.proofs.FirstFalseLemmas.{first_false-skip, first_false-nil, first_false-append, le-true, true-le}
+use Rattle.afdx_admit.specs.Lines.{lines_of_link, allows_jitter, jitter_at, high_line, low_line, high_bound_of, buffer_need_of, told_low_bound_of}
+use Rattle.afdx_admit.proofs.FirstFalseLemmas.{first_false-skip, first_false-nil, first_false-append, le-true, le-false, true-le}
 use Rattle.afdx_admit.specs.Late.{class_line}
 use Rattle.afdx_admit.proofs.PortLemmas.{loaded_output_at-some, loaded_output_at-none, found_within}
 
@@ -176,7 +176,18 @@ admitted_output buffer port o h =
 
 -- ---- all lines
 
-module _ (t : Rows) (lawful : IsLawful t) where
+allows : (t : Rows) (l : LinkRow) → allows_jitter t (jitter_at t l.from) l ≡ true → l.from < t.own → jitter_at t l.from ≤ 1000 * l.jitter_us
+allows t l h below = true-le (jitter_at t l.from) (1000 * l.jitter_us)
+    (sym (ap (λ b. b || nat_le (jitter_at t l.from) (1000 * l.jitter_us)) (le-false t.own l.from below)) ∙ h)
+
+allowed : (t : Rows) (l : LinkRow) → (l.from < t.own → jitter_at t l.from ≤ 1000 * l.jitter_us) → allows_jitter t (jitter_at t l.from) l ≡ true
+allowed t l h = elim (cases_lt l.from t.own) [
+  | inl below ↦ ap (λ b. b || nat_le (jitter_at t l.from) (1000 * l.jitter_us)) (le-false t.own l.from below)
+      ∙ le-true (jitter_at t l.from) (1000 * l.jitter_us) (h below)
+  | inr past ↦ ap (λ b. b || nat_le (jitter_at t l.from) (1000 * l.jitter_us)) (le-true t.own l.from past)
+]
+
+module _ (t : Rows) (lawful : IsLawfulSwitch t) where
   jitter_is : (place : ℕ) (s : SystemRow) → slice_get t.systems place ≡ Some s
       → jitter_at t place ≡ sender_jitter (byte_ns s) (links_from t.links place)
   unfolding jitter_at
@@ -207,26 +218,26 @@ module _ (t : Rows) (lawful : IsLawful t) where
       (loaded_output_to t place s.0) (admitted.ports place s.0 s.1)
 
   link_holds : (i : ℕ) (l : LinkRow) → slice_get t.links i ≡ Some l → first_false (link_lines t i) ≡ None →
-      (jitter_at t l.from ≤ 1000 * l.jitter_us) × (l.latency_us ≤ l.skew_us)
+      (l.from < t.own → jitter_at t l.from ≤ 1000 * l.jitter_us) × (l.latency_us ≤ l.skew_us)
   unfolding link_lines
   link_holds i l at h =
       let skew_line = line (nat_le l.latency_us l.skew_us) (Skew (record { 0 = l.vl })) in
-      let first = cons_holds (line (nat_le (jitter_at t l.from) (1000 * l.jitter_us))
+      let first = cons_holds (line (allows_jitter t (jitter_at t l.from) l)
       (LinkJitter (record { 0 = l.vl }) (jitter_at t l.from))) (skew_line ∷ [])
       (sym (ap (λ o. first_false (option_map_or (lines_of_link t) o [])) at) ∙ h) in
       let second = cons_holds skew_line [] first.rest in
-      (true-le (jitter_at t l.from) (1000 * l.jitter_us) first.one, true-le l.latency_us l.skew_us second.one)
+      (allows t l first.one, true-le l.latency_us l.skew_us second.one)
 
   holds_link : (i : ℕ) (l : LinkRow) → slice_get t.links i ≡ Some l
-      → jitter_at t l.from ≤ 1000 * l.jitter_us → l.latency_us ≤ l.skew_us →
+      → (l.from < t.own → jitter_at t l.from ≤ 1000 * l.jitter_us) → l.latency_us ≤ l.skew_us →
       first_false (link_lines t i) ≡ None
   unfolding link_lines
   holds_link i l at jitter skew =
       let skew_line = line (nat_le l.latency_us l.skew_us) (Skew (record { 0 = l.vl })) in
       ap (λ o. first_false (option_map_or (lines_of_link t) o [])) at
-      ∙ holds_cons (line (nat_le (jitter_at t l.from) (1000 * l.jitter_us))
+      ∙ holds_cons (line (allows_jitter t (jitter_at t l.from) l)
       (LinkJitter (record { 0 = l.vl }) (jitter_at t l.from))) (skew_line ∷ [])
-      (le-true (jitter_at t l.from) (1000 * l.jitter_us) jitter)
+      (allowed t l jitter)
       (holds_cons skew_line [] (le-true l.latency_us l.skew_us skew) first_false-nil)
 
   sender_holds : (i : ℕ) → first_false (sender_lines t i) ≡ None → jitter_at t i ≤ greatest_jitter
@@ -244,22 +255,21 @@ module _ (t : Rows) (lawful : IsLawful t) where
   unfolding lines
   admitted_from h =
       let front = append_holds (each_from (port_lines t) 1 24)
-      (each_from (sender_lines t) 0 (length t.systems) ++ each_from (link_lines t) 0 (length t.links)) h in
-      let back = append_holds (each_from (sender_lines t) 0 (length t.systems))
+      (each_from (sender_lines t) 0 t.own ++ each_from (link_lines t) 0 (length t.links)) h in
+      let back = append_holds (each_from (sender_lines t) 0 t.own)
       (each_from (link_lines t) 0 (length t.links)) front.1 in
       record {
         ports = λ i s at.
             let row = AllByRecursion-slice_get (IsSystem t.profile) t.systems i s lawful.systems.each at in
             port_admitted i s at (each_holds (port_lines t) 1 24 front.0 s.port row.port.0 (omega (arith, row.port.1)));
-        senders = λ i s at.
-            let within = slice_get_within t.systems i s at in
+        senders = λ i s at within.
             subst (λ n. n ≤ greatest_jitter) (jitter_is i s at) (sender_holds i
-            (each_holds (sender_lines t) 0 (length t.systems) back.0 i (omega arith) (omega (arith, within))));
-        jitters = λ i l s at from.
+            (each_holds (sender_lines t) 0 t.own back.0 i (omega arith) (omega (arith, within))));
+        jitters = λ i l s at from below.
             let within = slice_get_within t.links i l at in
             subst (λ n. n ≤ 1000 * l.jitter_us) (jitter_is l.from s from)
-            (link_holds i l at (each_holds (link_lines t) 0 (length t.links) back.1 i (omega arith)
-            (omega (arith, within)))).0;
+            ((link_holds i l at (each_holds (link_lines t) 0 (length t.links) back.1 i (omega arith)
+            (omega (arith, within)))).0 below);
         skews = λ i l at.
             let within = slice_get_within t.links i l at in
             (link_holds i l at (each_holds (link_lines t) 0 (length t.links) back.1 i (omega arith)
@@ -270,16 +280,17 @@ module _ (t : Rows) (lawful : IsLawful t) where
   unfolding lines
   from_admitted admitted =
       holds_append (each_from (port_lines t) 1 24)
-      (each_from (sender_lines t) 0 (length t.systems) ++ each_from (link_lines t) 0 (length t.links))
+      (each_from (sender_lines t) 0 t.own ++ each_from (link_lines t) 0 (length t.links))
       (holds_each (port_lines t) 1 24 (λ k low high. admitted_port admitted k (system_at_port t.systems k) refl))
-      (holds_append (each_from (sender_lines t) 0 (length t.systems)) (each_from (link_lines t) 0 (length t.links))
-      (holds_each (sender_lines t) 0 (length t.systems) (λ k low high.
-      let s = slice_get-within t.systems k (omega (arith, high)) in
-      holds_sender k (subst (λ n. n ≤ greatest_jitter) (sym (jitter_is k s.0 s.1)) (admitted.senders k s.0 s.1))))
+      (holds_append (each_from (sender_lines t) 0 t.own) (each_from (link_lines t) 0 (length t.links))
+      (holds_each (sender_lines t) 0 t.own (λ k low high.
+      let below : k < t.own = omega (arith, high) in
+      let s = slice_get-within t.systems k (omega (arith, below, lawful.own)) in
+      holds_sender k (subst (λ n. n ≤ greatest_jitter) (sym (jitter_is k s.0 s.1)) (admitted.senders k s.0 s.1 below))))
       (holds_each (link_lines t) 0 (length t.links) (λ k low high.
       let l = slice_get-within t.links k (omega (arith, high)) in
-      let row = AllByRecursion-slice_get (IsLink (length t.systems)) t.links k l.0 lawful.links.each l.1 in
+      let row = AllByRecursion-slice_get (IsLinkUpTo jitter_from_any (length t.systems)) t.links k l.0 lawful.links.each l.1 in
       let s = slice_get-within t.systems l.0.from row.from in
-      holds_link k l.0 l.1 (subst (λ n. n ≤ 1000 * l.0.jitter_us) (sym (jitter_is l.0.from s.0 s.1))
-      (admitted.jitters k l.0 s.0 l.1 s.1))
+      holds_link k l.0 l.1 (λ below. subst (λ n. n ≤ 1000 * l.0.jitter_us) (sym (jitter_is l.0.from s.0 s.1))
+      (admitted.jitters k l.0 s.0 l.1 s.1 below))
       (admitted.skews k l.0 l.1))))

@@ -11,7 +11,7 @@ use Rattle.afdx_admit.specs.Lines.{Line, LoadedOutput, each_from, false_lines, h
 use Rattle.afdx_admit.specs.Lines.{lines, output_lines, port_lines, loaded_output_at, sender_lines}
 use Rattle.afdx_admit.specs.Lines.{link_lines, lines_of_link}
 
-module _ (t : Rows) where
+module _ (t : Rows) (own : t.own ≤ length t.systems) where
   abbrev AreKnown : List Line → Type 0
   AreKnown ls = AllByRecursion (λ l. IsKnown t l.fault) ls
 
@@ -68,10 +68,10 @@ module _ (t : Rows) where
   unfolding lines
   lines-known =
       append-known (each_from (port_lines t) 1 24)
-      (each_from (sender_lines t) 0 (length t.systems) ++ each_from (link_lines t) 0 (length t.links))
+      (each_from (sender_lines t) 0 t.own ++ each_from (link_lines t) 0 (length t.links))
       (each-known (port_lines t) 1 24 (λ k low high. port-known k))
-      (append-known (each_from (sender_lines t) 0 (length t.systems)) (each_from (link_lines t) 0 (length t.links))
-      (each-known (sender_lines t) 0 (length t.systems) (λ k low high. sender-known k (omega (arith, high))))
+      (append-known (each_from (sender_lines t) 0 t.own) (each_from (link_lines t) 0 (length t.links))
+      (each-known (sender_lines t) 0 t.own (λ k low high. sender-known k (omega (arith, high, own))))
       (each-known (link_lines t) 0 (length t.links) (λ k low high. link-known k)))
 
   of_false : (ls : List Line) → AreKnown ls → AllByRecursion (IsKnown t) (false_lines ls)

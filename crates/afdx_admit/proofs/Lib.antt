@@ -7,5 +7,7 @@ pub mod LowBoundLemmas
 pub mod OutputLemmas
 pub mod PortLemmas
 pub mod PushedLemmas
+pub mod RateLemmas
+pub mod ScaledLemmas
 pub mod SmallLemmas
 pub mod TakenLemmas

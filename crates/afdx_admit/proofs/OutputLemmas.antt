@@ -10,7 +10,7 @@ use Rattle.afdx_frame.specs.declared.link.Priority.{Priority}
 use Rattle.afdx_frame.specs.declared.link.Priority.TheVariants.{High, Low}
 use Rattle.afdx_frame.specs.Regulation.{byte_units, fill_rate}
 use Rattle.afdx_config.specs.Rows.{LinkRow, is_to}
-use Rattle.afdx_config.specs.Lawful.{IsLink}
+use Rattle.afdx_config.specs.Lawful.{IsLinkUpTo}
 use Rattle.afdx_frame.specs.Flows.{Flow, is_class, of_class, burst, load, high_wait, low_wait, high_load}
 use Rattle.afdx_config.specs.Flows.{flow_of_link}
 use Rattle.afdx_config.specs.Admission.{flows_to, links_to}
@@ -152,14 +152,15 @@ module _ (byte_ns : ℕ) (some : 1 ≤ byte_ns) where
       ]
 
 -- each flow of lawful links sends something
-rates-cons : (systems : ℕ) (l : LinkRow) (ls : List LinkRow) → IsLink systems l →
+rates-cons : {greatest : ℕ → ℕ} (systems : ℕ) (l : LinkRow) (ls : List LinkRow) → IsLinkUpTo greatest systems l →
     AllByRecursion (λ f. 1 ≤ fill_rate f.link) (map flow_of_link ls) → (b : Bool) →
     AllByRecursion (λ f. 1 ≤ fill_rate f.link) (map flow_of_link (cond b (l ∷ ls) ls))
 rates-cons systems l ls lawful rest true = (rate_some systems l lawful, rest)
 rates-cons systems l ls lawful rest false = rest
 
-pub rates_some : (systems system : ℕ) (links : List LinkRow) → AllByRecursion (IsLink systems) links →
+pub rates_some : (greatest : ℕ → ℕ) (systems system : ℕ) (links : List LinkRow)
+    → AllByRecursion (IsLinkUpTo greatest systems) links →
     AllByRecursion (λ f. 1 ≤ fill_rate f.link) (flows_to links system)
-rates_some systems system [] h = tt
-rates_some systems system (l ∷ ls) h =
-    rates-cons systems l (links_to ls system) h.0 (rates_some systems system ls h.1) (is_to system l)
+rates_some greatest systems system [] h = tt
+rates_some greatest systems system (l ∷ ls) h =
+    rates-cons systems l (links_to ls system) h.0 (rates_some greatest systems system ls h.1) (is_to system l)

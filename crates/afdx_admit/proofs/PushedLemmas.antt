@@ -4,6 +4,7 @@ use Rattle.std.proofs.Common.{if◌then◌else◌, refl, sym, ap, ◌∙◌, ari
 use Rattle.std.specs.List.{sum_by}
 use Rattle.std.proofs.lemmas.List.{append-nil}
 use Rattle.std.proofs.lemmas.List.Sums.{sum_by_push}
+use Rattle.std.proofs.Math.Nat.{add-mul}
 use Rattle.afdx_frame.specs.declared.link.Priority.{Priority}
 use Rattle.afdx_frame.specs.declared.link.Priority.TheVariants.{High, Low}
 use Rattle.afdx_frame.specs.Regulation.{cap, fill_rate}
@@ -58,21 +59,27 @@ class_longest-push class fs f = ap longest (of_class-push class fs f)
 abbrev pub with_flow : LoadedOutput → Flow → LoadedOutput
 with_flow o f = record { byte_ns = o.byte_ns; flows = o.flows ++ f ∷ [] }
 
+times_if : (b : Bool) (n k : ℕ) → (if b then n else 0) * k ≡ (if b then n * k else 0)
+times_if true n k = refl
+times_if false n k = omega arith
+
 pub sums_push : (o : LoadedOutput) (f : Flow) (old new : Sums) → IsSums o old → Adds f old new
     → IsSums (with_flow o f) new
 sums_push o f old new s a = record {
-  byte_ns = a.byte_ns ∙ s.byte_ns;
+  some = s.some;
+  line = ap (λ n. n * o.byte_ns) a.line ∙ s.line;
   burst = a.burst ∙ ap (λ n. n + cap f.link) s.burst ∙ sym (sum_by_push (λ g. cap g.link) o.flows f);
-  load = a.load ∙ ap (λ n. n + fill_rate f.link * old.byte_ns) s.load
-      ∙ ap (λ b. load o.byte_ns o.flows + fill_rate f.link * b) s.byte_ns ∙ sym
-      (sum_by_push (λ g. fill_rate g.link * o.byte_ns) o.flows f);
+  rate = ap (λ n. n * o.byte_ns) a.rate ∙ add-mul old.rate (fill_rate f.link) o.byte_ns
+      ∙ ap (λ n. n + fill_rate f.link * o.byte_ns) s.rate
+      ∙ sym (sum_by_push (λ g. fill_rate g.link * o.byte_ns) o.flows f);
   high_burst = a.high_burst ∙ ap (λ n. n + (if is_class High f.priority then cap f.link else 0)) s.high_burst ∙ sym
       (class_sum-push (λ g. cap g.link) High o.flows f);
-  high_load = a.high_load ∙ ap
-      (λ n. n + (if is_class High f.priority then fill_rate f.link * old.byte_ns else 0)) s.high_load
-      ∙ ap (λ b. load o.byte_ns (of_class High o.flows) +
-      (if is_class High f.priority then fill_rate f.link * b else 0)) s.byte_ns ∙ sym
-      (class_sum-push (λ g. fill_rate g.link * o.byte_ns) High o.flows f);
+  high_rate = ap (λ n. n * o.byte_ns) a.high_rate
+      ∙ add-mul old.high_rate (if is_class High f.priority then fill_rate f.link else 0) o.byte_ns
+      ∙ ap (λ n. n + (if is_class High f.priority then fill_rate f.link else 0) * o.byte_ns) s.high_rate
+      ∙ ap (λ n. load o.byte_ns (of_class High o.flows) + n)
+      (times_if (is_class High f.priority) (fill_rate f.link) o.byte_ns)
+      ∙ sym (class_sum-push (λ g. fill_rate g.link * o.byte_ns) High o.flows f);
   longest_low = a.longest_low
       ∙ ap (λ n. if is_class Low f.priority then max n f.link.smax else n) s.longest_low
       ∙ sym (class_longest-push Low o.flows f);
@@ -87,19 +94,20 @@ longest_if true m n k h g = omega arith
 longest_if false m n k h g = h
 
 pub small_push : (count : ℕ) (f : Flow) (old new : Sums) → IsSmall count old → Adds f old new
-    → cap f.link ≤ 393728000000 →
-    fill_rate f.link * old.byte_ns ≤ 157491200 → f.link.smax ≤ 1538 → IsSmall (count + 1) new
-small_push count f old new s a burst load smax =
+    → cap f.link ≤ 20080128000000 →
+    fill_rate f.link ≤ 196864 → f.link.smax ≤ 1538 → IsSmall (count + 1) new
+small_push count f old new s a burst rate smax =
     let c = cap f.link in
-    let d = fill_rate f.link * old.byte_ns in
+    let d = fill_rate f.link in
     record {
-      byte_ns = omega (arith, s.byte_ns, a.byte_ns);
+      some = omega (arith, s.some, a.line);
+      line = omega (arith, s.line, a.line);
       burst = omega (arith, s.burst, a.burst, burst);
-      load = omega (arith, s.load, a.load, load);
+      rate = omega (arith, s.rate, a.rate, rate);
       high_burst = let few = at_most_if (is_class High f.priority) (cap f.link) in
           omega (arith, s.high_burst, a.high_burst, a.burst, few);
-      high_load = let few = at_most_if (is_class High f.priority) (fill_rate f.link * old.byte_ns)
-          in omega (arith, s.high_load, a.high_load, a.load, few);
+      high_rate = let few = at_most_if (is_class High f.priority) (fill_rate f.link)
+          in omega (arith, s.high_rate, a.high_rate, a.rate, few);
       longest_low = let few = longest_if (is_class Low f.priority) old.longest_low f.link.smax 1538
           s.longest_low smax in omega (arith, a.longest_low, few);
     }

@@ -1,13 +1,13 @@
--- How great bursts and loads can be.
+-- How great bursts and rates can be.
 use Rattle.std.proofs.Common.{◌≡◌, ℕ, ◌+◌, ◌*◌, ◌/◌, ◌≤◌, Bool, true, false, ◌==◌, []}
 use Rattle.std.proofs.Common.{◌∷◌, if◌then◌else◌, refl, ap, arith}
 use Rattle.std.proofs.Math.Nat.{mul-le-mul_left}
 use Rattle.std.specs.Prelude.{IsTrue}
-use Rattle.afdx_frame.specs.Regulation.{gaps, is_bag, cap, fill_rate}
+use Rattle.afdx_frame.specs.Regulation.{gaps, is_bag, byte_units, cap, fill_rate}
 use Rattle.afdx_frame.proofs.ListLemmas.{AllByRecursion-one_of}
 use Rattle.afdx_config.specs.Rows.{LinkRow}
 use Rattle.afdx_config.specs.Reading.{rates}
-use Rattle.afdx_config.specs.Lawful.{IsLink, IsOneOf}
+use Rattle.afdx_config.specs.Lawful.{IsLinkUpTo, IsOneOf, jitter_from_any}
 use Rattle.afdx_config.specs.Flows.{regulation_of_link}
 
 -- a gap, and how often 128 ms holds it
@@ -46,24 +46,25 @@ pub record IsRate (r : ℕ) : Type 0 where
   pub some : 1 ≤ r
   pub fast : 1 ≤ 8000 / r
   pub slow : 8000 / r ≤ 800
+  pub whole : byte_units / (8000 / r) * (8000 / r) ≡ byte_units
 
 pub is_rate : (profile r : ℕ) → IsOneOf (rates profile) r → IsRate r
 is_rate profile r h = by (profile == 2) h
   where
     by : (b : Bool) → IsOneOf (if b then 10 ∷ 100 ∷ 1000 ∷ [] else 10 ∷ 100 ∷ []) r → IsRate r
     by true h = AllByRecursion-one_of IsRate r (10 ∷ 100 ∷ 1000 ∷ []) (
-      record { some = omega arith; fast = omega arith; slow = omega arith },
+      record { some = omega arith; fast = omega arith; slow = omega arith; whole = refl },
       (
-        record { some = omega arith; fast = omega arith; slow = omega arith },
-        (record { some = omega arith; fast = omega arith; slow = omega arith }, tt),
+        record { some = omega arith; fast = omega arith; slow = omega arith; whole = refl },
+        (record { some = omega arith; fast = omega arith; slow = omega arith; whole = refl }, tt),
       ),
     ) h
     by false h = AllByRecursion-one_of IsRate r (10 ∷ 100 ∷ []) (
-      record { some = omega arith; fast = omega arith; slow = omega arith },
-      (record { some = omega arith; fast = omega arith; slow = omega arith }, tt),
+      record { some = omega arith; fast = omega arith; slow = omega arith; whole = refl },
+      (record { some = omega arith; fast = omega arith; slow = omega arith; whole = refl }, tt),
     ) h
 
-module _ (systems : ℕ) (l : LinkRow) (lawful : IsLink systems l) where
+module _ {greatest : ℕ → ℕ} (systems : ℕ) (l : LinkRow) (lawful : IsLinkUpTo greatest systems l) where
   pub smax_small : (regulation_of_link l).smax ≤ 1538
   smax_small = let few = lawful.lmax.1 in omega arith
 
@@ -80,25 +81,19 @@ module _ (systems : ℕ) (l : LinkRow) (lawful : IsLink systems l) where
       let least : (l.lmax + 20) * 1 ≤ (l.lmax + 20) * (128 / l.bag_ms) = mul-le-mul_left (l.lmax + 20) g.often in
       omega (arith, least)
 
-  pub cap_small : cap (regulation_of_link l) ≤ 393728000000
-  cap_small =
-      let g = is_gap l.bag_ms lawful.bag_ms in
-      let q = 128 / l.bag_ms in
-      let few : 1000000 * l.bag_ms + 1000 * l.jitter_us ≤ 2000000 * l.bag_ms = let j =
-      lawful.jitter_us.1 in omega arith in
-      let first : (l.lmax + 20) * q * (1000000 * l.bag_ms + 1000 * l.jitter_us)
-      ≤ (l.lmax + 20) * q * (2000000 * l.bag_ms) = mul-le-mul_left ((l.lmax + 20) * q) few in
-      let whole : (l.lmax + 20) * (q * l.bag_ms) ≡ (l.lmax + 20) * 128 = ap (λ z. (l.lmax + 20) * z) g.whole in
-      let most = lawful.lmax.1 in
-      omega (arith, first, whole, most)
-
-pub load_small : (systems : ℕ) (l : LinkRow) → IsLink systems l → (b : ℕ) → b ≤ 800
-    → fill_rate (regulation_of_link l) * b ≤ 157491200
-load_small systems l lawful b h =
-    let r = rate_small systems l lawful in
-    let first : fill_rate (regulation_of_link l) * b ≤ fill_rate (regulation_of_link l) * 800
-    = mul-le-mul_left (fill_rate (regulation_of_link l)) h in
-    omega (arith, first, r)
+-- the BAG and the jitter are at most 102 times the BAG, where it is 1 ms or more
+pub cap_small : (systems : ℕ) (l : LinkRow) → IsLinkUpTo jitter_from_any systems l
+    → cap (regulation_of_link l) ≤ 20080128000000
+cap_small systems l lawful =
+    let g = is_gap l.bag_ms lawful.bag_ms in
+    let q = 128 / l.bag_ms in
+    let few : 1000000 * l.bag_ms + 1000 * l.jitter_us ≤ 102000000 * l.bag_ms =
+    omega (arith, lawful.jitter_us.1, g.some) in
+    let first : (l.lmax + 20) * q * (1000000 * l.bag_ms + 1000 * l.jitter_us)
+    ≤ (l.lmax + 20) * q * (102000000 * l.bag_ms) = mul-le-mul_left ((l.lmax + 20) * q) few in
+    let whole : (l.lmax + 20) * (q * l.bag_ms) ≡ (l.lmax + 20) * 128 = ap (λ z. (l.lmax + 20) * z) g.whole in
+    let most = lawful.lmax.1 in
+    omega (arith, first, whole, most)
 
 pub frame_small : (smax b : ℕ) → smax ≤ 1538 → b ≤ 800 → smax * b ≤ 1230400
 frame_small smax b h g =

@@ -4,21 +4,21 @@ use Rattle.std.specs.Int.{div_ceil}
 use Rattle.afdx_frame.specs.declared.link.Priority.TheVariants.{Low}
 use Rattle.afdx_frame.specs.Regulation.{byte_units}
 use Rattle.afdx_config.specs.Rows.{SystemRow, Rows}
-use Rattle.afdx_config.specs.Lawful.{IsLawful}
+use Rattle.afdx_config.specs.Lawful.{IsLawfulSwitch}
 use Rattle.afdx_frame.specs.Flows.{Flow, of_class, load, low_wait, high_load}
 use Rattle.afdx_config.specs.Admission.{IsAdmitted}
 use Rattle.afdx_admit.specs.Lines.{Line, first_false, false_lines, lines, loaded_output_to, low_bound_of}
 
 -- no line is false exactly where the tables are admitted
 abbrev pub LinesAreAdmission : Type 0
-LinesAreAdmission = (t : Rows) → IsLawful t → (first_false (lines t) ≡ None) ↔ IsAdmitted t
+LinesAreAdmission = (t : Rows) → IsLawfulSwitch t → (first_false (lines t) ≡ None) ↔ IsAdmitted t
 
 -- where a low flow goes through a port that isn't overloaded, the low bound is a number: the one
 -- that its line answers
 abbrev pub LowBoundIsANumber : Type 0
 LowBoundIsANumber =
     (t : Rows) →
-    IsLawful t →
+    IsLawfulSwitch t →
     (place : ℕ) (s : SystemRow) →
     slice_get t.systems place ≡ Some s →
     let o = loaded_output_to t place s in

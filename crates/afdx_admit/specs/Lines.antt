@@ -1,6 +1,6 @@
 -- The lines of admission in their order, each with the fault that is answered where it is false.
 -- Bounds are in ns and buffers in bytes, rounded up.
-use Rattle.std.specs.Prelude.{ℕ, zero, suc, ◌+◌, ◌-◌, ◌*◌, Bool, not, nat_le, nat_lt, List, []}
+use Rattle.std.specs.Prelude.{ℕ, zero, suc, ◌+◌, ◌-◌, ◌*◌, Bool, not, ◌||◌, nat_le, nat_lt, List, []}
 use Rattle.std.specs.Prelude.{◌∷◌, ◌++◌, length, map, filter, Option, Some, None, slice_get, option_map}
 use Rattle.std.specs.Prelude.{option_and_then, if◌then◌else◌}
 use Rattle.std.specs.Int.{div_ceil}
@@ -104,7 +104,7 @@ port_lines t port = option_map_or (output_lines t.buffer port) (loaded_output_at
 
 -- ---- the lines of systems and links
 
--- the jitter at the output of the system at this place, in ns
+-- the jitter at the output of the system at this place, in ns, from the links that it sends here
 unfoldable pub jitter_at : Rows → ℕ → ℕ
 jitter_at t place =
     option_map_or (λ s. sender_jitter (byte_ns s) (links_from t.links place))
@@ -115,9 +115,14 @@ sender_lines t place =
     line (nat_le (jitter_at t place) greatest_jitter)
     (SenderJitter (record { 0 = place }) (jitter_at t place)) ∷ []
 
+-- the link's jitter allows for that of its sender, which is so many ns: it is not asked of a link
+-- that comes from a neighbour
+abbrev pub allows_jitter : Rows → ℕ → LinkRow → Bool
+allows_jitter t needed l = nat_le t.own l.from || nat_le needed (1000 * l.jitter_us)
+
 abbrev pub lines_of_link : Rows → LinkRow → List Line
 lines_of_link t l =
-    line (nat_le (jitter_at t l.from) (1000 * l.jitter_us))
+    line (allows_jitter t (jitter_at t l.from) l)
     (LinkJitter (record { 0 = l.vl }) (jitter_at t l.from))
     ∷ line (nat_le l.latency_us l.skew_us) (Skew (record { 0 = l.vl }))
     ∷ []
@@ -132,9 +137,9 @@ unfoldable pub each_from : (ℕ → List Line) → ℕ → ℕ → List Line
 each_from lines_of from zero = []
 each_from lines_of from (suc count) = lines_of from ++ each_from lines_of (from + 1) count
 
--- ports ascending, then systems and then links in file order
+-- ports ascending, then systems and then links in file order; a neighbour's output has no line
 unfoldable pub lines : Rows → List Line
 lines t =
     each_from (port_lines t) 1 last_port
-    ++ (each_from (sender_lines t) 0 (length t.systems)
+    ++ (each_from (sender_lines t) 0 t.own
     ++ each_from (link_lines t) 0 (length t.links))

@@ -19,24 +19,24 @@ pub struct Admitted {
 impl Model for Admitted {
     ghost use Rattle.afdx_config.specs.Rows.{Rows};
     ghost use Rattle.afdx_config.specs.Admission.{IsAdmitted};
-    ghost use Rattle.afdx_config.specs.Lawful.{IsLawful};
+    ghost use Rattle.afdx_config.specs.Lawful.{IsLawfulSwitch};
 
     ghost Value = { Rows };
 
     ghost view = { λ a. a.tables };
 
-    ghost invariant = { λ a. IsLawful a.tables × IsAdmitted a.tables };
+    ghost invariant = { λ a. IsLawfulSwitch a.tables × IsAdmitted a.tables };
 }
 
 impl Admitted {
     ghost use Rattle.std.specs.Prelude.{◌≡◌};
     ghost use Rattle.afdx_config.specs.Admission.{IsAdmitted};
-    ghost use Rattle.afdx_config.specs.Lawful.{IsLawful};
+    ghost use Rattle.afdx_config.specs.Lawful.{IsLawfulSwitch};
 
     /// The tables that were admitted.
     pub fn tables(&self) -> &Tables
         ensures tables { result.now ≡ self.now }
-        ensures lawful { IsLawful self.now }
+        ensures lawful { IsLawfulSwitch self.now }
         ensures admitted { IsAdmitted self.now }
     {
         &self.tables

@@ -11,7 +11,7 @@ ghost use Rattle.afdx_admit.specs.Lines as spec;
 ghost use Rattle.afdx_admit.specs.Sums.{AreJitters, AreFaultsAt};
 
 use crate::fault::AdmitFault;
-use crate::lines::{GREATEST_JITTER, is_late, sender_jitters};
+use crate::lines::{GREATEST_JITTER, allows_jitter, is_late, sender_jitters};
 use crate::sums::{link_at, sums_to};
 use afdx_config::{SystemId, Tables};
 use afdx_frame::{BYTE_UNITS, LAST_PORT, Priority, VlId, port_at};
@@ -92,7 +92,7 @@ fn add_output(
         (AreFaultsAt tables.now port system.0 found.old.items found.new.items) }
 {
     let sums = sums_to(tables, system);
-    let carries = sums.load <= BYTE_UNITS;
+    let carries = sums.rate <= sums.line;
     add_if_false(found, carries, AdmitFault::Overload(port))?;
     let fits = sums.burst <= tables.buffer() * BYTE_UNITS;
     add_if_false(found, fits, AdmitFault::Buffer(port, sums.buffer_need()))?;
@@ -100,7 +100,7 @@ fn add_output(
         port,
         class: Priority::High,
         wait: sums.high_wait(),
-        left: BYTE_UNITS,
+        left: sums.line,
         bound: sums.high_bound(),
     };
     add_late(found, tables, system, &high)?;
@@ -108,7 +108,7 @@ fn add_output(
         port,
         class: Priority::Low,
         wait: sums.low_wait(),
-        left: BYTE_UNITS.saturating_sub(sums.high_load),
+        left: sums.line.saturating_sub(sums.high_rate),
         bound: sums.told_low_bound(),
     };
     add_late(found, tables, system, &low)
@@ -144,9 +144,9 @@ fn add_senders(
 ) -> Result<(), AllocError>
     requires { AreJitters tables.now jitters.now }
     ensures { OnOk result (found.new.items ≡ found.old.items ++ spec.false_lines
-        (spec.each_from (spec.sender_lines tables.now) 0 (length tables.now.systems))) }
+        (spec.each_from (spec.sender_lines tables.now) 0 tables.now.own)) }
 {
-    let count = tables.system_count();
+    let count = tables.own_count();
     for i in 0..count {
         let jitter = jitters[i];
         let holds = jitter <= GREATEST_JITTER;
@@ -173,7 +173,7 @@ fn add_link(
 {
     let link = tables.link(index);
     let needed = jitters[link.from.0 as usize];
-    let holds = needed <= 1000 * link.jitter_us;
+    let holds = allows_jitter(tables, link, needed);
     add_if_false(found, holds, AdmitFault::LinkJitter(link.vl, needed))?;
     let keeps = link.latency_us <= link.skew_us;
     add_if_false(found, keeps, AdmitFault::Skew(link.vl))

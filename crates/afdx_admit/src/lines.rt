@@ -3,7 +3,7 @@
 ghost use Rattle.std.specs.Prelude.{◌≡◌, ◌<◌, ◌≤◌, length, option_map, IfSome, slice_get, Some};
 ghost use Rattle.std.specs.Prelude.{IfNone};
 ghost use Rattle.afdx_config.specs.Rows.{link_row};
-ghost use Rattle.afdx_config.specs.Lawful.{IsLawful};
+ghost use Rattle.afdx_config.specs.Lawful.{IsLawfulSwitch};
 ghost use Rattle.afdx_frame.specs.Flows.{is_class, of_class};
 ghost use Rattle.afdx_frame.specs.Regulation.{byte_units};
 ghost use Rattle.afdx_frame.specs.Ports.{last_port};
@@ -69,17 +69,17 @@ fn output_fault(tables: &Tables, port: u8, system: SystemId) -> Option<AdmitFaul
     ensures known { IfSome result (IsKnown tables.now) }
 {
     let sums = sums_to(tables, system);
-    if sums.load > BYTE_UNITS {
+    if sums.rate > sums.line {
         return Some(AdmitFault::Overload(port));
     }
     if sums.burst > tables.buffer() * BYTE_UNITS {
         return Some(AdmitFault::Buffer(port, sums.buffer_need()));
     }
     let wait = sums.high_wait();
-    if let Some(vl) = first_late(tables, system, Priority::High, wait, BYTE_UNITS) {
+    if let Some(vl) = first_late(tables, system, Priority::High, wait, sums.line) {
         return Some(AdmitFault::HighLatency(port, vl, sums.high_bound()));
     }
-    let left = BYTE_UNITS - sums.high_load;
+    let left = sums.line - sums.high_rate;
     let wait = sums.low_wait();
     match first_late(tables, system, Priority::Low, wait, left) {
         Some(vl) => Some(AdmitFault::LowLatency(port, vl, sums.told_low_bound())),
@@ -112,7 +112,7 @@ fn ports_fault(tables: &Tables) -> Option<AdmitFault>
     None
 }
 
-/// The jitter at a system's output, in ns.
+/// The jitter at a system's output, in ns, from the links that it sends to the switch.
 fn sender_jitter(tables: &Tables, id: SystemId) -> u64
     requires { id.0 < length tables.now.systems }
     ensures { result ≡ spec.jitter_at tables.now id.0 }
@@ -129,10 +129,11 @@ fn sender_jitter(tables: &Tables, id: SystemId) -> u64
     sum
 }
 
-/// The jitters at the outputs of all systems, by their places, in ns.
+/// The jitters at the outputs of all that stands at the ports, by their places, in ns. Those of
+/// neighbours count only the links that they send to the switch.
 pub fn sender_jitters(tables: &Tables) -> [u64; PORT_COUNT]
     ensures jitters { AreJitters tables.now result }
-    ensures lawful { IsLawful tables.now }
+    ensures lawful { IsLawfulSwitch tables.now }
 {
     let mut jitters = [0; PORT_COUNT];
     let count = tables.system_count();
@@ -147,10 +148,10 @@ fn senders_fault(tables: &Tables, jitters: &[u64]) -> Option<AdmitFault>
     requires { AreJitters tables.now jitters.now }
     ensures fault { result
         ≡ spec.first_false
-        (spec.each_from (spec.sender_lines tables.now) 0 (length tables.now.systems)) }
+        (spec.each_from (spec.sender_lines tables.now) 0 tables.now.own) }
     ensures known { IfSome result (IsKnown tables.now) }
 {
-    let count = tables.system_count();
+    let count = tables.own_count();
     for i in 0..count {
         let jitter = jitters[i];
         if jitter > GREATEST_JITTER {
@@ -158,6 +159,15 @@ fn senders_fault(tables: &Tables, jitters: &[u64]) -> Option<AdmitFault>
         }
     }
     None
+}
+
+/// Whether a link's jitter allows for that of its sender, which is so many ns. It is not asked of a
+/// link that comes from a neighbour.
+pub(crate) fn allows_jitter(tables: &Tables, link: &Link, needed: u64) -> bool
+    requires { CanSend (link_row link.now) }
+    ensures { result ≡ spec.allows_jitter tables.now needed (link_row link.now) }
+{
+    !tables.is_own(link.from) || needed <= 1000 * link.jitter_us
 }
 
 /// The first false line of a link.
@@ -169,7 +179,7 @@ fn link_fault(tables: &Tables, jitters: &[u64], index: usize) -> Option<AdmitFau
 {
     let link = tables.link(index);
     let needed = jitters[link.from.0 as usize];
-    if 1000 * link.jitter_us < needed {
+    if !allows_jitter(tables, link, needed) {
         Some(AdmitFault::LinkJitter(link.vl, needed))
     } else if link.latency_us > link.skew_us {
         Some(AdmitFault::Skew(link.vl))
@@ -199,7 +209,7 @@ fn links_fault(tables: &Tables, jitters: &[u64]) -> Option<AdmitFault>
 pub(crate) fn first_fault(tables: &Tables) -> Option<AdmitFault>
     ensures fault { result ≡ spec.first_false (spec.lines tables.now) }
     ensures known { IfSome result (IsKnown tables.now) }
-    ensures lawful { IsLawful tables.now }
+    ensures lawful { IsLawfulSwitch tables.now }
 {
     let jitters = sender_jitters(tables);
     if let Some(fault) = ports_fault(tables) {

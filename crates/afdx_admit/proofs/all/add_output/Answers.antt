@@ -2,12 +2,13 @@ use Rattle.std.proofs.Common.{◌≡◌, ◌++◌, ◌∷◌, ◌-◌, ◌*◌, 
 use Rattle.std.proofs.lemmas.Result.{on_ok_weaker}
 use Rattle.afdx_frame.specs.declared.link.Priority.TheVariants.{High, Low}
 use Rattle.afdx_frame.specs.Regulation.{byte_units}
-use Rattle.afdx_frame.specs.Flows.{of_class, burst, load, high_wait, low_wait}
+use Rattle.afdx_frame.specs.Flows.{of_class, burst, load, high_wait, low_wait, high_load}
 use Rattle.afdx_admit.specs.declared.fault.AdmitFault.TheVariants.{Overload, Buffer}
 use Rattle.afdx_admit.specs.Late.{class_line, late_fault}
 use Rattle.afdx_admit.specs.Lines.{Line, line, false_lines, loaded_output_to, output_lines, high_line, low_line}
-use Rattle.afdx_admit.specs.Lines.{told_low_bound_of, buffer_need_of}
+use Rattle.afdx_admit.specs.Lines.{buffer_need_of}
 use Rattle.afdx_admit.proofs.FalseLinesLemmas.{added}
+use Rattle.afdx_admit.proofs.RateLemmas.{carries, high-lines, low-lines}
 use Rattle.afdx_admit.proofs.all.add_output.Goals as goal
 
 pub returns : goal.returns
@@ -16,6 +17,7 @@ returns c =
     let t = c.args.tables.now in
     let s = c.sums_to-sums.ensures.sums in
     let o = loaded_output_to t c.args.system.0 s.row in
+    let r = c.sums_to-sums.result in
     let port = c.args.port in
     let old = c.args.found.now.items in
     let one = c.add_if_false.new.found.items in
@@ -27,7 +29,7 @@ returns c =
     let lows : List Line = map (low_line port o) (of_class Low o.flows) in
     let first : one ≡ old ++ false_lines (load_line ∷ []) =
     c.in_ok-add_if_false.ensures
-    ∙ ap (λ n. old ++ false_lines (line (nat_le n byte_units) (Overload port) ∷ [])) s.sums.load in
+    ∙ ap (λ b. old ++ false_lines (line b (Overload port) ∷ [])) (carries o r s.sums) in
     let second : two ≡ one ++ false_lines (buffer_line ∷ []) =
     c.in_ok-add_if_false-2.ensures
     ∙ ap (λ n. one ++ false_lines
@@ -38,23 +40,20 @@ returns c =
     (c.buffer_need.ensures o s.sums) in
     let third : three ≡ two ++ false_lines highs =
     c.in_ok-add_late.ensures
-    ∙ ap (λ w. two ++ false_lines
-    (map (class_line w byte_units (late_fault High port c.high_bound.result)) (of_class High o.flows)))
-    (c.high_wait.ensures o s.sums)
+    ∙ ap (λ ls. two ++ false_lines ls)
+    (high-lines o r s.sums c.high_wait.result (c.high_wait.ensures o s.sums) (late_fault High port c.high_bound.result))
     ∙ ap (λ b. two ++ false_lines
     (map (class_line (high_wait o.byte_ns o.flows) byte_units (late_fault High port b)) (of_class High o.flows)))
     (c.high_bound.ensures o s.sums) in
-    let left = c.saturating_sub.result in
-    let fourth = ap (λ w. three ++ false_lines
-    (map (class_line w left (late_fault Low port c.told_low_bound.result)) (of_class Low o.flows)))
-    (c.low_wait.ensures o s.sums)
+    let fourth = ap (λ n. three ++ false_lines
+    (map (class_line c.low_wait.result n (late_fault Low port c.told_low_bound.result)) (of_class Low o.flows)))
+    c.saturating_sub.ensures
+    ∙ ap (λ ls. three ++ false_lines ls)
+    (low-lines o r s.sums c.low_wait.result (c.low_wait.ensures o s.sums) (late_fault Low port c.told_low_bound.result))
     ∙ ap (λ b. three ++ false_lines
-    (map (class_line (low_wait o.byte_ns o.flows) left (late_fault Low port b)) (of_class Low o.flows)))
-    (c.told_low_bound.ensures o s.sums)
-    ∙ ap (λ n. three ++ false_lines
-    (map (class_line (low_wait o.byte_ns o.flows) n (late_fault Low port (told_low_bound_of o)))
+    (map (class_line (low_wait o.byte_ns o.flows) (byte_units - high_load o.byte_ns o.flows) (late_fault Low port b))
     (of_class Low o.flows)))
-    (c.saturating_sub.ensures ∙ ap (λ h. byte_units - h) s.sums.high_load) in
+    (c.told_low_bound.ensures o s.sums) in
     let loads = added old one two (load_line ∷ []) (buffer_line ∷ []) first second in
     let before = added old two three (load_line ∷ buffer_line ∷ []) highs loads third in
     on_ok_weaker c.add_late-2.result

@@ -13,7 +13,7 @@ unfolding sender_lines
 loop-i-preserved c =
     let t = c.args.tables.now in
     let i = c.loop-i.i in
-    let same : slice_index c.args.jitters.now i ≡ jitter_at t i = c.requires.each i (omega arith) in
+    let same : slice_index c.args.jitters.now i ≡ jitter_at t i = c.requires.each i (omega (arith, c.own_count-count.ensures.lawful.own)) in
     each_from-added (sender_lines t) 0 i i c.args.found.now.items c.loop-i.found.items _ (omega arith)
     c.loop-i.invariant
     (c.in_ok-add_if_false.ensures ∙ ap (λ n. c.loop-i.found.items

@@ -8,7 +8,7 @@ unfolding lines
 returns-in-Some-clause-fault c =
     let t = c.args.tables.now in
     sym (first_false-before (each_from (port_lines t) 1 24)
-    (each_from (sender_lines t) 0 (length t.systems) ++ each_from (link_lines t) 0 (length t.links))
+    (each_from (sender_lines t) 0 t.own ++ each_from (link_lines t) 0 (length t.links))
     c.in-Some.fault (sym c.in-Some.ensures.fault))
 
 pub returns-in-Some-senders_fault-clause-fault : goal.returns-in-Some-senders_fault-clause-fault
@@ -16,7 +16,7 @@ unfolding lines
 returns-in-Some-senders_fault-clause-fault c =
     let t = c.args.tables.now in
     let ports : List Line = each_from (port_lines t) 1 24 in
-    let senders : List Line = each_from (sender_lines t) 0 (length t.systems) in
+    let senders : List Line = each_from (sender_lines t) 0 t.own in
     let links : List Line = each_from (link_lines t) 0 (length t.links) in
     let none : first_false ports ≡ None = sym c.ports_fault.ensures.fault
     ∙ none_of c.ports_fault.result c.in_default.not-Some in
@@ -29,7 +29,7 @@ unfolding lines
 returns-clause-fault c =
     let t = c.args.tables.now in
     let ports : List Line = each_from (port_lines t) 1 24 in
-    let senders : List Line = each_from (sender_lines t) 0 (length t.systems) in
+    let senders : List Line = each_from (sender_lines t) 0 t.own in
     let links : List Line = each_from (link_lines t) 0 (length t.links) in
     let none : first_false ports ≡ None = sym c.ports_fault.ensures.fault
     ∙ none_of c.ports_fault.result c.in_default.not-Some in

@@ -1,4 +1,4 @@
-use Rattle.std.proofs.Common.{◌≡◌, ◌<◌, ◌≤◌, ◌-◌, ◌*◌, Some, None, sym, ap, ◌∙◌, arith}
+use Rattle.std.proofs.Common.{◌≡◌, ◌<◌, ◌≤◌, ◌*◌, ◌-◌, Some, None, sym, ap, ◌∙◌, arith}
 use Rattle.std.specs.Option.{option_map}
 use Rattle.afdx_frame.specs.declared.link.Priority.TheVariants.{High, Low}
 use Rattle.afdx_frame.specs.Regulation.{byte_units}
@@ -8,20 +8,21 @@ use Rattle.afdx_admit.specs.Lines.{loaded_output_to, told_low_bound_of}
 use Rattle.afdx_admit.specs.Late.{first_late}
 use Rattle.afdx_admit.proofs.FirstFalseLemmas.{none_of}
 use Rattle.afdx_admit.proofs.OutputLemmas.{overload, short_buffer, high_late, highs_soon}
+use Rattle.afdx_admit.proofs.RateLemmas.{carried, overloaded, high-late, low-late}
 use Rattle.afdx_admit.proofs.lines.output_fault.Goals as goal
 
-pub returns-then-sums-gt-BYTE_UNITS-clause-fault : goal.returns-then-sums-gt-BYTE_UNITS-clause-fault
-returns-then-sums-gt-BYTE_UNITS-clause-fault c =
+pub returns-then-sums-clause-fault : goal.returns-then-sums-clause-fault
+returns-then-sums-clause-fault c =
     let s = c.sums_to-sums.ensures.sums in
     let o = loaded_output_to c.args.tables.now c.args.system.0 s.row in
-    let over : byte_units < load o.byte_ns o.flows = omega (arith, s.sums.load) in
+    let over : byte_units < load o.byte_ns o.flows = overloaded o c.sums_to-sums.result s.sums (omega arith) in
     record { row = s.row; stands = s.stands; first = sym (overload c.args.tables.now.buffer c.args.port o over) }
 
 pub returns-then-sums-buffer-clause-fault : goal.returns-then-sums-buffer-clause-fault
 returns-then-sums-buffer-clause-fault c =
     let s = c.sums_to-sums.ensures.sums in
     let o = loaded_output_to c.args.tables.now c.args.system.0 s.row in
-    let fits : load o.byte_ns o.flows ≤ byte_units = omega (arith, s.sums.load) in
+    let fits : load o.byte_ns o.flows ≤ byte_units = carried o c.sums_to-sums.result s.sums (omega arith) in
     let short : c.args.tables.now.buffer * byte_units < burst o.flows =
     omega (arith, s.sums.burst, c.buffer.ensures.buffer) in
     record {
@@ -35,12 +36,11 @@ pub returns-in-Some-clause-fault : goal.returns-in-Some-clause-fault
 returns-in-Some-clause-fault c =
     let s = c.sums_to-sums.ensures.sums in
     let o = loaded_output_to c.args.tables.now c.args.system.0 s.row in
-    let fits : load o.byte_ns o.flows ≤ byte_units = omega (arith, s.sums.load) in
+    let fits : load o.byte_ns o.flows ≤ byte_units = carried o c.sums_to-sums.result s.sums (omega arith) in
     let room : burst o.flows ≤ c.args.tables.now.buffer * byte_units =
     omega (arith, s.sums.burst, c.buffer.ensures.buffer) in
     let late : first_late (high_wait o.byte_ns o.flows) byte_units (of_class High o.flows) ≡ Some c.in-Some.vl.0 =
-    ap (λ w. first_late w byte_units (of_class High o.flows))
-    (sym (c.high_wait-wait.ensures o s.sums)) ∙ sym c.in-Some.ensures in
+    high-late o c.sums_to-sums.result s.sums c.high_wait-wait.result (c.high_wait-wait.ensures o s.sums) ∙ sym c.in-Some.ensures in
     record {
       row = s.row;
       stands = s.stands;
@@ -52,18 +52,16 @@ pub returns-in-Some-first_late-clause-fault : goal.returns-in-Some-first_late-cl
 returns-in-Some-first_late-clause-fault c =
     let s = c.sums_to-sums.ensures.sums in
     let o = loaded_output_to c.args.tables.now c.args.system.0 s.row in
-    let fits : load o.byte_ns o.flows ≤ byte_units = omega (arith, s.sums.load) in
+    let fits : load o.byte_ns o.flows ≤ byte_units = carried o c.sums_to-sums.result s.sums (omega arith) in
     let room : burst o.flows ≤ c.args.tables.now.buffer * byte_units =
     omega (arith, s.sums.burst, c.buffer.ensures.buffer) in
     let wait = c.low_wait-wait.ensures o s.sums in
     let soon : first_late (high_wait o.byte_ns o.flows) byte_units (of_class High o.flows) ≡ None =
-    ap (λ w. first_late w byte_units (of_class High o.flows))
-    (sym (c.high_wait-wait.ensures o s.sums)) ∙ sym c.first_late.ensures ∙ ap (option_map (λ v. v.0))
+    high-late o c.sums_to-sums.result s.sums c.high_wait-wait.result (c.high_wait-wait.ensures o s.sums) ∙ sym c.first_late.ensures ∙ ap (option_map (λ v. v.0))
     (none_of c.first_late.result c.in_default.not-Some) in
     let late : first_late (low_wait o.byte_ns o.flows) (byte_units - high_load o.byte_ns o.flows)
     (of_class Low o.flows) ≡ Some c.in-Some-first_late.vl.0 =
-    ap (λ w. first_late w (byte_units - high_load o.byte_ns o.flows) (of_class Low o.flows)) (sym wait)
-    ∙ ap (λ h. first_late c.low_wait-wait.result (byte_units - h) (of_class Low o.flows)) (sym s.sums.high_load)
+    low-late o c.sums_to-sums.result s.sums c.low_wait-wait.result wait
     ∙ sym c.in-Some-first_late.ensures in
     record {
       row = s.row;
@@ -78,18 +76,16 @@ pub returns-in-None-clause-fault : goal.returns-in-None-clause-fault
 returns-in-None-clause-fault c =
     let s = c.sums_to-sums.ensures.sums in
     let o = loaded_output_to c.args.tables.now c.args.system.0 s.row in
-    let fits : load o.byte_ns o.flows ≤ byte_units = omega (arith, s.sums.load) in
+    let fits : load o.byte_ns o.flows ≤ byte_units = carried o c.sums_to-sums.result s.sums (omega arith) in
     let room : burst o.flows ≤ c.args.tables.now.buffer * byte_units =
     omega (arith, s.sums.burst, c.buffer.ensures.buffer) in
     let wait = c.low_wait-wait.ensures o s.sums in
     let soon : first_late (high_wait o.byte_ns o.flows) byte_units (of_class High o.flows) ≡ None =
-    ap (λ w. first_late w byte_units (of_class High o.flows))
-    (sym (c.high_wait-wait.ensures o s.sums)) ∙ sym c.first_late.ensures ∙ ap (option_map (λ v. v.0))
+    high-late o c.sums_to-sums.result s.sums c.high_wait-wait.result (c.high_wait-wait.ensures o s.sums) ∙ sym c.first_late.ensures ∙ ap (option_map (λ v. v.0))
     (none_of c.first_late.result c.in_default.not-Some) in
     let late : first_late (low_wait o.byte_ns o.flows) (byte_units - high_load o.byte_ns o.flows)
     (of_class Low o.flows) ≡ None =
-    ap (λ w. first_late w (byte_units - high_load o.byte_ns o.flows) (of_class Low o.flows)) (sym wait)
-    ∙ ap (λ h. first_late c.low_wait-wait.result (byte_units - h) (of_class Low o.flows)) (sym s.sums.high_load)
+    low-late o c.sums_to-sums.result s.sums c.low_wait-wait.result wait
     ∙ sym c.in-None.ensures in
     record {
       row = s.row;
