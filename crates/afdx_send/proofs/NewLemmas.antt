@@ -50,7 +50,8 @@ none_waits line g i (m ∷ ms) h =
     absurd (let q : IsQueue [] [] (i + 1) 0 (m ∷ ms) = g.queues i (m ∷ ms) h in let e =
     q.1.own.stands in cc e)
 
-pub new_line : (l : LinkRow) (line : Line) (n : ℕ) → IsLineOf l line → IsLink n l
+pub new_line : (l : LinkRow) (line : Line) (n : ℕ) → IsLineOf l line
+    → IsLinkUpTo jitter_from_any n l
     → Regulates line.regulator [] [] → held_by line.regulator ≡ 0 → line.number ≡ 0
     → LineStands line l [] []
 unfolding after_steps
