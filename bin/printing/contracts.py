@@ -27,10 +27,13 @@ that are proofs, what is `assumed` of all that implement a trait, and what an `i
 type. An `impl Model` says what callers see a value as. The calls of an `impl` have the contracts \
 of its trait.
 
-The second table has the crate's files of definitions, with the sentence that each begins with.
+The second table has the crate's laws in words, as its `src/laws.rt` has them, the third its files \
+of definitions, with the sentence that each begins with.
 
 """
 CALLS = "| Call | In `src/` | Clauses | Definitions |\n|---|---|---|---|\n"
+LAWS = "| Law | What it says |\n|---|---|\n"
+LAW = re.compile(r"((?:^///.*\n)+)(?:^#\[.*\n)*^pub fn (\w+)", re.M)
 FILES = "| In `specs/` | What it defines |\n|---|---|\n"
 
 
@@ -122,6 +125,13 @@ def named_definitions(crate: str, clauses: list[Clause]) -> str:
     return "; ".join(cells) or "none"
 
 
+def laws_of(crate: str) -> list[tuple[str, str]]:
+    """Each law of a crate, and what stands above it, in one line."""
+    path = CRATES / crate / "src/laws.rt"
+    text = text_of(path) if path.is_file() else ""
+    return [(name, " ".join(said.replace("///", "").split())) for said, name in LAW.findall(text)]
+
+
 def section_of(crate: str) -> str:
     """The section of a crate."""
     rows = [
@@ -131,6 +141,8 @@ def section_of(crate: str) -> str:
     ]
     files = [f"| {file} | {head_of(crate, file)} |\n" for file in files_of_definitions(crate)]
     tables = [CALLS + "".join(rows)] if rows else []
+    laws = [f"| `{name}` | {said} |\n" for name, said in laws_of(crate)]
+    tables += [LAWS + "".join(laws)] if laws else []
     tables += [FILES + "".join(files)] if files else []
     return f"## {crate}\n\n" + "\n".join(tables)
 

@@ -1,7 +1,7 @@
-"""The tables of docs/FORMATS.md that say what a word, a key, a line or a fault means, from what
-`afdx explain --list` prints.
+"""The tables of docs/FORMATS.md and docs/RECORDINGS.md that say what a word, a key, a line or a
+fault means, from what `afdx explain --list` prints.
 
-In the page each stands between two remarks, of which the first has its name; the text around them
+In its page each stands between two remarks, of which the first has its name; the text around them
 is written by hand.
 """
 from __future__ import annotations
@@ -68,7 +68,7 @@ def table(heading: str, rows: Iterable[list[str]]) -> str:
     """A table of these rows."""
     lines = ["| " + " | ".join(cells) + " |" for cells in rows]
     if not lines:
-        raise SystemExit(f"docs/FORMATS.md: nothing is printed below {heading}")
+        raise SystemExit(f"bin/printing/formats.py: nothing is printed below {heading}")
     return "\n".join([heading, "|" + "---|" * (heading.count("|") - 1), *lines])
 
 
@@ -100,7 +100,7 @@ def list_faults(rows: list[Row]) -> str:
     """The faults of a list, in the order in which a line is checked."""
     faults = {row.word.split()[1]: row for row in faults_of(rows, "list")}
     if set(faults) != set(CHECKED) - {""}:
-        raise SystemExit(f"docs/FORMATS.md: the faults of a list are {set(faults)}")
+        raise SystemExit(f"bin/printing/formats.py: the faults of a list are {set(faults)}")
     return table("| Order | Line on standard error | When |", (
         [str(order), f"`{faults[name].word}`", meaning(faults[name])] if name
         else [str(order), "(skipped)", SKIPPED_LINE] for order, name in enumerate(CHECKED, 1)))
@@ -123,7 +123,7 @@ def recording_counts(rows: list[Row]) -> str:
     counts = next(row for row in of_kind(rows, "line") if row.forms[-1].startswith("skipped "))
     said = re.findall(r"then ([a-z-]+): (.*?)(?=; then |$)", sentences(counts.text))
     if [word for word, _ in said] != list(counts.forms[:-1]):
-        raise SystemExit(f"docs/FORMATS.md: the counts of a recording are {counts.forms}")
+        raise SystemExit(f"bin/printing/formats.py: the counts of a recording are {counts.forms}")
     return table("| Count | Meaning |", ([f"`{word}`", marked(text)] for word, text in said))
 
 
@@ -197,35 +197,40 @@ def lines(rows: list[Row], *begins: str, heading: str = "| Line | Meaning |", co
     return table(heading, cells)
 
 
-TABLES: dict[str, Callable[[list[Row]], str]] = {
-    "faults of words and devices": words_and_devices,
-    "faults of a list": list_faults,
-    "skipped numbers": skipped_numbers,
-    "counts of a recording": recording_counts,
-    "faults of a recording": recording_faults,
-    "why a switch drops a frame": dropped,
-    "keys of a configuration": keys,
-    "faults of a configuration": config_faults,
-    "lines of check": lambda rows: lines(rows, "P ", "m "),
-    "conditions of admission": admission,
-    "lines of solve": lambda rows: lines(
-        rows, "vl ", heading="| Line on standard error | Meaning |"),
-    "lines of replay": lambda rows: lines(rows, "L ", "D ", "T ", "M ", "early "),
-    "why a system drops a frame": not_received,
-    "lines of send": lambda rows: lines(rows, "R time A", "R time B", count=2),
-    "refused messages": refused,
+Tables = dict[str, Callable[[list[Row]], str]]
+TABLES: dict[str, Tables] = {
+    "docs/FORMATS.md": {
+        "faults of words and devices": words_and_devices,
+        "faults of a list": list_faults,
+        "why a switch drops a frame": dropped,
+        "keys of a configuration": keys,
+        "faults of a configuration": config_faults,
+        "lines of check": lambda rows: lines(rows, "P ", "m "),
+        "conditions of admission": admission,
+        "lines of solve": lambda rows: lines(
+            rows, "vl ", heading="| Line on standard error | Meaning |"),
+        "lines of replay": lambda rows: lines(rows, "L ", "D ", "T ", "M ", "early "),
+        "why a system drops a frame": not_received,
+        "lines of send": lambda rows: lines(rows, "R time A", "R time B", count=2),
+        "refused messages": refused,
+    },
+    "docs/RECORDINGS.md": {
+        "skipped numbers": skipped_numbers,
+        "counts of a recording": recording_counts,
+        "faults of a recording": recording_faults,
+    },
 }
 
 
-def printed(page: str, rows: list[Row]) -> str:
-    """The page with its tables as they have to be."""
-    named = [found.group(2) for found in AROUND.finditer(page)]
-    if sorted(named) != sorted(TABLES):
-        others = set(named) ^ set(TABLES)
-        raise SystemExit(f"docs/FORMATS.md: tables are missing, unknown or there twice: {others}")
+def printed(text: str, page: str, rows: list[Row]) -> str:
+    """The text of a page with its tables as they have to be."""
+    named = [found.group(2) for found in AROUND.finditer(text)]
+    if sorted(named) != sorted(TABLES[page]):
+        others = set(named) ^ set(TABLES[page])
+        raise SystemExit(f"{page}: tables are missing, unknown or there twice: {others}")
     texts = " ".join(row.text for row in rows)
     absent = [part for part in MARKED if part not in texts.replace("Profile is", "profile is")]
     if absent:
         raise SystemExit(f"bin/printing/formats.py: no text has the part {absent[0]!r}")
-    return AROUND.sub(lambda found: found.group(1) + TABLES[found.group(2)](rows)
-                      + found.group(3), page)
+    return AROUND.sub(lambda found: found.group(1) + TABLES[page][found.group(2)](rows)
+                      + found.group(3), text)

@@ -1,5 +1,5 @@
 """What a recording says, computed apart from the program: pcap (draft-ietf-opsawg-pcap) and pcapng
-(draft-ietf-opsawg-pcapng) as docs/FORMATS.md takes them. No package reads the bytes."""
+(draft-ietf-opsawg-pcapng) as docs/RECORDINGS.md takes them. No package reads the bytes."""
 from __future__ import annotations
 
 from typing import Iterator, NamedTuple

@@ -1,5 +1,5 @@
 """What becomes of the numbers of a recording, and in which order a run takes its arrivals, computed
-apart from the program, as docs/FORMATS.md has it."""
+apart from the program, as docs/RECORDINGS.md has it."""
 from __future__ import annotations
 
 import zlib

@@ -1,5 +1,5 @@
 """What a run takes from a recording, computed apart from the program: the list that says the same,
-the fault, and the counts, as docs/FORMATS.md has them."""
+the fault, and the counts, as docs/RECORDINGS.md has them."""
 from __future__ import annotations
 
 from typing import NamedTuple, NoReturn

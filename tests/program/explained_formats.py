@@ -6,9 +6,9 @@
 Of each word and form that `afdx explain --list` prints an example is given to `afdx explain`; the
 answer must have the list's text. So it must for lines that have such a word, as a V line that was
 dropped, for the name of a fault alone, and for the faults that each key of a configuration can
-have. docs/FORMATS.md, whose tables are printed from the same list, must have the keys and ranges of
-tests/lib/first_fault.py. Prints a line for each that isn't so, and nothing where all is; ends with
-status 1 if there is one.
+have. The lines of the command `list` are those of docs/RECORDINGS.md. docs/FORMATS.md, whose tables
+are printed from the same list, must have the keys and ranges of tests/lib/first_fault.py. Prints a
+line for each that isn't so, and nothing where all is; ends with status 1 if there is one.
 """
 import itertools
 import pathlib
@@ -99,7 +99,7 @@ def wanted_names(rows: list[Row]) -> Wanted:
 def wanted_of_list() -> Wanted:
     """The lines of the command `list`, with what each stands for."""
     wanted = []
-    for number, lines in lists.rows_below("| Number | Line |"):
+    for number, lines in lists.rows_below("| Number | Line |", lists.RECORDINGS):
         for kind in re.findall(r"\b([RFB]) (?:time|\.\.)", lines):
             says = number if kind != "B" else "found wrong"
             wanted += [(f"{kind} 6720 {side} 3 0300", [says]) for side in "AB"]
