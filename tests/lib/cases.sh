@@ -1,10 +1,10 @@
-# Sourced by the tests in bash: counts cases, and tells each.
+# Sourced by the tests in bash: counts cases, and reports each.
 # shellcheck shell=bash
 
 passed=0
 failed=0
 
-# A case, its fault if it has one, and what is told of it where it passes.
+# A case, its fault if it has one, and what is reported of it where it passes.
 tell() { # NAME FAULT [NOTE]
     if [[ -z $2 ]]; then
         passed=$((passed + 1))

@@ -1,4 +1,4 @@
-"""What a replay tells: computed for one link's stream, and looked at for those of many."""
+"""What a replay reports: computed for one link's stream, and looked at for those of many."""
 from __future__ import annotations
 
 import re
@@ -25,7 +25,7 @@ def told_pairs(tables: dict, sent: list[Sent], port: int, first: int = 1) -> byt
 
 
 def bounds_of(told: bytes) -> dict[tuple[int, str], int]:
-    """The bounds that `check` tells of admitted tables, in ns, by port and priority."""
+    """The bounds that `check` reports of admitted tables, in ns, by port and priority."""
     bounds = {}
     for line in told.splitlines()[:-1]:
         _, port, high, low, _ = line.split(b" ")

@@ -230,8 +230,8 @@ def solved(tables: dict, keep: Collection[str] = (), raise_only: bool = False) -
 
 
 def needs(asked: dict, tables: dict) -> list[str]:
-    """What is told of each link and port where more is needed than the file asks, in the order of
-    ports and then of links; a latency that isn't there asks nothing."""
+    """What is reported of each link and port where more is needed than the file asks, by ports and
+    then by links; a latency that isn't there asks nothing."""
     latencies = {link["vl"]: link.get("latency_us") for link in asked["link"]}
     lines = []
     for output in outputs_of(tables):

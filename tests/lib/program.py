@@ -93,7 +93,7 @@ def short(text: object) -> str:
 
 
 def same_text(what: str, wanted: bytes, found: bytes) -> None:
-    """The two texts are equal; if not, the first line that differs is told."""
+    """The two texts are equal; if not, the first line that differs is reported."""
     if wanted == found:
         return
     pairs = zip(wanted.split(b"\n"), found.split(b"\n"))
@@ -112,7 +112,7 @@ def answers(found: Answer, status: int, out: bytes | None, err: bytes) -> None:
 
 
 class Cases:
-    """Counts the cases, and tells each."""
+    """Counts the cases, and reports each."""
 
     def __init__(self) -> None:
         self.passed = self.failed = self.skipped = 0

@@ -14,9 +14,9 @@ COUNTS = ["recorder-lost", "claimed", "contradicted", "unused"]
 
 
 class Told(NamedTuple):
-    """What is told of a recording, or of two: a line of the list for each number, in the order in
-    which the numbers are read and taken; those numbers; the line of the fault, which is empty where
-    there is none; the line of the counts."""
+    """What is reported of a recording, or of two: a line of the list for each number, in the order
+    in which the numbers are read and taken; those numbers; the line of the fault, which is empty
+    if there is none; the line of the counts."""
 
     lines: list[bytes]
     numbers: list[int]
@@ -108,7 +108,7 @@ class Run:
             heads[first] = self.seek(sources[first])
 
     def told(self, sources: list[Source]) -> Told:
-        """What is told of these recordings."""
+        """What is reported of these recordings."""
         fault = ""
         try:
             self.take_all(sources)
@@ -122,5 +122,5 @@ class Run:
 
 
 def told(options: Options, systems: Systems, data: bytes, is_open: bool = False) -> Told:
-    """What is told of the bytes of a recording; where it is open they are not all."""
+    """What is reported of the bytes of a recording; where it is open they are not all."""
     return Run(options.origin).told([Source(options, systems, data, is_open)])

@@ -44,8 +44,8 @@ class PairOptions(NamedTuple):
 def told_pair(
     options: PairOptions, systems: Systems, pair: tuple[bytes, bytes], opens: str = ""
 ) -> Told:
-    """What is told of the bytes of two recordings; of those sides that `opens` names the bytes are
-    not all."""
+    """What is reported of the bytes of two recordings; of those sides that `opens` names the bytes
+    are not all."""
     sources = [
         Source(options.of(side), systems, data, side in opens)
         for side, data in zip(NETWORKS, pair)

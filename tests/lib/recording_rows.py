@@ -1,4 +1,4 @@
-"""Recordings spelled out byte by byte, in hexadecimal, and what a run tells of each."""
+"""Recordings spelled out byte by byte, in hexadecimal, and what a run reports of each."""
 from __future__ import annotations
 
 from typing import NamedTuple
@@ -65,8 +65,8 @@ def from_sender(address: str) -> str:
 
 
 class Row(NamedTuple):
-    """A recording, and what is told of it. Between lines stands ` / `, for words that aren't looked
-    at `..`."""
+    """A recording, and what is reported of it. Between lines stands ` / `, for words that aren't
+    looked at `..`."""
 
     name: str
     data: str

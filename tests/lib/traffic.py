@@ -1,4 +1,4 @@
-"""Messages and lists of frames that whole streams are made of, and what a replay tells of them."""
+"""Messages and lists of frames of which whole streams are made, and what a replay reports."""
 from __future__ import annotations
 
 import random

@@ -160,7 +160,7 @@ def broken_writes(weak: Weak, options: list[str]) -> None:
 
 
 def both_broken(weak: Weak, reads: int) -> None:
-    """The list can't be read on, and what is held can't be written: the first fault is told."""
+    """The list can't be read on, and what is held can't be written: the first fault is reported."""
     for k in range(1, reads + 1):
         found, calls = weak.run(FEW, read=f"{k}:fails", write="1:fails")
         weak.ends(found, READ, b"")

@@ -17,7 +17,7 @@ UNCLEAR = "FcsUnclear 1"
 def edge(
     name: str, data: str, listed: str = "", fault: str = "", options: Options = Options()
 ) -> Row:
-    """A row of which the list and the fault are told; one of `police` where a port is given."""
+    """A row of which the list and the fault are reported; one of `police` where a port is given."""
     rule = "" if options.port is None else "1 64 500"
     return Row(name, data, "..", fault, options, listed=listed, rule=rule)
 

@@ -12,7 +12,7 @@ from program import Cases, must
 LONGEST = 60  # seconds of one run
 STAMP = "-t '%Y-%m-%d %H:%M:%S.%f'"
 
-# a file, and how it is made of those before it; what stands behind `<` is its standard input
+# a file, and how it is made of those before it; what stands after `<` is its standard input
 STEPS = {
     "a.pcap": f"text2pcap -q -F nsecpcap {STAMP} a.txt a.pcap",
     "b.pcap": f"text2pcap -q -F pcap {STAMP} b.txt b.pcap",

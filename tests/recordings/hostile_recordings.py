@@ -25,7 +25,7 @@ HEAD = bytes.fromhex(PL)
 
 
 def is_told(program: Program, data: bytes, options: Options = Options()) -> None:
-    """The commands tell what the reference says, and soon."""
+    """The commands report what the reference says, and soon."""
     path, of_police = path_of(program, data), options._replace(port=1, stamps=None)
     for case in (Case(data, options), Case(data, of_police, "1 64 500")):
         wanted, began = case.listed(program), time.monotonic()
@@ -39,7 +39,7 @@ def is_told(program: Program, data: bytes, options: Options = Options()) -> None
 
 
 def skips(program: Program, data: bytes, fault: str) -> None:
-    """A recording of which nothing is told but its fault, and soon."""
+    """A recording of which nothing is reported but its fault, and soon."""
     path = path_of(program, data)
     commands = [["replay", "base.toml"], ["replay", "--no-admission", "base.toml"], POLICE]
     for words in commands:
@@ -49,7 +49,7 @@ def skips(program: Program, data: bytes, fault: str) -> None:
 
 
 def pair_is_told(program: Program, pair: tuple[bytes, bytes]) -> None:
-    """Of two recordings at once both commands tell what the reference says, and soon."""
+    """Of two recordings at once both commands report what the reference says, and soon."""
     case = PairCase(pair)
     said, wanted = case.told(), case.listed(program)
     listed = Answer(said.status(), said.text(), said.fault)
@@ -61,7 +61,7 @@ def pair_is_told(program: Program, pair: tuple[bytes, bytes]) -> None:
 
 
 def pair_skips(program: Program, pair: tuple[bytes, bytes], fault: str) -> None:
-    """Two recordings of which a replay tells nothing but a fault, and soon."""
+    """Two recordings of which a replay reports nothing but a fault, and soon."""
     paths = [program.write(name, data) for name, data in zip(NETWORKS, pair)]
     began = time.monotonic()
     found = program.run("replay", "base.toml", *paths)

@@ -106,7 +106,7 @@ class Blocks:
         self.interfaces: list[Interface] = []
 
     def numbers(self, *values: int, size: int = 4) -> bytes:
-        """Numbers, one behind the other."""
+        """Numbers, one after the other."""
         return b"".join(value.to_bytes(size, self.order) for value in values)
 
     def filled(self, data: bytes) -> bytes:

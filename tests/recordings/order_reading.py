@@ -36,7 +36,7 @@ def verdicts(text: bytes) -> list[int]:
 
 
 def late_frame(program: Program, behind: int, words: list[str], is_sorted: bool) -> None:
-    """A frame that stands behind so many later ones: it comes first, or is a fault behind them."""
+    """A frame that stands after so many later ones: it comes first, or is a fault after them."""
     data = recording_of([*range(1, behind + 1), 0])
     path, last = path_of(program, data), behind + 1
     fault = b"" if is_sorted else b"recording TimeBack %d\n" % last
@@ -118,7 +118,7 @@ def same_texts(program: Program, kind: str, group: int) -> None:
 
 
 def shuffled(program: Program, number: int) -> None:
-    """Frames that are shuffled are told as those in order, but for their numbers."""
+    """Frames that are shuffled are reported as those in order, but for their numbers."""
     chance = random.Random(f"shuffled/{number}")
     mixed = chance.sample(range(10**7), 200)
     texts = [recording_of(sorted(mixed)), recording_of(mixed)]

@@ -1,5 +1,5 @@
 """Recordings whose frames stand out of order, and stamps of a frame's start, spelled out, and what
-is told of each."""
+is reported of each."""
 from __future__ import annotations
 
 from edge_rows import ARRIVAL, CLOSED, edge, interface, low, option, packet
@@ -121,7 +121,7 @@ def remark_rows() -> list[Row]:
 
 
 def fault_rows() -> list[Row]:
-    """What is held is told before a fault, in order."""
+    """What is held is reported before a fault, in order."""
     begin, shown = PL + at(5) + at(3, H2), lines((0, 2), (2000, 1))
     closed = R("09000000", CLOSED, "40000000 40000000")
     over = R(ZERO, "", f"{low(262_145)} {ZERO}")

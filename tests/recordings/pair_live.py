@@ -1,4 +1,4 @@
-"""Two recordings that come through pipes: each arrival is told once it is known that none comes
+"""Two recordings that come through pipes: each arrival is reported once it is known that none comes
 before it, and not before; with --line-buffered, which holds none, or as many as --reorder says."""
 from __future__ import annotations
 
@@ -70,7 +70,7 @@ def started(program: Program, words: list[str], by_stdin: str) -> Iterator[Live]
 
 
 def told_now(program: Program, case: PairCase, command: str, opens: str) -> bytes:
-    """What has to be told of the bytes that have come, where more of these sides may come."""
+    """What has to be reported of the bytes that have come, where more of these sides may come."""
     if command == "list":
         return case.told(opens).text()
     return case.listed(program, opens=opens).out
@@ -85,8 +85,8 @@ def silent(live: Live) -> None:
 def live_pair(
     program: Program, words: list[str], reorder: int | None, steps: list[Step], by_stdin: str
 ) -> None:
-    """After each step everything is told that is known then, and before its last byte nothing of
-    that; where both end, the run does."""
+    """After each step everything is reported that is known then, and before its last byte nothing
+    of that; where both end, the run does."""
     case, told, opens = held_case(reorder), b"", NETWORKS
     with started(program, [*words, *case.options.words()], by_stdin) as live:
         for step in steps:
@@ -139,7 +139,7 @@ def held_in_order() -> dict[str, tuple[str, list[int]]]:
 
 
 def held_back() -> dict[str, tuple[str, list[int]]]:
-    """Steps, and how many arrivals have been told behind each."""
+    """Steps, and how many arrivals have been reported after each."""
     first, second, foreign = R(ZERO, H1), R("01000000", H2), R(ZERO, FOREIGN)
     heads, third, same = f"A{PL} / B{PL}", R("02000000", H1), R("01000000", H1)
     waits = f"B{first} / B{second} / A{R('05000000', H1)} / B{R('09000000', H2)}"
@@ -174,7 +174,7 @@ def held_back() -> dict[str, tuple[str, list[int]]]:
 
 
 def counts_hold(reorder: int | None, steps: list[Step], counts: list[int]) -> None:
-    """The reference tells so many arrivals behind each step."""
+    """The reference reports so many arrivals after each step."""
     case, opens, found = held_case(reorder), NETWORKS, []
     for step in steps:
         place = NETWORKS.index(step.side)

@@ -29,7 +29,7 @@ def pair(
     fault: str = "",
     options: PairOptions = PairOptions(),
 ) -> PairRow:
-    """A row of which the list is told."""
+    """A row of which the list is reported."""
     listed = " / ".join(map(line, shown))
     return PairRow(f"order: {name}", *recordings, "..", fault, options, listed)
 

@@ -121,7 +121,7 @@ def cut_each_byte(program: Program, case: PairCase, place: int) -> None:
 
 
 def alone(program: Program, number: int) -> None:
-    """A recording beside an empty one is told like one alone whose frames all have its side."""
+    """A recording beside an empty one is reported like one alone whose frames all have its side."""
     data, empty = made_data("made", number), bytes.fromhex(PL)
     for place, side in enumerate(NETWORKS):
         case = PairCase((empty, empty)).with_half(place, data)

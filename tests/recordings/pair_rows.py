@@ -1,4 +1,4 @@
-"""Pairs of recordings spelled out byte by byte, in hexadecimal, and what a run tells of each: the
+"""Pairs of recordings spelled out byte by byte, in hexadecimal, and what a run reports of each: the
 order of arrivals, and of what is skipped."""
 from __future__ import annotations
 
@@ -17,7 +17,7 @@ AS_READ = PairOptions(reorder=0)
 
 
 class PairRow(NamedTuple):
-    """Two recordings, and what is told of them, as in a row of one."""
+    """Two recordings, and what is reported of them, as in a row of one."""
 
     name: str
     a: str
@@ -37,7 +37,7 @@ class PairRow(NamedTuple):
 def listed(
     name: str, a: str, b: str, lines: str, options: PairOptions = PairOptions()
 ) -> PairRow:
-    """A row of which the list is told."""
+    """A row of which the list is reported."""
     return PairRow(name, a, b, options=options, listed=lines)
 
 
@@ -81,7 +81,7 @@ def listed_at(time: int) -> str:
 
 
 def told_rows() -> list[PairRow]:
-    """What a run tells, and counts."""
+    """What a run reports, and counts."""
     return [
         PairRow(
             "a frame and its copy",

@@ -77,7 +77,7 @@ def sides_of_one(program: Program, paths: list[str]) -> None:
 
 
 def spaced(program: Program, paths: list[str]) -> None:
-    """An option and its value as two words, before the recordings, between and behind them."""
+    """An option and its value as two words, before the recordings, between and after them."""
     options = PairOptions(("0=A:1", "7=-", "0=B:2"), True, FIRST_NS - 5)
     places = ["--interface", "7=-", "--origin", f"{FIRST_NS - 5}", "--interface", "0=B:2"]
     more = ["--fcs", "yes", "--interface", "0=A:1"]

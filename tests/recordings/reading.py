@@ -103,7 +103,7 @@ def from_a_file(program: Program, case: Case) -> None:
 
 
 def cut_anywhere(program: Program, case: Case) -> None:
-    """A recording that is cut at each byte: what stands before the cut is told."""
+    """A recording that is cut at each byte: what stands before the cut is reported."""
     for size in range(len(case.data)):
         part = case._replace(data=case.data[:size])
         if case.options.held() == 0:
@@ -136,7 +136,7 @@ def told_of_all(program: Program, words: list[str], options: Options, data: byte
 
 
 def comes(run: subprocess.Popen, wanted: bytes, told: bytes, more: int = 0) -> None:
-    """What is wanted comes, of which this was told before, and within so many bytes no more."""
+    """What is wanted comes, of which this was reported before, and within so many bytes no more."""
     must(wanted.startswith(told), "what was told is no beginning")
     rest = wanted[len(told) :]
     found = text_within(run.stdout.fileno(), len(rest) + more, SOON)
@@ -144,7 +144,7 @@ def comes(run: subprocess.Popen, wanted: bytes, told: bytes, more: int = 0) -> N
 
 
 def at_once(program: Program, words: list[str], options: Options, pieces: list[bytes]) -> None:
-    """While a recording is written piece by piece, each arrival is told when its last byte is
+    """While a recording is written piece by piece, each arrival is reported when its last byte is
     there, or that of as many others as the options say, and not before; those that are held at the
     end. The first piece has no frame."""
     done, told = b"", b""

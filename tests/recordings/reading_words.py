@@ -104,7 +104,7 @@ def unknown_words(program: Program) -> None:
 
 
 def helpful(program: Program) -> None:
-    """The help names the options, and says that --summary alone tells what was left out, in the
+    """The help names the options, and says that --summary alone reports what was left out, in the
     line `skipped`."""
     for command, *_ in COMMANDS:
         found, words = program.run(command, "--help"), ["--interface", "--fcs", "--origin"]
@@ -138,7 +138,7 @@ def word_cases(program: Program) -> list[tuple]:
 
 
 def late_orders(path: str, bad: str, late: str) -> list[tuple[list[str], int, bytes]]:
-    """Words of `--reorder` that are out of range, and what comes before and behind that."""
+    """Words of `--reorder` that are out of range, and what comes before and after that."""
     many, number = "--reorder=100001", b"words BadNumber\n"
     return [
         (["replay", many, "none.toml", path], 4, b"device Config\n"),

@@ -14,7 +14,7 @@ LONGEST = 120  # seconds of one run
 
 
 class Said(NamedTuple):
-    """A frame as tshark tells it, and whether it found something wrong behind the last."""
+    """A frame as tshark reports it, and whether it found something wrong after the last."""
 
     frames: list[dict]
     is_faulty: bool
@@ -26,7 +26,7 @@ def has(program: str) -> bool:
 
 
 def said_of(path: str) -> Said:
-    """What tshark tells of a recording."""
+    """What tshark reports of a recording."""
     words = ["tshark", "-n", "-r", path, "-T", "json", "-x", "-j", "frame"]
     done = subprocess.run(words, capture_output=True, timeout=LONGEST, check=False)
     try:

@@ -42,14 +42,14 @@ class WeakHalf(Weak):
         return super().weakened(path, most, broken) | {"DEVICE_SECOND": steady}
 
     def text_of(self, case: PairCase, opens: str, at_once: bool) -> bytes:
-        """What is told of the recordings where the run asks for more of one of these sides."""
+        """What is reported of the recordings where the run asks for more of one of these sides."""
         case = case.at_once() if at_once else case
         if self.words[0] == "list":
             return case.told(opens).text()
         return case.listed(self.program, opens=opens).out
 
     def lines_before(self, count: int, at_once: bool = False) -> bytes:
-        """What is told once so many bytes of the weak one were read, where the run then stops."""
+        """What is reported once so many bytes of the weak one were read, if the run then stops."""
         case = self.case.with_half(self.place, self.given[:count])
         return self.text_of(case, NETWORKS[self.place], at_once)
 
@@ -83,14 +83,14 @@ def weak_half(program: Program, case: PairCase, place: int, by_path: bool) -> No
 
 
 def out_of_order() -> tuple[str, str]:
-    """Both of them, and behind what is held of B a fault."""
+    """Both of them, and after what is held of B a fault."""
     a = PL + R("05000000", H1) + R("06000000", FOREIGN) + R("03000000", H2) + R("09000000", H1)
     return a, SL + IL + E("08401e18", H1) + E("04401e18", H2) + "00" * 12
 
 
 def tries(command: str) -> Iterator[tuple[str, tuple[str, str], int | None]]:
     """Pairs with their names, and how many arrivals are held of each. That of `list` is said, since
-    it tells elsewhere than --line-buffered does what is skipped."""
+    it reports elsewhere than --line-buffered does what is skipped."""
     for name, texts in pairs().items():
         yield name, texts, 0
         if ORDERS:

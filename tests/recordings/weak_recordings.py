@@ -25,7 +25,7 @@ class WeakRecording(Weak):
         super().__init__(program, [*words, *options.words()], data, by_path)
 
     def lines_before(self, count: int, at_once: bool = False) -> bytes:
-        """What is told of the whole frames of the first bytes, where the run then asks for more."""
+        """What is reported of the whole frames of these bytes, if the run then asks for more."""
         options = self.options._replace(at_once=at_once)
         return told_before(self.program, self.command, options, self.given[:count])
 
@@ -43,7 +43,7 @@ def in_order() -> dict[str, str]:
 
 
 def out_of_order() -> dict[str, str]:
-    """Of both forms, one of them with a fault behind what is held."""
+    """Of both forms, one of them with a fault after what is held."""
     frames = [(5, H1), (7, OTHER), (3, H2), (9, H1), (8, H2)]
     back = "".join(R(f"{us:02x}000000", each) for us, each in frames)
     return {
@@ -55,7 +55,7 @@ def out_of_order() -> dict[str, str]:
 
 def tries(command: str) -> Iterator[tuple[str, str, int | None]]:
     """Recordings with their names, and how many arrivals are held. That of `list` is said, since it
-    tells elsewhere than --line-buffered does what is skipped."""
+    reports elsewhere than --line-buffered does what is skipped."""
     for name, text in in_order().items():
         yield name, text, 0
         if ORDERS:

@@ -7,7 +7,7 @@
 tables exactly what tests/lib/least.py computes apart from the program. `check` then judges the
 least jitters, buffer, latencies and skews that are computed there: a network that has them is
 admitted, and each of them less by one makes its own line of admission false; where a key has no
-value that is enough, the line that is told is the first false one. The same holds where keys are
+value that is enough, the line that is reported is the first false one. The same holds if keys are
 kept, or only raised. Prints `ok NAME` or `FAILED NAME` for each case, then `N passed, M failed`;
 ends with status 1 if a case failed. Needs Python 3.11.
 """
@@ -46,8 +46,8 @@ def check_all_alike(program: Program, seed: int, count: int) -> None:
 
 
 def is_hopeless(found: Solved) -> bool:
-    """No value makes the line true that is told: a port is overloaded, a sender too busy, or the
-    key is the greatest in its range."""
+    """No value makes the line true that is reported: a port is overloaded, a sender too busy, or
+    the key is the greatest in its range."""
     _, name, *words = found.fault.split()
     if name == "A2":
         return found.tables["buffer"] == RANGES["top", "buffer"][1]
@@ -93,7 +93,7 @@ def check_example(program: Program, name: str, wanted: dict) -> None:
 
 
 def check_none(program: Program, tables: dict, line: str) -> None:
-    """No values are enough; the line, which may end in `..`, is the one that is told."""
+    """No values are enough; the line, which may end in `..`, is the one that is reported."""
     found = solved(tables)
     begin = line.removesuffix("..")
     must(found.fault == line or (begin != line and found.fault.startswith(begin)), found.fault)
@@ -104,7 +104,7 @@ def check_none(program: Program, tables: dict, line: str) -> None:
 
 def check_choices(program: Program, seed: int) -> None:
     """Each choice of keys that are kept or only raised: `check` says of what is written what is
-    told; a kept key is that of the file, a raised one not less."""
+    reported; a kept key is that of the file, a raised one not less."""
     chance = random.Random(seed)
     tables = network(chance, 12, True)
     keeps = [c for n in range(5) for c in itertools.combinations(SOLVED, n)]
@@ -124,7 +124,7 @@ def check_choices(program: Program, seed: int) -> None:
 
 
 def check_needs() -> None:
-    """What is told where more is needed than is asked."""
+    """What is reported where more is needed than is asked."""
     tables = made.example_tables("refused.toml")
     told = needs(tables, solved(tables).tables)
     wanted = [f"vl 104 at {port}: 267674 ns needed, 250 us asked" for port in (7, 8)]

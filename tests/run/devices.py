@@ -13,8 +13,8 @@ write a beginning of the undisturbed text, exactly as far as it has to, and end 
 the one line of the device that failed; and a device that failed, or has ended, must not be asked
 again, nor the other one be asked for more than what is held. With --line-buffered the text of each
 line, or recorded frame, must be handed over before more is read; frames that are held to be put in
-order are told at the end and at a fault, and not after a failed read. The first bytes are also read
-one by one, and each of these reads is broken too.
+order are reported at the end and at a fault, and not after a failed read. The first bytes are also
+read one by one, and each of these reads is broken too.
 Prints `ok NAME` or `FAILED NAME` for each case, then `N passed, M failed`; ends with status 1 if a
 case failed.
 """
@@ -106,7 +106,7 @@ def weak_config(program: Program, words: list[str], tables: dict, status: int) -
 
 
 def deaf_errors(program: Program, words: list[str], given: bytes, status: int) -> None:
-    """A fault that can't be told leaves the status as it is."""
+    """A fault that can't be reported leaves the status as it is."""
     with open("/dev/full", "wb") as full:
         done = subprocess.run(
             [program.path, *words, "-"],

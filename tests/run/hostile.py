@@ -63,7 +63,7 @@ class Command:
         return found.out
 
     def is_told(self, given: bytes) -> Answer:
-        """The first fault is told, and the output is that of the lines before it."""
+        """The first fault is reported, and the output is that of the lines before it."""
         fault, found = list_fault(given, self.is_frames), self.run(given)
         answers(found, 3 if fault else 0, None, fault)
         if fault:

@@ -84,14 +84,14 @@ def many_pair_lists(program: Program, kind: str) -> None:
 
 
 def taken(said: Told) -> list[int]:
-    """The numbers of the arrivals that are told, in their order."""
+    """The numbers of the arrivals that are reported, in their order."""
     told = zip(said.numbers, said.lines)
     return [number for number, line in told if not line.startswith(b"#")]
 
 
 def cut_anywhere(case: Case) -> None:
-    """Of what is cut at any byte all is told that stands before, arrivals in the same order, and
-    the fault that it ends there; where none is held, a beginning of what is told of the whole."""
+    """Of what is cut at any byte all is reported that stands before, arrivals in the same order,
+    and the fault that it ends there; if none is held, a beginning of what the whole reports."""
     whole = case.told()
     for size in range(4, len(case.data)):
         part = case._replace(data=case.data[:size]).told()

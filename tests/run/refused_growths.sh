@@ -15,9 +15,9 @@
 #
 # Of each RUNNER the tests whose names, with their modules', contain `refused` are run, with one
 # request refused at a time, and with all refused from one on. Such a test makes a call again where
-# it answered want of memory, and asserts what holds then, or asserts an answer that needs none: it
+# it was out of memory, and asserts what holds then, or asserts an answer that needs none: it
 # must pass where one request was refused. Where all later ones are refused too it may fail, but
-# only by want of memory: the failure has to name it.
+# only out of memory: the failure has to name it.
 #
 # The requests are refused by tests/lib/refuse_memory.c, which `cc` compiles. Prints `ok NAME` or
 # `FAILED NAME` for each case (a program's whole row of runs, or one test's), then `N passed, M
@@ -61,7 +61,7 @@ launch() { # HOW N WORD..
     local how=$1 n=$2
     shift 2
     status=0
-    { # the shell tells of a test that is aborted
+    { # the shell reports a test that is aborted
         (
             export "$how=$n" LD_PRELOAD="$work/refuse.so"
             exec "$@"
@@ -150,7 +150,7 @@ refuse_recordings() { # PROGRAM
 }
 
 # What is wrong with the test that `launch` ran; left in `fault`. It must pass where one request was
-# refused. Where all are refused from one on it may fail, by no more than want of memory.
+# refused. Where all are refused from one on it may fail, but only out of memory.
 look_at_test() { # HOW
     fault=
     if [[ $status -eq 0 ]]; then return; fi

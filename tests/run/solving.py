@@ -210,8 +210,8 @@ def check_largest(program: Program) -> None:
 
 
 def check_none(program: Program, tables: dict, line: str) -> None:
-    """No values are enough: the line, which may end in `..`, is told in place of tables, whatever
-    the keys were."""
+    """No values are enough: the line, which may end in `..`, is reported in place of tables,
+    whatever the keys were."""
     for value, raise_only in ((None, False), (1, True), (BEYOND[-1], True)):
         text = with_keys(tables, value)
         must(check_solve(program, text, (), raise_only) is None, "it can be admitted")

@@ -1,4 +1,4 @@
-"""Writes what Wireshark should tell of the AFDX fields of a list's frames, one frame a line.
+"""Writes what Wireshark should report of the AFDX fields of a list's frames, one frame a line.
 
     tests/tools/expected_afdx_fields.py LIST
 

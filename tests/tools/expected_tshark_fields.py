@@ -1,4 +1,4 @@
-"""Writes what tshark should tell of the frames of a sound list, field by field, one frame a line.
+"""Writes what tshark should report of the frames of a sound list, field by field, one frame a line.
 
     tests/tools/expected_tshark_fields.py LIST
 

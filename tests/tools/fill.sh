@@ -29,7 +29,7 @@ CODE
     "$program" check "$work/filled.toml" 2>&1 | tail -n 1 | grep -vx ok
 }
 
-is_filled() { # FILE [OPTION..] : all is well with it, and nothing is told
+is_filled() { # FILE [OPTION..] : all is well with it, and nothing is reported
     is_status 0
     printf 'ok\n' >"$work/wanted"
     same "$work/wanted" "$work/out"

@@ -324,7 +324,7 @@ reading_tests() {
     done
 }
 
-every_tool_test() { # on a configuration in TOML 1.1 behind a byte order mark
+every_tool_test() { # on a configuration in TOML 1.1 after a byte order mark
     local at=$work/every words tables='examples/systems.csv examples/messages.csv' config list
     mkdir -p "$at"
     config=$at/net.toml list=$at/traffic/all-systems.list

@@ -3,7 +3,7 @@
 # shellcheck disable=SC2154  # what it uses is set by tests/run/tools.sh, which sources it
 # shellcheck disable=SC2016  # $ in a script of sed is the last line
 
-# A case of CASES: its name, what sed makes of the tables, and the lines that are told.
+# A case of CASES: its name, what sed makes of the tables, and the lines that are reported.
 fault_cases() { # FOLDER
     local name line systems messages told
     while IFS= read -r name; do

@@ -4,10 +4,10 @@
     tests/tools/random_documents.py COUNT PROGRAM
 
 The configuration that afdx-icd makes with --reserve must be admitted, with that room. After a
-change each number that is another than before, and nothing else, must be told by --since; none may
-be less that the document doesn't ask for. What afdx-traffic writes must be sent without a refusal,
-accepted and delivered. Prints what isn't so, then how many messages were sent; ends with status 1
-if something isn't.
+change each number that is another than before, and nothing else, must be reported by --since; none
+may be less that the document doesn't ask for. What afdx-traffic writes must be sent without a
+refusal, accepted and delivered. Prints what isn't so, then how many messages were sent; ends with
+status 1 if something isn't.
 """
 from __future__ import annotations
 
@@ -153,7 +153,7 @@ def must_have_room(folder: str, name: str, reserve: int) -> None:
 
 
 def must_tell(folder: str, old: str, new: str, said: str) -> None:
-    """What `--since` told is what is another."""
+    """What `--since` reported is what is another."""
     before = {link["vl"]: link for link in tables_of(folder, old)["link"]}
     after = {link["vl"]: link for link in tables_of(folder, new)["link"]}
     told = set()

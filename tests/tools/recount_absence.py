@@ -210,7 +210,7 @@ def compare_sides(run: Run, report: dict, pairs: list[tuple[dict, dict]]) -> Non
             for frame in mine
         )
         if report["silences"]:
-            alone = row["alone"]  # told of the silences instead
+            alone = row["alone"]  # reported of the silences instead
         if (first, alone) != (row["first_number"], row["alone"]):
             print(f"link {row['link']} side {row['side']}: {first}, {alone} alone, and {row}")
 

@@ -10,7 +10,7 @@ unlisted() { # FOLDER NAME.. : what is in it besides these
     find "$1" -mindepth 1 -printf '%P\n' | grep -vxF -f <(printf '%s\n' "${@:2}")
 }
 
-# As on a file system that has no files without a name: Python's start is told of another flag.
+# As on a file system that has no files without a name: Python's start is given another flag.
 unnamed=(env "PYTHONPATH=$work/flags")
 mkdir -p "$work/flags"
 printf 'import os\nos.O_TMPFILE = os.O_DIRECTORY\n' >"$work/flags/sitecustomize.py"

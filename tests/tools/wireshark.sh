@@ -222,14 +222,14 @@ for size, count in ((1518, 1), (1519, 1), (262000, 200)):
 
 # ---- annotated recordings ------------------------------------------------------------------
 
-comments_of() { # RECORDING : each frame's comments, one a line, behind the frame's place
+comments_of() { # RECORDING : each frame's comments, one a line, after the frame's place
     launch env HOME="$work" tshark -r "$1" -T fields -E aggregator=';' -e frame.number \
         -e frame.comment
     awk -F '\t' '{ n = split($2, line, ";"); for (i = 1; i <= n; i++) print $1, line[i] }' \
         "$work/out"
 }
 
-placed_lines() { # the lines of a replay, each behind the place of its frame, without messages
+placed_lines() { # the lines of a replay, each after the place of its frame, without messages
     awk '$1 == "V" { place[$2] = ++count }
         $1 ~ /[VDTL]/ { last = $2 }
         $1 == "X" { last = $4 }
