@@ -18,10 +18,10 @@ import tempfile
 sys.dont_write_bytecode = True
 HERE = os.path.dirname(os.path.abspath(__file__))
 sys.path[:0] = [os.path.join(HERE, "..", "..", "tools"), os.path.join(HERE, "..", "lib")]
-import afdx_interface as interface  # noqa: E402
-from afdx_layout import asked_text  # noqa: E402
-from afdx_sheets import read_sheet  # noqa: E402
-from afdx_tools import Refused  # noqa: E402
+from afdx_tools.faults import Refused  # noqa: E402
+from afdx_tools.icd import document as interface  # noqa: E402
+from afdx_tools.icd.layout import asked_text  # noqa: E402
+from afdx_tools.spreadsheets.sheets import read_sheet  # noqa: E402
 from least import solve_fault  # noqa: E402
 
 COLUMNS = interface.SYSTEMS, interface.MESSAGES
