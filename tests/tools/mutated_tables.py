@@ -50,11 +50,11 @@ def changed(chance: random.Random, text: bytes) -> bytes:
 def fault_of(paths: list[str], is_filled: bool) -> tuple[str, bool]:
     """What is wrong with how the tables are read, or nothing; and whether they have no fault."""
     try:
-        sheets = [
+        systems, messages = (
             read_sheet(path, columns, full if is_filled else ())
             for path, columns, full in zip(paths, COLUMNS, FULL)
-        ]
-        document = interface.document_of(*sheets, 2)
+        )
+        document = interface.document_of(systems, messages, 2)
     except Refused as refused:
         line = str(refused)
         return "" if line.isprintable() else f"a line that can't be printed: {line!r}", False

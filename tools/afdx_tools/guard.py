@@ -1,6 +1,7 @@
 """How a tool ends: its status, one line for a fault, and what a signal does."""
 from __future__ import annotations
 
+import io
 import os
 import signal
 import sys
@@ -35,7 +36,8 @@ def streams() -> bool:
     if sys.stdout is None:
         return False
     for stream in (sys.stdout, sys.stderr):
-        stream.reconfigure(errors="backslashreplace")
+        if isinstance(stream, io.TextIOWrapper):
+            stream.reconfigure(errors="backslashreplace")
     return True
 
 
@@ -120,7 +122,7 @@ def guarded(
             let_go(sys.stdout)
             raise
         except SystemExit as end:  # help was asked for, or a fault was told
-            status = end.code or 0
+            status = end.code if isinstance(end.code, int) else 0
         sys.exit(flush(status))
     except (Exception, KeyboardInterrupt) as error:
         end_of(tool, error, stopped)

@@ -70,12 +70,12 @@ class Partial:
             if stat.S_ISREG(before):
                 os.fchmod(self.file.fileno(), stat.S_IMODE(before))
         if self.name is None:
-            self.link()
+            self.name = self.link()
         self.file.close()
         os.replace(self.name, self.path)
         self.name = None
 
-    def link(self) -> None:
+    def link(self) -> str:
         """Gives an unnamed file a name that no other has."""
         name = f".afdx-{secrets.token_hex(8)}.part"
         folder = os.open(self.folder, os.O_RDONLY | os.O_DIRECTORY | os.O_CLOEXEC)
@@ -84,7 +84,7 @@ class Partial:
             os.link(f"{OWN_FILES}/{number}", name, dst_dir_fd=folder, follow_symlinks=True)
         finally:
             os.close(folder)
-        self.name = os.path.join(self.folder, name)
+        return os.path.join(self.folder, name)
 
     def remove(self) -> None:
         """Removes what has no name of its own; the fault of a last write was told before."""
@@ -143,7 +143,7 @@ def whole(path: str) -> Iterator[BinaryIO]:
 def finished(path: str | None) -> contextlib.AbstractContextManager[BinaryIO]:
     """Where a path's bytes go: a file that is there only when it is whole; what isn't a regular
     file as it stands; standard output for `-` and where no path is given."""
-    if path in (None, "-"):
+    if path is None or path == "-":
         return standard_output()
     if is_written_through(path):
         return open(path, "wb")

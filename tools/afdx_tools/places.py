@@ -52,7 +52,8 @@ class Reader:
 
     def skip(self) -> None:
         """Goes past spaces, line ends and remarks."""
-        self.at = BLANK.match(self.text, self.at).end()
+        blank = BLANK.match(self.text, self.at)
+        self.at = blank.end() if blank else self.at
 
     def takes(self, mark: str) -> bool:
         """Goes past a mark, if it stands there."""

@@ -120,7 +120,7 @@ def records(args: argparse.Namespace, numbers: Sequence[int]) -> Iterator[bytes]
     pages = os.path.abspath(os.path.join(args.out, "pages"))
     afdx = f"AFDX={os.path.abspath(program())}"
     for number in numbers:
-        first, *second = map(os.path.abspath, files_of(args.lists[number - 1]))
+        first, *second = (os.path.abspath(path) for path in files_of(args.lists[number - 1]))
         files = [first, *(second or [config])]
         words = [str(number), *files, config, afdx, tool, pages, *handed_on(args)]
         yield b"".join(os.fsencode(word) + b"\0" for word in words)

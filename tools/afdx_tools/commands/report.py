@@ -13,6 +13,7 @@ criterion isn't met.
 from __future__ import annotations
 
 import argparse
+import importlib
 from typing import NoReturn
 
 from afdx_tools.command_line import Parser, whole
@@ -65,7 +66,7 @@ def run() -> int:
     """Makes the report that the words ask for; the status. Help needs no numpy."""
     args = words().parse_args()
     try:
-        import numpy  # noqa: F401
+        importlib.import_module("numpy")
     except ModuleNotFoundError:
         leave(TOOL, "numpy is missing: apt-get install python3-numpy", 4)
     from afdx_tools.report.reporting import run_report

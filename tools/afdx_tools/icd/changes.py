@@ -2,7 +2,7 @@
 from __future__ import annotations
 
 import functools
-from typing import Callable, Collection, Iterable, Iterator, NamedTuple
+from typing import Callable, Collection, Iterable, Iterator, Mapping, NamedTuple, TypeVar
 
 from afdx_tools.icd.document import Document
 from afdx_tools.icd.layout import names_of, value_text
@@ -17,7 +17,7 @@ AT_PORT = ("bag_ms", "lmax", "jitter_us", "priority")  # by which one holds up o
 AS_ASKED = "the table says so"
 UDP_PORT = "UDP port {udp} of link {link} at {system}"
 
-Rows = dict[object, dict]  # of a table, each by what names it
+Key = TypeVar("Key", int, str)  # what names a row of a table
 
 
 class Change(NamedTuple):
@@ -37,7 +37,9 @@ def numbered(vls: Iterable[int], most: int) -> str:
     return f"{head} {', '.join(numbers[:most])}{others}"
 
 
-def reasons(old: Rows, new: Rows, keys: Iterable[str], where: str) -> Iterator[str]:
+def reasons(
+    old: Mapping[int, dict], new: Mapping[int, dict], keys: Iterable[str], where: str
+) -> Iterator[str]:
     """What is another between two sets of links, as far as these keys say it."""
     if new.keys() - old.keys():
         yield f"new {where}: {numbered(new.keys() - old.keys(), FEW)}"
@@ -50,7 +52,10 @@ def reasons(old: Rows, new: Rows, keys: Iterable[str], where: str) -> Iterator[s
 
 
 def row_lines(
-    old: Rows, new: Rows, keys: Iterable[str], called: Callable[[object], str]
+    old: Mapping[Key, dict],
+    new: Mapping[Key, dict],
+    keys: Iterable[str],
+    called: Callable[[Key], str],
 ) -> list[str]:
     """The rows that are new or gone, and what is another in one that stayed."""
     lines = [f"{called(key)}: new" for key in new if key not in old]
@@ -67,19 +72,19 @@ class Tables:
 
     def __init__(self, tree: dict) -> None:
         self.buffer: int = tree["buffer"]
-        self.systems: Rows = {row["name"]: row for row in tree.get("system", [])}
-        self.links: Rows = {row["vl"]: row for row in tree.get("link", [])}
+        self.systems: dict[str, dict] = {row["name"]: row for row in tree.get("system", [])}
+        self.links: dict[int, dict] = {row["vl"]: row for row in tree.get("link", [])}
         self.ports: list[dict] = tree.get("port", [])
 
-    def sent_by(self, name: str) -> Rows:
+    def sent_by(self, name: str) -> dict[int, dict]:
         """The links that a system sends."""
         return {vl: link for vl, link in self.links.items() if link["from"] == name}
 
-    def sent_to(self, name: str) -> Rows:
+    def sent_to(self, name: str) -> dict[int, dict]:
         """The links that go to a system."""
         return {vl: link for vl, link in self.links.items() if name in link["to"]}
 
-    def ports_of(self, vls: Collection[int]) -> Rows:
+    def ports_of(self, vls: Collection[int]) -> dict[str, dict]:
         """The communication ports of these links, by what they are called."""
         rows = (row for row in self.ports if row["link"] in vls)
         return {UDP_PORT.format(**row): row for row in rows}
@@ -160,6 +165,5 @@ class Comparison:
             lines.append(f"{named}: {change.key} {change.old} to {change.new} ({change.why})")
         lines += self.buffer_lines()
         both = old.links.keys() & new.links.keys()
-        ports = (tables.ports_of(both) for tables in (old, new))
-        lines += row_lines(*ports, ("kind", "depth"), str)
+        lines += row_lines(old.ports_of(both), new.ports_of(both), ("kind", "depth"), str)
         return lines or ["nothing changed"]

@@ -104,7 +104,8 @@ def add_names(document: Document, names: Iterable[str]) -> None:
     the same, the second has a number too: x2, x3 and so on."""
     names = list(names)
     document.names.update((name, name) for name in names if is_lawful(name))
-    taken, others = set(document.names), {}
+    taken = set(document.names)
+    others: dict[str, Iterator[str]] = {}
     for name in names:
         plain = re.sub("[_-]", "", name)
         if name in document.names or not is_lawful(plain):
@@ -323,10 +324,10 @@ def document_of(systems: Sheet, messages: Sheet, profile: int) -> Document:
         refuse_twice(document, systems.rows, column)
     for row in messages.rows:
         message = message_of(document, row)
-        document.messages.setdefault(message.vl, []).append(message)
+        if message.vl is not None:
+            document.messages.setdefault(message.vl, []).append(message)
     for vl, group in document.messages.items():
-        if vl is not None:
-            add_link(document, vl, group)
+        add_link(document, vl, group)
     if len(document.links) > MOST_LINKS:
         document.faults.append(f"{messages.name}: it has more than {MOST_LINKS} links")
     if len(document.ports) > MOST_PORTS:

@@ -26,7 +26,7 @@ class Stream:
     vl: int
     sub: int
     udp: int
-    bytes: int
+    size: int
     period_ns: Fraction
     begin_ns: int
 
@@ -38,9 +38,9 @@ class Stream:
         """What its n-th message says, from 0: the number and the name, or of the number the last
         digits; zero bytes fill it up."""
         digits = f"{number:0{DIGITS}d}"[-DIGITS:]
-        if self.bytes < DIGITS:
-            return digits[-self.bytes :].encode()
-        return f"{digits} {self.name}".encode()[: self.bytes].ljust(self.bytes, b"\0")
+        if self.size < DIGITS:
+            return digits[-self.size :].encode()
+        return f"{digits} {self.name}".encode()[: self.size].ljust(self.size, b"\0")
 
     def lines(self, end_ns: int) -> Iterator[tuple[int, str]]:
         """The times of its messages before that moment, and their lines in a submission list."""
@@ -73,16 +73,18 @@ def streams_of(document: Document, seed: int | None) -> dict[str, list[Stream]]:
             at = messages[MOST_WAITING].row.at("vl")
             raise Refused(f"{at}: no more than {MOST_WAITING} messages can wait for a link")
         for place, message in enumerate(messages):
-            period_ns = message.period_ms * NS_IN_MS
+            period_ms, udp, size = message.period_ms, message.udp, message.bytes
+            assert period_ms is not None and udp is not None and size is not None  # it has no fault
+            period_ns = period_ms * NS_IN_MS
             streams[link["from"]].append(
                 Stream(
                     name=shown(message.row.name)[:LONGEST_NAME],
                     vl=vl,
                     sub=1 + place % link["subs"],
-                    udp=message.udp,
-                    bytes=message.bytes,
+                    udp=udp,
+                    size=size,
                     period_ns=period_ns,
-                    begin_ns=begin_of(seed, vl, message.udp, period_ns),
+                    begin_ns=begin_of(seed, vl, udp, period_ns),
                 )
             )
     return streams

@@ -13,13 +13,13 @@ MOST_JITTER = 500_000  # ns of a sender
 
 def late_messages(
     document: Document, enough_us: Mapping[int, int]
-) -> Iterator[tuple[Message, int]]:
-    """The messages that are asked to be faster than is sure, in the order of the table, with what
-    is enough for their links."""
+) -> Iterator[tuple[int, Message]]:
+    """The messages that are asked to be faster than is sure, each behind its link, in the order of
+    the table."""
     for vl, messages in document.messages.items():
         for message in messages:
             if message.within_us is not None and message.within_us < enough_us.get(vl, 0):
-                yield message, enough_us[vl]
+                yield vl, message
 
 
 def late_lines(
@@ -29,11 +29,11 @@ def late_lines(
     longest, and what is enough at each of them."""
     room = f" with a reserve of {reserve} %" if reserve else ""
     lines = []
-    for message, enough in late_messages(document, enough_us):
-        port, needed_ns = worst[message.vl]
+    for vl, message in late_messages(document, enough_us):
+        port, needed_ns = worst[vl]
         lines.append(
             f"{message.row.at('within_us')}: to {document.system_at(port)} it can take "
-            f"{needed_ns} ns; {enough} is enough{room}"
+            f"{needed_ns} ns; {enough_us[vl]} is enough{room}"
         )
     return lines
 

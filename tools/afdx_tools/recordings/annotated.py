@@ -177,7 +177,7 @@ def frames_of(side: str, recording: Recording) -> Iterator[tuple[int, str, Frame
         yield frame.stamp or 0, side, frame
 
 
-def merged(recordings: dict[str, Recording]) -> Iterator[tuple[int, str, Frame]]:
+def merged(recordings: dict[str, Recording]) -> Iterable[tuple[int, str, Frame]]:
     """The frames of all recordings; of two those that were stamped earlier come first, each
     recording in its own order."""
     return heapq.merge(*starmap(frames_of, recordings.items()), key=itemgetter(0))

@@ -89,7 +89,9 @@ class Recording:
     def __init__(self, path: str) -> None:
         with open(path, "rb") as file:
             size = file.seek(0, 2)
-            self.data = mmap.mmap(file.fileno(), 0, access=mmap.ACCESS_READ) if size else b""
+            self.data: bytes | mmap.mmap = b""
+            if size:
+                self.data = mmap.mmap(file.fileno(), 0, access=mmap.ACCESS_READ)
         self.most_interfaces = 0  # that a section described, of those that were read
 
     def described(self) -> int:
@@ -195,8 +197,8 @@ def interface_of(order: str, body: bytes) -> Interface:
     options = dict(reversed(options_of(order, body, 8)))
     resolution = options.get(RESOLUTION, b"\x06")[0]
     units = 2 ** (resolution - 128) if resolution >= 128 else 10**resolution
-    byte_order = "little" if order == "<" else "big"
-    offset = int.from_bytes(options.get(OFFSET, b"")[:8], byte_order, signed=True)
+    seconds = options.get(OFFSET, b"")[:8]
+    offset = int.from_bytes(seconds, "little" if order == "<" else "big", signed=True)
     name = options.get(NAME, b"").split(b"\0")[0]
     said = options.get(CHECK_SEQUENCE)
     return Interface(link_type, most, name, resolution, units, offset, said[0] if said else None)

@@ -77,30 +77,33 @@ class Claims:
     def agrees(self, tap: Tap, source: bytes) -> bool:
         """A frame of that source can come there: into the switch only from the system at the port,
         out of it only from another one on that side; anything where it doesn't count."""
-        place = self.place_of(source)
+        place, here = self.place_of(source), tap.place
         if tap.direction == NONE:
             return True
         if tap.direction == IN:
-            return place == tap.place
-        return place is not None and place.side == tap.place.side and place != tap.place
+            return place == here
+        return place is not None and here is not None and place.side == here.side and place != here
 
     def are_others(self, tap: Tap, sources: Iterable[bytes]) -> bool:
         """These are systems of the same side that were recorded at their places, too."""
+        side = tap.place.side if tap.place else None
         places = map(self.place_of, sources)
-        return all(place in self.named and place.side == tap.place.side for place in places)
+        return all(place and place in self.named and place.side == side for place in places)
 
     def come_out(self, tap: Tap, sources: Iterable[bytes]) -> bool:
         """These are such systems, and their frames come out of the switch at the tap's place."""
-        ports = {link.port for link in self.links if tap.place.port in link.ports}
+        here = tap.place.port if tap.place else None
+        ports = {link.port for link in self.links if here in link.ports}
         places = map(self.place_of, sources)
-        return self.are_others(tap, sources) and all(place.port in ports for place in places)
+        come = all(place is not None and place.port in ports for place in places)
+        return come and self.are_others(tap, sources)
 
     def is_wrong(self, tap: Tap, sources: Iterable[bytes]) -> bool:
         """The place is wrong, where not one frame agrees with it. It may be right if no system is
         there, or if the one there sends as others do; but not if their frames come out there."""
         if tap.direction == OUT:
             return True
-        if tap.place.port not in self.names:
+        if tap.place is None or tap.place.port not in self.names:
             return False
         return not self.are_others(tap, sources) or self.come_out(tap, sources)
 
@@ -113,8 +116,9 @@ def swapped(recording: Recording) -> str:
             side = SIDES.get(source[-1]) if source.startswith(SENDER) else None
             if side:
                 counts[side] += seen.frames
-    other = {"A": "B", "B": "A"}.get(recording.side or "")
-    if other is None or counts[recording.side] or not counts[other]:
+    side = recording.side or ""
+    other = {"A": "B", "B": "A"}.get(side)
+    if other is None or counts[side] or not counts[other]:
         return ""
     total = sum(interface.frames for interface in recording.interfaces)
     return (
@@ -190,7 +194,7 @@ def are_same(paths: list[str]) -> bool:
 
 def read(paths: list[str], names: list[str], progress: Progress) -> list[Recording]:
     """The recordings; that of A first where there are two."""
-    sides = ["A", "B"] if len(paths) == 2 else [None]
+    sides: list[str | None] = ["A", "B"] if len(paths) == 2 else [None]
     recordings = []
     for path, name, side in zip(paths, map(shown, names), sides):
 

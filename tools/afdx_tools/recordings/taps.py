@@ -184,7 +184,7 @@ def matched(found: Found, taps: list[Tap], recording: Recording) -> dict[int, Ta
         else:
             rows[number] = tap
     for side in "AB":
-        note_absent(found, recording, side, [tap for tap in taps if tap.place], list(rows.values()))
+        note_absent(found, recording, side, taps, list(rows.values()))
     return rows
 
 
@@ -192,7 +192,8 @@ def note_absent(
     found: Found, recording: Recording, side: str, taps: list[Tap], rows: list[Tap]
 ) -> None:
     """Notes the rows of a side whose interfaces the recording doesn't have."""
-    wanted = [tap for tap in taps if tap.place.side == side and tap.is_at(recording.side)]
+    there = [tap for tap in taps if tap.place and tap.place.side == side]
+    wanted = [tap for tap in there if tap.is_at(recording.side)]
     absent = [tap for tap in wanted if tap not in rows]
     if wanted and absent == wanted and recording.side is None:
         found.remarks.append(f"{recording.name}: no interface of side {side} is in it")

@@ -229,5 +229,5 @@ def clock_of(offsets: list[Offset]) -> list[Offset]:
 
 def is_alike(amounts: list[int]) -> bool:
     """Are all of these so great, and no further apart than a quarter of the least?"""
-    least = min(map(abs, amounts), default=0)
+    least = min((abs(amount) for amount in amounts), default=0)
     return least >= LEAST_OFFSET and max(amounts) - min(amounts) <= least // 4

@@ -41,7 +41,7 @@ class Block:
         self.text = text
         self.bytes = np.frombuffer(text + BEHIND, np.uint8)
         self.ends = np.flatnonzero(self.bytes == LINE_FEED)
-        self.starts = np.concatenate(([0], self.ends[:-1] + 1))
+        self.starts = np.concatenate((np.zeros(1, np.int64), self.ends[:-1] + 1))
         self.heads = self.bytes[self.starts]
 
     def at(self, places: np.ndarray) -> np.ndarray:
@@ -53,7 +53,7 @@ class Block:
         """The numbers whose digits begin there, and where each ends."""
         values = np.zeros(len(begin), np.int64)
         places = begin.copy()
-        left = None  # all of them
+        left: np.ndarray | None = None  # all of them
         while len(values):
             digits = self.at(places if left is None else places[left]) - np.uint8(48)
             more = digits < 10

@@ -7,7 +7,7 @@ from typing import IO, Callable
 import numpy as np
 
 from afdx_tools.lists import MOST_LINES
-from afdx_tools.replay.lines import LINE_FEED, RETURN, SPACE, Block, blocks_of
+from afdx_tools.replay.lines import LINE_FEED, RETURN, SPACE, Block, Readable, blocks_of
 
 NO_LINK = -1  # stands for frames that name no link of the configuration
 NO_NUMBER = -1  # stands for frames too short for a sequence number
@@ -41,7 +41,10 @@ class Listing:
         digest = hashlib.sha256()  # of a list; recordings are files of their own
         parts: list[dict[str, np.ndarray]] = [columns_of_none()]
         lines = 0
-        for text in blocks_of(file if is_recorded else Hashed(file, digest.update)):
+        source: Readable = file
+        if not is_recorded:
+            source = Hashed(file, digest.update)
+        for text in blocks_of(source):
             taken = text if is_recorded else first_lines(text, most - lines)
             if taken:
                 part = columns_of(Block(taken))

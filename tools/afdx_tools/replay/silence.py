@@ -85,8 +85,9 @@ class Silences:
         usual = min((gap for gap in map(usual_gap, times) if gap), default=0)
         least = LEAST * max(heard.bag, usual)
         is_dead = heard.level == NETWORK and not len(times[side]) and len(times[1 - side])
+        none = np.zeros(1, np.int64)
         edges = np.concatenate(([self.begin], times[side], [self.end]))
-        lines = np.concatenate(([0], heard.lines[side], [0]))
+        lines = np.concatenate((none, heard.lines[side], none))
         for at in np.flatnonzero(np.diff(edges) > (-1 if is_dead else least)):
             begin, end = int(edges[at]), int(edges[at + 1])
             first = np.searchsorted(times[1 - side], begin, "left")

@@ -42,7 +42,7 @@ COMPARED = {
     "ports": ("left", "backlog", "bound"),
     "early_ns": ("greatest",),
 }
-RARE = {"early_ns": []}  # what a report hasn't where no frame was over-rate
+RARE: Row = {"early_ns": []}  # what a report hasn't where no frame was over-rate
 LONGEST_TITLE = 300  # characters
 MOST = 2**63  # no number of a report is greater
 FRAME = ("link", "side", "number", "time_ns", "port", "what")

@@ -279,7 +279,8 @@ def loads(found: Row, rows: Sequence[Row]) -> str:
         parts.append(text(left - 12, base + 4, f"port {port}, {system}", "", "end"))
         for side, height in (("A", 17), ("B", -17)):
             row = of_row.get((port, side))
-            series = next((p["loads"] for p in ports if (p["port"], p["side"]) == (port, side)), [])
+            loads = (p["loads"] for p in ports if (p["port"], p["side"]) == (port, side))
+            series: list[float] = next(loads, [])
             if row is None:
                 continue
             told = f"side {side}: {percent(row['load'])}, at most {percent(row['peak_load'])}"

@@ -100,9 +100,10 @@ def troubles_of(pair: Sequence[Row]) -> tuple[bool, int]:
     return any(row["silent_ns"] for row in pair), busy + sum(len(row["wrong_port"]) for row in pair)
 
 
-def runs(cells: Sequence[bool]) -> list[tuple[int, int]]:
+def runs(cells: np.ndarray) -> list[tuple[int, int]]:
     """The runs of true cells, each by its first one and the one behind its last."""
-    edges = np.flatnonzero(np.diff(np.concatenate(([False], cells, [False])).astype(np.int8)))
+    none = np.zeros(1, np.int8)
+    edges = np.flatnonzero(np.diff(np.concatenate((none, cells, none))))
     return [(int(begin), int(end)) for begin, end in zip(edges[::2], edges[1::2])]
 
 
@@ -124,7 +125,7 @@ class Axis:
         share = (time - self.start) / (self.end - self.start)
         return LEFT + (WIDTH - LEFT - RIGHT) * min(max(share, 0.0), 1.0)
 
-    def cells(self, wanted: Sequence[bool]) -> list[tuple[float, float]]:
+    def cells(self, wanted: np.ndarray) -> list[tuple[float, float]]:
         """The places of these steps."""
         return [
             (self.at(self.start + begin * self.width), self.at(self.start + end * self.width))

@@ -5,6 +5,8 @@ import argparse
 from html import escape
 from typing import Sequence
 
+import numpy as np
+
 from afdx_tools.replay.counting import Counting
 from afdx_tools.report import figures, tracks
 from afdx_tools.report.compare import words_of
@@ -70,7 +72,7 @@ def track_sections(counting: Counting, args: argparse.Namespace) -> str:
     """The time lines of the links."""
     wrong = tracks.troubled(counting)
     first = tracks.chosen(counting, wrong)
-    parts = []
+    parts: list[str] = []
     for vl in dict.fromkeys(args.link or ([] if first is None else [first])):
         part = track_section(counting, vl, wrong, args.begin)
         on_paper = len(parts) < TRACKS_ON_PAPER
@@ -78,11 +80,13 @@ def track_sections(counting: Counting, args: argparse.Namespace) -> str:
     return "".join(parts)
 
 
-def track_section(counting: Counting, vl: int, wrong, begin: int) -> str:
+def track_section(counting: Counting, vl: int, wrong: np.ndarray, begin: int) -> str:
     """The time line of a link."""
     name, head = f"line-{vl}", f"Time line of link {vl}"
     link = counting.config.links.get(vl)
-    lines = tracks.shown_lines(counting, vl, wrong, begin) if link else []
+    lines = np.zeros(0, np.int64)
+    if link is not None:
+        lines = tracks.shown_lines(counting, vl, wrong, begin)
     if link is None or not len(lines):
         return section(name, head, "It has no frames there.", "")
     ports = {port: counting.by_port[port].name for port in link.ports}

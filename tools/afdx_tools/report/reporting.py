@@ -91,7 +91,7 @@ def report_of(
     progress.tell("counting")
     counting = Counting(tables, listed.listing, events)
     where = Where(source, counting)
-    report = {
+    report: Row = {
         "run": header(args, source, counting, where, called, cover),
         "cover": cover.content if cover else None,
         "admission": checked.answer,

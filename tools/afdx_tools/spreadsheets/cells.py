@@ -54,12 +54,18 @@ class Cells:
     def one_of(self, column: str, words: Sequence[str]) -> str | None:
         """One of some words, in small or large letters."""
         text = self.row.cells[column].lower()
-        return text if text in words else self.refuse_other(column, words)
+        if text in words:
+            return text
+        self.refuse_other(column, words)
+        return None
 
     def member(self, column: str, numbers: Sequence[int]) -> int | None:
         """One of some numbers."""
         number = self.amount(column)
-        return int(number) if number in numbers else self.refuse_other(column, numbers)
+        if number is not None and number in numbers:
+            return int(number)
+        self.refuse_other(column, numbers)
+        return None
 
     def refuse_other(self, column: str, allowed: Sequence[object]) -> None:
         """Notes that a cell is none of what it may be."""
