@@ -22,7 +22,7 @@ from measure import PROGRAM, instructions, timed  # noqa: E402
 
 SYSTEMS = 24
 SIZES = (400, 4096)
-CHECKS = ([], ["--all"], ["--margins"], ["--all", "--margins"])
+CHECKS: tuple[list[str], ...] = ([], ["--all"], ["--margins"], ["--all", "--margins"])
 RUNS = (*(["check", *options] for options in CHECKS), ["solve"])
 
 

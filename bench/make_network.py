@@ -67,7 +67,8 @@ def links_of(kind, count):
     links = []
     for vl in range(count):
         lmax = longest(chance)
-        sender = min(loads, key=loads.get)  # all senders have about the same jitter
+        # all senders have about the same jitter
+        sender = min(loads, key=lambda place: loads[place])
         loads[sender] += lmax + 20
         if is_overload:
             links.append(Link(vl, sender, [SYSTEMS], 4, lmax))
@@ -138,7 +139,7 @@ def sent(links):
     chance = random.Random(len(links))
     queue = [(chance.randrange(link.bag_ms * MS), at) for at, link in enumerate(links)]
     heapq.heapify(queue)
-    copies = []  # of side B, waiting for their time
+    copies: list[tuple] = []  # of side B, waiting for their time
     while True:
         time, at = queue[0]
         link = links[at]

@@ -62,7 +62,7 @@ OF_64, OF_1518 = POLICE[1][0], POLICE[3][0]
 HELD = ["--fcs=no", "--reorder=10000"]
 NO_FCS = ["--fcs=no"]
 # a name, the form, the length of the frames, options, and the row of the list that says the same
-RECORDED = [
+RECORDED: list[tuple[str, str, int, list[str], str]] = [
     ("police, a recording, 64 random bytes a frame", "pcap", 64, [], OF_64),
     ("the same with --fcs no, 64 bytes", "pcap", 64, NO_FCS, OF_64),
     ("the same as pcapng, 64 bytes", "pcapng", 64, NO_FCS, OF_64),
@@ -151,7 +151,7 @@ class Bench:
 
     def by_turns(self, *programs):
         """The runs of each of these words on a list, by turns."""
-        runs = [[] for _ in programs]
+        runs: list[list] = [[] for _ in programs]
         with open(os.devnull, "w", encoding="ascii") as nothing:
             for _ in range(self.times):
                 for own, words in zip(runs, programs):
@@ -189,7 +189,10 @@ class Bench:
         """The row of `police`, and where there is a baseline its row too."""
         length = options.get("length", 64)
         count = min(lines, MOST_BYTES // (2 * length + 20))
-        make = lambda path, count: write_list(path, count, **options)
+
+        def make(path, count):
+            write_list(path, count, **options)
+
         make(self.path("long.list"), count)
         rule = ["1", str(max(length, 64)), "500"]
         programs = [(name, [self.program, "police", *rule])]
@@ -201,7 +204,10 @@ class Bench:
     def recording(self, name, form, length, options, lines):
         """The row of `police` on a recording."""
         count = min(lines, MOST_BYTES // (length + 16))
-        make = lambda path, count: write_recording(path, count, length, form=form)
+
+        def make(path, count):
+            write_recording(path, count, length, form=form)
+
         make(self.path("long.list"), count)
         words = [self.program, "police", *options, "1", str(length), "500"]
         first = FEW if options is HELD else 0  # so many are held, and more
@@ -209,11 +215,11 @@ class Bench:
 
     def compare(self, both):
         """Both programs must print the same of the long list."""
-        copies = [self.path("ours"), self.path("theirs")]
-        for words, copy in zip(both, copies):
+        ours, theirs = self.path("ours"), self.path("theirs")
+        for words, copy in zip(both, (ours, theirs)):
             with open(copy, "w", encoding="ascii") as out:
                 subprocess.run([*words, self.path("long.list")], stdout=out, check=True)
-        if not filecmp.cmp(*copies, shallow=False):
+        if not filecmp.cmp(ours, theirs, shallow=False):
             sys.exit("the two programs print different verdicts")
 
     def network(self, kind, is_admitted, lines, links=None):
@@ -226,13 +232,19 @@ class Bench:
 
     def replay(self, name, kind, is_admitted, lines):
         words = self.network(kind, is_admitted, lines)
-        make = lambda path, count: write_network(kind, self.path("few.toml"), path, count)
+
+        def make(path, count):
+            write_network(kind, self.path("few.toml"), path, count)
+
         return self.rows([(name, words)], lines, make)[0]
 
     def send(self, lines):
         config = self.path("send.toml")
         write_messages(config, self.path("long.list"), lines)
-        make = lambda path, count: write_messages(self.path("few.toml"), path, count)
+
+        def make(path, count):
+            write_messages(self.path("few.toml"), path, count)
+
         return self.rows([(SEND, [self.program, "send", config, "s1"])], lines, make)[0]
 
     def scaling(self, kind, lines, links):

@@ -1,5 +1,7 @@
 # Completes the words of `afdx` and of its tools in bash. `bin/install` puts it where bash looks for
 # it; elsewhere:  source tools/afdx.bash
+# shellcheck shell=bash
+# shellcheck disable=SC2026  # a pattern is a command in quotes, and a number
 
 _afdx_files() { # EXTENSION.. : folders, and files with one of these extensions; else any
     local cur=${COMP_WORDS[COMP_CWORD]} end

@@ -11,7 +11,7 @@ import zlib
 sys.path.insert(0, os.path.join(os.path.dirname(os.path.abspath(__file__)), "..", "lib"))
 
 import closed_lists as lists  # noqa: E402
-from program import must  # noqa: E402
+from program import matched, must  # noqa: E402
 
 PARTS = ("system", "link", "port")
 CONFIG_FAULT = re.compile(
@@ -126,8 +126,7 @@ def check_check(tables, status, out, err):
     )
     ports = []
     for line in lines[:-1]:
-        match = BOUND.fullmatch(line)
-        must(match, f"check wrote the line {line!r}")
+        match = matched(BOUND, line, f"check wrote the line {line!r}")
         ports.append(int(match[1]))
     must(ports == sorted(set(ports)), "the ports of check are not ascending")
     if tables is not None:
@@ -167,7 +166,7 @@ class Events:
         self.place = (0, 0, "A", 0)
         self.left = {}  # by side, port and link the line that had its turn last
         self.free = {}  # by side and port the end of the last slot
-        self.before = None  # the words of the line before
+        self.before: list[str] | None = None  # the words of the line before
         self.systems = {} if tables is None else {row["port"]: row for row in tables["system"]}
         self.links = {} if tables is None else {row["vl"]: row for row in tables["link"]}
 
@@ -215,10 +214,13 @@ class Events:
 
     def loss(self, words):
         n, side, port = int(words[1]), words[2], int(words[3])
-        behind = self.before is not None and self.before[0] in "VL" and self.before[1] == words[1]
+        before = self.before
         must(
-            behind and (self.before[0] == "V" or int(self.before[3]) < port),
-            f"{words} stands after {self.before}",
+            before is not None
+            and before[0] in "VL"
+            and before[1] == words[1]
+            and (before[0] == "V" or int(before[3]) < port),
+            f"{words} stands after {before}",
         )
         self.once(n, side, port, words)
 
@@ -254,6 +256,7 @@ class Events:
         self.free[side, port] = time
 
     def received(self, words):
+        assert self.before is not None  # a D line, as `take` has looked
         _, n, time, _, port = self.before
         must(words[1] == time, f"{words} has another time than {self.before}")
         name = self.systems[int(port)]["name"] if self.systems else words[2]

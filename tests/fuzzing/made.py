@@ -1,12 +1,7 @@
 """What tests/run/fuzz.py tries: configurations and lists, made at random and changed at random."""
 import os
 import sys
-
-try:
-    import tomllib
-except ImportError:
-    # before Python 3.11 the examples are only changed, and nothing is known of them
-    tomllib = None
+import tomllib
 
 TOP = os.path.dirname(os.path.dirname(os.path.dirname(os.path.abspath(__file__))))
 EXAMPLES = os.path.join(TOP, "examples")
@@ -29,9 +24,7 @@ def read(name):
 
 
 def parsed(text):
-    """The tables that a text spells, as dicts; None where it isn't TOML or can't be read here."""
-    if tomllib is None:
-        return None
+    """The tables that a text spells, as dicts; None where it isn't TOML."""
     try:
         tables = tomllib.loads(text.decode("utf-8"))
     except (ValueError, RecursionError):
@@ -162,7 +155,8 @@ def random_frame(random, tables, link, number, side):
 def random_list(random, tables):
     """A list of frames for the tables: bursts and pauses, copies on side B, and some that are
     wrong."""
-    lines, time, numbers = [], random.choice([0, 0, 5, 10**15 - 10**8]), {}
+    lines, time = [], random.choice([0, 0, 5, 10**15 - 10**8])
+    numbers: dict = {}
     links = tables["link"]
     for _ in range(random.choice([1, 3, 10, 40])):
         time += random.choice([0, 0, 0, 1, 719, 720, 6720, 6719, 100000, 500000, 1000000, 16000000])

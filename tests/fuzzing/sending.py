@@ -2,7 +2,7 @@
 import re
 import zlib
 
-from checks import BYTE_NS, NUMBER, PORT, faulty_line, lines_in, must, raw_lines, said
+from checks import BYTE_NS, NUMBER, PORT, faulty_line, lines_in, matched, must, raw_lines, said
 
 EMISSION = re.compile(rf"R ({NUMBER}) ([AB]) ({PORT}) ((?:[0-9a-f][0-9a-f])+)")
 REFUSAL = re.compile(rf"# ({NUMBER}) S[1-5]")
@@ -12,8 +12,8 @@ class Sent:
     """A frame that `send` wrote, with its copy."""
 
     def __init__(self, first, second):
-        one, two = EMISSION.fullmatch(first), EMISSION.fullmatch(second)
-        must(one and two, f"send wrote the lines {first!r} and {second!r}")
+        fault = f"send wrote the lines {first!r} and {second!r}"
+        one, two = (matched(EMISSION, line, fault) for line in (first, second))
         same = one[1] == two[1] and one[2] == "A" and two[2] == "B" and one[3] == two[3]
         must(same, f"{first!r} and {second!r} are not a frame and its copy")
         self.time, self.port, self.bytes = int(one[1]), int(one[3]), bytes.fromhex(one[4])
@@ -68,7 +68,7 @@ def check_send(tables, name, text, status, out, err):
             sorted(given.values()) == sorted(frame.message for frame in sent),
             "other messages are sent than were taken",
         )
-    taken = {}
+    taken: dict[int, list[int]] = {}
     for n in sorted(given):
         taken.setdefault(given[n][0], []).append(times[n])
     check_sent(tables, name, sent, taken)
@@ -83,7 +83,9 @@ def check_sent(tables, name, sent, taken):
     """
     system = next(row for row in tables["system"] if row["name"] == name)
     links = {row["vl"]: row for row in tables["link"] if row["from"] == name}
-    numbers, free, counts = {}, 0, {}
+    numbers: dict[int, int] = {}
+    counts: dict[int, int] = {}
+    free = 0
     for frame in sent:
         is_own = frame.vl in links and frame.port == system["port"]
         must(is_own, f"link {frame.vl} is not of {name}")
@@ -119,7 +121,7 @@ def check_delivered(tables, sent, out):
         "a frame that was sent is dropped or lost",
     )
     must(not re.search("^X .* sequence$", out, re.MULTILINE), "a number that was sent is dropped")
-    read = {}
+    read: dict = {}
     for line in lines_in(out):
         words = line.split(" ")
         if words[0] == "M":

@@ -3,6 +3,7 @@
 
 passed=0
 failed=0
+skipped=0
 
 # A case, its fault if it has one, and what is reported of it where it passes.
 tell() { # NAME FAULT [NOTE]
@@ -15,3 +16,11 @@ tell() { # NAME FAULT [NOTE]
         echo "    ${2//$'\n'/$'\n'    }"
     fi
 }
+
+# A case that can't be tried here, and why.
+skip() { # NAME WHY
+    skipped=$((skipped + 1))
+    echo "skipped $1: $2"
+}
+
+has() { command -v "$1" >/dev/null; } # COMMAND

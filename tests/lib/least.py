@@ -203,7 +203,7 @@ def with_latencies(tables: dict, choice: Choice) -> dict:
         for link, bound in margins(output):
             most = enough[link["vl"]]
             us = None if bound is None else quotient_up(bound, 1000)
-            enough[link["vl"]] = None if None in (us, most) else max(us, most)
+            enough[link["vl"]] = None if us is None or most is None else max(us, most)
     links = []
     for link in tables["link"]:
         latency = choice.written(link, "link", "latency_us", enough[link["vl"]])
@@ -287,7 +287,8 @@ def solve_answer(text: bytes, keep: Collection[str] = (), raise_only: bool = Fal
     fault = solve_fault(text, keep)
     if fault:
         return Told(1, None, "", [fault])
-    tables = {"system": [], "link": [], "port": []} | tomllib.loads(text.decode("utf-8"))
+    tables: dict = {"system": [], "link": [], "port": []}
+    tables |= tomllib.loads(text.decode("utf-8"))
     found = solved(tables, keep, raise_only)
     if found.fault:
         return Told(1, None, found.fault, [])

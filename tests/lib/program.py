@@ -2,6 +2,7 @@
 from __future__ import annotations
 
 import os
+import re
 import select
 import subprocess
 import sys
@@ -27,10 +28,18 @@ class Wrong(Exception):
     """What is not as wanted."""
 
 
-def must(holds: bool, text: str) -> None:
+def must(holds: object, text: str) -> None:
     """Raises the text where something doesn't hold."""
     if not holds:
         raise Wrong(text or "not as wanted")
+
+
+def matched(pattern: re.Pattern[str], line: str, text: str) -> re.Match[str]:
+    """A line as its pattern reads it; raises the text where it is another."""
+    found = pattern.fullmatch(line)
+    if found is None:
+        raise Wrong(text)
+    return found
 
 
 class Program:
@@ -118,7 +127,7 @@ class Cases:
         self.passed = self.failed = self.skipped = 0
         self.telling = threading.Lock()
 
-    def try_case(self, name: str, case: Callable[..., None], *given: object) -> None:
+    def try_case(self, name: str, case: Callable[..., object], *given: object) -> None:
         """One case: it passes where it raises nothing."""
         began = time.monotonic()
         try:

@@ -2,7 +2,9 @@
 (draft-ietf-opsawg-pcapng) as docs/RECORDINGS.md takes them. No package reads the bytes."""
 from __future__ import annotations
 
-from typing import Iterator, NamedTuple
+from typing import Iterator, Literal, NamedTuple
+
+Order = Literal["little", "big"]  # of bytes
 
 MOST_CAPTURED = 262_144  # bytes of a frame
 LONGEST = 16_777_216  # bytes of a block that is looked into
@@ -10,7 +12,7 @@ MOST_INTERFACES = 4_096  # of a section
 LATEST = 2**63 - 1  # ns since 1970
 
 # of each magic number of pcap: the order of bytes, and the ns of a stamp's fraction
-PCAPS = {
+PCAPS: dict[str, tuple[Order, int]] = {
     "d4c3b2a1": ("little", 1000),
     "a1b2c3d4": ("big", 1000),
     "4d3cb2a1": ("little", 1),
@@ -22,7 +24,7 @@ PACKED = tuple(bytes.fromhex(each) for each in MAGICS)
 SECTION, INTERFACE, OLD_PACKET, SIMPLE_PACKET, STATISTICS, PACKET = 0x0A0D0D0A, 1, 2, 3, 5, 6
 NO_FRAMES = (0x0BAD, 0x4000_0BAD, 9)  # custom blocks and journals: numbered, but no frames
 LEAST = {SECTION: 28, INTERFACE: 20, OLD_PACKET: 32, SIMPLE_PACKET: 16, STATISTICS: 24, PACKET: 32}
-ORDERS = {"4d3c2b1a": "little", "1a2b3c4d": "big"}
+ORDERS: dict[str, Order] = {"4d3c2b1a": "little", "1a2b3c4d": "big"}
 
 # the options that count, and the bytes of their values
 RESOLUTION, CHECK_SEQUENCE, OFFSET = 9, 13, 14
@@ -77,7 +79,7 @@ def must(holds: bool, fault: str = "Damaged") -> None:
         raise Broken(fault)
 
 
-def pcap(data: bytes, order: str, unit: int) -> Iterator[Frame]:
+def pcap(data: bytes, order: Order, unit: int) -> Iterator[Frame]:
     """The frames of a pcap."""
 
     def number(at: int, size: int = 4) -> int:
@@ -100,9 +102,10 @@ def pcap(data: bytes, order: str, unit: int) -> Iterator[Frame]:
         at += captured
 
 
-def blocks(data: bytes) -> Iterator[tuple[int, str, bytes]]:
+def blocks(data: bytes) -> Iterator[tuple[int, Order, bytes]]:
     """The type, the order of bytes and the body of each block."""
-    at, order = 0, "little"
+    at = 0
+    order: Order = "little"
     while at < len(data):
         must(len(data) - at >= 12, "Ended")
         if data[at : at + 4] == SECTION.to_bytes(4, "big"):
@@ -122,7 +125,7 @@ def blocks(data: bytes) -> Iterator[tuple[int, str, bytes]]:
 class Section:
     """A section of a pcapng: its order of bytes and its interfaces."""
 
-    def __init__(self, order: str, body: bytes) -> None:
+    def __init__(self, order: Order, body: bytes) -> None:
         self.order, self.interfaces = order, list[Interface]()
         version = self.number(body, 4, 2), self.number(body, 6, 2)
         must(version in ((1, 0), (1, 2)), "BadVersion")

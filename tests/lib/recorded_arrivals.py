@@ -137,12 +137,14 @@ def is_cut(options: Options, frame: Frame) -> bool:
 
 def is_closed(options: Options, frame: Frame) -> bool | None:
     """It ends with its check sequence; None where that isn't said."""
-    said = {4: True, 0: False}.get(frame.check_sequence)
+    ends: dict[int | None, bool] = {4: True, 0: False}
+    said = ends.get(frame.check_sequence)
     return said if options.fcs is None else options.fcs
 
 
 def moment_of(options: Options, systems: Systems, frame: Frame, place: Place) -> int:
     """When the last bit of a frame came, which has a stamp and a port."""
+    assert frame.stamp is not None and place.port is not None
     rate = systems.rates.get(place.port)
     if options.stamps != "start" or rate is None:
         return frame.stamp
@@ -166,6 +168,7 @@ def outcomes(
     the others are faults. The moments are those of all arrivals before it, ascending."""
     if frame is None or place is None:
         yield "no-frame"
+        return
     if options.places.get(frame.interface) == "-":
         yield "left-out"
     if frame.link_type != 1:
@@ -213,6 +216,7 @@ def standing_in(
         elif outcome:
             return Standing(arrivals, skipped, f"{outcome} {number}", said.lost, unused)
         else:
+            assert frame is not None and place is not None
             moment = moment_of(options, systems, frame, place)
             insort(moments, moment)
             arrivals.append(Arrival(moment, number, frame, place))

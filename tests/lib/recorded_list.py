@@ -103,8 +103,8 @@ class Run:
         of their next ones, of equal moments the first recording's."""
         heads = [self.seek(source) for source in sources]
         while any(heads):
-            _, first = min((head.moment, place) for place, head in enumerate(heads) if head)
-            self.take(sources[first], heads[first])
+            _, first, head = min((head.moment, at, head) for at, head in enumerate(heads) if head)
+            self.take(sources[first], head)
             heads[first] = self.seek(sources[first])
 
     def told(self, sources: list[Source]) -> Told:

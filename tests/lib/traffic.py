@@ -33,7 +33,8 @@ def random_messages(tables: dict, name: str, count: int, chance: random.Random) 
 def merged(lists: list[bytes]) -> bytes:
     """One list of the lines of all, by time."""
     lines = [line for text in lists for line in text.splitlines(keepends=True)]
-    return b"".join(sorted(lines, key=lambda line: int(line.split(b" ")[1])))
+    lines.sort(key=lambda line: int(line.split(b" ")[1]))
+    return b"".join(lines)
 
 
 def strangers(tables: dict, end: int, count: int, chance: random.Random) -> bytes:

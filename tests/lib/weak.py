@@ -100,7 +100,7 @@ def whole_runs(weak: Weak) -> dict[int, list[int]]:
     how many it may give."""
     given: dict[int, list[int]] = {}
     for most in (1, FEW):
-        for options in ([], ["--line-buffered"]):
+        for options in ((), ("--line-buffered",)):
             found, calls = weak.run(most, *options)
             weak.ends(found, (weak.whole.status, weak.whole.err), weak.whole.out)
             must(all(call.answer > 0 for call in of_kind(calls, "w")), "a write of nothing")

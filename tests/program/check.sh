@@ -1,4 +1,6 @@
 # Cases of `check`; tests/run/program.sh reads this file.
+# shellcheck shell=bash
+# shellcheck disable=SC2154  # what it uses is set by tests/run/program.sh, which sources it
 
 check_with() { # NAME STATUS OUT ERR SED_SCRIPT : `check` on base.toml as the script changes it
     sed -E "$5" examples/base.toml >"$work/changed.toml"

@@ -45,7 +45,7 @@ def writes_of(program: str, words: list[str], given: bytes) -> list[bytes]:
             [program, *words],
             stdin=subprocess.PIPE,
             stdout=subprocess.DEVNULL,
-            stderr=theirs,
+            stderr=theirs.fileno(),
             cwd=TOP,
         )
         theirs.close()

@@ -1,4 +1,7 @@
 # Cases of `explain` and of the option --explain; tests/run/program.sh reads this file.
+# shellcheck shell=bash
+# shellcheck disable=SC2154  # what it uses is set by tests/run/program.sh, which sources it
+# shellcheck disable=SC2034  # what it sets is used there
 
 # The fault's one line comes first and as ever, then text that has these words.
 explained_case() { # NAME STATUS OUT FAULT WORDS WORD..

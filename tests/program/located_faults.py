@@ -80,8 +80,9 @@ class Layout:
         if isinstance(value, list):
             inner = ", ".join(self.value(one) for one in value)
             return self.chance.choice([f"[{inner}]", f"[ # ]{self.feed}{inner} ]"])
-        is_text = isinstance(value, str) and not isinstance(value, Toml)
-        return self.quoted(value) if is_text else str(value)
+        if isinstance(value, str) and not isinstance(value, Toml):
+            return self.quoted(value)
+        return str(value)
 
     def pair(self, value: object, *place: object) -> None:
         """A key of a table, with dots if it isn't known, and its value."""
@@ -97,7 +98,7 @@ class Layout:
     def below(self, *place: object) -> None:
         """The key that isn't known, as a table below a head."""
         names = [str(name) for name in place if isinstance(name, str) and name != "top"]
-        head = self.head(*names, *self.chance.choice([[], ["x", "y"]]))
+        head = self.head(*names, *self.chance.choice([(), ("x", "y")]))
         self.put(self.chance.choice([f"[{head}]", f" [ {head} ]", f"[[{head}]]"]), *place)
         self.end_line()
         self.put(f"vl = 7{self.feed}buffer = []")

@@ -1,4 +1,7 @@
 # Cases of `police`; tests/run/program.sh reads this file.
+# shellcheck shell=bash
+# shellcheck disable=SC2154  # what it uses is set by tests/run/program.sh, which sources it
+# shellcheck disable=SC2034  # what it sets is used there
 
 # ---- police: the examples ------------------------------------------------------------------
 

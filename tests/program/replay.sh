@@ -3,6 +3,9 @@
 # Lists and outputs are written with ` / ` between lines. In a list H1 is the frame of link 1 with
 # the message `hello`, H2 that of link 2 with `world`, both with number 0; H1(05) is H1 with number
 # 5.
+# shellcheck shell=bash
+# shellcheck disable=SC2154  # what it uses is set by tests/run/program.sh, which sources it
+# shellcheck disable=SC2034  # what it sets is used there
 
 head2=030000000002020000000220080045000021000000000111cce90a000201e0e00002
 head2+=07d007d0000d0000776f726c64000000000000000000000000
@@ -86,6 +89,7 @@ if command -v python3 >/dev/null; then
     )"
 fi
 tell 'the lines that NETWORK.md explains' "$(
+    # shellcheck disable=SC2016  # the page's marks of code
     quoted=$(grep -oE '`[VLDTMX] [0-9][^`]*`' docs/NETWORK.md | tr -d '`')
     if [[ $(wc -l <<<"$quoted") -lt 40 ]]; then echo 'there are too few of them'; fi
     while read -r line; do

@@ -1,6 +1,8 @@
 # Cases of `send`; tests/run/program.sh reads this file.
 #
 # Lists and outputs are written with ` / ` between lines, as for `replay`.
+# shellcheck shell=bash
+# shellcheck disable=SC2154  # what it uses is set by tests/run/program.sh, which sources it
 
 # From s1 of the tables; OUT has only the sequence byte and the payload of each frame.
 sends() { # NAME LIST OUT

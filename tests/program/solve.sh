@@ -1,4 +1,7 @@
 # Cases of `solve`; tests/run/program.sh reads this file.
+# shellcheck shell=bash
+# shellcheck disable=SC2154  # what it uses is set by tests/run/program.sh, which sources it
+# shellcheck disable=SC2034  # what it sets is used there
 
 # `solve` of base.toml as the script changes it, with the options OPTIONS. What is written says
 # WANTED of the four keys, in their order: buffer, then jitter, latency and skew of both links.

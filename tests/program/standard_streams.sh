@@ -1,13 +1,17 @@
 # Cases of the standard streams, of many runs or closed; tests/run/program.sh reads this file.
 # shellcheck shell=bash
+# shellcheck disable=SC2154  # what it uses is set by tests/run/program.sh, which sources it
+# shellcheck disable=SC2034  # what it sets is used there
 
 printf 'x\n' >"$work/wrong.list"
 sed '0,/^bag_ms = 1$/s//bag_ms = 3/' examples/base.toml >"$work/wrong.toml"
 
 three_faults() { # FILE : runs with a fault, whose lines are appended to it
-    "$program" police 1 64 500 "$work/wrong.list" 2>>"$1"
-    "$program" check "$work/wrong.toml" 2>>"$1"
-    "$program" replay examples/refused.toml "$work/wrong.list" 2>>"$1"
+    {
+        "$program" police 1 64 500 "$work/wrong.list"
+        "$program" check "$work/wrong.toml"
+        "$program" replay examples/refused.toml "$work/wrong.list"
+    } 2>>"$1"
 }
 
 tell 'fault lines of many runs in one file are whole' "$(

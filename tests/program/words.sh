@@ -1,4 +1,7 @@
 # Cases of words, help and the version; tests/run/program.sh reads this file.
+# shellcheck shell=bash
+# shellcheck disable=SC2154  # what it uses is set by tests/run/program.sh, which sources it
+# shellcheck disable=SC2034  # what it sets is used there
 
 text_case 'help' 0 out police --help
 text_case 'version' 0 out afdx --version

@@ -115,7 +115,8 @@ def large_blocks() -> dict[str, bytes]:
 
 def odd_bytes() -> dict[str, bytes]:
     """What looks like a recording for its first bytes alone."""
-    some, chance = {}, random.Random("odd bytes")
+    some: dict[str, bytes] = {}
+    chance = random.Random("odd bytes")
     for magic in [*PCAPS, "0a0d0d0a"]:
         begin = bytes.fromhex(magic)
         some |= {
@@ -189,7 +190,7 @@ def hostile_recordings(program: Program) -> Iterator[tuple]:
     for name, (data, options) in hostile_orders().items() if ORDERS else ():
         yield f"a recording: {name}", is_told, with_base(program.apart()), data, options
     if READS:
-        given = with_base(program.apart()), HEAD + bytes(16 * MANY), f"NoArrival {MANY}"
+        given: tuple = with_base(program.apart()), HEAD + bytes(16 * MANY), f"NoArrival {MANY}"
         yield f"a recording: {MANY:,} frames of no bytes", skips, *given
         cut = with_base(program.apart()), HEAD + bytes(16 * MANY + 15), f"Ended {MANY}"
         yield f"a recording: {MANY:,} frames of no bytes, and a piece", skips, *cut

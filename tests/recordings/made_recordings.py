@@ -7,10 +7,9 @@ import re
 from typing import NamedTuple
 
 from frames import FIRST, HELLO, frame_of
-from reads import ORDERS
-from recorded import SECTION
+from recorded import SECTION, Order
 
-ORDERS = ("little", "big")
+ORDERS: tuple[Order, ...] = ("little", "big")
 START = 1_700_000_000  # s since 1970
 A_SECOND = 10**9  # ns
 RESOLUTIONS = [0, 1, 2, 3, 6, 9, 10, 128, 130, 138, 148, 158, 160, 162]

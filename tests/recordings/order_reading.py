@@ -4,7 +4,7 @@ from __future__ import annotations
 
 import random
 from collections.abc import Iterator
-from itertools import count, permutations
+from itertools import permutations
 
 from made_recordings import PCAP_NS, made_data, recorded_at
 from program import Program, answers, must, same_text
@@ -92,10 +92,10 @@ def without_remarks(text: bytes) -> bytes:
 
 def least_held(case: Case) -> int:
     """The least N without the fault TimeBack."""
-    for held in count():
-        said = case._replace(options=case.options._replace(reorder=held)).told()
-        if b"TimeBack" not in said.fault:
-            return held
+    held = 0
+    while b"TimeBack" in case._replace(options=case.options._replace(reorder=held)).told().fault:
+        held += 1
+    return held
 
 
 def same_texts(program: Program, kind: str, group: int) -> None:

@@ -33,6 +33,16 @@ class Live(NamedTuple):
     process: subprocess.Popen
     pipes: dict[str, int]  # by side, where its recording is written
 
+    def within(self, size: int, seconds: float) -> bytes:
+        """So many bytes of its standard output, or those that come in so many seconds."""
+        assert self.process.stdout is not None
+        return text_within(self.process.stdout.fileno(), size, seconds)
+
+    def ends(self) -> tuple[int, bytes]:
+        """The status with which it ends, and what it writes on standard error."""
+        assert self.process.stderr is not None
+        return self.process.wait(SOON), self.process.stderr.read()
+
 
 def steps_of(text: str) -> list[Step]:
     """Steps that are spelled out: the side and a piece, by ` / `; no piece is the end."""
@@ -78,8 +88,7 @@ def told_now(program: Program, case: PairCase, command: str, opens: str) -> byte
 
 def silent(live: Live) -> None:
     """Nothing comes."""
-    found = text_within(live.process.stdout.fileno(), 1, SILENCE)
-    must(found == b"", "it is told too early")
+    must(live.within(1, SILENCE) == b"", "it is told too early")
 
 
 def live_pair(
@@ -103,13 +112,12 @@ def live_pair(
             wanted = told_now(program, case, words[0], opens)
             must(wanted.startswith(told), "what was told is no beginning")
             more = wanted[len(told) :]
-            found = text_within(live.process.stdout.fileno(), len(more), SOON)
-            same_text("what is told at once", more, found)
+            same_text("what is told at once", more, live.within(len(more), SOON))
             told = wanted
         said = case.told(opens)
         if said.status() != WAITS:
-            found = live.process.wait(SOON), live.process.stderr.read()
-            must(found == (said.status(), said.fault), f"it ends with {found}")
+            ended = live.ends()
+            must(ended == (said.status(), said.fault), f"it ends with {ended!r}")
 
 
 def held_case(reorder: int | None) -> PairCase:
@@ -189,7 +197,8 @@ def counts_hold(reorder: int | None, steps: list[Step], counts: list[int]) -> No
 def live_pairs(program: Program) -> Iterator[tuple]:
     """All, by `replay` and by `list`, from two pipes and from one and standard input."""
     turns = ["", "A", "B"]
-    tries = [(name, None, *each) for name, each in held_back().items()]
+    tries: list[tuple[str, int | None, str, list[int]]] = []
+    tries += [(name, None, *each) for name, each in held_back().items()]
     if ORDERS:
         tries += [(name, 1, *each) for name, each in held_in_order().items()]
     for name, reorder, text, counts in tries:

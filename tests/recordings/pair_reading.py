@@ -150,7 +150,7 @@ def try_pairs(cases: Cases, program: Program, every: list[PairRow]) -> None:
     """All cases but those of memory; these rows are spelled out."""
     cases.try_at_once([(f"two: {row.name}", pair_row_is_read, program, row) for row in every])
     try_pair_words(cases, program)
-    some = []
+    some: list[tuple] = []
     for place, side in enumerate(NETWORKS):
         for name, case in cut_cases(every).items():
             some.append((f"two, {side} cut: {name}", cut_each_byte, program, case, place))

@@ -64,12 +64,13 @@ def random_options(chance: random.Random) -> PairOptions:
             places.append(f"{interface}=-")
     chance.shuffle(places)
     origin = FIRST_NS + chance.choice([-(10**15), -1, 0, 1000, 10**6, 10**10])
-    return PairOptions(
+    options = PairOptions(
         tuple(places),
         chance.choice([None, None, None, True, False]),
         origin if chance.random() < 0.3 else None,
-        **random_order(chance),
     )
+    reorder, stamps = random_order(chance)
+    return options._replace(reorder=reorder, stamps=stamps)
 
 
 def random_pair(kind: str, number: int | str) -> PairCase:

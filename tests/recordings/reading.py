@@ -28,7 +28,8 @@ def is_unread(program: Program, case: Case) -> None:
     """What is no recording for the program is a list, and where an option asks for a recording a
     fault."""
     words, path = case.run_words(), path_of(program, case.data)
-    fault, out = b"recording NotRecording 0\n", b""
+    fault = b"recording NotRecording 0\n"
+    out: bytes | None = b""
     if not case.options.want_recording():
         fault, out = list_fault(case.data, True), None
     for words_of_input, given in (([path], b""), (["-"], case.data)):
@@ -139,6 +140,7 @@ def comes(run: subprocess.Popen, wanted: bytes, told: bytes, more: int = 0) -> N
     """What is wanted comes, of which this was reported before, and within so many bytes no more."""
     must(wanted.startswith(told), "what was told is no beginning")
     rest = wanted[len(told) :]
+    assert run.stdout is not None
     found = text_within(run.stdout.fileno(), len(rest) + more, SOON)
     same_text("what is told at once", rest, found)
 
@@ -155,6 +157,7 @@ def at_once(program: Program, words: list[str], options: Options, pieces: list[b
         cwd=program.folder,
         bufsize=0,
     ) as run:
+        assert run.stdin is not None and run.stdout is not None
         try:
             for piece in pieces:
                 run.stdin.write(piece[:-1])
@@ -181,7 +184,7 @@ def live_cases(program: Program) -> list[tuple]:
     kinds += [("pcapng, one is held", pcapng, one)] if ORDERS else []
     commands = [["replay", "base.toml"], POLICE]
     commands += [["list", "base.toml"]] if "list" in READS else []
-    cases = []
+    cases: list[tuple] = []
     for name, texts, options in kinds:
         pieces = [bytes.fromhex(text) for text in texts]
         for words in commands if is_read(b"".join(pieces)) else []:
@@ -208,7 +211,8 @@ def try_reading(cases: Cases, program: Program, every: list[Row]) -> None:
     cases.try_at_once([(f"read: {row.name}", row_is_read, program, row) for row in every])
     try_words(cases, program)
     cuts = {name: case for name, case in cut_cases().items() if is_read(case.data)}
-    some = [(f"cut: {name}", cut_anywhere, program, case) for name, case in cuts.items()]
+    some: list[tuple] = []
+    some += [(f"cut: {name}", cut_anywhere, program, case) for name, case in cuts.items()]
     for kind in KINDS:
         some += [(f"read: {kind}, {group}", many, program, kind, group) for group in range(GROUPS)]
     for name, options in each_lengths().items():

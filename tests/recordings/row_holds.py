@@ -3,15 +3,15 @@ says, and what the program writes of the list that says the same."""
 from __future__ import annotations
 
 from pair_rows import PairRow
-from pair_wanted import pair_case
+from pair_wanted import PairCase, pair_case
 from program import Program, must, short
 from recording_rows import Row
-from wanted import case_of, fits
+from wanted import Case, case_of, fits
 
 
 def row_holds(program: Program, row: Row | PairRow) -> None:
     """The reference says what stands in the row, and so does the program's run on its list."""
-    case = case_of(row) if isinstance(row, Row) else pair_case(row)
+    case: Case | PairCase = case_of(row) if isinstance(row, Row) else pair_case(row)
     wanted = case.told()
     fault = f"recording {row.fault}\n" if row.fault else ""
     must(wanted.fault == fault.encode(), f"wanted {fault!r}, found {wanted.fault!r}")

@@ -97,7 +97,8 @@ def interface_of(layers: dict) -> int:
 def lines_of(frames: list[dict]) -> list[str]:
     """The lines of a list that say what tshark says of frames, where interface K is at A:K+1; first
     letters aside."""
-    lines, origin = list[str](), None
+    lines = list[str]()
+    origin: int | None = None
     for number, layers in enumerate(frames, 1):
         told, content = layers["frame"], layers.get("frame_raw", [""])[0]
         if "frame.encap_type" not in told:
@@ -106,6 +107,7 @@ def lines_of(frames: list[dict]) -> list[str]:
             lines.append(f"# not-afdx {number}")
         else:
             moment = nanoseconds(told["frame.time_epoch"])
+            assert moment is not None
             origin = moment if origin is None else origin
             lines.append(f" {moment - origin} A {interface_of(layers) + 1} {content}")
     return lines

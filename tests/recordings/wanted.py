@@ -166,11 +166,11 @@ def cut_cases() -> dict[str, Case]:
     return cases
 
 
-def random_order(chance: random.Random) -> dict[str, int | str | None]:
-    """The options of the order: none where the program doesn't know them."""
+def random_order(chance: random.Random) -> tuple[int | None, str | None]:
+    """The options --reorder and --stamps: none where the program doesn't know them."""
     reorder = chance.choice([None, None, None, 0, 1, 2, 3, 7, 9_999, 10_000, 100_000])
     stamps = chance.choice([None, None, "start", "start", "end"])
-    return {"reorder": reorder, "stamps": stamps} if ORDERS else {}
+    return (reorder, stamps) if ORDERS else (None, None)
 
 
 def random_options(chance: random.Random) -> Options:
@@ -180,12 +180,13 @@ def random_options(chance: random.Random) -> Options:
         if chance.random() < 0.2:
             places[interface] = chance.choice(["A", "B", "A:1", "B:2", "A:24", "-"])
     origin = FIRST_NS + chance.choice([-(10**15), -1, 0, 5 * 10**8, 10**9, 10**10])
-    return Options(
+    options = Options(
         places if chance.random() < 0.5 else {},
         chance.choice([None, None, None, True, False]),
         origin if chance.random() < 0.3 else None,
-        **random_order(chance),
     )
+    reorder, stamps = random_order(chance)
+    return options._replace(reorder=reorder, stamps=stamps)
 
 
 def random_case(chance: random.Random, data: bytes) -> Case:

@@ -106,7 +106,8 @@ def weak_pairs(program: Program, config: str) -> Iterator[tuple]:
     by_path = False
     for words in commands if "two" in READS else ():
         for name, texts, reorder in tries(words[0]):
-            pair, options = tuple(map(bytes.fromhex, texts)), PairOptions(reorder=reorder)
+            pair = bytes.fromhex(texts[0]), bytes.fromhex(texts[1])
+            options = PairOptions(reorder=reorder)
             case = PairCase(pair, options, Command(tuple(words), IN_BASE.systems))
             for place, side in enumerate(NETWORKS):
                 by_path = not by_path

@@ -43,7 +43,7 @@ POLICE = ["police", "1", "64", "500"]
 
 def many_writes(weak: Weak) -> None:
     """A text of more than 1,000 writes, whole and broken here and there."""
-    for options in ([], ["--line-buffered"]):
+    for options in ((), ("--line-buffered",)):
         found, calls = weak.run(1, *options)
         weak.ends(found, (0, b""), weak.whole.out)
         writes = len(of_kind(calls, "w"))

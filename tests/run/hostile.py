@@ -170,7 +170,8 @@ def frame_beginnings(program: Program) -> None:
     tables["link"][0] |= {"skew_us": 999, "latency_us": 999}
     config = program.write("config", made.text_of(tables))
     frame = frame_of(tables["system"][0], 1, 1000, bytes(100), 0, "A", 300)
-    lines, wanted = [], []
+    lines: list[bytes] = []
+    wanted = []
     for kind, added in (("R", 0), ("F", 4), ("B", 4)):
         for count in range(len(frame) - added + 1):
             n, at, length = len(lines) + 1, len(lines) * MS, count + added

@@ -51,7 +51,7 @@ MEMORY = {
     "crates/afdx_text/src/line.rt": {"room_wanted"},
 }
 SCRIPTS = ["tests/**/*.py", "tests/**/*.sh", "tests/**/*.c", "examples/*.py"]
-SCRIPTS += ["bench/*", "bin/*", "bin/printing/*.py", "tools/*", ".ci/*"]
+SCRIPTS += ["bench/*", "bin/*", "bin/printing/*.py", "tools/*", "tools/**/*.py", ".ci/*"]
 
 
 def text_of(path: pathlib.Path) -> str:
@@ -71,7 +71,8 @@ def known_words() -> set[str]:
     """All words of the sources, and the names of files and folders."""
     words: set[str] = set()
     named = ["crates/**/*.rt", "crates/**/*.antt", "crates/*/must-fail/*", "tests/*/*"]
-    named += ["bench/*", "tools/*", "bin/*", "bin/printing/*.py", "examples/*.toml"]
+    named += ["bench/*", "tools/*", "tools/**/*.py", "bin/*", "bin/printing/*.py"]
+    named += ["examples/*.toml"]
     for path in sources(*named):
         if path.is_file():
             words.update(re.findall(r"\w+", text_of(path)))

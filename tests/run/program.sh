@@ -76,8 +76,8 @@ zeros() { head -c "$1" /dev/zero | tr '\0' 0; }
 # number.
 head1=030000000001020000000120080045000021000000000111cdea0a000101e0e00001
 head1+=03e803e8000d000068656c6c6f000000000000000000000000
-frame=${head1}00
-accept1=$'V 1 A accept\n'
+# shellcheck disable=SC2034  # the parts use them
+frame=${head1}00 accept1=$'V 1 A accept\n'
 
 # Standard output is a device that takes nothing.
 full_case() { # NAME STATUS ERR WORD..
@@ -92,6 +92,7 @@ full_case() { # NAME STATUS ERR WORD..
 }
 
 for part in police check replay words explain send solve standard_streams; do
+    # shellcheck source=/dev/null
     source "$top/tests/program/$part.sh"
 done
 

@@ -26,7 +26,8 @@ import tables as made  # noqa: E402
 from judged import check_all_less  # noqa: E402
 from least import SOLVED, solve_answer  # noqa: E402
 from networks import network, unsolvable  # noqa: E402
-from program import Answer, Cases, Program, answers, main_of, must, same_text  # noqa: E402
+from program import Answer, Cases, Program, Wrong, answers, main_of, must  # noqa: E402
+from program import same_text  # noqa: E402
 from tables import system_of, text_of, tomllib  # noqa: E402
 
 NO_TABLES: dict[str, list] = {"system": [], "link": [], "port": []}
@@ -146,7 +147,8 @@ def check_guide(program: Program) -> None:
     """The guide's network: its values are those that the guide finds by hand."""
     tables = guide_tables()
     written = check_solve(program, text_of(tables))
-    must(written is not None, "it can't be admitted")
+    if written is None:
+        raise Wrong("it can't be admitted")
     found = tomllib.loads(written.decode())
     must(found["buffer"] == 1391, f"its buffer is {found['buffer']}")
     values = {link["vl"]: (link["jitter_us"], link["latency_us"]) for link in found["link"]}
@@ -238,7 +240,7 @@ def check_faults(program: Program) -> None:
     """Faults are those of `check`, except that a key that is solved may be absent or any whole
     number from 0."""
     text = made.example("base.toml")
-    for old, new, keep in (
+    changes: list[tuple[bytes, bytes, list[str]]] = [
         (b"buffer = 252", b"", ["buffer"]),
         (b"buffer = 252", b"buffer = 5000000", ["buffer"]),
         (b"buffer = 252", b"buffer = -1", []),
@@ -257,7 +259,8 @@ def check_faults(program: Program) -> None:
         (b"profile = 1", b"", []),
         (b'from = "s1"', b'from = "s9"', []),
         (b"subs = 1", b"", []),
-    ):
+    ]
+    for old, new, keep in changes:
         changed = text.replace(old, new)
         must(changed != text, f"{old!r} isn't there")
         for raise_only in (False, True):

@@ -19,14 +19,6 @@ cd "$top" || exit 1
 
 # shellcheck source=tests/lib/cases.sh
 source "$top/tests/lib/cases.sh"
-skipped=0
-
-skip() { # NAME WHY
-    skipped=$((skipped + 1))
-    echo "skipped $1: $2"
-}
-
-has() { command -v "$1" >/dev/null; }
 
 launch() { # WORD.. : both streams go to files, the status to `status`
     status=0

@@ -44,7 +44,7 @@ sound_test() {
     "$python" tests/tools/sample_list.py "$network" --ms 400 --sound >"$absent/sound.list"
     local all
     all=$("$python" -B -c 'import sys; sys.path.insert(0, "tools")
-from afdx_criteria import CRITERIA; print(",".join(CRITERIA))')
+from afdx_tools.report.criteria import CRITERIA; print(",".join(CRITERIA))')
     found_in sound "$network" "$absent/sound.list" --fail-on "$all" --junit "$work/all.xml"
     tell 'of a sound run nothing is found' "$(
         is_status 0

@@ -2,6 +2,7 @@
 # part of tests/run/tools.sh.
 # shellcheck shell=bash
 # shellcheck disable=SC2154  # what it uses is set by tests/run/tools.sh, which sources it
+# shellcheck disable=SC2034  # what it sets is used there
 
 is_fault() { # STATUS WORDS : one line that says them, and no more
     is_status "$1"

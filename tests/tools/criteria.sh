@@ -33,7 +33,7 @@ late_tests() {
     )"
     tell 'a share is 100 % only where all of it is' "$(
         cd tools && "$python" -B -c '
-from afdx_tables import percent
+from afdx_tools.tables import percent
 for share, words in ((0.9996, "99.9%"), (0.99999999, "99.9%"), (1.0, "100.0%"), (0.29, "29.0%"),
                      (1.0000001, "100.1%"), (1.28, "128.0%"), (0.0, "0.0%"), (0.0009, "<0.1%"),
                      (0.001, "0.1%"), (0.4567, "45.6%")):

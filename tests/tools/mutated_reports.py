@@ -16,11 +16,11 @@ from typing import Iterator
 
 sys.dont_write_bytecode = True
 sys.path.insert(0, os.path.join(os.path.dirname(os.path.abspath(__file__)), "..", "..", "tools"))
-from afdx_compare import KEYS, compared, other_report, words_of  # noqa: E402
-from afdx_page import compared_tables  # noqa: E402
-from afdx_parts import table  # noqa: E402
-from afdx_tables import as_text, csv_text  # noqa: E402
-from afdx_tools import Refused  # noqa: E402
+from afdx_tools.faults import Refused  # noqa: E402
+from afdx_tools.report.compare import KEYS, compared, other_report, words_of  # noqa: E402
+from afdx_tools.report.page import compared_tables  # noqa: E402
+from afdx_tools.report.parts import table  # noqa: E402
+from afdx_tools.tables import as_text, csv_text  # noqa: E402
 
 GONE = object()  # in the place of a value: its key goes too
 OTHERS = [

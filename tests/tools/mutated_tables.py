@@ -18,10 +18,10 @@ import tempfile
 sys.dont_write_bytecode = True
 HERE = os.path.dirname(os.path.abspath(__file__))
 sys.path[:0] = [os.path.join(HERE, "..", "..", "tools"), os.path.join(HERE, "..", "lib")]
-import afdx_interface as interface  # noqa: E402
-from afdx_layout import asked_text  # noqa: E402
-from afdx_sheets import read_sheet  # noqa: E402
-from afdx_tools import Refused  # noqa: E402
+from afdx_tools.faults import Refused  # noqa: E402
+from afdx_tools.icd import document as interface  # noqa: E402
+from afdx_tools.icd.layout import asked_text  # noqa: E402
+from afdx_tools.spreadsheets.sheets import read_sheet  # noqa: E402
 from least import solve_fault  # noqa: E402
 
 COLUMNS = interface.SYSTEMS, interface.MESSAGES
@@ -50,11 +50,11 @@ def changed(chance: random.Random, text: bytes) -> bytes:
 def fault_of(paths: list[str], is_filled: bool) -> tuple[str, bool]:
     """What is wrong with how the tables are read, or nothing; and whether they have no fault."""
     try:
-        sheets = [
+        systems, messages = (
             read_sheet(path, columns, full if is_filled else ())
             for path, columns, full in zip(paths, COLUMNS, FULL)
-        ]
-        document = interface.document_of(*sheets, 2)
+        )
+        document = interface.document_of(systems, messages, 2)
     except Refused as refused:
         line = str(refused)
         return "" if line.isprintable() else f"a line that can't be printed: {line!r}", False

@@ -18,7 +18,7 @@ parts_tests() { # of the sample of counted_tests
     )"
     tell 'of too many rows a page has those with the greatest share' "$(
         cd tools && "$python" -B -c '
-from afdx_parts import table
+from afdx_tools.report.parts import table
 rows = [{"link": n, "share": n / 20_000} for n in range(10_001)]
 page = table(rows, "Links")
 for words in ("the 10,000 with the greatest share of 10,001 rows", ">10000<", ">1<"):

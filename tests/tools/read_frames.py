@@ -20,8 +20,8 @@ import tempfile
 sys.dont_write_bytecode = True
 HERE = os.path.dirname(os.path.abspath(__file__))
 sys.path[:0] = [os.path.join(HERE, "..", where) for where in ("../tools", "lib", "recordings")]
-import afdx_recorded  # noqa: E402
-from afdx_annotated import MOST_LINK_TYPE, Copied  # noqa: E402
+from afdx_tools.recordings import reading  # noqa: E402
+from afdx_tools.recordings.annotated import MOST_LINK_TYPE, Copied  # noqa: E402
 from made_recordings import made, mutated  # noqa: E402
 from recorded import Frame, is_recording, recorded  # noqa: E402
 
@@ -31,7 +31,7 @@ def plain(frame: Frame | None) -> tuple | None:
     return frame and (frame.interface, frame.link_type, frame.stamp, frame.original, frame.bytes)
 
 
-def read(frame: afdx_recorded.Frame) -> tuple | None:
+def read(frame: reading.Frame) -> tuple | None:
     """A frame of the tools, likewise."""
     if frame.kind:
         return None
@@ -44,7 +44,7 @@ def read(frame: afdx_recorded.Frame) -> tuple | None:
     )
 
 
-def copied(frames: list[afdx_recorded.Frame]) -> bytes:
+def copied(frames: list[reading.Frame]) -> bytes:
     """The copy of a recording, with a comment for each frame."""
     out = io.BytesIO()
     copy = Copied(out, False)
@@ -69,7 +69,7 @@ def fault_of(data: bytes, path: str, chance: random.Random) -> tuple[str, bool]:
     """What is wrong with how a recording is read, or nothing; and whether it was copied."""
     with open(path, "wb") as file:
         file.write(data)
-    recording = afdx_recorded.Recording(path)
+    recording = reading.Recording(path)
     frames = list(recording.frames())
     if not is_recording(data):
         return "it is read" if frames else "", False

@@ -18,7 +18,7 @@ import tempfile
 sys.dont_write_bytecode = True
 HERE = os.path.dirname(os.path.abspath(__file__))
 sys.path[:0] = [os.path.join(HERE, "..", where) for where in ("../tools", "lib", "recordings")]
-import afdx_interfaces  # noqa: E402
+from afdx_tools.recordings import interfaces  # noqa: E402
 from made_recordings import made, mutated  # noqa: E402
 from recorded import is_recording, recorded  # noqa: E402
 
@@ -40,7 +40,7 @@ def fault_of(data: bytes, path: str) -> tuple[str, bool]:
     """What is wrong with how a recording is read, or nothing; and whether it was compared."""
     with open(path, "wb") as file:
         file.write(data)
-    read = afdx_interfaces.interfaces_of(path)
+    read = interfaces.interfaces_of(path)
     if not is_recording(data) or recorded(data).fault:
         return "", False
     got = {place: dict(each.sources) for place, each in enumerate(read) if each.sources}
@@ -54,7 +54,7 @@ def main() -> None:
     chance, compared, wrong = random.Random(1), 0, 0
     with tempfile.TemporaryDirectory() as folder:
         for number in range(int(sys.argv[1])):
-            afdx_interfaces.PIECE = chance.choice([1, 13, 100, 1 << 16])
+            interfaces.PIECE = chance.choice([1, 13, 100, 1 << 16])
             data = made(chance)
             if chance.random() < 0.4:
                 data = mutated(data, chance)

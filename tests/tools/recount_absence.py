@@ -26,8 +26,8 @@ class Run:
         self.links = {row["vl"]: row for row in config["link"]}
         self.systems = {row["name"]: row for row in config["system"]}
         self.frames = frames_of(list_path)
-        self.read = set()  # line and port of each copy that gave a message
-        copy = None
+        self.read: set[tuple[int, int]] = set()  # line and port of each copy that gave a message
+        copy = 0, 0
         with open(lines_path, encoding="ascii") as file:
             for words in map(str.split, file):
                 if words[0] == "V":
@@ -80,8 +80,9 @@ def gaps_of(run: Run, frames: dict[str, list[dict]], bag: int, is_network: bool)
     """The silences of some frames by side: side, begin, end, what is too short to be one."""
     times = {side: [f["time"] for f in frames[side]] for side in "AB"}
     rhythm = min((gap for gap in map(usual, times.values()) if gap), default=0)
-    least, found = 4 * max(bag, rhythm), []
-    for side, other in ("AB", "BA"):
+    least = 4 * max(bag, rhythm)
+    found: list[tuple] = []
+    for side, other in (("A", "B"), ("B", "A")):
         dead = is_network and not times[side] and times[other]
         for begin, end in pairwise([run.begin, *times[side], run.end]):
             if dead or end - begin > least:
@@ -175,7 +176,8 @@ def pairs_of(run: Run) -> list[tuple[dict, dict]]:
 
 def compare_copies(run: Run, report: dict, pairs: list[tuple[dict, dict]]) -> None:
     """Prints what differs of messages delivered twice and of the copies' distance."""
-    twice, apart = Counter(), defaultdict(list)
+    twice: Counter[int] = Counter()
+    apart: dict[str, list[int]] = defaultdict(list)
     for one, two in pairs:
         ports = [{port for line, port in run.read if line == f["line"]} for f in (one, two)]
         twice[one["link"]] += len(ports[0] & ports[1])

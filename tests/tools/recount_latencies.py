@@ -29,7 +29,8 @@ def departures(config: dict, frames: dict, path: str) -> tuple[dict, dict]:
     systems = {row["name"]: row for row in config["system"]}
     byte_ns = {row["port"]: 8000 // row["rate"] for row in config["system"]}
     links = {row["vl"]: row for row in config["link"]}
-    seen, stays = defaultdict(list), defaultdict(dict)
+    seen: dict[tuple, list] = defaultdict(list)
+    stays: dict[tuple, dict] = defaultdict(dict)
     with open(path, encoding="ascii") as file:
         for words in map(str.split, file):
             if words[0] == "V" and words[-1] == "accept":

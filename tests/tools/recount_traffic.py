@@ -49,12 +49,13 @@ def judge(path: str, frames: dict[int, dict]) -> list[tuple[dict, int, int]]:
 def jitter_of(link: dict, frames: list[dict]) -> int | None:
     """The least jitter with which the account would cover them all, in ns, rounded up."""
     bag, smax = link["bag_ms"] * 1_000_000, link["lmax"] + 20
-    free, needed = None, None
+    free: Fraction | None = None
+    needed: Fraction | None = None
     for frame in frames:
-        begin = frame["time"] if free is None else max(free, frame["time"])
+        begin = Fraction(frame["time"]) if free is None else max(free, frame["time"])
         charge = frame["length"] + 20 if link["policing"] == "byte" else smax
         free = begin + Fraction(charge * bag, smax)
-        needed = max(needed or 0, free - frame["time"] - bag)
+        needed = max(needed or Fraction(0), free - frame["time"] - bag)
     return None if needed is None else -(-needed.numerator // needed.denominator)
 
 
@@ -90,16 +91,17 @@ def compare_sides(config: dict, frames: dict, rows: list[dict]) -> None:
             print(f"link {row['link']} side {row['side']}: {wanted} and {row}")
 
 
-def skews_of(config: dict, frames: dict, left: list) -> dict[int, list[int]]:
+def skews_of(config: dict, frames: dict, left: list) -> dict[int, list]:
     """Of each link the pairs, the greatest skew at the inputs and at the receivers."""
     bags = {row["vl"]: row["bag_ms"] * 1_000_000 for row in config["link"]}
-    same, ends = defaultdict(list), defaultdict(dict)
+    same: dict[tuple, list] = defaultdict(list)
+    ends: dict[int, dict] = defaultdict(dict)
     for frame in frames.values():
         if frame["verdict"] == "accept":
             same[frame["link"], frame["number"]].append(frame)
     for frame, port, time in left:
         ends[frame["line"]][port] = time
-    skews = defaultdict(lambda: [0, 0, None])
+    skews: dict[int, list] = defaultdict(lambda: [0, 0, None])
     for (link, _), group in same.items():
         sides = [[f for f in group if f["side"] == side] for side in "AB"]
         for one in sides[0]:
@@ -125,7 +127,7 @@ def compare_loads(config: dict, left: list, report: dict) -> None:
     """Prints what differs of the loads, and of the late copies."""
     systems = {row["port"]: row for row in config["system"]}
     latency = {row["vl"]: 1000 * row["latency_us"] for row in config["link"]}
-    used = defaultdict(int)
+    used: dict[tuple, int] = defaultdict(int)
     for frame, port, _ in left:
         used[port, frame["side"]] += (frame["length"] + 20) * 8000 // systems[port]["rate"]
     for row in report["ports"]:

@@ -14,14 +14,14 @@ import argparse
 import os
 import random
 import sys
+import tomllib
 from typing import Iterator, NamedTuple
 
 sys.dont_write_bytecode = True
 TOP = os.path.join(os.path.dirname(os.path.realpath(__file__)), "..", "..")
 sys.path[:0] = [os.path.join(TOP, "tools"), os.path.join(TOP, "examples")]
+from afdx_tools.config import Config, Link, config_of  # noqa: E402
 from frame_builder import AROUND, frame_of  # noqa: E402
-from afdx_reading import config_of  # noqa: E402
-from afdx_tools import Config, Link, tomllib  # noqa: E402
 
 MS = 1_000_000
 

@@ -1,6 +1,7 @@
 # Tests of tools/afdx.lua and of annotated recordings, by tshark; a part of tests/run/tools.sh.
 # shellcheck shell=bash
 # shellcheck disable=SC2154  # what it uses is set by tests/run/tools.sh, which sources it
+# shellcheck disable=SC2034  # what it sets is used there
 
 # ---- the fields of AFDX frames -------------------------------------------------------------
 

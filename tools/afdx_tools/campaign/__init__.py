@@ -1,0 +1,1 @@
+"""Campaigns: many reports, on one or more machines."""

@@ -1,0 +1,296 @@
+"""Replays many frame lists or recordings with `afdx`; ends with one table.
+
+    afdx-campaign examples/network.toml monday/*.list --out monday
+    afdx-campaign net.toml 1/A.pcapng,1/B.pcapng 2/A.pcapng,2/B.pcapng
+
+Each run is one of `afdx-report`, over a list, a recording, or the recordings of
+both networks with a comma between. Which runs where and when is left to GNU
+parallel (apt-get install parallel). The folder of --out gets campaign.csv, the
+report of each run as JSON (runs/1/stdout and so on, in the order of the lists),
+and what --resume needs. A run that didn't begin, or whose machine died, goes to
+another machine. The exit status is that of the worst run: a run without a
+result (4) is worst, then come 2, 1, 3 and 6.
+"""
+from __future__ import annotations
+
+import argparse
+import os
+import shutil
+import sys
+from collections import defaultdict
+from typing import Iterator, NoReturn, Sequence
+
+from afdx_tools.campaign.machines import MOST_FAILED, PATIENCE, THIS, Machines
+from afdx_tools.campaign.outcomes import SPEAKER, Outcome, not_run, outcome_of, sum_row, worst
+from afdx_tools.campaign.rounds import Attempt, JobLog, next_round, play
+from afdx_tools.command_line import Parser
+from afdx_tools.explaining import explain_all
+from afdx_tools.faults import Refused, shown
+from afdx_tools.guard import guarded
+from afdx_tools.inputs import as_file
+from afdx_tools.outputs import whole, write_folder
+from afdx_tools.program import HERE, program, version
+from afdx_tools.recordings.options import add_recording_words, files_of, handed_on
+from afdx_tools.report.criteria import add_words, suite_of, write_junit
+from afdx_tools.tables import as_text, csv_text
+from afdx_tools.version import add_version
+
+TOOL = "afdx-campaign"
+
+
+def say(line: str) -> None:
+    """A line for the user, on standard error."""
+    print(f"{TOOL}: {line}", file=sys.stderr)
+
+
+def job(args: argparse.Namespace, remote: bool) -> str:
+    """The command line of one run, which GNU parallel fills in, and quotes what it puts there: {1}
+    is the number of the run, {2} the list, {3} the recording of B beside it, or the configuration
+    where there is none, {4} the configuration, {5} the word that names the program, {6} the tool,
+    {7} the folder of pages, {8} and on the options of recordings. On another machine pages are
+    written where the job runs, and so stand the files that were copied there."""
+    words = ["--json"]
+    if args.no_admission:
+        words.append("--no-admission")
+    if args.fail_on:
+        words += ["--fail-on", ",".join(args.fail_on)]
+    words += [f"{{{place}}}" for place, _ in enumerate(handed_on(args), 8)]
+    words += ["--out", '"$out"'] if args.pages else []
+    names = "config={4} list={2} other={3}"
+    here = f"{names} out={{7}}/{{1}}"
+    there = "config=./{4/} list=./{2/} other=./{3/}" if args.transfer else names
+    choice = here
+    if remote:
+        choice = f'case "$PARALLEL_SSHLOGIN" in :) {here};; *) {there} out=pages/{{1}};; esac'
+    lists = 'set -- "$list"; if [ "$other" != "$config" ]; then set -- "$list" "$other"; fi'
+    run = f'env {{5}} {{6}} {" ".join(words)} -- "$config" "$@"'
+    return f"run={{1}}; {choice}; {lists}; {run}"
+
+
+def remote_words(args: argparse.Namespace) -> list[str]:
+    """What GNU parallel has to know where runs go to other machines."""
+    needed = [name for name, on in (("--transfer", args.transfer), ("--pages", args.pages)) if on]
+    if needed and shutil.which("rsync") is None:
+        raise Refused(f"{needed[0]} with other machines wants rsync: apt-get install rsync")
+    words = ["--workdir", "...", "--cleanup"]
+    if args.transfer and args.taps is not None:
+        raise Refused("--transfer copies no table of taps: let it lie where all machines see it")
+    if "PARALLEL_SSH" not in os.environ:
+        words += ["--ssh", f"ssh {PATIENCE}"]
+    if args.transfer:
+        for word in args.lists:
+            names = [os.path.basename(path) for path in (args.config, *files_of(word))]
+            if len(names) != len(set(names)):
+                raise Refused(
+                    "--transfer wants lists that have other names than the configuration, and "
+                    "other names than one another where two belong together"
+                )
+        for place in (2, 3, 4):
+            words += ["--transferfile", f"{{{place}//}}/./{{{place}/}}"]
+    return words + (["--return", "pages/{1}"] if args.pages else [])
+
+
+def starter(args: argparse.Namespace, machines: Machines) -> list[str]:
+    """The words of GNU parallel, which runs in the folder of the campaign."""
+    parallel = shutil.which("parallel")
+    if parallel is None:
+        raise Refused("GNU parallel is missing: apt-get install parallel")
+    words = [parallel, "--null", "--max-args", str(7 + len(handed_on(args)))]
+    words += ["--joblog", "+joblog", "--results", os.path.join("runs", "{1}", "")]
+    if sys.stderr.isatty():
+        words.append("--bar")
+    if args.jobs:
+        words += ["--jobs", args.jobs]
+    if machines.are_named:
+        words += ["--sshloginfile", "machines"]
+    if machines.have_others:
+        words += remote_words(args)
+    return [*words, job(args, machines.have_others)]
+
+
+def report_tool() -> str:
+    """The path of afdx-report: beside the package, else on PATH."""
+    beside = os.path.join(HERE, "afdx-report")
+    return beside if os.access(beside, os.X_OK) else shutil.which("afdx-report") or beside
+
+
+def records(args: argparse.Namespace, numbers: Sequence[int]) -> Iterator[bytes]:
+    """What GNU parallel fills in for these runs."""
+    tool, config = report_tool(), os.path.abspath(args.config)
+    pages = os.path.abspath(os.path.join(args.out, "pages"))
+    afdx = f"AFDX={os.path.abspath(program())}"
+    for number in numbers:
+        first, *second = (os.path.abspath(path) for path in files_of(args.lists[number - 1]))
+        files = [first, *(second or [config])]
+        words = [str(number), *files, config, afdx, tool, pages, *handed_on(args)]
+        yield b"".join(os.fsencode(word) + b"\0" for word in words)
+
+
+def noted(path: str) -> list[bytes]:
+    """The names of a file of names; none where it isn't there."""
+    try:
+        with open(path, "rb") as file:
+            return file.read().split(b"\0")[:-1]
+    except FileNotFoundError:
+        return []
+
+
+def note_lists(args: argparse.Namespace) -> None:
+    """Notes the lists in their order, and the recordings of B beside them, or the configuration;
+    with --resume the earlier ones have to stand first again."""
+    if not args.resume:
+        for name in ("runs", "pages"):
+            path = os.path.join(args.out, name)
+            if os.path.islink(path):  # nothing is written where it leads to
+                os.remove(path)
+            shutil.rmtree(path, ignore_errors=True)
+    runs = [(*files_of(word), args.config)[:2] for word in args.lists]
+    for name, files in zip(("lists", "others"), zip(*runs)):
+        path = os.path.join(args.out, name)
+        names = [os.fsencode(os.path.abspath(file)) for file in files]
+        before = noted(path) if args.resume else []
+        if names[: len(before)] != before:
+            raise Refused(
+                f"--resume wants the lists of {path} in that order, then any new ones, and the "
+                "same configuration"
+            )
+        with whole(path) as file:
+            file.writelines(name + b"\0" for name in names)
+
+
+class Campaign:
+    """The runs of a campaign: what came of each, and on which machines each was tried since."""
+
+    def __init__(self, args: argparse.Namespace, machines: Machines) -> None:
+        self.args = args
+        self.machines = machines
+        self.outcomes: dict[int, Outcome] = {}
+        self.tried: dict[int, list[str]] = defaultdict(list)
+        self.going_to: list[str] = []
+        self.log = JobLog(os.path.join(args.out, "joblog"), args.resume)
+        earlier = {attempt.number: attempt for attempt in self.log.new()}
+        for number in earlier.keys() & self.numbers():
+            self.take(earlier[number])
+
+    def numbers(self) -> set[int]:
+        """The numbers of all runs."""
+        return set(range(1, len(self.args.lists) + 1))
+
+    def take(self, attempt: Attempt) -> Outcome:
+        """Notes what came of a run."""
+        args, number = self.args, attempt.number
+        wants_page = args.pages and attempt.machine != THIS
+        named = attempt._replace(machine=self.machines.shown(attempt.machine))
+        outcome = outcome_of(args.out, named, args.lists[number - 1], args.fail_on, wants_page)
+        self.outcomes[number] = outcome
+        return outcome
+
+    def look(self) -> bool:
+        """Notes what has ended since the last look. Is there a machine left to go to?"""
+        for attempt in self.log.new():
+            outcome = self.take(attempt)
+            self.tried[attempt.number].append(attempt.machine)
+            if self.machines.note(attempt.machine, outcome.has_answered):
+                why = f"{MOST_FAILED} runs in a row failed there: {shown(outcome.fault)}"
+                say(f"{shown(outcome.machine)} is left out, as {why}")
+                self.go_to([name for name in self.going_to if name != attempt.machine])
+        return bool(self.going_to)
+
+    def go_to(self, names: list[str]) -> None:
+        """Says to which machines runs go from now on."""
+        self.going_to = names
+        if names:
+            self.machines.write(os.path.join(self.args.out, "machines"), names)
+
+    def run_all(self, words: Sequence[str]) -> None:
+        """Runs all that have no result yet, in rounds, until there is nowhere to go."""
+        while True:
+            waiting = [n for n in sorted(self.numbers()) if not self.has_result(n)]
+            numbers, names = next_round(waiting, self.tried, self.machines)
+            if not numbers:
+                return
+            self.go_to(names)
+            before = sum(map(len, self.tried.values()))
+            play(words, records(self.args, numbers), self.args.out, self.look)
+            if sum(map(len, self.tried.values())) == before and self.going_to == names:
+                return  # GNU parallel began nothing, and has said why
+
+    def has_result(self, number: int) -> bool:
+        """Has a run come to its end?"""
+        return number in self.outcomes and self.outcomes[number].is_result
+
+    def all_outcomes(self) -> list[Outcome]:
+        """What came of each list, in their order."""
+        lists = enumerate(self.args.lists, 1)
+        return [self.outcomes.get(number) or not_run(name) for number, name in lists]
+
+
+def tell(args: argparse.Namespace, outcomes: Sequence[Outcome]) -> None:
+    """Writes the table and the criteria, and prints the table with a last line of sums."""
+    if args.junit:
+        suites = [
+            suite_of(name, outcome.fault, outcome.totals, args.fail_on)
+            for name, outcome in zip(args.lists, outcomes)
+        ]
+        write_junit(args.junit, suites)
+    rows = [{**outcome.row, "machine": shown(outcome.machine)} for outcome in outcomes]
+    write_folder(args.out, {"campaign.csv": csv_text(rows)})
+    print(as_text([*(outcome.row for outcome in outcomes), sum_row(outcomes)]), end="")
+    faults = [outcome.fault.removeprefix(SPEAKER) for outcome in outcomes]
+    explain_all(faults, ["check", as_file(args.config)])
+    missing = sum(not outcome.is_result for outcome in outcomes)
+    if missing:
+        say(f"{missing} of {len(outcomes)} runs have no result (--resume repeats them)")
+
+
+def run(args: argparse.Namespace) -> int:
+    """Runs all lists and prints the table; the worst status."""
+    args.out = as_file(args.out)
+    version()  # built once, if at all
+    machines = Machines(args.sshlogin)
+    words = starter(args, machines)
+    os.makedirs(args.out, exist_ok=True)
+    note_lists(args)
+    campaign = Campaign(args, machines)
+    campaign.run_all(words)
+    outcomes = campaign.all_outcomes()
+    tell(args, outcomes)
+    return worst(outcomes)
+
+
+def words() -> argparse.ArgumentParser:
+    """The words that the tool takes."""
+    parser = Parser(
+        prog=TOOL, description=__doc__, formatter_class=argparse.RawDescriptionHelpFormatter
+    )
+    add_version(parser, TOOL)
+    add = parser.add_argument
+    add("config", metavar="CONFIG", help="the configuration of the network")
+    add("lists", nargs="+", metavar="LIST", help="a frame list, a recording, or A.pcapng,B.pcapng")
+    add("--out", metavar="DIR", default="campaign", help="the folder of the campaign (campaign)")
+    add("--no-admission", action="store_true", help="also where the network isn't admitted")
+    add("--pages", action="store_true", help="a page for each run too, pages/1 and so on")
+    add("--jobs", "-j", metavar="N", help="runs at a time (one for each core)")
+    resume = "repeat the runs that have no result, and run new lists"
+    add("--resume", action="store_true", help=resume)
+    add(
+        "--sshlogin",
+        "-S",
+        action="append",
+        default=[],
+        metavar="LOGIN",
+        help="run on this machine too (`:` is this one); as of GNU parallel",
+    )
+    add(
+        "--transfer",
+        action="store_true",
+        help="copy lists and configuration to those machines first (rsync)",
+    )
+    add_recording_words(parser)
+    add_words(parser)
+    return parser
+
+
+def main() -> NoReturn:
+    """Runs the tool."""
+    guarded(TOOL, lambda: run(words().parse_args()), "stopped; --resume goes on")

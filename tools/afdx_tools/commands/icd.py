@@ -1,0 +1,114 @@
+"""Makes the configuration of a network from two tables of its interface document.
+
+    afdx-icd systems.csv messages.csv network.toml
+
+The tables are CSV as spreadsheets write it; their first rows name the columns:
+
+    systems    system, port (of the switches), id, partition, rate (Mbit/s)
+    messages   message, vl, from, to (names, spaces between), every_ms, bytes,
+               within_us (through the switch), priority (high or low),
+               port (UDP), kind (sampling or queuing), depth
+
+The messages of one vl share a virtual link. `afdx solve` finds the least
+jitters, buffer, latencies and skews with which the network is admitted. Prints
+`ok`; or names each message that can't be in time, and writes nothing then
+(status 1).
+"""
+from __future__ import annotations
+
+import argparse
+import sys
+import tomllib
+from typing import NoReturn
+
+from afdx_tools.command_line import Parser, whole
+from afdx_tools.faults import Failed, shown
+from afdx_tools.guard import guarded
+from afdx_tools.icd.changes import Comparison
+from afdx_tools.icd.document import Document, add_document_words, read_document
+from afdx_tools.icd.layout import asked_text, config_text, with_solved
+from afdx_tools.icd.room import room_of, roomy
+from afdx_tools.icd.untimely import late_lines, refusal
+from afdx_tools.outputs import finished
+from afdx_tools.solving import bounds, check, read_admitted, solve
+from afdx_tools.version import add_version
+
+TOOL = "afdx-icd"
+MOST_TOLD = 20  # lines of what is wrong
+MOST_RESERVE = 1000  # percent
+
+
+def say(lines: list[str]) -> None:
+    """Lines for the user, on standard error."""
+    for line in lines[:MOST_TOLD]:
+        print(f"{TOOL}: {shown(line)}", file=sys.stderr)
+    if len(lines) > MOST_TOLD:
+        print(f"{TOOL}: {len(lines) - MOST_TOLD} more lines are like these", file=sys.stderr)
+
+
+def solved_tables(document: Document, text: str) -> dict:
+    """The tables that `solve` wrote, in the order and with the keys of the document's."""
+    try:
+        return with_solved(document, tomllib.loads(text))
+    except (ValueError, KeyError, TypeError) as error:
+        raise Failed("solve wrote other tables than it was given", 4) from error
+
+
+def run() -> int:
+    """Makes the configuration that the words ask for; the status."""
+    args = words().parse_args()
+    document, told = read_document(args)
+    say(told)
+    if document.faults:
+        say(document.faults)
+        return 2
+    since = None if args.since is None else read_admitted(args.since)
+    solved = solve(asked_text(document))
+    if solved.line:
+        say([refusal(document, solved.line)])
+        return 1
+    return write(args, document, solved_tables(document, solved.text), since)
+
+
+def write(args: argparse.Namespace, document: Document, tables: dict, since: dict | None) -> int:
+    """Writes the configuration with these tables and the room that is asked for, if no message is
+    late; the status."""
+    room, proved = room_of(args.reserve, since), bounds(config_text(document, tables))
+    late = late_lines(document, proved.latencies, room.enough_us(proved), args.reserve)
+    say(late)
+    if late and not args.raised:
+        return 1
+    made = roomy(document, room, proved, tables)
+    config = config_text(document, made)
+    answer = check(config)
+    if answer != "ok":
+        raise Failed(f"what it made isn't admitted: {answer}", 4)
+    lines = [] if since is None else Comparison(document, since, made, proved).lines()
+    with finished(args.config) as file:
+        file.write(config)
+    for line in [*lines, answer]:
+        print(line, file=sys.stderr if args.config == "-" else sys.stdout)
+    return 0
+
+
+def words() -> argparse.ArgumentParser:
+    """The words that the tool takes."""
+    parser = Parser(
+        prog=TOOL, description=__doc__, formatter_class=argparse.RawDescriptionHelpFormatter
+    )
+    add_version(parser, TOOL)
+    add_document_words(parser)
+    add = parser.add_argument
+    add("config", metavar="CONFIG", help="the configuration, or - for standard output")
+    raised = "write it also where messages can't be in time, with the latencies they need"
+    add("--raise", dest="raised", action="store_true", help=raised)
+    reserve = "let latencies and buffer be so much more than is needed, for what comes later (0)"
+    add("--reserve", type=whole(0, MOST_RESERVE), default=0, metavar="PERCENT", help=reserve)
+    since = "an earlier configuration: keep what is still enough, and print what changed, and why"
+    add("--since", metavar="OLD", help=since)
+    return parser
+
+
+def main() -> NoReturn:
+    """Runs the tool."""
+    guarded(TOOL, run)

@@ -1,0 +1,92 @@
+"""Says to the program where the interfaces of a recording were plugged in.
+
+    afdx replay $(afdx-taps net.toml taps.csv run.pcapng) net.toml run.pcapng
+    afdx-taps net.toml taps.csv A.pcapng B.pcapng
+
+TAPS is a table as spreadsheets write it (CSV). Its first row names the columns:
+
+    interface   its name in the recording, or #0 for interface 0 if it has none
+    side, port  A or B; the port of the switch, 1 to 24
+    direction   in (into the switch), out (from it to the system), or none
+
+Prints the words --interface, one a line, if recording and table agree: each
+interface has its row, each row its interface, and the source addresses of the
+frames name the place. Else it says what doesn't, with status 3.
+"""
+from __future__ import annotations
+
+import argparse
+import os
+import sys
+from typing import Iterable, NoReturn
+
+from afdx_tools.command_line import Parser
+from afdx_tools.config import read_config
+from afdx_tools.faults import Refused, shown
+from afdx_tools.guard import guarded
+from afdx_tools.progress import Progress
+from afdx_tools.recordings.tapped import DISAGREE, checked
+from afdx_tools.recordings.taps import WrongTaps, read_taps
+from afdx_tools.version import add_version
+
+TOOL = "afdx-taps"
+# what the program refuses: so no run goes on without places where `$(afdx-taps ..)` failed
+NO_WORD = "--interface=refused"
+
+
+def say(lines: Iterable[str]) -> None:
+    """Lines for the user, on standard error."""
+    for line in lines:
+        print(f"{TOOL}: {shown(line)}", file=sys.stderr)
+
+
+def words_of(args: argparse.Namespace) -> tuple[list[str], int]:
+    """The words of the program, and the status."""
+    recordings = [args.recording] if args.other is None else [args.recording, args.other]
+    for path in recordings:
+        if os.path.exists(path) and not os.path.isfile(path):
+            raise Refused(f"{shown(path)} is no file, and it has to be read twice")
+    try:
+        taps = read_taps(args.taps)
+    except WrongTaps as wrong:
+        say(wrong.lines)
+        return [], 2
+    found = checked(read_config(args.config), taps, recordings, recordings, Progress(TOOL))
+    say([*found.remarks, *found.faults])
+    if found.faults and not args.anyway:
+        return [], DISAGREE
+    return found.words, 0
+
+
+def run() -> int:
+    """Prints the words; the status. Where it isn't 0 there is one that the program refuses."""
+    words = [NO_WORD]
+    try:
+        found, status = words_of(parser().parse_args())
+        words = [NO_WORD] if status else found
+    except SystemExit as end:
+        words = words if end.code else []
+        raise
+    finally:
+        print("".join(f"{word}\n" for word in words), end="")
+    return status
+
+
+def parser() -> argparse.ArgumentParser:
+    """The words that the tool takes."""
+    words = Parser(
+        prog=TOOL, description=__doc__, formatter_class=argparse.RawDescriptionHelpFormatter
+    )
+    add_version(words, TOOL)
+    add = words.add_argument
+    add("config", metavar="CONFIG", help="the configuration, which has the systems' ports")
+    add("taps", metavar="TAPS", help="the table of the taps")
+    add("recording", metavar="RECORDING", help="pcap or pcapng, a file")
+    add("other", metavar="RECORDING", nargs="?", help="the recording of B, beside that of A")
+    add("--anyway", action="store_true", help="print the words also where they don't agree")
+    return words
+
+
+def main() -> NoReturn:
+    """Runs the tool."""
+    guarded(TOOL, run)

@@ -1,0 +1,1 @@
+"""Interface documents: their tables, and the configuration that they ask for."""

@@ -1,0 +1,1 @@
+"""Recordings, pcap and pcapng: reading, writing, where they were made."""

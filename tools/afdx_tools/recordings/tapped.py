@@ -1,0 +1,250 @@
+"""Whether recordings agree with a table of taps, and the program's words that follow from it."""
+from __future__ import annotations
+
+import filecmp
+import os
+from typing import Iterable, NamedTuple
+
+from afdx_tools.config import Config, read_config
+from afdx_tools.faults import LONGEST_NAME, Failed, cut, shown
+from afdx_tools.progress import Progress
+from afdx_tools.recordings.interfaces import OTHERS, Interface, interfaces_of
+from afdx_tools.recordings.options import is_packed
+from afdx_tools.recordings.taps import (
+    IN,
+    NONE,
+    OUT,
+    SIDES,
+    Found,
+    Place,
+    Recording,
+    Tap,
+    called,
+    matched,
+    read_taps,
+)
+
+SENDER = b"\x02\0\0"  # a source address of an end system begins with it
+DISAGREE = 3  # the status where recording and table don't agree
+FEW = 3  # places that are named of frames that contradict theirs
+
+
+class Tapped(NamedTuple):
+    """An interface of a recording, by its number there, and its row."""
+
+    recording: str
+    number: int
+    interface: Interface
+    tap: Tap
+
+    def at(self) -> str:
+        """The interface and what the table says of it."""
+        interface = called(self.number, self.interface.name)
+        return f"{self.recording}: {interface} is {self.tap.says} by {self.tap.row.place}"
+
+
+# ---- what the frames say -------------------------------------------------------------------------
+
+
+class Claims:
+    """Where the systems of a configuration are, by the source addresses of their frames."""
+
+    def __init__(self, config: Config, all_tapped: Iterable[Tapped]) -> None:
+        self.ports = config.ports_by_id()
+        self.names = {port: system.name for port, system in config.by_port().items()}
+        self.links = config.links.values()
+        # the places from which frames came that name them
+        self.named = {
+            each.tap.place
+            for each in all_tapped
+            if each.tap.direction == IN
+            and any(self.agrees(each.tap, source) for source in each.interface.sources)
+        }
+
+    def place_of(self, source: bytes) -> Place | None:
+        """The place that a source address names; None where it names none."""
+        side = SIDES.get(source[-1]) if source.startswith(SENDER) else None
+        port = self.ports.get(int.from_bytes(source[3:5], "big"))
+        return Place(side, port) if side and port else None
+
+    def called(self, source: bytes) -> str:
+        """That place as it is told."""
+        place = self.place_of(source)
+        if place:
+            return f"{place} ({self.names[place.port]})"
+        return f"no place ({source.hex(':')})" if source != OTHERS else "other addresses"
+
+    def agrees(self, tap: Tap, source: bytes) -> bool:
+        """A frame of that source can come there: into the switch only from the system at the port,
+        out of it only from another one on that side; anything where it doesn't count."""
+        place, here = self.place_of(source), tap.place
+        if tap.direction == NONE:
+            return True
+        if tap.direction == IN:
+            return place == here
+        return place is not None and here is not None and place.side == here.side and place != here
+
+    def are_others(self, tap: Tap, sources: Iterable[bytes]) -> bool:
+        """These are systems of the same side that were recorded at their places, too."""
+        side = tap.place.side if tap.place else None
+        places = map(self.place_of, sources)
+        return all(place and place in self.named and place.side == side for place in places)
+
+    def come_out(self, tap: Tap, sources: Iterable[bytes]) -> bool:
+        """These are such systems, and their frames come out of the switch at the tap's place."""
+        here = tap.place.port if tap.place else None
+        ports = {link.port for link in self.links if here in link.ports}
+        places = map(self.place_of, sources)
+        come = all(place is not None and place.port in ports for place in places)
+        return come and self.are_others(tap, sources)
+
+    def is_wrong(self, tap: Tap, sources: Iterable[bytes]) -> bool:
+        """The place is wrong, where not one frame agrees with it. It may be right if no system is
+        there, or if the one there sends as others do; but not if their frames come out there."""
+        if tap.direction == OUT:
+            return True
+        if tap.place is None or tap.place.port not in self.names:
+            return False
+        return not self.are_others(tap, sources) or self.come_out(tap, sources)
+
+
+def swapped(recording: Recording) -> str:
+    """What is wrong with one of two recordings whose frames all name the other side; or nothing."""
+    counts = {"A": 0, "B": 0}
+    for interface in recording.interfaces:
+        for source, seen in interface.sources.items():
+            side = SIDES.get(source[-1]) if source.startswith(SENDER) else None
+            if side:
+                counts[side] += seen.frames
+    side = recording.side or ""
+    other = {"A": "B", "B": "A"}.get(side)
+    if other is None or counts[side] or not counts[other]:
+        return ""
+    total = sum(interface.frames for interface in recording.interfaces)
+    return (
+        f"{recording.name} is given as the recording of {recording.side}, and {counts[other]} of "
+        f"its {total} AFDX frames name side {other}, none {recording.side}"
+    )
+
+
+def row_of(tapped: Tapped, count: int) -> dict:
+    """An interface as a row of a report, with so many frames that contradict its place."""
+    name, tap = tapped.interface.name, tapped.tap
+    return {
+        "recording": tapped.recording,
+        "interface": tapped.number,
+        "name": None if name is None else cut(name, LONGEST_NAME),
+        "place": str(tap.place) if tap.place else None,
+        "direction": tap.direction,
+        "frames": tapped.interface.frames,
+        "contradicting": count,
+    }
+
+
+def note_frames(found: Found, claims: Claims, tapped: Tapped) -> None:
+    """Notes what frames an interface has, and those that contradict its place: a fault where the
+    place is wrong, else worth a look."""
+    tap, total = tapped.tap, tapped.interface.frames
+    others = {s: n for s, n in tapped.interface.sources.items() if not claims.agrees(tap, s)}
+    count = sum(source.frames for source in others.values())
+    found.rows.append(row_of(tapped, count))
+    if not total and tap.direction != NONE:
+        found.remarks.append(f"{tapped.at()}, and has no AFDX frame")
+    if not count:
+        return
+    most = sorted(others, key=lambda source: -others[source].frames)
+    places = ", ".join(claims.called(source) for source in most[:FEW])
+    more = f" and {len(most) - FEW} others" if len(most) > FEW else ""
+    first = min(source.first for source in others.values())
+    line = f"{tapped.at()}, and {count} of its {total} AFDX frames name {places}{more}; "
+    line += f"the first is number {first}"
+    if tap.direction == IN and claims.come_out(tap, others):
+        which = "were both directions" if count < total else "was the other direction"
+        line += f". Such frames come out there: {which} recorded?"
+    is_wrong = count == total and claims.is_wrong(tap, others)
+    (found.faults if is_wrong else found.remarks).append(line)
+
+
+# ---- the words -----------------------------------------------------------------------------------
+
+
+def word_of(tap: Tap, number: int) -> str:
+    """The word of the program for an interface."""
+    place = tap.place if tap.direction == IN else "-"
+    return f"--interface={number}={place}"
+
+
+def note_words(found: Found, rows: list[dict[int, Tap]]) -> None:
+    """The words for all recordings; an interface that is left out is so in both."""
+    for number in sorted(set().union(*rows)):
+        words = {word_of(each[number], number) for each in rows if number in each}
+        if f"--interface={number}=-" in words and len(words) > 1:
+            found.faults.append(
+                f"interface {number} is left out of one recording and not of the other, which no "
+                "word says; record the interfaces of both networks in one order"
+            )
+        found.words += sorted(words)
+
+
+def are_same(paths: list[str]) -> bool:
+    """Two recordings have the same content."""
+    one, other = paths
+    return os.path.samefile(one, other) or filecmp.cmp(one, other, shallow=False)
+
+
+def read(paths: list[str], names: list[str], progress: Progress) -> list[Recording]:
+    """The recordings; that of A first where there are two."""
+    sides: list[str | None] = ["A", "B"] if len(paths) == 2 else [None]
+    recordings = []
+    for path, name, side in zip(paths, map(shown, names), sides):
+
+        def told(count: int, name: str = name) -> None:
+            progress.tell(f"{count >> 20} MiB of {name} read")
+
+        recordings.append(Recording(name, side, interfaces_of(path, told)))
+    progress.done()
+    return recordings
+
+
+def checked(
+    config: Config, taps: list[Tap], paths: list[str], names: list[str], progress: Progress
+) -> Found:
+    """Looks at one recording, or at those of A and B, and at the table. Recordings have to be files
+    that can be read again; `names` are what they are called."""
+    found = Found()
+    if len(paths) == 2 and are_same(paths):
+        found.faults.append(f"{shown(names[0])} and {shown(names[1])} are the same recording")
+        return found
+    rows: list[dict[int, Tap]] = []
+    all_tapped = []
+    for path, recording in zip(paths, read(paths, names, progress)):
+        if not recording.interfaces:
+            what = "a packed file: unpack it first"
+            what = what if is_packed(path) else "no recording that has an interface"
+            found.faults.append(f"{recording.name} is {what}")
+            continue
+        if swapped(recording):
+            found.faults.append(swapped(recording))
+            continue
+        rows.append(matched(found, taps, recording))
+        all_tapped += [
+            Tapped(recording.name, number, recording.interfaces[number], tap)
+            for number, tap in rows[-1].items()
+        ]
+    claims = Claims(config, all_tapped)
+    for tapped in all_tapped:
+        note_frames(found, claims, tapped)
+    note_words(found, rows)
+    return found
+
+
+def found_by(
+    taps: str, config: str, paths: list[str], names: list[str], progress: Progress
+) -> Found:
+    """What the recordings are, by a table of --taps; Failed where they don't agree with it."""
+    found = checked(read_config(config), read_taps(taps), paths, names, progress)
+    if found.faults:
+        more = len(found.faults) - 1
+        others = f" (and {more} more; afdx-taps says all)" if more else ""
+        raise Failed(found.faults[0] + others, DISAGREE)
+    return found

@@ -1,0 +1,1 @@
+"""A replay as columns of numbers, and what is counted of it."""

@@ -1,0 +1,233 @@
+"""The two copies of a frame, one on each side: those that came alone, skews, clocks, doubles."""
+from __future__ import annotations
+
+from dataclasses import dataclass
+
+import numpy as np
+
+from afdx_tools.replay.counting import MOST_PORTS, Counting
+from afdx_tools.replay.events import ACCEPT, DELIVERED
+from afdx_tools.replay.silence import Silences
+from afdx_tools.replay.traffic import NUMBERED, grouped, of_kinds, order_of
+
+HALF_ROUND = 127  # BAGs in which the numbers of a link go half round
+NEVER = np.iinfo(np.int64).max
+FEWEST = 10  # pairs of a sender below which nothing is said of its clock
+LEAST_OFFSET = 100_000  # ns; below that it may as well be cables and senders
+
+
+@dataclass(frozen=True)
+class Skew:
+    """The greatest time in ns between the two copies of a frame, and the line of the later one."""
+
+    pairs: int
+    greatest: int
+    line: int
+
+
+@dataclass(frozen=True)
+class Offset:
+    """By how many ns the copies of a sender came later on side B than on side A: the median of all,
+    the quartiles, and the median of the first and of the last tenth of them."""
+
+    system: str
+    pairs: int
+    low: int
+    median: int
+    high: int
+    begin: int
+    end: int
+
+
+# ---- which frames belong together ----------------------------------------------------------------
+
+
+def in_rounds(
+    counting: Counting, lines: np.ndarray, shift: int
+) -> tuple[np.ndarray, np.ndarray, np.ndarray]:
+    """These lines by link and number, of each by time; their keys, and these times. The clock of
+    side B is `shift` ns ahead."""
+    listing = counting.listing
+    times = listing.time[lines] - shift * listing.side[lines].astype(np.int64)
+    keys = counting.place[lines].astype(np.int64) * 256 + listing.number[lines]
+    order = np.argsort(times, kind="stable") if shift else np.arange(len(lines))
+    order = order[order_of(keys[order])]
+    return lines[order], keys[order], times[order]
+
+
+def paired(counting: Counting, lines: np.ndarray, shift: int) -> np.ndarray:
+    """Of each line of the list the line of the frame's other copy, 0 where it has none.
+
+    Copies are two of these frames of a link and number, one of each side, each the nearest to the
+    other in time, and less apart than half of the time in which the numbers go round."""
+    other = np.zeros(counting.listing.lines + 1, np.int32)
+    if len(lines) < 2:
+        return other
+    lines, keys, times = in_rounds(counting, lines, shift)
+    apart, side = np.diff(times), counting.listing.side[lines]
+    both = (keys[1:] == keys[:-1]) & (side[1:] != side[:-1])
+    both &= apart <= half_rounds(counting)[counting.place[lines[1:]]]
+    apart = np.where(both, apart, NEVER)
+    before, behind = np.roll(apart, 1), np.roll(apart, -1)
+    before[0] = behind[-1] = NEVER
+    at = np.flatnonzero(both & (apart <= before) & (apart < behind))
+    other[lines[at]], other[lines[at + 1]] = lines[at + 1], lines[at]
+    return other
+
+
+def half_rounds(counting: Counting) -> np.ndarray:
+    """Of each link, by its place, the ns in which its numbers go half round."""
+    bags = [counting.config.links[vl].bag_ms for vl in counting.order]
+    return np.array([*bags, 0], np.int64) * HALF_ROUND * 1_000_000
+
+
+def later_on_b(counting: Counting, other: np.ndarray) -> tuple[np.ndarray, np.ndarray]:
+    """The frames of side A that have a copy on side B, and by how many ns that came later."""
+    at = np.flatnonzero((other > 0) & (counting.listing.side == 0))
+    time = counting.listing.time
+    return at, time[other[at]] - time[at]
+
+
+def pairs_of(counting: Counting) -> np.ndarray:
+    """Of each line of the list the line of the frame's other copy, 0 where it has none; of accepted
+    frames alone. Clocks that are far apart pair each copy with one of another round: so they are
+    paired again, by the median over the links of what was found first."""
+    lines = of_kinds(counting, (ACCEPT,))
+    other = paired(counting, lines, 0)
+    at, apart = later_on_b(counting, other)
+    medians = [np.median(apart[each]) for each in grouped(counting.place[at]).values()]
+    shift = int(np.median(medians)) if medians else 0
+    return paired(counting, lines, shift) if abs(shift) > LEAST_OFFSET else other
+
+
+def alone_of(counting: Counting, other: np.ndarray, silences: Silences) -> np.ndarray:
+    """The lines of accepted frames of which no copy came on the other side, accepted or not, while
+    that side was heard: not those within its silences, nor those so near to an end of the run that
+    the copy may lie beyond it, by SkewMax or twice the greatest skew that came."""
+    listing, place = counting.listing, counting.place
+    _, apart = later_on_b(counting, other)
+    shift = int(np.median(apart)) if len(apart) else 0
+    accepted = of_kinds(counting, (ACCEPT,))
+    lines, keys, times = in_rounds(counting, of_kinds(counting, NUMBERED), shift)
+    far = nearest_there(keys, times, listing.side[lines]) > half_rounds(counting)[place[lines]]
+    lines = np.sort(lines[far])
+    lines = lines[np.isin(lines, accepted[other[accepted] == 0])]
+    skews = [counting.config.links[vl].skew_ns for vl in counting.order]
+    usual = 2 * int(np.abs(apart - shift).max(initial=0)) + LEAST_OFFSET
+    near = np.minimum(np.array([*skews, 0], np.int64)[place[lines]], usual)
+    times = listing.time[lines] + np.where(listing.side[lines] == 0, shift, -shift)
+    inside = (times - near > silences.begin) & (times + near < silences.end)
+    return lines[inside & ~silences.cover(lines, near + abs(shift))]
+
+
+def nearest_there(keys: np.ndarray, times: np.ndarray, side: np.ndarray) -> np.ndarray:
+    """Of each frame the least time to one of its key on the other side, NEVER where there is none;
+    they stand by keys, then by times. A babbler's frames count, so none of its numbers is wanting
+    where only its account there let another through."""
+    places, count = np.arange(len(keys)), len(keys)
+    found = np.full(count, NEVER)
+    for each in (0, 1):
+        there, mine = side != each, np.flatnonzero(side == each)
+        before = np.maximum.accumulate(np.where(there, places, -1))[mine]
+        behind = np.minimum.accumulate(np.where(there, places, count)[::-1])[::-1][mine]
+        for at in (before, behind):
+            near = np.clip(at, 0, count - 1)
+            is_copy = (at == near) & (keys[near] == keys[mine])
+            apart = np.where(is_copy, np.abs(times[near] - times[mine]), NEVER)
+            found[mine] = np.minimum(found[mine], apart)
+    return found
+
+
+# ---- how far apart they are ----------------------------------------------------------------------
+
+
+def greatest_by_link(
+    counting: Counting, places: np.ndarray, apart: np.ndarray, lines: np.ndarray
+) -> dict[int, Skew]:
+    """The greatest of each link; `places` are those of the links."""
+    found = {}
+    for index, at in grouped(places).items():
+        worst = int(at[int(np.argmax(apart[at]))])
+        found[counting.vls[index]] = Skew(len(at), int(apart[worst]), int(lines[worst]))
+    return found
+
+
+def skews_at_inputs(counting: Counting, other: np.ndarray) -> dict[int, Skew]:
+    """By how much the later copy of a frame came to its switch after the earlier one."""
+    time = counting.listing.time
+    later = np.flatnonzero(other)
+    later = later[other[later] < later]
+    return greatest_by_link(
+        counting, counting.place[later], time[later] - time[other[later]], later
+    )
+
+
+def copies_at_receivers(counting: Counting, other: np.ndarray) -> tuple[np.ndarray, np.ndarray]:
+    """The copies that left a port after, in the list, their frame's copy of the other side, and
+    those that left the same port of the other switch."""
+    events = counting.events
+    at = np.flatnonzero(counting.left)
+    keys = events.line[at].astype(np.int64) * MOST_PORTS + events.port[at]
+    order = np.argsort(keys, kind="stable")
+    at, keys = at[order], keys[order]
+    partner = other[events.line[at]]
+    second = np.flatnonzero((partner > 0) & (partner < events.line[at]))
+    wanted = partner[second].astype(np.int64) * MOST_PORTS + events.port[at[second]]
+    place = np.minimum(np.searchsorted(keys, wanted), max(len(keys) - 1, 0))
+    there = keys[place] == wanted if len(keys) else np.zeros(0, bool)
+    return at[second[there]], at[place[there]]
+
+
+def skews_at_receivers(counting: Counting, other: np.ndarray) -> dict[int, Skew]:
+    """By how much a frame's copies left the two switches apart, over all output ports."""
+    events = counting.events
+    mine, its = copies_at_receivers(counting, other)
+    apart = events.time[mine] - events.time[its]
+    lines = events.line[np.where(apart >= 0, mine, its)]
+    return greatest_by_link(counting, counting.links[mine], np.abs(apart), lines)
+
+
+def twice_by_link(counting: Counting, other: np.ndarray) -> dict[int, int]:
+    """Of each link the messages that a receiver read twice, one from each copy of the frame."""
+    events = counting.events
+    mine, its = copies_at_receivers(counting, other)
+    code = events.ends.names.index(DELIVERED)
+    both = mine[(events.end[mine] == code) & (events.end[its] == code)]
+    places, counts = np.unique(counting.links[both], return_counts=True)
+    return {counting.vls[place]: int(count) for place, count in zip(places, counts)}
+
+
+# ---- clocks --------------------------------------------------------------------------------------
+
+
+def offsets_of(counting: Counting, other: np.ndarray) -> list[Offset]:
+    """By how much the copies of each sender came later on side B, in the order of the tables."""
+    at, apart = later_on_b(counting, other)
+    names = list(counting.config.systems)
+    sender = [names.index(counting.config.links[vl].source) for vl in counting.order] + [0]
+    of_sender = grouped(np.array(sender, np.int32)[counting.place[at]])
+    return [offset_of(names[place], apart[of_sender[place]]) for place in sorted(of_sender)]
+
+
+def offset_of(system: str, apart: np.ndarray) -> Offset:
+    """That of one sender, whose pairs stand in the order of time."""
+    tenth = max(len(apart) // 10, 1)
+    ranks = (len(apart) // 4, (len(apart) - 1) // 2, (3 * len(apart)) // 4)
+    low, median, high = (int(value) for value in np.partition(apart, ranks)[list(ranks)])
+    begin, end = (int(np.median(part)) for part in (apart[:tenth], apart[-tenth:]))
+    return Offset(system, len(apart), low, median, high, begin, end)
+
+
+def clock_of(offsets: list[Offset]) -> list[Offset]:
+    """The senders by whose copies the clocks of both sides differ: of all that have pairs enough
+    the medians are alike, and too great for cables; or all of them drift alike."""
+    known = [offset for offset in offsets if offset.pairs >= FEWEST]
+    if is_alike([offset.median for offset in known]):
+        return known
+    return known if is_alike([offset.end - offset.begin for offset in known]) else []
+
+
+def is_alike(amounts: list[int]) -> bool:
+    """Are all of these so great, and no further apart than a quarter of the least?"""
+    least = min((abs(amount) for amount in amounts), default=0)
+    return least >= LEAST_OFFSET and max(amounts) - min(amounts) <= least // 4

@@ -1,0 +1,57 @@
+"""What `afdx replay --explain-drops` writes on standard error, as columns.
+
+Each line `early n NS` is one of the proved program: NS is the least wait in ns after which the
+frame of line n, dropped as over-rate, would have been accepted.
+"""
+from __future__ import annotations
+
+from typing import IO
+
+import numpy as np
+
+from afdx_tools.faults import Refused
+from afdx_tools.replay.lines import Block, blocks_of
+from afdx_tools.replay.named import Named
+
+HEAD = b"early "
+
+
+class Early:
+    """The `early` lines in their order: the list's line, and the ns that its frame came too early
+    by. What else stands there is the `fault`. A last such line that was cut doesn't count. With two
+    recordings they have no side: the i-th is about the i-th frame that is `over_rate`."""
+
+    def __init__(self, file: IO[bytes], named: Named, over_rate: np.ndarray | None = None) -> None:
+        self.named, self.over_rate = named, over_rate
+        self.parts = [(np.zeros(0, np.int32), np.zeros(0, np.int64))]
+        others, end = [], 0
+        for text in blocks_of(file, ended=True):
+            end += len(text)
+            others += self.take(Block(text))
+        file.seek(end)
+        rest = file.read()
+        if not HEAD.startswith(rest[: len(HEAD)]):
+            others.append(rest)
+        self.fault = b"\n".join(others).decode("utf-8", "replace").strip()
+        self.lines, self.amounts = (np.concatenate(column) for column in zip(*self.parts))
+        self.parts = []
+
+    def lines_of(self, numbers: np.ndarray) -> np.ndarray:
+        """The lines of the next `early` lines, which have these numbers."""
+        if self.over_rate is None:
+            return self.named.of(numbers)
+        lines, self.over_rate = np.split(self.over_rate, [len(numbers)])
+        if not np.array_equal(self.named.numbers[lines], numbers):
+            raise Refused("the program's lines 'early' aren't those of its verdicts")
+        return lines
+
+    def take(self, block: Block) -> list[bytes]:
+        """Takes a block's `early` lines; its other lines."""
+        is_early = np.ones(len(block.starts), bool)
+        for place, letter in enumerate(HEAD):
+            is_early &= block.at(block.starts + place) == letter
+        numbers, behind = block.numbers(block.starts[is_early] + len(HEAD))
+        amounts, _ = block.numbers(behind + 1)
+        self.parts.append((self.lines_of(numbers), amounts))
+        others = np.flatnonzero(~is_early)
+        return [block.text[block.starts[n] : block.ends[n]] for n in others]

@@ -1,0 +1,188 @@
+"""The lines of `afdx replay` as columns: verdicts by the list's line, and what became of copies."""
+from __future__ import annotations
+
+import functools
+import subprocess
+from typing import IO, Callable
+
+import numpy as np
+
+from afdx_tools.faults import Refused
+from afdx_tools.program import program
+from afdx_tools.replay.early import Early
+from afdx_tools.replay.lines import SPACE, Block, blocks_of
+from afdx_tools.replay.listing import SIDES, Listing
+from afdx_tools.replay.named import Named
+
+ACCEPT = "accept"
+DELIVERED, REDUNDANT = "delivered", "redundant"
+OVER_RATE = "over-rate"
+LOST, OLD, LEFT = "full-buffer", "too-old", "left"
+FATES = (LEFT, LOST, OLD)
+NOT_YET = -1  # stands for a line without a verdict, and for a departure without a receiver's line
+LETTERS = {letter: ord(letter) for letter in "VLDTMX"}
+KNOWN = np.isin(np.arange(256), list(LETTERS.values()))
+
+
+@functools.cache
+def verdicts() -> tuple[str, ...]:
+    """Why a switch drops a frame: the words of the program, in its order."""
+    words = [program(), "explain", "--list"]
+    run = subprocess.run(words, capture_output=True, check=False)
+    told = run.stdout.decode(errors="replace")
+    drops = [line for line in told.splitlines() if line.startswith("drop ")]
+    return tuple(line.removeprefix("drop ") for line in drops)
+
+
+class Words:
+    """Words by small numbers, in the order in which they came."""
+
+    def __init__(self, *first: str) -> None:
+        self.names = list(first)
+
+    def of(self, names: list[str]) -> np.ndarray:
+        """The numbers of some words; a new word gets the next number."""
+        self.names += [name for name in names if name not in self.names]
+        return np.array([self.names.index(name) for name in names], np.int8)
+
+
+class Events:
+    """What a replay wrote. Of each line of the list `verdict`, the place of its word in
+    `verdicts.names`; of each copy that came to its end, in the order of the lines, the list's line,
+    the output port, the time, the fate (the place in FATES), and what its receiver did with it (the
+    place in `ends.names`). `early` is what standard error said; `named` has the number that the
+    program gave a line."""
+
+    def __init__(self, listing: Listing) -> None:
+        self.listing = listing
+        self.named = Named(listing)
+        self.verdicts = Words(ACCEPT, *verdicts())
+        self.ends = Words(DELIVERED, REDUNDANT)
+        self.verdict = np.full(listing.lines + 1, NOT_YET, np.int8)
+        self.parts: list[dict[str, np.ndarray]] = [none_at_all()]
+
+    def read(self, file: IO[bytes], told: Callable[[int], None] = lambda line: None) -> None:
+        """Takes the lines of `replay`, and joins them. A last line that was cut doesn't count."""
+        rest = b""
+        for text in blocks_of(file, ended=True):
+            whole = rest + text if rest else text
+            cut = whole.rfind(b"\n", 0, -1) + 1
+            cut = cut if whole[cut] == LETTERS["D"] else len(whole)
+            rest = whole[cut:]  # a departure: the line behind it says what the receiver did
+            if cut:
+                self.take(whole[:cut] if rest else whole, told)
+        if rest:
+            self.take(rest, told)
+        joined = {name: np.concatenate([p[name] for p in self.parts]) for name in self.parts[0]}
+        self.parts = []
+        self.line, self.time, self.port = joined["line"], joined["time"], joined["port"]
+        self.fate, self.end = joined["fate"], joined["end"]
+
+    def read_errors(self, file: IO[bytes]) -> str:
+        """Takes the lines of standard error, a file that was written; the fault line there."""
+        over_rate = self.lines_of(OVER_RATE) if self.listing.is_pair else None
+        self.early = Early(file, self.named, over_rate)
+        return self.early.fault
+
+    def take(self, text: bytes, told: Callable[[int], None]) -> None:
+        """Takes a block's lines."""
+        block = Block(text)
+        if not KNOWN[block.heads].all():
+            raise Refused("the program wrote a line that this tool doesn't know")
+        lines = self.judged(block)
+        if len(lines):
+            told(int(lines[-1]))
+        found = [self.lost(block), self.departed(block), self.old(block)]
+        part = {name: np.concatenate([one[name] for one in found]) for name in found[0]}
+        order = np.argsort(part["at"], kind="stable")
+        self.parts.append({name: column[order] for name, column in part.items()})
+
+    def judged(self, block: Block) -> np.ndarray:
+        """`V n side accept` or `V n side drop WORD`"""
+        at = np.flatnonzero(block.heads == LETTERS["V"])
+        numbers, end = block.numbers(block.starts[at] + 2)
+        lines = self.named.next_lines(numbers, block.at(end + 1))
+        verdict = np.zeros(len(at), np.int8)
+        before = block.ends[at] - len(ACCEPT) - 1  # a space, where the word is as long as that
+        dropped = np.flatnonzero(block.bytes[before] != SPACE)
+        names, places = block.last_words(at[dropped])
+        verdict[dropped] = self.verdicts.of(names)[places]
+        self.verdict[lines] = verdict
+        return lines
+
+    def lost(self, block: Block) -> dict[str, np.ndarray]:
+        """`L n side port`: the time is that of the list's line."""
+        at = np.flatnonzero(block.heads == LETTERS["L"])
+        numbers, end = block.numbers(block.starts[at] + 2)
+        line = self.named.of(numbers, block.at(end + 1))
+        port, _ = block.numbers(end + 3)
+        return copies(at, line, self.listing.time[line], port, LOST)
+
+    def old(self, block: Block) -> dict[str, np.ndarray]:
+        """`T n time side port`"""
+        return self.ended(block, "T", OLD)
+
+    def departed(self, block: Block) -> dict[str, np.ndarray]:
+        """`D n time side port`, and what the line behind it says: M, or X with its word."""
+        part = self.ended(block, "D", LEFT)
+        behind = np.minimum(part["at"] + 1, len(block.heads) - 1)
+        heads = block.heads[behind]
+        part["end"][heads == LETTERS["M"]] = 0
+        refused = np.flatnonzero(heads == LETTERS["X"])
+        names, places = block.last_words(behind[refused])
+        part["end"][refused] = self.ends.of(names)[places]
+        return part
+
+    def ended(self, block: Block, letter: str, fate: str) -> dict[str, np.ndarray]:
+        """The copies of the lines `LETTER n time side port`."""
+        at = np.flatnonzero(block.heads == LETTERS[letter])
+        numbers, end = block.numbers(block.starts[at] + 2)
+        time, end = block.numbers(end + 1)
+        port, _ = block.numbers(end + 3)
+        return copies(at, self.named.of(numbers, block.at(end + 1)), time, port, fate)
+
+    def side_of_copies(self) -> np.ndarray:
+        """The side of each copy: 0 for A, 1 for B."""
+        return self.listing.side[self.line]
+
+    def number_of(self, line: int) -> int:
+        """The number that the program gave a line of the list."""
+        return int(self.named.numbers[line])
+
+    def verdict_of(self, line: int) -> str:
+        """The verdict of a line, as a word."""
+        return self.verdicts.names[self.verdict[line]]
+
+    def lines_of(self, verdict: str) -> np.ndarray:
+        """The lines with that verdict."""
+        places = [n for n, name in enumerate(self.verdicts.names) if name == verdict]
+        return np.flatnonzero(np.isin(self.verdict, places))
+
+    def end_of(self, copy: int) -> str:
+        """What the receiver did with a copy, as a word; nothing where no line says it."""
+        return "" if self.end[copy] == NOT_YET else self.ends.names[self.end[copy]]
+
+
+def side_name(side: int) -> str:
+    """A or B."""
+    return SIDES[side]
+
+
+def none_at_all() -> dict[str, np.ndarray]:
+    """The columns of no copies."""
+    none = np.zeros(0, np.int64)
+    return copies(none, none, none, none, LEFT)
+
+
+def copies(
+    at: np.ndarray, line: np.ndarray, time: np.ndarray, port: np.ndarray, fate: str
+) -> dict[str, np.ndarray]:
+    """The columns of copies with one fate; `at` is their place in the block."""
+    return {
+        "at": at,
+        "line": line.astype(np.int32),
+        "time": time,
+        "port": port.astype(np.int8),
+        "fate": np.full(len(at), FATES.index(fate), np.int8),
+        "end": np.full(len(at), NOT_YET, np.int8),
+    }

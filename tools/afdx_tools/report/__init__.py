@@ -1,0 +1,1 @@
+"""The report of a replay: rows, sentences, pictures, the page."""

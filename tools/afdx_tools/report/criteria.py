@@ -1,0 +1,108 @@
+"""Pass or fail of a run by criteria, each a count that has to be 0; as JUnit's XML too."""
+from __future__ import annotations
+
+import argparse
+from typing import Sequence
+from xml.etree import ElementTree as xml
+
+from afdx_tools.faults import shown
+from afdx_tools.outputs import finished
+from afdx_tools.tables import Row
+
+FAILED = 6  # the status of a run that ended well and failed by a criterion
+CRITERIA = {
+    "silent": "silences of networks, systems or links",
+    "contradicted": "frames whose own address names the other network",
+    "clock": "senders whose copies show that the clocks are apart",
+    "twice": "messages that were delivered twice",
+    "late": "copies that left later than their link's configured latency",
+    "full-buffer": "copies that were lost to a full buffer",
+    "too-old": "copies that were dropped for their age",
+    "dropped": "frames that a switch dropped",
+    "unequal": "frames that came on one side alone",
+    "missing": "sequence numbers that were skipped",
+    "refused": "copies that a receiver dropped, redundant ones apart",
+    "skew": "links with more skew than SkewMax",
+    "jitter": "links and sides with more jitter than in the table",
+    "first-number": "links and sides whose first number isn't 0",
+    "recorder-lost": "frames that the recorder itself lost",
+    "left-out": "recorded frames that were left out",
+    "unused": "interfaces that were named and that the recording doesn't have",
+    "claimed": "frames of which only their own addresses say where they came in",
+}
+LOST = ("full-buffer", "too-old", "missing")  # what `lost` stands for: sent, and gone for good
+
+
+def criteria_of(text: str) -> list[str]:
+    """The type of the word of --fail-on: criteria with commas between them."""
+    words: set[str] = set()
+    for word in text.split(","):
+        if word not in CRITERIA and word != "lost":
+            raise argparse.ArgumentTypeError(f"{word} is none of {', '.join(CRITERIA)}, lost")
+        words |= set(LOST) if word == "lost" else {word}
+    return [word for word in CRITERIA if word in words]
+
+
+def add_words(parser: argparse.ArgumentParser) -> None:
+    """Teaches a parser --fail-on and --junit."""
+    parser.add_argument(
+        "--fail-on",
+        type=criteria_of,
+        default=[],
+        metavar="WORDS",
+        help=f"status {FAILED} where one of these isn't 0, with commas: {', '.join(CRITERIA)}; "
+        f"lost stands for {', '.join(LOST)}",
+    )
+    parser.add_argument(
+        "--junit", metavar="FILE", help="write the run and each criterion as a JUnit test case"
+    )
+
+
+def failure_of(totals: Row, word: str) -> str:
+    """The count of a criterion that isn't met, or that the report doesn't have; else nothing."""
+    count = totals.get(word.replace("-", "_"))
+    if count is None:
+        return "no count of"
+    return f"{count}" if count else ""
+
+
+def judged(totals: Row | None, words: Sequence[str]) -> list[str]:
+    """The criteria that aren't met, each with its count."""
+    if totals is None:
+        return []
+    found = [(failure_of(totals, word), word) for word in words]
+    return [f"{count} {word}" for count, word in found if count]
+
+
+def status_of(status: int, unmet: Sequence[str]) -> int:
+    """The status of a run with unmet criteria: that of the program, if it has one."""
+    return status or (FAILED if unmet else 0)
+
+
+def suite_of(name: str, fault: str, totals: Row | None, words: Sequence[str]) -> xml.Element:
+    """A run as a test suite: a case that it ended without a fault, and one for each criterion."""
+    suite = xml.Element("testsuite", name=shown(name), tests=str(1 + len(words)))
+    errors, failures = 0, 0
+    ended = xml.SubElement(suite, "testcase", classname=shown(name), name="run")
+    if fault:
+        errors = 1
+        xml.SubElement(ended, "error", message=shown(fault))
+    for word in words:
+        case = xml.SubElement(suite, "testcase", classname=shown(name), name=word)
+        if totals is None:
+            xml.SubElement(case, "skipped", message="the run gave no report")
+        elif count := failure_of(totals, word):
+            failures += 1
+            xml.SubElement(case, "failure", message=f"{count} {CRITERIA[word]}")
+    suite.set("errors", str(errors))
+    suite.set("failures", str(failures))
+    return suite
+
+
+def write_junit(path: str, suites: Sequence[xml.Element]) -> None:
+    """Writes the runs of one file."""
+    root = xml.Element("testsuites")
+    root.extend(suites)
+    xml.indent(root)
+    with finished(path) as file:
+        xml.ElementTree(root).write(file, encoding="utf-8", xml_declaration=True)

@@ -1,0 +1,327 @@
+"""The numbers of a report as rows."""
+from __future__ import annotations
+
+from typing import Sequence
+
+import numpy as np
+
+from afdx_tools.replay.absence import Copied, alone_by_side, contradicted
+from afdx_tools.replay.checked import Checked
+from afdx_tools.replay.counting import SHARES, Counting, Path, sorted_by
+from afdx_tools.replay.events import ACCEPT, DELIVERED, FATES, LEFT, LOST, OLD, REDUNDANT, side_name
+from afdx_tools.replay.listing import NO_LINK
+from afdx_tools.replay.traffic import Traffic, traffic_of
+from afdx_tools.tables import Row
+
+MOST_TROUBLES = 10_000
+SUMS = (
+    "frames",
+    "accepted",
+    "dropped",
+    "full_buffer",
+    "late",
+    "too_old",
+    "departed",
+    "delivered",
+    "redundant",
+    "refused",
+)
+
+
+def vl_text(vl: int) -> str | int:
+    """A link's identifier, or what stands for frames that name no link."""
+    return "none" if vl == NO_LINK else int(vl)
+
+
+def words_of(counts: np.ndarray, names: Sequence[str], without: Sequence[str]) -> Row:
+    """The words that come, with their counts, in the order of the names."""
+    return {name: int(count) for name, count in zip(names, counts) if count and name not in without}
+
+
+def sums_row(counting: Counting, keys: np.ndarray, of_copies: np.ndarray, count: int) -> list[Row]:
+    """For each key the sums; `keys` has one for each line, `of_copies` one for each copy."""
+    frames = counting.frames_by(keys, count)
+    fates, ends = counting.fates_by(of_copies, count), counting.ends_by(of_copies, count)
+    late = counting.late_by(of_copies, count)
+    verdicts, ended = counting.events.verdicts.names, counting.events.ends.names
+    rows = []
+    for key in range(count):
+        reasons = words_of(frames[key], verdicts, [ACCEPT])
+        refusals = words_of(ends[key], ended, [DELIVERED, REDUNDANT])
+        rows.append(
+            {
+                "frames": int(frames[key].sum()),
+                "accepted": int(frames[key][verdicts.index(ACCEPT)]),
+                "dropped": sum(reasons.values()),
+                "reasons": reasons,
+                "full_buffer": int(fates[key][FATES.index(LOST)]),
+                "late": int(late[key]),
+                "too_old": int(fates[key][FATES.index(OLD)]),
+                "departed": int(fates[key][FATES.index(LEFT)]),
+                "delivered": int(ends[key][ended.index(DELIVERED)]),
+                "redundant": int(ends[key][ended.index(REDUNDANT)]),
+                "refused": sum(refusals.values()),
+                "refusals": dict(sorted(refusals.items())),
+            }
+        )
+    return rows
+
+
+def link_rows(counting: Counting) -> list[Row]:
+    """A row for each link that has frames, by its identifier; frames of no link come last."""
+    rows = sums_row(counting, counting.place, counting.links, len(counting.vls))
+    return [{"link": vl_text(vl), **row} for vl, row in zip(counting.vls, rows) if row["frames"]]
+
+
+def side_rows(counting: Counting, copied: Copied) -> list[Row]:
+    """A row for each link and side: sums, and what was measured of the arrivals there."""
+    keys = counting.place * 2 + counting.listing.side
+    of_copies = counting.links * 2 + counting.sides
+    sums = sums_row(counting, keys, of_copies, 2 * len(counting.vls))
+    traffic, alone = traffic_of(counting), alone_by_side(counting, copied)
+    rows = []
+    for key, row in enumerate(sums):
+        vl, side = counting.vls[key // 2], key % 2
+        if row["frames"] and vl != NO_LINK:
+            measured = measured_row(counting, vl, traffic.get((vl, side)))
+            rows.append(
+                {
+                    "link": vl,
+                    "side": side_name(side),
+                    **{name: row[name] for name in SUMS},
+                    "alone": alone.get((vl, side), 0),
+                    **measured,
+                }
+            )
+    return rows
+
+
+def measured_row(counting: Counting, vl: int, traffic: Traffic | None) -> Row:
+    """What was measured of a link's arrivals on one side, beside its table."""
+    link, numbers = counting.config.links[vl], traffic.numbers if traffic else None
+    return {
+        "first_number": numbers.first if numbers else None,
+        "first_line": named(counting, numbers.first_line if numbers else None),
+        "missing": numbers.missing if numbers else None,
+        "missing_line": named(counting, numbers.missing_line if numbers else None),
+        "jumps": numbers.jumps if numbers else None,
+        "least_gap_ns": traffic.gap if traffic else None,
+        "gap_line": named(counting, traffic.gap_line if traffic else None),
+        "bag_ns": link.bag_ms * 1_000_000,
+        "jitter_ns": traffic.jitter if traffic else None,
+        "jitter_line": named(counting, traffic.jitter_line if traffic else None),
+        "table_jitter_ns": link.jitter_ns,
+    }
+
+
+def latency_row(counting: Counting, checked: Checked, path: Path) -> Row:
+    """The latencies of a link at a port of one side."""
+    link, line = counting.config.links[path.link], int(counting.events.line[path.worst])
+    bound, greatest = checked.bound_of(link, path.port), int(path.latencies[-1])
+    half, most, nearly = (path.rank(percent) for percent in SHARES)
+    return {
+        "link": path.link,
+        "from": link.source,
+        "port": path.port,
+        "system": counting.by_port[path.port].name,
+        "side": side_name(path.side),
+        "priority": link.priority,
+        "frames": len(path.latencies),
+        "least_ns": int(path.latencies[0]),
+        "median_ns": half,
+        "p99_ns": most,
+        "p99.9_ns": nearly,
+        "greatest_ns": greatest,
+        "at_line": named(counting, line),
+        "at_ns": int(counting.listing.time[line]),
+        "bound_ns": bound,
+        "configured_ns": link.latency_ns,
+        "margin_ns": None if bound is None else link.latency_ns - bound,
+        "share": greatest / link.latency_ns,
+        "late": path.late,
+    }
+
+
+def latency_rows(counting: Counting, checked: Checked) -> list[Row]:
+    """A row for each link, port and side where a frame left."""
+    return [latency_row(counting, checked, path) for path in counting.paths()]
+
+
+def port_rows(counting: Counting, checked: Checked) -> tuple[list[Row], Row]:
+    """A row for each output port of each side that frames went to; the loads over time."""
+    steps, queues = counting.queues()
+    rows = []
+    for queue in queues:
+        bound = checked.bounds.get(queue.port)
+        rows.append(
+            {
+                "port": queue.port,
+                "system": counting.by_port[queue.port].name,
+                "side": side_name(queue.side),
+                "left": queue.left,
+                "load": queue.load,
+                "peak_load": float(queue.loads.max(initial=0.0)),
+                "backlog": queue.backlog,
+                "at_ns": queue.time,
+                "bound": bound.buffer if bound else None,
+                "buffer": counting.config.buffer,
+            }
+        )
+    loads = [
+        {
+            "port": queue.port,
+            "system": counting.by_port[queue.port].name,
+            "side": side_name(queue.side),
+            "loads": [round(float(load), 6) for load in queue.loads],
+        }
+        for queue in queues
+    ]
+    return rows, {"start_ns": steps.start, "step_ns": steps.width, "ports": loads}
+
+
+def drops_of(counting: Counting) -> Row:
+    """The drops by reason in each step of time."""
+    steps, found = counting.drops()
+    counts = {word: [int(count) for count in series] for word, series in found.items()}
+    return {"start_ns": steps.start, "step_ns": steps.width, "reasons": counts}
+
+
+def histogram_of(counting: Counting) -> Row:
+    """For each side the copies by share of their link's configured latency, in steps of 5 %; the
+    last step is over 100 %."""
+    twentieths = -(-counting.latency * 20 // counting.configured[counting.links])
+    places = np.clip(twentieths - 1, 0, 20)
+    return {
+        side_name(side): np.bincount(
+            places[counting.left & (counting.sides == side)], minlength=21
+        ).tolist()
+        for side in (0, 1)
+    }
+
+
+def frame_rows(counting: Counting, checked: Checked, most: int) -> list[Row]:
+    """The copies whose latency was the greatest share of the configured one, the worst first."""
+    at = np.flatnonzero(counting.left)
+    shares = counting.latency[at] / np.maximum(counting.configured[counting.links[at]], 1)
+    order = np.lexsort((at, -shares))[:most] if len(at) <= 4 * most else largest(shares, most)
+    rows = []
+    for copy in at[order]:
+        line, port = int(counting.events.line[copy]), int(counting.events.port[copy])
+        link = counting.config.links[counting.vls[counting.links[copy]]]
+        rows.append(
+            {
+                **frame_key(counting, line),
+                "line": named(counting, line),
+                "port": port,
+                "system": counting.by_port[port].name,
+                "latency_ns": int(counting.latency[copy]),
+                "bound_ns": checked.bound_of(link, port),
+                "configured_ns": link.latency_ns,
+                "share": int(counting.latency[copy]) / link.latency_ns,
+            }
+        )
+    return rows
+
+
+def largest(values: np.ndarray, most: int) -> np.ndarray:
+    """The places of the greatest values, the greatest first, of equal ones the earlier first."""
+    least = np.partition(values, len(values) - most)[len(values) - most]
+    at = np.flatnonzero(values >= least)
+    return at[np.lexsort((at, -values[at]))][:most]
+
+
+def frame_key(counting: Counting, line: int) -> Row:
+    """What tells a frame from all others, whatever its line: link, side, number, time."""
+    listing = counting.listing
+    return {
+        "link": vl_text(counting.vls[counting.place[line]]),
+        "side": side_name(int(listing.side[line])),
+        "number": int(listing.number[line]),
+        "time_ns": int(listing.time[line]),
+    }
+
+
+def named(counting: Counting, line: int | None) -> int | None:
+    """The number that the program gave a line of the list."""
+    return None if line is None else counting.events.number_of(line)
+
+
+def early_rows(counting: Counting) -> list[Row]:
+    """A row for each link and side with over-rate frames: how many; of the ns that they came too
+    early by, the least that half of them don't exceed, and the greatest."""
+    early = counting.events.early
+    keys = counting.place[early.lines].astype(np.int64) * 2 + counting.listing.side[early.lines]
+    order = sorted_by(keys, early.amounts)
+    keys, amounts = keys[order], early.amounts[order]
+    bounds = np.flatnonzero(np.diff(keys, prepend=-1, append=-1))
+    return [
+        {
+            "link": vl_text(counting.vls[keys[begin] // 2]),
+            "side": side_name(keys[begin] % 2),
+            "count": int(end - begin),
+            "median": int(amounts[(begin + end - 1) // 2]),
+            "greatest": int(amounts[end - 1]),
+        }
+        for begin, end in zip(bounds[:-1], bounds[1:])
+    ]
+
+
+def early_frames(counting: Counting, most: int) -> list[Row]:
+    """The over-rate frames that came too early by most, of equal ones the earlier first."""
+    early = counting.events.early
+    rows = []
+    for place in largest(early.amounts, min(most, len(early.amounts))):
+        line, amount = int(early.lines[place]), int(early.amounts[place])
+        key = frame_key(counting, line)
+        rows.append({**key, "line": named(counting, line), "early_ns": amount})
+    return rows
+
+
+def trouble_rows(counting: Counting, most: int = MOST_TROUBLES) -> list[Row]:
+    """The first frames, by their lines, that were dropped, lost, late, too old or refused."""
+    events, arrived = counting.events, counting.arrived
+    dropped = arrived[events.verdict[arrived] > 0]
+    refused = events.end > events.ends.names.index(REDUNDANT)
+    copies = np.flatnonzero(~counting.left | counting.late | refused)
+    found = [(int(line), 0, events.verdict_of(line)) for line in dropped[:most]]
+    for copy in copies[np.argsort(events.line[copies], kind="stable")][:most]:
+        fate = FATES[events.fate[copy]]
+        words = [fate] if fate != LEFT else ["late"] if counting.late[copy] else []
+        words += [events.end_of(copy)] if refused[copy] else []
+        found += [(int(events.line[copy]), int(events.port[copy]), word) for word in words]
+    return [
+        {
+            **frame_key(counting, line),
+            "line": named(counting, line),
+            "port": port or None,
+            "what": what,
+            "came_in": int(counting.listing.port[line]),
+        }
+        for line, port, what in sorted(found)[:most]
+    ]
+
+
+def totals(counting: Counting, report: Row) -> Row:
+    """The sums over all links, and the counts of what isn't as it should be."""
+    sides, skews = report["sides"], report["skews"]
+    left = dict(report.get("skipped", {}))
+    lost, claimed = left.pop("recorder-lost", 0), left.pop("claimed", 0)
+    named, unused = left.pop("contradicted", contradicted(counting)), left.pop("unused", 0)
+    over = [row for row in skews if (row["at_receivers_ns"] or 0) > row["table_skew_ns"]]
+    shaky = [row for row in sides if (row["jitter_ns"] or 0) > row["table_jitter_ns"]]
+    return {
+        **{key: sum(row[key] for row in report["links"]) for key in SUMS},
+        "missing": sum(row["missing"] or 0 for row in sides),
+        "silent": len(report["silences"]),
+        "unequal": sum(row["alone"] for row in sides),
+        "first_number": sum(bool(row["first_number"]) for row in sides),
+        "twice": sum(row["twice"] for row in skews),
+        "clock": sum(row["clock"] == "apart" for row in report["clocks"]),
+        "skew": len(over),
+        "jitter": len(shaky),
+        "contradicted": named,
+        "unused": 0 if "taps" in report else unused,  # a table of taps was looked up in each
+        "recorder_lost": lost,
+        "claimed": claimed,
+        "left_out": sum(left.values()),
+    }

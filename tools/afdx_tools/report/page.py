@@ -1,0 +1,237 @@
+"""The report as one HTML page that needs nothing beside it."""
+from __future__ import annotations
+
+import argparse
+from html import escape
+from typing import Sequence
+
+import numpy as np
+
+from afdx_tools.replay.counting import Counting
+from afdx_tools.report import figures, tracks
+from afdx_tools.report.compare import words_of
+from afdx_tools.report.cover import cover_section
+from afdx_tools.report.findings import left_words
+from afdx_tools.report.head import answer, cards, words_section
+from afdx_tools.report.lanes import lanes
+from afdx_tools.report.made import made_section, made_table, sheet_style
+from afdx_tools.report.parts import paper_rows, section, table, table_section
+from afdx_tools.report.ranking import FEWEST, ranked
+from afdx_tools.report.style import POLICY, SCRIPT, STYLE
+from afdx_tools.report.where import Where
+from afdx_tools.tables import COUNTED, EARLY, NAMES, PROVED, TROUBLES, UNPROMISED, Row, in_us
+
+EARLY_FRAMES = "Over-rate frames that came too early by most, in us"
+TAPS = "Taps: where the interfaces were plugged in, and frames that name another place"
+TRACKS_ON_PAPER = 6
+TROUBLES_SHOWN = 500
+FIND = (
+    "<p class='find' hidden><label>Find rows <input id='find' type='search' "
+    "placeholder='links and names, as 304 A'></label> <span id='found' role='status'></span></p>"
+)
+
+
+def one_each(latency: Sequence[Row]) -> list[list[Row]]:
+    """Of each ranked link both sides at the port where it has the greatest share, in that order; of
+    a link that is late, each port where it is."""
+    of_place: dict[tuple[int, int], list[Row]] = {}
+    for row in latency:
+        of_place.setdefault((row["link"], row["port"]), []).append(row)
+    seen: set[int] = set()
+    places: dict[tuple[int, int], None] = {}
+    for row in ranked(latency):
+        place = row["link"], row["port"]
+        if row["link"] not in seen or row["late"]:
+            places[place] = None
+        seen.add(row["link"])
+    return [of_place[place] for place in places]
+
+
+def latency_section(report: Row, most: int) -> str:
+    """The picture of latencies."""
+    pairs = one_each(report["latency"])
+    head = "Latency in the replay against the configured latency"
+    if not pairs:
+        words = f"No link has {FEWEST} copies at a port." if report["latency"] else "None left."
+        return section("picture", head, words, "")
+    words = (
+        "Each link at the port where it came nearest to its configured latency, the nearest first, "
+        f"late ones at each port; sides A and B apart; links with {FEWEST} copies there or more, "
+        "or a late one. "
+    )
+    if len(pairs) > most:
+        words += f"The first {most} of {len(pairs)}; the table below has all. "
+    words += "From a frame's arrival to the end of its slot."
+    name = "proved bound" if report["admission"] == "ok" else "bound of check"
+    if report["admission"] != "ok":
+        words += f" {UNPROMISED}"
+    return section("picture", head, words, figures.latencies(pairs[:most], name))
+
+
+def track_sections(counting: Counting, args: argparse.Namespace) -> str:
+    """The time lines of the links."""
+    wrong = tracks.troubled(counting)
+    first = tracks.chosen(counting, wrong)
+    parts: list[str] = []
+    for vl in dict.fromkeys(args.link or ([] if first is None else [first])):
+        part = track_section(counting, vl, wrong, args.begin)
+        on_paper = len(parts) < TRACKS_ON_PAPER
+        parts.append(part if on_paper else f'<div class="screen">{part}</div>')
+    return "".join(parts)
+
+
+def track_section(counting: Counting, vl: int, wrong: np.ndarray, begin: int) -> str:
+    """The time line of a link."""
+    name, head = f"line-{vl}", f"Time line of link {vl}"
+    link = counting.config.links.get(vl)
+    lines = np.zeros(0, np.int64)
+    if link is not None:
+        lines = tracks.shown_lines(counting, vl, wrong, begin)
+    if link is None or not len(lines):
+        return section(name, head, "It has no frames there.", "")
+    ports = {port: counting.by_port[port].name for port in link.ports}
+    words = (
+        f"From {link.source} to {', '.join(link.to)}; {link.priority} priority, "
+        f"BAG {link.bag_ms} ms, Lmax {link.lmax} bytes. "
+    )
+    frames = int((counting.place[counting.arrived] == counting.vls.index(vl)).sum())
+    if len(lines) < frames:
+        where = ", where most went wrong" if not begin and wrong[lines].any() else ""
+        words += f"{len(lines)} of {frames:,} arrivals{where}."
+    shown = tracks.arrivals_of(counting, lines)
+    return section(name, head, words, tracks.track(name, shown, ports))
+
+
+def foot() -> str:
+    """Which numbers are proved."""
+    return f"<footer><p>{escape(PROVED)}</p><p>{escape(COUNTED)}</p></footer>"
+
+
+def arrivals_section(report: Row) -> str:
+    """When frames came, of each link on each side."""
+    words = (
+        "Of each link side A above, side B below, by the time of arrival. Links with a silence, "
+        "with more than they may send, or with frames at a wrong port stand first."
+    )
+    return section("arrivals", "Arrivals over time", words, lanes(report["arrivals"]))
+
+
+def pictures(report: Row, counting: Counting, args: argparse.Namespace) -> str:
+    """All pictures."""
+    parts = [arrivals_section(report), latency_section(report, args.rows)]
+    if report["latency"]:
+        words = "How near the copies came to their link's configured latency, sides A and B apart."
+        shares = figures.histogram(report["histogram"])
+        parts.append(section("histogram", "Copies by share of latency", words, shares))
+    words = (
+        "At the switches, a lane for each reason, by the time of the arrival; copies that were too "
+        "old by that of their drop."
+    )
+    lanes = figures.drops(report["drops"])
+    parts.append(section("drops", "Drops by reason over time", words, lanes))
+    if report["ports"]:
+        words = "The share of each output port's line that slots take up."
+        shown = figures.loads(report["loads"], report["ports"])
+        parts.append(section("loads", "Load of each port over time", words, shown))
+    return "".join(parts) + track_sections(counting, args)
+
+
+def early_tables(report: Row) -> dict[str, tuple[str, Sequence[Row]]]:
+    """By how much over-rate frames came too early, in us: the worst frames, sums. Nothing where
+    there are none."""
+    if "early_ns" not in report:
+        return {}
+    sums = [
+        {
+            "link": row["link"],
+            "side": row["side"],
+            "over-rate": row["count"],
+            "median_us": in_us(row["median"]),
+            "greatest_us": in_us(row["greatest"]),
+        }
+        for row in report["early_ns"]
+    ]
+    frames = [
+        {("early_us" if key == "early_ns" else key): value for key, value in row.items()}
+        | {"early_us": in_us(row["early_ns"])}
+        for row in report["early_frames"]
+    ]
+    return {"early-frames": (EARLY_FRAMES, frames), "early": (f"{EARLY}, in us", sums)}
+
+
+def compared_tables(report: Row) -> dict[str, tuple[str, Sequence[Row]]]:
+    """Two runs beside one another."""
+    pair = report.get("compared")
+    if pair is None:
+        return {}
+    return {
+        "compared": ("Numbers that differ from the other run", pair["rows"]),
+        "only-here": ("Frames with trouble only in this run", pair["only_here"]),
+        "only-there": ("Frames with trouble only in the other", pair["only_there"]),
+    }
+
+
+def table_sections(report: Row, where: Where) -> str:
+    """All tables, and the field that finds rows in them."""
+    early, both = early_tables(report), compared_tables(report)
+    tables = dict(both)
+    if "taps" in report:
+        tables["taps"] = TAPS, report["taps"]["rows"]
+    for name, head in NAMES.items():
+        tables[name] = head, report[name]
+        behind = {"frames": "early-frames", "sides": "early"}.get(name)
+        if behind in early:
+            tables[behind] = early[behind]
+    troubles = report["troubles"]
+    first = f" (the first {TROUBLES_SHOWN:,}; the CSV file has {len(troubles):,})"
+    cut = first if len(troubles) > TROUBLES_SHOWN else ""
+    tables["troubles"] = TROUBLES + cut, troubles[:TROUBLES_SHOWN]
+    paper = paper_rows({name: rows for name, (_, rows) in tables.items()})
+    sections = {
+        name: table_section(name, head, table(rows, head, paper[name], where))
+        for name, (head, rows) in tables.items()
+    }
+    words = " ".join(words_of(report["compared"])) if both else ""
+    first = section("other", "Compared with another run", words, "") if both else ""
+    first += "".join(sections.pop(name) for name in both)
+    return first + FIND + "".join(sections.values())
+
+
+def links_to(report: Row) -> str:
+    """Anchors to the parts of the page."""
+    names = {"words": "words", "arrivals": "arrivals", "picture": "latency", "drops": "drops"}
+    names |= {name: f"table of {name}" for name in (*NAMES, "troubles")}
+    names |= {"early": "table of over-rate frames"} if "early_ns" in report else {}
+    names |= {"made": "what made it"}
+    parts = [f'<a href="#{name}">{escape(words)}</a>' for name, words in names.items()]
+    return f'<nav aria-label="Parts of the report">{" ".join(parts)}</nav>'
+
+
+def page(report: Row, counting: Counting, where: Where, args: argparse.Namespace) -> str:
+    """The whole page."""
+    title = f"AFDX replay: {report['run']['title']}"
+    span = report["run"]["span_ns"] / 1e6
+    words = f"{report['totals']['frames']:,} frames over {span:,.3f} ms at both switches."
+    if report["run"]["time_0"]:
+        words += f" Time 0 is {report['run']['time_0']}."
+    if "skipped" in report:
+        words += f" Left out of the recording: {left_words(report) or 'nothing'}."
+    parts = [
+        "<!doctype html><html lang='en'><head><meta charset='utf-8'>",
+        f'<meta http-equiv="Content-Security-Policy" content="{POLICY}">',
+        "<meta name='viewport' content='width=device-width, initial-scale=1'>",
+        f"<title>{escape(title)}</title><style>{STYLE}{sheet_style(report['run'])}</style></head>",
+        "<body><main>",
+        cover_section(report["cover"], made_table(report["run"])),
+        f"<header><h1>{escape(title)}</h1><p>{escape(words)}</p></header>",
+        answer(report),
+        links_to(report),
+        cards(report),
+        words_section(report),
+        pictures(report, counting, args),
+        table_sections(report, where),
+        "" if report["cover"] else made_section(report["run"]),
+        foot(),
+        f"</main><script>{SCRIPT}</script></body></html>\n",
+    ]
+    return "".join(parts)

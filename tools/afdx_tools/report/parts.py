@@ -1,0 +1,163 @@
+"""What a report's page is made of: sections, and tables of which it has the rows that matter."""
+from __future__ import annotations
+
+from html import escape
+from typing import Collection, Sequence
+
+from afdx_tools.report.where import Where, named_in
+from afdx_tools.tables import Row, cell, heads
+
+MOST_ROWS = 10_000  # of a table on a page
+LONG = 60  # rows that don't find room in a box
+ON_PAPER = 800  # rows of all tables together: some 25 sheets
+MOST_BAD, LEAST_TOP = 50, 20  # of a table on paper: rows that aren't as they should be; the nearest
+# what isn't counted, and so has no commas
+PLAIN = ("link", "port", "number", "line", "first_number", "came_in", "own_port", "interface")
+PLACES = ("came_in",)  # ports that the search field finds
+
+
+def is_plain(name: str) -> bool:
+    """Does a column have numbers that are names?"""
+    return name in PLAIN or name.endswith("_line")
+
+
+def kind_of(name: str, rows: Sequence[Row]) -> str:
+    """How a column stands: numbers to the right, long words broken."""
+    if name in PLACES:
+        return "place"
+    if name.endswith("_us"):
+        return "number"
+    values = [row[name] for row in rows[:50] if row[name] is not None]
+    if any(isinstance(value, dict) for value in values):
+        return "words"
+    return "" if any(isinstance(value, str) for value in values) else "number"
+
+
+def is_over(row: Row) -> bool:
+    """Is something in the row over what the tables say, or of no good at all?"""
+    pairs = (("jitter_ns", "table_jitter_ns"), ("at_receivers_ns", "table_skew_ns"))
+    over = any((row.get(name) or 0) > row.get(table, 0) for name, table in pairs if table in row)
+    wrong = any(row.get(name) for name in ("late", "silent", "clock", "twice", "alone", "missing"))
+    wrong |= row.get("reason") == "wrong-port"
+    return over or bool(wrong) or ("latency_ns" in row and row["share"] > 1)
+
+
+# ---- which rows, and which of them on paper ------------------------------------------------------
+
+
+def most_shown(rows: Sequence[Row]) -> Sequence[Row]:
+    """The rows that a page shows: all, or of too many those with the greatest share."""
+    if len(rows) <= MOST_ROWS:
+        return rows
+    order = sorted(range(len(rows)), key=lambda n: (not is_over(rows[n]), -share_of(rows[n]), n))
+    return [rows[n] for n in sorted(order[:MOST_ROWS])]
+
+
+def share_of(row: Row) -> float:
+    """The share of the configured latency, 0 where the row has none."""
+    return float(row.get("share") or 0)
+
+
+def needed(rows: Sequence[Row]) -> set[int]:
+    """The places of the rows that stand on paper in any case: those that aren't as they should be
+    or are about frames that were dropped and the like, and the nearest to their latency, or the
+    first ones."""
+    bad = [n for n, row in enumerate(rows) if is_over(row) or "reason" in row or "what" in row]
+    top = sorted(range(len(rows)), key=lambda n: (-share_of(rows[n]), n))[:LEAST_TOP]
+    return {*sorted(bad, key=lambda n: -share_of(rows[n]))[:MOST_BAD], *top}
+
+
+def paper_rows(tables: dict[str, Sequence[Row]]) -> dict[str, Collection[int]]:
+    """Of each table the places of the rows that stand on paper: in any case some, and all of those
+    tables for which there is room, the shortest first."""
+    shown = {name: most_shown(rows) for name, rows in tables.items()}
+    chosen: dict[str, Collection[int]] = {name: needed(rows) for name, rows in shown.items()}
+    room = ON_PAPER - sum(map(len, chosen.values()))
+    for name in sorted(shown, key=lambda name: len(shown[name])):
+        more = len(shown[name]) - len(chosen[name])
+        if more <= room:
+            room -= more
+            chosen[name] = range(len(shown[name]))
+    return chosen
+
+
+# ---- tables --------------------------------------------------------------------------------------
+
+
+def body_row(row: Row, kinds: Sequence[str], styles: str, titles: dict[str, str]) -> str:
+    """A row of a table; its first cell is its head. A cell that names a frame has its title."""
+    parts = [f'<tr class="{styles}">' if styles else "<tr>"]
+    late = '<b class="late-row">LATE</b> ' if row.get("late") else ""
+    for number, ((name, value), kind) in enumerate(zip(row.items(), kinds)):
+        shown = f"{value:,}" if isinstance(value, int) and not is_plain(name) else cell(value)
+        styled = f' class="{kind}"' if kind else ""
+        styled += f' title="{escape(titles[name])}"' if titles.get(name) else ""
+        if number == 0:
+            parts.append(f'<th scope="row"{styled}>{late}<span>{escape(shown)}</span></th>')
+        else:
+            parts.append(f"<td{styled}>{escape(shown)}</td>")
+    return "".join(parts) + "</tr>\n"
+
+
+def titles_of(row: Row, where: Where | None) -> dict[str, str]:
+    """Of each column that names a frame where that stands."""
+    if where is None or not where.is_recorded:
+        return {}
+    return {name: where.told(place) for name, place in named_in(row, where.is_pair)}
+
+
+def caption_of(all_rows: Sequence[Row], shown: int, paper: int, head: str) -> str:
+    """What a table is, how many of its rows stand there, and how many on paper."""
+    count = f"{len(all_rows):,} rows" if len(all_rows) != 1 else "1 row"
+    if shown < len(all_rows):
+        count = f"the {shown:,} with the greatest share of {count}; the CSV file has all"
+    words = f"{escape(head)}: {count}"
+    if paper < shown:
+        words += f'<span class="on-paper">; on paper {paper:,} of them, the CSV file has all</span>'
+    return f"<caption>{words}</caption>"
+
+
+def table(
+    all_rows: Sequence[Row],
+    head: str,
+    paper: Collection[int] | None = None,
+    where: Where | None = None,
+) -> str:
+    """Rows as a table; on paper those at these places alone."""
+    rows = most_shown(all_rows)
+    on_paper = range(len(rows)) if paper is None else paper
+    caption = caption_of(all_rows, len(rows), len(on_paper), head)
+    if not rows:
+        return f"<table>{caption}<tbody><tr><td>none</td></tr></tbody></table>"
+    kinds = [kind_of(name, rows) for name in heads(rows)]
+    names = "".join(
+        f'<th scope="col"{f" class={kind!r}" if kind else ""}>{escape(name.replace("_", " "))}</th>'
+        for name, kind in zip(heads(rows), kinds)
+    )
+    parts = []
+    for place, row in enumerate(rows):
+        styles = ("over", is_over(row)), ("screen", place not in on_paper)
+        styled = " ".join(style for style, is_so in styles if is_so)
+        parts.append(body_row(row, kinds, styled, titles_of(row, where)))
+    body = "".join(parts)
+    return f"<table>{caption}<thead><tr>{names}</tr></thead><tbody>{body}</tbody></table>"
+
+
+# ---- sections ------------------------------------------------------------------------------------
+
+
+def section(name: str, title: str, words: str, body: str) -> str:
+    """A part of the page."""
+    return (
+        f'<section id="{name}"><h2>{escape(title)}</h2><p class="muted">{escape(words)}</p>{body}'
+        "</section>"
+    )
+
+
+def table_section(name: str, head: str, body: str) -> str:
+    """A table, in a box that rolls on a screen and is whole on paper."""
+    box = "box long" if body.count("<tr") > LONG else "box"
+    return (
+        f'<section id="{name}" class="table"><div class="{box}" tabindex="0" role="region" '
+        f'aria-label="{escape(head)}">{body}</div></section>'
+    )

@@ -1,0 +1,1 @@
+"""Tables that people write in spreadsheets: their heads, rows and cells."""

@@ -1,0 +1,95 @@
+"""The cells of a row of an interface document: what they have to be, and what they say."""
+from __future__ import annotations
+
+import re
+from fractions import Fraction
+from typing import Iterable, Sequence
+
+from afdx_tools.spreadsheets.heads import amount_of
+from afdx_tools.spreadsheets.sheets import Row
+
+BAGS_MS = (1, 2, 4, 8, 16, 32, 64, 128)
+MOST_US = 100_000  # of a latency and of a skew
+LONGEST_PERIOD = 10**9  # ms
+
+
+class Cells:
+    """The cells of a row; what is wrong with one is noted, and then it has no value."""
+
+    def __init__(self, row: Row, faults: list[str]) -> None:
+        self.row, self.faults = row, faults
+
+    def refuse(self, column: str, what: str) -> None:
+        """Notes what is wrong."""
+        self.faults.append(f"{self.row.at(column)}: {what}")
+
+    def amount(self, column: str) -> Fraction | None:
+        """The number of a cell in the unit of its column, whatever that of its head is."""
+        number = amount_of(self.row.cells[column])
+        return None if number is None else number * self.row.factors.get(column, 1)
+
+    def whole(self, column: str, least: int, most: int, empty: int | None = None) -> int | None:
+        """A whole number of a range."""
+        if self.row.cells[column] == "" and empty is not None:
+            return empty
+        number = self.amount(column)
+        if number is not None and number.denominator == 1 and least <= number <= most:
+            return int(number)
+        self.refuse(column, f"it has to be a whole number from {least} to {most}")
+        return None
+
+    def given(self, column: str, least: int, most: int) -> int | None:
+        """A whole number of a range; none where the cell is empty."""
+        return self.whole(column, least, most) if self.row.cells[column] else None
+
+    def depth(self, column: str, kind: str | None) -> int | None:
+        """How many messages may wait in a communication port of that kind."""
+        if kind != "sampling":
+            return self.whole(column, 1, 64)
+        if self.row.cells[column] == "" or self.amount(column) in (0, 1):
+            return 1
+        self.refuse(column, "it has to be 1, or empty, for sampling")
+        return None
+
+    def one_of(self, column: str, words: Sequence[str]) -> str | None:
+        """One of some words, in small or large letters."""
+        text = self.row.cells[column].lower()
+        if text in words:
+            return text
+        self.refuse_other(column, words)
+        return None
+
+    def member(self, column: str, numbers: Sequence[int]) -> int | None:
+        """One of some numbers."""
+        number = self.amount(column)
+        if number is not None and number in numbers:
+            return int(number)
+        self.refuse_other(column, numbers)
+        return None
+
+    def refuse_other(self, column: str, allowed: Sequence[object]) -> None:
+        """Notes that a cell is none of what it may be."""
+        *others, last = map(str, allowed)
+        self.refuse(column, f"it has to be {', '.join(others)} or {last}")
+
+    def period_ms(self, column: str) -> Fraction | None:
+        """A period in ms, which may have a fraction."""
+        number = self.amount(column)
+        if number is None or number >= LONGEST_PERIOD:
+            self.refuse(column, "it has to be a period in ms, as 20 or 12.5")
+        elif number < BAGS_MS[0]:
+            self.refuse(column, "no BAG is so short; the least is 1 ms")
+        else:
+            return number
+        return None
+
+    def words(self, column: str) -> list[str]:
+        """What stands in a cell, with spaces, commas or semicolons between."""
+        return [word for word in re.split(r"[\s,;]+", self.row.cells[column]) if word]
+
+
+def bag_of(periods: Iterable[Fraction]) -> int | None:
+    """The greatest BAG with which a link can send messages of these periods, in ms: in each BAG it
+    sends one. None if there is no such BAG."""
+    in_a_ms = sum(1 / period for period in periods)
+    return max((bag for bag in BAGS_MS if bag * in_a_ms <= 1), default=None)

@@ -1,0 +1,136 @@
+"""Rows as text, CSV and JSON."""
+from __future__ import annotations
+
+import json
+import math
+import re
+from typing import Sequence
+
+from afdx_tools.faults import shown
+
+Row = dict
+NAMES = {
+    "silences": "Silences: which network, system or link, on which side, from when to when",
+    "dropped": "Dropped frames: by link, side, reason and the port where they came in",
+    "links": "Links: what became of their frames",
+    "latency": "Links, ports and sides: latency in the replay, in ns",
+    "frames": "Frames nearest to their configured latency, or over it",
+    "sides": "Links and sides: sums, numbers, gaps and jitter of the arrivals",
+    "skews": "Links: greatest time between the two copies of a frame, in ns",
+    "clocks": "Senders: by how much their copies came later on side B, in ns",
+    "ports": "Ports: load, greatest backlog in bytes, and frames that left",
+}
+TROUBLES = "Frames with trouble: dropped, late, too old, refused, or at a full buffer"
+EARLY = "Links and sides: over-rate frames, and by how much they came too early"
+PROVED = (
+    "Proved: each verdict (V), loss (L), departure with its time (D), drop for age (T), message "
+    "(M) and refusal at a receiver (X) is a line of the proved program, and so are the bounds of "
+    "the ports (P) and the answer of admission. On an admitted network no accepted frame is lost, "
+    "and each leaves its port within its link's configured latency; the bound of a port is the "
+    "least latency in ns that admission takes there."
+)
+UNPROMISED = "This network is not admitted, so nothing promises its bounds."
+COUNTED = (
+    "Counted by this report from those lines and the list, and not proved: all sums; latencies in "
+    "the replay (a departure less the arrival of its line) with their percentiles, and which are "
+    "late; backlogs (bytes of frames that wait in an output port, without the one that is being "
+    "sent); loads; gaps, jitter, numbers, skews and clocks; silences and what came on one side "
+    "alone; shares; and the pictures."
+)
+# Where a formula could begin: at a cell's begin, or behind a semicolon, at which spreadsheets of
+# many countries cut a line.
+FORMULA = re.compile(r"(^|;)( *)(?=[=+\-@])")
+WRITTEN = {f"{name}.csv" for name in NAMES} | {"arrivals.csv", "early.csv", "compared.csv"}
+WRITTEN |= {"troubles.csv", "where.csv"}
+WRITTEN |= {"report.json", "report.html"}  # what a folder may have of an earlier report
+
+
+def percent(share: float) -> str:
+    """A share to a tenth of a percent, away from 0 and 100 %: only all of it is 100.0%."""
+    tenths = share * 1000
+    if 0 < share < 0.001:
+        return "<0.1%"
+    if share < 1:
+        return f"{min(math.floor(tenths + 1e-6), 999) / 10:.1f}%"
+    return f"{max(math.ceil(tenths - 1e-6), 1000 + (share > 1)) / 10:.1f}%"
+
+
+def in_us(amount: int) -> str:
+    """A time in ns as us, each ns of it."""
+    return f"{amount // 1000:,}.{amount % 1000:03}"
+
+
+def cell(value: object) -> str:
+    """A value as it stands in a table."""
+    if value is None:
+        return "-"
+    if isinstance(value, float):
+        return percent(value)
+    if isinstance(value, dict):
+        value = ", ".join(f"{count} {word}" for word, count in value.items()) or "-"
+    return shown(str(value))
+
+
+def heads(rows: Sequence[Row]) -> list[str]:
+    """The names of a table's columns."""
+    return list(rows[0]) if rows else []
+
+
+def as_text(rows: Sequence[Row]) -> str:
+    """Rows as a table of even columns; numbers stand to the right."""
+    if not rows:
+        return "(none)\n"
+    table = [heads(rows)] + [[cell(value) for value in row.values()] for row in rows]
+    widths = [max(len(line[n]) for line in table) for n in range(len(table[0]))]
+    columns = zip(*(row.values() for row in rows))
+    is_number = [all(v is None or isinstance(v, (int, float)) for v in each) for each in columns]
+    lines = []
+    for line in table:
+        cells = (c.rjust(w) if n else c.ljust(w) for c, w, n in zip(line, widths, is_number))
+        lines.append("  ".join(cells).rstrip() + "\n")
+    return "".join(lines)
+
+
+def plain(value: object) -> str:
+    """A value as it stands in a CSV file. A text that a spreadsheet would take for a formula gets
+    an apostrophe before it; one with a semicolon is quoted too. Shares are plain fractions."""
+    if value is None or value == {}:
+        return ""
+    if not isinstance(value, (str, dict)):
+        return str(value)
+    text = FORMULA.sub(r"\1\2'", cell(value))
+    return f'"{text.replace(chr(34), 2 * chr(34))}"' if set(text) & set(',;"') else text
+
+
+def csv_text(rows: Sequence[Row]) -> str:
+    """Rows as the text of a CSV file."""
+    lines = [heads(rows), *(row.values() for row in rows)]
+    return "".join(",".join(map(plain, line)) + "\n" for line in lines)
+
+
+def over_time(arrivals: Row) -> list[Row]:
+    """The arrivals of each link and side, a column for each step of time, by its begin in ns."""
+    start, width = arrivals["start_ns"], arrivals["step_ns"]
+    return [
+        {
+            "link": row["link"],
+            "side": row["side"],
+            **{str(start + n * width): count for n, count in enumerate(row["counts"])},
+        }
+        for row in arrivals["links"]
+    ]
+
+
+def files_of(report: Row) -> dict[str, str]:
+    """The tables as CSV files, and all of the report as JSON: names and texts."""
+    texts = {f"{name}.csv": csv_text(report[name]) for name in NAMES}
+    texts["arrivals.csv"] = csv_text(over_time(report["arrivals"]))
+    if "early_ns" in report:
+        texts["early.csv"] = csv_text(report["early_ns"])
+    texts["troubles.csv"] = csv_text(report["troubles"])
+    if "where" in report:
+        texts["where.csv"] = csv_text(report["where"])
+    if report.get("compared"):
+        texts["compared.csv"] = csv_text(report["compared"]["rows"])
+    parts = (f"{json.dumps(name)}: {json.dumps(value)}" for name, value in report.items())
+    return {**texts, "report.json": "{" + ",\n".join(parts) + "}\n"}
