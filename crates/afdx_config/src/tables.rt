@@ -46,7 +46,8 @@ impl Model for Tables {
         rows_with t.profile t.buffer t.own t.systems t.links (port_rows t.coms.items) };
 
     ghost invariant = { λ t.
-        IsLawfulSwitch (rows_with t.profile t.buffer t.own t.systems t.links (port_rows t.coms.items)) };
+        IsLawfulSwitch
+            (rows_with t.profile t.buffer t.own t.systems t.links (port_rows t.coms.items)) };
 }
 
 impl Tables {
@@ -135,7 +136,8 @@ impl Tables {
         self.systems.at(id)
     }
 
-    /// The time of a byte on the line of the system or neighbour at this place, in ns: 8, 80 or 800.
+    /// The time of a byte on the line of the system or neighbour at this place, in ns: 8, 80 or
+    /// 800.
     pub fn byte_ns(&self, id: SystemId) -> u64
         requires { id.0 < length self.now.systems }
         ensures time { (s : SystemRow) → slice_get self.now.systems id.0 ≡ Some s →
@@ -163,8 +165,8 @@ impl Tables {
         self.systems.at_port(port)
     }
 
-    /// The system that hears what leaves this port of the switch, if there is one: a neighbour hears
-    /// nothing.
+    /// The system that hears what leaves this port of the switch, if there is one: a neighbour
+    /// hears nothing.
     #[tactic(auto, unfolding(crate::specs::Reading::listener_at))]
     pub fn listener_at(&self, port: u8) -> Option<SystemId>
         ensures place { option_map (λ i. i.0) result ≡ listener_at self.now port }
