@@ -14,7 +14,7 @@ use Rattle.afdx_frame.specs.Flows.{IsPortAdmitted}
 use Rattle.afdx_frame.proofs.ListLemmas.{AllByRecursion-slice_get, slice_get-filter}
 use Rattle.afdx_config.specs.Admission.{IsServing, byte_ns, flows_to, links_from}
 use Rattle.afdx_config.specs.Flows.{flow_of_link}
-use Rattle.afdx_config.specs.Lawful.{IsLawfulUpTo, IsOneOf, IsLink, IsLinkUpTo, IsSystem, AreDistinct}
+use Rattle.afdx_config.specs.Lawful.{IsLawfulSwitch, IsOneOf, IsLinkUpTo, IsSystem, AreDistinct, jitter_from_any}
 use Rattle.afdx_config.specs.Reading.{system_at_port}
 use Rattle.afdx_config.specs.Rows.{SystemRow, LinkRow, Rows, is_to}
 use Rattle.afdx_config.proofs.LookUpLemmas.{each_row-found}
@@ -54,14 +54,14 @@ some-time n (inr (inl is)) = omega (arith, is)
 some-time n (inr (inr is)) = omega (arith, is)
 
 -- so it does on the line of each system
-pub system-time : {greatest_jitter : ℕ → ℕ} (t : Rows) (i : ℕ) (s : SystemRow)
-    → IsLawfulUpTo greatest_jitter t → slice_get t.systems i ≡ Some s
+pub system-time : (t : Rows) (i : ℕ) (s : SystemRow)
+    → IsLawfulSwitch t → slice_get t.systems i ≡ Some s
     → IsByteTime (byte_ns s)
 system-time t i s lawful at =
     line-time t.profile s (AllByRecursion-slice_get (IsSystem t.profile) t.systems i s lawful.systems.each at)
 
 -- what is the byte time of each row at this place, where one stands
-pub line-at : {greatest_jitter : ℕ → ℕ} (t : Rows) (i n : ℕ) → IsLawfulUpTo greatest_jitter t → i < length t.systems
+pub line-at : (t : Rows) (i n : ℕ) → IsLawfulSwitch t → i < length t.systems
     → ((s : SystemRow) → slice_get t.systems i ≡ Some s → n ≡ byte_ns s) → IsByteTime n
 line-at t i n lawful within is = elim ((slice_get_cases t.systems i).1) [
   | inl (s, here, at, own) ↦ subst IsByteTime (sym (is s at)) (system-time t i s lawful at)
@@ -69,7 +69,7 @@ line-at t i n lawful within is = elim ((slice_get_cases t.systems i).1) [
 ]
 
 -- a byte takes some time on each line
-pub byte-time : {greatest_jitter : ℕ → ℕ} (t : Rows) (port : ℕ) → IsLawfulUpTo greatest_jitter t → 0 < byte_ns_at t port
+pub byte-time : (t : Rows) (port : ℕ) → IsLawfulSwitch t → 0 < byte_ns_at t port
 unfolding byte_ns_at
 byte-time t port lawful = by (system_at_port t.systems port)
   where
@@ -114,11 +114,11 @@ one-link links i j k l distinct at there same =
     let here : slice_get links j ≡ Some k = subst (λ (n : ℕ). slice_get links n ≡ Some k) places at in
     cc (here, there)
 
-pub rows-are : {greatest_jitter : ℕ → ℕ} (t : Rows) → IsLawfulUpTo greatest_jitter t → AreRows (rows_of t)
+pub rows-are : (t : Rows) → IsLawfulSwitch t → AreRows (rows_of t)
 unfolding rows_of rule_of
-rows-are {greatest_jitter} t lawful = record {
+rows-are t lawful = record {
   gaps = all-mapped (λ r. IsTrue (is_bag r.rule.bag_ms)) (row_of t) t.links
-      (λ i l at. (AllByRecursion-slice_get (IsLinkUpTo greatest_jitter (length t.systems)) t.links i l lawful.links.each at).bag_ms);
+      (λ i l at. (AllByRecursion-slice_get (IsLinkUpTo jitter_from_any (length t.systems)) t.links i l lawful.links.each at).bag_ms);
   distinct = λ r s k l same. (let a = mapped (row_of t) t.links r k in
       let b = mapped (row_of t) t.links s l in
       let vls : a.own.vl ≡ b.own.vl = ap (λ z. z.rule.vl) a.is ∙ same ∙ sym (ap (λ z. z.rule.vl) b.is) in
@@ -137,8 +137,8 @@ goes-is : (t : Rows) (system port : ℕ) (l : LinkRow) → system_at_port t.syst
 unfolding goes_to
 goes-is t system port l found = ap (λ (o : Option ℕ). option_map_or (λ k. is_to k l) o false) found
 
-pub port-of-system : {greatest_jitter : ℕ → ℕ} (t : Rows) (system : ℕ) (s : SystemRow)
-    → IsLawfulUpTo greatest_jitter t → slice_get t.systems system ≡ Some s → IsPortOf t system s
+pub port-of-system : (t : Rows) (system : ℕ) (s : SystemRow)
+    → IsLawfulSwitch t → slice_get t.systems system ≡ Some s → IsPortOf t system s
 port-of-system t system s lawful at =
     let found = (each_row-found t lawful).by_port system s at in
     record { line = line-is t system s found at; goes = λ l. goes-is t system s.port l found }
@@ -160,8 +160,8 @@ flows-are : (t : Rows) (system : ℕ) (s : SystemRow) → IsPortOf t system s
 unfolding rows_of
 flows-are t system s is = flows-same t system s.port is.goes t.links
 
-pub output-served : {greatest_jitter : ℕ → ℕ} (t : Rows) (side : Side) (system : ℕ) (s : SystemRow)
-    → IsLawfulUpTo greatest_jitter t → IsServing t → slice_get t.systems system ≡ Some s
+pub output-served : (t : Rows) (side : Side) (system : ℕ) (s : SystemRow)
+    → IsLawfulSwitch t → IsServing t → slice_get t.systems system ≡ Some s
     → ServesTables t side system s
 output-served t side system s lawful admitted at =
     let is = port-of-system t system s lawful at in
@@ -190,16 +190,16 @@ sent-sum b class own (l ∷ ls) =
     (omega (arith, rest))
 
 pub system-sender : EachSystemIsSender
-system-sender t class system s lawful admitted at =
+system-sender t class system s lawful admitted at own-system =
     let own : List LinkRow = links_from t.links system in
     let sum = sent-sum (byte_ns s) class own own in
-    let jitter = admitted.senders system s at in
+    let jitter = admitted.senders system s at own-system in
     record {
       line = some-time (byte_ns s) (system-time t system s lawful at);
       flows_are = record {
         gaps = all-mapped (λ f. IsTrue (is_bag f.link.bag_ms)) (sent_flow (byte_ns s) class own) own (λ i l k.
             let in-links = slice_get-filter (λ m. nat_eq m.from system) t.links i l k in
-            (AllByRecursion-slice_get (IsLink (length t.systems)) t.links in-links.0 l lawful.links.each in-links.1).bag_ms);
+            (AllByRecursion-slice_get (IsLinkUpTo jitter_from_any (length t.systems)) t.links in-links.0 l lawful.links.each in-links.1).bag_ms);
         distinct = λ f g k l same. (let a = mapped (sent_flow (byte_ns s) class own) own f k in
             let b = mapped (sent_flow (byte_ns s) class own) own g l in
             let a-in = slice_get-filter (λ m. nat_eq m.from system) t.links a.place a.own a.stands in

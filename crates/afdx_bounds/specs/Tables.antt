@@ -1,5 +1,5 @@
 -- The output ports of a switch, and a sender's own, as the tables have them.
-use Rattle.std.specs.Prelude.{◌≡◌, ℕ, ◌*◌, ◌==◌, Bool, false, if◌then◌else◌, Option, Some, None}
+use Rattle.std.specs.Prelude.{◌≡◌, ℕ, ◌*◌, ◌<◌, ◌==◌, Bool, false, if◌then◌else◌, Option, Some, None}
 use Rattle.std.specs.Prelude.{List, map}
 use Rattle.std.specs.Prelude.{slice_get}
 use Rattle.std.specs.Option.{option_map_or}
@@ -9,7 +9,7 @@ use Rattle.afdx_frame.specs.Flows.{Flow, sending_time}
 use Rattle.afdx_frame.specs.Regulation.{regulation_with}
 use Rattle.afdx_config.specs.Admission.{IsAdmitted, IsServing, byte_ns, flows_to, links_from}
 use Rattle.afdx_config.specs.Flows.{regulation_of_link}
-use Rattle.afdx_config.specs.Lawful.{IsLawful, IsLawfulSwitch}
+use Rattle.afdx_config.specs.Lawful.{IsLawfulSwitch}
 use Rattle.afdx_config.specs.Reading.{system_at_port}
 use Rattle.afdx_config.specs.Rows.{SystemRow, LinkRow, Rows, is_to}
 use Rattle.afdx_police.specs.Rule.{Rule, rule_with}
@@ -105,7 +105,8 @@ sent_flows t class system s = map (sent_flow (byte_ns s) class (links_from t.lin
 abbrev pub EachSystemIsSender : Type 0
 EachSystemIsSender =
     (t : Rows) (class : Priority) (system : ℕ) (s : SystemRow) →
-    IsLawful t →
+    IsLawfulSwitch t →
     IsAdmitted t →
     slice_get t.systems system ≡ Some s →
+    system < t.own →
     IsSender (byte_ns s) class (sent_flows t class system s)

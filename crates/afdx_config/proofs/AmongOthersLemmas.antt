@@ -3,10 +3,11 @@ use Rattle.std.proofs.Common.{◌≡◌, ℕ, suc, ◌<◌, ◌≤◌, List, [],
 use Rattle.std.proofs.Common.{ap, ◌∙◌, subst, arith}
 use Rattle.std.specs.List.{AllByRecursion}
 use Rattle.std.proofs.Math.Seq.{take-length}
+use Rattle.std.proofs.lemmas.Option.{slice_get_within}
 use Rattle.afdx_frame.proofs.ListLemmas.{AllByRecursion-slice_get}
 use Rattle.afdx_config.specs.Lawful.{IsLink, IsLinkUpTo, IsPort, jitter_from_system, jitter_from_any}
 use Rattle.afdx_config.specs.Lawful.{IsLawful, IsLawfulSwitch, AreDistinct}
-use Rattle.afdx_config.specs.Laws.{AloneIsOne, AdmittedIsServing}
+use Rattle.afdx_config.specs.Laws.{AloneIsOne, OneIsBetweenSystems, AdmittedIsServing}
 use Rattle.afdx_config.specs.Rows.{SystemRow, LinkRow, Rows}
 
 pub link-among : (systems : ℕ) (l : LinkRow) → IsLink systems l → IsLinkUpTo jitter_from_any systems l
@@ -57,7 +58,7 @@ module _ (t : Rows) (lawful : IsLawful t) where
   }
 
 -- a link of a switch without neighbours comes from a system
-link-alone : (systems : ℕ) (l : LinkRow) → IsLinkUpTo jitter_from_any systems l
+pub link-alone : (systems : ℕ) (l : LinkRow) → IsLinkUpTo jitter_from_any systems l
     → l.jitter_us ≤ jitter_from_system l.bag_ms → IsLink systems l
 link-alone systems l is most = record {
   vl = is.vl;
@@ -103,6 +104,14 @@ alone-one t lawful own = record {
     identifiers = lawful.links.identifiers;
   };
   ports = lawful.ports;
+}
+
+pub between-systems : OneIsBetweenSystems
+between-systems t system place s l lawful stands at = record {
+  from =
+      let from = (AllByRecursion-slice_get (IsLink (length t.systems)) t.links place l lawful.links.each at).from in
+      omega (arith, from, lawful.own);
+  to = let within = slice_get_within t.systems system s stands in omega (arith, within, lawful.own);
 }
 
 pub admitted-serving : AdmittedIsServing

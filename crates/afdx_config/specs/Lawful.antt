@@ -4,11 +4,12 @@ use Rattle.std.specs.Prelude.{◌≡◌, ℕ, ◌+◌, ◌*◌, ◌<◌, ◌≤�
 use Rattle.std.specs.Prelude.{IsTrue, Some, take}
 use Rattle.std.specs.List.{list_any, AllByRecursion}
 use Rattle.afdx_frame.specs.Lengths.{least_frame, greatest_frame, greatest_buffer}
-use Rattle.afdx_frame.specs.Regulation.{is_bag}
+use Rattle.afdx_frame.specs.Regulation.{is_bag, greatest_delay}
+pub use Rattle.afdx_frame.specs.Regulation.{jitter_from_system, jitter_from_any}
 use Rattle.afdx_frame.specs.Ports.{last_port}
 use Rattle.afdx_config.specs.Rows.{SystemRow, LinkRow, PortRow, Rows}
 use Rattle.afdx_config.specs.Reading.{is_name, are_apart, goes_to, deepest, rates}
-use Rattle.afdx_config.specs.Reading.{greatest_delay, most_links, most_ports}
+use Rattle.afdx_config.specs.Reading.{most_links, most_ports}
 
 abbrev pub IsWithin : ℕ → ℕ → ℕ → Type 0
 IsWithin low high n = (low ≤ n) × (n ≤ high)
@@ -31,15 +32,6 @@ pub record IsSystem (profile : ℕ) (s : SystemRow) : Type 0 where
   pub id : IsWithin 0 65535 s.id
   pub partition : IsWithin 0 255 s.partition
   pub rate : IsOneOf (rates profile) s.rate
-
--- the greatest jitter of a link, in us, by its BAG in ms: of one that a system sends
-abbrev pub jitter_from_system : ℕ → ℕ
-jitter_from_system bag_ms = 1000 * bag_ms
-
--- and of one that may come over a cable from another switch: the latencies before this switch, of
--- at most 100 ms, are in its jitter too
-abbrev pub jitter_from_any : ℕ → ℕ
-jitter_from_any bag_ms = 1000 * bag_ms + greatest_delay
 
 pub record IsLinkUpTo (greatest_jitter : ℕ → ℕ) (systems : ℕ) (l : LinkRow) : Type 0 where
   pub vl : IsWithin 0 65535 l.vl
@@ -121,3 +113,8 @@ pub record IsLawfulSwitch (t : Rows) : Type 0 where
       l.jitter_us ≤ jitter_from_system l.bag_ms
   pub ports : ArePorts (length t.systems) t.links t.ports
   pub heard : (i : ℕ) (p : PortRow) → slice_get t.ports i ≡ Some p → p.system < t.own
+
+-- the link comes from a system and goes to this one: neither is a neighbour
+pub record IsBetweenSystems (t : Rows) (system : ℕ) (l : LinkRow) : Type 0 where
+  pub from : l.from < t.own
+  pub to : system < t.own

@@ -2,7 +2,7 @@
 use Rattle.std.specs.Prelude.{◌≡◌, ℕ, ◌<◌, length, slice_get, Some}
 use Rattle.afdx_config.specs.Rows.{SystemRow, LinkRow, Rows}
 use Rattle.afdx_config.specs.Reading.{system_named, system_at_port, link_of, listener_at}
-use Rattle.afdx_config.specs.Lawful.{IsLawful, IsLawfulSwitch}
+use Rattle.afdx_config.specs.Lawful.{IsLawful, IsLawfulSwitch, IsBetweenSystems}
 use Rattle.afdx_config.specs.Admission.{IsAdmitted, IsServing}
 
 -- a look-up by what tells a row from the others gives the row's own place
@@ -38,6 +38,14 @@ OneIsAmongOthers = (t : Rows) → IsLawful t → IsLawfulSwitch t
 -- and a switch without neighbours is the one switch
 abbrev pub AloneIsOne : Type 0
 AloneIsOne = (t : Rows) → IsLawfulSwitch t → t.own ≡ length t.systems → IsLawful t
+
+-- all links of the one switch are between systems
+abbrev pub OneIsBetweenSystems : Type 0
+OneIsBetweenSystems = (t : Rows) (system place : ℕ) (s : SystemRow) (l : LinkRow) →
+    IsLawful t →
+    slice_get t.systems system ≡ Some s →
+    slice_get t.links place ≡ Some l →
+    IsBetweenSystems t system l
 
 abbrev pub AdmittedIsServing : Type 0
 AdmittedIsServing = (t : Rows) → IsAdmitted t → IsServing t

@@ -14,6 +14,7 @@ use Rattle.afdx_frame.specs.declared.link.Policing.TheVariants.{Byte, Frame}
 use Rattle.toml.specs.Parse.{parse_document}
 use Rattle.toml.specs.Data.{Members}
 use Rattle.afdx_frame.specs.Regulation.{gaps}
+pub use Rattle.afdx_frame.specs.Regulation.{greatest_delay}
 use Rattle.afdx_config.specs.declared.fault.ConfigFault.{ConfigFault}
 use Rattle.afdx_config.specs.declared.fault.ConfigFault.TheVariants.{NotToml, BadProfile}
 use Rattle.afdx_config.specs.declared.fault.ConfigFault.TheVariants.{OutOfRange, Twice}
@@ -112,10 +113,6 @@ system_at profile before t =
 -- the place of the link of this identifier
 unfoldable pub link_of : List LinkRow → ℕ → Option ℕ
 link_of links vl = position (λ l. nat_eq vl l.vl) links
-
--- the greatest latency and the greatest skew of a link, in us
-abbrev pub greatest_delay : ℕ
-greatest_delay = 100000
 
 -- how much a link may send, and how its frames are treated
 unfoldable pub traffic_at : KeptKeys → ℕ → Members → Result Traffic ConfigFault

@@ -3,7 +3,7 @@
 ghost use Rattle.afdx_config.specs.Format.{TheTopKeys, TheSystemKeys, TheLinkKeys, ThePortKeys};
 ghost use Rattle.afdx_config.specs.Format.{TheFaultWords};
 ghost use Rattle.afdx_config.specs.Laws.{EachRowIsFound, SystemsAlwaysListen, OneIsAmongOthers};
-ghost use Rattle.afdx_config.specs.Laws.{AloneIsOne, AdmittedIsServing};
+ghost use Rattle.afdx_config.specs.Laws.{AloneIsOne, OneIsBetweenSystems, AdmittedIsServing};
 
 /// In lawful tables a look-up by name, by port or by identifier gives the row's own place.
 pub fn each_row_is_found()
@@ -16,11 +16,12 @@ pub fn systems_listen()
 {}
 
 /// What holds of the one switch on a side holds of it where others stand beside it, which may send
-/// links to it with a greater jitter; a switch without neighbours is the one switch; and what
-/// admission asks of all asks what the switch and its receivers need.
+/// links to it with a greater jitter; a switch without neighbours is the one switch, and its links
+/// are between systems; and what admission asks of all asks what the switch and its receivers need.
 pub fn one_is_among_others()
     ensures lawful { OneIsAmongOthers }
     ensures alone { AloneIsOne }
+    ensures between { OneIsBetweenSystems }
     ensures admitted { AdmittedIsServing }
 {}
 

@@ -4,7 +4,7 @@ use Rattle.std.specs.Prelude.{slice_get}
 use Rattle.std.specs.Option.{option_map_or}
 use Rattle.afdx_frame.proofs.ListLemmas.{AllByRecursion-slice_get}
 use Rattle.afdx_config.specs.Rows.{Rows, SystemRow}
-use Rattle.afdx_config.specs.Lawful.{IsLawful}
+use Rattle.afdx_config.specs.Lawful.{IsLawfulSwitch}
 use Rattle.afdx_comport.specs.Held.{IsRead}
 use Rattle.afdx_comport.specs.Ports.{ports_at_first}
 use Rattle.afdx_comport.specs.declared.com_ports.ComPort.{ComPort}
@@ -17,7 +17,7 @@ pub named : (rows : Rows) (system : ℕ) (row : SystemRow) → slice_get rows.sy
     → name_of rows system ≡ row.name
 named rows system row is = ap (λ o. option_map_or (λ (s : SystemRow). s.name) o []) is
 
-pub read_at_first : (rows : Rows) (system : ℕ) (ports : List ComPort) → IsLawful rows
+pub read_at_first : (rows : Rows) (system : ℕ) (ports : List ComPort) → IsLawfulSwitch rows
     → ports ≡ ports_at_first system rows.ports → AreRead ports
 read_at_first rows system ports lawful are =
     subst AreRead (sym are) (λ place port is.

@@ -8,7 +8,7 @@ use Rattle.afdx_frame.specs.declared.fault.IpFault.{IpFault}
 use Rattle.afdx_frame.specs.Parts.{FrameParts, frame_of}
 use Rattle.afdx_frame.specs.Carried.{Carried, carried_by}
 use Rattle.afdx_config.specs.Rows.{Rows, LinkRow}
-use Rattle.afdx_config.specs.Reading.{has_port, system_at_port}
+use Rattle.afdx_config.specs.Reading.{has_port, listener_at}
 use Rattle.afdx_receive.specs.Integrity.{Incoming, is_valid}
 use Rattle.afdx_receive.specs.Arrivals.{Arrived, incoming, frames_of}
 use Rattle.afdx_receive.specs.Answers.{Answer, Message, Dropped, answer_to, answer_after}
@@ -131,14 +131,14 @@ own_line : (rows : Rows) (before : List HandedOver) (d : HandedOver) (frame : Fr
     ≡ reception_line rows (own d.port frame.link.0 before) d
 unfolding reception_line
 own_line rows before d frame is =
-    lines_same rows _ _ d (system_at_port rows.systems d.port) (own_answers rows before d frame is)
+    lines_same rows _ _ d (listener_at rows d.port) (own_answers rows before d frame is)
 
 own_delivered : (rows : Rows) (before : List HandedOver) (d : HandedOver) (frame : FrameParts)
     → frame_of d.bytes ≡ Ok frame → is_delivered rows before d
     ≡ is_delivered rows (own d.port frame.link.0 before) d
 unfolding is_delivered
 own_delivered rows before d frame is =
-    delivered_same rows _ _ d (system_at_port rows.systems d.port) (own_answers rows before d frame is)
+    delivered_same rows _ _ d (listener_at rows d.port) (own_answers rows before d frame is)
 
 pub reception-own : ReceptionIsOwn
 reception-own = record { line = own_line; delivered = own_delivered; frames = frames_are_own }

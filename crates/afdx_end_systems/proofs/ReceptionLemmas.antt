@@ -2,7 +2,7 @@
 use Rattle.std.proofs.Common.{◌≡◌, ℕ, false, List, [], Option, Some, None, ap, refl, sym}
 use Rattle.std.specs.Option.{option_map_or}
 use Rattle.afdx_config.specs.Rows.{Rows}
-use Rattle.afdx_config.specs.Reading.{system_at_port}
+use Rattle.afdx_config.specs.Reading.{listener_at}
 use Rattle.afdx_receive.specs.Answers.{Answer}
 use Rattle.afdx_end_systems.specs.Handovers.{HandedOver, came_to}
 use Rattle.afdx_end_systems.specs.Receptions.{answer_line, is_message, name_of}
@@ -21,7 +21,7 @@ IsToldAs rows before d answer =
 pub told-as : (rows : Rows) (before : List HandedOver) (d : HandedOver) (answer : Answer)
     → Some answer ≡ answered rows before d → IsToldAs rows before d answer
 unfolding answered reception_line is_delivered name_at
-told-as rows before d answer e = by (system_at_port rows.systems d.port) e
+told-as rows before d answer e = by (listener_at rows d.port) e
   where
     by : (place : Option ℕ) → Some answer ≡ answered_at rows (came_to d.port before) d place
         → (line_at rows (came_to d.port before) d place
@@ -38,7 +38,7 @@ told-as rows before d answer e = by (system_at_port rows.systems d.port) e
 pub told-nothing : (rows : Rows) (before : List HandedOver) (d : HandedOver)
     → None ≡ answered rows before d → (reception_line rows before d ≡ []) × (is_delivered rows before d ≡ false)
 unfolding answered reception_line is_delivered
-told-nothing rows before d e = by (system_at_port rows.systems d.port) e
+told-nothing rows before d e = by (listener_at rows d.port) e
   where
     by : (place : Option ℕ) → None ≡ answered_at rows (came_to d.port before) d place
         → (line_at rows (came_to d.port before) d place ≡ [])

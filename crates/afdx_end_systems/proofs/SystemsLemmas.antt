@@ -3,7 +3,7 @@ use Rattle.std.proofs.Common.{◌≡◌, ℕ, zero, suc, ◌+◌, ◌<◌, ◌�
 use Rattle.std.proofs.Common.{◌∷◌}
 use Rattle.std.proofs.Common.{length, Option, Some, None, IfOk, Result, Ok, Err, Vec, Global}
 use Rattle.std.proofs.Common.{vec_len, get_or, refl, sym, ap, ◌∙◌, subst, arith, ◌⊎◌, inl, inr}
-use Rattle.std.specs.Prelude.{slice_get, slice_set, option_and_then, option_map}
+use Rattle.std.specs.Prelude.{slice_get, slice_set, nat_lt, option_and_then, option_map}
 use Rattle.std.specs.Option.{option_map_or}
 use Rattle.std.specs.List.{position_from, AllByRecursion}
 use Rattle.std.proofs.lemmas.Bool.{cases_eq, ne_eqb}
@@ -12,8 +12,8 @@ use Rattle.std.proofs.lemmas.Bool.Decides.{nat_tests}
 use Rattle.std.proofs.lemmas.Option.{slice_get_past, slice_get_cases, slice_get_within, slice_get_read}
 use Rattle.std.proofs.lemmas.Iterator.Adapters.{position_from-zero}
 use Rattle.afdx_config.specs.Rows.{Rows, SystemRow}
-use Rattle.afdx_config.specs.Reading.{system_at_port}
-use Rattle.afdx_config.specs.Lawful.{IsLawful, IsSystem}
+use Rattle.afdx_config.specs.Reading.{listener_at, system_at_port}
+use Rattle.afdx_config.specs.Lawful.{IsLawfulSwitch, IsSystem}
 use Rattle.afdx_receive.specs.Arrivals.{Arrived}
 use Rattle.afdx_end_systems.specs.declared.end_system.EndSystem.{EndSystem}
 use Rattle.afdx_end_systems.specs.declared.systems.Systems.{Systems}
@@ -31,11 +31,11 @@ use Rattle.afdx_end_systems.proofs.PassLemmas.{slice_get-set_here, slice_get-set
 -- the systems at the first ports, as many as this, at which nothing arrived
 pub record HasBuilt (rows : Rows) (count : ℕ) (systems : List (Option EndSystem)) : Type 0 where
   pub long : length systems ≡ count
-  pub lawful : 0 < count → IsLawful rows
+  pub lawful : 0 < count → IsLawfulSwitch rows
   pub each : (port : ℕ) (at : Option EndSystem) → slice_get systems port ≡ Some at
-      → IsAt rows [] (system_at_port rows.systems port) at
+      → IsAt rows [] (listener_at rows port) at
   pub newest : (port : ℕ) (at : Option EndSystem) → slice_get systems port ≡ Some at
-      → HasNewest rows [] (system_at_port rows.systems port) at
+      → HasNewest rows [] (listener_at rows port) at
 
 some_same : {X : Type 0} {x y : X} → Some x ≡ Some y → x ≡ y
 some_same e = cc
@@ -52,15 +52,15 @@ with_one P (z ∷ zs) x each last zero y e = each zero y e
 with_one P (z ∷ zs) x each last (suc i) y e = with_one (λ n. P (suc n)) zs x (λ n w h. each (suc n) w h) last i y e
 
 pub built_more : (rows : Rows) (count : ℕ) (systems : List (Option EndSystem)) (at : Option EndSystem)
-    → HasBuilt rows count systems → IsLawful rows → IsAt rows [] (system_at_port rows.systems count) at
-    → HasNewest rows [] (system_at_port rows.systems count) at → HasBuilt rows (count + 1) (systems ++ at ∷ [])
+    → HasBuilt rows count systems → IsLawfulSwitch rows → IsAt rows [] (listener_at rows count) at
+    → HasNewest rows [] (listener_at rows count) at → HasBuilt rows (count + 1) (systems ++ at ∷ [])
 built_more rows count systems at has lawful is newest = record {
   long = omega (arith, length_push systems at, has.long);
   lawful = λ _. lawful;
-  each = with_one (λ port e. IsAt rows [] (system_at_port rows.systems port) e) systems at has.each
-      (subst (λ n. IsAt rows [] (system_at_port rows.systems n) at) (sym has.long) is);
-  newest = with_one (λ port e. HasNewest rows [] (system_at_port rows.systems port) e) systems at has.newest
-      (subst (λ n. HasNewest rows [] (system_at_port rows.systems n) at) (sym has.long) newest);
+  each = with_one (λ port e. IsAt rows [] (listener_at rows port) e) systems at has.each
+      (subst (λ n. IsAt rows [] (listener_at rows n) at) (sym has.long) is);
+  newest = with_one (λ port e. HasNewest rows [] (listener_at rows port) e) systems at has.newest
+      (subst (λ n. HasNewest rows [] (listener_at rows n) at) (sym has.long) newest);
 }
 
 none_from : (n port : ℕ) (systems : List SystemRow) (profile : ℕ)
@@ -72,12 +72,13 @@ none_from n port (s ∷ systems) profile lawful beyond =
     ap (λ b. cond b (Some n) (position_from (λ (r : SystemRow). r.port == port) (n + 1) systems))
     other ∙ none_from (n + 1) port systems profile lawful.1 beyond
 
--- no system has a port beyond the last
-none_beyond : (rows : Rows) (port : ℕ) → IsLawful rows → 24 < port → system_at_port rows.systems port ≡ None
-unfolding system_at_port
+-- no system hears at a port beyond the last
+none_beyond : (rows : Rows) (port : ℕ) → IsLawfulSwitch rows → 24 < port → listener_at rows port ≡ None
+unfolding listener_at system_at_port
 none_beyond rows port lawful beyond =
-    position_from-zero (λ (s : SystemRow). s.port == port) rows.systems
-    ∙ none_from 0 port rows.systems rows.profile lawful.systems.each beyond
+    ap (λ o. option_and_then (λ i. cond (nat_lt i rows.own) (Some i) None) o)
+    (position_from-zero (λ (s : SystemRow). s.port == port) rows.systems
+    ∙ none_from 0 port rows.systems rows.profile lawful.systems.each beyond)
 
 pub built : (rows : Rows) (at_ports : Vec (Option EndSystem) Global) (count : ℕ) → 24 < count
     → HasBuilt rows count at_ports.items →
@@ -88,7 +89,7 @@ built rows at_ports count all has = record { each = λ port. at port (slice_get_
     at : (port : ℕ) → ((e : Option EndSystem) × (port < length at_ports.items)
         × (slice_get at_ports.items port ≡ Some e) × (get_or at_ports.items port e ≡ e))
         ⊎ ((length at_ports.items ≤ port) × (slice_get at_ports.items port ≡ None)) →
-        IsAt rows [] (system_at_port rows.systems port)
+        IsAt rows [] (listener_at rows port)
         (option_and_then (λ (e : Option EndSystem). e) (slice_get at_ports.items port))
     at port (inl found) = rw found.2 (has.each port found.0 found.2)
     at port (inr past) = rw (
@@ -110,10 +111,10 @@ built_newest rows at_ports count has = record { each = λ port. at port (slice_g
     at : (port : ℕ) → ((e : Option EndSystem) × (port < length at_ports.items)
         × (slice_get at_ports.items port ≡ Some e) × (get_or at_ports.items port e ≡ e))
         ⊎ ((length at_ports.items ≤ port) × (slice_get at_ports.items port ≡ None)) →
-        HasNewest rows [] (system_at_port rows.systems port)
+        HasNewest rows [] (listener_at rows port)
         (option_and_then (λ (e : Option EndSystem). e) (slice_get at_ports.items port))
     at port (inl found) = rw found.2 (has.newest port found.0 found.2)
-    at port (inr past) = rw past.1 (none_newest rows [] (system_at_port rows.systems port))
+    at port (inr past) = rw past.1 (none_newest rows [] (listener_at rows port))
 
 -- ---- a frame at a port
 
@@ -175,9 +176,9 @@ none_stays rows past after (Some system) at = absurd at
 pub at_port : (rows : Rows) (systems : Systems) (before : List HandedOver) (port place : ℕ)
     (at : Option EndSystem) → StandsFor rows systems before → place ≡ port →
     place < vec_len systems.at_ports → at ≡ get_or systems.at_ports.items place at
-    → IsAt rows (came_to port before) (system_at_port rows.systems port) at
+    → IsAt rows (came_to port before) (listener_at rows port) at
 at_port rows systems before port place at stands same within is =
-    subst (λ (o : Option EndSystem). IsAt rows (came_to port before) (system_at_port rows.systems port) o)
+    subst (λ (o : Option EndSystem). IsAt rows (came_to port before) (listener_at rows port) o)
     (ap (λ (n : ℕ). system_in systems n) (sym same) ∙ ap (option_and_then (λ (e : Option EndSystem). e))
     (slice_get_read systems.at_ports.items (vec_len systems.at_ports) place at
     systems.at_ports.ok.0 within is)) (stands.each port)
@@ -185,10 +186,10 @@ at_port rows systems before port place at stands same within is =
 -- and none at a port that they don't have
 pub none_at_port : (rows : Rows) (systems : Systems) (before : List HandedOver) (port place : ℕ)
     → StandsFor rows systems before → place ≡ port → vec_len systems.at_ports ≤ place
-    → system_at_port rows.systems port ≡ None
+    → listener_at rows port ≡ None
 none_at_port rows systems before port place stands same beyond =
-    none_is_at rows (came_to port before) (system_at_port rows.systems port)
-    (subst (λ (o : Option EndSystem). IsAt rows (came_to port before) (system_at_port rows.systems port) o)
+    none_is_at rows (came_to port before) (listener_at rows port)
+    (subst (λ (o : Option EndSystem). IsAt rows (came_to port before) (listener_at rows port) o)
     (ap (option_and_then (λ (e : Option EndSystem). e))
     (slice_get_past systems.at_ports.items port (omega (arith, systems.at_ports.ok.0, same, beyond))))
     (stands.each port))
@@ -215,17 +216,17 @@ before_at rows systems before d place at stands port within is =
 module _ (rows : Rows) (systems : Systems) (before : List HandedOver) (d : HandedOver) (place : ℕ)
     (at : Option EndSystem) (are : AreBefore rows systems before d place at) where
   -- the system is there
-  pub is_at : IsAt rows (came_to d.port before) (system_at_port rows.systems d.port) at
+  pub is_at : IsAt rows (came_to d.port before) (listener_at rows d.port) at
   is_at =
-      subst (λ (o : Option EndSystem). IsAt rows (came_to d.port before) (system_at_port rows.systems d.port) o)
+      subst (λ (o : Option EndSystem). IsAt rows (came_to d.port before) (listener_at rows d.port) o)
       (ap (λ (n : ℕ). system_in systems n) (sym are.port) ∙ ap (option_and_then (λ (e : Option EndSystem). e)) are.here)
       (are.stands.each d.port)
 
   -- its ports hold the newest
   pub newest_is : HaveNewest rows systems before
-      → HasNewest rows (came_to d.port before) (system_at_port rows.systems d.port) at
+      → HasNewest rows (came_to d.port before) (listener_at rows d.port) at
   newest_is have =
-      subst (λ (o : Option EndSystem). HasNewest rows (came_to d.port before) (system_at_port rows.systems d.port) o)
+      subst (λ (o : Option EndSystem). HasNewest rows (came_to d.port before) (listener_at rows d.port) o)
       (ap (λ (n : ℕ). system_in systems n) (sym are.port) ∙ ap (option_and_then (λ (e : Option EndSystem). e)) are.here)
       (have.each d.port)
 
@@ -247,12 +248,12 @@ module _ (rows : Rows) (systems : Systems) (before : List HandedOver) (d : Hande
   -- they go on after it
   pub stand_after : (new : Systems) (now : Option EndSystem)
       → new.at_ports.items ≡ slice_set systems.at_ports.items place now →
-      IsAt rows (arrival_of d ∷ came_to d.port before) (system_at_port rows.systems d.port) now
+      IsAt rows (arrival_of d ∷ came_to d.port before) (listener_at rows d.port) now
       → StandsFor rows new (d ∷ before)
   stand_after new now set is = record { each = λ port. one port (cases_eq port d.port) }
     where
       one : (port : ℕ) → (port ≡ d.port) ⊎ (port ≡ d.port → ⊥)
-          → IsAt rows (came_to port (d ∷ before)) (system_at_port rows.systems port) (system_in new port)
+          → IsAt rows (came_to port (d ∷ before)) (listener_at rows port) (system_in new port)
       one port (inl e) = rw (e, in_place new now set, came_here d before d.port refl) is
       one port (inr other) = rw (elsewhere new now set port other, came_there d before port other)
           (are.stands.each port)
@@ -279,12 +280,12 @@ module _ (rows : Rows) (systems : Systems) (before : List HandedOver) (d : Hande
   -- and hold the newest
   pub newest_after : (new : Systems) (now : Option EndSystem)
       → new.at_ports.items ≡ slice_set systems.at_ports.items place now → HaveNewest rows systems before →
-      HasNewest rows (arrival_of d ∷ came_to d.port before) (system_at_port rows.systems d.port) now
+      HasNewest rows (arrival_of d ∷ came_to d.port before) (listener_at rows d.port) now
       → HaveNewest rows new (d ∷ before)
   newest_after new now set have is = record { each = λ port. one port (cases_eq port d.port) }
     where
       one : (port : ℕ) → (port ≡ d.port) ⊎ (port ≡ d.port → ⊥)
-          → HasNewest rows (came_to port (d ∷ before)) (system_at_port rows.systems port) (system_in new port)
+          → HasNewest rows (came_to port (d ∷ before)) (listener_at rows port) (system_in new port)
       one port (inl e) = rw (e, in_place new now set, came_here d before d.port refl) is
       one port (inr other) = rw (elsewhere new now set port other, came_there d before port other) (have.each port)
 
@@ -296,14 +297,14 @@ module _ (rows : Rows) (systems : Systems) (before : List HandedOver) (d : Hande
   none_in = ap (option_and_then (λ (e : Option EndSystem). e))
       (slice_get_past systems.at_ports.items d.port (omega (arith, systems.at_ports.ok.0, port, beyond)))
 
-  no_system : IsAt rows (came_to d.port before) (system_at_port rows.systems d.port) None
+  no_system : IsAt rows (came_to d.port before) (listener_at rows d.port) None
   no_system = subst (λ (o : Option EndSystem). IsAt rows (came_to d.port before)
-      (system_at_port rows.systems d.port) o) none_in (stands.each d.port)
+      (listener_at rows d.port) o) none_in (stands.each d.port)
 
   pub none_answered : answered rows before d ≡ None
   unfolding answered
   none_answered = ap (answered_at rows (came_to d.port before) d)
-      (none_is_at rows (came_to d.port before) (system_at_port rows.systems d.port) no_system)
+      (none_is_at rows (came_to d.port before) (listener_at rows d.port) no_system)
 
   pub read_back_nowhere : (time : ℕ) → ReadsBackAt (system_in systems d.port) (system_in systems d.port) time None
   read_back_nowhere time = subst (λ (o : Option EndSystem). ReadsBackAt o o time None) (sym none_in) tt
@@ -312,30 +313,30 @@ module _ (rows : Rows) (systems : Systems) (before : List HandedOver) (d : Hande
   stand_still = record { each = λ q. one q (cases_eq q d.port) }
     where
       one : (q : ℕ) → (q ≡ d.port) ⊎ (q ≡ d.port → ⊥)
-          → IsAt rows (came_to q (d ∷ before)) (system_at_port rows.systems q) (system_in systems q)
+          → IsAt rows (came_to q (d ∷ before)) (listener_at rows q) (system_in systems q)
       one q (inl e) = rw (e, none_in)
           (none_stays rows (came_to d.port before) (came_to d.port (d ∷ before))
-          (system_at_port rows.systems d.port) no_system)
+          (listener_at rows d.port) no_system)
       one q (inr other) = rw (came_there d before q other) (stands.each q)
 
   pub newest_still : HaveNewest rows systems before → HaveNewest rows systems (d ∷ before)
   newest_still have = record { each = λ q. one q (cases_eq q d.port) }
     where
       one : (q : ℕ) → (q ≡ d.port) ⊎ (q ≡ d.port → ⊥)
-          → HasNewest rows (came_to q (d ∷ before)) (system_at_port rows.systems q) (system_in systems q)
+          → HasNewest rows (came_to q (d ∷ before)) (listener_at rows q) (system_in systems q)
       one q (inl e) = rw (e, none_in) (none_newest rows (came_to d.port (d ∷ before))
-          (system_at_port rows.systems d.port))
+          (listener_at rows d.port))
       one q (inr other) = rw (came_there d before q other) (have.each q)
 
 -- the answer and the name, as the definitions have them
 pub answered_is : {E : Type 0} (rows : Rows) (before : List HandedOver) (d : HandedOver)
     (r : Result (Option Reception) E) →
     IfOk r (λ told. option_map answer_of told ≡ answered_at rows (came_to d.port before) d
-    (system_at_port rows.systems d.port)) → IfOk r (λ told. option_map answer_of told ≡ answered rows before d)
+    (listener_at rows d.port)) → IfOk r (λ told. option_map answer_of told ≡ answered rows before d)
 unfolding answered
 answered_is rows before d r h = h
 
 pub name_is : (rows : Rows) (port : ℕ) (name : List ℕ)
-    → name ≡ option_map_or (name_of rows) (system_at_port rows.systems port) [] → name ≡ name_at rows port
+    → name ≡ option_map_or (name_of rows) (listener_at rows port) [] → name ≡ name_at rows port
 unfolding name_at
 name_is rows port name e = e

@@ -6,7 +6,7 @@ use Rattle.afdx_frame.specs.declared.link.Side.TheVariants.{A, B}
 use Rattle.afdx_config.specs.Rows.{Rows, SystemRow, LinkRow}
 use Rattle.afdx_config.specs.Lawful.{IsLink}
 use Rattle.afdx_config.specs.LawfulStream.{Sending, IsLawfulStream}
-use Rattle.afdx_config.specs.Reading.{has_port, system_at_port}
+use Rattle.afdx_config.specs.Reading.{has_port, listener_at}
 use Rattle.afdx_receive.specs.Arrivals.{incoming}
 use Rattle.afdx_config.specs.SentList as sent
 use Rattle.afdx_receive.specs.TwoStreams.{count_of}
@@ -34,7 +34,7 @@ own port vl (d ∷ before) =
 -- a frame of a link that its system receives
 pub record IsReceivable (rows : Rows) (d : HandedOver) : Type 0 where
   pub system : ℕ
-  pub at : system_at_port rows.systems d.port ≡ Some system
+  pub at : listener_at rows d.port ≡ Some system
   pub frame : FrameParts
   pub is_frame : frame_of d.bytes ≡ Ok frame
   pub link : LinkRow

@@ -4,7 +4,7 @@
 use Rattle.std.specs.Prelude.{ℕ, ◌+◌, Bool, true, false, Option, Some, None, List, [], ◌∷◌, ◌++◌, slice_get, if◌then◌else◌}
 use Rattle.std.specs.Option.{option_map_or}
 use Rattle.afdx_config.specs.Rows.{Rows}
-use Rattle.afdx_config.specs.Reading.{system_at_port}
+use Rattle.afdx_config.specs.Reading.{listener_at}
 use Rattle.afdx_receive.specs.Arrivals.{Arrived}
 use Rattle.afdx_receive.specs.Answers.{Answer, Message, Dropped, answer_to}
 use Rattle.afdx_receive.specs.Words.{drop_word}
@@ -29,12 +29,12 @@ name_of rows system = option_map_or (λ s. s.name) (slice_get rows.systems syste
 abbrev pub answer_at : Rows → List Arrived → HandedOver → ℕ → Answer
 answer_at rows past d system = answer_to rows system past (arrival_of d)
 
--- the same of the system at a port; none where no system has it
+-- the same of the system that hears at a port; none where no system does
 abbrev pub answered_at : Rows → List Arrived → HandedOver → Option ℕ → Option Answer
 answered_at rows past d None = None
 answered_at rows past d (Some system) = Some (answer_at rows past d system)
 
--- the line that tells it, and whether it is a message; nothing where no system has the port
+-- the line that tells it, and whether it is a message; nothing where no system hears
 abbrev pub line_at : Rows → List Arrived → HandedOver → Option ℕ → List ℕ
 line_at rows past d None = []
 line_at rows past d (Some system) =
@@ -47,21 +47,21 @@ is_delivered_at rows past d (Some system) = is_message (answer_at rows past d sy
 -- what is answered to a frame that is handed over after these
 unfoldable pub answered : Rows → List HandedOver → HandedOver → Option Answer
 answered rows before d =
-    answered_at rows (came_to d.port before) d (system_at_port rows.systems d.port)
+    answered_at rows (came_to d.port before) d (listener_at rows d.port)
 
--- the name of the system at a port
+-- the name of the system that hears at a port
 unfoldable pub name_at : Rows → ℕ → List ℕ
-name_at rows port = option_map_or (name_of rows) (system_at_port rows.systems port) []
+name_at rows port = option_map_or (name_of rows) (listener_at rows port) []
 
 -- the line of a frame that is handed over after these
 unfoldable pub reception_line : Rows → List HandedOver → HandedOver → List ℕ
 reception_line rows before d =
-    line_at rows (came_to d.port before) d (system_at_port rows.systems d.port)
+    line_at rows (came_to d.port before) d (listener_at rows d.port)
 
 -- whether it delivered a message
 unfoldable pub is_delivered : Rows → List HandedOver → HandedOver → Bool
 is_delivered rows before d =
-    is_delivered_at rows (came_to d.port before) d (system_at_port rows.systems d.port)
+    is_delivered_at rows (came_to d.port before) d (listener_at rows d.port)
 
 -- the lines of all frames, those of the oldest first
 unfoldable pub lines_of : Rows → List HandedOver → List ℕ

@@ -1,7 +1,7 @@
 -- What the end systems of a network are after what was handed over to them.
 use Rattle.std.specs.Prelude.{◌≡◌, ℕ, Option, Some, None, List, option_and_then, slice_get, string_bytes}
 use Rattle.afdx_config.specs.Rows.{Rows}
-use Rattle.afdx_config.specs.Reading.{system_at_port}
+use Rattle.afdx_config.specs.Reading.{listener_at}
 use Rattle.afdx_receive.specs.Arrivals.{Arrived}
 use Rattle.afdx_receive.specs.Answers.{Answer}
 use Rattle.afdx_receive.specs.StandsFor.{HasReceived}
@@ -18,7 +18,7 @@ pub record IsAfter (rows : Rows) (system : ℕ) (e : EndSystem) (past : List Arr
   pub read : AreRead e.ports
   pub found : AreFound rows system e.ports
 
--- a port has no system, or this one
+-- no system hears at a port, or this one does
 abbrev pub IsAt : Rows → List Arrived → Option ℕ → Option EndSystem → Type 0
 IsAt rows past None None = Unit {0}
 IsAt rows past None (Some e) = ⊥
@@ -29,10 +29,10 @@ IsAt rows past (Some system) (Some e) = IsAfter rows system e past
 abbrev pub system_in : Systems → ℕ → Option EndSystem
 system_in systems port = option_and_then (λ system. system) (slice_get systems.at_ports.items port)
 
--- at each port is the system that the tables put there, after what came to that port
+-- at each port is the system that hears there, after what came to that port
 pub record StandsFor (rows : Rows) (systems : Systems) (all : List HandedOver) : Type 0 where
   pub each : (port : ℕ) →
-      IsAt rows (came_to port all) (system_at_port rows.systems port) (system_in systems port)
+      IsAt rows (came_to port all) (listener_at rows port) (system_in systems port)
 
 -- the ports of the system at a port of the switch hold the newest of its messages
 abbrev pub HasNewest : Rows → List Arrived → Option ℕ → Option EndSystem → Type 0
@@ -42,7 +42,7 @@ HasNewest rows past place at = Unit {0}
 -- so do those of each system
 pub record HaveNewest (rows : Rows) (systems : Systems) (all : List HandedOver) : Type 0 where
   pub each : (port : ℕ) →
-      HasNewest rows (came_to port all) (system_at_port rows.systems port) (system_in systems port)
+      HasNewest rows (came_to port all) (listener_at rows port) (system_in systems port)
 
 -- what the answer at a port does to the system there: its communication ports read a message back.
 -- Where no system is nothing is answered

@@ -18,6 +18,7 @@ abbrev pub base : Rows
 base = record {
   profile = 1;
   buffer = 252;
+  own = 3;
   systems = system_on (codes "s1") 1 ∷ system_on (codes "s2") 2 ∷ system_on (codes "s3") 3 ∷ [];
   links =
       (record example_link { to = 2 ∷ []; policing = Frame; latency_us = 17; subs = 2 })

@@ -3,8 +3,8 @@
 ghost use Rattle.std.specs.Prelude.{◌≡◌, ℕ, ◌∷◌, [], IfOk, OnOk, List, Option, option_map};
 ghost use Rattle.std.specs.Option.{option_map_or};
 ghost use Rattle.afdx_config.specs.Rows.{Rows};
-ghost use Rattle.afdx_config.specs.Lawful.{IsLawful};
-ghost use Rattle.afdx_config.specs.Reading.{system_at_port};
+ghost use Rattle.afdx_config.specs.Lawful.{IsLawfulSwitch};
+ghost use Rattle.afdx_config.specs.Reading.{listener_at};
 ghost use Rattle.afdx_receive.specs.Answers.{answer_of};
 ghost use Rattle.afdx_receive.specs.Arrivals.{Arrived};
 ghost use Rattle.afdx_end_systems.specs.Handovers.{HandedOver, handed_over, arrival_of};
@@ -26,14 +26,14 @@ pub struct Systems {
     at_ports: Vec<Option<EndSystem>>,
 }
 
-/// The system at a port of the switch, if there is one, at which nothing arrived.
+/// The system that hears at a port of the switch, if there is one, at which nothing arrived.
 fn system_at(alloc: Global, tables: &Tables, port: u8) -> Result<Option<EndSystem>, AllocError>
-    ensures built { IfOk result (IsAt tables.now [] (system_at_port tables.now.systems port)) }
+    ensures built { IfOk result (IsAt tables.now [] (listener_at tables.now port)) }
     ensures newest { IfOk result
-        (HasNewest tables.now [] (system_at_port tables.now.systems port)) }
-    ensures lawful { IsLawful tables.now }
+        (HasNewest tables.now [] (listener_at tables.now port)) }
+    ensures lawful { IsLawfulSwitch tables.now }
 {
-    match tables.system_at(port) {
+    match tables.listener_at(port) {
         Some(system) => Ok(Some(EndSystem::new(alloc, tables, system)?)),
         None => Ok(None),
     }
@@ -97,7 +97,8 @@ impl Systems {
     }
 
     /// Takes in a frame at the system that has its port, and says what the system made of it: a
-    /// message, or why it was dropped. `None`: no system has the port.
+    /// message, or why it was dropped. `None`: no system hears at
+    /// the port.
     ///
     /// A message was put to its communication port and read there at once: a sample stays, what is
     /// taken out of a queue is given back. Its bytes, lent by the frame, are what was read (clause

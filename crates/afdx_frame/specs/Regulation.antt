@@ -14,6 +14,19 @@ longest_gap = 128
 abbrev pub is_bag : ℕ → Bool
 is_bag ms = list_any (λ bag. bag == ms) gaps
 
+-- the greatest latency and the greatest skew of a link, in us
+abbrev pub greatest_delay : ℕ
+greatest_delay = 100000
+
+-- the greatest jitter of a link, in us, by its gap in ms: of one that a system sends
+abbrev pub jitter_from_system : ℕ → ℕ
+jitter_from_system bag_ms = 1000 * bag_ms
+
+-- and of one that may come over a cable from another switch: the latencies before this switch, of
+-- at most 100 ms, are in its jitter too
+abbrev pub jitter_from_any : ℕ → ℕ
+jitter_from_any bag_ms = 1000 * bag_ms + greatest_delay
+
 -- the bytes that a frame of this length takes on the wire: 20 more, for preamble, start delimiter
 -- and the gap between frames
 abbrev pub wire_of : ℕ → ℕ

@@ -7,7 +7,7 @@ use Rattle.std.proofs.lemmas.Option.{slice_get_within}
 use Rattle.afdx_frame.specs.BySide.{on, with_on}
 use Rattle.afdx_frame.specs.declared.link.Side.{Side}
 use Rattle.afdx_frame.specs.declared.link.Side.TheVariants.{A, B}
-use Rattle.afdx_config.specs.Lawful.{IsLawful}
+use Rattle.afdx_config.specs.Lawful.{IsLawfulSwitch}
 use Rattle.afdx_config.specs.Rows.{Rows}
 use Rattle.afdx_police.specs.Arrival.{Arrival, arrival_with}
 use Rattle.afdx_port.specs.declared.left.Due.{Due}
@@ -587,7 +587,7 @@ must-give B n until due_a due_b first iff_a iff_b quiet =
     not-late due_b until first.due first.is first.in_time ((iff_b until).0 quiet)
 
 -- nothing has come yet
-pub stands-new : (t : Rows) (n : Network) → IsLawful t → switch.StandsFor t A n.switches.a switch.no_calls
+pub stands-new : (t : Rows) (n : Network) → IsLawfulSwitch t → switch.StandsFor t A n.switches.a switch.no_calls
     → switch.StandsFor t B n.switches.b switch.no_calls → StandsFor t n []
 stands-new t n lawful on_a on_b = record {
   lawful = lawful;

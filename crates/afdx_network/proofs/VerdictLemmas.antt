@@ -1,7 +1,7 @@
 -- What a verdict says of an arrival.
 use Rattle.std.proofs.Common.{◌≡◌, ℕ, Bool, false, List, [], ◌∷◌, refl, sym, ap, ◌∙◌, if◌then◌else◌}
 use Rattle.std.specs.Prelude.{Result, Ok, Err, IfOk, Some, filter}
-use Rattle.afdx_config.specs.Lawful.{IsLawful}
+use Rattle.afdx_config.specs.Lawful.{IsLawfulSwitch}
 use Rattle.afdx_config.specs.Rows.{Rows}
 use Rattle.afdx_police.specs.Arrival.{Arrival}
 use Rattle.afdx_police.specs.declared.shape.Reason.{Reason}
@@ -19,26 +19,26 @@ none-pass f [] fails = refl
 none-pass f (x ∷ xs) fails = ap (λ b. if b then x ∷ filter f xs else filter f xs) (fails x) ∙ none-pass f xs fails
 
 -- a frame that is dropped is lost nowhere
-dropped-nowhere : (t : Rows) (past : List Arrival) (x : Arrival) (reason : Reason) → IsLawful t
+dropped-nowhere : (t : Rows) (past : List Arrival) (x : Arrival) (reason : Reason) → IsLawfulSwitch t
     → reason_of t past x ≡ Some reason → (port : ℕ) → is_lost_at t past x port ≡ false
 unfolding is_lost_at
 dropped-nowhere t past x reason lawful is port =
     let at = named-place t x.bytes lawful in
     ap (is_share_lost t past x port) (dropped-sent t x past at.0 (output_at t x.side port) reason at.1 is)
 
-none-lost : (t : Rows) (past : List Arrival) (x : Arrival) (reason : Reason) → IsLawful t
+none-lost : (t : Rows) (past : List Arrival) (x : Arrival) (reason : Reason) → IsLawfulSwitch t
     → reason_of t past x ≡ Some reason → lost_ports t past x ≡ []
 unfolding lost_ports
 none-lost t past x reason lawful is =
     none-pass (is_lost_at t past x) numbers (dropped-nowhere t past x reason lawful is)
 
-tells : (t : Rows) (past : List Arrival) (x : Arrival) (v : Verdict) → IsLawful t
+tells : (t : Rows) (past : List Arrival) (x : Arrival) (v : Verdict) → IsLawfulSwitch t
     → IsVerdict t past x v → Tells v (admission_after t past x)
 unfolding ports_in
 tells t past x (Dropped reason) lawful is = record { reason = sym is; lost = sym (none-lost t past x reason lawful is) }
 tells t past x (Accepted lost) lawful is = record { reason = sym is.0; lost = lost-listed t past x lost is }
 
 pub if-tells : {E : Type 0} (t : Rows) (past : List Arrival) (x : Arrival) (r : Result Verdict E)
-    → IsLawful t → IfOk r (IsVerdict t past x) → IfOk r (λ v. Tells v (admission_after t past x))
+    → IsLawfulSwitch t → IfOk r (IsVerdict t past x) → IfOk r (λ v. Tells v (admission_after t past x))
 if-tells t past x (Ok v) lawful is = tells t past x v lawful is
 if-tells t past x (Err e) lawful is = tt

@@ -3,7 +3,7 @@ use Rattle.std.specs.Prelude.{ℕ, ◌≡◌, ◌+◌, ◌<◌, ◌≤◌, ◌�
 use Rattle.afdx_frame.specs.declared.link.Side.{Side}
 use Rattle.afdx_frame.specs.declared.link.Side.TheVariants.{A, B}
 use Rattle.afdx_frame.specs.Ports.{last_port}
-use Rattle.afdx_config.specs.Lawful.{IsLawful}
+use Rattle.afdx_config.specs.Lawful.{IsLawfulSwitch}
 use Rattle.afdx_config.specs.Rows.{Rows}
 use Rattle.afdx_police.specs.declared.shape.Reason.{Reason}
 use Rattle.afdx_port.specs.Due.{IsBy, order_of}
@@ -89,7 +89,7 @@ IsNextOn t events side port s = IsNextAt t side (calls_on side events 0) port s
 
 -- the switches of both sides are those that these events leave
 pub record StandsFor (t : Rows) (n : Network) (events : List Event) : Type 0 where
-  pub lawful : IsLawful t
+  pub lawful : IsLawfulSwitch t
   pub on_a : switch.StandsFor t A n.switches.a (calls_on A events (switch.last_time n.switches.a))
   pub on_b : switch.StandsFor t B n.switches.b (calls_on B events (switch.last_time n.switches.b))
   pub in_order : AreInOrder events

@@ -34,6 +34,16 @@ pub is_bag-divides : (ms : ℕ) → is_bag ms ≡ true → IsBag ms
 is_bag-divides ms h = any_of IsBag (1 ∷ 2 ∷ 4 ∷ 8 ∷ 16 ∷ 32 ∷ 64 ∷ 128 ∷ []) ms
     (refl, (refl, (refl, (refl, (refl, (refl, (refl, (refl, tt)))))))) h
 
+-- and is at least one
+pub is_bag-positive : (ms : ℕ) → is_bag ms ≡ true → 1 ≤ ms
+is_bag-positive ms h = any_of (λ n. 1 ≤ n) (1 ∷ 2 ∷ 4 ∷ 8 ∷ 16 ∷ 32 ∷ 64 ∷ 128 ∷ []) ms (
+  omega arith,
+  (
+    omega arith,
+    (omega arith, (omega arith, (omega arith, (omega arith, (omega arith, (omega arith, tt)))))),
+  ),
+) h
+
 -- each window, in the account's units: the load of `units` at `time` against the window that begins with each of these
 abbrev EachWindow : Regulation → List Charged → ℕ → ℕ → ℕ → Type 0
 EachWindow link [] taken time units = Unit {0}

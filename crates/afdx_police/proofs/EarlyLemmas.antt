@@ -16,7 +16,7 @@ use Rattle.afdx_police.specs.Early.{IsEarlyBy, IsLeastWait, charged_later, least
 use Rattle.afdx_police.specs.LinkAccounts.{IsOfferedAs}
 use Rattle.afdx_police.specs.Offers.{offers_of}
 use Rattle.afdx_police.specs.Policer.{Offer, StandsFor, accepted_offers, charged_offer}
-use Rattle.afdx_police.specs.Rule.{Rule, IsRule, regulation_of}
+use Rattle.afdx_police.specs.Rule.{Rule, IsRuleAfterCable, regulation_of}
 use Rattle.afdx_police.specs.Shape.{fault_of, faults}
 use Rattle.afdx_police.specs.declared.shape.Reason.{Reason}
 use Rattle.afdx_police.specs.declared.shape.Reason.TheVariants.{OverRate}
@@ -107,7 +107,7 @@ StandsFor-wait charge_of rule level offers offer stands =
 
 -- and its least wait is that of the window rule
 pub StandsFor-least : (charge_of : ℕ → ℕ → ℕ) (rule : Rule) (level : ℕ) (offers : List Offer)
-    (offer : Offer) (wait : ℕ) → IsRule rule →
+    (offer : Offer) (wait : ℕ) → IsRuleAfterCable rule →
     charge_of (rule.lmax + 20) (offer.length + 20) ≤ rule.lmax + 20 →
     StandsFor charge_of (record { rule = rule; level = level; time = offer.time }) offers →
     wait ≡ least_wait (regulation_of rule) (accepted_offers charge_of (regulation_of rule) offers)

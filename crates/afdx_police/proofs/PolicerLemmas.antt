@@ -7,24 +7,26 @@ use Rattle.std.proofs.lemmas.Bool.{leb-true, le-leb, lt-leb, cond-true, cond-fal
 use Rattle.std.proofs.lemmas.Bool.Decides.{leb_tells}
 use Rattle.std.proofs.lemmas.List.Elements.{All-cons, All-nil}
 use Rattle.afdx_frame.specs.Regulation.{Regulation, bag, jitter, byte_units, fill_rate, cap}
+use Rattle.afdx_frame.specs.Regulation.{jitter_from_any}
 use Rattle.afdx_police.specs.Account.{Account, overdrawn, missing}
 use Rattle.afdx_police.specs.Policer.{Offer, charged_offer, accepted_offers, StandsFor}
-use Rattle.afdx_police.specs.Rule.{Rule, IsRule, is_bag, regulation_of}
+use Rattle.afdx_police.specs.Rule.{Rule, IsRuleAfterCable, is_bag, regulation_of}
 use Rattle.afdx_police.specs.Window.{Charged, fits, accepted_of}
-use Rattle.afdx_police.proofs.AccountLemmas.{fits-room, is_bag-divides, missing-later, missing-accept}
+use Rattle.afdx_police.proofs.AccountLemmas.{fits-room, is_bag-divides, is_bag-positive, missing-later, missing-accept}
 
 -- the account's units are bounded
 pub cap-le : (link : Regulation) → IsTrue (is_bag link.bag_ms) → link.smax ≤ 1538
-    → link.jitter_us ≤ 1000 * link.bag_ms → cap link ≤ 393728000000
+    → link.jitter_us ≤ jitter_from_any link.bag_ms → cap link ≤ 20080128000000
 cap-le link b s j =
     let m : link.bag_ms * (128 / link.bag_ms) ≡ 128 = is_bag-divides link.bag_ms b in
-    let time : bag link + jitter link ≤ 2000000 * link.bag_ms = omega arith in
-    let product : cap link ≤ (link.smax * (128 / link.bag_ms)) * (2000000 * link.bag_ms) =
+    let some : 1 ≤ link.bag_ms = is_bag-positive link.bag_ms b in
+    let time : bag link + jitter link ≤ 102000000 * link.bag_ms = omega (arith, j, some) in
+    let product : cap link ≤ (link.smax * (128 / link.bag_ms)) * (102000000 * link.bag_ms) =
     mul-le-mul_left (fill_rate link) time in
-    let units : (link.smax * (128 / link.bag_ms)) * (2000000 * link.bag_ms)
-    ≡ link.smax * 2000000 * (link.bag_ms * (128 / link.bag_ms)) = grind arith in
-    let units-128 : (link.smax * (128 / link.bag_ms)) * (2000000 * link.bag_ms)
-    ≡ link.smax * 2000000 * 128 = units ∙ rw m refl in
+    let units : (link.smax * (128 / link.bag_ms)) * (102000000 * link.bag_ms)
+    ≡ link.smax * 102000000 * (link.bag_ms * (128 / link.bag_ms)) = grind arith in
+    let units-128 : (link.smax * (128 / link.bag_ms)) * (102000000 * link.bag_ms)
+    ≡ link.smax * 102000000 * 128 = units ∙ rw m refl in
     omega (arith, product, units-128)
 
 -- over numbers: what the account gains in a gap, what is missing loses
@@ -106,7 +108,7 @@ same_test false false there back = refl
 
 -- the answer at an account that is filled up to the offer's time
 pub StandsFor-answer : (charge_of : ℕ → ℕ → ℕ) (rule : Rule) (level : ℕ) (offers : List Offer)
-    (offer : Offer) → IsRule rule →
+    (offer : Offer) → IsRuleAfterCable rule →
     StandsFor charge_of (record { rule = rule; level = level; time = offer.time }) offers →
     nat_le (charge_of (rule.lmax + 20) (offer.length + 20) * byte_units) level
     ≡ fits (regulation_of rule) (accepted_offers charge_of (regulation_of rule) offers)
@@ -125,7 +127,7 @@ StandsFor-answer charge_of rule level offers offer is-rule stands =
 
 -- the account that an accepted offer leaves
 pub StandsFor-accepted : (charge_of : ℕ → ℕ → ℕ) (rule : Rule) (level : ℕ) (offers : List Offer)
-    (offer : Offer) → IsRule rule →
+    (offer : Offer) → IsRuleAfterCable rule →
     StandsFor charge_of (record { rule = rule; level = level; time = offer.time }) offers →
     charge_of (rule.lmax + 20) (offer.length + 20) * byte_units ≤ level →
     StandsFor charge_of (record {
@@ -150,7 +152,7 @@ StandsFor-accepted charge_of rule level offers offer is-rule stands passes =
 
 -- and a refused one
 pub StandsFor-refused : (charge_of : ℕ → ℕ → ℕ) (rule : Rule) (level : ℕ) (offers : List Offer)
-    (offer : Offer) → IsRule rule →
+    (offer : Offer) → IsRuleAfterCable rule →
     StandsFor charge_of (record { rule = rule; level = level; time = offer.time }) offers →
     level < charge_of (rule.lmax + 20) (offer.length + 20) * byte_units →
     StandsFor charge_of (record { rule = rule; level = level; time = offer.time }) (offer ∷ offers)

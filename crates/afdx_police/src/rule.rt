@@ -1,10 +1,11 @@
 //! The rule of a link.
 
 ghost use Rattle.std.specs.Prelude.{◌≡◌, ◌↔◌, IsSome, IfSome};
-ghost use Rattle.afdx_police.specs.Rule.{IsRule, rule_with};
+ghost use Rattle.afdx_police.specs.Rule.{IsRule, IsRuleAfterCable, rule_with};
 
 use afdx_frame::{
-    GAPS_MS, GREATEST_FRAME, LAST_PORT, LEAST_FRAME, LONGEST_GAP_MS, Policing, VlId, WIRE_EXTRA,
+    GAPS_MS, GREATEST_DELAY_US, GREATEST_FRAME, LAST_PORT, LEAST_FRAME, LONGEST_GAP_MS, Policing,
+    VlId, WIRE_EXTRA,
 };
 
 /// How one virtual link is filtered and policed at a switch (ARINC 664 Part 7).
@@ -21,7 +22,7 @@ pub struct LinkRule {
     pub lmax: u64,
     pub jitter_us: u64,
     pub policing: Policing,
-    pub ghost in_range: { IsRule (rule_with vl.0 port bag_ms lmin lmax jitter_us policing) },
+    pub ghost in_range: { IsRuleAfterCable (rule_with vl.0 port bag_ms lmin lmax jitter_us policing) },
 }
 
 impl LinkRule {
@@ -30,8 +31,9 @@ impl LinkRule {
     ghost use Rattle.afdx_frame.specs.Regulation.{bag, jitter, fill_rate, cap};
     ghost use Rattle.std.specs.Prelude.{◌+◌};
 
-    /// The rule of these values; None exactly if one is out of its range: a port of 1 to 24, a gap
-    /// of 1, 2, 4, .. or 128 ms, `64 <= lmin <= lmax <= 1518`, a jitter of at most the gap.
+    /// The rule of these values for a link that a system sends to the switch; None exactly if one is
+    /// out of its range: a port of 1 to 24, a gap of 1, 2, 4, .. or 128 ms,
+    /// `64 <= lmin <= lmax <= 1518`, a jitter of at most the gap.
     pub fn new(
         vl: VlId,
         port: u8,
@@ -46,6 +48,30 @@ impl LinkRule {
         ensures given { IfSome result (λ r.
             rule_of r ≡ rule_with vl.0 port bag_ms lmin lmax jitter_us policing) }
     {
+        let rule = LinkRule::after_cable(vl, port, bag_ms, lmin, lmax, jitter_us, policing)?;
+        if jitter_us <= 1000 * bag_ms {
+            Some(rule)
+        } else {
+            None
+        }
+    }
+
+    /// The same for a link that may come over a cable from another switch: its jitter is at most the
+    /// gap and 100 ms, since its frames have been delayed before.
+    pub fn after_cable(
+        vl: VlId,
+        port: u8,
+        bag_ms: u64,
+        lmin: u64,
+        lmax: u64,
+        jitter_us: u64,
+        policing: Policing,
+    ) -> Option<LinkRule>
+        ensures in_range { IsSome result
+            ↔ IsRuleAfterCable (rule_with vl.0 port bag_ms lmin lmax jitter_us policing) }
+        ensures given { IfSome result (λ r.
+            rule_of r ≡ rule_with vl.0 port bag_ms lmin lmax jitter_us policing) }
+    {
         let is_bag = GAPS_MS.contains(&bag_ms);
         if port >= 1
             && port <= LAST_PORT
@@ -53,7 +79,7 @@ impl LinkRule {
             && lmin >= LEAST_FRAME as u64
             && lmin <= lmax
             && lmax <= GREATEST_FRAME as u64
-            && jitter_us <= 1000 * bag_ms
+            && jitter_us <= 1000 * bag_ms + GREATEST_DELAY_US
         {
             Some(LinkRule {
                 vl,

@@ -10,7 +10,7 @@ use Rattle.std.proofs.lemmas.Bool.{eqb-true, eq-eqb, and_parts, cases_lt, lt-ltb
 use Rattle.afdx_frame.specs.declared.link.Side.{Side}
 use Rattle.afdx_frame.specs.declared.link.Side.TheVariants.{A, B}
 use Rattle.afdx_frame.proofs.SideLemmas.{is_side-same}
-use Rattle.afdx_config.specs.Lawful.{IsLawfulUpTo}
+use Rattle.afdx_config.specs.Lawful.{IsLawfulSwitch}
 use Rattle.afdx_config.specs.Rows.{Rows}
 use Rattle.afdx_police.specs.Arrival.{Arrival, is_side}
 use Rattle.afdx_port.specs.Schedule.{Entry, Turn, AreTurns}
@@ -83,8 +83,8 @@ turn-is-at side port turns e h =
     let here : is_at side port (Left r.d) ≡ true = rw (r.side_is, r.port_is, same_self side) (eq-eqb port port refl) in
     ap (is_at side port) r.is ∙ here
 
-module _ {greatest_jitter : ℕ → ℕ} (t : Rows) (arrivals : List Arrival) (events : List Event)
-    (side : Side) (port : ℕ) (lawful : IsLawfulUpTo greatest_jitter t) (timed : AreTimed arrivals)
+module _ (t : Rows) (arrivals : List Arrival) (events : List Event)
+    (side : Side) (port : ℕ) (lawful : IsLawfulSwitch t) (timed : AreTimed arrivals)
     (low : 1 ≤ port) (high : port ≤ 24) (are : AreEvents t arrivals events) where
   at-own : (e : Event) → IsAmong e (filter (is_at side port) events)
       → IsAmong e (departures_of side port (turns_at t side port arrivals))
@@ -320,8 +320,8 @@ brought-in-order port (Left d ∷ before) order =
     )
     by false is rest = rest
 
-pub events-bring : {greatest_jitter : ℕ → ℕ} (t : Rows) (arrivals : List Arrival) (events : List Event)
-    (port : ℕ) → IsLawfulUpTo greatest_jitter t → AreTimed arrivals → 1 ≤ port → port ≤ 24
+pub events-bring : (t : Rows) (arrivals : List Arrival) (events : List Event)
+    (port : ℕ) → IsLawfulSwitch t → AreTimed arrivals → 1 ≤ port → port ≤ 24
     → AreEvents t arrivals events → AreReceptions t port arrivals (brought_by port events)
 events-bring t arrivals events port lawful timed low high are = record {
   by_side = λ side. brought-by-side side port events
@@ -427,8 +427,8 @@ no-left t (x ∷ past) d (inl same) = cc same
 no-left t (x ∷ past) d (inr rest) = no-left t past d rest
 
 -- what has left a port are its turns
-pub taken-at-port : {greatest_jitter : ℕ → ℕ} (t : Rows) (arrivals : List Arrival) (events : List Event)
-    (side : Side) (port : ℕ) → IsLawfulUpTo greatest_jitter t → AreTimed arrivals → 1 ≤ port → port ≤ 24
+pub taken-at-port : (t : Rows) (arrivals : List Arrival) (events : List Event)
+    (side : Side) (port : ℕ) → IsLawfulSwitch t → AreTimed arrivals → 1 ≤ port → port ≤ 24
     → AreEvents t arrivals events → taken_at port (turns_on side events) ≡ turns_at t side port arrivals
 taken-at-port t arrivals events side port lawful timed low high are =
     taken-in side port events
@@ -504,9 +504,9 @@ so-far-is t arrivals events are =
     (first.0, first.1 ∙ ap (λ es. first.0 ++ es) (sym (one-order-so-far t arrivals events are)))
 
 -- what has left a port is the beginning of its turns
-pub taken-so-far : {greatest_jitter : ℕ → ℕ} (t : Rows) (arrivals : List Arrival)
+pub taken-so-far : (t : Rows) (arrivals : List Arrival)
     (events : List Event) (side : Side) (port : ℕ)
-    → IsLawfulUpTo greatest_jitter t → AreTimed arrivals → 1 ≤ port → port ≤ 24 → AreEventsSoFar t arrivals events →
+    → IsLawfulSwitch t → AreTimed arrivals → 1 ≤ port → port ≤ 24 → AreEventsSoFar t arrivals events →
     (later : List (Turn HeldFrame)) × (turns_at t side port arrivals ≡ later ++ taken_at port (turns_on side events))
 taken-so-far t arrivals events side port lawful timed low high are =
     let more = so-far-is t arrivals events are in (

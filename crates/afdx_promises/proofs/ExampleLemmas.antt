@@ -28,7 +28,7 @@ use Rattle.afdx_frame.specs.Sealing.{AreBytes}
 use Rattle.afdx_frame.specs.declared.link.Side.{Side}
 use Rattle.afdx_frame.specs.declared.link.Side.TheVariants.{A, B}
 use Rattle.afdx_config.specs.Admission.{IsAdmitted, byte_ns, flows_to, sender_jitter, links_from}
-use Rattle.afdx_config.specs.Lawful.{IsLawful, AreDistinct, triple}
+use Rattle.afdx_config.specs.Lawful.{IsLawful, IsBetweenSystems, AreDistinct, triple}
 use Rattle.afdx_config.specs.declared.rows.Kind.TheVariants.{Sampling}
 use Rattle.afdx_config.specs.LawfulStream.{Sending, IsSent}
 use Rattle.afdx_config.specs.Reading.{is_name, are_apart, has_port}
@@ -75,6 +75,7 @@ unfolding is_name are_apart reading.goes_to
 is-lawful latency some most = record {
   profile = (omega arith, omega arith);
   buffer = (omega arith, omega arith);
+  own = refl;
   systems = record {
     count = omega arith;
     each = (
@@ -415,13 +416,15 @@ premises-met computed = record {
   sends = is-stream computed 11;
   fed = is-fed computed;
   delivers = λ came are. messages-once computed tables arrivals 1 0 receiver link
-      (heard ∷ unheard ∷ []) stream came (is-lawful 11 (omega arith) (omega arith)) run refl refl
-      refl (is-stream computed 11)
+      (heard ∷ unheard ∷ []) stream came run refl refl refl between (is-stream computed 11)
       (is-fed computed) are ∙ heard-only;
-  told_once = told-once computed tables arrivals (is-lawful 11 (omega arith) (omega arith)) run 1 0
-      receiver link (heard ∷ unheard ∷ []) stream refl refl refl (is-stream computed 11) (is-fed computed) ∙ heard-only;
+  told_once = told-once computed tables arrivals run 1 0
+      receiver link (heard ∷ unheard ∷ []) stream refl refl refl between (is-stream computed 11) (is-fed computed) ∙ heard-only;
 }
   where
+    between : IsBetweenSystems tables 1 link
+    between = record { from = omega arith; to = omega arith }
+
     run : IsAdmittedRun tables arrivals
     run = record {
       lawful = among_others tables (is-lawful 11 (omega arith) (omega arith));

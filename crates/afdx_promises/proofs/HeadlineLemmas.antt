@@ -6,7 +6,7 @@ use Rattle.std.specs.List.{AllByRecursion}
 use Rattle.std.proofs.lemmas.Bool.{eq-eqb, and_parts}
 use Rattle.afdx_frame.specs.declared.link.Side.{Side}
 use Rattle.afdx_frame.proofs.SideLemmas.{is_side-same}
-use Rattle.afdx_config.specs.Lawful.{IsLawfulUpTo}
+use Rattle.afdx_config.specs.Lawful.{IsLawfulSwitch}
 use Rattle.afdx_config.specs.Rows.{LinkRow, Rows}
 use Rattle.afdx_police.specs.Arrival.{Arrival, is_side, names, own}
 use Rattle.afdx_police.specs.declared.shape.Reason.{Reason}
@@ -59,8 +59,8 @@ verdict-in t (x ∷ past) v (inl same) = (
 )
 verdict-in t (x ∷ past) v (inr rest) = verdict-in t past v rest
 
-pub verdicts-are : {greatest_jitter : ℕ → ℕ} (t : Rows) (arrivals : List Arrival) (lines : List Line)
-    → IsLawfulUpTo greatest_jitter t → judged_in lines ≡ verdicts_of t arrivals → AreVerdicts t arrivals lines
+pub verdicts-are : (t : Rows) (arrivals : List Arrival) (lines : List Line)
+    → IsLawfulSwitch t → judged_in lines ≡ verdicts_of t arrivals → AreVerdicts t arrivals lines
 verdicts-are t arrivals lines lawful same = record {
   each = ap arrivals_judged same ∙ verdicts-arrivals t arrivals;
   own = λ side place l at. subst (λ vs. AreByWindowRule (rule_of t l) (own_verdicts l.vl side vs))
@@ -69,9 +69,9 @@ verdicts-are t arrivals lines lawful same = record {
       ∙ unknown-reason t w.0 v.arrival (no-row t v.arrival.bytes lawful none));
 }
 
-accepted-are : {greatest_jitter : ℕ → ℕ} (t : Rows) (arrivals : List Arrival) (lines : List Line)
+accepted-are : (t : Rows) (arrivals : List Arrival) (lines : List Line)
     (side : Side) (place : ℕ)
-    (l : LinkRow) → IsLawfulUpTo greatest_jitter t → judged_in lines ≡ verdicts_of t arrivals
+    (l : LinkRow) → IsLawfulSwitch t → judged_in lines ≡ verdicts_of t arrivals
     → slice_get t.links place ≡ Some l →
     accepted_in (verdicts_on l.vl side lines) ≡ accepted_on t l side arrivals
 accepted-are t arrivals lines side place l lawful same at =

@@ -1,14 +1,14 @@
 -- What the systems make of the frames that leave, as lines tell it.
-use Rattle.std.proofs.Common.{◌≡◌, ℕ, ◌==◌, Bool, true, false, List, [], ◌∷◌, refl, sym, ap, ◌∙◌, inl, inr}
+use Rattle.std.proofs.Common.{◌≡◌, ℕ, ◌<◌, ◌==◌, Bool, true, false, List, [], ◌∷◌, refl, sym, ap, ◌∙◌, inl, inr}
 use Rattle.std.specs.Prelude.{Option, Some, None, Result, slice_get, if◌then◌else◌}
 use Rattle.std.proofs.lemmas.Bool.{eqb-true, eq-eqb}
 use Rattle.afdx_frame.specs.Parts.{FrameParts, frame_of}
 use Rattle.afdx_frame.specs.declared.fault.MacFault.{MacFault}
-use Rattle.afdx_config.specs.Lawful.{IsLawfulUpTo}
-use Rattle.afdx_config.specs.Reading.{system_at_port}
+use Rattle.afdx_config.specs.Lawful.{IsLawfulSwitch}
+use Rattle.afdx_config.specs.Reading.{listener_at}
 use Rattle.afdx_config.specs.Rows.{SystemRow, Rows}
 use Rattle.afdx_config.specs.SentList as sent
-use Rattle.afdx_config.proofs.LookUpLemmas.{each_row-found}
+use Rattle.afdx_config.proofs.LookUpLemmas.{listeners}
 use Rattle.afdx_police.specs.Arrival.{names}
 use Rattle.afdx_receive.specs.Answers.{Answer, Message, Dropped, answer_to}
 use Rattle.afdx_receive.specs.Delivery.{with_answer}
@@ -28,35 +28,35 @@ use Rattle.afdx_promises.proofs.ReceiverLemmas.{names-frame}
 
 heard-of : (t : Rows) (d : Leaving) (system : ℕ) (answer : Answer) (events : List Event)
     → IsIn (Received d system answer) (told_by t events) → IsIn d (left_in (told_by t events))
-    × (system_at_port t.systems d.port ≡ Some system)
+    × (listener_at t d.port ≡ Some system)
 unfolding told_by left_in
 heard-of t d system answer [] h = absurd h
 heard-of t d system answer (Came c ∷ before) (inl same) = absurd (cc same)
 heard-of t d system answer (Came c ∷ before) (inr later) = heard-of t d system answer before later
 heard-of t d system answer (Left e ∷ before) h =
-    by (system_at_port t.systems e.port) refl h (λ later. heard-of t d system answer before later)
+    by (listener_at t e.port) refl h (λ later. heard-of t d system answer before later)
   where
     rest-of : (IsIn (Received d system answer) (told_by t before)
-        → IsIn d (left_in (told_by t before)) × (system_at_port t.systems d.port ≡ Some system)) →
+        → IsIn d (left_in (told_by t before)) × (listener_at t d.port ≡ Some system)) →
         IsIn (Received d system answer) (Departed (leaving e) ∷ told_by t before)
         → IsIn d (left_in (Departed (leaving e) ∷ told_by t before))
-        × (system_at_port t.systems d.port ≡ Some system)
+        × (listener_at t d.port ≡ Some system)
     rest-of rest (inl same) = absurd (cc same)
     rest-of rest (inr later) = let r = rest later in (inr r.0, r.1)
 
-    by : (o : Option ℕ) → system_at_port t.systems e.port ≡ o
+    by : (o : Option ℕ) → listener_at t e.port ≡ o
         → IsIn (Received d system answer)
         (with_reception t (brought_by e.port before) (leaving e) o
         (Departed (leaving e) ∷ told_by t before)) →
         (IsIn (Received d system answer) (told_by t before) → IsIn d (left_in (told_by t before))
-        × (system_at_port t.systems d.port ≡ Some system)) →
+        × (listener_at t d.port ≡ Some system)) →
         IsIn d (left_in (with_reception t (brought_by e.port before) (leaving e) o
-        (Departed (leaving e) ∷ told_by t before))) × (system_at_port t.systems d.port ≡ Some system)
+        (Departed (leaving e) ∷ told_by t before))) × (listener_at t d.port ≡ Some system)
     by None at g rest = rest-of rest g
     by (Some k) at (inl same) rest =
         let d_is : d ≡ leaving e = cc same in
         let k_is : system ≡ k = cc same in
-        (inl d_is, ap (λ (x : Leaving). system_at_port t.systems x.port) d_is ∙ at ∙ ap (λ n. Some n) (sym k_is))
+        (inl d_is, ap (λ (x : Leaving). listener_at t x.port) d_is ∙ at ∙ ap (λ n. Some n) (sym k_is))
     by (Some k) at (inr later) rest = rest-of rest later
 
 pub lines-heard : (t : Rows) (events : List Event) (d : Leaving) (system : ℕ) (answer : Answer)
@@ -87,14 +87,14 @@ told-off : (vl : ℕ) (answer : Answer) (rest : List sent.Message) → with_told
 told-off vl (Message v udp payload) rest = refl
 told-off vl (Dropped why) rest = refl
 
-module _ {greatest_jitter : ℕ → ℕ} (t : Rows) (system : ℕ) (s : SystemRow) (vl : ℕ)
-    (lawful : IsLawfulUpTo greatest_jitter t)
-    (stands_at : slice_get t.systems system ≡ Some s) where
-  -- the system is at its port, and at no other
-  at-port : (port : ℕ) → port ≡ s.port → system_at_port t.systems port ≡ Some system
-  at-port port here = ap (system_at_port t.systems) here ∙ (each_row-found t lawful).by_port system s stands_at
+module _ (t : Rows) (system : ℕ) (s : SystemRow) (vl : ℕ)
+    (lawful : IsLawfulSwitch t)
+    (stands_at : slice_get t.systems system ≡ Some s) (is_own : system < t.own) where
+  -- the system hears at its port, and at no other
+  at-port : (port : ℕ) → port ≡ s.port → listener_at t port ≡ Some system
+  at-port port here = ap (listener_at t) here ∙ (listeners t lawful).each system s stands_at is_own
 
-  elsewhere : (port k : ℕ) → system_at_port t.systems port ≡ Some k → (port == s.port) ≡ false → (k == system) ≡ false
+  elsewhere : (port k : ℕ) → listener_at t port ≡ Some k → (port == s.port) ≡ false → (k == system) ≡ false
   elsewhere port k at apart = by (k == system) refl
     where
       row_port : Option SystemRow → ℕ
@@ -104,7 +104,7 @@ module _ {greatest_jitter : ℕ → ℕ} (t : Rows) (system : ℕ) (s : SystemRo
       by : (b : Bool) → (k == system) ≡ b → b ≡ false
       by false off = refl
       by true same =
-          let r = system-at t port k at in
+          let r = system-at t port k ((listeners t lawful).only port k at).0 in
           let both : Some r.0 ≡ Some s = sym r.1 ∙ ap (slice_get t.systems) (eqb-true k system same) ∙ stands_at in
           let port_is : r.0.port ≡ s.port = ap (λ (o : Option SystemRow). row_port o) both in
           absurd (let here : (port == s.port) ≡ true = eq-eqb port s.port (sym r.2 ∙ port_is) in cc (here, apart))
@@ -130,7 +130,7 @@ module _ {greatest_jitter : ℕ → ℕ} (t : Rows) (system : ℕ) (s : SystemRo
       frame_is : (v : ℕ) × IsFrameOn v d.turn.entry.item.bytes
       frame_is = are.frame d (inl refl)
 
-      off : (o : Option ℕ) → system_at_port t.systems d.port ≡ o → (d.port == s.port) ≡ false
+      off : (o : Option ℕ) → listener_at t d.port ≡ o → (d.port == s.port) ≡ false
           → answers_told system vl (told_by t before)
           ≡ answers_on t system vl (brought_by s.port before) →
           answers_told system vl (with_reception t (brought_by d.port before) (leaving d) o
@@ -166,9 +166,9 @@ module _ {greatest_jitter : ℕ → ℕ} (t : Rows) (system : ℕ) (s : SystemRo
       by : (b : Bool) → (d.port == s.port) ≡ b → answers_told system vl (told_by t before)
           ≡ answers_on t system vl (brought_by s.port before) →
           answers_told system vl (with_reception t (brought_by d.port before) (leaving d)
-          (system_at_port t.systems d.port) (Departed (leaving d) ∷ told_by t before))
+          (listener_at t d.port) (Departed (leaving d) ∷ told_by t before))
           ≡ answers_on t system vl (brought_by s.port (Left d ∷ before))
-      by false apart rest = off (system_at_port t.systems d.port) refl apart rest
+      by false apart rest = off (listener_at t d.port) refl apart rest
           ∙ ap (answers_on t system vl) (sym (brought-none d before apart))
       by true is rest =
           let here = eqb-true d.port s.port is in
@@ -196,7 +196,7 @@ module _ {greatest_jitter : ℕ → ℕ} (t : Rows) (system : ℕ) (s : SystemRo
       answer : Answer
       answer = answer_to t system (brought_by s.port before) (brought d.side d.turn)
 
-      off : (o : Option ℕ) → system_at_port t.systems d.port ≡ o → (d.port == s.port) ≡ false
+      off : (o : Option ℕ) → listener_at t d.port ≡ o → (d.port == s.port) ≡ false
           → messages_told system vl (told_by t before)
           ≡ messages_in (answers_on t system vl (brought_by s.port before)) →
           messages_told system vl (with_reception t (brought_by d.port before) (leaving d) o
@@ -235,9 +235,9 @@ module _ {greatest_jitter : ℕ → ℕ} (t : Rows) (system : ℕ) (s : SystemRo
       by : (b : Bool) → (d.port == s.port) ≡ b → messages_told system vl (told_by t before)
           ≡ messages_in (answers_on t system vl (brought_by s.port before)) →
           messages_told system vl (with_reception t (brought_by d.port before) (leaving d)
-          (system_at_port t.systems d.port) (Departed (leaving d) ∷ told_by t before))
+          (listener_at t d.port) (Departed (leaving d) ∷ told_by t before))
           ≡ messages_in (answers_on t system vl (brought_by s.port (Left d ∷ before)))
-      by false apart rest = off (system_at_port t.systems d.port) refl apart rest
+      by false apart rest = off (listener_at t d.port) refl apart rest
           ∙ ap (λ zs. messages_in (answers_on t system vl zs)) (sym (brought-none d before apart))
       by true is rest =
           let here = eqb-true d.port s.port is in

@@ -6,7 +6,7 @@ use Rattle.std.specs.Prelude.{Option, Some, None, All, nat_lt, ◌⊎◌, if◌t
 use Rattle.std.specs.List.{AllByRecursion}
 use Rattle.std.proofs.lemmas.Bool.{le-ltb, lt-ltb}
 use Rattle.afdx_frame.specs.declared.link.Side.{Side}
-use Rattle.afdx_config.specs.Reading.{system_at_port}
+use Rattle.afdx_config.specs.Reading.{listener_at}
 use Rattle.afdx_config.specs.Rows.{Rows}
 use Rattle.afdx_police.specs.Arrival.{Arrival, is_side, names}
 use Rattle.afdx_bounds.specs.Outputs.{AreTimed}
@@ -102,7 +102,7 @@ told-judged t [] = refl
 told-judged t (Came c ∷ before) = ap (λ vs. record { arrival = c.arrival; reason = c.reason } ∷ vs)
     (told-judged t before)
 told-judged t (Left d ∷ before) =
-    received-judged t (brought_by d.port before) (leaving d) (system_at_port t.systems d.port)
+    received-judged t (brought_by d.port before) (leaving d) (listener_at t d.port)
     (Departed (leaving d) ∷ told_by t before) ∙ told-judged t before
 
 only-came : (events : List Event) → judged_by events ≡ judged_by (filter is_came events)
@@ -250,7 +250,7 @@ unfolding left_in told_by departures_in
 told-left t [] = refl
 told-left t (Came c ∷ before) = told-left t before
 told-left t (Left d ∷ before) =
-    received-left t (brought_by d.port before) (leaving d) (system_at_port t.systems d.port)
+    received-left t (brought_by d.port before) (leaving d) (listener_at t d.port)
     (Departed (leaving d) ∷ told_by t before) ∙ ap (λ ds. leaving d ∷ ds) (told-left t before)
 
 pub left-among : (d : Departure) (events : List Event) → IsIn d (departures_in events) → IsAmong (Left d) events

@@ -11,7 +11,8 @@ use Rattle.afdx_frame.specs.declared.link.Side.{Side}
 use Rattle.afdx_frame.specs.declared.link.Side.TheVariants.{A, B}
 use Rattle.afdx_frame.specs.Sides.{is_side}
 use Rattle.afdx_frame.proofs.ListLemmas.{AllByRecursion-slice_get}
-use Rattle.afdx_config.specs.Lawful.{IsLink, IsLawful}
+use Rattle.afdx_config.specs.Lawful.{IsLink, IsLinkUpTo, IsBetweenSystems, jitter_from_any}
+use Rattle.afdx_config.proofs.AmongOthersLemmas.{link-alone}
 use Rattle.afdx_config.specs.LawfulStream.{Sending}
 use Rattle.afdx_config.specs.Reading.{has_port}
 use Rattle.afdx_config.specs.Rows.{SystemRow, LinkRow, Rows, is_to}
@@ -250,9 +251,9 @@ slots-end vl latency turns ends =
 
 module _ (computed : BuiltIsComputed) (t : Rows) (arrivals : List Arrival) (system place : ℕ)
     (s : SystemRow) (l : LinkRow) (messages : List Message) (stream : List Sending) (came : List Arrived)
-    (alone : IsLawful t) (run : IsAdmittedRun t arrivals) (stands : slice_get t.systems system ≡ Some s)
+    (run : IsAdmittedRun t arrivals) (stands : slice_get t.systems system ≡ Some s)
     (at : slice_get t.links place ≡ Some l) (goes : is_to system l ≡ true)
-    (is : IsStreamOf t l messages stream)
+    (between : IsBetweenSystems t system l) (is : IsStreamOf t l messages stream)
     (sent : (side : Side) → AreFirstOf side stream (at_own_port t l side arrivals))
     (are : AreReceptions t s.port arrivals came) where
   copies-on : (side : Side)
@@ -284,7 +285,10 @@ module _ (computed : BuiltIsComputed) (t : Rows) (arrivals : List Arrival) (syst
       messages)
   come-so-far =
       let link : IsLink (length t.systems) l =
-      AllByRecursion-slice_get (IsLink (length t.systems)) t.links place l alone.links.each at in
+      link-alone (length t.systems) l
+      (AllByRecursion-slice_get (IsLinkUpTo jitter_from_any (length t.systems)) t.links place l
+      run.lawful.links.each at)
+      (run.lawful.sent place l at between.from) in
       let copies = both-sides (1000 * l.latency_us) stream (frames_of l.vl came)
       (frames-in-time l.vl came are.in_order) (λ side. (copies-on side).are) in
       ap (λ answers. reverse (messages_in answers)) (answers-own t system place l run.lawful at goes came)
@@ -298,17 +302,17 @@ module _ (computed : BuiltIsComputed) (t : Rows) (arrivals : List Arrival) (syst
       (take (max (length (at_own_port t l A arrivals)) n) messages)) (copies-on B).counted
 
 pub messages-so-far : BuiltIsComputed → MessagesComeSoFar
-messages-so-far computed t arrivals system place s l messages stream came alone run stands at goes is sent
-    are = come-so-far computed t arrivals system place s l messages stream came alone run stands at goes
-    is sent are
+messages-so-far computed t arrivals system place s l messages stream came run stands at goes between is sent
+    are = come-so-far computed t arrivals system place s l messages stream came run stands at goes
+    between is sent are
 
 pub messages-once : BuiltIsComputed → MessagesComeOnce
-messages-once computed t arrivals system place s l messages stream came alone run stands at goes is fed are =
+messages-once computed t arrivals system place s l messages stream came run stands at goes between is fed are =
     let whole_a = (fed A).whole in
     let whole_b = (fed B).whole in
     let most : max (length (at_own_port t l A arrivals)) (length (at_own_port t l B arrivals))
     ≡ length messages = omega (arith, whole_a, whole_b, is.lawful.message_count) in
-    come-so-far computed t arrivals system place s l messages stream came alone run stands at goes is
+    come-so-far computed t arrivals system place s l messages stream came run stands at goes between is
     (λ side. (fed side).frames) are
     ∙ ap (λ n. filter (λ (m : Message). has_port t.ports system l.vl m.udp) (take n messages)) most
     ∙ ap (filter (λ (m : Message). has_port t.ports system l.vl m.udp)) (take-length messages)

@@ -5,7 +5,7 @@ use Rattle.afdx_frame.specs.declared.link.Side.{Side}
 use Rattle.afdx_frame.specs.Sides.{is_side}
 use Rattle.afdx_config.specs.Rows.{SystemRow, LinkRow, Rows, is_to}
 use Rattle.std.specs.List.{AllByRecursion}
-use Rattle.afdx_config.specs.Lawful.{IsLawfulUpTo}
+use Rattle.afdx_config.specs.Lawful.{IsLawfulSwitch}
 use Rattle.afdx_police.specs.Arrival.{Arrival, names, own}
 use Rattle.afdx_police.specs.Shape.{fault_of}
 use Rattle.afdx_police.specs.Verdicts.{reason_after}
@@ -46,7 +46,7 @@ rule-vl : (t : Rows) (l : LinkRow) → (row_of t l).rule.vl ≡ l.vl
 unfolding rule_of
 rule-vl t l = refl
 
-pub no-row : {greatest_jitter : ℕ → ℕ} (t : Rows) (bytes : List ℕ) → IsLawfulUpTo greatest_jitter t
+pub no-row : (t : Rows) (bytes : List ℕ) → IsLawfulSwitch t
     → ((place : ℕ) (l : LinkRow) → slice_get t.links place ≡ Some l → names l.vl bytes ≡ false)
     → row_named t bytes ≡ None
 unfolding row_named
@@ -68,8 +68,8 @@ judged-alone t past x run = record {
 
 -- ---- receptions
 
-pub goes-there : {greatest_jitter : ℕ → ℕ} (t : Rows) (system : ℕ) (s : SystemRow) (l : LinkRow)
-    → IsLawfulUpTo greatest_jitter t
+pub goes-there : (t : Rows) (system : ℕ) (s : SystemRow) (l : LinkRow)
+    → IsLawfulSwitch t
     → slice_get t.systems system ≡ Some s → is_to system l ≡ true → goes_to t l s.port ≡ true
 goes-there t system s l lawful stands goes = (port-of-system t system s lawful stands).goes l ∙ goes
 
@@ -118,9 +118,9 @@ frames-apart t arrivals others side port place l run also at same =
     ∙ ap (λ xs. if goes_to t l port then map passing (reverse (accepted_arrivals (rule_of t l) xs)) else []) same
     ∙ sym (left-are-accepted t others side port place l also at)
 
-verdict-apart : {greatest_jitter : ℕ → ℕ} (t : Rows) (arrivals others : List Arrival) (place : ℕ)
+verdict-apart : (t : Rows) (arrivals others : List Arrival) (place : ℕ)
     (l : LinkRow) (x : Arrival)
-    → IsLawfulUpTo greatest_jitter t → slice_get t.links place ≡ Some l → names l.vl x.bytes ≡ true →
+    → IsLawfulSwitch t → slice_get t.links place ≡ Some l → names l.vl x.bytes ≡ true →
     own l.vl x.side arrivals ≡ own l.vl x.side others → reason_of t arrivals x ≡ reason_of t others x
 verdict-apart t arrivals others place l x lawful at named same =
     link-reason t arrivals x place l lawful at named

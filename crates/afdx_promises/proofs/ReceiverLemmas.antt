@@ -13,7 +13,7 @@ use Rattle.afdx_frame.specs.declared.fault.MacFault.TheVariants.{TooShort, TooLo
 use Rattle.afdx_frame.specs.declared.link.Side.{Side}
 use Rattle.afdx_frame.specs.declared.link.VlId.{VlId}
 use Rattle.afdx_frame.specs.Sides.{is_side}
-use Rattle.afdx_config.specs.Lawful.{IsLawfulUpTo}
+use Rattle.afdx_config.specs.Lawful.{IsLawfulSwitch}
 use Rattle.afdx_config.specs.Reading.{has_port}
 use Rattle.afdx_config.specs.Rows.{LinkRow, Rows, is_to}
 use Rattle.afdx_police.specs.Arrival.{Arrival, names}
@@ -41,13 +41,13 @@ use Rattle.afdx_promises.proofs.PortLemmas.{entries_back}
 
 -- ---- answers
 
-received-link : {greatest_jitter : ℕ → ℕ} (t : Rows) (system place : ℕ) (l : LinkRow)
-    → IsLawfulUpTo greatest_jitter t → slice_get t.links place ≡ Some l → is_to system l ≡ true
+received-link : (t : Rows) (system place : ℕ) (l : LinkRow)
+    → IsLawfulSwitch t → slice_get t.links place ≡ Some l → is_to system l ≡ true
     → subscription t system l.vl ≡ Some l
 received-link t system place l lawful at goes = received system t.links place l lawful.links.identifiers at goes
 
-pub answers-own : {greatest_jitter : ℕ → ℕ} (t : Rows) (system place : ℕ) (l : LinkRow)
-    → IsLawfulUpTo greatest_jitter t → slice_get t.links place ≡ Some l → is_to system l ≡ true
+pub answers-own : (t : Rows) (system place : ℕ) (l : LinkRow)
+    → IsLawfulSwitch t → slice_get t.links place ≡ Some l → is_to system l ≡ true
     → (came : List Arrived) →
     answers_on t system l.vl came
     ≡ answers_by_rules (1000 * l.skew_us) (has_port t.ports system l.vl) (frames_of l.vl came)

@@ -3,7 +3,7 @@ use Rattle.std.proofs.Common.{◌≡◌, ◌&&◌, Bool, true, false, List, [], 
 use Rattle.std.specs.Prelude.{ℕ, Option, Some, None, is_none, slice_get, if◌then◌else◌}
 use Rattle.afdx_frame.specs.declared.link.Side.{Side}
 use Rattle.afdx_frame.proofs.SideLemmas.{is_side-same}
-use Rattle.afdx_config.specs.Lawful.{IsLawfulUpTo}
+use Rattle.afdx_config.specs.Lawful.{IsLawfulSwitch}
 use Rattle.afdx_config.specs.Rows.{LinkRow, Rows}
 use Rattle.afdx_police.specs.Arrival.{Arrival, is_side, names, own}
 use Rattle.afdx_police.specs.Rule.{Rule, regulation_of}
@@ -131,8 +131,8 @@ pub record AreOwn (t : Rows) (l : LinkRow) (side : Side) (arrivals : List Arriva
       ≡ accepted_arrivals (rule_of t l) (own l.vl side arrivals)
   pub rule : AreByWindowRule (rule_of t l) (own_verdicts l.vl side (verdicts_of t arrivals))
 
-pub own-verdicts : {greatest_jitter : ℕ → ℕ} (t : Rows) (l : LinkRow) (side : Side) (place : ℕ)
-    → IsLawfulUpTo greatest_jitter t
+pub own-verdicts : (t : Rows) (l : LinkRow) (side : Side) (place : ℕ)
+    → IsLawfulSwitch t
     → slice_get t.links place ≡ Some l → (arrivals : List Arrival) → AreOwn t l side arrivals
 unfolding verdicts_of accepted_arrivals
 own-verdicts t l side place lawful at [] = record { accepted = refl; rule = tt }

@@ -186,8 +186,8 @@ sent-is-fed computed t arrivals s l emitted at all merged side =
     side-is-fed computed t arrivals s l emitted side at all (merged side)
 
 pub released-once : BuiltIsComputed → ReleasedAreToldOnce
-released-once computed t arrivals lines h system place at s l once stands link goes from all merged e =
-    once system place s l _ (stream_of h.system l.vl h.emitted) stands link goes
+released-once computed t arrivals lines h system place at s l once stands link goes between from all merged e =
+    once system place s l _ (stream_of h.system l.vl h.emitted) stands link goes between
     (record { sender = h.system; stands = from; lawful = e.lawful })
     (sent-is-fed computed t arrivals h.system l h.emitted from all merged)
 
@@ -236,8 +236,8 @@ sent-so-far computed t arrivals s l emitted at all merged side =
     (arrivals_at side s.port arrivals))) whole longer)
 
 pub released-so-far : BuiltIsComputed → ReleasedAreToldSoFar
-released-so-far computed t arrivals lines h system place at s l once stands link goes from all merged e =
-    once system place s l _ (stream_of h.system l.vl h.emitted) stands link goes
+released-so-far computed t arrivals lines h system place at s l once stands link goes between from all merged e =
+    once system place s l _ (stream_of h.system l.vl h.emitted) stands link goes between
     (record { sender = h.system; stands = from; lawful = e.lawful })
     (sent-so-far computed t arrivals h.system l h.emitted from all merged)
 

@@ -42,8 +42,8 @@ module _ (t : Rows) (arrivals : List Arrival) (events : List Event) (run : IsAdm
     heard = λ d system answer h. lines-heard t events d system answer h;
     in_order = λ port. subst ComeInOrder (sym (came-told t port events are-slots.kept))
         (brought-in-order port events order);
-    answers = λ system place s l stands at goes.
-        answers-by-events t system s l.vl run.lawful stands events are-slots
+    answers = λ system place s l stands is_own at goes.
+        answers-by-events t system s l.vl run.lawful stands is_own events are-slots
         ∙ answers-own t system place l run.lawful at goes _
         ∙ ap (λ zs. answers_by_rules (1000 * l.skew_us) (has_port t.ports system l.vl)
         (frames_of l.vl zs)) (sym (came-told t s.port events are-slots.kept));
@@ -89,17 +89,17 @@ module _ (t : Rows) (arrivals : List Arrival) (run : IsAdmittedRun t arrivals) w
       (all-are-first t (told t arrivals) (frames-are t arrivals run))
 
 pub told-once : BuiltIsComputed → MessagesAreToldOnce
-told-once computed t arrivals alone run system place s l messages stream stands at goes is fed =
+told-once computed t arrivals run system place s l messages stream stands at goes between is fed =
     let row : IsSystem t.profile s = AllByRecursion-slice_get (IsSystem t.profile) t.systems system s run.lawful.systems.each stands in
-    ap reverse (messages-by-events t system s l.vl run.lawful stands (events_of t arrivals) (slots t arrivals run))
-    ∙ messages-once computed t arrivals system place s l messages stream _ alone run stands at goes is fed
+    ap reverse (messages-by-events t system s l.vl run.lawful stands between.to (events_of t arrivals) (slots t arrivals run))
+    ∙ messages-once computed t arrivals system place s l messages stream _ run stands at goes between is fed
     (events-bring t arrivals (events_of t arrivals) s.port run.lawful run.timed row.port.0
     row.port.1 (are-events t arrivals))
 
 pub told-once-so-far : BuiltIsComputed → MessagesAreToldOnceSoFar
-told-once-so-far computed t arrivals alone run system place s l messages stream stands at goes is sent =
+told-once-so-far computed t arrivals run system place s l messages stream stands at goes between is sent =
     let row : IsSystem t.profile s = AllByRecursion-slice_get (IsSystem t.profile) t.systems system s run.lawful.systems.each stands in
-    ap reverse (messages-by-events t system s l.vl run.lawful stands (events_of t arrivals) (slots t arrivals run))
-    ∙ messages-so-far computed t arrivals system place s l messages stream _ alone run stands at goes is sent
+    ap reverse (messages-by-events t system s l.vl run.lawful stands between.to (events_of t arrivals) (slots t arrivals run))
+    ∙ messages-so-far computed t arrivals system place s l messages stream _ run stands at goes between is sent
     (events-bring t arrivals (events_of t arrivals) s.port run.lawful run.timed row.port.0
     row.port.1 (are-events t arrivals))

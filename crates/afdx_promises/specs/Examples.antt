@@ -37,6 +37,7 @@ abbrev pub tables_with : ℕ → Rows
 tables_with latency = record {
   profile = 2;
   buffer = 126;
+  own = 2;
   systems = sender ∷ receiver ∷ [];
   links = link_with latency ∷ [];
   ports = record { system = 1; link = 1; udp = 5; kind = Sampling; depth = 1 } ∷ [];

@@ -1,7 +1,7 @@
 -- What the lines of a replay's text say. A list of lines has the latest first.
 use Rattle.std.specs.Prelude.{◌≡◌, ◌⊎◌, ℕ, ◌==◌, ◌&&◌, Bool, is_none, if◌then◌else◌, Option, Some, None, List, [], ◌∷◌, filter, map}
 use Rattle.afdx_frame.specs.declared.link.Side.{Side}
-use Rattle.afdx_config.specs.Reading.{system_at_port}
+use Rattle.afdx_config.specs.Reading.{listener_at}
 use Rattle.afdx_config.specs.Rows.{Rows}
 use Rattle.afdx_config.specs.SentList as sent
 use Rattle.afdx_police.specs.Arrival.{Arrival, is_side, names}
@@ -113,7 +113,8 @@ abbrev pub leaving : Departure → Leaving
 leaving d =
     record { frame = passing_in d.turn.entry; side = d.side; port = d.port; time = d.turn.end }
 
--- what the system at the port, if there is one, makes of a frame after what came to it before
+-- what the system that hears at the port, if there is one, makes of a frame after what came to it
+-- before
 abbrev pub with_reception : Rows → List Arrived → Leaving → Option ℕ → List Line → List Line
 with_reception t past d None before = before
 with_reception t past d (Some system) before =
@@ -126,5 +127,5 @@ told_by t [] = []
 told_by t (Came c ∷ before) =
     Verdict (record { arrival = c.arrival; reason = c.reason }) ∷ told_by t before
 told_by t (Left d ∷ before) =
-    with_reception t (brought_by d.port before) (leaving d) (system_at_port t.systems d.port)
+    with_reception t (brought_by d.port before) (leaving d) (listener_at t d.port)
     (Departed (leaving d) ∷ told_by t before)

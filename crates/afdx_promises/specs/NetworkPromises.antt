@@ -6,7 +6,7 @@ use Rattle.afdx_frame.specs.declared.link.Side.TheVariants.{A, B}
 use Rattle.afdx_frame.specs.Sides.{is_side}
 use Rattle.afdx_frame.specs.Ports.{last_port}
 use Rattle.afdx_config.specs.LawfulStream.{Sending}
-use Rattle.afdx_config.specs.Lawful.{IsLawful, IsLawfulSwitch}
+use Rattle.afdx_config.specs.Lawful.{IsLawfulSwitch, IsBetweenSystems}
 use Rattle.afdx_config.specs.Reading.{has_port}
 use Rattle.afdx_config.specs.Rows.{SystemRow, LinkRow, Rows, is_to}
 use Rattle.afdx_config.specs.SentList.{Message}
@@ -132,11 +132,11 @@ LinksAreApart = (t : Rows) (arrivals others : List Arrival) (side : Side) (place
 abbrev pub MessagesComeSoFar : Type 0
 MessagesComeSoFar = (t : Rows) (arrivals : List Arrival) (system place : ℕ) (s : SystemRow)
     (l : LinkRow) (messages : List Message) (stream : List Sending) (came : List Arrived) →
-    IsLawful t →
     IsAdmittedRun t arrivals →
     slice_get t.systems system ≡ Some s →
     slice_get t.links place ≡ Some l →
     is_to system l ≡ true →
+    IsBetweenSystems t system l →
     IsStreamOf t l messages stream → ((side : Side) →
     AreFirstOf side stream (at_own_port t l side arrivals)) →
     AreReceptions t s.port arrivals came →
@@ -151,11 +151,11 @@ MessagesComeSoFar = (t : Rows) (arrivals : List Arrival) (system place : ℕ) (s
 abbrev pub MessagesComeOnce : Type 0
 MessagesComeOnce = (t : Rows) (arrivals : List Arrival) (system place : ℕ) (s : SystemRow)
     (l : LinkRow) (messages : List Message) (stream : List Sending) (came : List Arrived) →
-    IsLawful t →
     IsAdmittedRun t arrivals →
     slice_get t.systems system ≡ Some s →
     slice_get t.links place ≡ Some l →
     is_to system l ≡ true →
+    IsBetweenSystems t system l →
     IsStreamOf t l messages stream →
     ((side : Side) → IsFed t l stream side arrivals) →
     AreReceptions t s.port arrivals came →

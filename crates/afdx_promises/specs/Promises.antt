@@ -6,13 +6,13 @@
 -- own arrivals alone; every accepted frame leaves each of its ports within the link's configured
 -- latency; and what a receiver delivers on a link is the integrity and redundancy rules' answer
 -- on that link's arrivals there alone.
-use Rattle.std.specs.Prelude.{◌≡◌, ℕ, ◌+◌, ◌*◌, ◌≤◌, true, false, if◌then◌else◌, Some, None, max, List, [], ◌++◌, filter, length, map, reverse, slice_get, take}
+use Rattle.std.specs.Prelude.{◌≡◌, ℕ, ◌+◌, ◌*◌, ◌<◌, ◌≤◌, true, false, if◌then◌else◌, Some, None, max, List, [], ◌++◌, filter, length, map, reverse, slice_get, take}
 use Rattle.afdx_frame.specs.declared.link.Side.{Side}
 use Rattle.afdx_frame.specs.declared.link.Side.TheVariants.{A, B}
 use Rattle.afdx_frame.specs.Ports.{last_port}
 use Rattle.afdx_config.specs.LawfulStream.{Sending}
-use Rattle.afdx_config.specs.Reading.{has_port, system_at_port}
-use Rattle.afdx_config.specs.Lawful.{IsLawful, IsLawfulSwitch}
+use Rattle.afdx_config.specs.Reading.{has_port, listener_at}
+use Rattle.afdx_config.specs.Lawful.{IsLawfulSwitch, IsBetweenSystems}
 use Rattle.afdx_config.specs.Rows.{SystemRow, LinkRow, Rows, is_to}
 use Rattle.afdx_config.specs.SentList as sent
 use Rattle.afdx_police.specs.Arrival.{Arrival, names, own}
@@ -81,7 +81,7 @@ AllLeaveInTime t lines = (d : Leaving) → IsIn d (left_in lines) → LeavesInTi
 -- an M or X line: it is of a frame that left the port of its system
 pub record IsHeard (t : Rows) (lines : List Line) (d : Leaving) (system : ℕ) : Type 0 where
   pub left : IsIn d (left_in lines)
-  pub at : system_at_port t.systems d.port ≡ Some system
+  pub at : listener_at t d.port ≡ Some system
 
 pub record AreReceived (t : Rows) (lines : List Line) : Type 0 where
   pub heard : (d : Leaving) (system : ℕ) (answer : Answer) →
@@ -92,6 +92,7 @@ pub record AreReceived (t : Rows) (lines : List Line) : Type 0 where
   -- the answers to a link's frames
   pub answers : (system place : ℕ) (s : SystemRow) (l : LinkRow) →
       slice_get t.systems system ≡ Some s →
+      system < t.own →
       slice_get t.links place ≡ Some l →
       is_to system l ≡ true →
       answers_told system l.vl lines
@@ -170,6 +171,7 @@ EachIsToldOnce t arrivals lines =
     slice_get t.systems system ≡ Some s →
     slice_get t.links place ≡ Some l →
     is_to system l ≡ true →
+    IsBetweenSystems t system l →
     IsStreamOf t l messages stream →
     ((side : Side) → IsFed t l stream side arrivals) →
     reverse (messages_told system l.vl lines)
@@ -188,6 +190,7 @@ EachIsToldOnceSoFar t arrivals lines =
     slice_get t.systems system ≡ Some s →
     slice_get t.links place ≡ Some l →
     is_to system l ≡ true →
+    IsBetweenSystems t system l →
     IsStreamOf t l messages stream →
     ((side : Side) → AreFirstOf side stream (at_own_port t l side arrivals)) →
     reverse (messages_told system l.vl lines)
@@ -221,11 +224,9 @@ StreamsAreToldAcceptedSoFar = (t : Rows) (arrivals : List Arrival) → IsLawfulS
     StreamsAreAccepted t arrivals (told_so_far t arrivals)
 
 abbrev pub MessagesAreToldOnce : Type 0
-MessagesAreToldOnce = (t : Rows) (arrivals : List Arrival) → IsLawful t →
-    IsAdmittedRun t arrivals →
+MessagesAreToldOnce = (t : Rows) (arrivals : List Arrival) → IsAdmittedRun t arrivals →
     EachIsToldOnce t arrivals (told t arrivals)
 
 abbrev pub MessagesAreToldOnceSoFar : Type 0
-MessagesAreToldOnceSoFar = (t : Rows) (arrivals : List Arrival) → IsLawful t →
-    IsAdmittedRun t arrivals →
+MessagesAreToldOnceSoFar = (t : Rows) (arrivals : List Arrival) → IsAdmittedRun t arrivals →
     EachIsToldOnceSoFar t arrivals (told t arrivals)

@@ -5,6 +5,7 @@ use Rattle.std.specs.List.{AllByRecursion}
 use Rattle.afdx_frame.specs.Grammar.{built_frame}
 use Rattle.afdx_frame.specs.declared.link.Side.{Side}
 use Rattle.afdx_frame.specs.declared.link.Side.TheVariants.{A, B}
+use Rattle.afdx_config.specs.Lawful.{IsBetweenSystems}
 use Rattle.afdx_config.specs.LawfulStream.{Sending}
 use Rattle.afdx_config.specs.Reading.{has_port}
 use Rattle.afdx_config.specs.Rows.{SystemRow, LinkRow, Rows, is_to}
@@ -90,6 +91,7 @@ ReleasedAreToldOnce = (t : Rows) (arrivals : List Arrival) (lines : List Line) (
     slice_get t.links place
     ≡ Some l →
     is_to system l ≡ true →
+    IsBetweenSystems t system l →
     slice_get t.systems l.from ≡ Some h.system →
     AllByRecursion (IsBuildable h.system) h.emitted →
     IsMerged h.system h.emitted arrivals →
@@ -113,6 +115,7 @@ ReleasedAreToldSoFar = (t : Rows) (arrivals : List Arrival) (lines : List Line) 
     slice_get t.links
     place ≡ Some l →
     is_to system l ≡ true →
+    IsBetweenSystems t system l →
     slice_get t.systems l.from ≡ Some h.system →
     AllByRecursion (IsBuildable h.system) h.emitted →
     IsMergedSoFar h.system h.emitted arrivals →

@@ -7,7 +7,7 @@ use Rattle.afdx_frame.specs.Parts.{FrameParts, frame_of}
 use Rattle.afdx_config.specs.Numbers.{after_steps}
 use Rattle.afdx_config.specs.Rows.{Rows, LinkRow, is_to}
 use Rattle.afdx_config.specs.Reading.{has_port}
-use Rattle.afdx_config.specs.Lawful.{IsLawful}
+use Rattle.afdx_config.specs.Lawful.{IsLawfulSwitch}
 use Rattle.afdx_receive.specs.Steps.{is_within_steps}
 use Rattle.afdx_receive.specs.Arrivals.{Arrived, incoming, frames_of}
 use Rattle.afdx_receive.specs.Answers.{Answer, subscription, answer_after, answer_to}
@@ -46,7 +46,7 @@ AnswerIsOwn =
 -- a system receives each link that goes to it
 abbrev pub LinksAreReceived : Type 0
 LinksAreReceived = (tables : Rows) (system place : ℕ) (link : LinkRow) →
-    IsLawful tables → slice_get tables.links place ≡ Some link → is_to system link ≡ true →
+    IsLawfulSwitch tables → slice_get tables.links place ≡ Some link → is_to system link ≡ true →
     subscription tables system link.vl ≡ Some link
 
 -- there is one right answer, which is computed

@@ -3,7 +3,7 @@ use Rattle.std.proofs.Common.{append_assoc, ◌≡◌, ℕ, ◌==◌, ◌&&◌, 
 use Rattle.std.proofs.Common.{◌∷◌, ◌++◌, length, refl, sym, ap, ◌∙◌, arith, inl, inr}
 use Rattle.std.specs.Prelude.{Option, Some, None, if◌then◌else◌}
 use Rattle.afdx_frame.proofs.BuiltLemmas.{built_is_computed}
-use Rattle.afdx_config.specs.Reading.{system_at_port}
+use Rattle.afdx_config.specs.Reading.{listener_at}
 use Rattle.afdx_config.specs.Rows.{Rows}
 use Rattle.afdx_police.specs.Arrival.{Arrival}
 use Rattle.afdx_police.specs.declared.shape.Reason.{Reason}
@@ -83,9 +83,9 @@ lines-kept t before (Left d) kept =
     ++ heard b t (frames_left before) (handed_over d))) (kept.left d (inl refl))
     ∙ ap (λ past. text_of t (told_by t before)
     ++ (departure_line false d.turn.entry.item.tag d.turn.end d.side d.port
-    ++ line_at t past (handed_over d) (system_at_port t.systems d.port)))
+    ++ line_at t past (handed_over d) (listener_at t d.port)))
     (handed-are-brought d.port before)
-    ∙ by (system_at_port t.systems d.port)
+    ∙ by (listener_at t d.port)
   where
     by : (o : Option ℕ) → text_of t (told_by t before)
         ++ (departure_line false d.turn.entry.item.tag d.turn.end d.side d.port

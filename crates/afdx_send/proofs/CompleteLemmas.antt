@@ -101,7 +101,7 @@ of-taken h (s ∷ ss) (x ∷ xs) are p = (
 module _ (t : Rows) (system : ℕ) (h : SenderHistory) (s : HasSentAll t system h) where
   sent : EachSystemIsSender → AreSent h.system h.links
   sent law = subst (λ (z : List LinkRow). AreSent h.system z) (sym s.links)
-      (are_sent t system h.system law s.lawful s.admitted s.row)
+      (are_sent t system h.system law s.lawful s.admitted s.row s.own)
 
   fits : AllFit h.links h.taken
   fits i j l m at here = (all-get (IsFor l) (own_submissions h.taken i) j m (s.fit i l at) here).fits

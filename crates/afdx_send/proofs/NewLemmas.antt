@@ -10,7 +10,9 @@ use Rattle.std.proofs.lemmas.Option.{slice_get_within}
 use Rattle.std.proofs.lemmas.Bool.{cases_eq}
 use Rattle.afdx_frame.specs.declared.link.Priority.TheVariants.{Low}
 use Rattle.afdx_config.specs.Admission.{byte_ns, links_from, sender_jitter, IsAdmitted}
-use Rattle.afdx_config.specs.Lawful.{IsSystem, IsLink, IsLawful, AreDistinct}
+use Rattle.afdx_config.specs.Lawful.{IsSystem, IsLink, IsLinkUpTo, IsLawfulSwitch, AreDistinct}
+use Rattle.afdx_config.specs.Lawful.{jitter_from_any}
+use Rattle.afdx_config.proofs.AmongOthersLemmas.{link-alone}
 use Rattle.afdx_config.specs.Numbers.{after_steps}
 use Rattle.afdx_config.specs.Rows.{SystemRow, LinkRow, Rows}
 use Rattle.afdx_port.specs.Schedule as slots
@@ -192,28 +194,40 @@ one_each s all (l ∷ links) =
     ∙ sym (sum_by-cons (λ l. (regulation_of_link l).smax * byte_ns s) l links)
 
 jitters_are : (t : Rows) (place : ℕ) (s : SystemRow) → IsAdmitted t → slice_get t.systems place
-    ≡ Some s → (i : ℕ) (l : LinkRow) → slice_get (links_from t.links place) i ≡ Some l →
+    ≡ Some s → place < t.own → (i : ℕ) (l : LinkRow) → slice_get (links_from t.links place) i ≡ Some l →
     one_of_each (byte_ns s) (flows_of s (links_from t.links place)) ≤ jitter (regulation_of_link l)
-jitters_are t place s admitted row i l h =
+jitters_are t place s admitted row own i l h =
     let p : LinkRow → Bool = λ l. nat_eq l.from place in
     let r = slice_get-filter p t.links i l h in
     let from : l.from ≡ place = eqb-true l.from place (passes_filter p t.links i l h) in
-    let sum = admitted.jitters r.0 l s r.1 (subst (λ (z : ℕ). slice_get t.systems z ≡ Some s) (sym from) row) in
+    let sum = admitted.jitters r.0 l s r.1 (subst (λ (z : ℕ). slice_get t.systems z ≡ Some s) (sym from) row)
+    (subst (λ (z : ℕ). z < t.own) (sym from) own) in
     let sum' : sender_jitter (byte_ns s) (links_from t.links place) ≤ 1000 * l.jitter_us =
     subst (λ (z : ℕ). sender_jitter (byte_ns s) (links_from t.links z) ≤ 1000 * l.jitter_us)
     from sum in
     let e = one_each s (links_from t.links place) (links_from t.links place) in
     omega (arith, e, sum')
 
-pub are_sent : (t : Rows) (place : ℕ) (s : SystemRow) → EachSystemIsSender → IsLawful t
-    → IsAdmitted t → slice_get t.systems place ≡ Some s → AreSent s (links_from t.links place)
-are_sent t place s law lawful admitted row = record {
+-- a link that a system sends is as in the tables of one switch
+link_is : (t : Rows) (place : ℕ) → IsLawfulSwitch t → place < t.own → (i : ℕ) (l : LinkRow)
+    → slice_get (links_from t.links place) i ≡ Some l → IsLink (length t.systems) l
+link_is t place lawful own i l h =
+    let p : LinkRow → Bool = λ l. nat_eq l.from place in
+    let r = slice_get-filter p t.links i l h in
+    let from : l.from ≡ place = eqb-true l.from place (passes_filter p t.links i l h) in
+    link-alone (length t.systems) l
+    (AllByRecursion-slice_get (IsLinkUpTo jitter_from_any (length t.systems)) t.links r.0 l lawful.links.each r.1)
+    (lawful.sent r.0 l r.1 (subst (λ (z : ℕ). z < t.own) (sym from) own))
+
+pub are_sent : (t : Rows) (place : ℕ) (s : SystemRow) → EachSystemIsSender → IsLawfulSwitch t
+    → IsAdmitted t → slice_get t.systems place ≡ Some s → place < t.own
+    → AreSent s (links_from t.links place)
+are_sent t place s law lawful admitted row own = record {
   system = (t.profile, AllByRecursion-slice_get (IsSystem t.profile) t.systems place s lawful.systems.each row);
-  is_sender = law t Low place s lawful admitted row;
-  lawful = λ i l h. (let r = slice_get-filter (λ l. nat_eq l.from place) t.links i l h in
-      (length t.systems, AllByRecursion-slice_get (IsLink (length t.systems)) t.links r.0 l lawful.links.each r.1));
+  is_sender = law t Low place s lawful admitted row own;
+  lawful = λ i l h. (length t.systems, link_is t place lawful own i l h);
   distinct = distinct_links t.links place lawful.links.identifiers;
-  jitters = jitters_are t place s admitted row;
+  jitters = jitters_are t place s admitted row own;
 }
 
 all_none : (links : List LinkRow) (lines : List Line) → AreNewLines links lines

@@ -1,13 +1,13 @@
 -- What a sender has sent when all that it took is emitted, by its calls alone. A list of releases
 -- has the latest first, a list of submissions the oldest.
-use Rattle.std.specs.Prelude.{◌≡◌, ℕ, ◌+◌, ◌≤◌, ◌==◌, List, [], ◌∷◌, ◌++◌, length, filter, Some, slice_get}
+use Rattle.std.specs.Prelude.{◌≡◌, ℕ, ◌+◌, ◌<◌, ◌≤◌, ◌==◌, List, [], ◌∷◌, ◌++◌, length, filter, Some, slice_get}
 use Rattle.std.specs.List.{AllByRecursion}
 use Rattle.std.specs.List.Sorted.{IsPermutation}
 use Rattle.afdx_frame.specs.Lengths.{frame_overhead}
 use Rattle.afdx_frame.specs.Regulation.{bag}
 use Rattle.afdx_config.specs.Admission.{IsAdmitted, links_from}
 use Rattle.afdx_config.specs.Flows.{regulation_of_link}
-use Rattle.afdx_config.specs.Lawful.{IsLawful}
+use Rattle.afdx_config.specs.Lawful.{IsLawfulSwitch}
 use Rattle.afdx_config.specs.LawfulStream.{Sending}
 use Rattle.afdx_config.specs.Numbers.{after_steps}
 use Rattle.afdx_config.specs.Rows.{LinkRow, Rows}
@@ -26,8 +26,9 @@ pub record IsFor (l : LinkRow) (m : Submission) : Type 0 where
 
 -- the system at this place of admitted tables took such messages, and has emitted them all
 pub record HasSentAll (t : Rows) (system : ℕ) (h : SenderHistory) : Type 0 where
-  pub lawful : IsLawful t
+  pub lawful : IsLawfulSwitch t
   pub admitted : IsAdmitted t
+  pub own : system < t.own
   pub row : slice_get t.systems system ≡ Some h.system
   pub links : h.links ≡ links_from t.links system
   pub fit : (place : ℕ) (l : LinkRow) →

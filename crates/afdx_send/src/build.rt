@@ -3,7 +3,7 @@
 ghost use Rattle.std.specs.Prelude.{◌≡◌, ℕ, ◌≤◌, ◌<◌, ◌+◌, Option, Some, None, IfOk, length, slice_get, vec_len, filter, nat_eq};
 ghost use Rattle.afdx_frame.specs.Layout.{identifier_count};
 ghost use Rattle.afdx_config.specs.Admission.{links_from};
-ghost use Rattle.afdx_config.specs.Lawful.{IsLink};
+ghost use Rattle.afdx_config.specs.Lawful.{IsLinkUpTo, jitter_from_any};
 ghost use Rattle.afdx_config.specs.Reading.{most_links};
 ghost use Rattle.afdx_config.specs.Rows.{SystemRow, LinkRow, link_row};
 ghost use Rattle.afdx_send.specs.declared.line.Line.{Line};
@@ -25,7 +25,7 @@ const BUFFER: u64 = 65_536;
 
 /// What the sender keeps of a link.
 fn line(alloc: Global, link: &Link) -> Result<Line, AllocError>
-    requires { (n : ℕ) × IsLink n (link_row link.now) }
+    requires { (n : ℕ) × IsLinkUpTo jitter_from_any n (link_row link.now) }
     ensures { IfOk result (λ line. IsNewLine (link_row link.now) line) }
 {
     Ok(Line {
@@ -75,7 +75,7 @@ pub(crate) fn build(
     tables: &Admitted,
     system: SystemId,
 ) -> Result<SenderState, AllocError>
-    requires system { system.0 < length tables.now.systems }
+    requires system { system.0 < tables.now.own }
     ensures sound { IfOk result (λ w. IsSenderSound w) }
     ensures stands { (s : SystemRow) → slice_get tables.now.systems system.0 ≡ Some s →
         IfOk result (λ w. StandsFor w (no_calls tables.now system.0 s)) }

@@ -48,7 +48,7 @@ impl Sender {
     /// The sender of a system of these tables, with nothing submitted, at time 0.
     /// The error says that memory was refused.
     pub fn new(alloc: Global, tables: &Admitted, system: SystemId) -> Result<Sender, AllocError>
-        requires system { system.0 < length tables.now.systems }
+        requires system { system.0 < tables.now.own }
         ensures stands { (s : SystemRow) → slice_get tables.now.systems system.0 ≡ Some s →
             IfOk result (λ w. StandsFor w (no_calls tables.now system.0 s)) }
         ensures quiet { (t : ℕ) → IfOk result (λ w. IsQuiet w t) }

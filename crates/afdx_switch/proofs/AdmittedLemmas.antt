@@ -14,7 +14,7 @@ use Rattle.afdx_frame.specs.Layout.{link_named_by}
 use Rattle.afdx_frame.specs.declared.link.Side.{Side}
 use Rattle.afdx_frame.specs.declared.link.VlId.{VlId}
 use Rattle.afdx_frame.proofs.SideLemmas.{is_side-same}
-use Rattle.afdx_config.specs.Lawful.{IsLawfulUpTo, AreDistinct}
+use Rattle.afdx_config.specs.Lawful.{IsLawfulSwitch, AreDistinct}
 use Rattle.afdx_config.specs.Reading.{system_at_port}
 use Rattle.afdx_config.specs.Rows.{SystemRow, LinkRow, Rows, is_to}
 use Rattle.afdx_police.specs.Account.{overdrawn}
@@ -195,8 +195,8 @@ row-at : (t : Rows) (place : ℕ) (l : LinkRow) → slice_get t.links place ≡ 
 unfolding rows_of
 row-at t place l at = slice_get-map (row_of t) t.links place ∙ ap (option_map (row_of t)) at
 
-only-place : {greatest_jitter : ℕ → ℕ} (t : Rows) (place j : ℕ) (l : LinkRow) (r : Row)
-    (bytes : List ℕ) → IsLawfulUpTo greatest_jitter t
+only-place : (t : Rows) (place j : ℕ) (l : LinkRow) (r : Row)
+    (bytes : List ℕ) → IsLawfulSwitch t
     → slice_get t.links place ≡ Some l → names l.vl bytes ≡ true →
     slice_get (rows_of t) j ≡ Some r → names r.rule.vl bytes ≡ true → j ≡ place
 unfolding AreDistinct
@@ -206,8 +206,8 @@ only-place t place j l r bytes lawful at named at_r named_r =
     let own_vl : k.0.vl ≡ r.rule.vl = sym (vl-is t k.0) ∙ ap (λ (q : Row). q.rule.vl) k.2 in
     lawful.links.identifiers j place k.0 l k.1 at (own_vl ∙ same)
 
-pub named-row : {greatest_jitter : ℕ → ℕ} (t : Rows) (place : ℕ) (l : LinkRow) (bytes : List ℕ)
-    → IsLawfulUpTo greatest_jitter t
+pub named-row : (t : Rows) (place : ℕ) (l : LinkRow) (bytes : List ℕ)
+    → IsLawfulSwitch t
     → slice_get t.links place ≡ Some l → names l.vl bytes ≡ true → row_named t bytes ≡ Some (row_of t l)
 unfolding row_named
 named-row t place l bytes lawful at named =
@@ -218,8 +218,8 @@ named-row t place l bytes lawful at named =
     ∙ ap (λ b. if b then Some (row_of t l) else None) named_row
 
 -- its verdicts come from its own arrivals
-pub link-reason : {greatest_jitter : ℕ → ℕ} (t : Rows) (past : List Arrival) (x : Arrival) (place : ℕ) (l : LinkRow)
-    → IsLawfulUpTo greatest_jitter t → slice_get t.links place ≡ Some l → names l.vl x.bytes ≡ true →
+pub link-reason : (t : Rows) (past : List Arrival) (x : Arrival) (place : ℕ) (l : LinkRow)
+    → IsLawfulSwitch t → slice_get t.links place ≡ Some l → names l.vl x.bytes ≡ true →
     reason_of t past x ≡ reason_after (rule_of t l) (own l.vl x.side past) x
 unfolding reason_of
 link-reason t past x place l lawful at named =

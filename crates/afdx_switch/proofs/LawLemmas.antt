@@ -7,7 +7,7 @@ use Rattle.afdx_frame.specs.declared.link.Priority.TheVariants.{Low}
 use Rattle.afdx_frame.specs.declared.link.Side.{Side}
 use Rattle.afdx_frame.specs.declared.link.VlId.{VlId}
 use Rattle.afdx_frame.proofs.ListLemmas.{slice_get-within}
-use Rattle.afdx_config.specs.Lawful.{IsLawfulUpTo}
+use Rattle.afdx_config.specs.Lawful.{IsLawfulSwitch}
 use Rattle.afdx_config.specs.Reading.{link_of}
 use Rattle.afdx_config.specs.Rows.{Rows}
 use Rattle.afdx_police.specs.Arrival.{Arrival, is_side, names, own}
@@ -47,7 +47,7 @@ verdicts-own t past other x same = on (row_named t x.bytes) same
     on (Some r) equal = ap (λ xs. reason_after r.rule xs x) equal
 
 -- where the row stands that the bytes name, in lawful tables
-pub named-place : {greatest_jitter : ℕ → ℕ} (t : Rows) (bytes : List ℕ) → IsLawfulUpTo greatest_jitter t
+pub named-place : (t : Rows) (bytes : List ℕ) → IsLawfulSwitch t
     → (place : Option ℕ) × IsNamed (rows_of t) bytes place
 named-place t bytes lawful = by (link_named_by bytes) refl
   where
@@ -86,8 +86,8 @@ nothing-named : (t : Rows) (bytes : List ℕ) → IsNamed (rows_of t) bytes None
 unfolding row_named
 nothing-named t bytes none = find-none (λ (s : Row). names s.rule.vl bytes) (rows_of t) none
 
-module _ {greatest_jitter : ℕ → ℕ} (t : Rows) (port : ℕ) (x : Arrival) (past : List Arrival)
-    (lawful : IsLawfulUpTo greatest_jitter t) where
+module _ (t : Rows) (port : ℕ) (x : Arrival) (past : List Arrival)
+    (lawful : IsLawfulSwitch t) where
   sent-to : (r : Row) → reason_of t past x ≡ None → row_named t x.bytes ≡ Some r
       → find (sends (output_at t x.side port) past x) (rows_of t)
       ≡ (if r.goes_to port then Some r else None)
@@ -126,8 +126,8 @@ module _ {greatest_jitter : ℕ → ℕ} (t : Rows) (port : ℕ) (x : Arrival) (
       ∙ ap (λ b. if b then entries_at t x.side port past else entries_at t x.side port past
       ++ entry_of (carried t) r x ∷ []) is
 
-pub entries-grow : {greatest_jitter : ℕ → ℕ} (t : Rows) (side : Side) (port : ℕ) (x : Arrival)
-    (past : List Arrival) → IsLawfulUpTo greatest_jitter t → EntriesStep t side port x past
+pub entries-grow : (t : Rows) (side : Side) (port : ℕ) (x : Arrival)
+    (past : List Arrival) → IsLawfulSwitch t → EntriesStep t side port x past
 entries-grow t side port x past lawful = record {
   other_side = other-kept t side port x past;
   dropped = λ reason is. (let at = named-place t x.bytes lawful in
@@ -185,8 +185,8 @@ entry-from t side port (x ∷ past) i e at =
         (entry_of (carried t) r x)) sent earlier
         (sym (ap (λ es. slice_get es i) (side-with t side port x past (Some r) sent)) ∙ at)
 
-pub one-class : {greatest_jitter : ℕ → ℕ} (t : Rows) (side : Side) (port vl : ℕ) (arrivals : List Arrival)
-    → IsLawfulUpTo greatest_jitter t
+pub one-class : (t : Rows) (side : Side) (port vl : ℕ) (arrivals : List Arrival)
+    → IsLawfulSwitch t
     → AreOfOneClass (is_of vl) (entries_at t side port arrivals)
 unfolding carried
 one-class t side port vl arrivals lawful = by (link_of t.links vl) (place-of t lawful vl (link_of t.links vl) refl)
@@ -223,8 +223,8 @@ taken-turns t side w h (suc i) st low high =
     subst (λ n. AreTurns (byte_ns_at t n) (entries_at t side n h.arrivals) (taken_at n h.taken)) (omega arith)
     (taken_turns facts p.0 (calls_at t side (i + 1) h p.0.clock) (st.ports i p.0 p.1))
 
-pub links-in-order : {greatest_jitter : ℕ → ℕ} (t : Rows) (side : Side) (w : SwitchState) (h : SwitchHistory)
-    (port vl : ℕ) → IsLawfulUpTo greatest_jitter t → StandsFor t side w h → 1 ≤ port → port ≤ 24
+pub links-in-order : (t : Rows) (side : Side) (w : SwitchState) (h : SwitchHistory)
+    (port vl : ℕ) → IsLawfulSwitch t → StandsFor t side w h → 1 ≤ port → port ≤ 24
     → GoInOrder (is_of vl) (entries_at t side port h.arrivals) (taken_at port h.taken)
 links-in-order t side w h port vl lawful st low high =
     go_in_order (byte_ns_at t port) (is_of vl) (entries_at t side port h.arrivals)

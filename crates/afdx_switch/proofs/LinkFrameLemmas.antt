@@ -6,7 +6,7 @@ use Rattle.std.proofs.lemmas.List.{map_push, map-append, append-nil}
 use Rattle.std.proofs.lemmas.List.Elements.{filter-append}
 use Rattle.afdx_frame.specs.declared.link.Side.{Side}
 use Rattle.afdx_frame.proofs.SideLemmas.{is_side-same}
-use Rattle.afdx_config.specs.Lawful.{IsLawfulUpTo, IsLawfulSwitch}
+use Rattle.afdx_config.specs.Lawful.{IsLawfulSwitch}
 use Rattle.afdx_config.specs.Rows.{Rows}
 use Rattle.afdx_police.specs.Arrival.{Arrival, is_side, names}
 use Rattle.afdx_police.specs.declared.shape.Reason.{Reason}
@@ -123,7 +123,7 @@ module _ (t : Rows) (port vl : ℕ) (x : Arrival) (past : List Arrival) where
         (ap is_none dropped) refl refl)
     of-reason None accepted = of-named (row_named t x.bytes) accepted refl
 
-  step : {greatest_jitter : ℕ → ℕ} (side : Side) → IsLawfulUpTo greatest_jitter t → Step side
+  step : (side : Side) → IsLawfulSwitch t → Step side
   step side lawful = by (is_side side x.side) refl
     where
       by : (b : Bool) → is_side side x.side ≡ b → Step side
@@ -132,8 +132,8 @@ module _ (t : Rows) (port vl : ℕ) (x : Arrival) (past : List Arrival) where
           (of-reason (entries-grow t x.side port x past lawful) (reason_of t past x) refl)
 
 -- the entries of a link are its frames that entered
-entered-is : {greatest_jitter : ℕ → ℕ} (t : Rows) (side : Side) (port vl : ℕ)
-    (arrivals : List Arrival) → IsLawfulUpTo greatest_jitter t
+entered-is : (t : Rows) (side : Side) (port vl : ℕ)
+    (arrivals : List Arrival) → IsLawfulSwitch t
     → items vl (entries_at t side port arrivals) ≡ entered t side port vl arrivals
 unfolding entered offers_at
 entered-is t side port vl [] lawful = refl
@@ -141,8 +141,8 @@ entered-is t side port vl (x ∷ past) lawful =
     step t port vl x past side lawful
     ∙ ap (more (names vl x.bytes) (enters t side port past x) (carried t x)) (entered-is t side port vl past lawful)
 
-pub frames-own : {greatest_jitter : ℕ → ℕ} (t : Rows) (side : Side) (w : SwitchState) (h : SwitchHistory)
-    (port vl : ℕ) → IsLawfulUpTo greatest_jitter t → StandsFor t side w h → 1 ≤ port → port ≤ 24
+pub frames-own : (t : Rows) (side : Side) (w : SwitchState) (h : SwitchHistory)
+    (port vl : ℕ) → IsLawfulSwitch t → StandsFor t side w h → 1 ≤ port → port ≤ 24
     → (waiting : List HeldFrame)
     × (entered t side port vl h.arrivals ≡ frames_of vl (taken_at port h.taken) ++ waiting)
 frames-own t side w h port vl lawful st low high =
@@ -164,8 +164,8 @@ given-own (Some d) t side h until vl w lawful =
     λ g. frames-own t side w (with_take h g.gone until) g.gone.port vl lawful g.stands
     g.next.port_first g.next.port_last
 
-pub all-own : {greatest_jitter : ℕ → ℕ} (t : Rows) (side : Side) (h : SwitchHistory) (port vl : ℕ)
-    → IsLawfulUpTo greatest_jitter t → IsDone t side h port
+pub all-own : (t : Rows) (side : Side) (h : SwitchHistory) (port vl : ℕ)
+    → IsLawfulSwitch t → IsDone t side h port
     → entered t side port vl h.arrivals ≡ frames_of vl (taken_at port h.taken)
 all-own t side h port vl lawful done =
     sym (entered-is t side port vl h.arrivals lawful)

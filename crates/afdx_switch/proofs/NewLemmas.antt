@@ -10,7 +10,7 @@ use Rattle.std.proofs.lemmas.List.{length_push, length-map}
 use Rattle.std.proofs.lemmas.List.Quantifiers.{position-Some}
 use Rattle.std.proofs.lemmas.Option.{slice_get-map, slice_get-get_or}
 use Rattle.afdx_frame.specs.declared.link.Side.{Side}
-use Rattle.afdx_config.specs.Lawful.{IsLawfulUpTo}
+use Rattle.afdx_config.specs.Lawful.{IsLawfulSwitch}
 use Rattle.afdx_config.specs.Reading.{link_of}
 use Rattle.afdx_config.specs.Rows.{SystemRow, LinkRow, Rows}
 use Rattle.afdx_config.proofs.LookUpLemmas.{each_row-found}
@@ -68,7 +68,7 @@ sum-none f [] none = refl
 sum-none f (x ∷ xs) none = let first = none 0 x refl in let rest =
     sum-none f xs (λ i y at. none (suc i) y at) in rw (sum_by-cons, first, rest) refl
 
-module _ {greatest_jitter : ℕ → ℕ} (t : Rows) (lawful : IsLawfulUpTo greatest_jitter t) where
+module _ (t : Rows) (lawful : IsLawfulSwitch t) where
   pub row-is : (j : ℕ) (s : Row) → slice_get (rows_of t) j ≡ Some s → (l : LinkRow)
       × (slice_get t.links j ≡ Some l) × (row_of t l ≡ s)
   unfolding rows_of

@@ -4,7 +4,7 @@ use Rattle.std.proofs.Common.{ap, ◌∙◌, subst, refl, arith, inl, inr}
 use Rattle.std.specs.Prelude.{Result, Ok, Err, IfOk, Option, Some, None, is_none, slice_get, if◌then◌else◌}
 use Rattle.std.proofs.lemmas.Bool.{eq-eqb}
 use Rattle.afdx_frame.specs.Regulation.{Regulation}
-use Rattle.afdx_config.specs.Lawful.{IsLawfulUpTo}
+use Rattle.afdx_config.specs.Lawful.{IsLawfulSwitch}
 use Rattle.afdx_config.specs.Rows.{LinkRow, Rows}
 use Rattle.afdx_police.specs.Arrival.{Arrival, names, own}
 use Rattle.afdx_police.specs.Rule.{Rule, regulation_of}
@@ -129,8 +129,8 @@ accepted-at rule (x ∷ past) next sound regular =
     ]
 
 -- an arrival at the port is accepted
-pub regular-reason : {greatest_jitter : ℕ → ℕ} (t : Rows) (past : List Arrival) (x : Arrival) (place : ℕ) (l : LinkRow)
-    → IsLawfulUpTo greatest_jitter t → slice_get t.links place ≡ Some l → names l.vl x.bytes ≡ true
+pub regular-reason : (t : Rows) (past : List Arrival) (x : Arrival) (place : ℕ) (l : LinkRow)
+    → IsLawfulSwitch t → slice_get t.links place ≡ Some l → names l.vl x.bytes ≡ true
     → (rule_of t l).port ≡ x.port →
     IsRegularAt (rule_of t l) (own l.vl x.side (x ∷ past)) → reason_of t past x ≡ None
 regular-reason t past x place l lawful at named port is =

@@ -1,7 +1,7 @@
 -- What each call of a switch does, whatever calls the switch stands for.
 use Rattle.std.specs.Prelude.{◌≡◌, ◌↔◌, ℕ, ◌+◌, ◌≤◌, true, None, Some, Option, Result, List, ◌∷◌}
 use Rattle.std.specs.Prelude.{IfOk, OnOk, OnErr, IfSome, IfNone, MatchOption, slice_get}
-use Rattle.afdx_config.specs.Lawful.{IsLawful, IsLawfulSwitch}
+use Rattle.afdx_config.specs.Lawful.{IsLawfulSwitch}
 use Rattle.afdx_config.specs.Rows.{LinkRow, Rows}
 use Rattle.afdx_frame.specs.Ports.{last_port}
 use Rattle.afdx_frame.specs.declared.link.Side.{Side}
@@ -43,7 +43,7 @@ pub record Arrives {E : Type 0} (old new : SwitchState) (tag time port : ℕ) (b
       IfOk result LosesNothing
   pub regular : (t : Rows) (side : Side) (h : SwitchHistory) (place : ℕ) (l : LinkRow) →
       StandsFor t side old h →
-      IsLawful t →
+      IsLawfulSwitch t →
       slice_get t.links place ≡ Some l →
       names l.vl bytes ≡ true →
       (rule_of t l).port ≡ port →

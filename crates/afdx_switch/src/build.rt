@@ -1,7 +1,7 @@
 //! A switch of the tables, before anything came.
 
 ghost use Rattle.std.specs.Prelude.{◌≡◌, ℕ, ◌≤◌, ◌<◌, ◌+◌, Option, Some, IfOk, OnOk, IfSome, length, slice_get, vec_len};
-ghost use Rattle.afdx_config.specs.Lawful.{IsLawful};
+ghost use Rattle.afdx_config.specs.Lawful.{IsLawfulSwitch};
 ghost use Rattle.afdx_config.specs.Reading.{greatest_delay, link_of, most_links};
 ghost use Rattle.afdx_config.specs.Rows.{LinkRow, Rows, link_row};
 ghost use Rattle.afdx_frame.specs.Layout.{identifier_count};
@@ -105,7 +105,7 @@ fn line(tables: &Tables, place: usize) -> Line
 {
     let link = tables.link(place);
     let sender = tables.system(link.from);
-    let Some(rule) = LinkRule::new(
+    let Some(rule) = LinkRule::after_cable(
         link.vl,
         sender.port,
         link.bag_ms,
@@ -126,7 +126,7 @@ fn line(tables: &Tables, place: usize) -> Line
 }
 
 fn new_lines(alloc: Global, tables: &Tables) -> Result<Vec<Line>, AllocError>
-    ensures lawful { IsLawful tables.now }
+    ensures lawful { IsLawfulSwitch tables.now }
     ensures count { IfOk result (λ v. vec_len v ≡ length tables.now.links) }
     ensures each { IfOk result (λ v. (i : ℕ) (l : LinkRow) (line : Line) →
         slice_get tables.now.links i ≡ Some l → slice_get v.items i ≡ Some line →
@@ -180,7 +180,7 @@ fn new_ports(alloc: Global, tables: &Tables) -> Result<Vec<Port<Frame>>, AllocEr
 
 /// What a switch of the tables works with at time 0: full accounts and idle ports.
 pub(crate) fn build(alloc: Global, tables: &Tables) -> Result<SwitchState, AllocError>
-    ensures lawful { OnOk result (IsLawful tables.now) }
+    ensures lawful { OnOk result (IsLawfulSwitch tables.now) }
     ensures sound { IfOk result (λ w. IsSwitchSound w) }
     ensures stands { (side : Side) → IfOk result (λ w. StandsFor tables.now side w no_calls) }
     ensures quiet { (t : ℕ) → IfOk result (λ w. IsQuiet w t) }

@@ -123,7 +123,7 @@ impl Model for Switch {
 }
 
 impl Switch {
-    ghost use Rattle.afdx_config.specs.Lawful.{IsLawful};
+    ghost use Rattle.afdx_config.specs.Lawful.{IsLawfulSwitch};
     ghost use Rattle.afdx_frame.specs.Parts.{bytes_of};
     ghost use Rattle.afdx_config.specs.Rows.{Rows};
     ghost use Rattle.afdx_frame.specs.declared.link.Side.{Side};
@@ -137,7 +137,7 @@ impl Switch {
     /// A switch of these tables at time 0, with full accounts and idle ports.
     /// The error says that memory was refused.
     pub fn new(alloc: Global, tables: &Tables) -> Result<Switch, AllocError>
-        ensures lawful { OnOk result (IsLawful tables.now) }
+        ensures lawful { OnOk result (IsLawfulSwitch tables.now) }
         ensures stands { (side : Side) → IfOk result (λ w. StandsFor tables.now side w no_calls) }
         ensures quiet { (t : ℕ) → IfOk result (λ w. IsQuiet w t) }
         ensures clock { IfOk result (λ w. last_time w ≡ 0) }

@@ -1,7 +1,7 @@
-use Rattle.std.proofs.Common.{ℕ, sym, arith, refl, ap, ◌∙◌, subst, ◌≡◌, slice_get, Some, None, replicate}
+use Rattle.std.proofs.Common.{ℕ, ◌<◌, length, sym, arith, refl, ap, ◌∙◌, subst, ◌≡◌, slice_get, Some, None, replicate}
 use Rattle.afdx_frame.proofs.ListLemmas.{slice_get-within, slice_get-one}
 use Rattle.afdx_config.specs.Admission.{links_from}
-use Rattle.afdx_config.specs.Lawful.{IsLawful}
+use Rattle.afdx_config.specs.Lawful.{IsLawfulSwitch}
 use Rattle.afdx_config.specs.Rows.{SystemRow, Rows, system_row}
 use Rattle.afdx_bounds.proofs.TableLemmas.{system-time}
 use Rattle.afdx_port.specs.Held.{IsByteTime}
@@ -25,6 +25,13 @@ made c = record {
   output = c.in_ok-output.output;
   ready = None;
 }
+
+-- a system stands among those of the tables
+within : (c : goal.In_ok-output) → c.args.system.0 < length c.args.tables.now.systems
+within c =
+    let lawful : IsLawfulSwitch c.args.tables.now =
+    subst IsLawfulSwitch c.tables-tables.ensures.tables c.system-row.ensures.lawful in
+    omega (arith, c.requires.system, lawful.own)
 
 pub new-requires-2-clause-rate : goal.new-requires-2-clause-rate
 new-requires-2-clause-rate c =
@@ -68,24 +75,24 @@ is_new c s at =
 pub returns-clause-stands : goal.returns-clause-stands
 unfolding made
 returns-clause-stands c = λ s at.
-    let lawful : IsLawful c.args.tables.now =
-    subst IsLawful c.tables-tables.ensures.tables c.system-row.ensures.lawful in
+    let lawful : IsLawfulSwitch c.args.tables.now =
+    subst IsLawfulSwitch c.tables-tables.ensures.tables c.system-row.ensures.lawful in
     stands_new (made c) c.args.tables.now c.args.system.0 s
     (are_sent c.args.tables.now c.args.system.0 s c.tables_are_served.ensures.senders lawful
-    c.tables-tables.ensures.admitted at) (is_new c s at)
+    c.tables-tables.ensures.admitted at c.requires.system) (is_new c s at)
 
 pub returns-clause-sound : goal.returns-clause-sound
 returns-clause-sound c = let r =
-    slice_get-within c.args.tables.now.systems c.args.system.0 c.requires.system in
+    slice_get-within c.args.tables.now.systems c.args.system.0 (within c) in
     (no_calls c.args.tables.now c.args.system.0 r.0, returns-clause-stands c r.0 r.1)
 
 pub returns-clause-quiet : goal.returns-clause-quiet
 unfolding made
 returns-clause-quiet c = λ t. let r =
-    slice_get-within c.args.tables.now.systems c.args.system.0 c.requires.system in
+    slice_get-within c.args.tables.now.systems c.args.system.0 (within c) in
     quiet_new (made c) c.args.tables.now c.args.system.0 r.0 (returns-clause-stands c r.0 r.1) t
 
 pub returns-clause-held : goal.returns-clause-held
 unfolding made
-returns-clause-held c = let r = slice_get-within c.args.tables.now.systems c.args.system.0 c.requires.system
+returns-clause-held c = let r = slice_get-within c.args.tables.now.systems c.args.system.0 (within c)
     in held_new (made c) c.args.tables.now c.args.system.0 r.0 (is_new c r.0 r.1)

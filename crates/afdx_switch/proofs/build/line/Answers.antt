@@ -15,7 +15,7 @@ returns c l at =
     ∙ sym (rule-is c.args.tables.now (link_row c.link-link.result.now)
     (system_row c.system-sender.result.now) c.system-sender.ensures.row) in
     let new : Line = record {
-      account = c.new-2.result;
+      account = c.new.result;
       priority = c.link-link.result.now.priority;
       longest_wait = c.longest_wait.result;
       goes = c.ports_of.result;
@@ -23,13 +23,13 @@ returns c l at =
     subst (λ (m : LinkRow). IsNewLine (row_of c.args.tables.now m) new) same
     (record {
       is = λ side. record {
-        account = subst (λ r. StandsForOwn r c.new-2.result []) rule c.new-2.ensures.stands;
+        account = subst (λ r. StandsForOwn r c.new.result []) rule c.new.ensures.stands;
         priority = refl;
         longest_wait = c.longest_wait.ensures.is;
         goes = λ place below. c.ports_of.ensures.each (link_row c.link-link.result.now) place here below;
       };
       sound = record {
-        in_time = omega (arith, c.new-2.ensures.time);
+        in_time = omega (arith, c.new.ensures.time);
         wait = c.longest_wait.ensures.small;
         goes = c.ports_of.ensures.places;
       };

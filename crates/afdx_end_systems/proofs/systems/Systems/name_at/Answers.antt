@@ -1,6 +1,6 @@
 use Rattle.std.proofs.Common.{[], arith, sym, ap}
 use Rattle.std.specs.Option.{option_map_or}
-use Rattle.afdx_config.specs.Reading.{system_at_port}
+use Rattle.afdx_config.specs.Reading.{listener_at}
 use Rattle.afdx_end_systems.specs.Handovers.{came_to}
 use Rattle.afdx_end_systems.specs.Receptions.{name_of}
 use Rattle.afdx_end_systems.proofs.SystemsLemmas.{at_port, none_at_port, name_is}
@@ -9,7 +9,7 @@ use Rattle.afdx_end_systems.proofs.systems.Systems.name_at.Goals as goal
 pub returns-then-place-len : goal.returns-then-place-len
 returns-then-place-len c = λ rows before stands.
     let port = c.args.port in
-    name_is rows port _ (c.name_of.ensures rows (came_to port before) (system_at_port rows.systems port)
+    name_is rows port _ (c.name_of.ensures rows (came_to port before) (listener_at rows port)
     (at_port rows c.args.self.now before port c.from-place.result c.index.result.now stands
     c.from-place.ensures (omega arith) c.index.ensures))
 

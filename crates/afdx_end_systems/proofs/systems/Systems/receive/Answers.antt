@@ -1,5 +1,5 @@
 use Rattle.std.proofs.Common.{sym, refl, arith}
-use Rattle.afdx_config.specs.Reading.{system_at_port}
+use Rattle.afdx_config.specs.Reading.{listener_at}
 use Rattle.afdx_end_systems.specs.Handovers.{handed_over, came_to}
 use Rattle.afdx_end_systems.proofs.SystemsLemmas.{before_at, is_at, stand_after, answered_is, none_answered}
 use Rattle.afdx_end_systems.proofs.SystemsLemmas.{stand_still, newest_is, newest_after, newest_still}
@@ -13,7 +13,7 @@ returns-then-place-len-clause-answer c = λ rows before stands.
     let are = before_at rows c.args.self.now before d c.from-place.result c.index_mut.result.now
     stands c.from-place.ensures (omega arith) c.index_mut.ensures.value in
     answered_is rows before d _
-    (c.receive_at.ensures.answer rows (came_to d.port before) (system_at_port rows.systems d.port)
+    (c.receive_at.ensures.answer rows (came_to d.port before) (listener_at rows d.port)
     (is_at _ _ _ _ _ _ are))
 
 pub returns-then-place-len-clause-passed : goal.returns-then-place-len-clause-passed
@@ -22,7 +22,7 @@ returns-then-place-len-clause-passed c = λ rows before stands.
     let are = before_at rows c.args.self.now before d c.from-place.result c.index_mut.result.now
     stands c.from-place.ensures (omega arith) c.index_mut.ensures.value in
     read_back_here _ _ _ _ _ _ are c.receive_at.new.at d.time c.receive_at.result
-    (c.receive_at.ensures.passed rows (came_to d.port before) (system_at_port rows.systems d.port)
+    (c.receive_at.ensures.passed rows (came_to d.port before) (listener_at rows d.port)
     (is_at _ _ _ _ _ _ are))
 
 pub returns-then-place-len-clause-stands : goal.returns-then-place-len-clause-stands
@@ -32,7 +32,7 @@ returns-then-place-len-clause-stands c = λ rows before stands.
     stands c.from-place.ensures (omega arith) c.index_mut.ensures.value in
     stand_after _ _ _ _ _ _ are _ c.receive_at.new.at refl
     (c.receive_at.ensures.stands rows (came_to d.port before)
-    (system_at_port rows.systems d.port) (is_at _ _ _ _ _ _ are))
+    (listener_at rows d.port) (is_at _ _ _ _ _ _ are))
 
 pub returns-else-place-len-clause-answer : goal.returns-else-place-len-clause-answer
 returns-else-place-len-clause-answer c = λ rows before stands.
@@ -56,7 +56,7 @@ returns-then-place-len-clause-newest c = λ rows before stands have.
     stands c.from-place.ensures (omega arith) c.index_mut.ensures.value in
     on_ok_weaker c.receive_at.result (newest_after _ _ _ _ _ _ are _ c.receive_at.new.at refl have)
     (c.receive_at.ensures.newest rows (came_to d.port before)
-    (system_at_port rows.systems d.port) (is_at _ _ _ _ _ _ are) (newest_is _ _ _ _ _ _ are have))
+    (listener_at rows d.port) (is_at _ _ _ _ _ _ are) (newest_is _ _ _ _ _ _ are have))
 
 pub returns-else-place-len-clause-newest : goal.returns-else-place-len-clause-newest
 returns-else-place-len-clause-newest c =

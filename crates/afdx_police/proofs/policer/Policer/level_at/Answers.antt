@@ -11,7 +11,7 @@ use Rattle.afdx_police.proofs.policer.Policer.level_at.Goals as goal
 pub overflow_add-self-inside : goal.overflow_add-self-inside
 overflow_add-self-inside g c =
     let link : Regulation = regulation_of (rule_of c.self.inside.rule) in
-    let most : cap link ≤ 393728000000 =
+    let most : cap link ≤ 20080128000000 =
     cap-le link c.self.inside.rule.in_range.bag
     (omega (arith, c.self.inside.rule.in_range.longest)) c.self.inside.rule.in_range.jitter in
     let short : c.min-gap.result ≤ bag link + jitter link = omega (arith, c.min-gap.ensures, c.fill_time.ensures) in
