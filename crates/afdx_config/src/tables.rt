@@ -58,8 +58,8 @@ impl Tables {
     ghost use Rattle.afdx_frame.specs.Regulation.{slowest_byte};
     ghost use Rattle.afdx_config.specs.Admission.{byte_ns};
     ghost use Rattle.afdx_config.specs.Reading.{system_named, system_at_port, link_of, listener_at};
-    ghost use Rattle.afdx_config.specs.Lawful.{IsLawful, IsLawfulSwitch, IsSystem, IsLink, IsLinkUpTo};
-    ghost use Rattle.afdx_config.specs.Lawful.{IsPort, IsWithin, jitter_from_any};
+    ghost use Rattle.afdx_config.specs.Lawful.{IsLawful, IsLawfulSwitch, IsSystem, IsLinkUpTo};
+    ghost use Rattle.afdx_config.specs.Lawful.{IsLinkAmong, IsPort, IsWithin, jitter_from_any};
     ghost use Rattle.afdx_config.specs.Changed.{with_buffer, with_times, with_link_at};
     ghost use Rattle.afdx_frame.specs.Lengths.{least_frame, greatest_buffer};
 
@@ -225,7 +225,7 @@ impl Tables {
     pub fn set_times(&mut self, index: usize, times: Times)
         requires within { index < length self.old.links }
         requires lawful { (l : LinkRow) → slice_get self.old.links index ≡ Some l →
-            IsLink (length self.old.systems) (with_times times l) }
+            IsLinkAmong self.old.own (length self.old.systems) (with_times times l) }
         ensures changed { self.new ≡ with_link_at index times self.old }
     {
         self.links.set_times(index, times);
