@@ -1,5 +1,5 @@
 -- The example's numbers.
-use Rattle.std.proofs.Common.{◌≡◌, ℕ, ◌+◌, ◌*◌, ◌-◌, ◌≤◌, Bool, true, false, not, List, [], ◌∷◌, length}
+use Rattle.std.proofs.Common.{◌≡◌, ℕ, ◌+◌, ◌*◌, ◌-◌, ◌<◌, ◌≤◌, Bool, true, false, not, List, [], ◌∷◌, length}
 use Rattle.std.proofs.Common.{map, refl, sym, ap, ◌∙◌, subst, arith}
 use Rattle.std.specs.Prelude.{if◌then◌else◌}
 use Rattle.afdx_frame.specs.Flows.{Flow, IsPortAdmitted, high_wait, low_wait, high_load}
@@ -9,7 +9,7 @@ use Rattle.afdx_frame.specs.declared.link.Priority.TheVariants.{High, Low}
 use Rattle.afdx_frame.specs.declared.link.Side.TheVariants.{A}
 use Rattle.afdx_config.specs.Admission.{IsServing, byte_ns, flows_to}
 use Rattle.afdx_config.specs.Flows.{flow_of_link}
-use Rattle.afdx_config.specs.Lawful.{IsLawfulSwitch}
+use Rattle.afdx_config.specs.Lawful.{IsLawfulSwitch, jitter_from_system}
 use Rattle.afdx_config.specs.Reading.{is_name, are_apart}
 use Rattle.afdx_config.specs.Reading as reading
 use Rattle.afdx_config.specs.Rows.{SystemRow, LinkRow}
@@ -46,6 +46,7 @@ unfolding is_name are_apart reading.goes_to
 lawful-before is = record {
   profile = is.profile;
   buffer = is.buffer;
+  own = is.own;
   systems = is.systems;
   links = record {
     count = is.links.count;
@@ -68,6 +69,8 @@ lawful-before is = record {
     );
     identifiers = base.one-distinct (λ (l : LinkRow). l.vl) link_before;
   };
+  sent = base.one-at (λ i (l : LinkRow). l.from < tables.own → l.jitter_us ≤ jitter_from_system l.bag_ms) link_before
+      (λ from. omega arith);
   ports = record {
     count = is.ports.count;
     each = (
@@ -81,6 +84,7 @@ lawful-before is = record {
     );
     triples = is.ports.triples;
   };
+  heard = is.heard;
 }
 
 HighLine : Flow → Type 0

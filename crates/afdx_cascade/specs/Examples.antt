@@ -15,6 +15,7 @@ abbrev pub tables_before : Rows
 tables_before = record {
   profile = 2;
   buffer = 126;
+  own = tables.own;
   systems = tables.systems;
   links = link_before ∷ [];
   ports = tables.ports;
