@@ -22,21 +22,22 @@ fn rule_of_link_1(lmax: u64) -> Option<LinkRule> {
 /// The port of a rule of link 1, its BAG in ms, Lmin and Lmax in bytes, and its jitter in us.
 type Given = (u8, u64, u64, u64, u64);
 
+/// Whether `LinkRule::new` and `LinkRule::after_cable` make a rule of it.
+type IsRuled = (bool, bool);
+
+fn is_ruled(given: &Given) -> IsRuled {
+    let (port, bag_ms, lmin, lmax, jitter_us) = *given;
+    let byte = Policing::Byte;
+    let rule = LinkRule::new(VlId(1), port, bag_ms, lmin, lmax, jitter_us, byte);
+    let later = LinkRule::after_cable(VlId(1), port, bag_ms, lmin, lmax, jitter_us, byte);
+    (rule.is_some(), later.is_some())
+}
+
 /// The first of the rows that is a rule and is said to be none, or the other way round.
-fn otherwise_ruled(rows: &[(Given, bool)]) -> Option<Given> {
-    for ((port, bag_ms, lmin, lmax, jitter_us), wanted) in rows {
-        let (bag_ms, lmin, lmax, jitter_us) = (*bag_ms, *lmin, *lmax, *jitter_us);
-        let rule = LinkRule::new(
-            VlId(1),
-            *port,
-            bag_ms,
-            lmin,
-            lmax,
-            jitter_us,
-            Policing::Byte,
-        );
-        if rule.is_some() != *wanted {
-            return Some((*port, bag_ms, lmin, lmax, jitter_us));
+fn otherwise_ruled(rows: &[(Given, IsRuled)]) -> Option<Given> {
+    for (given, wanted) in rows {
+        if is_ruled(given) != *wanted {
+            return Some(*given);
         }
     }
     None
@@ -45,16 +46,21 @@ fn otherwise_ruled(rows: &[(Given, bool)]) -> Option<Given> {
 #[test]
 fn rules_in_range() -> Result<(), Fail> {
     let rows = [
-        ((1, 1, 64, 64, 1000), true),
-        ((24, 128, 64, 1518, 128_000), true),
-        ((1, 3, 64, 64, 500), false),
-        ((1, 1, 64, 63, 500), false),
-        ((1, 1, 64, 64, 1001), false),
-        ((0, 1, 64, 64, 500), false),
-        ((25, 1, 64, 64, 500), false),
-        ((1, 1, 63, 64, 500), false),
-        ((1, 1, 64, 1519, 500), false),
-        ((1, 256, 64, 64, 500), false),
+        ((1, 1, 64, 64, 1000), (true, true)),
+        ((24, 128, 64, 1518, 128_000), (true, true)),
+        ((1, 3, 64, 64, 500), (false, false)),
+        ((1, 1, 64, 63, 500), (false, false)),
+        ((0, 1, 64, 64, 500), (false, false)),
+        ((25, 1, 64, 64, 500), (false, false)),
+        ((1, 1, 63, 64, 500), (false, false)),
+        ((1, 1, 64, 1519, 500), (false, false)),
+        ((1, 256, 64, 64, 500), (false, false)),
+        // A frame that comes over a cable may have been delayed by 100 ms more than the gap.
+        ((1, 1, 64, 64, 1001), (false, true)),
+        ((1, 1, 64, 64, 101_000), (false, true)),
+        ((1, 1, 64, 64, 101_001), (false, false)),
+        ((24, 128, 64, 1518, 228_000), (false, true)),
+        ((24, 128, 64, 1518, 228_001), (false, false)),
     ];
     all_right(otherwise_ruled(&rows))
 }
