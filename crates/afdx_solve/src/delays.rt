@@ -13,10 +13,7 @@ ghost use Rattle.afdx_solve.specs.Solved as spec;
 use crate::options::{SolveOptions, chosen};
 use afdx_admit::bounds_to;
 use afdx_config::{Link, SystemId, Tables, Times};
-use afdx_frame::{PORT_COUNT, Priority};
-
-/// The most that a latency or a skew may be, in us.
-const GREATEST_DELAY: u64 = 100_000;
+use afdx_frame::{GREATEST_DELAY_US, PORT_COUNT, Priority};
 
 /// A bound in us, rounded up; where there is none, the most that a latency may be.
 fn in_us(bound: Option<u64>) -> u64
@@ -24,7 +21,7 @@ fn in_us(bound: Option<u64>) -> u64
 {
     match bound {
         Some(bound) => bound.div_ceil(1000),
-        None => GREATEST_DELAY,
+        None => GREATEST_DELAY_US,
     }
 }
 
@@ -73,7 +70,7 @@ fn times_of(link: &Link, delays: &[u64], options: SolveOptions) -> Times
     ensures { with_times result (link_row link.now) ≡ spec.with_delays_for options
         (spec.latency_over (slice_index delays.now) (link_row link.now).to) (link_row link.now) }
 {
-    let least = GREATEST_DELAY.min(latency_over(delays, link.to.as_slice()));
+    let least = GREATEST_DELAY_US.min(latency_over(delays, link.to.as_slice()));
     let latency = chosen(
         options.kept.latency,
         options.raise_only,
