@@ -17,8 +17,9 @@ fn rule() -> Option<LinkRule> {
 fn may_be_late() -> bool {
     let (vl, port, policing): (VlId, u8, Policing) = (VlId(1), 1, Policing::Byte);
     let (bag_ms, lmin, lmax, jitter_us): (u64, u64, u64, u64) = (1, 64, 64, 101_000);
-    let rule: Option<LinkRule> =
-        LinkRule::after_cable(vl, port, bag_ms, lmin, lmax, jitter_us, policing);
+    let rule: Option<LinkRule> = LinkRule::after_cable(
+        vl, port, bag_ms, lmin, lmax, jitter_us, policing,
+    );
     rule.is_some()
 }
 

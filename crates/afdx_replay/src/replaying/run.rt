@@ -270,7 +270,8 @@ pub fn run_unadmitted<R: Read, W: Write>(
         (W.contents (device_of output.old)) (W.contents (device_of output.new)) result) }
 
     // And what is written is the text of events that are those of the definition of an output port.
-    ensures defined { IsLawfulSwitch tables.now → IfSome (R.remaining (device_of input.old)) (λ bytes.
+    ensures defined { IsLawfulSwitch tables.now →
+        IfSome (R.remaining (device_of input.old)) (λ bytes.
         DefinedAnswers tables.now bytes (R.remaining (device_of input.new))
         (W.contents (device_of output.old)) (W.contents (device_of output.new)) result) }
 {
