@@ -1,6 +1,6 @@
--- The sums that are kept of an output port's links, in units of one byte over `byte_units`. Rates are
--- per nanosecond, so that no sum is multiplied by the time of a byte: with the greatest jitters the
--- products would not fit in 64 bits.
+-- The sums that are kept of an output port's links, in units of one byte over `byte_units`. Rates
+-- are per nanosecond, so that no sum is multiplied by the time of a byte: with the greatest jitters
+-- the products would not fit in 64 bits.
 use Rattle.std.specs.Prelude.{◌≡◌, ℕ, ◌+◌, ◌*◌, ◌/◌, ◌≤◌, ◌<◌, max, List, length, slice_index, slice_get}
 use Rattle.std.specs.Prelude.{Option, Some, ◌++◌, if◌then◌else◌}
 use Rattle.afdx_frame.specs.declared.link.Priority.TheVariants.{High, Low}

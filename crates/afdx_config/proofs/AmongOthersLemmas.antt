@@ -10,7 +10,7 @@ use Rattle.afdx_config.specs.Lawful.{IsLawful, IsLawfulSwitch, AreDistinct}
 use Rattle.afdx_config.specs.Laws.{AloneIsOne, OneIsBetweenSystems, AdmittedIsServing}
 use Rattle.afdx_config.specs.Rows.{SystemRow, LinkRow, Rows}
 
-pub link-among : (systems : ℕ) (l : LinkRow) → IsLink systems l → IsLinkUpTo jitter_from_any systems l
+link-among : (systems : ℕ) (l : LinkRow) → IsLink systems l → IsLinkUpTo jitter_from_any systems l
 link-among systems l is = record {
   vl = is.vl;
   from = is.from;

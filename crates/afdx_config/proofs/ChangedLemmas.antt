@@ -12,10 +12,9 @@ use Rattle.afdx_config.specs.declared.rows.Link.{Link}
 use Rattle.afdx_config.specs.Rows.{LinkRow, PortRow, Rows, is_to, link_row}
 use Rattle.afdx_config.specs.Kept.{link_rows, IsUnderItsIdentifier}
 use Rattle.afdx_config.specs.Reading.{goes_to}
-use Rattle.afdx_config.specs.Lawful.{IsLink, IsLinkUpTo, AreLinksUpTo, IsPort, AreDistinct}
+use Rattle.afdx_config.specs.Lawful.{IsLinkAmong, IsLinkUpTo, AreLinksUpTo, IsPort, AreDistinct}
 use Rattle.afdx_config.specs.Lawful.{IsLawfulSwitch, jitter_from_system, jitter_from_any}
 use Rattle.afdx_config.specs.Changed.{with_times, changed_at, with_link_at}
-use Rattle.afdx_config.proofs.AmongOthersLemmas.{link-among}
 
 -- a row of the changed ones, as it was
 stood : (i : ℕ) (times : Times) (ls : List LinkRow) (j : ℕ) (b : LinkRow) → slice_get (changed_at i times ls) j ≡ Some b
@@ -110,7 +109,7 @@ each_port-changed systems i times ls (p ∷ ps) h =
     (port-changed systems i times ls p h.0, each_port-changed systems i times ls ps h.1)
 
 pub lawful-changed : (t : Rows) (i : ℕ) (times : Times) → IsLawfulSwitch t
-    → ((l : LinkRow) → slice_get t.links i ≡ Some l → IsLink (length t.systems) (with_times times l))
+    → ((l : LinkRow) → slice_get t.links i ≡ Some l → IsLinkAmong t.own (length t.systems) (with_times times l))
     → IsLawfulSwitch (with_link_at i times t)
 lawful-changed t i times old new = record {
   profile = old.profile;
@@ -118,9 +117,9 @@ lawful-changed t i times old new = record {
   own = old.own;
   systems = old.systems;
   links = links-changed jitter_from_any (length t.systems) i times t.links old.links
-      (λ l at. link-among (length t.systems) (with_times times l) (new l at));
+      (λ l at. (new l at).link);
   sent = each-changed (λ l. l.from < t.own → l.jitter_us ≤ jitter_from_system l.bag_ms) i times t.links old.sent
-      (λ l at from. (new l at).jitter_us.1);
+      (λ l at from. (new l at).sent from);
   ports = record {
     count = old.ports.count;
     each = each_port-changed (length t.systems) i times t.links t.ports old.ports.each;

@@ -1,6 +1,6 @@
 -- Every rule of the format, as a fact of the rows. A link's greatest jitter is a number of its own:
 -- it depends on who sends the link to this switch, a system or another switch.
-use Rattle.std.specs.Prelude.{◌≡◌, ℕ, ◌+◌, ◌*◌, ◌<◌, ◌≤◌, true, List, length, nat_eq, slice_get}
+use Rattle.std.specs.Prelude.{◌≡◌, ℕ, ◌<◌, ◌≤◌, true, List, length, nat_eq, slice_get}
 use Rattle.std.specs.Prelude.{IsTrue, Some, take}
 use Rattle.std.specs.List.{list_any, AllByRecursion}
 use Rattle.afdx_frame.specs.Lengths.{least_frame, greatest_frame, greatest_buffer}
@@ -49,6 +49,12 @@ pub record IsLinkUpTo (greatest_jitter : ℕ → ℕ) (systems : ℕ) (l : LinkR
 
 abbrev pub IsLink : ℕ → LinkRow → Type 0
 IsLink = IsLinkUpTo jitter_from_system
+
+-- among so many ends, of which the first `own` are systems: one that a system sends has no greater
+-- jitter than with one switch
+pub record IsLinkAmong (own ends : ℕ) (l : LinkRow) : Type 0 where
+  pub link : IsLinkUpTo jitter_from_any ends l
+  pub sent : l.from < own → l.jitter_us ≤ jitter_from_system l.bag_ms
 
 pub record IsPort (systems : ℕ) (links : List LinkRow) (p : PortRow) : Type 0 where
   pub system : p.system < systems

@@ -46,7 +46,8 @@ impl Model for Tables {
         rows_with t.profile t.buffer t.own t.systems t.links (port_rows t.coms.items) };
 
     ghost invariant = { λ t.
-        IsLawfulSwitch (rows_with t.profile t.buffer t.own t.systems t.links (port_rows t.coms.items)) };
+        IsLawfulSwitch
+            (rows_with t.profile t.buffer t.own t.systems t.links (port_rows t.coms.items)) };
 }
 
 impl Tables {
@@ -57,8 +58,8 @@ impl Tables {
     ghost use Rattle.afdx_frame.specs.Regulation.{slowest_byte};
     ghost use Rattle.afdx_config.specs.Admission.{byte_ns};
     ghost use Rattle.afdx_config.specs.Reading.{system_named, system_at_port, link_of, listener_at};
-    ghost use Rattle.afdx_config.specs.Lawful.{IsLawful, IsLawfulSwitch, IsSystem, IsLink, IsLinkUpTo};
-    ghost use Rattle.afdx_config.specs.Lawful.{IsPort, IsWithin, jitter_from_any};
+    ghost use Rattle.afdx_config.specs.Lawful.{IsLawful, IsLawfulSwitch, IsSystem, IsLinkUpTo};
+    ghost use Rattle.afdx_config.specs.Lawful.{IsLinkAmong, IsPort, IsWithin, jitter_from_any};
     ghost use Rattle.afdx_config.specs.Changed.{with_buffer, with_times, with_link_at};
     ghost use Rattle.afdx_frame.specs.Lengths.{least_frame, greatest_buffer};
 
@@ -135,7 +136,8 @@ impl Tables {
         self.systems.at(id)
     }
 
-    /// The time of a byte on the line of the system or neighbour at this place, in ns: 8, 80 or 800.
+    /// The time of a byte on the line of the system or neighbour at this place, in ns: 8, 80 or
+    /// 800.
     pub fn byte_ns(&self, id: SystemId) -> u64
         requires { id.0 < length self.now.systems }
         ensures time { (s : SystemRow) → slice_get self.now.systems id.0 ≡ Some s →
@@ -163,8 +165,8 @@ impl Tables {
         self.systems.at_port(port)
     }
 
-    /// The system that hears what leaves this port of the switch, if there is one: a neighbour hears
-    /// nothing.
+    /// The system that hears what leaves this port of the switch, if there is one: a neighbour
+    /// hears nothing.
     #[tactic(auto, unfolding(crate::specs::Reading::listener_at))]
     pub fn listener_at(&self, port: u8) -> Option<SystemId>
         ensures place { option_map (λ i. i.0) result ≡ listener_at self.now port }
@@ -223,7 +225,7 @@ impl Tables {
     pub fn set_times(&mut self, index: usize, times: Times)
         requires within { index < length self.old.links }
         requires lawful { (l : LinkRow) → slice_get self.old.links index ≡ Some l →
-            IsLink (length self.old.systems) (with_times times l) }
+            IsLinkAmong self.old.own (length self.old.systems) (with_times times l) }
         ensures changed { self.new ≡ with_link_at index times self.old }
     {
         self.links.set_times(index, times);

@@ -22,7 +22,8 @@ pub struct LinkRule {
     pub lmax: u64,
     pub jitter_us: u64,
     pub policing: Policing,
-    pub ghost in_range: { IsRuleAfterCable (rule_with vl.0 port bag_ms lmin lmax jitter_us policing) },
+    pub ghost in_range: { IsRuleAfterCable
+        (rule_with vl.0 port bag_ms lmin lmax jitter_us policing) },
 }
 
 impl LinkRule {
@@ -31,8 +32,8 @@ impl LinkRule {
     ghost use Rattle.afdx_frame.specs.Regulation.{bag, jitter, fill_rate, cap};
     ghost use Rattle.std.specs.Prelude.{◌+◌};
 
-    /// The rule of these values for a link that a system sends to the switch; None exactly if one is
-    /// out of its range: a port of 1 to 24, a gap of 1, 2, 4, .. or 128 ms,
+    /// The rule of these values for a link that a system sends to the switch; None exactly if one
+    /// is out of its range: a port of 1 to 24, a gap of 1, 2, 4, .. or 128 ms,
     /// `64 <= lmin <= lmax <= 1518`, a jitter of at most the gap.
     pub fn new(
         vl: VlId,
@@ -56,8 +57,8 @@ impl LinkRule {
         }
     }
 
-    /// The same for a link that may come over a cable from another switch: its jitter is at most the
-    /// gap and 100 ms, since its frames have been delayed before.
+    /// The same for a link that may come over a cable from another switch: its jitter is at most
+    /// the gap and 100 ms, since its frames have been delayed before.
     pub fn after_cable(
         vl: VlId,
         port: u8,
