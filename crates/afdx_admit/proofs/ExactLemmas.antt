@@ -176,11 +176,13 @@ admitted_output buffer port o h =
 
 -- ---- all lines
 
-allows : (t : Rows) (l : LinkRow) → allows_jitter t (jitter_at t l.from) l ≡ true → l.from < t.own → jitter_at t l.from ≤ 1000 * l.jitter_us
+allows : (t : Rows) (l : LinkRow) → allows_jitter t (jitter_at t l.from) l ≡ true → l.from < t.own
+    → jitter_at t l.from ≤ 1000 * l.jitter_us
 allows t l h below = true-le (jitter_at t l.from) (1000 * l.jitter_us)
     (sym (ap (λ b. b || nat_le (jitter_at t l.from) (1000 * l.jitter_us)) (le-false t.own l.from below)) ∙ h)
 
-allowed : (t : Rows) (l : LinkRow) → (l.from < t.own → jitter_at t l.from ≤ 1000 * l.jitter_us) → allows_jitter t (jitter_at t l.from) l ≡ true
+allowed : (t : Rows) (l : LinkRow) → (l.from < t.own → jitter_at t l.from ≤ 1000 * l.jitter_us)
+    → allows_jitter t (jitter_at t l.from) l ≡ true
 allowed t l h = elim (cases_lt l.from t.own) [
   | inl below ↦ ap (λ b. b || nat_le (jitter_at t l.from) (1000 * l.jitter_us)) (le-false t.own l.from below)
       ∙ le-true (jitter_at t l.from) (1000 * l.jitter_us) (h below)

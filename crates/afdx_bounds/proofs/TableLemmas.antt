@@ -199,7 +199,8 @@ system-sender t class system s lawful admitted at own-system =
       flows_are = record {
         gaps = all-mapped (λ f. IsTrue (is_bag f.link.bag_ms)) (sent_flow (byte_ns s) class own) own (λ i l k.
             let in-links = slice_get-filter (λ m. nat_eq m.from system) t.links i l k in
-            (AllByRecursion-slice_get (IsLinkUpTo jitter_from_any (length t.systems)) t.links in-links.0 l lawful.links.each in-links.1).bag_ms);
+            (AllByRecursion-slice_get (IsLinkUpTo jitter_from_any (length t.systems)) t.links in-links.0 l
+            lawful.links.each in-links.1).bag_ms);
         distinct = λ f g k l same. (let a = mapped (sent_flow (byte_ns s) class own) own f k in
             let b = mapped (sent_flow (byte_ns s) class own) own g l in
             let a-in = slice_get-filter (λ m. nat_eq m.from system) t.links a.place a.own a.stands in

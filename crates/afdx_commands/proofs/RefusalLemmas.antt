@@ -1,5 +1,5 @@
 -- How a command refuses a configuration or its tables.
-use Rattle.std.proofs.Common.{◌≡◌, ◌≢◌, ℕ, Bool, true, List, Option, Some, ◌⊎◌, inl, inr, subst, sym, refl, arith}
+use Rattle.std.proofs.Common.{◌≡◌, ◌≢◌, ℕ, List, Option, Some, ◌⊎◌, inl, inr, subst, refl, arith}
 use Rattle.afdx_config.specs.Admission.{IsAdmitted}
 use Rattle.afdx_config.specs.Reading.{Spells, IsFaultOf}
 use Rattle.afdx_config.specs.Rows.{Rows}

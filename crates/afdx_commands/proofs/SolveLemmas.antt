@@ -8,6 +8,8 @@ use Rattle.afdx_config.specs.Rows.{LinkRow, Rows}
 use Rattle.afdx_config.specs.Reading.{system_at_port}
 use Rattle.afdx_admit.proofs.FirstFalseLemmas.{le-false}
 use Rattle.afdx_admit.proofs.PortLemmas.{not-some}
+use Rattle.afdx_solve.specs.declared.options.SolveOptions.{SolveOptions}
+use Rattle.afdx_solve.specs.Solved.{solved, with_jitters, with_least_buffer, with_delays}
 use Rattle.afdx_commands.specs.SolveText.{told_need, need_over, need_at, asked_by}
 use Rattle.afdx_commands.specs.SolveText.{needs_of_first, needs_at, needs_at_first}
 
@@ -85,3 +87,9 @@ module _ (t : Rows) (asked : List (Option ℕ)) where
 pub either : {A B : Type 0} (b : Bool) → (b ≡ true → A) → (b ≡ false → B) → A ⊎ B
 either true a b = inl (a refl)
 either false a b = inr (b refl)
+
+-- what is solved is of the one switch still
+pub solved-alone : (o : SolveOptions) (t all : Rows) → t.own ≡ length t.systems → all ≡ solved o t
+    → all.own ≡ length all.systems
+unfolding with_jitters with_least_buffer with_delays
+solved-alone o t all own is = ap (λ r. r.own) is ∙ own ∙ sym (ap (λ (r : Rows). length r.systems) is)

@@ -47,7 +47,7 @@ impl Model for Tables {
 
     ghost invariant = { λ t.
         IsLawfulSwitch
-            (rows_with t.profile t.buffer t.own t.systems t.links (port_rows t.coms.items)) };
+        (rows_with t.profile t.buffer t.own t.systems t.links (port_rows t.coms.items)) };
 }
 
 impl Tables {

@@ -9,6 +9,8 @@ use Rattle.std.proofs.lemmas.Bool.Decides.{nat_tests}
 use Rattle.std.proofs.lemmas.List.{map_push}
 use Rattle.afdx_frame.specs.Reading.{BuiltIsComputed}
 use Rattle.afdx_frame.specs.declared.link.Side.{Side}
+use Rattle.std.proofs.lemmas.Option.{slice_get_within}
+use Rattle.afdx_config.proofs.AmongOthersLemmas.{among_others, between-systems}
 use Rattle.afdx_config.specs.Admission.{IsAdmitted, links_from}
 use Rattle.afdx_config.specs.Lawful.{IsSystem, IsLink, IsLawful, AreDistinct}
 use Rattle.afdx_config.specs.Numbers.{next_number, after_steps}
@@ -274,8 +276,9 @@ module _ (laws : Laws) (t : Rows) (lawful : IsLawful t) (admitted : IsAdmitted t
 
   all-sent : HasSentAll t sender h
   all-sent = record {
-    lawful = lawful;
+    lawful = among_others t lawful;
     admitted = admitted;
+    own = (let within = slice_get_within t.systems sender s sent.stands in omega (arith, within, lawful.own));
     row = sent.stands;
     links = refl;
     fit = λ i l at. all-imply (IsGood l) (IsFor l) (own_submissions h.taken i) (λ m g. g.for) (own-good i l at);
@@ -372,7 +375,8 @@ module _ (laws : Laws) (t : Rows) (lawful : IsLawful t) (admitted : IsAdmitted t
       let k = ready place l link from in
       as-taken system l lines k
       (laws.once t (arrivals_of list (length list)) lines h system place k.0 receiver l once
-      stands link to (sends l from) build (merged list sound holds) k.1.emits)
+      stands link to (between-systems t system place receiver l lawful stands link) (sends l from) build
+      (merged list sound holds) k.1.emits)
 
   -- ---- where a network fails in the middle
 
@@ -404,7 +408,8 @@ module _ (laws : Laws) (t : Rows) (lawful : IsLawful t) (admitted : IsAdmitted t
       (take (most_come t l (arrivals_of list (length list))) (sent_list (own k.0 k.1.emits.released)))
   told-first list lines sound once holds system place receiver l stands link from to k =
       laws.so_far t (arrivals_of list (length list)) lines h system place k.0 receiver l once stands
-      link to (sends l from) build (first-merged list sound holds) k.1.emits
+      link to (between-systems t system place receiver l lawful stands link) (sends l from) build
+      (first-merged list sound holds) k.1.emits
 
   told-so-far : (list : List (List ℕ)) (lines : List Line) → AreSound list (length list)
       → EachIsToldOnceSoFar t (arrivals_of list (length list)) lines

@@ -33,6 +33,15 @@ fn are_counted(tables: &Tables) -> bool {
     (tables.profile(), tables.buffer()) == (1, 252) && counts == (3, 2, 2)
 }
 
+/// Whether all that stands at the ports of the base tables is a system, and hears at its port.
+fn are_systems(tables: &Tables) -> bool {
+    tables.own_count() == 3
+        && tables.is_own(SystemId(2))
+        && !tables.is_own(SystemId(3))
+        && tables.listener_at(3) == Some(SystemId(2))
+        && tables.listener_at(4).is_none()
+}
+
 /// Whether the names and numbers of the base tables lead to their rows, and others to none.
 fn are_found(tables: &Tables) -> bool {
     tables.system_named("s2") == Some(SystemId(1))
@@ -92,7 +101,7 @@ fn is_second_port(tables: &Tables) -> bool {
 #[test]
 fn base_tables(rt: HostRuntime) -> Result<(), Fail> {
     let tables = read(rt.alloc(), base().as_bytes())?;
-    assert!(rt; are_counted(&tables) && are_found(&tables));
+    assert!(rt; are_counted(&tables) && are_systems(&tables) && are_found(&tables));
     assert!(rt; is_third_system(&tables) && is_first_link(&tables));
     assert!(rt; goes_to_the_third(&tables) && is_second_port(&tables));
     Ok(())

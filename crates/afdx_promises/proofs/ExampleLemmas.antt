@@ -193,9 +193,9 @@ is-admitted : IsAdmitted tables
 is-admitted = record {
   ports = two-at (λ i (s : SystemRow). IsPortAdmitted (byte_ns s) 126 (flows_to (link ∷ []) i))
       sender receiver none-there one-there;
-  senders = two-at (λ i (s : SystemRow). sender_jitter (byte_ns s) (links_from (link ∷ []) i)
-      ≤ 500000) sender receiver (omega arith) (omega arith);
-  jitters = jitter-of;
+  senders = λ i s at own. two-at (λ i (s : SystemRow). sender_jitter (byte_ns s) (links_from (link ∷ []) i)
+      ≤ 500000) sender receiver (omega arith) (omega arith) i s at;
+  jitters = λ i l s at from own. jitter-of i l s at from;
   skews = one-at (λ i (l : LinkRow). l.latency_us ≤ l.skew_us) link (omega arith);
 }
 
@@ -465,7 +465,7 @@ is-broken computed keeps =
     let t = tables_with 1 in
     let l = link_with 1 in
     let turns = turns_at t A 2 one in
-    let lawful = is-lawful 1 (omega arith) (omega arith) in
+    let lawful = among_others t (is-lawful 1 (omega arith) (omega arith)) in
     let stream_is = is-stream computed 1 in
     let are : AreTurns 80 (entries_at t A 2 one) turns = subst (λ n. AreTurns n (entries_at t A 2 one) turns)
     (port-of-system t 1 receiver lawful refl).line (keeps.turns A 2).each_next in

@@ -3,9 +3,9 @@ use Rattle.std.proofs.Common.{◌≡◌, ℕ, zero, suc, ◌+◌, ◌≤◌}
 use Rattle.std.proofs.Common.{List, [], ◌∷◌, length, refl, ap, ◌∙◌, subst, arith, inl, inr}
 use Rattle.std.specs.Prelude.{Option, Some, None, Result, Ok, Err, All, IfSome, slice_index_or}
 use Rattle.std.specs.Io.KnownBytes.{Appends}
-use Rattle.afdx_config.proofs.AmongOthersLemmas.{among_others, admitted-serving}
+use Rattle.afdx_config.proofs.AmongOthersLemmas.{admitted-serving}
 use Rattle.afdx_config.specs.Admission.{IsAdmitted}
-use Rattle.afdx_config.specs.Lawful.{IsLawful}
+use Rattle.afdx_config.specs.Lawful.{IsLawfulSwitch}
 use Rattle.afdx_config.specs.Rows.{Rows}
 use Rattle.afdx_police.specs.Arrival.{Arrival}
 use Rattle.afdx_bounds.specs.Outputs.{AreTimed}
@@ -89,13 +89,13 @@ arrivals-listed list (suc n) x h = by (said_after (arrivals_of list n) (slice_in
 
 -- ---- what is told
 
-pub as-promised : (t : Rows) (arrivals : List Arrival) (old new : Option (List ℕ)) (summary : Summary) → IsLawful t
+pub as-promised : (t : Rows) (arrivals : List Arrival) (old new : Option (List ℕ)) (summary : Summary)
     → IsAdmittedRun t arrivals → Appends old new (replay_text t (events_of t arrivals))
     → summary.lost ≡ (replay_counts t (events_of t arrivals)).lost
     → summary.too_old ≡ (replay_counts t (events_of t arrivals)).too_old
     → IsAsPromised t arrivals old new summary
-as-promised t arrivals old new summary lawful run written lost old_are =
-    let told = replay-promised t arrivals lawful run in
+as-promised t arrivals old new summary run written lost old_are =
+    let told = replay-promised t arrivals run in
     let none = none-counted t arrivals run in
     record {
       lines = told.lines;
@@ -119,10 +119,10 @@ so-far-promised t arrivals old new run written =
       accepted = told.accepted;
     }
 
-pub some-promised : (t : Rows) (arrivals : List Arrival) (old new : Option (List ℕ)) → IsLawful t
+pub some-promised : (t : Rows) (arrivals : List Arrival) (old new : Option (List ℕ))
     → IsAdmittedRun t arrivals → WritesSome t old new arrivals → WritesPromisedSome t old new arrivals
-some-promised t arrivals old new lawful run written =
-    let told = replay-promised t arrivals lawful run in
+some-promised t arrivals old new run written =
+    let told = replay-promised t arrivals run in
     record {
       lines = told.lines;
       written = subst (AppendsFront old new) told.written written;
@@ -130,10 +130,10 @@ some-promised t arrivals old new lawful run written =
       accepted = told.accepted;
     }
 
-module _ (t : Rows) (bytes : List ℕ) (old new : Option (List ℕ)) (lawful : IsLawful t) (admitted : IsAdmitted t) where
+module _ (t : Rows) (bytes : List ℕ) (old new : Option (List ℕ)) (lawful : IsLawfulSwitch t) (admitted : IsAdmitted t) where
   run-of : (n : ℕ) → IsAdmittedRun t (arrivals_of (lines_of bytes) n)
   run-of n = record {
-    lawful = among_others t lawful;
+    lawful = lawful;
     admitted = admitted-serving t admitted;
     timed = arrivals-timed (lines_of bytes) n;
   }
@@ -144,7 +144,7 @@ module _ (t : Rows) (bytes : List ℕ) (old new : Option (List ℕ)) (lawful : I
 
   some-told : (n : ℕ) → WritesSome t old new (arrivals_of (lines_of bytes) n)
       → WritesPromisedSome t old new (arrivals_of (lines_of bytes) n)
-  some-told n written = some-promised t (arrivals_of (lines_of bytes) n) old new lawful (run-of n) written
+  some-told n written = some-promised t (arrivals_of (lines_of bytes) n) old new (run-of n) written
 
   pub promised-answers : (rest : Option (List ℕ)) (r : Result Summary RunFault)
       → Answers t bytes rest old new r → PromisedAnswers t bytes rest old new r
@@ -156,13 +156,13 @@ module _ (t : Rows) (bytes : List ℕ) (old new : Option (List ℕ)) (lawful : I
       record {
         sound = all.sound;
         listed = arrivals-listed list (length list);
-        promised = as-promised t (arrivals_of list (length list)) old new summary lawful (run-of (length list))
+        promised = as-promised t (arrivals_of list (length list)) old new summary (run-of (length list))
             all.written (ap (λ (s : Summary). s.lost) all.counted) (ap (λ (s : Summary). s.too_old) all.counted);
       }
 
 -- where the input's bytes are known
 pub if-known : (t : Rows) (o rest old new : Option (List ℕ)) (r : Result Summary RunFault)
-    → IsLawful t → IsAdmitted t → IfSome o (λ bytes. Answers t bytes rest old new r)
+    → IsLawfulSwitch t → IsAdmitted t → IfSome o (λ bytes. Answers t bytes rest old new r)
     → IfSome o (λ bytes. PromisedAnswers t bytes rest old new r)
 if-known t None rest old new r lawful admitted h = tt
 if-known t (Some bytes) rest old new r lawful admitted h = promised-answers t bytes old new lawful admitted rest r h

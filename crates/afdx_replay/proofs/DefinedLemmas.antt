@@ -1,9 +1,8 @@
 -- What a replay of tables that are admitted or not tells is by the definition of an output port.
 use Rattle.std.proofs.Common.{ℕ, List, length}
 use Rattle.std.specs.Prelude.{Option, Some, None, Result, Ok, Err, IfSome}
-use Rattle.afdx_config.specs.Lawful.{IsLawful}
+use Rattle.afdx_config.specs.Lawful.{IsLawfulSwitch}
 use Rattle.afdx_config.specs.Rows.{Rows}
-use Rattle.afdx_config.proofs.AmongOthersLemmas.{among_others}
 use Rattle.afdx_lists.specs.Lines.{lines_of}
 use Rattle.afdx_lists.specs.declared.fault.RunFault.{RunFault}
 use Rattle.afdx_network.specs.Order.{events_of, events_so_far}
@@ -17,14 +16,14 @@ use Rattle.afdx_commands.specs.declared.summary.Summary.{Summary}
 use Rattle.afdx_replay.proofs.AdmittedRunLemmas.{arrivals-timed, arrivals-listed}
 use Rattle.afdx_engine.proofs.RunLemmas.{stops-more}
 
-module _ (t : Rows) (bytes : List ℕ) (old new : Option (List ℕ)) (lawful : IsLawful t) where
+module _ (t : Rows) (bytes : List ℕ) (old new : Option (List ℕ)) (lawful : IsLawfulSwitch t) where
   all-defined : (n : ℕ) → WritesSoFar t old new (arrivals_of (lines_of bytes) n)
       → WritesDefinedSoFar t old new (arrivals_of (lines_of bytes) n)
   all-defined n written =
       let past = arrivals_of (lines_of bytes) n in
       record {
         events = events_so_far t past;
-        are = so-far-by-definition t past (events_so_far t past) (among_others t lawful)
+        are = so-far-by-definition t past (events_so_far t past) lawful
             (arrivals-timed (lines_of bytes) n) (are-so-far t past);
         written = written;
       }
@@ -35,7 +34,7 @@ module _ (t : Rows) (bytes : List ℕ) (old new : Option (List ℕ)) (lawful : I
       let past = arrivals_of (lines_of bytes) n in
       record {
         events = events_of t past;
-        are = events-by-definition t past (events_of t past) (among_others t lawful)
+        are = events-by-definition t past (events_of t past) lawful
             (arrivals-timed (lines_of bytes) n) (are-events t past);
         written = written;
       }
@@ -52,7 +51,7 @@ module _ (t : Rows) (bytes : List ℕ) (old new : Option (List ℕ)) (lawful : I
         sound = all.sound;
         listed = arrivals-listed list (length list);
         events = events_of t past;
-        are = events-by-definition t past (events_of t past) (among_others t lawful)
+        are = events-by-definition t past (events_of t past) lawful
             (arrivals-timed list (length list)) (are-events t past);
         written = all.written;
         counted = all.counted;
@@ -63,7 +62,7 @@ runs-by-definition t bytes rest old new r lawful answers = defined-answers t byt
 
 -- where the input's bytes are known
 pub if-defined : (t : Rows) (o rest old new : Option (List ℕ)) (r : Result Summary RunFault)
-    → IsLawful t → IfSome o (λ bytes. Answers t bytes rest old new r)
+    → IsLawfulSwitch t → IfSome o (λ bytes. Answers t bytes rest old new r)
     → IfSome o (λ bytes. DefinedAnswers t bytes rest old new r)
 if-defined t None rest old new r lawful h = tt
 if-defined t (Some bytes) rest old new r lawful h = defined-answers t bytes old new lawful rest r h

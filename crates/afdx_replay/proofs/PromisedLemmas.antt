@@ -157,13 +157,13 @@ module _ (t : Rows) (arrivals : List Arrival) (run : IsAdmittedRun t arrivals) w
   promised_so_far = so-far-promised t arrivals (events_so_far t arrivals) run (are-so-far t arrivals)
 
 pub replay-promised : ReplayIsAsPromised
-replay-promised t arrivals alone run = record {
+replay-promised t arrivals run = record {
   lines = told t arrivals;
   written = text-kept t (events_of t arrivals) (kept t arrivals run);
   promises = promise.kept t arrivals run;
   accepted = told-accepted built_is_computed t arrivals run.lawful run.timed;
-  once = promise.told-once built_is_computed t arrivals alone run;
-  once_so_far = promise.told-once-so-far built_is_computed t arrivals alone run;
+  once = promise.told-once built_is_computed t arrivals run;
+  once_so_far = promise.told-once-so-far built_is_computed t arrivals run;
 }
 
 pub so-far-told : ReplaySoFarIsAsPromised

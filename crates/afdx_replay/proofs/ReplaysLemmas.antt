@@ -4,9 +4,9 @@ use Rattle.std.proofs.KnownBytes.{Appends-nil}
 use Rattle.std.specs.Io.KnownBytes.{Appends}
 use Rattle.std.specs.Prelude.{IfSome, OnErr, OnOk}
 use Rattle.std.specs.Result.{result_ok}
-use Rattle.afdx_config.proofs.AmongOthersLemmas.{among_others, admitted-serving}
+use Rattle.afdx_config.proofs.AmongOthersLemmas.{admitted-serving}
 use Rattle.afdx_config.specs.Admission.{IsAdmitted}
-use Rattle.afdx_config.specs.Lawful.{IsLawful}
+use Rattle.afdx_config.specs.Lawful.{IsLawfulSwitch}
 use Rattle.afdx_config.specs.Rows.{Rows}
 use Rattle.afdx_police.specs.Arrival.{Arrival}
 use Rattle.afdx_police.specs.Rule.{Rule}
@@ -55,23 +55,23 @@ timed-of (x ∷ past) (later, rest) =
     ((λ k d lt. let most = latest-most past timed k d lt in omega (arith, most, later)), timed)
 
 module _ (t : Rows) (past : List Arrival) (ordered : DontGoBack past) where
-  run-of : IsLawful t → IsAdmitted t → IsAdmittedRun t past
+  run-of : IsLawfulSwitch t → IsAdmitted t → IsAdmittedRun t past
   run-of lawful admitted = record {
-    lawful = among_others t lawful;
+    lawful = lawful;
     admitted = admitted-serving t admitted;
     timed = timed-of past ordered;
   }
 
-  promised-of : (count : Result InputCount RunFault) (old new : Known) → IsLawful t → IsAdmitted t
+  promised-of : (count : Result InputCount RunFault) (old new : Known) → IsLawfulSwitch t → IsAdmitted t
       → Writes t past count old new → WritesPromised t past count old new
   promised-of count old new lawful admitted h =
       let run = run-of lawful admitted in
       by-more count (Appends old new (replay_text t (events_of t past))) (WritesSoFar t old new past)
       (WritesSome t old new past) (IsAsPromised t past old new (counts_of t past))
       (WritesPromisedSoFar t old new past) (WritesPromisedSome t old new past)
-      (λ written. as-promised t past old new (counts_of t past) lawful run written refl refl)
+      (λ written. as-promised t past old new (counts_of t past) run written refl refl)
       (λ written. so-far-promised t past old new run written)
-      (λ written. some-promised t past old new lawful run written) h
+      (λ written. some-promised t past old new run written) h
 
 -- ---- a replay
 

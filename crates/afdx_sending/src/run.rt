@@ -88,7 +88,7 @@ impl Sending {
 
     /// It has told nothing yet.
     fn new(alloc: Global, tables: &Admitted, system: SystemId) -> Result<Sending, AllocError>
-        requires { system.0 < length tables.now.systems }
+        requires { system.0 < tables.now.own }
         ensures { (row : SystemRow) → slice_get tables.now.systems system.0 ≡ Some row →
             (output : Option (List ℕ)) → IfOk result (λ sending.
             TellsItems (source_at tables.now system.0 row) sending output output []) }
@@ -247,7 +247,7 @@ pub(crate) fn send_into<R: Read, O: Sink>(
     input: &mut Watched<R>,
     output: &mut O,
 ) -> Result<Summary, RunFault>
-    requires system { system.0 < length tables.now.systems }
+    requires system { system.0 < tables.now.own }
     requires sound_input { has_failed input.old ≡ false }
     requires unended { has_ended input.old ≡ false }
     requires sound_output { O.failed output.old ≡ false }
@@ -286,7 +286,7 @@ pub fn run_send<R: Read, W: Write>(
     input: &mut Watched<R>,
     output: &mut Watched<W>,
 ) -> Result<Summary, RunFault>
-    requires system { system.0 < length tables.now.systems }
+    requires system { system.0 < tables.now.own }
     requires sound_input { has_failed input.old ≡ false }
     requires unended { has_ended input.old ≡ false }
     requires sound_output { has_failed output.old ≡ false }

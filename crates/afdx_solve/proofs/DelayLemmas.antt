@@ -1,6 +1,6 @@
 -- What is needed at one output port, and at one more.
 use Rattle.std.proofs.Common.{◌≡◌, ℕ, ◌+◌, ◌<◌, ◌≤◌, max, List, [], ◌∷◌, Option, Some, slice_get, refl, sym, ap}
-use Rattle.std.proofs.Common.{◌∙◌, add-one, arith, min, subst, Bool, true, false}
+use Rattle.std.proofs.Common.{◌∙◌, ◌||◌, not, nat_lt, add-one, arith, min, subst, Bool, true, false}
 use Rattle.std.specs.List.{AllByRecursion}
 use Rattle.std.specs.Option.{option_map_or}
 use Rattle.std.proofs.lemmas.Option.{same_Some}
@@ -9,13 +9,13 @@ use Rattle.afdx_frame.specs.declared.link.Priority.TheVariants.{High, Low}
 use Rattle.afdx_config.specs.declared.rows.Times.{Times}
 use Rattle.afdx_config.specs.Rows.{SystemRow, LinkRow, Rows}
 use Rattle.afdx_config.specs.Reading.{greatest_delay}
-use Rattle.afdx_config.specs.Lawful.{IsWithin, IsLink}
+use Rattle.afdx_config.specs.Lawful.{IsWithin, IsLinkAmong, jitter_from_system, jitter_from_any}
 use Rattle.afdx_config.specs.Changed.{with_times}
-use Rattle.afdx_admit.specs.Lines.{loaded_output_to, buffer_need_of}
+use Rattle.afdx_admit.specs.Lines.{loaded_output_to, buffer_need_of, jitter_at}
 use Rattle.afdx_solve.specs.declared.options.SolveOptions.{SolveOptions}
 use Rattle.afdx_solve.specs.declared.delays.Delays.{Delays}
 use Rattle.afdx_solve.specs.Solved.{class_bound, in_us, delay_to, latency_over, need_to, greatest_need}
-use Rattle.afdx_solve.specs.Solved.{chosen, with_delays_for}
+use Rattle.afdx_solve.specs.Solved.{chosen, with_delays_for, least_jitter, with_jitter_for, keeps_jitter, with_jitter}
 use Rattle.afdx_solve.specs.Delays.{AreDelays, of_class}
 
 pub delay-stands : (t : Rows) (class : Priority) (place : ℕ) (s : SystemRow) → slice_get t.systems place ≡ Some s
@@ -62,32 +62,78 @@ unfolding latency_over
 latency_over-some f [] = omega arith
 latency_over-some f (p ∷ ps) = omega (arith, latency_over-some f ps)
 
-delays-lawful : (o : SolveOptions) (needed systems : ℕ) (l : LinkRow) → 1 ≤ needed → IsLink systems l
-    → IsLink systems (with_delays_for o needed l)
-delays-lawful o needed systems l some h =
-    let latency = chosen-within o.kept.latency o.raise_only 1 greatest_delay l.latency_us (min greatest_delay needed)
-    h.latency_us (omega (arith, some), omega arith) in
-    record {
-      vl = h.vl;
-      from = h.from;
-      to = h.to;
-      to_count = h.to_count;
-      apart = h.apart;
-      bag_ms = h.bag_ms;
-      lmin = h.lmin;
-      lmax = h.lmax;
-      jitter_us = h.jitter_us;
-      latency_us = latency;
-      skew_us = chosen-within o.kept.skew o.raise_only 1 greatest_delay l.skew_us _ h.skew_us latency;
-      subs = h.subs;
-    }
+module _ (own systems : ℕ) (link : LinkRow) (h : IsLinkAmong own systems link) where
+  delays-lawful : (o : SolveOptions) (needed : ℕ) → 1 ≤ needed
+      → IsLinkAmong own systems (with_delays_for o needed link)
+  delays-lawful o needed some =
+      let latency = chosen-within o.kept.latency o.raise_only 1 greatest_delay link.latency_us
+      (min greatest_delay needed) h.link.latency_us (omega (arith, some), omega arith) in
+      record {
+        link = record {
+          vl = h.link.vl;
+          from = h.link.from;
+          to = h.link.to;
+          to_count = h.link.to_count;
+          apart = h.link.apart;
+          bag_ms = h.link.bag_ms;
+          lmin = h.link.lmin;
+          lmax = h.link.lmax;
+          jitter_us = h.link.jitter_us;
+          latency_us = latency;
+          skew_us = chosen-within o.kept.skew o.raise_only 1 greatest_delay link.skew_us _ h.link.skew_us latency;
+          subs = h.link.subs;
+        };
+        sent = h.sent;
+      }
 
-pub times-lawful : (o : SolveOptions) (times : Times) (needed systems : ℕ) (link l : LinkRow) → Some link ≡ Some l
-    → with_times times link ≡ with_delays_for o needed link → 1 ≤ needed → IsLink systems link
-    → IsLink systems (with_times times l)
-times-lawful o times needed systems link l same e some h =
-    subst (λ r. IsLink systems (with_times times r)) (same_Some link l same)
-    (subst (IsLink systems) (sym e) (delays-lawful o needed systems link some h))
+  jitter-lawful : (keep raise_only : Bool) (needed : ℕ)
+      → IsLinkAmong own systems (with_jitter_for keep raise_only needed link)
+  jitter-lawful keep raise_only needed = record {
+    link = record {
+      vl = h.link.vl;
+      from = h.link.from;
+      to = h.link.to;
+      to_count = h.link.to_count;
+      apart = h.link.apart;
+      bag_ms = h.link.bag_ms;
+      lmin = h.link.lmin;
+      lmax = h.link.lmax;
+      jitter_us = chosen-within keep raise_only 0 (jitter_from_any link.bag_ms) link.jitter_us
+          (least_jitter needed link) h.link.jitter_us (omega arith, omega arith);
+      latency_us = h.link.latency_us;
+      skew_us = h.link.skew_us;
+      subs = h.link.subs;
+    };
+    sent = λ from. (chosen-within keep raise_only 0 (jitter_from_system link.bag_ms) link.jitter_us
+        (least_jitter needed link) (omega arith, h.sent from) (omega arith, omega arith)).1;
+  }
+
+  times-are : (l new : LinkRow) (times : Times) → Some link ≡ Some l → with_times times link ≡ new
+      → IsLinkAmong own systems new → IsLinkAmong own systems (with_times times l)
+  times-are l new times same e may =
+      subst (λ r. IsLinkAmong own systems (with_times times r)) (same_Some link l same)
+      (subst (IsLinkAmong own systems) (sym e) may)
+
+  pub times-lawful : (o : SolveOptions) (times : Times) (needed : ℕ) (l : LinkRow) → Some link ≡ Some l
+      → with_times times link ≡ with_delays_for o needed link → 1 ≤ needed → IsLinkAmong own systems (with_times times l)
+  times-lawful o times needed l same e some =
+      times-are l (with_delays_for o needed link) times same e (delays-lawful o needed some)
+
+  pub jitters-lawful : (keep raise_only : Bool) (times : Times) (needed : ℕ) (l : LinkRow) → Some link ≡ Some l
+      → with_times times link ≡ with_jitter_for keep raise_only needed link
+      → IsLinkAmong own systems (with_times times l)
+  jitters-lawful keep raise_only times needed l same e =
+      times-are l (with_jitter_for keep raise_only needed link) times same e (jitter-lawful keep raise_only needed)
+
+-- while links are changed, which come from neighbours stays
+pub jitter-stands : (o : SolveOptions) (t now : Rows) (l : LinkRow) (times : Times) (needed : ℕ) → now.own ≡ t.own
+    → needed ≡ jitter_at t l.from
+    → with_times times l ≡ with_jitter_for (keeps_jitter o now l) o.raise_only needed l
+    → with_times times l ≡ with_jitter o t l
+jitter-stands o t now l times needed own is taken =
+    taken
+    ∙ ap (λ own. with_jitter_for (o.kept.jitter || not (nat_lt l.from own)) o.raise_only needed l) own
+    ∙ ap (λ n. with_jitter_for (keeps_jitter o t l) o.raise_only n l) is
 
 pub delays-of_class : (t : Rows) (d : Delays) → AreDelays t High d.high → AreDelays t Low d.low → (class : Priority)
     → AreDelays t class (of_class class d)

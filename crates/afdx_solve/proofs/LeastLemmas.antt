@@ -1,12 +1,13 @@
 -- Each key that is solved for is the least that does.
 use Rattle.std.proofs.Common.{◌≡◌, ℕ, zero, suc, ◌+◌, ◌*◌, ◌-◌, ◌<◌, ◌≤◌, min, nat_lt, nat_eq, Bool, true, false}
-use Rattle.std.proofs.Common.{cond, ◌||◌, if◌then◌else◌, List, [], ◌∷◌, length, map, Option, Some, None, slice_get}
+use Rattle.std.proofs.Common.{cond, not, ◌||◌, if◌then◌else◌, List, [], ◌∷◌, length, map, Option, Some, None, slice_get}
 use Rattle.std.proofs.Common.{Contains, refl, sym, ap, subst, ◌∙◌, arith}
 use Rattle.std.specs.Int.{div_ceil}
 use Rattle.std.specs.List.{AllByRecursion, list_any}
 use Rattle.std.specs.Option.{option_map_or}
 use Rattle.std.proofs.lemmas.Bool.{lt-ltb, eq-eqb}
 use Rattle.std.proofs.lemmas.Grind.{div_ceil_times}
+use Rattle.std.proofs.lemmas.Option.{slice_get_within}
 use Rattle.std.proofs.Math.Nat.{lt_of_mul-lt-mul_right}
 use Rattle.afdx_frame.specs.declared.link.Priority.{Priority}
 use Rattle.afdx_frame.specs.declared.link.Priority.TheVariants.{High, Low}
@@ -15,13 +16,13 @@ use Rattle.afdx_frame.specs.Flows.{Flow, of_class, is_class, burst, high_wait, l
 use Rattle.afdx_frame.proofs.ListLemmas.{AllByRecursion-slice_get, slice_get-within}
 use Rattle.afdx_config.specs.Rows.{SystemRow, LinkRow, Rows, is_to}
 use Rattle.afdx_config.specs.Flows.{flow_of_link}
-use Rattle.afdx_config.specs.Lawful.{IsSystem, IsLink, IsLawful}
+use Rattle.afdx_config.specs.Lawful.{IsSystem, IsLink, IsLawful, jitter_from_system}
 use Rattle.afdx_config.specs.Admission.{IsAdmitted, byte_ns, flows_to, links_to, links_from, sender_jitter}
 use Rattle.afdx_admit.specs.Lines.{loaded_output_to, high_bound_of, low_bound_of, buffer_need_of, jitter_at}
 use Rattle.afdx_admit.proofs.OutputLemmas.{left_some_at, rates_some}
 use Rattle.afdx_admit.proofs.SmallLemmas.{is_rate}
 use Rattle.afdx_solve.specs.declared.options.SolveOptions.{SolveOptions}
-use Rattle.afdx_solve.specs.Solved.{chosen, with_jitter, with_jitters, need_to, greatest_need, least_buffer, with_least_buffer}
+use Rattle.afdx_solve.specs.Solved.{chosen, keeps_jitter, with_jitter, with_jitters, need_to, greatest_need, least_buffer, with_least_buffer}
 use Rattle.afdx_solve.specs.Solved.{in_us, delay_to, latency_over, with_delay, with_delays, solved}
 use Rattle.afdx_solve.specs.Laws.{AreLeastJitters, IsLeastBuffer, IsInTime, AreLeastLatencies, AreLeastSkews}
 use Rattle.afdx_solve.proofs.DelayLemmas.{delay-stands}
@@ -57,18 +58,25 @@ unfolding jitter_at
 jitter_at-stands t place s at =
     ap (λ (o : Option SystemRow). option_map_or (λ r. sender_jitter (byte_ns r) (links_from t.links place)) o 0) at
 
+-- a link of the one switch doesn't come from a neighbour
+solved-jitter : (o : SolveOptions) (t : Rows) (l : LinkRow) → o.kept.jitter ≡ false → l.from < t.own
+    → keeps_jitter o t l ≡ false
+solved-jitter o t l keep from =
+    ap (λ b. b || not (nat_lt l.from t.own)) keep ∙ ap not (lt-ltb l.from t.own from)
+
 pub least_jitters : (o : SolveOptions) (t : Rows) → o.kept.jitter ≡ false → o.raise_only ≡ false
-    → AreLeastJitters (solved o t)
+    → t.own ≡ length t.systems → AreLeastJitters (solved o t)
 unfolding with_jitters with_least_buffer with_delays
-least_jitters o t keep raise = λ i l s at sender us enough.
+least_jitters o t keep raise own = λ i l s at sender us enough.
     let t2 = with_least_buffer o (with_jitters o t) in
     let x = mapped (with_delay o t2) t2.links i l at in
     let y = mapped (with_jitter o t) t.links i x.0 x.1 in
     let from : y.0.from ≡ l.from = ap (λ r. r.from) y.2 ∙ ap (λ r. r.from) x.2 in
     let jitter : l.jitter_us ≡ (with_jitter o t y.0).jitter_us =
     sym (ap (λ r. r.jitter_us) x.2) ∙ sym (ap (λ r. r.jitter_us) y.2) in
-    let taken = chosen-least o.kept.jitter o.raise_only y.0.jitter_us
-    (min (1000 * y.0.bag_ms) (div_ceil (jitter_at t y.0.from) 1000)) keep raise in
+    let of_system : y.0.from < t.own = omega (arith, from, own, slice_get_within t.systems l.from s sender) in
+    let taken = chosen-least (keeps_jitter o t y.0) o.raise_only y.0.jitter_us
+    (min (1000 * y.0.bag_ms) (div_ceil (jitter_at t y.0.from) 1000)) (solved-jitter o t y.0 keep of_system) raise in
     let needed : jitter_at t y.0.from ≡ sender_jitter (byte_ns s) (links_from (solved o t).links l.from) =
     ap (jitter_at t) from ∙ jitter_at-stands t l.from s sender
     ∙ sym (jitter-with_jitter o t (byte_ns s) t.links l.from)
@@ -201,7 +209,7 @@ left_some : (t : Rows) → IsLawful t → IsAdmitted t → (place : ℕ) (s : Sy
 left_some t lawful admitted place s stands i l at goes low =
     let row = AllByRecursion-slice_get (IsSystem t.profile) t.systems place s lawful.systems.each stands in
     left_some_at (byte_ns s) (is_rate t.profile s.rate row.rate).fast (flows_to t.links place) (flow_of_link l)
-    (rates_some (length t.systems) place t.links lawful.links.each)
+    (rates_some jitter_from_system (length t.systems) place t.links lawful.links.each)
     (admitted.ports place s stands).no_overload (low_stands place t.links i l at goes low)
 
 in_time-before : (o : SolveOptions) (t : Rows) (place ns latency : ℕ) (class : Priority)

@@ -16,7 +16,8 @@ use Rattle.afdx_config.specs.Keys as keys
 use Rattle.afdx_config.specs.Keys.{Spot, top_keys, whole, tables, all_as, tables_or_none, only_top_keys, only, are_among}
 use Rattle.afdx_config.specs.Lawful.{IsLawful, AreDistinct, IsSystem, IsLink, IsPort, triple}
 use Rattle.afdx_config.specs.Reading.{each, tables_at, system_at, link_at, port_at, system_named, system_at_port, has_id, link_of, has_port}
-use Rattle.afdx_config.specs.Rows.{SystemRow, LinkRow, PortRow, Rows}
+use Rattle.afdx_config.specs.Rows.{SystemRow, LinkRow, PortRow, Rows, rows_with}
+use Rattle.afdx_config.proofs.AmongOthersLemmas.{among_others}
 use Rattle.afdx_config.proofs.LookUpLemmas.{each_row-found}
 use Rattle.afdx_solve.specs.ConfigText.{name_at}
 use Rattle.afdx_solve.proofs.KeyLemmas.{whole-reads, tables-read}
@@ -80,7 +81,7 @@ module _ (t : Rows) (lawful : IsLawful t) where
   unfolding name_at
   systems-named i within =
       let (s, at) = slice_get-within t.systems i within in
-      rw at ((each_row-found t lawful).by_name i s at)
+      rw at ((each_row-found t (among_others t lawful)).by_name i s at)
 
   system-new : (before after : List SystemRow) (s : SystemRow) → t.systems ≡ before ++ s ∷ after → IsNewSystem before s
   unfolding system_named system_at_port has_id
@@ -198,7 +199,7 @@ module _ (t : Rows) (lawful : IsLawful t) (tree : Members)
         systems-read t lawful,
         links-read t lawful,
         ports-read t lawful,
-      )
+      ) (ap (λ n. Ok (rows_with t.profile t.buffer n t.systems t.links t.ports)) (sym lawful.own))
 
 -- the tree of lawful tables, which the text has
 abbrev pub tables_root : Rows → Nodes

@@ -2,7 +2,7 @@
 -- then the buffer, then each link's latency from the bounds at all its ports, then its skew; each
 -- from those before it.
 use Rattle.std.specs.Prelude.{ℕ, zero, suc, min, max, Bool, List, [], ◌∷◌, length, map, Option}
-use Rattle.std.specs.Prelude.{Some, None, slice_get, if◌then◌else◌}
+use Rattle.std.specs.Prelude.{Some, None, slice_get, if◌then◌else◌, ◌||◌, not, nat_lt}
 use Rattle.std.specs.Int.{div_ceil}
 use Rattle.std.specs.Option.{option_map_or}
 use Rattle.afdx_frame.specs.declared.link.Priority.{Priority}
@@ -26,12 +26,16 @@ chosen keep raise_only as_is least =
 abbrev pub least_jitter : ℕ → LinkRow → ℕ
 least_jitter needed l = min (jitter_from_system l.bag_ms) (div_ceil needed 1000)
 
-abbrev pub with_jitter_for : SolveOptions → ℕ → LinkRow → LinkRow
-with_jitter_for o needed l =
-    record l { jitter_us = chosen o.kept.jitter o.raise_only l.jitter_us (least_jitter needed l) }
+abbrev pub with_jitter_for : (keep raise_only : Bool) → ℕ → LinkRow → LinkRow
+with_jitter_for keep raise_only needed l =
+    record l { jitter_us = chosen keep raise_only l.jitter_us (least_jitter needed l) }
+
+-- a link that comes from a neighbour keeps its jitter
+abbrev pub keeps_jitter : SolveOptions → Rows → LinkRow → Bool
+keeps_jitter o t l = o.kept.jitter || not (nat_lt l.from t.own)
 
 abbrev pub with_jitter : SolveOptions → Rows → LinkRow → LinkRow
-with_jitter o t l = with_jitter_for o (jitter_at t l.from) l
+with_jitter o t l = with_jitter_for (keeps_jitter o t l) o.raise_only (jitter_at t l.from) l
 
 unfoldable pub with_jitters : SolveOptions → Rows → Rows
 with_jitters o t = record t { links = map (with_jitter o t) t.links }

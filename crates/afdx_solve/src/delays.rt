@@ -5,7 +5,7 @@ ghost use Rattle.std.specs.List.{AllByRecursion};
 ghost use Rattle.afdx_frame.specs.Ports.{last_port};
 ghost use Rattle.afdx_config.specs.Rows.{LinkRow, link_row, system_places};
 ghost use Rattle.afdx_config.specs.Changed.{with_times};
-ghost use Rattle.afdx_config.specs.Lawful.{IsLink};
+ghost use Rattle.afdx_config.specs.Lawful.{IsLinkAmong};
 ghost use Rattle.afdx_solve.specs.Delays.{AreDelays};
 ghost use Rattle.afdx_solve.specs.Delays as spec_delays;
 ghost use Rattle.afdx_solve.specs.Solved as spec;
@@ -117,7 +117,7 @@ fn times_at(tables: &Tables, delays: &Delays, options: SolveOptions, index: usiz
         with_times result l ≡ spec.with_delays_for options
         (spec.latency_over (slice_index (spec_delays.of_class l.priority delays.now)) l.to) l }
     ensures lawful { (l : LinkRow) → slice_get tables.now.links index ≡ Some l →
-        IsLink (length tables.now.systems) (with_times result l) }
+        IsLinkAmong tables.now.own (length tables.now.systems) (with_times result l) }
 {
     let link = tables.link(index);
     times_of(link, delays.of_class(link.priority), options)

@@ -3,7 +3,7 @@
 ghost use Rattle.std.specs.Prelude.{◌≡◌, ◌++◌, ◌<◌, length, map, string_bytes, IfOk, OnOk, codes};
 ghost use Rattle.std.specs.List.{AllByRecursion, flat_map};
 ghost use Rattle.afdx_config.specs.Rows.{AreKnown, system_row, link_row, port_row, system_places};
-ghost use Rattle.afdx_config.specs.Lawful.{IsLink, IsPort};
+ghost use Rattle.afdx_config.specs.Lawful.{IsLinkUpTo, IsPort, jitter_from_any};
 ghost use Rattle.afdx_config.specs.Reading.{Spells};
 ghost use Rattle.afdx_solve.specs.ConfigText.{number_line, text_line, texts_line, header, listed};
 ghost use Rattle.afdx_solve.specs.ConfigText.{class_word, policing_word, kind_word, name_at};
@@ -88,7 +88,7 @@ fn put_names(text: &mut String, tables: &Tables, systems: &[SystemId]) -> Result
 /// Adds the receivers of a link.
 #[tactic(auto, unfolding(crate::specs::ConfigText::texts_line), using(std::proofs::Common::append_assoc))]
 fn put_receivers(text: &mut String, tables: &Tables, link: &Link) -> Result<(), AllocError>
-    requires { IsLink (length tables.now.systems) (link_row link.now) }
+    requires { IsLinkUpTo jitter_from_any (length tables.now.systems) (link_row link.now) }
     ensures { OnOk result (string_bytes text.new ≡ string_bytes text.old
         ++ texts_line (codes "to") (map (name_at tables.now.systems) (link_row link.now).to)) }
 {
@@ -100,7 +100,7 @@ fn put_receivers(text: &mut String, tables: &Tables, link: &Link) -> Result<(), 
 /// Adds who sends a link to whom.
 #[tactic(auto, using(std::proofs::Common::append_assoc))]
 fn put_way(text: &mut String, tables: &Tables, link: &Link) -> Result<(), AllocError>
-    requires { IsLink (length tables.now.systems) (link_row link.now) }
+    requires { IsLinkUpTo jitter_from_any (length tables.now.systems) (link_row link.now) }
     ensures { OnOk result (string_bytes text.new
         ≡ string_bytes text.old ++ way_text tables.now.systems (link_row link.now)) }
 {
@@ -157,7 +157,7 @@ fn put_treatment(text: &mut String, link: &Link) -> Result<(), AllocError>
 /// Adds a link.
 #[tactic(auto, unfolding(crate::specs::ConfigText::link_text), using(std::proofs::Common::append_assoc))]
 fn put_link(text: &mut String, tables: &Tables, link: &Link) -> Result<(), AllocError>
-    requires { IsLink (length tables.now.systems) (link_row link.now) }
+    requires { IsLinkUpTo jitter_from_any (length tables.now.systems) (link_row link.now) }
     ensures { OnOk result (string_bytes text.new
         ≡ string_bytes text.old ++ link_text tables.now.systems (link_row link.now)) }
 {
@@ -229,11 +229,13 @@ fn put_ports(text: &mut String, tables: &Tables) -> Result<(), AllocError>
 }
 
 /// The text of a configuration with these tables, in one layout: the keys of each table in the
-/// order of their numbers. It reads back as these tables.
+/// order of their numbers. It reads back as these tables, if none of what stands at the ports is a
+/// neighbour.
 #[tactic(auto, using(std::proofs::Common::append_assoc))]
 pub fn config_text(alloc: Global, tables: &Tables) -> Result<String, AllocError>
     ensures text { IfOk result (λ text. string_bytes text ≡ config_text tables.now) }
-    ensures spells { IfOk result (λ text. Spells (string_bytes text) tables.now) }
+    ensures spells { tables.now.own ≡ length tables.now.systems →
+        IfOk result (λ text. Spells (string_bytes text) tables.now) }
 {
     let mut text = String::new(alloc);
     put_number(&mut text, "profile", tables.profile())?;

@@ -102,6 +102,14 @@ fn counts(tables: &Tables) -> (u64, u64, usize, usize, usize) {
     (profile, buffer, systems, links, coms)
 }
 
+/// How many systems there are, whether one stands at a place, and which one hears at a port.
+fn own(tables: &Tables) -> (usize, bool, Option<SystemId>) {
+    let count: usize = tables.own_count();
+    let is_own: bool = tables.is_own(SystemId(3));
+    let listener: Option<SystemId> = tables.listener_at(1);
+    (count, is_own, listener)
+}
+
 /// What is found by a name, a port and an identifier.
 fn found(tables: &Tables) -> (Option<SystemId>, Option<SystemId>, Option<usize>) {
     let named: Option<SystemId> = tables.system_named("s2");
@@ -115,6 +123,7 @@ fn tables(rt: HostRuntime) -> Result<(), Fail> {
     let tables = tables_of(rt.alloc(), base().as_bytes())?;
     equal(counts(&tables), (1, 252, 3, 2, 2))?;
     let (second, third) = (Some(SystemId(1)), Some(SystemId(2)));
+    equal(own(&tables), (3, false, Some(SystemId(0))))?;
     equal(found(&tables), (second, third, Some(1)))
 }
 

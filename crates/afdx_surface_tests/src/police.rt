@@ -13,6 +13,16 @@ fn rule() -> Option<LinkRule> {
     rule
 }
 
+/// Whether a link that comes from another switch may have a jitter of its gap and 100 ms.
+fn may_be_late() -> bool {
+    let (vl, port, policing): (VlId, u8, Policing) = (VlId(1), 1, Policing::Byte);
+    let (bag_ms, lmin, lmax, jitter_us): (u64, u64, u64, u64) = (1, 64, 64, 101_000);
+    let rule: Option<LinkRule> = LinkRule::after_cable(
+        vl, port, bag_ms, lmin, lmax, jitter_us, policing,
+    );
+    rule.is_some()
+}
+
 /// What a frame of 84 bytes on the wire is charged.
 fn charged<C: Charge>() -> u64 {
     let (smax, wire): (u64, u64) = (1538, 84);
@@ -34,6 +44,7 @@ fn is_taken<C: Charge>(rule: &LinkRule) -> bool {
 #[test]
 fn verdicts() -> Result<(), Fail> {
     let rule: LinkRule = rule().ok_or("a rule")?;
+    equal(may_be_late(), true)?;
     let policing: Policing = rule.policing();
     let bytes: &[u8] = &hello(0);
     let port: u8 = 2;

@@ -2,7 +2,7 @@
 -- those of the definition of an output port.
 use Rattle.std.specs.Prelude.{ℕ, ◌≡◌, List, length, Option, Result, Ok, Err}
 use Rattle.std.specs.Io.KnownBytes.{Appends}
-use Rattle.afdx_config.specs.Lawful.{IsLawful}
+use Rattle.afdx_config.specs.Lawful.{IsLawfulSwitch}
 use Rattle.afdx_config.specs.Rows.{Rows}
 use Rattle.afdx_police.specs.Arrival.{Arrival}
 use Rattle.afdx_lists.specs.Lines.{lines_of}
@@ -57,6 +57,6 @@ DefinedAnswers t bytes rest old new (Err fault) =
 abbrev pub RunsAreByDefinition : Type 0
 RunsAreByDefinition = (t : Rows) (bytes : List ℕ) (rest old new : Option (List ℕ))
     (r : Result Summary RunFault) →
-    IsLawful t →
+    IsLawfulSwitch t →
     Answers t bytes rest old new r →
     DefinedAnswers t bytes rest old new r

@@ -2,7 +2,7 @@
 use Rattle.std.specs.Prelude.{ℕ, ◌≡◌, Bool, true, List, Option, Some, None, Result, Ok, Err}
 use Rattle.std.specs.Io.KnownBytes.{Appends}
 use Rattle.afdx_config.specs.Admission.{IsAdmitted}
-use Rattle.afdx_config.specs.Lawful.{IsLawful}
+use Rattle.afdx_config.specs.Lawful.{IsLawful, IsLawfulSwitch}
 use Rattle.afdx_config.specs.Reading.{Spells}
 use Rattle.afdx_config.specs.Rows.{Rows}
 use Rattle.afdx_police.specs.Arrival.{Arrival}
@@ -59,7 +59,7 @@ pub record Replays (t : Rows) (takes hears : Taking) (old new : Known)
   pub taken : takes past count
   pub answered : answer ≡ answer_of (counts_of t past) count
   pub written : Writes t past count old new
-  pub promised : IsLawful t → IsAdmitted t → WritesPromised t past count old new
+  pub promised : IsLawfulSwitch t → IsAdmitted t → WritesPromised t past count old new
   pub heard : hears past count
 
 -- a run in the tables that the configuration spells, which are admitted if that is asked for

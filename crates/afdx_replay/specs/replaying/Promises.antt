@@ -1,7 +1,6 @@
 -- The text of a replay of tables that are admitted: that of lines which keep the promises. A list
 -- of lines has the latest first.
 use Rattle.std.specs.Prelude.{◌≡◌, ℕ, ◌+◌, ◌<◌, false, Some, Ok, List, [], ◌∷◌, ◌++◌, slice_index_or}
-use Rattle.afdx_config.specs.Lawful.{IsLawful}
 use Rattle.afdx_config.specs.Rows.{Rows}
 use Rattle.afdx_police.specs.Arrival.{Arrival}
 use Rattle.afdx_switch.specs.Admitted.{IsAdmittedRun}
@@ -60,8 +59,7 @@ pub record TellsPromisesSoFar (t : Rows) (arrivals : List Arrival) (text : List 
 
 -- what a replay of admitted tables tells
 abbrev pub ReplayIsAsPromised : Type 0
-ReplayIsAsPromised = (t : Rows) (arrivals : List Arrival) → IsLawful t →
-    IsAdmittedRun t arrivals →
+ReplayIsAsPromised = (t : Rows) (arrivals : List Arrival) → IsAdmittedRun t arrivals →
     TellsPromises t arrivals (replay_text t (events_of t arrivals))
 
 abbrev pub ReplaySoFarIsAsPromised : Type 0

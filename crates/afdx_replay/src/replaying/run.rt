@@ -7,7 +7,7 @@ ghost use Rattle.afdx_frame.specs.Seals.{IsSealedAs};
 ghost use Rattle.afdx_frame.specs.Times.{latest_listed};
 ghost use Rattle.afdx_lists.specs.Lines.{most_reads};
 ghost use Rattle.afdx_engine.specs.Items.{most_frames};
-ghost use Rattle.afdx_config.specs.Lawful.{IsLawful};
+ghost use Rattle.afdx_config.specs.Lawful.{IsLawfulSwitch};
 ghost use Rattle.afdx_config.specs.Rows.{Rows};
 ghost use Rattle.afdx_police.specs.Arrival.{Arrival};
 ghost use Rattle.afdx_lists.specs.Calls.{AppendsFront, is_failed_read, is_failed_write};
@@ -270,7 +270,8 @@ pub fn run_unadmitted<R: Read, W: Write>(
         (W.contents (device_of output.old)) (W.contents (device_of output.new)) result) }
 
     // And what is written is the text of events that are those of the definition of an output port.
-    ensures defined { IsLawful tables.now → IfSome (R.remaining (device_of input.old)) (λ bytes.
+    ensures defined { IsLawfulSwitch tables.now →
+        IfSome (R.remaining (device_of input.old)) (λ bytes.
         DefinedAnswers tables.now bytes (R.remaining (device_of input.new))
         (W.contents (device_of output.old)) (W.contents (device_of output.new)) result) }
 {

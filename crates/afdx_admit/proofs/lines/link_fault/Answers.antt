@@ -11,7 +11,8 @@ unfolding link_lines
 returns-then-not-allows_jitter-clause-fault c =
     let t = c.args.tables.now in
     let l = link_row c.link-link.result.now in
-    let same : slice_index c.args.jitters.now l.from ≡ jitter_at t l.from = c.requires.jitters.each l.from c.link-link.ensures.lawful_row.from in
+    let same : slice_index c.args.jitters.now l.from ≡ jitter_at t l.from =
+    c.requires.jitters.each l.from c.link-link.ensures.lawful_row.from in
     let late : allows_jitter t (jitter_at t l.from) l ≡ false = subst (λ n. allows_jitter t n l ≡ false) same
     (sym c.allows_jitter.ensures ∙ cc c.if-not-allows_jitter.true) in
     ap (λ n. Some (LinkJitter (record { 0 = l.vl }) n)) same
@@ -25,7 +26,8 @@ unfolding link_lines
 returns-then-link-clause-fault c =
     let t = c.args.tables.now in
     let l = link_row c.link-link.result.now in
-    let same : slice_index c.args.jitters.now l.from ≡ jitter_at t l.from = c.requires.jitters.each l.from c.link-link.ensures.lawful_row.from in
+    let same : slice_index c.args.jitters.now l.from ≡ jitter_at t l.from =
+    c.requires.jitters.each l.from c.link-link.ensures.lawful_row.from in
     let soon : allows_jitter t (jitter_at t l.from) l ≡ true = subst (λ n. allows_jitter t n l ≡ true) same
     (sym c.allows_jitter.ensures ∙ cc c.if-not-allows_jitter.false) in
     let skewed : nat_le l.latency_us l.skew_us ≡ false = le-false l.latency_us l.skew_us (omega arith) in
@@ -40,7 +42,8 @@ unfolding link_lines
 returns-else-link-clause-fault c =
     let t = c.args.tables.now in
     let l = link_row c.link-link.result.now in
-    let same : slice_index c.args.jitters.now l.from ≡ jitter_at t l.from = c.requires.jitters.each l.from c.link-link.ensures.lawful_row.from in
+    let same : slice_index c.args.jitters.now l.from ≡ jitter_at t l.from =
+    c.requires.jitters.each l.from c.link-link.ensures.lawful_row.from in
     let soon : allows_jitter t (jitter_at t l.from) l ≡ true = subst (λ n. allows_jitter t n l ≡ true) same
     (sym c.allows_jitter.ensures ∙ cc c.if-not-allows_jitter.false) in
     let even : nat_le l.latency_us l.skew_us ≡ true = le-true l.latency_us l.skew_us (omega arith) in

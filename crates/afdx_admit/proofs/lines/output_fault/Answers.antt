@@ -57,7 +57,8 @@ returns-in-Some-first_late-clause-fault c =
     omega (arith, s.sums.burst, c.buffer.ensures.buffer) in
     let wait = c.low_wait-wait.ensures o s.sums in
     let soon : first_late (high_wait o.byte_ns o.flows) byte_units (of_class High o.flows) ≡ None =
-    high-late o c.sums_to-sums.result s.sums c.high_wait-wait.result (c.high_wait-wait.ensures o s.sums) ∙ sym c.first_late.ensures ∙ ap (option_map (λ v. v.0))
+    high-late o c.sums_to-sums.result s.sums c.high_wait-wait.result (c.high_wait-wait.ensures o s.sums)
+    ∙ sym c.first_late.ensures ∙ ap (option_map (λ v. v.0))
     (none_of c.first_late.result c.in_default.not-Some) in
     let late : first_late (low_wait o.byte_ns o.flows) (byte_units - high_load o.byte_ns o.flows)
     (of_class Low o.flows) ≡ Some c.in-Some-first_late.vl.0 =
@@ -81,7 +82,8 @@ returns-in-None-clause-fault c =
     omega (arith, s.sums.burst, c.buffer.ensures.buffer) in
     let wait = c.low_wait-wait.ensures o s.sums in
     let soon : first_late (high_wait o.byte_ns o.flows) byte_units (of_class High o.flows) ≡ None =
-    high-late o c.sums_to-sums.result s.sums c.high_wait-wait.result (c.high_wait-wait.ensures o s.sums) ∙ sym c.first_late.ensures ∙ ap (option_map (λ v. v.0))
+    high-late o c.sums_to-sums.result s.sums c.high_wait-wait.result (c.high_wait-wait.ensures o s.sums)
+    ∙ sym c.first_late.ensures ∙ ap (option_map (λ v. v.0))
     (none_of c.first_late.result c.in_default.not-Some) in
     let late : first_late (low_wait o.byte_ns o.flows) (byte_units - high_load o.byte_ns o.flows)
     (of_class Low o.flows) ≡ None =

@@ -1,5 +1,5 @@
-use Rattle.std.proofs.Common.{◌≡◌, ◌++◌, List, ℕ, ◌∙◌, ap, subst}
-use Rattle.std.specs.Prelude.{OnOk, is_some, string_bytes}
+use Rattle.std.proofs.Common.{◌≡◌, ◌++◌, List, ℕ, subst}
+use Rattle.std.specs.Prelude.{OnOk, string_bytes}
 use Rattle.afdx_commands.proofs.SolveLemmas.{at_system, at_no_system, at_unused}
 use Rattle.afdx_commands.proofs.solve_command.put_needs_at.Goals as goal
 

@@ -1,7 +1,7 @@
 use Rattle.std.proofs.Common.{◌≡◌, ◌<◌, ◌≤◌, length, slice_get, slice_index, Some, ap, ◌∙◌, arith}
 use Rattle.afdx_frame.proofs.ListLemmas.{AllByRecursion-slice_get, slice_get-within}
 use Rattle.afdx_config.specs.Rows.{Rows}
-use Rattle.afdx_config.specs.Lawful.{IsLink}
+use Rattle.afdx_config.specs.Lawful.{IsLinkUpTo, jitter_from_any}
 use Rattle.afdx_solve.specs.declared.delays.Delays.{Delays}
 use Rattle.afdx_solve.specs.Delays.{of_class}
 use Rattle.afdx_solve.specs.Solved.{with_delay, with_delays_for, with_delays, delay_to, latency_over}
@@ -40,7 +40,8 @@ loop-i-preserved c =
     let l = row.0 in
     let here : slice_get c.loop-i.tables.links i ≡ Some l =
     ap (λ (r : Rows). slice_get r.links i) c.loop-i.invariant ∙ get-first f i t.links ∙ row.1 in
-    let lawful = AllByRecursion-slice_get (IsLink (length t.systems)) t.links i l c.link_count-count.ensures.lawful.links.each row.1 in
+    let lawful = AllByRecursion-slice_get (IsLinkUpTo jitter_from_any (length t.systems)) t.links i l
+    c.link_count-count.ensures.lawful.links.each row.1 in
     let d : Delays = record { high = c.delays_of.result; low = c.delays_of-2.result } in
     let kept = delays-of_class t d c.delays_of.ensures c.delays_of-2.ensures l.priority in
     let needed : latency_over (slice_index (of_class l.priority d)) l.to ≡ latency_over (delay_to t l.priority) l.to =

@@ -1,9 +1,10 @@
 use Rattle.std.proofs.Common.{◌≡◌, ◌<◌, ◌≤◌, length, slice_get, slice_index, Some, ap, ◌∙◌, arith}
 use Rattle.afdx_frame.proofs.ListLemmas.{AllByRecursion-slice_get, slice_get-within}
 use Rattle.afdx_config.specs.Rows.{Rows}
-use Rattle.afdx_config.specs.Lawful.{IsLink}
+use Rattle.afdx_config.specs.Lawful.{IsLinkUpTo, jitter_from_any}
 use Rattle.afdx_admit.specs.Lines.{jitter_at}
-use Rattle.afdx_solve.specs.Solved.{with_jitter, with_jitter_for, with_jitters}
+use Rattle.afdx_solve.specs.Solved.{with_jitter, with_jitters}
+use Rattle.afdx_solve.proofs.DelayLemmas.{jitter-stands}
 use Rattle.afdx_solve.proofs.StageLemmas.{none_changed, get-first, length-first, stage-next, stage-done}
 use Rattle.afdx_solve.proofs.jitters.set_jitters.Goals as goal
 
@@ -38,12 +39,14 @@ loop-i-preserved c =
     let l = row.0 in
     let here : slice_get c.loop-i.tables.links i ≡ Some l =
     ap (λ (r : Rows). slice_get r.links i) c.loop-i.invariant ∙ get-first f i t.links ∙ row.1 in
-    let lawful = AllByRecursion-slice_get (IsLink (length t.systems)) t.links i l
+    let lawful = AllByRecursion-slice_get (IsLinkUpTo jitter_from_any (length t.systems)) t.links i l
     c.sender_jitters-jitters.ensures.lawful.links.each row.1 in
     let needed : slice_index c.sender_jitters-jitters.result l.from ≡ jitter_at t l.from =
     c.sender_jitters-jitters.ensures.jitters.each l.from lawful.from in
     stage-next f t c.loop-i.tables c.set_times.new.self i c.times_at-times.result l c.loop-i.invariant row.1
-    (c.times_at-times.ensures.changed l here ∙ ap (λ n. with_jitter_for c.args.options n l) needed)
+    (jitter-stands c.args.options t c.loop-i.tables l c.times_at-times.result
+    (slice_index c.sender_jitters-jitters.result l.from) (ap (λ (r : Rows). r.own) c.loop-i.invariant) needed
+    (c.times_at-times.ensures.changed l here))
     c.set_times.ensures.changed
 
 pub returns : goal.returns
