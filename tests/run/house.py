@@ -8,6 +8,8 @@
 - Each piece of code in docs/LIBRARIES.md is a part of a file of afdx_surface_tests, white space
   aside.
 - The pages that bin/pages prints from the sources are as it prints them.
+- Each link of a page leads to a file or a heading that is there; the rows of a table have as many
+  columns as its heading.
 - The conditions of admission and the refusals of messages in documents by hand are those of
   docs/FORMATS.md, and the texts of the faults of lists and recordings those of its tables.
 - Each must-fail edit finds the text that it changes, once.
@@ -29,6 +31,7 @@ TOP = pathlib.Path(__file__).resolve().parent.parent.parent
 sys.path.insert(0, str(TOP / "tests" / "lib"))
 
 import closed_lists as lists  # noqa: E402
+import links  # noqa: E402
 
 CRATES = TOP / "crates"
 DOCUMENTS = ["README.md", "docs/PROMISES.md", "docs/ARCHITECTURE.md", "docs/DEVELOPING.md"]
@@ -217,6 +220,8 @@ def main() -> int:
     checks = {
         "names in documents": wrong_names(),
         "pages printed from the sources": other_pages(),
+        "links of pages": links.dead_links(),
+        "tables of pages": links.uneven_rows(),
         "code in LIBRARIES": foreign_code(),
         "closed lists": lists_apart(),
         "must-fail edits": wrong_edits(),
