@@ -89,7 +89,8 @@ impl Sending {
     /// It has told nothing yet.
     fn new(alloc: Global, tables: &Admitted, system: SystemId) -> Result<Sending, AllocError>
         requires { system.0 < tables.now.own }
-        ensures { (row : SystemRow) → slice_get tables.now.systems system.0 ≡ Some row →
+        ensures within { OnOk result (system.0 < length tables.now.systems) }
+        ensures told { (row : SystemRow) → slice_get tables.now.systems system.0 ≡ Some row →
             (output : Option (List ℕ)) → IfOk result (λ sending.
             TellsItems (source_at tables.now system.0 row) sending output output []) }
     {

@@ -19,9 +19,9 @@ returns-in_err-sending-clause-answer g c row is =
 
 pub run_list-requires-clause-told : goal.run_list-requires-clause-told
 run_list-requires-clause-told g c =
-    let at = row-at c.args.tables.now.systems c.args.system.0 c.requires.system in (
+    let at = row-at c.args.tables.now.systems c.args.system.0 c.in_ok-sending.ensures.within in (
       source_at c.args.tables.now c.args.system.0 at.0,
-      c.in_ok-sending.ensures at.0 at.1 (g.O.Sink.written c.args.output.now),
+      c.in_ok-sending.ensures.told at.0 at.1 (g.O.Sink.written c.args.output.now),
     )
 
 pub returns-in_err-lines-clause-answer : goal.returns-in_err-lines-clause-answer
@@ -35,7 +35,7 @@ returns-in_err-lines-clause-answer g c row is =
     (g.R.Read.remaining c.args.input.now.inner) (g.R.Read.remaining c.run_list.new.input.inner)
     c.in_err-lines.field-0.0
     (λ past h. (are-so-far s _ _ _ _ _ _ h.told, are-some s _ _ _ _ _ _ h.told)) (λ past h. h)
-    (c.in_err-lines.ensures.answer s (c.in_ok-sending.ensures row is old)) in
+    (c.in_err-lines.ensures.answer s (c.in_ok-sending.ensures.told row is old)) in
     search rules
 
 pub returns-clause-answer : goal.returns-clause-answer
@@ -48,5 +48,5 @@ returns-clause-answer g c row is =
     (answers-ok submissions (thing_of submissions submission_of) (TellsAll s sending old new)
     (TellsItems s sending old new) (BeginsItems s old new) (WritesEvents s sending.counts old new)
     (g.R.Read.remaining c.args.input.now.inner) (g.R.Read.remaining c.run_list.new.input.inner)
-    c.in_ok-lines.lines (λ past h. h) (c.in_ok-lines.ensures.answer s (c.in_ok-sending.ensures row is old)))
+    c.in_ok-lines.lines (λ past h. h) (c.in_ok-lines.ensures.answer s (c.in_ok-sending.ensures.told row is old)))
     (λ past h. h) refl
