@@ -81,7 +81,7 @@ fn ran_police(alloc: Global, rule: &LinkRule) -> Result<[u64; 7], RunFault> {
 
 /// What `run_send` counts in an empty list.
 fn ran_send(alloc: Global, tables: &Admitted, system: SystemId) -> Result<[u64; 7], RunFault>
-    requires { system.0 < length tables.now.systems }
+    requires { system.0 < tables.now.own }
 {
     let mut input = empty_list();
     let mut output = new_output(alloc);
@@ -222,7 +222,7 @@ fn runs(rt: HostRuntime) -> Result<(), Fail> {
 fn admitted_runs(rt: HostRuntime) -> Result<(), Fail> {
     let tables = admitted(rt.alloc(), base())?;
     equal(ran(rt.alloc(), &tables)?, ([0; 7], (false, true), 0))?;
-    if tables.tables().system_count() < 1 {
+    if tables.tables().own_count() < 1 {
         return Err("a system".into());
     }
     equal(ran_send(rt.alloc(), &tables, SystemId(0))?, [0; 7])

@@ -34,7 +34,7 @@ fn parts(emission: &Emission) -> (u64, VlId, usize, usize) {
 
 /// A sender of the first system.
 fn new_sender(alloc: Global, tables: &Admitted) -> Result<Sender, AllocError>
-    requires { 0 < length tables.now.systems }
+    requires { 0 < tables.now.own }
     ensures quiet { IfOk result (λ w. IsQuiet w 0) }
     ensures clock { IfOk result (λ w. last_time w ≡ 0) }
 {
@@ -44,7 +44,7 @@ fn new_sender(alloc: Global, tables: &Admitted) -> Result<Sender, AllocError>
 
 /// What is emitted of a message by 6,720 ns.
 fn emitted(alloc: Global, tables: &Admitted) -> Result<Option<Emission>, Fail>
-    requires { 0 < length tables.now.systems }
+    requires { 0 < tables.now.own }
 {
     let mut sender = new_sender(alloc, tables)?;
     let (time, sub, udp): (u64, u8, u16) = (0, 1, 1000);
@@ -59,7 +59,7 @@ fn emitted(alloc: Global, tables: &Admitted) -> Result<Option<Emission>, Fail>
 #[test]
 fn emissions(rt: HostRuntime) -> Result<(), Fail> {
     let tables = admitted(rt.alloc(), base())?;
-    if tables.tables().system_count() == 0 {
+    if tables.tables().own_count() == 0 {
         return Err("a system".into());
     }
     let emission = emitted(rt.alloc(), &tables)?.ok_or("an emission")?;

@@ -15,7 +15,7 @@ use std::test::Fail;
 type Sent = (Result<Summary, RunFault>, Vec<u8>);
 
 fn sent_from(alloc: Global, tables: &Admitted, system: SystemId, list: &str) -> Sent
-    requires { system.0 < length tables.now.systems }
+    requires { system.0 < tables.now.own }
 {
     let mut input = Watched::new(list.as_bytes());
     let mut output = Watched::new(Vec::new(alloc));
@@ -25,7 +25,7 @@ fn sent_from(alloc: Global, tables: &Admitted, system: SystemId, list: &str) -> 
 
 /// Fails where no system has this place.
 fn sent_in(alloc: Global, tables: &Admitted, system: u8, list: &str) -> Result<Sent, Fail> {
-    if usize::from(system) < tables.tables().system_count() {
+    if usize::from(system) < tables.tables().own_count() {
         Ok(sent_from(alloc, tables, SystemId(system), list))
     } else {
         Err("system".into())

@@ -195,7 +195,7 @@ fn play(sender: &mut Sender, steps: &[(u64, Step)]) -> Result<Option<usize>, All
 
 /// The sender of the first system. Where memory is refused, it is made again.
 fn new_sender(alloc: Global, tables: &Admitted) -> Result<Sender, AllocError>
-    requires { 0 < length tables.now.systems }
+    requires { 0 < tables.now.own }
     ensures { IfOk result (λ s. last_time s ≡ 0) }
 {
     match Sender::new(alloc, tables, SystemId(0)) {
@@ -210,7 +210,7 @@ fn play_anew(
     tables: &Admitted,
     steps: &[(u64, Step)],
 ) -> Result<Option<usize>, Fail> {
-    if tables.tables().system_count() == 0 {
+    if tables.tables().own_count() == 0 {
         return Err("a system".into());
     }
     let mut sender = new_sender(alloc, tables)?;
