@@ -105,7 +105,7 @@ class Reader:
         return found
 
     def each(self, end: str, take) -> None:
-        """What stands between brackets or braces, with commas between and maybe behind."""
+        """What stands between brackets or braces, with commas between and maybe after."""
         self.skip()
         while not self.takes(end):
             take()

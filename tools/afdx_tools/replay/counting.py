@@ -110,8 +110,8 @@ class Counting:
 
     def ends_by(self, keys: np.ndarray, count: int) -> np.ndarray:
         """For each key the copies by what their receivers did."""
-        told = self.events.end != NOT_YET
-        return tally(keys[told], self.events.end[told], count, len(self.events.ends.names))
+        known = self.events.end != NOT_YET
+        return tally(keys[known], self.events.end[known], count, len(self.events.ends.names))
 
     def late_by(self, keys: np.ndarray, count: int) -> np.ndarray:
         """For each key the copies that took longer than their link's configured latency."""

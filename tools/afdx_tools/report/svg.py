@@ -77,7 +77,12 @@ def titled(shape: str, words: str) -> str:
 
 
 def picture(
-    name: str, height: float, parts: Sequence[str], label: str, told: str, kind: str = "shown"
+    name: str,
+    height: float,
+    parts: Sequence[str],
+    label: str,
+    description: str,
+    kind: str = "shown",
 ) -> str:
     """The parts as one picture, with a label and its numbers for those who can't see it; of the
     kind `screen` it isn't on paper."""
@@ -85,7 +90,7 @@ def picture(
         f'<svg viewBox="0 0 {WIDTH} {height:.0f}" class="{kind}" role="img" '
         f'aria-labelledby="{name}-label {name}-numbers">'
         f'<title id="{name}-label">{escape(label)}</title>'
-        f'<desc id="{name}-numbers">{escape(told)}</desc>' + "".join(parts) + "</svg>"
+        f'<desc id="{name}-numbers">{escape(description)}</desc>' + "".join(parts) + "</svg>"
     )
 
 
