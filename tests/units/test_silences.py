@@ -11,7 +11,7 @@ except ModuleNotFoundError:
 from afdx_tools.replay.copies import Offset, clock_of, is_alike, offset_of, offsets_of, pairs_of
 from afdx_tools.replay.copies import skews_at_inputs
 from afdx_tools.replay.silence import Silences, usual_gap
-from afdx_tools.replay.traffic import jitters, traffic_of
+from afdx_tools.replay.traffic import Traffic, jitters, traffic_of
 from small_replay import LINKS, MS, accepted, arrival
 
 
@@ -102,7 +102,7 @@ class Arrivals(unittest.TestCase):
         needed = jitters(LINKS[1], np.array([0, 0]), np.array([63, 63]))  # 83 / 120 of 4 ms, twice
         self.assertEqual(needed.tolist(), [0, 1_533_334])
 
-    def traffic(self, numbers: list[int], times: list[int] | None = None):
+    def traffic(self, numbers: list[int], times: list[int] | None = None) -> Traffic:
         """Link 10 on side A, a frame each 8 ms if no times are given."""
         moments = times or [n * 8 * MS for n in range(len(numbers))]
         lines = [arrival(time, "A", 10, n) for time, n in zip(moments, numbers)]

@@ -7,6 +7,7 @@ from typing import Callable, Sequence
 from afdx_tools.report.svg import (
     LATE,
     WIDTH,
+    Scale,
     box,
     decade_ticks,
     diamond,
@@ -43,7 +44,7 @@ def latency_in_words(row: Row) -> str:
     )
 
 
-def side_bar(row: Row, y: float, place) -> str:
+def side_bar(row: Row, y: float, place: Scale) -> str:
     """One side's copies: least to greatest as a bar, median and 99 percent marked; what is over the
     configured latency is thicker."""
     least, greatest = place(row["least_ns"]), place(row["greatest_ns"])
@@ -56,7 +57,7 @@ def side_bar(row: Row, y: float, place) -> str:
     return titled(shapes, latency_in_words(row)) + text(LEFT - 10, y + 3.5, row["side"], "small")
 
 
-def latency_row(pair: Sequence[Row], y: float, place) -> list[str]:
+def latency_row(pair: Sequence[Row], y: float, place: Scale) -> list[str]:
     """One link at one port: both sides, bound and configured latency, the margin between."""
     row = max(pair, key=lambda one: one["share"])
     is_late = any(one["late"] for one in pair)
@@ -123,7 +124,7 @@ def latencies(pairs: Sequence[Sequence[Row]], bound: str) -> str:
 
 
 def latency_part(
-    pairs: Sequence[Sequence[Row]], number: int, ticks: Sequence[float], place, bound: str
+    pairs: Sequence[Sequence[Row]], number: int, ticks: Sequence[float], place: Scale, bound: str
 ) -> str:
     """Some of the rows, with an axis of their own."""
     bottom = 40 + ROW * len(pairs)
@@ -197,7 +198,7 @@ def bars(
     series: Sequence[int],
     most: int,
     base: float,
-    place_x: Callable[[float], float],
+    place_x: Scale,
     describe: Callable[[int, int], str],
 ) -> list[str]:
     """One lane's bars."""
@@ -253,7 +254,9 @@ def drops(found: Row) -> str:
 # ---- loads over time -----------------------------------------------------------------------
 
 
-def area(loads: Sequence[float], most: float, base: float, height: float, place_x) -> str:
+def area(
+    loads: Sequence[float], most: float, base: float, height: float, place_x: Scale
+) -> str:
     """Loads as a filled line above the base (or below, where the height is negative)."""
     points = []
     for step, load in enumerate(loads):

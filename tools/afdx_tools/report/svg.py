@@ -3,9 +3,11 @@ from __future__ import annotations
 
 import math
 from html import escape
-from typing import Sequence
+from typing import Callable, Sequence
 
 from afdx_tools.replay.events import LOST, OLD, verdicts
+
+Scale = Callable[[float], float]  # where an amount stands in a picture
 
 WIDTH = 1000
 LATE = "late"
@@ -131,7 +133,7 @@ def decade_ticks(low: float, high: float) -> list[float]:
     return [m * 10**p for p in powers for m in digits if low <= m * 10**p <= high]
 
 
-def time_axis(begin: float, end: float, place, top: float, bottom: float) -> list[str]:
+def time_axis(begin: float, end: float, place: Scale, top: float, bottom: float) -> list[str]:
     """Ticks of the list's time, with lines from `top` on, and what unit they have."""
     unit = unit_for(end - begin)
     parts = []

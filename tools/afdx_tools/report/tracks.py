@@ -12,6 +12,7 @@ from afdx_tools.replay.listing import NO_LINK
 from afdx_tools.report.svg import (
     LATE,
     WIDTH,
+    Scale,
     box,
     dot,
     line,
@@ -176,7 +177,9 @@ def track_in_words(track: list[Arrived]) -> str:
     return ". ".join(words)
 
 
-def one_arrival(arrived: Arrived, lanes: dict[tuple[str, int], float], place) -> list[str]:
+def one_arrival(
+    arrived: Arrived, lanes: dict[tuple[str, int], float], place: Scale
+) -> list[str]:
     """An arrival with its copies."""
     x, y = place(arrived.time), lanes[arrived.side, 0]
     parts = []
