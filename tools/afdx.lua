@@ -103,12 +103,12 @@ local function is_sealed(bytes)
     return bits.bnot(rest) % 0x100000000 == a + b * 0x100 + c * 0x10000 + d * 0x1000000
 end
 
--- By its form alone: behind the datagram stand padding, which is zero, and the sequence number; so
+-- By its form alone: after the datagram stand padding, which is zero, and the sequence number; so
 -- what isn't zero before the last byte belongs to a check sequence. No room for one: there is none.
 local function looks_sealed(tvb, length)
     if length < SHORTEST + 4 or tvb(12, 2):uint() ~= 0x0800 then return false end
-    local behind = 14 + tvb(16, 2):uint()
-    if length - behind < 5 then return false end
+    local after = 14 + tvb(16, 2):uint()
+    if length - after < 5 then return false end
     return tvb:raw(length - 5, 4) ~= "\0\0\0\0"
 end
 

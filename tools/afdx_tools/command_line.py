@@ -2,7 +2,7 @@
 from __future__ import annotations
 
 import argparse
-from typing import Callable, NoReturn
+from typing import Any, Callable, NoReturn
 
 from afdx_tools.faults import leave, shown
 
@@ -10,7 +10,7 @@ from afdx_tools.faults import leave, shown
 class Parser(argparse.ArgumentParser):
     """A parser whose faults are one line."""
 
-    def parse_known_args(self, args=None, namespace=None):
+    def parse_known_args(self, args: Any = None, namespace: Any = None) -> tuple[Any, list[str]]:
         """As argparse does; but a second `--`, of which it makes an empty list, is a fault."""
         found, others = super().parse_known_args(args, namespace)
         for action in self._actions:

@@ -121,7 +121,7 @@ def guarded(
         except Ended:
             let_go(sys.stdout)
             raise
-        except SystemExit as end:  # help was asked for, or a fault was told
+        except SystemExit as end:  # help was asked for, or a fault was reported
             status = end.code if isinstance(end.code, int) else 0
         sys.exit(flush(status))
     except (Exception, KeyboardInterrupt) as error:

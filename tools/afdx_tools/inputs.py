@@ -36,7 +36,7 @@ def at_hand(path: str) -> Iterator[str]:
 
 
 def copy_into(copy: IO[bytes], file: IO[bytes]) -> None:
-    """Copies what is left of a file into a temporary one; a fault is told by its folder."""
+    """Copies what is left of a file into a temporary one; a fault is reported by its folder."""
     try:
         shutil.copyfileobj(file, copy)
         copy.flush()

@@ -24,7 +24,7 @@ def is_written_through(path: str) -> bool:
 
 @contextlib.contextmanager
 def standard_output() -> Iterator[BinaryIO]:
-    """Standard output; its faults are told by its name."""
+    """Standard output; its faults are reported by its name."""
     if sys.stdout is None:
         raise OSError(0, "it is closed", "standard output")
     try:
@@ -87,7 +87,7 @@ class Partial:
         return os.path.join(self.folder, name)
 
     def remove(self) -> None:
-        """Removes what has no name of its own; the fault of a last write was told before."""
+        """Removes what has no name of its own; the fault of a last write was reported before."""
         with contextlib.suppress(OSError):
             self.file.close()
         if self.name is not None:
@@ -98,7 +98,7 @@ class Partial:
 @contextlib.contextmanager
 def together() -> Iterator[Callable[[str], BinaryIO]]:
     """Opens regular files, which get their names once all of them are whole. A fault of one of them
-    is told by its path."""
+    is reported by its path."""
     partials: list[Partial] = []
 
     def new(path: str) -> BinaryIO:

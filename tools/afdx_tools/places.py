@@ -7,6 +7,7 @@ from __future__ import annotations
 
 import re
 from dataclasses import dataclass, field
+from typing import Callable
 
 BLANK = re.compile(r"(?:[ \t\r\n]|#[^\n]*)*")
 KEY = re.compile(r"[A-Za-z0-9_-]+|\"[^\"\\\n]*\"|'[^'\n]*'")
@@ -104,8 +105,8 @@ class Reader:
         found.end = self.at
         return found
 
-    def each(self, end: str, take) -> None:
-        """What stands between brackets or braces, with commas between and maybe behind."""
+    def each(self, end: str, take: Callable[[], object]) -> None:
+        """What stands between brackets or braces, with commas between and maybe after."""
         self.skip()
         while not self.takes(end):
             take()

@@ -7,7 +7,7 @@ from typing import Iterable, Iterator, TypeVar
 
 Item = TypeVar("Item")
 
-WAIT = 2.0  # seconds after which progress is told
+WAIT = 2.0  # seconds after which progress is reported
 SILENT = 2.0  # seconds in which nothing is said
 APART = 0.5  # seconds from one word to the next
 LOOKED_AT = 1000  # items between two looks at the clock
@@ -19,25 +19,25 @@ class Progress:
 
     def __init__(self, tool: str) -> None:
         self.tool = tool
-        self.told = 0
+        self.length = 0
         self.next = time.monotonic() + WAIT
         self.on = sys.stderr.isatty()
 
-    def tell(self, words: str) -> None:
+    def report(self, words: str) -> None:
         """Writes the words over the last ones, at most five times a second."""
         now = time.monotonic()
         if not self.on or now < self.next:
             return
         self.next = now + 0.2
         line = f"{self.tool}: {words}"
-        print(f"\r{line:{self.told}}", end="", file=sys.stderr, flush=True)
-        self.told = len(line)
+        print(f"\r{line:{self.length}}", end="", file=sys.stderr, flush=True)
+        self.length = len(line)
 
     def done(self) -> None:
         """Wipes the last words out."""
-        if self.told:
-            print("\r" + " " * self.told + "\r", end="", file=sys.stderr, flush=True)
-            self.told = 0
+        if self.length:
+            print("\r" + " " * self.length + "\r", end="", file=sys.stderr, flush=True)
+            self.length = 0
 
 
 def counted(items: Iterable[Item], what: str) -> Iterator[Item]:

@@ -58,7 +58,7 @@ class Said(NamedTuple):
 
     status: int
     out: str
-    told: list[str]
+    errors: list[str]
 
 
 def run(words: list[str], config: bytes) -> Said:
@@ -68,13 +68,13 @@ def run(words: list[str], config: bytes) -> Said:
         [program(), *words, "/dev/stdin"], input=config, capture_output=True, check=False
     )
     out = done.stdout.decode(errors="replace")
-    told = done.stderr.decode(errors="replace").splitlines()
+    errors = done.stderr.decode(errors="replace").splitlines()
     if done.returncode < 0:
         raise Failed(f"signal {-done.returncode} ended the program", 128 - done.returncode)
-    if done.returncode > 1 or not (out or told):
-        line = told[0] if told else f"{program()} {words[0]} said nothing"
+    if done.returncode > 1 or not (out or errors):
+        line = errors[0] if errors else f"{program()} {words[0]} said nothing"
         raise Failed(shown(line), done.returncode if done.returncode > 1 else 4)
-    return Said(done.returncode, out, told)
+    return Said(done.returncode, out, errors)
 
 
 def solve(config: bytes, options: Sequence[str] = ("--raise-only",)) -> Solved:
@@ -82,8 +82,8 @@ def solve(config: bytes, options: Sequence[str] = ("--raise-only",)) -> Solved:
     them is less than it has."""
     said = run(["solve", *options], config)
     if said.status == 1:
-        return Solved("", [], shown([*said.out.splitlines(), *said.told][0]))
-    found = map(NEED.fullmatch, said.told)
+        return Solved("", [], shown([*said.out.splitlines(), *said.errors][0]))
+    found = map(NEED.fullmatch, said.errors)
     return Solved(said.out, [Need(*map(int, match.groups())) for match in found if match], "")
 
 
@@ -111,7 +111,7 @@ def bounds(config: bytes) -> Bounds:
 def check(config: bytes) -> str:
     """The answer of admission: `ok`, `no ..` or `config ..`."""
     said = run(["check"], config)
-    return shown([*said.out.splitlines(), *said.told][-1])
+    return shown([*said.out.splitlines(), *said.errors][-1])
 
 
 def read_admitted(path: str) -> dict:

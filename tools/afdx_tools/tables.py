@@ -37,7 +37,7 @@ COUNTED = (
     "sent); loads; gaps, jitter, numbers, skews and clocks; silences and what came on one side "
     "alone; shares; and the pictures."
 )
-# Where a formula could begin: at a cell's begin, or behind a semicolon, at which spreadsheets of
+# Where a formula could begin: at a cell's begin, or after a semicolon, at which spreadsheets of
 # many countries cut a line.
 FORMULA = re.compile(r"(^|;)( *)(?=[=+\-@])")
 WRITTEN = {f"{name}.csv" for name in NAMES} | {"arrivals.csv", "early.csv", "compared.csv"}

@@ -1,6 +1,6 @@
 //! The items of `afdx_replay`.
 
-ghost use Rattle.std.specs.Prelude.{◌≡◌, ◌<◌, false, length};
+ghost use Rattle.std.specs.Prelude.{◌≡◌, ◌<◌, false};
 ghost use Rattle.afdx_lists.specs.Watching.{has_failed, has_ended};
 
 use afdx_admit::Admitted;

@@ -1,6 +1,6 @@
 //! The items of `afdx_send`.
 
-ghost use Rattle.std.specs.Prelude.{◌≡◌, ◌<◌, IfOk, length};
+ghost use Rattle.std.specs.Prelude.{◌≡◌, ◌<◌, IfOk};
 ghost use Rattle.afdx_send.specs.Sender.{IsQuiet, last_time};
 
 use afdx_admit::Admitted;

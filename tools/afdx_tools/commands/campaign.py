@@ -225,7 +225,7 @@ class Campaign:
         return [self.outcomes.get(number) or not_run(name) for number, name in lists]
 
 
-def tell(args: argparse.Namespace, outcomes: Sequence[Outcome]) -> None:
+def report(args: argparse.Namespace, outcomes: Sequence[Outcome]) -> None:
     """Writes the table and the criteria, and prints the table with a last line of sums."""
     if args.junit:
         suites = [
@@ -254,7 +254,7 @@ def run(args: argparse.Namespace) -> int:
     campaign = Campaign(args, machines)
     campaign.run_all(words)
     outcomes = campaign.all_outcomes()
-    tell(args, outcomes)
+    report(args, outcomes)
     return worst(outcomes)
 
 

@@ -51,7 +51,7 @@ class TooMany(Refused):
 
 
 class Unlisted(Exception):
-    """`afdx list` ended with this status, and the reason is told."""
+    """`afdx list` ended with this status, and the reason is reported."""
 
     def __init__(self, status: int) -> None:
         super().__init__()
@@ -128,7 +128,7 @@ def listed_lines(run: subprocess.Popen[bytes]) -> Iterator[bytes]:
 
 
 def pass_on(run: subprocess.Popen[bytes]) -> None:
-    """Tells what the program told, its counts or its fault."""
+    """Passes on what the program reported, its counts or its fault."""
     assert run.stderr is not None
     try:
         for line in run.stderr.read().decode(errors="surrogateescape").splitlines():
@@ -138,7 +138,7 @@ def pass_on(run: subprocess.Popen[bytes]) -> None:
 
 
 def to_list(args: argparse.Namespace) -> None:
-    """Recordings to a frame list, by `afdx list`. Its counts are told once the list is written."""
+    """Recordings to a frame list, by `afdx list`. Its counts come once the list is written."""
     version()
     pipe = subprocess.PIPE
     with subprocess.Popen(program_words(args), stdout=pipe, stderr=pipe) as run:

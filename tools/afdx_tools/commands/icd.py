@@ -34,16 +34,16 @@ from afdx_tools.solving import bounds, check, read_admitted, solve
 from afdx_tools.version import add_version
 
 TOOL = "afdx-icd"
-MOST_TOLD = 20  # lines of what is wrong
+MOST_REPORTED = 20  # lines of what is wrong
 MOST_RESERVE = 1000  # percent
 
 
 def say(lines: list[str]) -> None:
     """Lines for the user, on standard error."""
-    for line in lines[:MOST_TOLD]:
+    for line in lines[:MOST_REPORTED]:
         print(f"{TOOL}: {shown(line)}", file=sys.stderr)
-    if len(lines) > MOST_TOLD:
-        print(f"{TOOL}: {len(lines) - MOST_TOLD} more lines are like these", file=sys.stderr)
+    if len(lines) > MOST_REPORTED:
+        print(f"{TOOL}: {len(lines) - MOST_REPORTED} more lines are like these", file=sys.stderr)
 
 
 def solved_tables(document: Document, text: str) -> dict:
@@ -57,8 +57,8 @@ def solved_tables(document: Document, text: str) -> dict:
 def run() -> int:
     """Makes the configuration that the words ask for; the status."""
     args = words().parse_args()
-    document, told = read_document(args)
-    say(told)
+    document, remarks = read_document(args)
+    say(remarks)
     if document.faults:
         say(document.faults)
         return 2

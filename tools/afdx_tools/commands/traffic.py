@@ -35,7 +35,7 @@ from afdx_tools.version import add_version
 TOOL = "afdx-traffic"
 ALL = "all-systems.list"  # no system has such a name
 MOST_SECONDS = 1_000_000
-MOST_TOLD = 20  # faults of the tables
+MOST_REPORTED = 20  # faults of the tables
 NS = 1_000_000_000  # in a second
 
 
@@ -68,9 +68,9 @@ def send(config: str, name: str, submitted: str, path: str) -> None:
     one."""
     words = [program(), "send", as_file(config), name, as_file(submitted)]
     done = subprocess.run(words, capture_output=True, check=False)
-    told = done.stderr.decode("utf-8", "replace").splitlines()
+    errors = done.stderr.decode("utf-8", "replace").splitlines()
     if done.returncode:
-        line = told[0] if told else f"{program()} send ended with status {done.returncode}"
+        line = errors[0] if errors else f"{program()} send ended with status {done.returncode}"
         status = done.returncode if done.returncode > 0 else 128 - done.returncode
         raise Failed(f"{name}: {shown(line)}", status)
     refused = re.search(rb"^# (\d+) (\w+)$", done.stdout, re.M)
@@ -114,8 +114,8 @@ def write(args: argparse.Namespace, streams: dict[str, list[Stream]], end_ns: in
 def run() -> int:
     """Writes the lists that the words ask for; the status."""
     args = words().parse_args()
-    document, told = read_document(args)
-    for line in [*told, *document.faults[:MOST_TOLD]]:
+    document, remarks = read_document(args)
+    for line in [*remarks, *document.faults[:MOST_REPORTED]]:
         say(line)
     if document.faults:
         return 2

@@ -357,14 +357,14 @@ def read_document(args: argparse.Namespace) -> tuple[Document, list[str]]:
     messages = read_sheet(args.messages, MESSAGES, FULL_MESSAGES if args.fill else ())
     if args.fill:
         fill_depths(messages)
-    told = []
+    remarks = []
     for sheet in (systems, messages):
         if sheet.others:
-            told.append(f"{sheet.name}: columns passed over: {', '.join(sheet.others)}")
+            remarks.append(f"{sheet.name}: columns passed over: {', '.join(sheet.others)}")
         if sheet.filled:
-            told.append(f"{sheet.name}: {sheet.filled} empty cells have what stands above them")
+            remarks.append(f"{sheet.name}: {sheet.filled} empty cells have what stands above them")
     document = document_of(systems, messages, args.profile)
     renamed = [f"{shown(name)} is {other}" for name, other in document.renamed().items()]
     if renamed:
-        told.append(f"{systems.name}: in the configuration {', '.join(renamed)}")
-    return document, told
+        remarks.append(f"{systems.name}: in the configuration {', '.join(renamed)}")
+    return document, remarks

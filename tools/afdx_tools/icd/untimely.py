@@ -14,7 +14,7 @@ MOST_JITTER = 500_000  # ns of a sender
 def late_messages(
     document: Document, enough_us: Mapping[int, int]
 ) -> Iterator[tuple[int, Message]]:
-    """The messages that are asked to be faster than is sure, each behind its link, in the order of
+    """The messages that are asked to be faster than is sure, each after its link, in the order of
     the table."""
     for vl, messages in document.messages.items():
         for message in messages:

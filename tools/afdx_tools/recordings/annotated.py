@@ -35,7 +35,7 @@ Key = tuple[str, int]  # a side, empty where there is one recording, and a numbe
 
 
 @dataclass
-class Told:
+class Reported:
     """What the program says of a frame: its lines; whether it was accepted, and how many of its
     copies came to their end."""
 
@@ -78,12 +78,12 @@ class Followed:
         links = read_config(config).links
         self.copies = {vl: len(link.ports) for vl, link in links.items()}
         self.lines, self.is_pair = iter(lines), is_pair
-        self.told: dict[Key, Told] = {}
-        self.last = Told()  # the frame of the last D line
+        self.reported: dict[Key, Reported] = {}
+        self.last = Reported()  # the frame of the last D line
         self.has_ended = False
 
     def take(self, line: bytes) -> None:
-        """Takes a line. What a receiver does stands behind the D line of its copy."""
+        """Takes a line. What a receiver does stands after the D line of its copy."""
         text = line.rstrip(b"\n")
         kind, number, *fields = text.split(b" ")
         if kind == b"M":  # the message itself stands in the frame
@@ -92,7 +92,7 @@ class Followed:
             self.last.lines.append(text)
         elif kind in (b"V", b"L", b"D", b"T"):
             side = fields[0 if kind in (b"V", b"L") else 1].decode("ascii")
-            one = self.told.setdefault((side if self.is_pair else "", int(number)), Told())
+            one = self.reported.setdefault((side if self.is_pair else "", int(number)), Reported())
             one.lines.append(text)
             if kind == b"V":
                 one.accepted = fields[1] == b"accept"
@@ -114,19 +114,19 @@ class Followed:
 
     def is_done(self, key: Key, content: bytes) -> bool:
         """Was all said of a frame?"""
-        one = self.told.get(key)
+        one = self.reported.get(key)
         if one is None or one.accepted is None:
             return False
         vl = int.from_bytes(content[4:6], "big") if content.startswith(LINK) else -1
         wanted = self.copies.get(vl, 0) if one.accepted else 0
-        # the line behind its last departure says what the receiver did, so that has to be here too
+        # the line after its last departure says what the receiver did, so that has to be here too
         return one.ended >= wanted and self.last is not one
 
     def of(self, key: Key, content: bytes) -> list[bytes]:
         """What is said of a frame with these bytes, once all of it is."""
         while not self.has_ended and not self.is_done(key, content):
             self.more()
-        return self.told.pop(key, Told()).lines
+        return self.reported.pop(key, Reported()).lines
 
     def finish(self) -> None:
         """Takes the lines that are left."""
@@ -172,7 +172,7 @@ def of_side(options: list[str], side: str, recording: Recording) -> list[str]:
 
 
 def frames_of(side: str, recording: Recording) -> Iterator[tuple[int, str, Frame]]:
-    """The frames of a recording, each behind its stamp and its side."""
+    """The frames of a recording, each after its stamp and its side."""
     for frame in recording.frames():
         yield frame.stamp or 0, side, frame
 
@@ -265,7 +265,8 @@ def annotated(
         for path, (side, recording) in zip(paths, recordings.items()):
             of_one = of_side(options, side, recording) if side else options
             skips[side] = Skips(runs.enter_context(lines_of(["list", *of_one, config, path])))
-        lines = runs.enter_context(lines_of(replay))  # the last: its fault is told before a list's
+        # the last, so that its fault is reported before a list's
+        lines = runs.enter_context(lines_of(replay))
         followed, file = Followed(config, lines, len(paths) > 1), Copied(out, len(paths) > 1)
         for _, side, frame in merged(recordings):
             why = skips[side].of(frame.number)
@@ -278,5 +279,5 @@ def annotated(
             file.write(side, frame, said)
             yield None
         followed.finish()
-    if not said or followed.told or any(each.next for each in skips.values()):
+    if not said or followed.reported or any(each.next for each in skips.values()):
         raise Refused("replay and list of this afdx don't agree on which frames are arrivals")

@@ -75,7 +75,7 @@ def follow(config: str, listed: Iterator[Listed], lines: Iterable[str]) -> Itera
     following = Following(config, listed)
     for line in lines:
         text = line.rstrip("\n")
-        if text[:1] not in ("M", "X"):  # these stand right behind the D line of their frame
+        if text[:1] not in ("M", "X"):  # these stand right after the D line of their frame
             yield from following.done()
         try:
             following.take(text)

@@ -57,18 +57,18 @@ class Interface:
 
 
 class Pieces:
-    """A file as it is read: the bytes that are looked at, from `at` on. `told` is called with how
+    """A file as it is read: the bytes that are looked at, from `at` on. `report` is called with how
     many were read."""
 
-    def __init__(self, file: BinaryIO, told: Callable[[int], None]) -> None:
-        self.file, self.told, self.read = file, told, 0
+    def __init__(self, file: BinaryIO, report: Callable[[int], None]) -> None:
+        self.file, self.report, self.read = file, report, 0
         self.bytes, self.at = b"", 0
 
     def more(self, size: int) -> bytes:
         """The next bytes, so many if the file has them."""
         more = self.file.read(size)
         self.read += len(more)
-        self.told(self.read)
+        self.report(self.read)
         return more
 
     def hold(self, size: int) -> bool:
@@ -268,10 +268,10 @@ def read_pcapng(pieces: Pieces) -> list[Interface]:
     return sections.interfaces
 
 
-def interfaces_of(path: str, told: Callable[[int], None] = lambda count: None) -> list[Interface]:
+def interfaces_of(path: str, report: Callable[[int], None] = lambda count: None) -> list[Interface]:
     """The interfaces of a recording by their numbers; none where it is no recording."""
     with open(path, "rb") as file:
-        pieces = Pieces(file, told)
+        pieces = Pieces(file, report)
         if not pieces.hold(4) or pieces.bytes[:4] not in HEADS:
             return []
         if pieces.bytes[:4] == SECTION:

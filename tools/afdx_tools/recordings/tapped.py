@@ -68,7 +68,7 @@ class Claims:
         return Place(side, port) if side and port else None
 
     def called(self, source: bytes) -> str:
-        """That place as it is told."""
+        """That place in words."""
         place = self.place_of(source)
         if place:
             return f"{place} ({self.names[place.port]})"
@@ -198,10 +198,10 @@ def read(paths: list[str], names: list[str], progress: Progress) -> list[Recordi
     recordings = []
     for path, name, side in zip(paths, map(shown, names), sides):
 
-        def told(count: int, name: str = name) -> None:
-            progress.tell(f"{count >> 20} MiB of {name} read")
+        def report(count: int, name: str = name) -> None:
+            progress.report(f"{count >> 20} MiB of {name} read")
 
-        recordings.append(Recording(name, side, interfaces_of(path, told)))
+        recordings.append(Recording(name, side, interfaces_of(path, report)))
     progress.done()
     return recordings
 

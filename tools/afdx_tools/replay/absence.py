@@ -80,7 +80,7 @@ def silence_row(counting: Counting, one: Silence) -> Row:
         "bag_ms": one.bag // 1_000_000,
         "on_other_side": one.other,
         "last_line": number_of(counting, one.before),
-        "next_line": number_of(counting, one.behind),
+        "next_line": number_of(counting, one.after),
     }
 
 

@@ -68,9 +68,9 @@ def paired(counting: Counting, lines: np.ndarray, shift: int) -> np.ndarray:
     both = (keys[1:] == keys[:-1]) & (side[1:] != side[:-1])
     both &= apart <= half_rounds(counting)[counting.place[lines[1:]]]
     apart = np.where(both, apart, NEVER)
-    before, behind = np.roll(apart, 1), np.roll(apart, -1)
-    before[0] = behind[-1] = NEVER
-    at = np.flatnonzero(both & (apart <= before) & (apart < behind))
+    before, after = np.roll(apart, 1), np.roll(apart, -1)
+    before[0] = after[-1] = NEVER
+    at = np.flatnonzero(both & (apart <= before) & (apart < after))
     other[lines[at]], other[lines[at + 1]] = lines[at + 1], lines[at]
     return other
 
@@ -129,8 +129,8 @@ def nearest_there(keys: np.ndarray, times: np.ndarray, side: np.ndarray) -> np.n
     for each in (0, 1):
         there, mine = side != each, np.flatnonzero(side == each)
         before = np.maximum.accumulate(np.where(there, places, -1))[mine]
-        behind = np.minimum.accumulate(np.where(there, places, count)[::-1])[::-1][mine]
-        for at in (before, behind):
+        after = np.minimum.accumulate(np.where(there, places, count)[::-1])[::-1][mine]
+        for at in (before, after):
             near = np.clip(at, 0, count - 1)
             is_copy = (at == near) & (keys[near] == keys[mine])
             apart = np.where(is_copy, np.abs(times[near] - times[mine]), NEVER)

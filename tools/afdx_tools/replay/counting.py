@@ -17,7 +17,7 @@ from afdx_tools.replay.listing import NO_LINK, Listing
 WIRE_EXTRA = 20  # bytes that a frame takes on the wire beside its own
 MOST_PORTS = 32  # more than the ports of a switch
 MOST_LINK = 65_536
-SHARES = (50, 99, 99.9)  # percentiles of latencies
+SHARES = (500, 990, 999)  # of a thousand: the percentiles 50, 99 and 99.9 of latencies
 
 
 @dataclass(frozen=True)
@@ -32,10 +32,9 @@ class Path:
     worst: int
     late: int
 
-    def rank(self, percent: float) -> int:
-        """The least latency that so many percent of the copies don't exceed."""
-        count = len(self.latencies)
-        return int(self.latencies[max(int(np.ceil(percent * count / 100)) - 1, 0)])
+    def rank(self, share: int) -> int:
+        """The least latency that so many of a thousand copies don't exceed."""
+        return int(self.latencies[max(-(-share * len(self.latencies) // 1000) - 1, 0)])
 
 
 @dataclass(frozen=True)
@@ -111,8 +110,8 @@ class Counting:
 
     def ends_by(self, keys: np.ndarray, count: int) -> np.ndarray:
         """For each key the copies by what their receivers did."""
-        told = self.events.end != NOT_YET
-        return tally(keys[told], self.events.end[told], count, len(self.events.ends.names))
+        known = self.events.end != NOT_YET
+        return tally(keys[known], self.events.end[known], count, len(self.events.ends.names))
 
     def late_by(self, keys: np.ndarray, count: int) -> np.ndarray:
         """For each key the copies that took longer than their link's configured latency."""

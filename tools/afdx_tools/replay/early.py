@@ -50,8 +50,8 @@ class Early:
         is_early = np.ones(len(block.starts), bool)
         for place, letter in enumerate(HEAD):
             is_early &= block.at(block.starts + place) == letter
-        numbers, behind = block.numbers(block.starts[is_early] + len(HEAD))
-        amounts, _ = block.numbers(behind + 1)
+        numbers, after = block.numbers(block.starts[is_early] + len(HEAD))
+        amounts, _ = block.numbers(after + 1)
         self.parts.append((self.lines_of(numbers), amounts))
         others = np.flatnonzero(~is_early)
         return [block.text[block.starts[n] : block.ends[n]] for n in others]

@@ -29,8 +29,8 @@ def verdicts() -> tuple[str, ...]:
     """Why a switch drops a frame: the words of the program, in its order."""
     words = [program(), "explain", "--list"]
     run = subprocess.run(words, capture_output=True, check=False)
-    told = run.stdout.decode(errors="replace")
-    drops = [line for line in told.splitlines() if line.startswith("drop ")]
+    listed = run.stdout.decode(errors="replace")
+    drops = [line for line in listed.splitlines() if line.startswith("drop ")]
     return tuple(line.removeprefix("drop ") for line in drops)
 
 
@@ -61,18 +61,18 @@ class Events:
         self.verdict = np.full(listing.lines + 1, NOT_YET, np.int8)
         self.parts: list[dict[str, np.ndarray]] = [none_at_all()]
 
-    def read(self, file: IO[bytes], told: Callable[[int], None] = lambda line: None) -> None:
+    def read(self, file: IO[bytes], report: Callable[[int], None] = lambda line: None) -> None:
         """Takes the lines of `replay`, and joins them. A last line that was cut doesn't count."""
         rest = b""
         for text in blocks_of(file, ended=True):
             whole = rest + text if rest else text
             cut = whole.rfind(b"\n", 0, -1) + 1
             cut = cut if whole[cut] == LETTERS["D"] else len(whole)
-            rest = whole[cut:]  # a departure: the line behind it says what the receiver did
+            rest = whole[cut:]  # a departure: the line after it says what the receiver did
             if cut:
-                self.take(whole[:cut] if rest else whole, told)
+                self.take(whole[:cut] if rest else whole, report)
         if rest:
-            self.take(rest, told)
+            self.take(rest, report)
         joined = {name: np.concatenate([p[name] for p in self.parts]) for name in self.parts[0]}
         self.parts = []
         self.line, self.time, self.port = joined["line"], joined["time"], joined["port"]
@@ -84,14 +84,14 @@ class Events:
         self.early = Early(file, self.named, over_rate)
         return self.early.fault
 
-    def take(self, text: bytes, told: Callable[[int], None]) -> None:
+    def take(self, text: bytes, report: Callable[[int], None]) -> None:
         """Takes a block's lines."""
         block = Block(text)
         if not KNOWN[block.heads].all():
             raise Refused("the program wrote a line that this tool doesn't know")
         lines = self.judged(block)
         if len(lines):
-            told(int(lines[-1]))
+            report(int(lines[-1]))
         found = [self.lost(block), self.departed(block), self.old(block)]
         part = {name: np.concatenate([one[name] for one in found]) for name in found[0]}
         order = np.argsort(part["at"], kind="stable")
@@ -123,13 +123,13 @@ class Events:
         return self.ended(block, "T", OLD)
 
     def departed(self, block: Block) -> dict[str, np.ndarray]:
-        """`D n time side port`, and what the line behind it says: M, or X with its word."""
+        """`D n time side port`, and what the line after it says: M, or X with its word."""
         part = self.ended(block, "D", LEFT)
-        behind = np.minimum(part["at"] + 1, len(block.heads) - 1)
-        heads = block.heads[behind]
+        after = np.minimum(part["at"] + 1, len(block.heads) - 1)
+        heads = block.heads[after]
         part["end"][heads == LETTERS["M"]] = 0
         refused = np.flatnonzero(heads == LETTERS["X"])
-        names, places = block.last_words(behind[refused])
+        names, places = block.last_words(after[refused])
         part["end"][refused] = self.ends.of(names)[places]
         return part
 

@@ -14,7 +14,7 @@ import numpy as np
 SPACE, LINE_FEED, RETURN = 32, 10, 13
 EACH = 2 << 20  # bytes of text that are looked at together
 TRIM_THRESHOLD, MMAP_THRESHOLD = -1, -3  # options of mallopt
-BEHIND = bytes(64)  # what is read behind a text, at most
+PADDING = bytes(64)  # what is read after a text, at most
 
 
 def keep_memory() -> None:
@@ -39,13 +39,13 @@ class Block:
 
     def __init__(self, text: bytes) -> None:
         self.text = text
-        self.bytes = np.frombuffer(text + BEHIND, np.uint8)
+        self.bytes = np.frombuffer(text + PADDING, np.uint8)
         self.ends = np.flatnonzero(self.bytes == LINE_FEED)
         self.starts = np.concatenate((np.zeros(1, np.int64), self.ends[:-1] + 1))
         self.heads = self.bytes[self.starts]
 
     def at(self, places: np.ndarray) -> np.ndarray:
-        """The bytes at these places; zeros behind the last one, for as far as numbers are read from
+        """The bytes at these places; zeros after the last one, for as far as numbers are read from
         a line that is cut."""
         return self.bytes[places]
 

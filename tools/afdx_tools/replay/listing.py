@@ -33,7 +33,7 @@ class Listing:
     def __init__(
         self,
         file: IO[bytes],
-        told: Callable[[int], None] = lambda count: None,
+        report: Callable[[int], None] = lambda count: None,
         is_recorded: bool = False,
         is_pair: bool = False,
         most: int = MOST_LINES,
@@ -50,7 +50,7 @@ class Listing:
                 part = columns_of(Block(taken))
                 parts.append(part)
                 lines += len(part["time"])
-                told(lines)
+                report(lines)
         self.lines = lines
         self.is_recorded, self.is_pair = is_recorded, is_pair
         self.digest = digest.hexdigest()
@@ -126,8 +126,8 @@ def columns_of(block: Block) -> dict[str, np.ndarray]:
     columns["port"][lines] = np.minimum(port, 127)  # over 24: a fault, with which the run ends
     columns["length"][lines] = size // 2 + np.where(raw, 0, 4)
     columns["link"][lines] = links_of(block.bytes, begin, size)
-    behind = np.where(raw, 10, 2)  # digits from the sequence number on
-    columns["number"][lines] = pairs(block.bytes, begin + size - behind, size >= behind, NO_NUMBER)
+    last = np.where(raw, 10, 2)  # digits from the sequence number on
+    columns["number"][lines] = pairs(block.bytes, begin + size - last, size >= last, NO_NUMBER)
     columns["source"][lines], columns["network"][lines] = sources_of(block.bytes, begin, size)
     return columns
 

@@ -90,7 +90,7 @@ def counts_of(line: str) -> dict[str, int]:
 
 def taken_of(path: str) -> int:
     """How many lines of a list the program takes: those before the first fault, which is the same
-    for all networks. What stands there or behind it isn't looked at here."""
+    for all networks. What stands there or after it isn't looked at here."""
     words = [program(), "police", *ANY_RULE, path]
     run = subprocess.run(words, stdout=subprocess.DEVNULL, stderr=subprocess.PIPE, check=False)
     if run.returncode == 0 or run.stderr.split() == [b"list", b"TooManyLines"]:
@@ -103,19 +103,19 @@ def listed_of(source: Source, progress: Progress, is_run: bool) -> Listed:
     """The list's columns; a recording's are those of the list that `afdx list` writes. `is_run`:
     the program replays it, since the network is admitted or needn't be."""
 
-    def told(count: int) -> None:
-        progress.tell(f"{count:,} lines of the list read")
+    def report(count: int) -> None:
+        progress.report(f"{count:,} lines of the list read")
 
     if not source.is_recorded:
         most = taken_of(source.paths[0]) if is_run else 0
         with open(source.paths[0], "rb") as file:
-            return Listed(Listing(file, told, most=most))
+            return Listed(Listing(file, report, most=most))
     with tempfile.TemporaryFile() as errors:
         with subprocess.Popen(
             source.listed(), stdout=subprocess.PIPE, stderr=errors, pipesize=PIECE
         ) as run:
             assert run.stdout is not None
-            listing = Listing(run.stdout, told, is_recorded=True, is_pair=source.is_pair)
+            listing = Listing(run.stdout, report, is_recorded=True, is_pair=source.is_pair)
         errors.seek(0)
         said = shown(errors.read().decode("utf-8", "replace").strip())
     if run.returncode not in ENDED:
@@ -134,7 +134,7 @@ def replay(source: Source, listed: Listed, progress: Progress) -> tuple[Events, 
         ) as run:
             assert run.stdout is not None
             events.read(
-                run.stdout, lambda line: progress.tell(f"{100 * line // most} % of the replay")
+                run.stdout, lambda line: progress.report(f"{100 * line // most} % of the replay")
             )
         errors.seek(0)
         fault = shown(events.read_errors(errors))

@@ -25,7 +25,7 @@ Name = str | int | None
 @dataclass(frozen=True)
 class Silence:
     """A time without a frame: of a network, a system or a link by its name (None, a name, an
-    identifier), on a side. `before` and `behind` are the lines of the frames around it, 0 at an end
+    identifier), on a side. `before` and `after` are the lines of the frames around it, 0 at an end
     of the run; `bag` in ns is that by which it is counted; anything shorter than `least` is no
     silence there. `other` says how many frames came meanwhile on the other side."""
 
@@ -35,7 +35,7 @@ class Silence:
     begin: int
     end: int
     before: int
-    behind: int
+    after: int
     bag: int
     least: int
     other: int

@@ -17,7 +17,7 @@ MOST_STEPS = 127  # a longer step is taken as one back
 @dataclass(frozen=True)
 class Numbers:
     """The sequence numbers of a link on one side: the first one and its line; `missing` ones, which
-    were skipped, and the line behind the longest gap; `jumps`, the steps that no sender makes."""
+    were skipped, and the line after the longest gap; `jumps`, the steps that no sender makes."""
 
     first: int
     first_line: int

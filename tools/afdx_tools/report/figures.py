@@ -2,11 +2,12 @@
 from __future__ import annotations
 
 import math
-from typing import Sequence
+from typing import Callable, Sequence
 
 from afdx_tools.report.svg import (
     LATE,
     WIDTH,
+    Scale,
     box,
     decade_ticks,
     diamond,
@@ -27,11 +28,11 @@ from afdx_tools.tables import Row, percent
 # ---- latencies -----------------------------------------------------------------------------
 
 LEFT, RIGHT, ROW = 250, 176, 30
-FIRST, NEXT = 20, 35  # rows of the first picture, and of each behind it
+FIRST, NEXT = 20, 35  # rows of the first picture, and of each after it
 ON_PAPER = 3  # of these pictures; a screen has them all
 
 
-def told_latency(row: Row) -> str:
+def latency_in_words(row: Row) -> str:
     """A row of latencies in words."""
     bound = "no bound" if row["bound_ns"] is None else f"bound {row['bound_ns']:,} ns"
     return (
@@ -43,7 +44,7 @@ def told_latency(row: Row) -> str:
     )
 
 
-def side_bar(row: Row, y: float, place) -> str:
+def side_bar(row: Row, y: float, place: Scale) -> str:
     """One side's copies: least to greatest as a bar, median and 99 percent marked; what is over the
     configured latency is thicker."""
     least, greatest = place(row["least_ns"]), place(row["greatest_ns"])
@@ -53,10 +54,10 @@ def side_bar(row: Row, y: float, place) -> str:
     if row["late"]:
         over = place(max(row["configured_ns"], row["least_ns"]))
         shapes += box(over - 1, y - 5, max(greatest - over, 0) + 6, 10, "late")
-    return titled(shapes, told_latency(row)) + text(LEFT - 10, y + 3.5, row["side"], "small")
+    return titled(shapes, latency_in_words(row)) + text(LEFT - 10, y + 3.5, row["side"], "small")
 
 
-def latency_row(pair: Sequence[Row], y: float, place) -> list[str]:
+def latency_row(pair: Sequence[Row], y: float, place: Scale) -> list[str]:
     """One link at one port: both sides, bound and configured latency, the margin between."""
     row = max(pair, key=lambda one: one["share"])
     is_late = any(one["late"] for one in pair)
@@ -71,8 +72,8 @@ def latency_row(pair: Sequence[Row], y: float, place) -> list[str]:
     if row["bound_ns"] is not None:
         at = place(row["bound_ns"])
         kind = "margin" if row["margin_ns"] >= 0 else "short"
-        told = f"margin from bound to configured: {row['margin_ns']:,} ns"
-        parts.append(titled(line(at, y, x, y, kind), told))
+        description = f"margin from bound to configured: {row['margin_ns']:,} ns"
+        parts.append(titled(line(at, y, x, y, kind), description))
         parts.append(line(at, y - 10, at, y + 10, "bound"))
     parts += [side_bar(one, y - 6 if one["side"] == "A" else y + 6, place) for one in pair]
     parts.append(diamond(x, y))
@@ -123,7 +124,7 @@ def latencies(pairs: Sequence[Sequence[Row]], bound: str) -> str:
 
 
 def latency_part(
-    pairs: Sequence[Sequence[Row]], number: int, ticks: Sequence[float], place, bound: str
+    pairs: Sequence[Sequence[Row]], number: int, ticks: Sequence[float], place: Scale, bound: str
 ) -> str:
     """Some of the rows, with an axis of their own."""
     bottom = 40 + ROW * len(pairs)
@@ -134,16 +135,16 @@ def latency_part(
     parts.append(text(WIDTH - RIGHT + 12, bottom + 16, "us, logarithmic", "muted"))
     for place_of, pair in enumerate(pairs):
         parts += latency_row(pair, 54 + ROW * place_of, place)
-    told = ". ".join(told_latency(row) for pair in pairs for row in pair)
+    description = ". ".join(latency_in_words(row) for pair in pairs for row in pair)
     label = "Latency in the replay of each link beside its bound and its configured latency"
     kind = "shown" if number < ON_PAPER else "screen"
-    return picture(f"latencies-{number + 1}", bottom + 24, parts, label, told, kind)
+    return picture(f"latencies-{number + 1}", bottom + 24, parts, label, description, kind)
 
 
 # ---- histogram -----------------------------------------------------------------------------
 
 
-def steps_told(counts: Sequence[int]) -> str:
+def steps_in_words(counts: Sequence[int]) -> str:
     """The counts of a histogram in words."""
     words = [
         f"{5 * step} to {5 * step + 5} percent: {count:,}"
@@ -182,9 +183,9 @@ def histogram(counts: dict[str, Sequence[int]]) -> str:
                 shape = box(x + 4 + place_of * 19, y, 16, bottom - y, kind)
                 parts.append(titled(shape, f"side {side}: {count:,}"))
     parts.append(line(left, bottom, right, bottom, "axis"))
-    told = "share of the link's configured latency in %, steps of 5; number of copies, logarithmic"
-    parts.append(text(left, bottom + 36, told, "muted"))
-    words = ". ".join(f"Side {side}: {steps_told(counts[side])}" for side in "AB")
+    note = "share of the link's configured latency in %, steps of 5; number of copies, logarithmic"
+    parts.append(text(left, bottom + 36, note, "muted"))
+    words = ". ".join(f"Side {side}: {steps_in_words(counts[side])}" for side in "AB")
     return picture("shares", bottom + 44, parts, "Copies by share of the configured latency", words)
 
 
@@ -193,7 +194,13 @@ def histogram(counts: dict[str, Sequence[int]]) -> str:
 LANE, NAME = 34, 176
 
 
-def bars(series: Sequence[int], most: int, base: float, place_x, told) -> list[str]:
+def bars(
+    series: Sequence[int],
+    most: int,
+    base: float,
+    place_x: Scale,
+    describe: Callable[[int, int], str],
+) -> list[str]:
     """One lane's bars."""
     parts = []
     for step, count in enumerate(series):
@@ -202,7 +209,7 @@ def bars(series: Sequence[int], most: int, base: float, place_x, told) -> list[s
             shape = box(
                 x1 + 0.4, base - max(height, 2), max(x2 - x1 - 0.8, 1.2), max(height, 2), "drop"
             )
-            parts.append(titled(shape, told(step, count)))
+            parts.append(titled(shape, describe(step, count)))
     return parts
 
 
@@ -220,7 +227,7 @@ def drops(found: Row) -> str:
     def place_x(step: float) -> float:
         return left + (right - left) * step / steps
 
-    def told(step: int, count: int) -> str:
+    def describe(step: int, count: int) -> str:
         return f"{count:,} from {in_unit(start + step * width, unit)} {unit} on"
 
     parts = time_axis(
@@ -230,13 +237,13 @@ def drops(found: Row) -> str:
     for number, word in enumerate(present):
         series, base = found["reasons"][word], LANE * (number + 1)
         most = max(series)
-        at = told(list(series).index(most), most)
+        at = describe(list(series).index(most), most)
         words.append(f"{word}: {sum(series):,} in all, most {at}")
         parts.append(symbol(10, base - 7, word))
         parts.append(text(24, base - 3, word, "strong"))
         parts.append(text(left - 12, base - 3, f"{sum(series):,}", "", "end"))
         parts.append(line(left, base, right, base, "axis"))
-        parts += bars(series, most, base, place_x, told)
+        parts += bars(series, most, base, place_x, describe)
         parts.append(text(right + 8, base - 3, f"most {most:,}", "muted"))
     size = f"{in_unit(width, unit)} {unit}"
     note = f"time of the list in {unit}; a bar is {size} wide, each lane as high as its most"
@@ -247,7 +254,9 @@ def drops(found: Row) -> str:
 # ---- loads over time -----------------------------------------------------------------------
 
 
-def area(loads: Sequence[float], most: float, base: float, height: float, place_x) -> str:
+def area(
+    loads: Sequence[float], most: float, base: float, height: float, place_x: Scale
+) -> str:
     """Loads as a filled line above the base (or below, where the height is negative)."""
     points = []
     for step, load in enumerate(loads):
@@ -283,10 +292,10 @@ def loads(found: Row, rows: Sequence[Row]) -> str:
             series: list[float] = next(loads, [])
             if row is None:
                 continue
-            told = f"side {side}: {percent(row['load'])}, at most {percent(row['peak_load'])}"
-            words.append(f"port {port}, {told}")
+            load = f"side {side}: {percent(row['load'])}, at most {percent(row['peak_load'])}"
+            words.append(f"port {port}, {load}")
             shape = f'<path d="{area(series, most, base, height, place_x)}" class="side-{side}"/>'
-            parts.append(titled(shape, f"port {port}, {told}"))
+            parts.append(titled(shape, f"port {port}, {load}"))
             short = f"{side} {percent(row['load'])}, most {percent(row['peak_load'])}"
             parts.append(text(right + 10, base + (-3 if side == "A" else 11), short, "muted"))
         parts.append(line(left, base, right, base, "axis"))

@@ -27,7 +27,7 @@ MOST_LINKS = 100  # that are drawn; the CSV file has all
 WRONG_PORT = "wrong-port"
 LEFT, RIGHT, TOP = 170, 120, 104  # where the lanes begin and end, and where the first link stands
 EACH, HIGH = 13, 4.6  # a link's lanes, and one of them
-FIRST, NEXT = 20, 70  # links of the first picture, and of each behind it
+FIRST, NEXT = 20, 70  # links of the first picture, and of each after it
 
 
 def counts_by(counting: Counting, steps: Steps, lines: np.ndarray) -> np.ndarray:
@@ -101,7 +101,7 @@ def troubles_of(pair: Sequence[Row]) -> tuple[bool, int]:
 
 
 def runs(cells: np.ndarray) -> list[tuple[int, int]]:
-    """The runs of true cells, each by its first one and the one behind its last."""
+    """The runs of true cells, each by its first one and the one after its last."""
     none = np.zeros(1, np.int8)
     edges = np.flatnonzero(np.diff(np.concatenate((none, cells, none))))
     return [(int(begin), int(end)) for begin, end in zip(edges[::2], edges[1::2])]
@@ -133,7 +133,7 @@ class Axis:
         ]
 
 
-def told_lane(row: Row) -> str:
+def lane_in_words(row: Row) -> str:
     """A lane in words."""
     words = f"link {row['link']} on side {row['side']}: {sum(row['counts']):,} frames"
     if row["silent_ns"]:
@@ -156,11 +156,11 @@ def lane(row: Row, y: float, axis: Axis) -> str:
     shapes += strokes(axis.cells(counts > row["at_most"]), y, "lane-busy")
     if row["wrong_port"]:
         shapes += strokes(axis.cells(np.array(row["wrong_port"]) > 0), y, "lane-wrong")
-    return titled(shapes, told_lane(row))
+    return titled(shapes, lane_in_words(row))
 
 
 def link_lanes(pair: Sequence[Row], y: float, axis: Axis) -> str:
-    """Both sides of a link, its name before them, its sums behind them."""
+    """Both sides of a link, its name before them, its sums after them."""
     is_silent, others = troubles_of(pair)
     sums = " / ".join(f"{sum(row['counts']):,}" for row in pair)
     words = [word for word, wrong in (("silent", is_silent), ("!", others)) if wrong]
@@ -231,5 +231,5 @@ def lanes_part(
     parts = [*time_axis(axis.start, axis.end, axis.at, 30 if head else 0, bottom), *head]
     parts += [link_lanes(pair, top + EACH * at, axis) for at, pair in enumerate(pairs)]
     parts.append(text(LEFT, bottom + 34, note, "muted"))
-    told = ". ".join(words + [told_lane(row) for pair in pairs for row in pair])
-    return picture(f"lanes-{number}", bottom + 42, parts, "Arrivals over time by link", told)
+    description = ". ".join(words + [lane_in_words(row) for pair in pairs for row in pair])
+    return picture(f"lanes-{number}", bottom + 42, parts, "Arrivals over time by link", description)

@@ -118,7 +118,7 @@ def latency_row(counting: Counting, checked: Checked, path: Path) -> Row:
     """The latencies of a link at a port of one side."""
     link, line = counting.config.links[path.link], int(counting.events.line[path.worst])
     bound, greatest = checked.bound_of(link, path.port), int(path.latencies[-1])
-    half, most, nearly = (path.rank(percent) for percent in SHARES)
+    half, most, nearly = (path.rank(share) for share in SHARES)
     return {
         "link": path.link,
         "from": link.source,

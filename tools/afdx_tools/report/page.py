@@ -179,9 +179,9 @@ def table_sections(report: Row, where: Where) -> str:
         tables["taps"] = TAPS, report["taps"]["rows"]
     for name, head in NAMES.items():
         tables[name] = head, report[name]
-        behind = {"frames": "early-frames", "sides": "early"}.get(name)
-        if behind in early:
-            tables[behind] = early[behind]
+        after = {"frames": "early-frames", "sides": "early"}.get(name)
+        if after in early:
+            tables[after] = early[after]
     troubles = report["troubles"]
     first = f" (the first {TROUBLES_SHOWN:,}; the CSV file has {len(troubles):,})"
     cut = first if len(troubles) > TROUBLES_SHOWN else ""

@@ -103,7 +103,7 @@ def titles_of(row: Row, where: Where | None) -> dict[str, str]:
     """Of each column that names a frame where that stands."""
     if where is None or not where.is_recorded:
         return {}
-    return {name: where.told(place) for name, place in named_in(row, where.is_pair)}
+    return {name: where.in_words(place) for name, place in named_in(row, where.is_pair)}
 
 
 def caption_of(all_rows: Sequence[Row], shown: int, paper: int, head: str) -> str:

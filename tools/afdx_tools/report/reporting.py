@@ -88,7 +88,7 @@ def report_of(
     tables = read_config(source.config)
     listed = listed_of(source, progress, checked.answer == "ok" or args.no_admission)
     events, fault, status = replay(source, listed, progress)
-    progress.tell("counting")
+    progress.report("counting")
     counting = Counting(tables, listed.listing, events)
     where = Where(source, counting)
     report: Row = {

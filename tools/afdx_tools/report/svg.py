@@ -3,9 +3,11 @@ from __future__ import annotations
 
 import math
 from html import escape
-from typing import Sequence
+from typing import Callable, Sequence
 
 from afdx_tools.replay.events import LOST, OLD, verdicts
+
+Scale = Callable[[float], float]  # where an amount stands in a picture
 
 WIDTH = 1000
 LATE = "late"
@@ -77,7 +79,12 @@ def titled(shape: str, words: str) -> str:
 
 
 def picture(
-    name: str, height: float, parts: Sequence[str], label: str, told: str, kind: str = "shown"
+    name: str,
+    height: float,
+    parts: Sequence[str],
+    label: str,
+    description: str,
+    kind: str = "shown",
 ) -> str:
     """The parts as one picture, with a label and its numbers for those who can't see it; of the
     kind `screen` it isn't on paper."""
@@ -85,7 +92,7 @@ def picture(
         f'<svg viewBox="0 0 {WIDTH} {height:.0f}" class="{kind}" role="img" '
         f'aria-labelledby="{name}-label {name}-numbers">'
         f'<title id="{name}-label">{escape(label)}</title>'
-        f'<desc id="{name}-numbers">{escape(told)}</desc>' + "".join(parts) + "</svg>"
+        f'<desc id="{name}-numbers">{escape(description)}</desc>' + "".join(parts) + "</svg>"
     )
 
 
@@ -126,7 +133,7 @@ def decade_ticks(low: float, high: float) -> list[float]:
     return [m * 10**p for p in powers for m in digits if low <= m * 10**p <= high]
 
 
-def time_axis(begin: float, end: float, place, top: float, bottom: float) -> list[str]:
+def time_axis(begin: float, end: float, place: Scale, top: float, bottom: float) -> list[str]:
     """Ticks of the list's time, with lines from `top` on, and what unit they have."""
     unit = unit_for(end - begin)
     parts = []

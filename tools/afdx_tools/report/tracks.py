@@ -12,6 +12,7 @@ from afdx_tools.replay.listing import NO_LINK
 from afdx_tools.report.svg import (
     LATE,
     WIDTH,
+    Scale,
     box,
     dot,
     line,
@@ -69,7 +70,7 @@ def chosen(counting: Counting, wrong: np.ndarray) -> int | None:
 
 
 def shown_lines(counting: Counting, vl: int, wrong: np.ndarray, begin: int) -> np.ndarray:
-    """Of a link's arrivals those that follow each other where most went wrong, and some behind."""
+    """Of a link's arrivals those that follow each other where most went wrong, and some after."""
     lines = counting.arrived[counting.place[counting.arrived] == counting.vls.index(vl)]
     if begin:
         return lines[counting.listing.time[lines] >= begin][:EACH]
@@ -162,7 +163,7 @@ def track_legend(track: list[Arrived], left: float) -> list[str]:
     return parts
 
 
-def told_track(track: list[Arrived]) -> str:
+def track_in_words(track: list[Arrived]) -> str:
     """The arrivals of a time line in words."""
     words = []
     for side in sorted({arrived.side for arrived in track}):
@@ -176,7 +177,9 @@ def told_track(track: list[Arrived]) -> str:
     return ". ".join(words)
 
 
-def one_arrival(arrived: Arrived, lanes: dict[tuple[str, int], float], place) -> list[str]:
+def one_arrival(
+    arrived: Arrived, lanes: dict[tuple[str, int], float], place: Scale
+) -> list[str]:
     """An arrival with its copies."""
     x, y = place(arrived.time), lanes[arrived.side, 0]
     parts = []
@@ -210,4 +213,4 @@ def track(name: str, arrivals: list[Arrived], ports: dict[int, str]) -> str:
         parts += one_arrival(arrived, lanes, place)
     unit = unit_for(end - begin + 2 * pad)
     parts.append(text(left, bottom + 34, f"time of the list in {unit}", "muted"))
-    return picture(name, bottom + 42, parts, "Time line of one link", told_track(arrivals))
+    return picture(name, bottom + 42, parts, "Time line of one link", track_in_words(arrivals))

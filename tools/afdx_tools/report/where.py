@@ -116,7 +116,7 @@ class Where:
             for (side, number), (interface, name, stamp) in sorted(self.found.items())
         ]
 
-    def told(self, place: Place) -> str:
+    def in_words(self, place: Place) -> str:
         """A frame's interface and stamp in words, where they are known."""
         if place not in self.found:
             return ""

@@ -63,8 +63,8 @@ def columns_of(path: str, heads: Iterable[str], columns: Mapping[str, bool]) -> 
 
 
 def amount_of(text: str) -> Fraction | None:
-    """The number that a cell says, if it says one: digits, with a fraction behind a point or a
-    comma. Three digits behind a comma, and three zeros behind either, may also be thousands: that
+    """The number that a cell says, if it says one: digits, with a fraction after a point or a
+    comma. Three digits after a comma, and three zeros after either, may also be thousands: that
     says none."""
     found = re.fullmatch(r"([0-9]{1,20})(?:([.,])([0-9]{1,9}))?", text, re.ASCII)
     if not found:

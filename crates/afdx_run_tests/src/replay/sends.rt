@@ -1,6 +1,6 @@
 //! A run that sends; each refusal is tried at the program (tests/program/send.sh).
 
-ghost use Rattle.std.specs.Prelude.{◌<◌, length};
+ghost use Rattle.std.specs.Prelude.{◌<◌};
 
 use super::Answer;
 use crate::texts::short_text;

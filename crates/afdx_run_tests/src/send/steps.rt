@@ -1,6 +1,6 @@
 //! Tables of steps: what is done with a sender at a time, and what must come of it.
 
-ghost use Rattle.std.specs.Prelude.{◌≡◌, ◌+◌, ◌<◌, ◌≤◌, IfOk, IfSome, IfNone, IsTrue, length};
+ghost use Rattle.std.specs.Prelude.{◌≡◌, ◌+◌, ◌<◌, ◌≤◌, IfOk, IfSome, IfNone, IsTrue};
 ghost use Rattle.afdx_frame.specs.Times.{latest_listed};
 ghost use Rattle.afdx_send.specs.Sender.{IsQuiet, last_time, frames_held};
 
