@@ -1,6 +1,6 @@
 -- What is told of the frames that came too early.
 use Rattle.std.proofs.Common.{◌≡◌, ℕ, true, false, List, [], ◌∷◌, ◌++◌, Option, Some, None, refl, sym, ap, ◌∙◌}
-use Rattle.std.proofs.Common.{Bool, IfSome, length, subst, ◌⊎◌, inl, inr}
+use Rattle.std.proofs.Common.{Bool, subst, ◌⊎◌, inl, inr}
 use Rattle.afdx_config.specs.Rows.{Rows}
 use Rattle.afdx_police.specs.Arrival.{Arrival}
 use Rattle.afdx_police.specs.declared.shape.Reason.{Reason}

@@ -1,5 +1,5 @@
 -- What the command `send` does.
-use Rattle.std.specs.Prelude.{ℕ, ◌≡◌, ◌⊎◌, Bool, List, Option, Some, None, Result, IfSome, slice_get}
+use Rattle.std.specs.Prelude.{ℕ, ◌≡◌, ◌⊎◌, List, Option, Some, None, Result, IfSome, slice_get}
 use Rattle.afdx_config.specs.Admission.{IsAdmitted}
 use Rattle.afdx_config.specs.Reading.{Spells, system_named}
 use Rattle.afdx_config.specs.Rows.{SystemRow, Rows}

@@ -1,5 +1,5 @@
 -- What a run that polices one link answers and writes, whatever gives it its arrivals.
-use Rattle.std.specs.Prelude.{ℕ, ◌≡◌, List, Result}
+use Rattle.std.specs.Prelude.{◌≡◌, List, Result}
 use Rattle.afdx_police.specs.Arrival.{Arrival}
 use Rattle.afdx_police.specs.Rule.{Rule}
 use Rattle.afdx_lists.specs.declared.fault.RunFault.{RunFault}

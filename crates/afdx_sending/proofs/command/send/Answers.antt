@@ -1,4 +1,4 @@
-use Rattle.std.proofs.Common.{rules, refl, inl, inr, ap}
+use Rattle.std.proofs.Common.{rules, refl, inl, inr}
 use Rattle.afdx_sending.proofs.command.send.Goals as goal
 
 pub returns-clause-sends : goal.returns-clause-sends

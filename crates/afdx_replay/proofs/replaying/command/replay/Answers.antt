@@ -1,4 +1,5 @@
 use Rattle.std.proofs.Common.{None, refl, inl, inr}
+use Rattle.afdx_config.proofs.AmongOthersLemmas.{among_others}
 use Rattle.afdx_replay.specs.replaying.Tables.{tables_of}
 use Rattle.afdx_replay.proofs.AdmittedRunLemmas.{if-known}
 use Rattle.afdx_replay.proofs.replaying.command.replay.Goals as goal
@@ -36,7 +37,7 @@ returns-clause-replays g c =
               (g.R.Read.remaining c.run_unadmitted-answer.new.input.inner)
               (g.O.Write.contents c.args.output.now.inner)
               (g.O.Write.contents c.run_unadmitted-answer.new.output.inner) c.run_unadmitted-answer.result
-              c.in-Ok.ensures.lawful (c.in-Ok.ensures.admitted asked) answers;
+              (among_others _ c.in-Ok.ensures.lawful) (c.in-Ok.ensures.admitted asked) answers;
         },
       ),
     )
