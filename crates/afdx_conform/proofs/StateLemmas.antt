@@ -1,0 +1,623 @@
+-- States and explanations.
+use Rattle.std.proofs.Common.{◌≡◌, ℕ, ◌+◌, ◌<◌, ◌≤◌, Bool, true, false, ◌&&◌, List, [], ◌∷◌, ◌++◌, ◌⊎◌, inl, inr, length, reverse, refl, sym, ap, ◌∙◌, subst, arith}
+use Rattle.std.proofs.lemmas.List.{reverse-append, reverse-reverse, append_assoc, append-nil}
+use Rattle.std.proofs.lemmas.Bool.{ltb-true, lt-ltb, leb-true, and_from, and_parts}
+use Rattle.std.specs.Prelude.{IsTrue, if◌then◌else◌, nat_lt}
+use Rattle.std.specs.List.{AllByRecursion}
+use Rattle.std.specs.Str.{bytes_eq}
+use Rattle.afdx_police.specs.Arrival.{Arrival}
+use Rattle.afdx_conform.specs.Leeway.{both_slacks}
+use Rattle.afdx_conform.specs.Levels.{Levels, first_levels, may_pass, has_to_pass, charged, refused}
+use Rattle.afdx_conform.specs.Streams.{Gone, Terms, fits, is_open, is_begun, is_no_sooner, is_in_time, wire_time}
+use Rattle.afdx_conform.specs.Explanations.{Answered, answered, accepted_in, arrivals_in, last_time, link, charge, levels_then, levels_after, AreAllowed, ArePairs, Explains}
+use Rattle.afdx_conform.specs.Laws.{IsSomeState, StatesAreExplanations}
+use Rattle.afdx_conform.specs.States.{Event, Came, Closing, State, state_with, arrivals_came, are_behind, first_states, accepted_states, states_at, states_after, IsBehindClosings, AreInOrder}
+use Rattle.afdx_conform.proofs.AmongLemmas.{Among, among-some, some-among, among-left, among-right, among-cases, led-among, led-from, kept-among, kept-from}
+
+-- the next frame passes
+turn-cons : (y : Gone) (passed rest : List Gone) → reverse (y ∷ passed) ++ rest ≡ reverse passed ++ (y ∷ rest)
+turn-cons y passed rest =
+    ap (λ (l : List Gone). l ++ rest) (reverse-append (y ∷ []) passed)
+    ∙ append_assoc (reverse passed) (y ∷ []) rest
+
+-- what begins with frames that may be of arrivals before the start
+abbrev AreBegun : Terms → List Gone → Type 0
+AreBegun z frames = AllByRecursion (λ y. IsTrue (is_begun z y)) frames
+
+begun-on : (z : Terms) (xs : List Gone) (y : Gone) → AreBegun z xs → IsTrue (is_begun z y) → AreBegun z (xs ++ (y ∷ []))
+begun-on z [] y all h = (h, tt)
+begun-on z (x ∷ xs) y all h = (all.0, begun-on z xs y all.1 h)
+
+-- ---- the states at first
+
+-- what is known of one of them
+record IsFirst (z : Terms) (levels : Levels) (ys : List Gone) (s : State) : Type 0 where
+  pub begun : List Gone
+  pub are_begun : AreBegun z begun
+  pub all : reverse begun ++ s.rest ≡ ys
+  pub levels_are : s.levels ≡ levels
+  pub none_waits : s.waiting ≡ 0
+
+first-from : (z : Terms) (levels : Levels) (ys : List Gone) (s : State)
+    → Among s (first_states z levels ys) → IsFirst z levels ys s
+unfolding first_states
+first-from z levels [] s (inl e) = record {
+  begun = [];
+  are_begun = tt;
+  all = ap (λ (r : State). r.rest) (sym e);
+  levels_are = ap (λ (r : State). r.levels) (sym e);
+  none_waits = ap (λ (r : State). r.waiting) (sym e);
+}
+first-from z levels [] s (inr h) = absurd h
+first-from z levels (y ∷ rest) s (inl e) = record {
+  begun = [];
+  are_begun = tt;
+  all = ap (λ (r : State). r.rest) (sym e);
+  levels_are = ap (λ (r : State). r.levels) (sym e);
+  none_waits = ap (λ (r : State). r.waiting) (sym e);
+}
+first-from z levels (y ∷ rest) s (inr h) = by (is_begun z y) refl h (λ k. first-from z levels rest s k)
+  where
+    by : (b : Bool) → is_begun z y ≡ b → Among s (if b then first_states z levels rest else [])
+        → (Among s (first_states z levels rest) → IsFirst z levels rest s)
+        → IsFirst z levels (y ∷ rest) s
+    by true e k more = let r = more k in record {
+      begun = r.begun ++ (y ∷ []);
+      are_begun = begun-on z r.begun y r.are_begun e;
+      all = ap (λ (l : List Gone). l ++ s.rest) (reverse-append r.begun (y ∷ []))
+          ∙ ap (λ (l : List Gone). y ∷ l) r.all;
+      levels_are = r.levels_are;
+      none_waits = r.none_waits;
+    }
+    by false e k more = absurd k
+
+first-next : (z : Terms) (levels : Levels) (ys : List Gone) (y : Gone) (rest : List Gone)
+    → IsTrue (is_begun z y) → Among (state_with (y ∷ rest) levels 0) (first_states z levels ys)
+    → Among (state_with rest levels 0) (first_states z levels ys)
+unfolding first_states
+first-next z levels [] y rest begun (inl e) =
+    let none : [] ≡ (y ∷ rest) = ap (λ (r : State). r.rest) e in absurd (cc)
+first-next z levels [] y rest begun (inr h) = absurd h
+first-next z levels (w ∷ ws) y rest begun (inl e) =
+    inr (by (is_begun z w) (subst (λ v. is_begun z v ≡ true) head begun))
+  where
+    head : y ≡ w
+    head = let here : (w ∷ ws) ≡ (y ∷ rest) = ap (λ (r : State). r.rest) e in cc
+
+    tail : ws ≡ rest
+    tail = let here : (w ∷ ws) ≡ (y ∷ rest) = ap (λ (r : State). r.rest) e in cc
+
+    at_once : (l : List Gone) → Among (state_with l levels 0) (first_states z levels l)
+    at_once [] = inl refl
+    at_once (v ∷ l) = inl refl
+
+    by : (b : Bool) → b ≡ true → Among (state_with rest levels 0) (if b then first_states z levels ws else [])
+    by true e = subst (λ (l : List Gone). Among (state_with rest levels 0) (first_states z levels l)) (sym tail) (at_once rest)
+    by false e = absurd (cc)
+first-next z levels (w ∷ ws) y rest begun (inr h) = inr (by (is_begun z w) h (λ k. first-next z levels ws y rest begun k))
+  where
+    by : (b : Bool) → Among (state_with (y ∷ rest) levels 0) (if b then first_states z levels ws else [])
+        → (Among (state_with (y ∷ rest) levels 0) (first_states z levels ws)
+        → Among (state_with rest levels 0) (first_states z levels ws))
+        → Among (state_with rest levels 0) (if b then first_states z levels ws else [])
+    by true k more = more k
+    by false k more = absurd k
+
+first-here : (z : Terms) (levels : Levels) (rest : List Gone) → Among (state_with rest levels 0) (first_states z levels rest)
+unfolding first_states
+first-here z levels [] = inl refl
+first-here z levels (y ∷ rest) = inl refl
+
+first-among : (z : Terms) (levels : Levels) (begun rest : List Gone) → AreBegun z begun
+    → Among (state_with rest levels 0) (first_states z levels (reverse begun ++ rest))
+first-among z levels [] rest all = first-here z levels rest
+first-among z levels (y ∷ begun) rest all =
+    subst (λ (l : List Gone). Among (state_with rest levels 0) (first_states z levels l)) (sym (turn-cons y begun rest))
+    (first-next z levels (reverse begun ++ (y ∷ rest)) y rest all.0 (first-among z levels begun (y ∷ rest) all.1))
+
+-- ---- from a state to what explains it
+
+-- answers on the arrivals so far that lead to a state
+record Reached (z : Terms) (ys : List Gone) (events : List Event) (s : State) : Type 0 where
+  pub answers : List Answered
+  pub are_answered : arrivals_in answers ≡ arrivals_came events
+  pub are_allowed : AreAllowed z answers
+  pub levels_are : s.levels ≡ levels_after z answers
+  pub waiting : List Arrival
+  pub took : List Arrival
+  pub count : s.waiting ≡ length waiting
+  pub accepted : accepted_in answers ≡ waiting ++ took
+  pub are_open : AllByRecursion (λ x. IsTrue (is_open z x)) waiting
+  pub passed : List Gone
+  pub are_pairs : ArePairs z took passed
+  pub all : reverse passed ++ s.rest ≡ ys
+  pub last : (waiting ≡ []) ⊎ (s.rest ≡ [])
+
+reached-first : (z : Terms) (ys : List Gone) (s : State) → Among s (first_states z (first_levels (link z) z.by z.by.start) ys)
+    → Reached z ys [] s
+unfolding levels_after accepted_in arrivals_in AreAllowed ArePairs
+reached-first z ys s h =
+    let first = first-from z (first_levels (link z) z.by z.by.start) ys s h in record {
+      answers = [];
+      are_answered = refl;
+      are_allowed = tt;
+      levels_are = first.levels_are;
+      waiting = [];
+      took = [];
+      count = first.none_waits;
+      accepted = refl;
+      are_open = tt;
+      passed = first.begun;
+      are_pairs = first.are_begun;
+      all = first.all;
+      last = inl refl;
+    }
+
+module _ (z : Terms) (ys : List Gone) (x : Arrival) (before : List Event) where
+  -- the levels when the arrival comes to a state
+  abbrev then_levels : State → Levels
+  then_levels p = levels_then z p.levels (last_time z.by (arrivals_came before)) x
+
+  same-levels : (p : State) (r : Reached z ys before p) → then_levels p
+      ≡ levels_then z (levels_after z r.answers) (last_time z.by (arrivals_in r.answers)) x
+  same-levels p r =
+      ap (λ (l : Levels). levels_then z l (last_time z.by (arrivals_came before)) x) r.levels_are
+      ∙ ap (λ (l : List Arrival). levels_then z (levels_after z r.answers) (last_time z.by l) x) (sym r.are_answered)
+
+  -- the arrival was refused
+  reached-refused : (p : State) → Reached z ys before p
+      → has_to_pass (link z) z.by (charge z x) (then_levels p) ≡ false
+      → Reached z ys (Came x ∷ before) (state_with p.rest (refused (link z) z.by (charge z x) (then_levels p)) p.waiting)
+  unfolding levels_after accepted_in arrivals_in AreAllowed
+  reached-refused p r must = record {
+    answers = answered x false ∷ r.answers;
+    are_answered = ap (λ (l : List Arrival). x ∷ l) r.are_answered;
+    are_allowed = (
+      subst (λ (l : Levels). has_to_pass (link z) z.by (charge z x) l ≡ false) (same-levels p r) must,
+      r.are_allowed,
+    );
+    levels_are = ap (λ (l : Levels). refused (link z) z.by (charge z x) l) (same-levels p r);
+    waiting = r.waiting;
+    took = r.took;
+    count = r.count;
+    accepted = r.accepted;
+    are_open = r.are_open;
+    passed = r.passed;
+    are_pairs = r.are_pairs;
+    all = r.all;
+    last = r.last;
+  }
+
+  -- it was accepted, and the next frame is its
+  reached-took : (p : State) (y : Gone) (rest : List Gone) → p.rest ≡ (y ∷ rest) → Reached z ys before p
+      → IsTrue (may_pass (link z) z.by (charge z x) (then_levels p)) → IsTrue (fits z x y)
+      → Reached z ys (Came x ∷ before) (state_with rest (charged (link z) z.by (charge z x) (then_levels p)) p.waiting)
+  unfolding levels_after accepted_in arrivals_in AreAllowed ArePairs
+  reached-took p y rest e r may fit = none_waits r.last
+    where
+      none_waits : (r.waiting ≡ []) ⊎ (p.rest ≡ [])
+          → Reached z ys (Came x ∷ before) (state_with rest (charged (link z) z.by (charge z x) (then_levels p)) p.waiting)
+      none_waits (inr over) = let none : (y ∷ rest) ≡ [] = sym e ∙ over in absurd (cc)
+      none_waits (inl none) = record {
+        answers = answered x true ∷ r.answers;
+        are_answered = ap (λ (l : List Arrival). x ∷ l) r.are_answered;
+        are_allowed = (
+          subst (λ (l : Levels). IsTrue (may_pass (link z) z.by (charge z x) l)) (same-levels p r) may,
+          r.are_allowed,
+        );
+        levels_are = ap (λ (l : Levels). charged (link z) z.by (charge z x) l) (same-levels p r);
+        waiting = [];
+        took = x ∷ r.took;
+        count = r.count ∙ ap (λ (l : List Arrival). length l) none;
+        accepted = ap (λ (l : List Arrival). x ∷ l) (r.accepted ∙ ap (λ (l : List Arrival). l ++ r.took) none);
+        are_open = tt;
+        passed = y ∷ r.passed;
+        are_pairs = (fit, r.are_pairs);
+        all = turn-cons y r.passed rest ∙ ap (λ (l : List Gone). reverse r.passed ++ l) (sym e) ∙ r.all;
+        last = inl refl;
+      }
+
+  -- it was accepted, and waits
+  reached-waits : (p : State) → p.rest ≡ [] → Reached z ys before p
+      → IsTrue (may_pass (link z) z.by (charge z x) (then_levels p)) → IsTrue (is_open z x)
+      → Reached z ys (Came x ∷ before) (state_with [] (charged (link z) z.by (charge z x) (then_levels p)) (p.waiting + 1))
+  unfolding levels_after accepted_in arrivals_in AreAllowed
+  reached-waits p e r may opens = record {
+    answers = answered x true ∷ r.answers;
+    are_answered = ap (λ (l : List Arrival). x ∷ l) r.are_answered;
+    are_allowed = (
+      subst (λ (l : Levels). IsTrue (may_pass (link z) z.by (charge z x) l)) (same-levels p r) may,
+      r.are_allowed,
+    );
+    levels_are = ap (λ (l : Levels). charged (link z) z.by (charge z x) l) (same-levels p r);
+    waiting = x ∷ r.waiting;
+    took = r.took;
+    count = (let n = r.count in omega (arith, n));
+    accepted = ap (λ (l : List Arrival). x ∷ l) r.accepted;
+    are_open = (opens, r.are_open);
+    passed = r.passed;
+    are_pairs = r.are_pairs;
+    all = ap (λ (l : List Gone). reverse r.passed ++ l) (sym e) ∙ r.all;
+    last = inr refl;
+  }
+
+  -- whatever it was
+  reached-came : (p s : State) → Reached z ys before p → Among s (states_at z x (then_levels p) p)
+      → Reached z ys (Came x ∷ before) s
+  unfolding states_at
+  reached-came p s r h = by (among-cases s _ _ h)
+    where
+      accepted-by : (b : Bool) → may_pass (link z) z.by (charge z x) (then_levels p) ≡ b
+          → Among s (if b then accepted_states z x (charged (link z) z.by (charge z x) (then_levels p)) p.waiting p.rest else [])
+          → Reached z ys (Came x ∷ before) s
+      accepted-by false e k = absurd k
+      accepted-by true e k = with_rest p.rest refl k
+        where
+          took-by : (y : Gone) (rest : List Gone) → p.rest ≡ (y ∷ rest) → (b : Bool) → fits z x y ≡ b
+              → Among s (if b then state_with rest (charged (link z) z.by (charge z x) (then_levels p)) p.waiting ∷ [] else [])
+              → Reached z ys (Came x ∷ before) s
+          took-by y rest is false f k = absurd k
+          took-by y rest is true f (inl same) =
+              subst (λ (s : State). Reached z ys (Came x ∷ before) s) same (reached-took p y rest is r e f)
+          took-by y rest is true f (inr k) = absurd k
+
+          waits-by : p.rest ≡ [] → (b : Bool) → is_open z x ≡ b
+              → Among s (if b then state_with [] (charged (link z) z.by (charge z x) (then_levels p)) (p.waiting + 1) ∷ [] else [])
+              → Reached z ys (Came x ∷ before) s
+          waits-by is false f k = absurd k
+          waits-by is true f (inl same) = subst (λ (s : State). Reached z ys (Came x ∷ before) s) same (reached-waits p is r e f)
+          waits-by is true f (inr k) = absurd k
+
+          with_rest : (rest : List Gone) → p.rest ≡ rest
+              → Among s (accepted_states z x (charged (link z) z.by (charge z x) (then_levels p)) p.waiting rest)
+              → Reached z ys (Came x ∷ before) s
+          with_rest [] is k = waits-by is (is_open z x) refl k
+          with_rest (y ∷ rest) is k = took-by y rest is (fits z x y) refl k
+
+      refused-by : (b : Bool) → has_to_pass (link z) z.by (charge z x) (then_levels p) ≡ b
+          → Among s (if b then [] else state_with p.rest (refused (link z) z.by (charge z x) (then_levels p)) p.waiting ∷ [])
+          → Reached z ys (Came x ∷ before) s
+      refused-by true e k = absurd k
+      refused-by false e (inl same) = subst (λ (s : State). Reached z ys (Came x ∷ before) s) same (reached-refused p r e)
+      refused-by false e (inr k) = absurd k
+
+      by : Among s (if may_pass (link z) z.by (charge z x) (then_levels p)
+          then accepted_states z x (charged (link z) z.by (charge z x) (then_levels p)) p.waiting p.rest else [])
+          ⊎ Among s (if has_to_pass (link z) z.by (charge z x) (then_levels p) then []
+          else state_with p.rest (refused (link z) z.by (charge z x) (then_levels p)) p.waiting ∷ [])
+          → Reached z ys (Came x ∷ before) s
+      by (inl k) = accepted-by _ refl k
+      by (inr k) = refused-by _ refl k
+
+-- each state has answers that lead to it
+reached : (z : Terms) (ys : List Gone) (events : List Event) (s : State) → Among s (states_after z ys events)
+    → Reached z ys events s
+unfolding states_after
+reached z ys [] s h = reached-first z ys s h
+reached z ys (Came x ∷ before) s h =
+    let from = led-from (λ p. states_at z x (levels_then z p.levels (last_time z.by (arrivals_came before)) x) p)
+    (states_after z ys before) s h in
+    reached-came z ys x before from.of s (reached z ys before from.of from.among) from.to
+reached z ys (Closing time ∷ before) s h =
+    let r = reached z ys before s (kept-from (λ s. are_behind time s.rest) (states_after z ys before) s h).0 in record {
+      answers = r.answers;
+      are_answered = r.are_answered;
+      are_allowed = r.are_allowed;
+      levels_are = r.levels_are;
+      waiting = r.waiting;
+      took = r.took;
+      count = r.count;
+      accepted = r.accepted;
+      are_open = r.are_open;
+      passed = r.passed;
+      are_pairs = r.are_pairs;
+      all = r.all;
+      last = r.last;
+    }
+
+-- ---- from what explains a stream to a state
+
+-- the frames that are left are behind each closing
+abbrev AreBehindAll : List Gone → List Event → Type 0
+AreBehindAll rest [] = Unit {0}
+AreBehindAll rest (Came x ∷ before) = AreBehindAll rest before
+AreBehindAll rest (Closing time ∷ before) = (are_behind time rest ≡ true) × AreBehindAll rest before
+
+behind-none : (events : List Event) → AreBehindAll [] events
+unfolding are_behind
+behind-none [] = tt
+behind-none (Came x ∷ before) = behind-none before
+behind-none (Closing time ∷ before) = (refl, behind-none before)
+
+-- what fits is no earlier than the arrival, but for the stamps
+fits-after : (z : Terms) (x : Arrival) (y : Gone) → IsTrue (fits z x y) → x.time ≤ y.time + both_slacks z.by
+unfolding fits
+fits-after z x y h =
+    let both = and_parts (bytes_eq x.bytes y.bytes && is_no_sooner z x y) (is_in_time z x y) h in
+    let two = and_parts (bytes_eq x.bytes y.bytes) (is_no_sooner z x y) both.0 in
+    let stored = leb-true (x.time + wire_time z x.bytes) (y.time + both_slacks z.by) two.1 in omega (arith, stored)
+
+behind-next : (z : Terms) (x : Arrival) (y : Gone) (rest : List Gone) (events : List Event)
+    → IsTrue (fits z x y) → IsBehindClosings z x events → AreBehindAll rest events → AreBehindAll (y ∷ rest) events
+unfolding are_behind IsBehindClosings
+behind-next z x y rest [] fit order all = tt
+behind-next z x y rest (Came w ∷ before) fit order all = behind-next z x y rest before fit order all
+behind-next z x y rest (Closing time ∷ before) fit order all =
+    let after = fits-after z x y fit in
+    let earlier = order.0 in
+    let later : time < y.time = omega (arith, after, earlier) in (
+      and_from _ _ (lt-ltb _ _ later) all.0,
+      behind-next z x y rest before fit order.1 all.1,
+    )
+
+-- an explanation of the arrivals so far, and where it stands
+record Explained (z : Terms) (ys : List Gone) (events : List Event) (answers : List Answered)
+    (waiting took : List Arrival) (passed rest : List Gone) : Type 0 where
+  pub are_answered : arrivals_in answers ≡ arrivals_came events
+  pub are_allowed : AreAllowed z answers
+  pub accepted : accepted_in answers ≡ waiting ++ took
+  pub are_open : AllByRecursion (λ x. IsTrue (is_open z x)) waiting
+  pub are_pairs : ArePairs z took passed
+  pub all : reverse passed ++ rest ≡ ys
+  pub last : (waiting ≡ []) ⊎ (rest ≡ [])
+  pub behind : AreBehindAll rest events
+
+-- the state where it stands
+abbrev standing : Terms → List Answered → List Arrival → List Gone → State
+standing z answers waiting rest = state_with rest (levels_after z answers) (length waiting)
+
+none-first : (waiting took : List Arrival) → [] ≡ waiting ++ took → (waiting ≡ []) × (took ≡ [])
+none-first [] [] e = (refl, refl)
+none-first [] (x ∷ took) e = absurd (cc)
+none-first (x ∷ waiting) took e = absurd (cc)
+
+among-first : (z : Terms) (ys : List Gone) (answers : List Answered) (waiting took : List Arrival) (passed rest : List Gone)
+    → Explained z ys [] answers waiting took passed rest
+    → Among (standing z answers waiting rest) (first_states z (first_levels (link z) z.by z.by.start) ys)
+unfolding levels_after accepted_in arrivals_in ArePairs
+among-first z ys [] waiting took passed rest e =
+    let none = none-first waiting took e.accepted in
+    let begun : ArePairs z [] passed = subst (λ (l : List Arrival). ArePairs z l passed) none.1 e.are_pairs in
+    let first = first-among z (first_levels (link z) z.by z.by.start) passed rest begun in
+    let here = subst (λ (l : List Gone). Among (state_with rest (first_levels (link z) z.by z.by.start) 0)
+    (first_states z (first_levels (link z) z.by z.by.start) l)) e.all first in
+    subst (λ (n : ℕ). Among (state_with rest (first_levels (link z) z.by z.by.start) n)
+    (first_states z (first_levels (link z) z.by z.by.start) ys)) (sym (ap (λ (l : List Arrival). length l) none.0)) here
+among-first z ys (a ∷ answers) waiting took passed rest e = let none = e.are_answered in absurd (cc)
+
+module _ (z : Terms) (x : Arrival) (levels old : Levels) (n : ℕ) where
+  if-true : {X : Type 0} (b : Bool) (u v : X) → b ≡ true → (if b then u else v) ≡ u
+  if-true true u v e = refl
+  if-true false u v e = absurd (cc)
+
+  if-false : {X : Type 0} (b : Bool) (u v : X) → b ≡ false → (if b then u else v) ≡ v
+  if-false true u v e = absurd (cc)
+  if-false false u v e = refl
+
+  pub refused-state : (rest : List Gone) → has_to_pass (link z) z.by (charge z x) levels ≡ false
+      → Among (state_with rest (refused (link z) z.by (charge z x) levels) n) (states_at z x levels (state_with rest old n))
+  unfolding states_at
+  refused-state rest e =
+      among-right _ (if may_pass (link z) z.by (charge z x) levels
+      then accepted_states z x (charged (link z) z.by (charge z x) levels) n rest else []) _
+      (subst (λ (l : List State). Among (state_with rest (refused (link z) z.by (charge z x) levels) n) l)
+      (sym (if-false (has_to_pass (link z) z.by (charge z x) levels) []
+      (state_with rest (refused (link z) z.by (charge z x) levels) n ∷ []) e)) (inl refl))
+
+  pub accepted-state : (rest : List Gone) (t : State) → IsTrue (may_pass (link z) z.by (charge z x) levels)
+      → Among t (accepted_states z x (charged (link z) z.by (charge z x) levels) n rest)
+      → Among t (states_at z x levels (state_with rest old n))
+  unfolding states_at
+  accepted-state rest t may h =
+      among-left t _ _ (subst (λ (l : List State). Among t l)
+      (sym (if-true (may_pass (link z) z.by (charge z x) levels)
+      (accepted_states z x (charged (link z) z.by (charge z x) levels) n rest) [] may)) h)
+
+  pub took-state : (y : Gone) (rest : List Gone) → IsTrue (may_pass (link z) z.by (charge z x) levels) → IsTrue (fits z x y)
+      → Among (state_with rest (charged (link z) z.by (charge z x) levels) n) (states_at z x levels (state_with (y ∷ rest) old n))
+  took-state y rest may fit = accepted-state (y ∷ rest) _ may
+      (subst (λ (l : List State). Among (state_with rest (charged (link z) z.by (charge z x) levels) n) l)
+      (sym (if-true (fits z x y) (state_with rest (charged (link z) z.by (charge z x) levels) n ∷ []) [] fit)) (inl refl))
+
+  pub waits-state : IsTrue (may_pass (link z) z.by (charge z x) levels) → IsTrue (is_open z x)
+      → Among (state_with [] (charged (link z) z.by (charge z x) levels) (n + 1)) (states_at z x levels (state_with [] old n))
+  waits-state may opens = accepted-state [] _ may
+      (subst (λ (l : List State). Among (state_with [] (charged (link z) z.by (charge z x) levels) (n + 1)) l)
+      (sym (if-true (is_open z x) (state_with [] (charged (link z) z.by (charge z x) levels) (n + 1) ∷ []) [] opens)) (inl refl))
+
+-- one more arrival, whose answer is known, and where it stood before
+module _ (z : Terms) (ys : List Gone) (x : Arrival) (before : List Event) (more : List Answered)
+    (same : arrivals_in more ≡ arrivals_came before) where
+  abbrev levels_of : List Arrival → Levels
+  levels_of came = levels_then z (levels_after z more) (last_time z.by came) x
+
+  lead : State → List State
+  lead p = states_at z x (levels_then z p.levels (last_time z.by (arrivals_came before)) x) p
+
+  came-refused : (waiting : List Arrival) (rest : List Gone) → Among (standing z more waiting rest) (states_after z ys before)
+      → has_to_pass (link z) z.by (charge z x) (levels_of (arrivals_in more)) ≡ false
+      → Among (standing z (answered x false ∷ more) waiting rest) (states_after z ys (Came x ∷ before))
+  unfolding states_after levels_after arrivals_in
+  came-refused waiting rest h e =
+      subst (λ (came : List Arrival). Among (state_with rest (refused (link z) z.by (charge z x) (levels_of came)) (length waiting))
+      (states_after z ys (Came x ∷ before))) (sym same)
+      (led-among _ (states_after z ys before) (standing z more waiting rest) _ h
+      (refused-state z x (levels_of (arrivals_came before)) (levels_after z more) (length waiting) rest
+      (subst (λ (came : List Arrival). has_to_pass (link z) z.by (charge z x) (levels_of came) ≡ false) same e)))
+
+  came-took : (waiting : List Arrival) (y : Gone) (rest : List Gone)
+      → Among (standing z more waiting (y ∷ rest)) (states_after z ys before)
+      → IsTrue (may_pass (link z) z.by (charge z x) (levels_of (arrivals_in more))) → IsTrue (fits z x y)
+      → Among (standing z (answered x true ∷ more) waiting rest) (states_after z ys (Came x ∷ before))
+  unfolding states_after levels_after arrivals_in
+  came-took waiting y rest h e fit =
+      subst (λ (came : List Arrival). Among (state_with rest (charged (link z) z.by (charge z x) (levels_of came)) (length waiting))
+      (states_after z ys (Came x ∷ before))) (sym same)
+      (led-among _ (states_after z ys before) (standing z more waiting (y ∷ rest)) _ h
+      (took-state z x (levels_of (arrivals_came before)) (levels_after z more) (length waiting) y rest
+      (subst (λ (came : List Arrival). IsTrue (may_pass (link z) z.by (charge z x) (levels_of came))) same e) fit))
+
+  came-waits : (w : Arrival) (waiting : List Arrival) → Among (standing z more waiting []) (states_after z ys before)
+      → IsTrue (may_pass (link z) z.by (charge z x) (levels_of (arrivals_in more))) → IsTrue (is_open z x)
+      → Among (standing z (answered x true ∷ more) (w ∷ waiting) []) (states_after z ys (Came x ∷ before))
+  unfolding states_after levels_after arrivals_in
+  came-waits w waiting h e opens =
+      let one : length waiting + 1 ≡ length (w ∷ waiting) = omega arith in
+      subst (λ (n : ℕ). Among (state_with [] (charged (link z) z.by (charge z x) (levels_of (arrivals_in more))) n)
+      (states_after z ys (Came x ∷ before))) one
+      (subst (λ (came : List Arrival). Among (state_with [] (charged (link z) z.by (charge z x) (levels_of came)) (length waiting + 1))
+      (states_after z ys (Came x ∷ before))) (sym same)
+      (led-among _ (states_after z ys before) (standing z more waiting []) _ h
+      (waits-state z x (levels_of (arrivals_came before)) (levels_after z more) (length waiting)
+      (subst (λ (came : List Arrival). IsTrue (may_pass (link z) z.by (charge z x) (levels_of came))) same e) opens)))
+
+module _ (z : Terms) (ys : List Gone) where
+  -- the newest answer is on the arrival that came last
+  came-of : (x : Arrival) (before : List Event) (b : Bool) (more : List Answered)
+      (waiting took : List Arrival) (passed rest : List Gone) → IsBehindClosings z x before
+      → Explained z ys (Came x ∷ before) (answered x b ∷ more) waiting took passed rest
+      → ((w t : List Arrival) (p r : List Gone) → Explained z ys before more w t p r
+      → Among (standing z more w r) (states_after z ys before))
+      → Among (standing z (answered x b ∷ more) waiting rest) (states_after z ys (Came x ∷ before))
+  unfolding arrivals_in accepted_in AreAllowed ArePairs
+  came-of x before false more waiting took passed rest order e so_far =
+      let same : arrivals_in more ≡ arrivals_came before = let all = e.are_answered in cc in
+      came-refused z ys x before more same waiting rest
+      (so_far waiting took passed rest (record {
+        are_answered = same;
+        are_allowed = e.are_allowed.1;
+        accepted = e.accepted;
+        are_open = e.are_open;
+        are_pairs = e.are_pairs;
+        all = e.all;
+        last = e.last;
+        behind = e.behind;
+      })) e.are_allowed.0
+  came-of x before true more (w ∷ waiting) took passed rest order e so_far = by e.last
+    where
+      same : arrivals_in more ≡ arrivals_came before
+      same = let all = e.are_answered in cc
+
+      head : x ≡ w
+      head = let all = e.accepted in cc
+
+      tail : accepted_in more ≡ waiting ++ took
+      tail = let all = e.accepted in cc
+
+      by : ((w ∷ waiting) ≡ []) ⊎ (rest ≡ [])
+          → Among (standing z (answered x true ∷ more) (w ∷ waiting) rest) (states_after z ys (Came x ∷ before))
+      by (inl none) = absurd (cc)
+      by (inr none) =
+          subst (λ (l : List Gone).
+          Among (standing z (answered x true ∷ more) (w ∷ waiting) l) (states_after z ys (Came x ∷ before)))
+          (sym none)
+          (came-waits z ys x before more same w waiting
+          (so_far waiting took passed [] (record {
+            are_answered = same;
+            are_allowed = e.are_allowed.1;
+            accepted = tail;
+            are_open = e.are_open.1;
+            are_pairs = e.are_pairs;
+            all = subst (λ (l : List Gone). reverse passed ++ l ≡ ys) none e.all;
+            last = inr refl;
+            behind = behind-none before;
+          })) e.are_allowed.0 (subst (λ (v : Arrival). IsTrue (is_open z v)) (sym head) e.are_open.0))
+  came-of x before true more [] (w ∷ took) (y ∷ passed) rest order e so_far =
+      let same : arrivals_in more ≡ arrivals_came before = let all = e.are_answered in cc in
+      let head : x ≡ w = let all = e.accepted in cc in
+      let tail : accepted_in more ≡ took = let all = e.accepted in cc in
+      let fit : IsTrue (fits z x y) = subst (λ (v : Arrival). IsTrue (fits z v y)) (sym head) e.are_pairs.0 in
+      came-took z ys x before more same [] y rest
+      (so_far [] took passed (y ∷ rest) (record {
+        are_answered = same;
+        are_allowed = e.are_allowed.1;
+        accepted = tail;
+        are_open = tt;
+        are_pairs = e.are_pairs.1;
+        all = sym (turn-cons y passed rest) ∙ e.all;
+        last = inl refl;
+        behind = behind-next z x y rest before fit order e.behind;
+      })) e.are_allowed.0 fit
+  came-of x before true more [] (w ∷ took) [] rest order e so_far = absurd e.are_pairs
+  came-of x before true more [] [] passed rest order e so_far = let all = e.accepted in absurd (cc)
+
+  -- whatever explains the events so far is a state
+  among-of : (events : List Event) → AreInOrder z events → (answers : List Answered)
+      (waiting took : List Arrival) (passed rest : List Gone)
+      → Explained z ys events answers waiting took passed rest
+      → Among (standing z answers waiting rest) (states_after z ys events)
+  unfolding states_after AreInOrder arrivals_in
+  among-of [] order answers waiting took passed rest e = among-first z ys answers waiting took passed rest e
+  among-of (Closing time ∷ before) order answers waiting took passed rest e =
+      kept-among (λ s. are_behind time s.rest) (states_after z ys before) (standing z answers waiting rest)
+      (among-of before order answers waiting took passed rest (record {
+        are_answered = e.are_answered;
+        are_allowed = e.are_allowed;
+        accepted = e.accepted;
+        are_open = e.are_open;
+        are_pairs = e.are_pairs;
+        all = e.all;
+        last = e.last;
+        behind = e.behind.1;
+      })) e.behind.0
+  among-of (Came x ∷ before) order [] waiting took passed rest e = let none = e.are_answered in absurd (cc)
+  among-of (Came x ∷ before) order (a ∷ more) waiting took passed rest e =
+      let head : a.arrival ≡ x = let all = e.are_answered in cc in
+      let is : a ≡ answered x a.accepted = ap (λ (v : Arrival). answered v a.accepted) head in
+      subst (λ (b : Answered). Among (standing z (b ∷ more) waiting rest) (states_after z ys (Came x ∷ before))) (sym is)
+      (came-of x before a.accepted more waiting took passed rest order.0
+      (subst (λ (b : Answered). Explained z ys (Came x ∷ before) (b ∷ more) waiting took passed rest) is e)
+      (λ w t p r so. among-of before order.1 more w t p r so))
+
+-- ---- once all frames are closed
+
+behind-end : (end : ℕ) (before rest : List Gone) → AllByRecursion (λ (y : Gone). y.time ≤ end) (before ++ rest)
+    → are_behind end rest ≡ true → rest ≡ []
+unfolding are_behind
+behind-end end [] [] all h = refl
+behind-end end [] (y ∷ rest) all h =
+    let late = ltb-true end y.time (and_parts (nat_lt end y.time) (are_behind end rest) h).0 in
+    let early = all.0 in absurd (omega (arith, late, early))
+behind-end end (x ∷ before) rest all h = behind-end end before rest all.1 h
+
+pub states_explain : StatesAreExplanations
+unfolding states_after are_behind
+states_explain z ys events end order all = (there, back)
+  where
+    explains-by : (s : State) → Among s (states_after z ys (Closing end ∷ events)) → Explains z (arrivals_came events) (reverse ys)
+    explains-by s h =
+        let kept = kept-from (λ s. are_behind end s.rest) (states_after z ys events) s h in
+        let r = reached z ys events s kept.0 in
+        let none : s.rest ≡ [] = behind-end end (reverse r.passed) s.rest
+        (subst (λ (l : List Gone). AllByRecursion (λ (y : Gone). y.time ≤ end) l) (sym r.all) all) kept.1 in
+        let turned : reverse r.passed ≡ ys = sym (append-nil (reverse r.passed))
+        ∙ ap (λ (l : List Gone). reverse r.passed ++ l) (sym none) ∙ r.all in
+        let passed : r.passed ≡ reverse ys = sym (reverse-reverse r.passed) ∙ ap (λ (l : List Gone). reverse l) turned in
+        record {
+          answers = r.answers;
+          are_answered = r.are_answered;
+          are_allowed = r.are_allowed;
+          waiting = r.waiting;
+          took = r.took;
+          accepted = r.accepted;
+          are_open = r.are_open;
+          are_pairs = subst (λ (l : List Gone). ArePairs z r.took l) passed r.are_pairs;
+        }
+
+    there : IsSomeState (states_after z ys (Closing end ∷ events)) → Explains z (arrivals_came events) (reverse ys)
+    there h = let s = some-among (states_after z ys (Closing end ∷ events)) h in explains-by s.0 s.1
+
+    back : Explains z (arrivals_came events) (reverse ys) → IsSomeState (states_after z ys (Closing end ∷ events))
+    back e =
+        among-some (standing z e.answers e.waiting []) (states_after z ys (Closing end ∷ events))
+        (kept-among (λ s. are_behind end s.rest) (states_after z ys events) (standing z e.answers e.waiting [])
+        (among-of z ys events order e.answers e.waiting e.took (reverse ys) [] (record {
+          are_answered = e.are_answered;
+          are_allowed = e.are_allowed;
+          accepted = e.accepted;
+          are_open = e.are_open;
+          are_pairs = e.are_pairs;
+          all = append-nil (reverse (reverse ys)) ∙ reverse-reverse ys;
+          last = inr refl;
+          behind = behind-none events;
+        })) refl)

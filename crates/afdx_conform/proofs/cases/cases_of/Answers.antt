@@ -1,0 +1,42 @@
+use Rattle.std.proofs.Common.{ℕ, ◌++◌, List, [], ◌∷◌, map, drop, get_or, sym, ap, ◌∙◌, subst, arith}
+use Rattle.std.proofs.lemmas.List.{map-append, take_more, take_all}
+use Rattle.std.proofs.lemmas.List.Elements.{All-push}
+use Rattle.std.specs.Prelude.{All}
+use Rattle.afdx_conform.specs.HeldStates.{IsNext}
+use Rattle.afdx_conform.specs.Limits.{gone_of}
+use Rattle.afdx_conform.specs.declared.states.Case.{Case}
+use Rattle.afdx_conform.specs.declared.states.Held.{Held}
+use Rattle.afdx_conform.proofs.cases.cases_of.Goals as goal
+
+abbrev no-held : Held
+no-held = record { passed = 0; levels = record { lo = 0; hi = 0 }; waiting = 0 }
+
+pub loop-state-init : goal.loop-state-init
+loop-state-init c = (
+  ap (λ (l : List Case). map (λ (d : Case). d.held) l) c.new-out.ensures.items,
+  λ z x a at of opens. subst (λ (l : List Case). All (λ d. IsNext z x (drop d.held.passed (map gone_of c.args.frames.now)) d.next) l)
+      (sym c.new-out.ensures.items) (λ i d lt. absurd (omega (arith, lt))),
+)
+
+pub loop-state-preserved : goal.loop-state-preserved
+loop-state-preserved c =
+    let i : ℕ = c.loop-state.state-index in
+    let held : Held = get_or c.args.held.now c.loop-state.state-index no-held in
+    let case : Case = record { held = held; next = c.next-next.result } in (
+      ap (λ (l : List Case). map (λ (d : Case). d.held) l) c.in_ok-push.ensures.items
+          ∙ map-append (λ (d : Case). d.held) c.loop-state.out.items (case ∷ [])
+          ∙ ap (λ (l : List Held). l ++ (held ∷ [])) c.loop-state.invariant.0
+          ∙ sym (take_more c.args.held.now c.loop-state.state-index no-held c.loop-state-test.true),
+      λ z x a at of opens. subst (λ (l : List Case). All (λ d. IsNext z x (drop d.held.passed (map gone_of c.args.frames.now)) d.next) l)
+          (sym c.in_ok-push.ensures.items)
+          (All-push (λ (d : Case). IsNext z x (drop d.held.passed (map gone_of c.args.frames.now)) d.next) c.loop-state.out.items case
+          (c.loop-state.invariant.1 z x a at of opens) (c.next-next.ensures z x a at of opens)),
+    )
+
+pub returns-clause-held : goal.returns-clause-held
+returns-clause-held c =
+    c.loop-state.invariant.0
+    ∙ take_all c.loop-state.state-index c.args.held.now (let h = c.loop-state-test.false in omega (arith, h))
+
+pub returns-clause-next : goal.returns-clause-next
+returns-clause-next c z x a at of opens = c.loop-state.invariant.1 z x a at of opens

@@ -1,0 +1,15 @@
+use Rattle.std.proofs.Common.{◌≡◌, map, take, drop}
+use Rattle.std.specs.Prelude.{All}
+use Rattle.afdx_police.specs.Arrival.{Arrival}
+use Rattle.afdx_conform.specs.HeldStates.{IsNext}
+use Rattle.afdx_conform.specs.Limits.{AreLimits, gone_of}
+use Rattle.afdx_conform.specs.Streams.{Terms, is_open}
+use Rattle.afdx_conform.specs.declared.states.Case.{Case}
+use Rattle.afdx_conform.proofs.cases.cases_of.Given as goal
+
+abbrev pub invariant-loop-state : goal.invariant-loop-state
+invariant-loop-state l =
+    (map (λ (c : Case). c.held) l.out.items ≡ take l.state-index l.held)
+    × ((z : Terms) (x : Arrival) → AreLimits z l.limits → x.time ≡ l.time → x.bytes ≡ l.bytes →
+    l.is_open ≡ is_open z x →
+    All (λ c. IsNext z x (drop c.held.passed (map gone_of l.frames)) c.next) l.out.items)

@@ -1,0 +1,12 @@
+use Rattle.std.proofs.Common.{◌∙◌, arith}
+use Rattle.afdx_conform.proofs.LevelLemmas.{rated-cost, levels-same}
+use Rattle.afdx_conform.proofs.levels.Rates.charged.Goals as goal
+
+pub returns-clause-moved : goal.returns-clause-moved
+returns-clause-moved c link by r =
+    let cost = c.cost-cost.ensures ∙ rated-cost link by c.args.self.now c.args.charge r in
+    let full = r.full in
+    let slip = r.slow_slip in
+    let least = c.min.ensures in
+    let most = c.max.ensures in
+    levels-same _ _ _ _ (omega (arith, cost)) (omega (arith, cost, full, slip, least, most))

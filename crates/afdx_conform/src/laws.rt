@@ -1,0 +1,56 @@
+//! Laws over the definitions.
+
+ghost use Rattle.afdx_conform.specs.Ahead.{EndChangesNothing, LaterFramesChangeNothing};
+ghost use Rattle.afdx_conform.specs.FindingLaws.{FoundWhereNoneIsLeft, NothingFoundIsExplained};
+ghost use Rattle.afdx_conform.specs.FromLevel.{AllowedIsSomeAccount};
+ghost use Rattle.afdx_conform.specs.Hiding.{WhatPassedKeepsWindows};
+ghost use Rattle.afdx_conform.specs.Laws.{StatesAreExplanations, ExactIsTheHeadline};
+ghost use Rattle.afdx_conform.specs.Right.{RightIsExplained, SomeIsRight};
+ghost use Rattle.afdx_conform.specs.Thinned.{KeptAreEnough};
+
+/// Once all frames are closed, a state is left exactly where something explains the stream.
+pub fn states_are_explanations()
+    ensures { StatesAreExplanations }
+{}
+
+/// With exact stamps and clocks, from a reset on, something explains a stream exactly where it is
+/// as the headline says.
+pub fn exact_is_the_headline()
+    ensures { ExactIsTheHeadline }
+{}
+
+/// Where after each event states are dropped that others outdo, what is kept outdoes all states.
+pub fn kept_are_enough()
+    ensures { KeptAreEnough }
+{}
+
+/// A right switch is never accused, if stamps and clocks keep their accuracy. There is one.
+pub fn right_is_explained()
+    ensures all { RightIsExplained }
+    ensures some { SomeIsRight }
+{}
+
+/// What comes later changes nothing of the states so far: frames that left too late for the
+/// arrivals, and the end, while no arrival is open.
+pub fn later_changes_nothing()
+    ensures frames { LaterFramesChangeNothing }
+    ensures end { EndChangesNothing }
+{}
+
+/// What passed keeps every window, as far as clocks and stamps can tell.
+pub fn what_passed_keeps_windows()
+    ensures { WhatPassedKeepsWindows }
+{}
+
+/// With exact stamps and clocks, answers are allowed exactly where some account at the start gives
+/// them.
+pub fn allowed_is_some_account()
+    ensures { AllowedIsSomeAccount }
+{}
+
+/// Nothing is found exactly where a state is left; once all frames are closed, exactly where
+/// something explains the stream: unless there were too many states.
+pub fn found_where_none_is_left()
+    ensures states { FoundWhereNoneIsLeft }
+    ensures explained { NothingFoundIsExplained }
+{}

@@ -1,0 +1,18 @@
+//! Whether a recorded switch did what the rules say: laws over definitions, and the steps by which
+//! the explanations of what was recorded follow it.
+//!
+//! A stream is one link, on one side, at one output port. Its tests are in `afdx_part_tests`.
+#![tactic(auto)]
+
+mod cases;
+pub mod laws;
+mod leeway;
+mod levels;
+mod limits;
+mod states;
+
+pub use cases::cases_of;
+pub use leeway::Leeway;
+pub use levels::{Levels, Rates};
+pub use limits::{Frame, Limits};
+pub use states::{Case, Held, Next, came, close, lead_all, thinned};

@@ -1,0 +1,270 @@
+//! The states of a stream: the explanations so far.
+
+ghost use Rattle.std.specs.Prelude.{◌≡◌, ◌≤◌, ◌<◌, ◌+◌, ◌-◌, ◌++◌, ℕ, List, [], ◌∷◌};
+ghost use Rattle.std.specs.Prelude.{map, drop, length, All, IfOk, OnOk};
+ghost use Rattle.std.specs.List.{list_any};
+ghost use Rattle.std.specs.Option.{option_to_list};
+ghost use Rattle.afdx_police.specs.Arrival.{Arrival};
+ghost use Rattle.afdx_conform.specs.Accounts.{AreRates, AreLevels};
+ghost use Rattle.afdx_conform.specs.Explanations.{link, charge as charge_of, last_time, levels_then};
+ghost use Rattle.afdx_conform.specs.Findings.{thinned_onto};
+ghost use Rattle.afdx_conform.specs.HeldStates.{IsNext, IsSmall, AreClosed, AreFront, state_of};
+ghost use Rattle.afdx_conform.specs.HeldStates.{states_if_accepted, states_if_refused};
+ghost use Rattle.afdx_conform.specs.HeldStates.{outdoes, kept_with};
+ghost use Rattle.afdx_conform.specs.Ranges.{most_charge, most_held};
+ghost use Rattle.afdx_conform.specs.States.{Event, Came, Closing, arrivals_came, accepted_states};
+ghost use Rattle.afdx_conform.specs.States.{states_at, led_by, kept, are_behind};
+ghost use Rattle.afdx_conform.specs.Streams.{Gone, Terms};
+ghost use Rattle.afdx_conform.specs.Thinned.{AreEnough, AreKept};
+
+use crate::levels::{Levels, Rates};
+use std::alloc::{AllocError, Global};
+
+/// What stands next in a state for an arrival that is accepted.
+#[derive(Clone, Copy, Debug, PartialEq, Eq)]
+pub enum Next {
+    /// A frame that may be what the switch made of it.
+    Fits,
+    /// Another frame.
+    Other,
+    /// No frame, and what the switch made of it may have left unseen.
+    Open,
+    /// No frame, and it would have been seen.
+    Over,
+}
+
+/// A state: how many frames are explained, the account's levels at the last arrival, how many
+/// accepted arrivals wait for a frame.
+#[derive(Clone, Copy, Debug, PartialEq, Eq)]
+pub struct Held {
+    pub passed: usize,
+    pub levels: Levels,
+    pub waiting: u64,
+}
+
+impl Held {
+    /// Whether it allows all that another state does, with no more arrivals that wait.
+    #[tactic(auto, unfolding(crate::specs::HeldStates::outdoes))]
+    fn outdoes(&self, other: &Held) -> bool
+        ensures { result ≡ outdoes self.now other.now }
+    {
+        self.passed == other.passed
+            && self.levels.lo <= other.levels.lo
+            && other.levels.hi <= self.levels.hi
+            && self.waiting <= other.waiting
+    }
+
+    /// The state once an arrival is accepted, which leaves these levels, if it can be.
+    fn accepted(self, levels: Levels, next: Next) -> Option<Held>
+        requires passed { self.passed < most_held }
+        requires waiting { self.waiting < most_held }
+        ensures { (z : Terms) (x : Arrival) (ys : List Gone) →
+            IsNext z x (drop self.passed ys) next →
+            accepted_states z x levels self.waiting (drop self.passed ys)
+            ≡ map (state_of ys) (option_to_list result) }
+    {
+        match next {
+            Next::Fits => Some(Held {
+                passed: self.passed + 1,
+                levels,
+                waiting: self.waiting,
+            }),
+            Next::Open => Some(Held {
+                passed: self.passed,
+                levels,
+                waiting: self.waiting + 1,
+            }),
+            Next::Other | Next::Over => None,
+        }
+    }
+
+    /// The state once an arrival of this charge, in bytes, is accepted, if it may have room.
+    /// `levels` are those when it comes.
+    fn if_accepted(self, rates: &Rates, levels: Levels, charge: u64, next: Next) -> Option<Held>
+        requires passed { self.passed < most_held }
+        requires waiting { self.waiting < most_held }
+        requires cost { charge ≤ most_charge }
+        requires bounded { AreLevels rates.now levels }
+        ensures { (z : Terms) (x : Arrival) (ys : List Gone) →
+            AreRates (link z) z.by rates.now →
+            charge ≡ charge_of z x →
+            IsNext z x (drop self.passed ys) next →
+            states_if_accepted z x levels self.waiting (drop self.passed ys)
+            ≡ map (state_of ys) (option_to_list result) }
+    {
+        if rates.may_pass(levels, charge) {
+            self.accepted(rates.charged(levels, charge), next)
+        } else {
+            None
+        }
+    }
+
+    /// The state once an arrival of this charge is refused, if it may have had no room.
+    fn if_refused(self, rates: &Rates, levels: Levels, charge: u64) -> Option<Held>
+        requires cost { charge ≤ most_charge }
+        requires some { 0 < charge }
+        requires bounded { AreLevels rates.now levels }
+        ensures { (z : Terms) (x : Arrival) (ys : List Gone) →
+            AreRates (link z) z.by rates.now →
+            charge ≡ charge_of z x →
+            states_if_refused z x levels self.waiting (drop self.passed ys)
+            ≡ map (state_of ys) (option_to_list result) }
+    {
+        if rates.has_to_pass(levels, charge) {
+            None
+        } else {
+            Some(Held {
+                passed: self.passed,
+                levels: rates.refused(levels, charge),
+                waiting: self.waiting,
+            })
+        }
+    }
+
+    /// The states to which an arrival of this charge leads: accepted, and refused.
+    pub fn lead(
+        self,
+        rates: &Rates,
+        levels: Levels,
+        charge: u64,
+        next: Next,
+    ) -> (Option<Held>, Option<Held>)
+        requires passed { self.passed < most_held }
+        requires waiting { self.waiting < most_held }
+        requires cost { charge ≤ most_charge }
+        requires some { 0 < charge }
+        requires bounded { AreLevels rates.now levels }
+        ensures { (z : Terms) (x : Arrival) (ys : List Gone) →
+            AreRates (link z) z.by rates.now →
+            charge ≡ charge_of z x →
+            IsNext z x (drop self.passed ys) next →
+            states_at z x levels (state_of ys self)
+            ≡ map (state_of ys) (option_to_list result.0 ++ option_to_list result.1) }
+    {
+        (
+            self.if_accepted(rates, levels, charge, next),
+            self.if_refused(rates, levels, charge),
+        )
+    }
+}
+
+/// A state, and what stands next in it.
+#[derive(Clone, Copy, Debug, PartialEq, Eq)]
+pub struct Case {
+    pub held: Held,
+    pub next: Next,
+}
+
+/// Puts a state behind others, if there is one.
+fn push_some(out: &mut Vec<Held>, held: Option<Held>) -> Result<(), AllocError>
+    ensures { OnOk result (out.new.items ≡ out.old.items ++ option_to_list held) }
+{
+    if let Some(held) = held {
+        out.push(held)?;
+    }
+    Ok(())
+}
+
+/// All states to which an arrival of this charge, in bytes, leads that comes so many ns after the
+/// one before. Fails only out of memory.
+pub fn lead_all(
+    alloc: Global,
+    rates: &Rates,
+    cases: &[Case],
+    ns: u64,
+    charge: u64,
+) -> Result<Vec<Held>, AllocError>
+    requires cost { charge ≤ most_charge }
+    requires some { 0 < charge }
+    requires small { All (λ c. IsSmall rates.now c.held) cases.now }
+    ensures { (z : Terms) (x : Arrival) (ys : List Gone) (last : ℕ) →
+        AreRates (link z) z.by rates.now →
+        charge ≡ charge_of z x →
+        ns ≡ x.time - last →
+        All (λ c. IsNext z x (drop c.held.passed ys) c.next) cases.now →
+        IfOk result (λ out. map (state_of ys) out.items
+        ≡ led_by (λ s. states_at z x (levels_then z s.levels last x) s)
+        (map (λ c. state_of ys c.held) cases.now)) }
+{
+    let mut out = Vec::new(alloc);
+    for case in cases {
+        let levels = rates.later(case.held.levels, ns);
+        let (accepted, refused) = case.held.lead(rates, levels, charge, case.next);
+        push_some(&mut out, accepted)?;
+        push_some(&mut out, refused)?;
+    }
+    Ok(out)
+}
+
+/// Closes the first `passed` frames: leaves the states in which so many, or more, are explained.
+pub fn close(held: &mut Vec<Held>, passed: usize)
+    ensures left { (ys : List Gone) (time : ℕ) → AreClosed time passed ys →
+        map (state_of ys) held.new.items
+        ≡ kept (λ s. are_behind time s.rest) (map (state_of ys) held.old.items) }
+    ensures kept { (z : Terms) (ys : List Gone) (before : List Event) (time : ℕ) →
+        AreClosed time passed ys →
+        AreKept z ys before (map (state_of ys) held.old.items) →
+        AreKept z ys (Closing time ∷ before) (map (state_of ys) held.new.items) }
+{
+    held.retain(|state| passed <= state.passed);
+}
+
+/// Whether one of these outdoes a state.
+fn is_outdone(held: &[Held], state: Held) -> bool
+    ensures { result ≡ list_any (λ x. outdoes x state) held.now }
+{
+    held.iter().any(|one| one.outdoes(&state))
+}
+
+/// Keeps one more where none outdoes it, in place of those that it outdoes.
+fn keep(held: &mut Vec<Held>, state: Held) -> Result<(), AllocError>
+    ensures { OnOk result (held.new.items ≡ kept_with state held.old.items) }
+{
+    if is_outdone(held.as_slice(), state) {
+        return Ok(());
+    }
+    held.retain(|one| !state.outdoes(one));
+    held.push(state)?;
+    Ok(())
+}
+
+/// Of these states those that no other outdoes. Fails only out of memory.
+pub fn thinned(alloc: Global, held: &[Held]) -> Result<Vec<Held>, AllocError>
+    ensures enough { (ys : List Gone) → IfOk result (λ out.
+        AreEnough (map (state_of ys) held.now) (map (state_of ys) out.items)) }
+    ensures defined { (ys : List Gone) → All (λ h. h.passed ≤ length ys) held.now →
+        IfOk result (λ out.
+        map (state_of ys) out.items ≡ thinned_onto [] (map (state_of ys) held.now)) }
+    ensures front { IfOk result (λ out. AreFront out.items) }
+{
+    let mut out = Vec::new(alloc);
+    for state in held {
+        keep(&mut out, *state)?;
+    }
+    Ok(out)
+}
+
+/// The states after one more arrival, of this charge in bytes, so many ns after the one before: of
+/// those to which it leads the ones that no other outdoes. Fails only out of memory.
+pub fn came(
+    alloc: Global,
+    rates: &Rates,
+    cases: &[Case],
+    ns: u64,
+    charge: u64,
+) -> Result<Vec<Held>, AllocError>
+    requires cost { charge ≤ most_charge }
+    requires some { 0 < charge }
+    requires small { All (λ c. IsSmall rates.now c.held) cases.now }
+    ensures kept { (z : Terms) (x : Arrival) (ys : List Gone) (before : List Event) →
+        AreRates (link z) z.by rates.now →
+        charge ≡ charge_of z x →
+        ns ≡ x.time - last_time z.by (arrivals_came before) →
+        All (λ c. IsNext z x (drop c.held.passed ys) c.next) cases.now →
+        AreKept z ys before (map (λ c. state_of ys c.held) cases.now) →
+        IfOk result (λ out. AreKept z ys (Came x ∷ before) (map (state_of ys) out.items)) }
+    ensures front { IfOk result (λ out. AreFront out.items) }
+{
+    let led = lead_all(alloc, rates, cases, ns, charge)?;
+    thinned(alloc, led.as_slice())
+}
