@@ -14,7 +14,7 @@ use crate::leeway::{Leeway, PARTS};
 use crate::states::Next;
 
 /// A frame that left: its number, the time of its last bit in ns, its bytes.
-#[derive(Debug)]
+#[derive(Debug, Drop)]
 pub struct Frame {
     pub number: u64,
     pub time: u64,

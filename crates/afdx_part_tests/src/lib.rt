@@ -1,5 +1,6 @@
 //! Tests of what a run stands on: frames, policing, output ports, configurations, admission,
-//! bounds, lists, recordings' arrivals, lines of the output, and what explains a line.
+//! bounds, lists, recordings' arrivals, lines of the output, and what explains a line. And of what
+//! a recorded switch shows.
 #![tactic(auto)]
 
 #[cfg(test)]
@@ -10,6 +11,8 @@ mod arrivals;
 mod bounds;
 #[cfg(test)]
 mod config;
+#[cfg(test)]
+mod conform;
 #[cfg(test)]
 mod explain;
 #[cfg(test)]
