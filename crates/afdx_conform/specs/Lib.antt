@@ -19,3 +19,4 @@ pub mod Headline
 pub mod Hiding
 pub mod FromLevel
 pub mod Laws
+pub mod Worked

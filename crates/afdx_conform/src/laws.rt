@@ -7,6 +7,7 @@ ghost use Rattle.afdx_conform.specs.Hiding.{WhatPassedKeepsWindows};
 ghost use Rattle.afdx_conform.specs.Laws.{StatesAreExplanations, ExactIsTheHeadline};
 ghost use Rattle.afdx_conform.specs.Right.{RightIsExplained, SomeIsRight};
 ghost use Rattle.afdx_conform.specs.Thinned.{KeptAreEnough};
+ghost use Rattle.afdx_conform.specs.Worked.{WorkedRows};
 
 /// Once all frames are closed, a state is left exactly where something explains the stream.
 pub fn states_are_explanations()
@@ -53,4 +54,10 @@ pub fn allowed_is_some_account()
 pub fn found_where_none_is_left()
     ensures states { FoundWhereNoneIsLeft }
     ensures explained { NothingFoundIsExplained }
+{}
+
+/// What is found in worked streams: a frame that stopped, came late, early, twice or over its rate,
+/// and none where all is right.
+pub fn rows_are_worked()
+    ensures { WorkedRows }
 {}
