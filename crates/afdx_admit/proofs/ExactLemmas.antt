@@ -27,56 +27,10 @@ use Rattle.afdx_admit.specs.Lines.{Line, line, first_false, each_from, lines, Lo
 use Rattle.afdx_admit.specs.Lines.{loaded_output_to, output_lines, port_lines}
 use Rattle.afdx_admit.specs.Lines.{sender_lines, link_lines}
 use Rattle.afdx_admit.specs.Lines.{lines_of_link, allows_jitter, jitter_at, high_line, low_line, high_bound_of, buffer_need_of, told_low_bound_of}
-use Rattle.afdx_admit.proofs.FirstFalseLemmas.{first_false-skip, first_false-nil, first_false-append, le-true, le-false, true-le}
+use Rattle.afdx_frame.proofs.FirstFalseLemmas.{first_false-skip, first_false-nil, first_false-append, le-true, le-false, true-le}
+use Rattle.afdx_frame.proofs.FirstFalseLemmas.{BothHold, cons_holds, holds_cons, append_holds, holds_append, each_holds, holds_each}
 use Rattle.afdx_admit.specs.Late.{class_line}
 use Rattle.afdx_admit.proofs.PortLemmas.{loaded_output_at-some, loaded_output_at-none, found_within}
-
--- ---- lists of lines
-
-record BothHold (l : Line) (ls : List Line) : Type 0 where
-  one : l.holds ≡ true
-  rest : first_false ls ≡ None
-
-cons_holds : (l : Line) (ls : List Line) → first_false (l ∷ ls) ≡ None → BothHold l ls
-unfolding first_false
-cons_holds l ls h = by l.holds refl h
-  where
-    by : (b : Bool) → l.holds ≡ b → (if b then first_false ls else Some l.fault) ≡ None → BothHold l ls
-    by true e h = record { one = e; rest = h }
-    by false e h = absurd (cc h)
-
-holds_cons : (l : Line) (ls : List Line) → l.holds ≡ true → first_false ls ≡ None → first_false (l ∷ ls) ≡ None
-holds_cons l ls one rest = first_false-skip l ls one ∙ rest
-
-append_holds : (xs ys : List Line) → first_false (xs ++ ys) ≡ None → (first_false xs ≡ None) × (first_false ys ≡ None)
-append_holds [] ys h = (first_false-nil, h)
-append_holds (x ∷ xs) ys h =
-    let both = cons_holds x (xs ++ ys) h in
-    let later = append_holds xs ys both.rest in
-    (holds_cons x xs both.one later.0, later.1)
-
-holds_append : (xs ys : List Line) → first_false xs ≡ None → first_false ys ≡ None → first_false (xs ++ ys) ≡ None
-holds_append xs ys front back = first_false-append xs ys front ∙ back
-
-each_holds : (f : ℕ → List Line) (from count : ℕ) → first_false (each_from f from count) ≡ None
-    → (k : ℕ) → from ≤ k → k < from + count →
-    first_false (f k) ≡ None
-unfolding each_from
-each_holds f from zero h k low high = absurd (omega (arith, low, high))
-each_holds f from (suc count) h k low high =
-    let both = append_holds (f from) (each_from f (from + 1) count) h in
-    elim (cases_eq from k) [
-      | inl same ↦ subst (λ n. first_false (f n) ≡ None) same both.0
-      | inr other ↦ each_holds f (from + 1) count both.1 k (omega (arith, low, other)) (omega (arith, high))
-    ]
-
-holds_each : (f : ℕ → List Line) (from count : ℕ) → ((k : ℕ) → from ≤ k → k < from + count → first_false (f k) ≡ None) →
-    first_false (each_from f from count) ≡ None
-unfolding each_from
-holds_each f from zero h = first_false-nil
-holds_each f from (suc count) h =
-    holds_append (f from) (each_from f (from + 1) count) (h from (omega arith) (omega arith))
-    (holds_each f (from + 1) count (λ k low high. h k (omega (arith, low)) (omega (arith, high))))
 
 -- ---- the flows of a class
 

@@ -1,6 +1,5 @@
 pub mod ExactLemmas
 pub mod FalseLinesLemmas
-pub mod FirstFalseLemmas
 pub mod KnownLemmas
 pub mod LateLemmas
 pub mod LowBoundLemmas

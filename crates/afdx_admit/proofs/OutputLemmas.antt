@@ -19,8 +19,8 @@ use Rattle.afdx_admit.specs.declared.fault.AdmitFault.TheVariants.{Overload, Buf
 use Rattle.afdx_admit.specs.Lines.{Line, line, first_false, LoadedOutput, output_lines, high_line}
 use Rattle.afdx_admit.specs.Lines.{low_line, buffer_need_of, high_bound_of, told_low_bound_of}
 use Rattle.afdx_admit.specs.Late.{first_late, class_line}
-use Rattle.afdx_admit.proofs.FirstFalseLemmas.{first_false-skip, first_false-stop, first_false-append}
-use Rattle.afdx_admit.proofs.FirstFalseLemmas.{first_false-before, le-true, le-false}
+use Rattle.afdx_frame.proofs.FirstFalseLemmas.{first_false-skip, first_false-stop, first_false-append}
+use Rattle.afdx_frame.proofs.FirstFalseLemmas.{first_false-before, le-true, le-false}
 use Rattle.afdx_admit.proofs.SmallLemmas.{rate_some}
 
 -- the lines of flows that may be late

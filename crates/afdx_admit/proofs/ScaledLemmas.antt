@@ -10,7 +10,7 @@ use Rattle.afdx_frame.specs.Flows.{Flow}
 use Rattle.afdx_admit.specs.declared.fault.AdmitFault.{AdmitFault}
 use Rattle.afdx_admit.specs.Lines.{line}
 use Rattle.afdx_admit.specs.Late.{first_late, class_line}
-use Rattle.afdx_admit.proofs.FirstFalseLemmas.{le-true, le-false}
+use Rattle.afdx_frame.proofs.FirstFalseLemmas.{le-true, le-false}
 
 module _ (b : ℕ) (some : 1 ≤ b) where
   pub scaled-le : (m n : ℕ) → nat_le (m * b) (n * b) ≡ nat_le m n

@@ -11,6 +11,9 @@ use Rattle.afdx_config.specs.Rows.{SystemRow, LinkRow, Rows}
 use Rattle.afdx_config.specs.Reading.{system_at_port}
 use Rattle.afdx_frame.specs.Flows.{Flow, of_class, burst, load, high_wait, low_wait, high_load}
 use Rattle.afdx_frame.specs.Ports.{last_port}
+use Rattle.afdx_frame.specs.Lines as asked
+pub use Rattle.afdx_frame.specs.Lines.{line}
+unfoldable pub use Rattle.afdx_frame.specs.Lines.{first_false, false_lines, each_from}
 use Rattle.afdx_config.specs.Admission.{byte_ns, links_from, flows_to, sender_jitter}
 use Rattle.afdx_config.specs.Admission.{greatest_jitter}
 use Rattle.afdx_admit.specs.declared.fault.AdmitFault.{AdmitFault}
@@ -18,21 +21,9 @@ use Rattle.afdx_admit.specs.declared.fault.AdmitFault.TheVariants.{Overload, Buf
 use Rattle.afdx_admit.specs.declared.fault.AdmitFault.TheVariants.{LowLatency, SenderJitter}
 use Rattle.afdx_admit.specs.declared.fault.AdmitFault.TheVariants.{LinkJitter, Skew}
 
-pub record Line : Type 0 where
-  pub holds : Bool
-  pub fault : AdmitFault
-
-abbrev pub line : Bool → AdmitFault → Line
-line b f = record { holds = b; fault = f }
-
--- the fault of the first line that is false
-unfoldable pub first_false : List Line → Option AdmitFault
-first_false [] = None
-first_false (l ∷ ls) = if l.holds then first_false ls else Some l.fault
-
--- the faults of all lines that are false
-unfoldable pub false_lines : List Line → List AdmitFault
-false_lines ls = map (λ l. l.fault) (filter (λ l. not l.holds) ls)
+-- a line of admission
+abbrev pub Line : Type 0
+Line = asked.Line AdmitFault
 
 -- ---- the bounds of an output port
 
@@ -131,11 +122,6 @@ unfoldable pub link_lines : Rows → ℕ → List Line
 link_lines t place = option_map_or (lines_of_link t) (slice_get t.links place) []
 
 -- ---- all lines
-
--- the lines of so many places, from this one on
-unfoldable pub each_from : (ℕ → List Line) → ℕ → ℕ → List Line
-each_from lines_of from zero = []
-each_from lines_of from (suc count) = lines_of from ++ each_from lines_of (from + 1) count
 
 -- ports ascending, then systems and then links in file order; a neighbour's output has no line
 unfoldable pub lines : Rows → List Line

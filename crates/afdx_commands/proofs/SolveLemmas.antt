@@ -6,7 +6,7 @@ use Rattle.std.specs.Option.{option_map_or}
 use Rattle.std.proofs.lemmas.List.{append-nil}
 use Rattle.afdx_config.specs.Rows.{LinkRow, Rows}
 use Rattle.afdx_config.specs.Reading.{system_at_port}
-use Rattle.afdx_admit.proofs.FirstFalseLemmas.{le-false}
+use Rattle.afdx_frame.proofs.FirstFalseLemmas.{le-false}
 use Rattle.afdx_admit.proofs.PortLemmas.{not-some}
 use Rattle.afdx_solve.specs.declared.options.SolveOptions.{SolveOptions}
 use Rattle.afdx_solve.specs.Solved.{solved, with_jitters, with_least_buffer, with_delays}

@@ -1,6 +1,6 @@
 use Rattle.std.proofs.Common.{[], ◌∷◌, sym, ap, ◌∙◌, ◌++◌}
 use Rattle.afdx_admit.specs.Lines.{line}
-use Rattle.afdx_admit.proofs.FalseLinesLemmas.{false_lines-nil, false_lines-holds, false_lines-fails, none_added}
+use Rattle.afdx_frame.proofs.FalseLinesLemmas.{false_lines-nil, false_lines-holds, false_lines-fails, none_added}
 use Rattle.afdx_admit.proofs.all.add_if_false.Goals as goal
 
 pub returns-in_ok-push : goal.returns-in_ok-push

@@ -5,7 +5,8 @@ use Rattle.afdx_config.specs.Rows.{LinkRow, link_row}
 use Rattle.afdx_admit.specs.declared.fault.AdmitFault.{AdmitFault}
 use Rattle.afdx_admit.specs.Late.{late_fault}
 use Rattle.afdx_admit.specs.Lines.{Line, false_lines}
-use Rattle.afdx_admit.proofs.FalseLinesLemmas.{row_line, row_holds, row_fails, row_lines, false_lines-nil}
+use Rattle.afdx_frame.proofs.FalseLinesLemmas.{false_lines-nil}
+use Rattle.afdx_admit.proofs.FalseLinesLemmas.{row_line, row_holds, row_fails, row_lines}
 use Rattle.afdx_admit.proofs.all.add_late.Goals as goal
 use Rattle.afdx_admit.proofs.all.add_late.Goals.{then-is_late+in_ok-push, else-is_late}
 

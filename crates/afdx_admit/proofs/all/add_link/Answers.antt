@@ -4,7 +4,7 @@ use Rattle.std.proofs.lemmas.Result.{on_ok_weaker}
 use Rattle.afdx_config.specs.Rows.{link_row}
 use Rattle.afdx_admit.specs.declared.fault.AdmitFault.TheVariants.{LinkJitter, Skew}
 use Rattle.afdx_admit.specs.Lines.{Line, allows_jitter, line, link_lines, lines_of_link, false_lines, jitter_at}
-use Rattle.afdx_admit.proofs.FalseLinesLemmas.{added}
+use Rattle.afdx_frame.proofs.FalseLinesLemmas.{added}
 use Rattle.afdx_admit.proofs.all.add_link.Goals as goal
 
 pub returns : goal.returns

@@ -1,6 +1,6 @@
 use Rattle.std.proofs.Common.{arith}
 use Rattle.afdx_admit.specs.Lines.{link_lines}
-use Rattle.afdx_admit.proofs.FalseLinesLemmas.{each_from-none, each_from-added}
+use Rattle.afdx_frame.proofs.FalseLinesLemmas.{each_from-none, each_from-added}
 use Rattle.afdx_admit.proofs.all.add_links.Goals as goal
 
 pub loop-i-init : goal.loop-i-init

@@ -7,7 +7,7 @@ use Rattle.afdx_admit.specs.declared.fault.AdmitFault.TheVariants.{Overload, Buf
 use Rattle.afdx_admit.specs.Late.{class_line, late_fault}
 use Rattle.afdx_admit.specs.Lines.{Line, line, false_lines, loaded_output_to, output_lines, high_line, low_line}
 use Rattle.afdx_admit.specs.Lines.{buffer_need_of}
-use Rattle.afdx_admit.proofs.FalseLinesLemmas.{added}
+use Rattle.afdx_frame.proofs.FalseLinesLemmas.{added}
 use Rattle.afdx_admit.proofs.RateLemmas.{carries, high-lines, low-lines}
 use Rattle.afdx_admit.proofs.all.add_output.Goals as goal
 

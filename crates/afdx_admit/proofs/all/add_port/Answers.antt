@@ -2,7 +2,7 @@ use Rattle.std.proofs.Common.{◌++◌, [], sym, ap, ◌∙◌}
 use Rattle.std.specs.Option.{option_map_or}
 use Rattle.std.proofs.lemmas.Result.{on_ok_weaker}
 use Rattle.afdx_admit.specs.Lines.{output_lines, port_lines, false_lines}
-use Rattle.afdx_admit.proofs.FalseLinesLemmas.{none_added}
+use Rattle.afdx_frame.proofs.FalseLinesLemmas.{none_added}
 use Rattle.afdx_admit.proofs.PortLemmas.{loaded_output_at-some, loaded_output_at-none}
 use Rattle.afdx_admit.proofs.all.add_port.Goals as goal
 

@@ -1,6 +1,6 @@
 use Rattle.std.proofs.Common.{◌+◌, arith}
 use Rattle.afdx_admit.specs.Lines.{port_lines}
-use Rattle.afdx_admit.proofs.FalseLinesLemmas.{each_from-none, each_from-added}
+use Rattle.afdx_frame.proofs.FalseLinesLemmas.{each_from-none, each_from-added}
 use Rattle.afdx_admit.proofs.all.add_ports.Goals as goal
 
 pub loop-place-init : goal.loop-place-init

@@ -2,7 +2,7 @@ use Rattle.std.proofs.Common.{◌≡◌, ◌++◌, ◌∷◌, [], slice_index, a
 use Rattle.afdx_config.specs.Admission.{greatest_jitter}
 use Rattle.afdx_admit.specs.declared.fault.AdmitFault.TheVariants.{SenderJitter}
 use Rattle.afdx_admit.specs.Lines.{line, sender_lines, false_lines, jitter_at}
-use Rattle.afdx_admit.proofs.FalseLinesLemmas.{each_from-none, each_from-added}
+use Rattle.afdx_frame.proofs.FalseLinesLemmas.{each_from-none, each_from-added}
 use Rattle.afdx_admit.proofs.all.add_senders.Goals as goal
 
 pub loop-i-init : goal.loop-i-init

@@ -7,7 +7,7 @@ use Rattle.afdx_config.specs.Lawful.{IsLawfulSwitch}
 use Rattle.afdx_admit.specs.declared.fault.AdmitFault.{AdmitFault}
 use Rattle.afdx_admit.specs.Known.{IsKnown}
 use Rattle.afdx_admit.specs.Lines.{Line, each_from, port_lines, sender_lines, link_lines, lines, false_lines}
-use Rattle.afdx_admit.proofs.FalseLinesLemmas.{added, first-of_all, empty-none}
+use Rattle.afdx_frame.proofs.FalseLinesLemmas.{added, first-of_all, empty-none}
 use Rattle.afdx_admit.proofs.KnownLemmas.{false_lines-known}
 use Rattle.afdx_admit.proofs.ExactLemmas.{admitted_from, from_admitted}
 use Rattle.afdx_admit.proofs.all.all_faults.Goals as goal

@@ -1,6 +1,6 @@
 use Rattle.std.proofs.Common.{◌≡◌, ◌++◌, length, List, None, sym, ◌∙◌}
 use Rattle.afdx_admit.specs.Lines.{Line, each_from, port_lines, sender_lines, link_lines, lines, first_false}
-use Rattle.afdx_admit.proofs.FirstFalseLemmas.{first_false-append, first_false-before, none_of}
+use Rattle.afdx_frame.proofs.FirstFalseLemmas.{first_false-append, first_false-before, none_of}
 use Rattle.afdx_admit.proofs.lines.first_fault.Goals as goal
 
 pub returns-in-Some-clause-fault : goal.returns-in-Some-clause-fault

@@ -3,7 +3,7 @@ use Rattle.std.specs.Option.{option_map_or}
 use Rattle.afdx_config.specs.Rows.{link_row}
 use Rattle.afdx_admit.specs.declared.fault.AdmitFault.TheVariants.{LinkJitter, Skew}
 use Rattle.afdx_admit.specs.Lines.{allows_jitter, line, link_lines, first_false, jitter_at, lines_of_link}
-use Rattle.afdx_admit.proofs.FirstFalseLemmas.{first_false-skip, first_false-stop, first_false-nil, le-true, le-false}
+use Rattle.afdx_frame.proofs.FirstFalseLemmas.{first_false-skip, first_false-stop, first_false-nil, le-true, le-false}
 use Rattle.afdx_admit.proofs.lines.link_fault.Goals as goal
 
 pub returns-then-not-allows_jitter-clause-fault : goal.returns-then-not-allows_jitter-clause-fault

@@ -1,6 +1,6 @@
 use Rattle.std.proofs.Common.{length, sym, ◌∙◌, arith}
 use Rattle.afdx_admit.specs.Lines.{link_lines, first_false, each_from}
-use Rattle.afdx_admit.proofs.FirstFalseLemmas.{so_far-start, so_far-next, so_far-found, so_far-end, none_of}
+use Rattle.afdx_frame.proofs.FirstFalseLemmas.{so_far-start, so_far-next, so_far-found, so_far-end, none_of}
 use Rattle.afdx_admit.proofs.lines.links_fault.Goals as goal
 
 pub loop-i-init : goal.loop-i-init

@@ -6,7 +6,7 @@ use Rattle.afdx_frame.specs.Flows.{of_class, burst, load, high_wait, low_wait, h
 use Rattle.afdx_admit.specs.declared.fault.AdmitFault.TheVariants.{Buffer, HighLatency, LowLatency}
 use Rattle.afdx_admit.specs.Lines.{loaded_output_to, told_low_bound_of}
 use Rattle.afdx_admit.specs.Late.{first_late}
-use Rattle.afdx_admit.proofs.FirstFalseLemmas.{none_of}
+use Rattle.afdx_frame.proofs.FirstFalseLemmas.{none_of}
 use Rattle.afdx_admit.proofs.OutputLemmas.{overload, short_buffer, high_late, highs_soon}
 use Rattle.afdx_admit.proofs.RateLemmas.{carried, overloaded, high-late, low-late}
 use Rattle.afdx_admit.proofs.lines.output_fault.Goals as goal

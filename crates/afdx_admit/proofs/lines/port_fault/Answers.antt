@@ -1,7 +1,7 @@
 use Rattle.std.proofs.Common.{[], sym, ap, ◌∙◌}
 use Rattle.std.specs.Option.{option_map_or}
 use Rattle.afdx_admit.specs.Lines.{output_lines, port_lines, first_false}
-use Rattle.afdx_admit.proofs.FirstFalseLemmas.{first_false-nil}
+use Rattle.afdx_frame.proofs.FirstFalseLemmas.{first_false-nil}
 use Rattle.afdx_admit.proofs.PortLemmas.{loaded_output_at-some, loaded_output_at-none}
 use Rattle.afdx_admit.proofs.lines.port_fault.Goals as goal
 

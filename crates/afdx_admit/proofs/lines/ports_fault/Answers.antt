@@ -1,6 +1,6 @@
 use Rattle.std.proofs.Common.{sym, ◌∙◌, arith}
 use Rattle.afdx_admit.specs.Lines.{port_lines, first_false, each_from}
-use Rattle.afdx_admit.proofs.FirstFalseLemmas.{so_far-start, so_far-next, so_far-found, so_far-end, none_of}
+use Rattle.afdx_frame.proofs.FirstFalseLemmas.{so_far-start, so_far-next, so_far-found, so_far-end, none_of}
 use Rattle.afdx_admit.proofs.lines.ports_fault.Goals as goal
 
 pub loop-port-init : goal.loop-port-init

@@ -2,10 +2,10 @@ use Rattle.std.proofs.Common.{◌≡◌, [], slice_index, Some, None, sym, ap, s
 use Rattle.afdx_admit.specs.declared.fault.AdmitFault.TheVariants.{SenderJitter}
 use Rattle.afdx_config.specs.Admission.{greatest_jitter}
 use Rattle.afdx_admit.specs.Lines.{line, sender_lines, first_false, each_from, jitter_at}
-use Rattle.afdx_admit.proofs.FirstFalseLemmas.{so_far-start, so_far-next, so_far-found, so_far-end}
-use Rattle.afdx_admit.proofs.FirstFalseLemmas.{first_false-skip, first_false-stop, first_false-nil}
-use Rattle.afdx_admit.proofs.FirstFalseLemmas.{le-true}
-use Rattle.afdx_admit.proofs.FirstFalseLemmas.{le-false}
+use Rattle.afdx_frame.proofs.FirstFalseLemmas.{so_far-start, so_far-next, so_far-found, so_far-end}
+use Rattle.afdx_frame.proofs.FirstFalseLemmas.{first_false-skip, first_false-stop, first_false-nil}
+use Rattle.afdx_frame.proofs.FirstFalseLemmas.{le-true}
+use Rattle.afdx_frame.proofs.FirstFalseLemmas.{le-false}
 use Rattle.afdx_admit.proofs.lines.senders_fault.Goals as goal
 
 pub loop-i-init : goal.loop-i-init

@@ -1,5 +1,5 @@
 use Rattle.afdx_admit.specs.Lines.{first_false, each_from, sender_lines}
-use Rattle.afdx_admit.proofs.FirstFalseLemmas.{IsSoFar}
+use Rattle.afdx_frame.proofs.FirstFalseLemmas.{IsSoFar}
 use Rattle.afdx_admit.proofs.lines.senders_fault.Given as goal
 
 abbrev pub invariant-loop-i : goal.invariant-loop-i

@@ -1,5 +1,5 @@
 use Rattle.std.proofs.Common.{◌≡◌, ◌∙◌, Option, Some, None, sym, subst}
-use Rattle.afdx_admit.proofs.FirstFalseLemmas.{none_of}
+use Rattle.afdx_frame.proofs.FirstFalseLemmas.{none_of}
 use Rattle.afdx_port.specs.declared.left.Left.{Left}
 use Rattle.afdx_send.specs.Frames.{Frame}
 use Rattle.afdx_send.specs.Sender.{StandsFor, port_history}
