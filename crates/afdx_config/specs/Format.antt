@@ -3,6 +3,7 @@
 use Rattle.std.specs.Prelude.{◌≡◌, [], ◌∷◌, codes}
 use Rattle.afdx_config.specs.FaultText.{fault_words}
 use Rattle.afdx_config.specs.Keys.{key_row, top_keys, system_keys, link_keys, port_keys}
+use Rattle.afdx_config.specs.Keys.{cascade_keys, switch_keys, neighbour_keys}
 
 -- of arrays, texts and words the range is that of their lengths; 0 and 0 where nothing asks for it
 abbrev pub TheTopKeys : Type 0
@@ -43,6 +44,26 @@ ThePortKeys = port_keys
     ∷ key_row (codes "udp") 1 65535
     ∷ key_row (codes "kind") 0 0
     ∷ key_row (codes "depth") 1 64 ∷ []
+
+-- of a file that describes several switches
+abbrev pub TheCascadeKeys : Type 0
+TheCascadeKeys = cascade_keys ≡ key_row (codes "switch") 1 24 ∷ []
+
+abbrev pub TheSwitchKeys : Type 0
+TheSwitchKeys = switch_keys
+    ≡ key_row (codes "profile") 1 2
+    ∷ key_row (codes "buffer") 64 4194304
+    ∷ key_row (codes "system") 0 24
+    ∷ key_row (codes "link") 0 4096
+    ∷ key_row (codes "port") 0 4096
+    ∷ key_row (codes "name") 1 16
+    ∷ key_row (codes "neighbour") 0 23 ∷ []
+
+abbrev pub TheNeighbourKeys : Type 0
+TheNeighbourKeys = neighbour_keys
+    ≡ key_row (codes "name") 1 16
+    ∷ key_row (codes "port") 1 24
+    ∷ key_row (codes "rate") 10 1000 ∷ []
 
 -- the words of the faults, in the order of `ConfigFault`
 abbrev pub TheFaultWords : Type 0

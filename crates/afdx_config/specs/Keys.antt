@@ -12,6 +12,8 @@ use Rattle.afdx_config.specs.declared.fault.Part.{Part}
 use Rattle.afdx_config.specs.declared.fault.Part.TheVariants as part
 use Rattle.afdx_config.specs.declared.key_tables.TheConstants.{TOP_KEYS, SYSTEM_KEYS, LINK_KEYS}
 use Rattle.afdx_config.specs.declared.key_tables.TheConstants.{PORT_KEYS}
+use Rattle.afdx_config.specs.declared.key_tables.TheConstants.{CASCADE_KEYS, SWITCH_KEYS}
+use Rattle.afdx_config.specs.declared.key_tables.TheConstants.{NEIGHBOUR_KEYS}
 use Rattle.afdx_config.specs.declared.keys.At.{At}
 use Rattle.afdx_config.specs.declared.fault.Place.{Place}
 use Rattle.afdx_config.specs.declared.fault.ConfigFault.{ConfigFault}
@@ -52,6 +54,16 @@ link_keys = map (λ key. key_row key.0.now key.1 key.2) LINK_KEYS
 unfoldable pub port_keys : List KeyRow
 port_keys = map (λ key. key_row key.0.now key.1 key.2) PORT_KEYS
 
+-- of a file that describes several switches: its top, the top of a switch, and a neighbour
+unfoldable pub cascade_keys : List KeyRow
+cascade_keys = map (λ key. key_row key.0.now key.1 key.2) CASCADE_KEYS
+
+unfoldable pub switch_keys : List KeyRow
+switch_keys = map (λ key. key_row key.0.now key.1 key.2) SWITCH_KEYS
+
+unfoldable pub neighbour_keys : List KeyRow
+neighbour_keys = map (λ key. key_row key.0.now key.1 key.2) NEIGHBOUR_KEYS
+
 -- a key that is looked at, with the place of its faults
 pub record Spot : Type 0 where
   pub place : Place
@@ -84,6 +96,16 @@ link_at i number = spot part.Link link_keys i number
 
 abbrev pub port_at : ℕ → ℕ → Spot
 port_at i number = spot part.Port port_keys i number
+
+-- the one key at the top of a file of several switches, whose number comes after those of a switch
+abbrev pub switches_at : Spot
+switches_at = record (spot part.Top cascade_keys 0 1) { place = place part.Top 0 6 }
+
+abbrev pub switch_at : ℕ → Spot
+switch_at number = spot part.Top switch_keys 0 number
+
+abbrev pub neighbour_at : ℕ → ℕ → Spot
+neighbour_at i number = spot part.Neighbour neighbour_keys i number
 
 -- the key with another least value, and with another greatest one
 abbrev pub at_least : ℕ → Spot → Spot
@@ -181,3 +203,12 @@ only_link_keys i t = only (place part.Link i 0) link_keys t
 
 unfoldable pub only_port_keys : ℕ → Members → Result (Unit {0}) ConfigFault
 only_port_keys i t = only (place part.Port i 0) port_keys t
+
+unfoldable pub only_cascade_keys : Members → Result (Unit {0}) ConfigFault
+only_cascade_keys t = only (place part.Top 0 0) cascade_keys t
+
+unfoldable pub only_switch_keys : Members → Result (Unit {0}) ConfigFault
+only_switch_keys t = only (place part.Top 0 0) switch_keys t
+
+unfoldable pub only_neighbour_keys : ℕ → Members → Result (Unit {0}) ConfigFault
+only_neighbour_keys i t = only (place part.Neighbour i 0) neighbour_keys t

@@ -10,6 +10,7 @@ pub mod Reading
 pub mod Asked
 pub mod New
 pub mod Lawful
+pub mod Switches
 pub mod Flows
 pub mod Numbers
 pub mod SentList

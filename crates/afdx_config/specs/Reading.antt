@@ -14,6 +14,7 @@ use Rattle.afdx_frame.specs.declared.link.Policing.TheVariants.{Byte, Frame}
 use Rattle.toml.specs.Parse.{parse_document}
 use Rattle.toml.specs.Data.{Members}
 use Rattle.afdx_frame.specs.Regulation.{gaps}
+use Rattle.afdx_frame.specs.Regulation.{jitter_from_system, jitter_from_any}
 pub use Rattle.afdx_frame.specs.Regulation.{greatest_delay}
 use Rattle.afdx_config.specs.declared.fault.ConfigFault.{ConfigFault}
 use Rattle.afdx_config.specs.declared.fault.ConfigFault.TheVariants.{NotToml, BadProfile}
@@ -114,13 +115,19 @@ system_at profile before t =
 unfoldable pub link_of : List LinkRow → ℕ → Option ℕ
 link_of links vl = position (λ l. nat_eq vl l.vl) links
 
+-- the greatest jitter of a link, in us, by its BAG in ms: of the ends the first `own` are systems,
+-- and what comes from another switch may be later
+unfoldable pub greatest_jitter : (own from bag_ms : ℕ) → ℕ
+greatest_jitter own from bag_ms =
+    if nat_lt from own then jitter_from_system bag_ms else jitter_from_any bag_ms
+
 -- how much a link may send, and how its frames are treated
-unfoldable pub traffic_at : KeptKeys → ℕ → Members → Result Traffic ConfigFault
-traffic_at kept i t = do
+unfoldable pub traffic_at : KeptKeys → (ℕ → ℕ) → ℕ → Members → Result Traffic ConfigFault
+traffic_at kept greatest i t = do
   bag_ms ← one_of (keys.link_at i 4) gaps t
   lmin ← whole (keys.link_at i 5) t
   lmax ← whole (at_least lmin (keys.link_at i 6)) t
-  jitter_us ← choice kept.jitter (at_most (1000 * bag_ms) (keys.link_at i 7)) t
+  jitter_us ← choice kept.jitter (at_most (greatest bag_ms) (keys.link_at i 7)) t
   Ok (record { bag_ms = bag_ms; lmin = lmin; lmax = lmax; jitter_us = jitter_us })
 
 unfoldable pub treatment_at : KeptKeys → ℕ → Members → Result Treatment ConfigFault
@@ -138,16 +145,16 @@ treatment_at kept i t = do
     subs = subs;
   })
 
--- a link, whose identifier no link before has
-unfoldable pub link_at : KeptKeys → List SystemRow → List LinkRow → Members →
+-- a link, whose identifier no link before has; of the ends the first `own` are systems
+unfoldable pub link_at : KeptKeys → ℕ → List SystemRow → List LinkRow → Members →
     Result LinkRow ConfigFault
-link_at kept systems before t =
+link_at kept own systems before t =
     let at : ℕ → Spot = keys.link_at (length before + 1) in do
       vl ← whole (at 1) t
       check (not (is_some (link_of before vl))) (Twice (at 1).place)
       from ← named (at 2) systems t
       to ← destinations (at 3) systems from t
-      traffic ← traffic_at kept (length before + 1) t
+      traffic ← traffic_at kept (greatest_jitter own from) (length before + 1) t
       treatment ← treatment_at kept (length before + 1) t
       only_link_keys (length before + 1) t
       Ok (record {
@@ -240,7 +247,7 @@ tables_at kept t = do
   ports ← tables (top_at 5) t
   only_top_keys t
   systems ← each (system_at profile) [] systems
-  links ← each (link_at kept systems) [] links
+  links ← each (link_at kept (length systems) systems) [] links
   ports ← each (port_at systems links) [] ports
   Ok (record {
     profile = profile;

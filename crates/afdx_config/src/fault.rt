@@ -11,13 +11,14 @@ pub enum Part {
     System,
     Link,
     Port,
+    Neighbour,
 }
 
 impl Part {
     ghost use Rattle.std.specs.Prelude.{◌≡◌};
     ghost use Rattle.afdx_config.specs.FaultText.{part_text};
 
-    /// It in a word: `top`, `system`, `link` or `port`.
+    /// It in a word: `top`, `system`, `link`, `port` or `neighbour`.
     pub fn word(self) -> &'static str
         ensures { result.now ≡ part_text self }
     {
@@ -26,6 +27,7 @@ impl Part {
             Part::System => "system",
             Part::Link => "link",
             Part::Port => "port",
+            Part::Neighbour => "neighbour",
         }
     }
 }

@@ -2,6 +2,7 @@
 
 ghost use Rattle.afdx_config.specs.Format.{TheTopKeys, TheSystemKeys, TheLinkKeys, ThePortKeys};
 ghost use Rattle.afdx_config.specs.Format.{TheFaultWords};
+ghost use Rattle.afdx_config.specs.Format.{TheCascadeKeys, TheSwitchKeys, TheNeighbourKeys};
 ghost use Rattle.afdx_config.specs.Laws.{EachRowIsFound, SystemsAlwaysListen, OneIsAmongOthers};
 ghost use Rattle.afdx_config.specs.Laws.{AloneIsOne, OneIsBetweenSystems, AdmittedIsServing};
 
@@ -47,6 +48,15 @@ pub fn link_keys_are()
 #[tactic(auto, unfolding(crate::specs::Keys::port_keys))]
 pub fn port_keys_are()
     ensures { ThePortKeys }
+{}
+
+/// The keys of a file that describes several switches are those of the format, by name and range,
+/// each at its number: of its top, of a switch, and of a neighbour.
+#[tactic(auto, unfolding(crate::specs::Keys::cascade_keys, crate::specs::Keys::switch_keys, crate::specs::Keys::neighbour_keys))]
+pub fn cascade_keys_are()
+    ensures top { TheCascadeKeys }
+    ensures switches { TheSwitchKeys }
+    ensures neighbours { TheNeighbourKeys }
 {}
 
 /// The words of the faults are those of the format.

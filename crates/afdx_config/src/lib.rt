@@ -6,20 +6,28 @@
 mod asked;
 mod choices;
 mod fault;
+mod file_fault;
 mod key_tables;
 mod keys;
 pub mod laws;
 mod links;
+mod named_tables;
 mod read;
 mod read_links;
 mod read_ports;
 mod read_systems;
 mod rows;
+mod switches;
 mod systems;
 mod tables;
 
 pub use fault::{CONFIG_FAULTS, ConfigFault, Part, Place};
-pub use key_tables::{Key, LINK_KEYS, PORT_KEYS, SYSTEM_KEYS, TOP_KEYS, UNKNOWN_KEYS};
+pub use file_fault::FileFault;
+pub use key_tables::{
+    CASCADE_KEYS, Key, LINK_KEYS, NEIGHBOUR_KEYS, PORT_KEYS, SWITCH_KEYS, SYSTEM_KEYS, TOP_KEYS,
+    UNKNOWN_KEYS,
+};
 pub use read::{read_tables, read_to_solve, read_to_solve_asking};
 pub use rows::{ComRow, KeptKeys, Kind, Link, System, SystemId, Times};
+pub use switches::{FarEnd, SwitchId};
 pub use tables::Tables;
