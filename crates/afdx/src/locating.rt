@@ -63,6 +63,7 @@ fn name_at<'a>(tree: &Table, place: Place<'_>, row: &'a Table) -> Option<&'a str
 }
 
 /// A table that a fault's line names: the key of its array, its number from 1, and its keys.
+#[derive(Clone, Copy)]
 struct Named<'a> {
     array: &'a str,
     number: usize,
@@ -121,11 +122,11 @@ fn put_table(text: &mut String, table: &Named<'_>) -> Result<(), AllocError> {
 
 /// Puts the tables, the last one first.
 fn put_tables(text: &mut String, tables: &[Named<'_>]) -> Result<(), AllocError> {
-    let mut before = "";
-    for table in tables.iter().rev() {
-        text.push_str(before)?;
+    for (place, table) in tables.iter().rev().enumerate() {
+        if place > 0 {
+            text.push_str(" of ")?;
+        }
         put_table(text, table)?;
-        before = " of ";
     }
     Ok(())
 }
