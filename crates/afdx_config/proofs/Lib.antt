@@ -5,5 +5,7 @@ mod AskedLemmas
 pub mod EntryLemmas
 pub mod GatheredLemmas
 pub mod GrownLemmas
+pub mod AnyLemmas
 pub mod LookUpLemmas
 pub mod NumberLemmas
+pub mod OverLemmas

@@ -19,7 +19,7 @@ use crate::key_tables::{Key, LINK_KEYS, PORT_KEYS, SYSTEM_KEYS, TOP_KEYS};
 use std::alloc::Global;
 use toml::{Table, Value};
 
-fn place(part: Part, index: usize, key: u8) -> Place
+pub(crate) fn place(part: Part, index: usize, key: u8) -> Place
     ensures { result ≡ spec.place part index key }
 {
     Place { part, index, key }

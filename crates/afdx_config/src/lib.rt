@@ -5,6 +5,7 @@
 
 mod asked;
 mod choices;
+mod ends;
 mod fault;
 mod file_fault;
 mod key_tables;
@@ -12,6 +13,7 @@ mod keys;
 pub mod laws;
 mod links;
 mod named_tables;
+mod over_all;
 mod read;
 mod read_links;
 mod read_ports;
