@@ -7,3 +7,4 @@ pub mod GatheredLemmas
 pub mod GrownLemmas
 pub mod LookUpLemmas
 pub mod NumberLemmas
+pub mod TakenLemmas

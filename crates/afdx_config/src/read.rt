@@ -46,9 +46,10 @@ fn tables_of(alloc: Global, tree: &Table, kept: KeptKeys) -> Result<Tables, Conf
     let ports = tables(alloc, tree, top_at(5))?;
     only_top_keys(tree)?;
     let systems = systems_of(alloc, &systems, profile)?;
-    let links = links_of(alloc, &links, &systems, kept)?;
-    let coms = coms_of(alloc, &ports, &systems, &links)?;
-    Ok(Tables::new(profile, buffer, systems, links, coms))
+    let own = systems.len();
+    let links = links_of(alloc, &links, own, &systems, kept)?;
+    let coms = coms_of(alloc, &ports, own, &systems, &links)?;
+    Ok(Tables::new(profile, buffer, own, systems, links, coms))
 }
 
 /// The tree that the text spells. It is `NotToml` where it spells none.
