@@ -21,7 +21,8 @@ ghost use Rattle.afdx_config.specs.Reading as spec;
 
 use crate::choices::choice;
 use crate::fault::{ConfigFault, Place};
-use crate::keys::{At, link_at, one_of, only_link_keys, text, texts, whole};
+use crate::keys::{At, link_at, one_of, text, texts, whole};
+use crate::known_keys::only_link_keys;
 use crate::links::Links;
 use crate::read_systems::named;
 use crate::rows::{KeptKeys, Link, SystemId};

@@ -13,7 +13,8 @@ ghost use Rattle.afdx_config.specs.Reading.{goes_to};
 ghost use Rattle.afdx_config.specs.Reading as spec;
 
 use crate::fault::ConfigFault;
-use crate::keys::{At, only_port_keys, port_at, text, whole};
+use crate::keys::{At, port_at, text, whole};
+use crate::known_keys::only_port_keys;
 use crate::links::Links;
 use crate::read_systems::own_named;
 use crate::rows::{ComRow, Kind, SystemId};

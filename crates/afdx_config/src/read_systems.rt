@@ -15,7 +15,8 @@ ghost use Rattle.afdx_config.specs.Keys.{spot_of, system_at, whole};
 ghost use Rattle.afdx_config.specs.Reading as spec;
 
 use crate::fault::ConfigFault;
-use crate::keys::{At, one_of, only_system_keys, system_at, text, whole};
+use crate::keys::{At, one_of, system_at, text, whole};
+use crate::known_keys::only_system_keys;
 use crate::rows::{System, SystemId};
 use crate::systems::Systems;
 use std::alloc::Global;
