@@ -1,14 +1,16 @@
 -- Lawful rows stay lawful when a new one is added.
 use Rattle.std.proofs.lemmas.Bool.{eq-eqb}
 use Rattle.std.proofs.Common.{◌≡◌, ℕ, ◌<◌, Bool, true, false, ◌&&◌, ◌==◌, List, [], ◌∷◌, ◌++◌}
-use Rattle.std.proofs.Common.{length, None, nat_eq, refl, sym, ap, arith, length-append}
+use Rattle.std.proofs.Common.{length, None, Some, inl, inr, ◌≤◌, nat_eq, refl, sym, ap, subst, arith}
+use Rattle.std.proofs.Common.{length-append, slice_get}
 use Rattle.std.specs.Str.{bytes_eq}
 use Rattle.std.proofs.lemmas.Slice.Eq.{bytes_eq-Decides}
-use Rattle.afdx_frame.proofs.ListLemmas.{AllByRecursion-push}
+use Rattle.afdx_frame.proofs.ListLemmas.{AllByRecursion-push, slice_get-push_cases}
 use Rattle.afdx_config.specs.Rows.{SystemRow, LinkRow, PortRow}
 use Rattle.afdx_config.specs.Reading.{system_named, system_at_port, has_id, link_of, has_port}
 use Rattle.afdx_config.specs.New.{IsNewSystem}
-use Rattle.afdx_config.specs.Lawful.{IsSystem, AreSystems, IsLink, AreLinks, IsPort, ArePorts, triple}
+use Rattle.afdx_config.specs.Lawful.{IsSystem, AreSystems, IsLinkUpTo, AreLinksUpTo, HaveSystemJitter}
+use Rattle.afdx_config.specs.Lawful.{IsPort, ArePorts, AreOfSystems, triple, jitter_from_system}
 use Rattle.afdx_config.proofs.DistinctLemmas.{distinct-nil, distinct-push, none_found}
 
 bytes_eq-same : (xs ys : List ℕ) → xs ≡ ys → bytes_eq ys xs ≡ true
@@ -38,19 +40,33 @@ systems_push profile rows new old room lawful fresh = record {
   ids = distinct-push (λ s. s.id) (λ s. s.id == new.id) rows new old.ids fresh.id (λ a e. eq-eqb a.id new.id e);
 }
 
-pub no_links : (systems : ℕ) → AreLinks systems []
-no_links systems = record { count = omega arith; each = tt; identifiers = distinct-nil (λ l. l.vl) }
+pub no_links : (greatest : ℕ → ℕ) (ends : ℕ) → AreLinksUpTo greatest ends []
+no_links greatest ends = record { count = omega arith; each = tt; identifiers = distinct-nil (λ l. l.vl) }
 
-pub links_push : (systems : ℕ) (rows : List LinkRow) (new : LinkRow) → AreLinks systems rows
-    → length rows < 4096 → IsLink systems new → link_of rows new.vl ≡ None
-    → AreLinks systems (rows ++ new ∷ [])
+pub links_push : (greatest : ℕ → ℕ) (ends : ℕ) (rows : List LinkRow) (new : LinkRow) → AreLinksUpTo greatest ends rows
+    → length rows < 4096 → IsLinkUpTo greatest ends new → link_of rows new.vl ≡ None
+    → AreLinksUpTo greatest ends (rows ++ new ∷ [])
 unfolding link_of
-links_push systems rows new old room lawful fresh = record {
+links_push greatest ends rows new old room lawful fresh = record {
   count = omega (arith, length-append rows (new ∷ []));
-  each = AllByRecursion-push (IsLink systems) rows new old.each lawful;
+  each = AllByRecursion-push (IsLinkUpTo greatest ends) rows new old.each lawful;
   identifiers = distinct-push (λ l. l.vl) (λ l. nat_eq new.vl l.vl) rows new old.identifiers
       (none_found (λ l. nat_eq new.vl l.vl) rows fresh) (λ a e. eq-eqb new.vl a.vl (sym e));
 }
+
+-- what holds of each row, and of the new one
+each_push : {R : Type 0} (P : R → Type 0) (rows : List R) (new : R)
+    → ((i : ℕ) (r : R) → slice_get rows i ≡ Some r → P r) → P new
+    → (i : ℕ) (r : R) → slice_get (rows ++ new ∷ []) i ≡ Some r → P r
+each_push P rows new old is i r at = elim (slice_get-push_cases rows new i r at) [
+  | inl before ↦ old i r before
+  | inr last ↦ subst P (sym last.1) is
+]
+
+pub sent_push : (own : ℕ) (rows : List LinkRow) (new : LinkRow) → HaveSystemJitter own rows
+    → (new.from < own → new.jitter_us ≤ jitter_from_system new.bag_ms) → HaveSystemJitter own (rows ++ new ∷ [])
+sent_push own rows new old is =
+    each_push (λ l. l.from < own → l.jitter_us ≤ jitter_from_system l.bag_ms) rows new old is
 
 pub no_ports : (systems : ℕ) (links : List LinkRow) → ArePorts systems links []
 no_ports systems links = record { count = omega arith; each = tt; triples = distinct-nil triple }
@@ -75,3 +91,7 @@ ports_push systems links rows new old room lawful fresh = record {
       (eq-eqb _ _ (ap (λ t. t.0) e)) (eq-eqb _ _ (ap (λ t. t.1) e))
       (eq-eqb _ _ (ap (λ t. t.2) e)));
 }
+
+pub own_push : (own : ℕ) (rows : List PortRow) (new : PortRow) → AreOfSystems own rows → new.system < own
+    → AreOfSystems own (rows ++ new ∷ [])
+own_push own rows new old is = each_push (λ p. p.system < own) rows new old is

@@ -9,3 +9,4 @@ pub mod AnyLemmas
 pub mod LookUpLemmas
 pub mod NumberLemmas
 pub mod OverLemmas
+pub mod TakenLemmas

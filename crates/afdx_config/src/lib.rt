@@ -10,6 +10,7 @@ mod fault;
 mod file_fault;
 mod key_tables;
 mod keys;
+mod known_keys;
 pub mod laws;
 mod links;
 mod named_tables;

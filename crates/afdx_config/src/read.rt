@@ -11,7 +11,8 @@ ghost use Rattle.afdx_config.specs.Reading as spec;
 use crate::asked::latencies_in;
 use crate::choices::{ALL_KEPT, choice};
 use crate::fault::ConfigFault;
-use crate::keys::{only_top_keys, tables, top_at, whole};
+use crate::keys::{tables, top_at, whole};
+use crate::known_keys::only_top_keys;
 use crate::read_links::links_of;
 use crate::read_ports::coms_of;
 use crate::read_systems::systems_of;
@@ -46,9 +47,10 @@ fn tables_of(alloc: Global, tree: &Table, kept: KeptKeys) -> Result<Tables, Conf
     let ports = tables(alloc, tree, top_at(5))?;
     only_top_keys(tree)?;
     let systems = systems_of(alloc, &systems, profile)?;
-    let links = links_of(alloc, &links, &systems, kept)?;
-    let coms = coms_of(alloc, &ports, &systems, &links)?;
-    Ok(Tables::new(profile, buffer, systems, links, coms))
+    let own = systems.len();
+    let links = links_of(alloc, &links, own, &systems, kept)?;
+    let coms = coms_of(alloc, &ports, own, &systems, &links)?;
+    Ok(Tables::new(profile, buffer, own, systems, links, coms))
 }
 
 /// The tree that the text spells. It is `NotToml` where it spells none.

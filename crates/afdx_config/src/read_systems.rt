@@ -1,6 +1,7 @@
 //! The reading of systems.
 
 ghost use Rattle.std.specs.Prelude.{◌≡◌, ◌≤◌, ◌<◌, [], length, None, IfOk, true, string_bytes};
+ghost use Rattle.std.specs.Prelude.{take};
 ghost use Rattle.std.specs.List.{list_all};
 ghost use Rattle.std.specs.Char.{is_ascii_alphanumeric};
 ghost use Rattle.toml.specs.View.{table_view};
@@ -14,7 +15,8 @@ ghost use Rattle.afdx_config.specs.Keys.{spot_of, system_at, whole};
 ghost use Rattle.afdx_config.specs.Reading as spec;
 
 use crate::fault::ConfigFault;
-use crate::keys::{At, one_of, only_system_keys, system_at, text, whole};
+use crate::keys::{At, one_of, system_at, text, whole};
+use crate::known_keys::only_system_keys;
 use crate::rows::{System, SystemId};
 use crate::systems::Systems;
 use std::alloc::Global;
@@ -29,6 +31,26 @@ pub(crate) fn named(table: &Table, at: At, systems: &Systems) -> Result<SystemId
 {
     let name = text(table, at)?;
     match systems.named(name) {
+        Some(id) => Ok(id),
+        None => Err(ConfigFault::NoSuchSystem(at.place)),
+    }
+}
+
+/// The system that a text names, of ends of which the first `own` are systems.
+#[tactic(auto, unfolding(crate::specs::Reading::named, crate::specs::Keys::spot_of))]
+pub(crate) fn own_named(
+    table: &Table,
+    at: At,
+    own: usize,
+    ends: &Systems,
+) -> Result<SystemId, ConfigFault>
+    ensures own { IfOk result (λ i. i.0 < own) }
+    ensures known { IfOk result (λ i. i.0 < length ends.now) }
+    ensures value { Gives (λ i. i.0) result
+        (spec.named (spot_of at) (take own ends.now) (table_view table.now)) }
+{
+    let name = text(table, at)?;
+    match ends.named_before(name, own) {
         Some(id) => Ok(id),
         None => Err(ConfigFault::NoSuchSystem(at.place)),
     }
