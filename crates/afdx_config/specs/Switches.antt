@@ -75,6 +75,13 @@ home_of_id switches id = position (λ s. own_has_id s.rows id) switches
 unfoldable pub start_of : List NamedRows → ℕ → Option ℕ
 start_of switches vl = position (λ s. starts s.rows vl) switches
 
+-- the system of this name: its switch, and its place there
+unfoldable pub system_of : List NamedRows → List ℕ → Option (ℕ × ℕ)
+system_of switches name =
+    option_and_then (λ k. option_map (λ i. (k, i))
+    (option_and_then (λ s. own_named s.rows name) (slice_get switches k)))
+    (home_of switches name)
+
 -- the row of the neighbour by this name, at a switch
 abbrev pub neighbour_row : Rows → List ℕ → Option SystemRow
 neighbour_row t name = option_and_then (slice_get t.systems) (neighbour_named t name)

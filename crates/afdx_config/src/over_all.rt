@@ -27,7 +27,8 @@ pub(crate) fn switch_named(switches: &[NamedTables], name: &str) -> Option<usize
 /// The place of the first switch that has a system of this name. It looks it up at each of them.
 #[tactic(auto, unfolding(crate::specs::Switches::home_of))]
 pub(crate) fn home_of(switches: &[NamedTables], name: &str) -> Option<usize>
-    ensures { result ≡ spec.home_of switches.now name.now }
+    ensures place { result ≡ spec.home_of switches.now name.now }
+    ensures known { IfSome result (λ k. k < length switches.now) }
 {
     switches.iter().position(|switch| switch.tables().own_named(name).is_some())
 }
@@ -49,7 +50,7 @@ fn start_of(switches: &[NamedTables], vl: VlId) -> Option<usize>
 }
 
 /// The switch at this place.
-fn at(switches: &[NamedTables], k: usize) -> &NamedTables
+pub(crate) fn at(switches: &[NamedTables], k: usize) -> &NamedTables
     requires { k < length switches.now }
     ensures { slice_get switches.now k ≡ Some result.now }
 {
@@ -157,7 +158,7 @@ fn systems_fault(switches: &[NamedTables]) -> Option<FileFault>
 }
 
 /// What the switch at a place lists of the one that is called `name`: the row of its neighbour.
-fn listed_at<'a>(switches: &'a [NamedTables], name: &str, j: usize) -> Option<&'a System>
+pub(crate) fn listed_at<'a>(switches: &'a [NamedTables], name: &str, j: usize) -> Option<&'a System>
     requires { j < length switches.now }
     ensures { option_map (λ s. system_row s.now) result
         ≡ spec.listed_at switches.now name.now j }

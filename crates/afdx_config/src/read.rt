@@ -36,7 +36,7 @@ fn profile_of(tree: &Table) -> Result<u64, ConfigFault>
 /// The tables that a tree states, or the first check that fails. Of the four keys that may be
 /// solved for, those that aren't kept may be absent or out of range.
 #[tactic(auto, unfolding(crate::specs::Reading::tables_at, crate::specs::Keys::top_keys))]
-fn tables_of(alloc: Global, tree: &Table, kept: KeptKeys) -> Result<Tables, ConfigFault>
+pub(crate) fn tables_of(alloc: Global, tree: &Table, kept: KeptKeys) -> Result<Tables, ConfigFault>
     ensures lawful { IfOk result IsLawful }
     ensures value { Gives (λ t. t) result (spec.tables_at kept (table_view tree.now)) }
 {
@@ -54,7 +54,7 @@ fn tables_of(alloc: Global, tree: &Table, kept: KeptKeys) -> Result<Tables, Conf
 }
 
 /// The tree that the text spells. It is `NotToml` where it spells none.
-fn tree_of(alloc: Global, text: &[u8]) -> Result<Table, ConfigFault>
+pub(crate) fn tree_of(alloc: Global, text: &[u8]) -> Result<Table, ConfigFault>
     ensures tree { IfOk result (λ tree. spec.IsTreeOf text.now (table_view tree)) }
     ensures fault { IfErr result (λ e. e ≢ ConfigFault.Memory →
         (e ≡ ConfigFault.NotToml) × spec.HasNoTree text.now) }

@@ -1,0 +1,97 @@
+//! The reading of a file that describes one switch on a side, or several.
+
+ghost use Rattle.std.specs.Prelude.{◌≡◌, ◌≢◌, IfOk, IfErr, length};
+ghost use Rattle.toml.specs.View.{table_view};
+ghost use Rattle.afdx_config.specs.Fault.{GivesIn};
+ghost use Rattle.afdx_config.specs.Files as spec;
+ghost use Rattle.afdx_config.specs.Switches.{AreSwitches, in_switch, switches_at};
+
+use crate::choices::ALL_KEPT;
+use crate::fault::ConfigFault;
+use crate::file_fault::FileFault;
+use crate::keys::{member, switches_at, tables, top_at};
+use crate::known_keys::only_cascade_keys;
+use crate::over_all::first_fault;
+use crate::read::{tables_of, tree_of};
+use crate::read_switch::switches_of;
+use crate::switches::Switches;
+use crate::tables::Tables;
+use std::alloc::Global;
+use toml::Table;
+
+/// What a file describes: one switch on a side, or several, which are a cascade.
+#[derive(Debug, Drop)]
+pub enum Described {
+    One(Tables),
+    Several(Switches),
+}
+
+/// Whether a tree describes several switches: the key of switches stands at its top, and the
+/// profile's doesn't.
+#[tactic(auto, unfolding(crate::specs::Files::are_several, crate::specs::Keys::spot_of))]
+fn are_several(tree: &Table) -> bool
+    ensures { result ≡ spec.are_several (table_view tree.now) }
+{
+    member(tree, switches_at().name).is_some() && member(tree, top_at(1).name).is_none()
+}
+
+/// What a reading gives, where a fault stands in the switch of this number; 0 is the file's top.
+fn in_switch<T: Drop>(switch: u8, reading: Result<T, ConfigFault>) -> Result<T, FileFault>
+    ensures { result ≡ in_switch switch reading }
+{
+    match reading {
+        Ok(value) => Ok(value),
+        Err(fault) => Err(FileFault { switch, fault }),
+    }
+}
+
+/// The switches that a tree states, or the first check that fails.
+#[tactic(auto, unfolding(crate::specs::Switches::switches_at))]
+fn switches_in(alloc: Global, tree: &Table) -> Result<Switches, FileFault>
+    ensures lawful { IfOk result AreSwitches }
+    ensures value { GivesIn (λ s. s) result (switches_at (table_view tree.now)) }
+{
+    let rows = in_switch(0, tables(alloc, tree, switches_at()))?;
+    if rows.is_empty() {
+        let fault = ConfigFault::OutOfRange(switches_at().place);
+        return Err(FileFault { switch: 0, fault });
+    }
+    in_switch(0, only_cascade_keys(tree))?;
+    let switches = switches_of(alloc, &rows)?;
+    match first_fault(&switches) {
+        Some(fault) => Err(fault),
+        None => Ok(Switches::new(switches)),
+    }
+}
+
+/// What a tree describes, or the first check that fails.
+#[tactic(auto, unfolding(crate::specs::Files::file_at))]
+fn described(alloc: Global, tree: &Table) -> Result<Described, FileFault>
+    ensures lawful { IfOk result spec.IsLawfulFile }
+    ensures value { GivesIn (λ d. d) result (spec.file_at (table_view tree.now)) }
+{
+    if are_several(tree) {
+        let switches = switches_in(alloc, tree)?;
+        Ok(Described::Several(switches))
+    } else {
+        let tables = in_switch(0, tables_of(alloc, tree, ALL_KEPT))?;
+        Ok(Described::One(tables))
+    }
+}
+
+/// What a text describes: the tables of one switch, which are those that `read_tables` gives, or
+/// several switches, each by its own table and then all together; or the first check that fails.
+/// The bytes may be any.
+///
+/// Memory is answered where a growth was refused, which may be at any point of the order of the
+/// checks.
+pub fn read_file(alloc: Global, text: &[u8]) -> Result<Described, FileFault>
+    ensures ok { IfOk result (spec.Describes text.now) }
+    ensures one { IfOk result (spec.IsOneSpelled text.now) }
+    ensures lawful { IfOk result spec.IsLawfulFile }
+    ensures fault { IfErr result (λ e. e.fault ≢ ConfigFault.Memory →
+        spec.IsFileFault text.now e) }
+{
+    let tree = in_switch(0, tree_of(alloc, text))?;
+    described(alloc, &tree)
+}
