@@ -15,6 +15,7 @@ mod links;
 mod named_tables;
 mod read;
 mod read_links;
+mod read_neighbours;
 mod read_ports;
 mod read_systems;
 mod rows;
