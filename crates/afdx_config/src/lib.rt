@@ -5,6 +5,7 @@
 
 mod asked;
 mod choices;
+mod ends;
 mod fault;
 mod file_fault;
 mod key_tables;
@@ -13,6 +14,7 @@ mod known_keys;
 pub mod laws;
 mod links;
 mod named_tables;
+mod over_all;
 mod read;
 mod read_links;
 mod read_neighbours;
