@@ -18,6 +18,7 @@ mod over_all;
 mod read;
 mod read_file;
 mod read_links;
+mod read_neighbours;
 mod read_ports;
 mod read_systems;
 mod rows;

@@ -70,8 +70,13 @@ fn is_alphanumeric(text: &str) -> bool
     text.as_bytes().iter().all(|b| b.is_ascii_alphanumeric())
 }
 
+/// A name that none before has.
 #[tactic(auto, unfolding(crate::specs::Reading::new_name, crate::specs::Keys::spot_of))]
-fn new_name<'a>(table: &'a Table, at: At, before: &Systems) -> Result<&'a str, ConfigFault>
+pub(crate) fn new_name<'a>(
+    table: &'a Table,
+    at: At,
+    before: &Systems,
+) -> Result<&'a str, ConfigFault>
     ensures value { Gives (λ s. s.now) result
         (spec.new_name (spot_of at) before.now (table_view table.now)) }
     ensures fresh { IfOk result (λ s. spec.system_named before.now s.now ≡ None) }
@@ -88,7 +93,7 @@ fn new_name<'a>(table: &'a Table, at: At, before: &Systems) -> Result<&'a str, C
 }
 
 /// The rates that a line may have in a profile, in Mbit/s.
-fn rates(profile: u64) -> &'static [u64]
+pub(crate) fn rates(profile: u64) -> &'static [u64]
     ensures { result.now ≡ spec.rates profile }
 {
     if profile == 2 {
