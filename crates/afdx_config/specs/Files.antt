@@ -5,8 +5,8 @@ use Rattle.toml.specs.Data.{Members, get_member}
 use Rattle.toml.specs.Parse.{parse_document}
 use Rattle.afdx_config.specs.declared.fault.ConfigFault.TheVariants.{NotToml}
 use Rattle.afdx_config.specs.declared.file_fault.FileFault.{FileFault}
-use Rattle.afdx_config.specs.declared.read_file.Described.{Described}
-use Rattle.afdx_config.specs.declared.read_file.Described.TheVariants.{One, Several}
+use Rattle.afdx_config.specs.declared.describing.Described.{Described}
+use Rattle.afdx_config.specs.declared.describing.Described.TheVariants.{One, Several}
 use Rattle.afdx_config.specs.Choices.{all_kept}
 use Rattle.afdx_config.specs.Keys as keys
 use Rattle.afdx_config.specs.Lawful.{IsLawful}
