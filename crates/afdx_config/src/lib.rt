@@ -20,6 +20,7 @@ mod read_file;
 mod read_links;
 mod read_neighbours;
 mod read_ports;
+mod read_switch;
 mod read_systems;
 mod rows;
 mod switches;
@@ -32,8 +33,8 @@ pub use key_tables::{
     CASCADE_KEYS, Key, LINK_KEYS, NEIGHBOUR_KEYS, PORT_KEYS, SWITCH_KEYS, SYSTEM_KEYS, TOP_KEYS,
     UNKNOWN_KEYS,
 };
-pub use read_file::{Described, read_file};
 pub use read::{read_tables, read_to_solve, read_to_solve_asking};
+pub use read_file::{Described, read_file};
 pub use rows::{ComRow, KeptKeys, Kind, Link, System, SystemId, Times};
 pub use switches::{FarEnd, SwitchId, Switches};
 pub use tables::Tables;

@@ -4,11 +4,11 @@ ghost use Rattle.std.specs.Prelude.{◌≡◌, ◌≢◌, IfOk, IfErr, length};
 ghost use Rattle.toml.specs.View.{table_view};
 ghost use Rattle.afdx_config.specs.Fault.{GivesIn};
 ghost use Rattle.afdx_config.specs.Files as spec;
-ghost use Rattle.afdx_config.specs.Switches.{AreSwitches, in_switch, switches_at};
+ghost use Rattle.afdx_config.specs.Switches.{AreSwitches, switches_at};
 
 use crate::choices::ALL_KEPT;
 use crate::fault::ConfigFault;
-use crate::file_fault::FileFault;
+use crate::file_fault::{FileFault, in_switch};
 use crate::keys::{member, switches_at, tables, top_at};
 use crate::known_keys::only_cascade_keys;
 use crate::over_all::first_fault;
@@ -35,16 +35,6 @@ fn are_several(tree: &Table) -> bool
     member(tree, switches_at().name).is_some() && member(tree, top_at(1).name).is_none()
 }
 
-/// What a reading gives, where a fault stands in the switch of this number; 0 is the file's top.
-fn in_switch<T: Drop>(switch: u8, reading: Result<T, ConfigFault>) -> Result<T, FileFault>
-    ensures { result ≡ in_switch switch reading }
-{
-    match reading {
-        Ok(value) => Ok(value),
-        Err(fault) => Err(FileFault { switch, fault }),
-    }
-}
-
 /// The switches that a tree states, or the first check that fails.
 #[tactic(auto, unfolding(crate::specs::Switches::switches_at))]
 fn switches_in(alloc: Global, tree: &Table) -> Result<Switches, FileFault>
@@ -66,7 +56,7 @@ fn switches_in(alloc: Global, tree: &Table) -> Result<Switches, FileFault>
 
 /// What a tree describes, or the first check that fails.
 #[tactic(auto, unfolding(crate::specs::Files::file_at))]
-fn described(alloc: Global, tree: &Table) -> Result<Described, FileFault>
+fn described_by(alloc: Global, tree: &Table) -> Result<Described, FileFault>
     ensures lawful { IfOk result spec.IsLawfulFile }
     ensures value { GivesIn (λ d. d) result (spec.file_at (table_view tree.now)) }
 {
@@ -93,5 +83,5 @@ pub fn read_file(alloc: Global, text: &[u8]) -> Result<Described, FileFault>
         spec.IsFileFault text.now e) }
 {
     let tree = in_switch(0, tree_of(alloc, text))?;
-    described(alloc, &tree)
+    described_by(alloc, &tree)
 }
