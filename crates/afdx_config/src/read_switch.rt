@@ -64,7 +64,7 @@ pub(crate) fn switches_of(alloc: Global, tables: &[&Table]) -> Result<Vec<NamedT
     requires { length tables.now ≤ spec.most_switches }
     ensures count { IfOk result (λ v. length v.items ≡ length tables.now) }
     ensures names { IfOk result (λ v. AllByRecursion (λ s. is_name s.name ≡ true) v.items) }
-    ensures each { IfOk result (λ v. AllByRecursion (λ s. IsLawfulSwitch s.rows) v.items) }
+    ensures lawful { IfOk result (λ v. AllByRecursion (λ s. IsLawfulSwitch s.rows) v.items) }
     ensures value { GivesIn (λ v. v.items) result
         (spec.each_switch [] (trees tables.now)) }
 {
