@@ -42,7 +42,12 @@ IsFileFault text e =
     ⊎ (IsUtf8 text
     × ((tree : Members) × (parse_document text ≡ Some tree) × (file_at tree ≡ Err e)))
 
--- where it is one switch, its tables are those that the text spells; and all rules hold
+-- where it is one switch, its tables are those that the tree states, or that the text spells; and
+-- all rules hold
+abbrev pub IsOneStated : Members → Described → Type 0
+IsOneStated tree (One t) = tables_at all_kept tree ≡ Ok t
+IsOneStated tree (Several switches) = Unit {0}
+
 abbrev pub IsOneSpelled : List ℕ → Described → Type 0
 IsOneSpelled text (One t) = Spells text t
 IsOneSpelled text (Several switches) = Unit {0}

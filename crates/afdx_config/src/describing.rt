@@ -6,12 +6,12 @@ ghost use Rattle.afdx_config.specs.Fault.{Gives, GivesIn};
 ghost use Rattle.afdx_config.specs.Lawful.{IsWithin};
 ghost use Rattle.afdx_config.specs.Trees.{trees};
 ghost use Rattle.afdx_config.specs.Files as spec;
-ghost use Rattle.afdx_config.specs.Switches.{AreSwitches, in_switch, switch_tables, switches_at};
+ghost use Rattle.afdx_config.specs.Switches.{AreSwitches, switch_tables, switches_at};
 ghost use Rattle.afdx_config.specs.Switches.{most_switches};
 
 use crate::choices::ALL_KEPT;
 use crate::fault::ConfigFault;
-use crate::file_fault::FileFault;
+use crate::file_fault::{FileFault, in_switch};
 use crate::keys::{member, switches_at, tables, top_at};
 use crate::known_keys::only_cascade_keys;
 use crate::over_all::first_fault;
@@ -36,16 +36,6 @@ fn are_several(tree: &Table) -> bool
     ensures { result ≡ spec.are_several (table_view tree.now) }
 {
     member(tree, switches_at().name).is_some() && member(tree, top_at(1).name).is_none()
-}
-
-/// What a reading gives, where a fault stands in the switch of this number; 0 is the file's top.
-fn in_switch<T: Drop>(switch: u8, reading: Result<T, ConfigFault>) -> Result<T, FileFault>
-    ensures { result ≡ in_switch switch reading }
-{
-    match reading {
-        Ok(value) => Ok(value),
-        Err(fault) => Err(FileFault { switch, fault }),
-    }
 }
 
 /// The tables of the switches: 1 to 24.
@@ -81,6 +71,7 @@ fn switches_in(alloc: Global, tree: &Table) -> Result<Switches, FileFault>
 #[tactic(auto, unfolding(crate::specs::Files::file_at))]
 fn described_by(alloc: Global, tree: &Table) -> Result<Described, FileFault>
     ensures lawful { IfOk result spec.IsLawfulFile }
+    ensures one { IfOk result (spec.IsOneStated (table_view tree.now)) }
     ensures value { GivesIn (λ d. d) result (spec.file_at (table_view tree.now)) }
 {
     if are_several(tree) {

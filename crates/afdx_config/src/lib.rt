@@ -20,6 +20,7 @@ mod read;
 mod read_links;
 mod read_neighbours;
 mod read_ports;
+mod read_switch;
 mod read_systems;
 mod rows;
 mod switches;

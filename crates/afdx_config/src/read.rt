@@ -11,7 +11,7 @@ ghost use Rattle.afdx_config.specs.Reading as spec;
 use crate::asked::latencies_in;
 use crate::choices::{ALL_KEPT, choice};
 use crate::fault::ConfigFault;
-use crate::keys::{tables, top_at, whole};
+use crate::keys::{At, tables, top_at, whole};
 use crate::known_keys::only_top_keys;
 use crate::read_links::links_of;
 use crate::read_ports::coms_of;
@@ -21,13 +21,13 @@ use crate::tables::Tables;
 use std::alloc::Global;
 use toml::Table;
 
-#[tactic(auto, unfolding(crate::specs::Keys::top_keys))]
-fn profile_of(tree: &Table) -> Result<u64, ConfigFault>
-    ensures known { IfOk result (IsWithin 1 2) }
+/// The profile. Whatever is wrong with it, it is `BadProfile`.
+pub(crate) fn profile_of(tree: &Table, at: At) -> Result<u64, ConfigFault>
+    ensures known { IfOk result (IsWithin (keys.spot_of at).least (keys.spot_of at).greatest) }
     ensures value { Gives (λ n. n) result
-        (spec.or_bad_profile (keys.whole (keys.top_at 1) (table_view tree.now))) }
+        (spec.or_bad_profile (keys.whole (keys.spot_of at) (table_view tree.now))) }
 {
-    match whole(tree, top_at(1)) {
+    match whole(tree, at) {
         Ok(profile) => Ok(profile),
         Err(_) => Err(ConfigFault::BadProfile),
     }
@@ -40,7 +40,7 @@ pub(crate) fn tables_of(alloc: Global, tree: &Table, kept: KeptKeys) -> Result<T
     ensures lawful { IfOk result IsLawful }
     ensures value { Gives (λ t. t) result (spec.tables_at kept (table_view tree.now)) }
 {
-    let profile = profile_of(tree)?;
+    let profile = profile_of(tree, top_at(1))?;
     let buffer = choice(tree, top_at(2), kept.buffer)?;
     let systems = tables(alloc, tree, top_at(3))?;
     let links = tables(alloc, tree, top_at(4))?;

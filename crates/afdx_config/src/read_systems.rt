@@ -13,6 +13,7 @@ ghost use Rattle.afdx_config.specs.Fault.{Gives};
 ghost use Rattle.afdx_config.specs.Trees.{trees};
 ghost use Rattle.afdx_config.specs.Keys.{spot_of, system_at, whole};
 ghost use Rattle.afdx_config.specs.Reading as spec;
+ghost use Rattle.afdx_config.specs.Switches.{name_at};
 
 use crate::fault::ConfigFault;
 use crate::keys::{At, one_of, system_at, text, whole};
@@ -70,8 +71,22 @@ fn is_alphanumeric(text: &str) -> bool
     text.as_bytes().iter().all(|b| b.is_ascii_alphanumeric())
 }
 
+/// A name of 1 to 16 ASCII letters and digits.
+#[tactic(auto, unfolding(crate::specs::Switches::name_at, crate::specs::Keys::spot_of))]
+pub(crate) fn name_of<'a>(table: &'a Table, at: At) -> Result<&'a str, ConfigFault>
+    ensures value { Gives (λ s. s.now) result (name_at (spot_of at) (table_view table.now)) }
+    ensures lawful { IfOk result (λ s. spec.is_name s.now ≡ true) }
+{
+    let name = text(table, at)?;
+    if is_name(name) {
+        Ok(name)
+    } else {
+        Err(ConfigFault::OutOfRange(at.place))
+    }
+}
+
 /// A name that none before has.
-#[tactic(auto, unfolding(crate::specs::Reading::new_name, crate::specs::Keys::spot_of))]
+#[tactic(auto, unfolding(crate::specs::Reading::new_name, crate::specs::Switches::name_at, crate::specs::Keys::spot_of))]
 pub(crate) fn new_name<'a>(
     table: &'a Table,
     at: At,
@@ -82,10 +97,7 @@ pub(crate) fn new_name<'a>(
     ensures fresh { IfOk result (λ s. spec.system_named before.now s.now ≡ None) }
     ensures lawful { IfOk result (λ s. spec.is_name s.now ≡ true) }
 {
-    let name = text(table, at)?;
-    if !is_name(name) {
-        return Err(ConfigFault::OutOfRange(at.place));
-    }
+    let name = name_of(table, at)?;
     if before.named(name).is_some() {
         return Err(ConfigFault::Twice(at.place));
     }

@@ -6,8 +6,8 @@ use Rattle.afdx_config.proofs.read.tables_of.Goals as goal
 pub new-requires : goal.new-requires
 unfolding top_keys
 new-requires c = record {
-  profile = c.in_ok-profile.ensures.known;
-  buffer = rw c.top_at.ensures.spot at c.in_ok-buffer.ensures.within;
+  profile = rw c.top_at.ensures.spot at c.in_ok-profile.ensures.known;
+  buffer = rw c.top_at-2.ensures.spot at c.in_ok-buffer.ensures.within;
   own = omega (arith, c.len-own.ensures.len);
   systems = ends_alone c.in_ok-profile.profile c.len-own.result c.in_ok-systems-2.systems c.len-own.ensures.len
       c.in_ok-systems-2.ensures.lawful;
