@@ -1,17 +1,16 @@
 -- A file that describes several switches on a side: each by its own table alone, and then what
 -- holds over all of them. A switch is named by its place, from 0.
 use Rattle.std.specs.Prelude.{◌≡◌, ℕ, ◌+◌, ◌-◌, Bool, true, false, not, ◌&&◌, nat_le, nat_lt, nat_eq, ◌||◌}
-use Rattle.std.specs.Prelude.{List, [], ◌∷◌, ◌++◌, length, position, take, slice_get, codes}
+use Rattle.std.specs.Prelude.{List, [], ◌∷◌, ◌++◌, length, position, take, slice_get}
 use Rattle.std.specs.Prelude.{Option, Some, None, is_some, option_map, option_and_then, Result, Ok}
 use Rattle.std.specs.Prelude.{Err, if◌then◌else◌}
 use Rattle.std.specs.List.{list_any, AllByRecursion}
 use Rattle.std.specs.Option.{option_map_or}
 use Rattle.std.specs.Str.{bytes_eq}
-use Rattle.toml.specs.Data.{Members, get_member}
-use Rattle.afdx_frame.specs.Checks.{◌>>=◌, ◌>>◌, check, or_else}
+use Rattle.toml.specs.Data.{Members}
+use Rattle.afdx_frame.specs.Checks.{◌>>=◌, ◌>>◌, check}
 use Rattle.afdx_frame.specs.Lines.{Line, line, first_false, each_from}
 use Rattle.afdx_config.specs.declared.fault.Part.TheVariants as part
-use Rattle.afdx_config.specs.declared.fault.Place.{Place}
 use Rattle.afdx_config.specs.declared.fault.ConfigFault.{ConfigFault}
 use Rattle.afdx_config.specs.declared.fault.ConfigFault.TheVariants.{OutOfRange, Twice}
 use Rattle.afdx_config.specs.declared.fault.ConfigFault.TheVariants.{NoSuchSystem}

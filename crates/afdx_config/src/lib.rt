@@ -27,13 +27,13 @@ mod switches;
 mod systems;
 mod tables;
 
+pub use describing::{Described, read_file};
 pub use fault::{CONFIG_FAULTS, ConfigFault, Part, Place};
 pub use file_fault::FileFault;
 pub use key_tables::{
     CASCADE_KEYS, Key, LINK_KEYS, NEIGHBOUR_KEYS, PORT_KEYS, SWITCH_KEYS, SYSTEM_KEYS, TOP_KEYS,
     UNKNOWN_KEYS,
 };
-pub use describing::{Described, read_file};
 pub use read::{read_tables, read_to_solve, read_to_solve_asking};
 pub use rows::{ComRow, KeptKeys, Kind, Link, System, SystemId, Times};
 pub use switches::{FarEnd, SwitchId, Switches};

@@ -30,7 +30,9 @@ pub(crate) fn home_of(switches: &[NamedTables], name: &str) -> Option<usize>
     ensures place { result ≡ spec.home_of switches.now name.now }
     ensures known { IfSome result (λ k. k < length switches.now) }
 {
-    switches.iter().position(|switch| switch.tables().own_named(name).is_some())
+    switches
+        .iter()
+        .position(|switch| switch.tables().own_named(name).is_some())
 }
 
 /// The place of the first switch that has a system of this number. It tries each of them.
@@ -38,7 +40,9 @@ pub(crate) fn home_of(switches: &[NamedTables], name: &str) -> Option<usize>
 fn home_of_id(switches: &[NamedTables], id: u16) -> Option<usize>
     ensures { result ≡ spec.home_of_id switches.now id }
 {
-    switches.iter().position(|switch| switch.tables().own_has_id(id))
+    switches
+        .iter()
+        .position(|switch| switch.tables().own_has_id(id))
 }
 
 /// The place of the first switch at which this link starts. It looks it up at each of them.
@@ -46,7 +50,9 @@ fn home_of_id(switches: &[NamedTables], id: u16) -> Option<usize>
 fn start_of(switches: &[NamedTables], vl: VlId) -> Option<usize>
     ensures { result ≡ spec.start_of switches.now vl.0 }
 {
-    switches.iter().position(|switch| switch.tables().starts(vl))
+    switches
+        .iter()
+        .position(|switch| switch.tables().starts(vl))
 }
 
 /// The switch at this place.

@@ -101,7 +101,9 @@ impl Switches {
             ≡ system_of self.now name.now }
     {
         let place = home_of(self.switches.as_slice(), name)?;
-        let system = at(self.switches.as_slice(), place).tables().own_named(name)?;
+        let system = at(self.switches.as_slice(), place)
+            .tables()
+            .own_named(name)?;
         Some((SwitchId(place as u8), system))
     }
 

@@ -1,8 +1,8 @@
-use Rattle.std.proofs.Common.{◌≡◌, ◌++◌, length, List, None, sym, ◌∙◌}
+use Rattle.std.proofs.Common.{◌++◌, length, List, sym, ◌∙◌}
 use Rattle.afdx_config.specs.declared.file_fault.FileFault.{FileFault}
 use Rattle.afdx_config.specs.Switches.{NamedRows, name_lines, systems_lines, neighbours_lines, starts_lines, over_all}
-use Rattle.afdx_frame.specs.Lines.{Line, first_false, each_from}
-use Rattle.afdx_frame.proofs.FirstFalseLemmas.{first_false-append, first_false-before, none_of}
+use Rattle.afdx_frame.specs.Lines.{Line, each_from}
+use Rattle.afdx_frame.proofs.FirstFalseLemmas.{first_false-append, first_false-before}
 use Rattle.afdx_config.proofs.over_all.first_fault.Goals as goal
 
 -- the lines of each kind, over all

@@ -2,7 +2,7 @@ use Rattle.std.proofs.Common.{◌≡◌, ℕ, ◌≤◌, ◌+◌, ◌-◌, Some,
 use Rattle.afdx_config.specs.Rows.{Rows, system_row}
 use Rattle.afdx_config.specs.Switches.{NamedRows, neighbour_lines, neighbours_lines, lines_of_neighbour}
 use Rattle.afdx_frame.specs.Lines.{first_false, each_from}
-use Rattle.afdx_frame.proofs.FirstFalseLemmas.{IsSoFar, so_far-start, so_far-next, so_far-found, so_far-end, none_of}
+use Rattle.afdx_frame.proofs.FirstFalseLemmas.{IsSoFar, so_far-start, so_far-next, so_far-found, so_far-end}
 use Rattle.afdx_config.proofs.OverLemmas.{neighbours-at, neighbour-at}
 use Rattle.afdx_config.proofs.over_all.neighbours_fault_at.Goals as goal
 

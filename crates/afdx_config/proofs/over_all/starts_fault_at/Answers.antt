@@ -1,8 +1,8 @@
-use Rattle.std.proofs.Common.{◌≡◌, ℕ, ◌≤◌, ◌+◌, ◌-◌, Some, slice_get, length, sym, ap, subst, ◌∙◌, arith}
+use Rattle.std.proofs.Common.{◌≡◌, Some, slice_get, length, sym, ap, subst, ◌∙◌, arith}
 use Rattle.afdx_config.specs.Rows.{Rows, link_row}
 use Rattle.afdx_config.specs.Switches.{NamedRows, start_lines, starts_lines, lines_of_start}
 use Rattle.afdx_frame.specs.Lines.{first_false, each_from}
-use Rattle.afdx_frame.proofs.FirstFalseLemmas.{so_far-start, so_far-next, so_far-found, so_far-end, none_of}
+use Rattle.afdx_frame.proofs.FirstFalseLemmas.{so_far-start, so_far-next, so_far-found, so_far-end}
 use Rattle.afdx_config.proofs.OverLemmas.{starts-at, start-at}
 use Rattle.afdx_config.proofs.over_all.starts_fault_at.Goals as goal
 

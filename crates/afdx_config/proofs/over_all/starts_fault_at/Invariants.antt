@@ -1,4 +1,4 @@
-use Rattle.std.proofs.Common.{length, ◌-◌}
+use Rattle.std.proofs.Common.{length}
 use Rattle.afdx_config.specs.Switches.{start_lines}
 use Rattle.afdx_frame.specs.Lines.{first_false, each_from}
 use Rattle.afdx_frame.proofs.FirstFalseLemmas.{IsSoFar}

@@ -1,4 +1,3 @@
-use Rattle.std.proofs.Common.{length, ◌-◌}
 use Rattle.afdx_config.specs.Switches.{system_lines}
 use Rattle.afdx_frame.specs.Lines.{first_false, each_from}
 use Rattle.afdx_frame.proofs.FirstFalseLemmas.{IsSoFar}

@@ -1,5 +1,5 @@
 use Rattle.std.proofs.lemmas.Bool.{eq-eqb}
-use Rattle.std.proofs.Common.{false, ne_eqb, ◌≡◌, nat_eq, sym, ap, ◌∙◌, arith, subst, take}
+use Rattle.std.proofs.Common.{false, ne_eqb, ◌≡◌, nat_eq, sym, arith, subst, take}
 use Rattle.std.specs.List.{list_any}
 use Rattle.afdx_config.specs.Rows.{system_row}
 use Rattle.afdx_config.specs.Switches.{own_has_id}
