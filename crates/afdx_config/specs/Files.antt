@@ -5,8 +5,8 @@ use Rattle.toml.specs.Data.{Members, get_member}
 use Rattle.toml.specs.Parse.{parse_document}
 use Rattle.afdx_config.specs.declared.fault.ConfigFault.TheVariants.{NotToml}
 use Rattle.afdx_config.specs.declared.file_fault.FileFault.{FileFault}
-use Rattle.afdx_config.specs.declared.read_file.Described.{Described}
-use Rattle.afdx_config.specs.declared.read_file.Described.TheVariants.{One, Several}
+use Rattle.afdx_config.specs.declared.describing.Described.{Described}
+use Rattle.afdx_config.specs.declared.describing.Described.TheVariants.{One, Several}
 use Rattle.afdx_config.specs.Choices.{all_kept}
 use Rattle.afdx_config.specs.Keys as keys
 use Rattle.afdx_config.specs.Lawful.{IsLawful}
@@ -42,7 +42,12 @@ IsFileFault text e =
     ⊎ (IsUtf8 text
     × ((tree : Members) × (parse_document text ≡ Some tree) × (file_at tree ≡ Err e)))
 
--- where it is one switch, its tables are those that the text spells; and all rules hold
+-- where it is one switch, its tables are those that the tree states, or that the text spells; and
+-- all rules hold
+abbrev pub IsOneStated : Members → Described → Type 0
+IsOneStated tree (One t) = tables_at all_kept tree ≡ Ok t
+IsOneStated tree (Several switches) = Unit {0}
+
 abbrev pub IsOneSpelled : List ℕ → Described → Type 0
 IsOneSpelled text (One t) = Spells text t
 IsOneSpelled text (Several switches) = Unit {0}

@@ -259,10 +259,16 @@ no_fault (Some fault) = Err fault
 abbrev pub most_switches : ℕ
 most_switches = 24
 
+-- the tables of the switches: there is one, and at most as many as the key's range says
+unfoldable pub switch_tables : Members → Result (List Members) ConfigFault
+switch_tables t = do
+  switches ← tables keys.switches_at t
+  check (nat_le 1 (length switches)) (OutOfRange keys.switches_at.place)
+  Ok switches
+
 unfoldable pub switches_at : Members → Result (List NamedRows) FileFault
 switches_at t = do
-  switches ← in_switch 0 (tables keys.switches_at t)
-  in_switch 0 (check (nat_le 1 (length switches)) (OutOfRange keys.switches_at.place))
+  switches ← in_switch 0 (switch_tables t)
   in_switch 0 (only_cascade_keys t)
   switches ← each_switch [] switches
   no_fault (first_false (over_all switches))

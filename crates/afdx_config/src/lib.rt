@@ -5,6 +5,7 @@
 
 mod asked;
 mod choices;
+mod describing;
 mod ends;
 mod fault;
 mod file_fault;
@@ -16,7 +17,6 @@ mod links;
 mod named_tables;
 mod over_all;
 mod read;
-mod read_file;
 mod read_links;
 mod read_neighbours;
 mod read_ports;
@@ -33,8 +33,8 @@ pub use key_tables::{
     CASCADE_KEYS, Key, LINK_KEYS, NEIGHBOUR_KEYS, PORT_KEYS, SWITCH_KEYS, SYSTEM_KEYS, TOP_KEYS,
     UNKNOWN_KEYS,
 };
+pub use describing::{Described, read_file};
 pub use read::{read_tables, read_to_solve, read_to_solve_asking};
-pub use read_file::{Described, read_file};
 pub use rows::{ComRow, KeptKeys, Kind, Link, System, SystemId, Times};
 pub use switches::{FarEnd, SwitchId, Switches};
 pub use tables::Tables;

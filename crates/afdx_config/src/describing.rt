@@ -2,9 +2,12 @@
 
 ghost use Rattle.std.specs.Prelude.{◌≡◌, ◌≢◌, IfOk, IfErr, length};
 ghost use Rattle.toml.specs.View.{table_view};
-ghost use Rattle.afdx_config.specs.Fault.{GivesIn};
+ghost use Rattle.afdx_config.specs.Fault.{Gives, GivesIn};
+ghost use Rattle.afdx_config.specs.Lawful.{IsWithin};
+ghost use Rattle.afdx_config.specs.Trees.{trees};
 ghost use Rattle.afdx_config.specs.Files as spec;
-ghost use Rattle.afdx_config.specs.Switches.{AreSwitches, switches_at};
+ghost use Rattle.afdx_config.specs.Switches.{AreSwitches, switch_tables, switches_at};
+ghost use Rattle.afdx_config.specs.Switches.{most_switches};
 
 use crate::choices::ALL_KEPT;
 use crate::fault::ConfigFault;
@@ -35,17 +38,27 @@ fn are_several(tree: &Table) -> bool
     member(tree, switches_at().name).is_some() && member(tree, top_at(1).name).is_none()
 }
 
+/// The tables of the switches: 1 to 24.
+#[tactic(auto, unfolding(crate::specs::Switches::switch_tables, crate::specs::Keys::cascade_keys))]
+fn switch_tables<'a>(alloc: Global, tree: &'a Table) -> Result<Vec<&'a Table>, ConfigFault>
+    ensures value { Gives (λ v. trees v.items) result (switch_tables (table_view tree.now)) }
+    ensures few { IfOk result (λ v. IsWithin 1 most_switches (length v.items)) }
+{
+    let at = switches_at();
+    let rows = tables(alloc, tree, at)?;
+    if rows.is_empty() {
+        return Err(ConfigFault::OutOfRange(at.place));
+    }
+    Ok(rows)
+}
+
 /// The switches that a tree states, or the first check that fails.
 #[tactic(auto, unfolding(crate::specs::Switches::switches_at))]
 fn switches_in(alloc: Global, tree: &Table) -> Result<Switches, FileFault>
     ensures lawful { IfOk result AreSwitches }
     ensures value { GivesIn (λ s. s) result (switches_at (table_view tree.now)) }
 {
-    let rows = in_switch(0, tables(alloc, tree, switches_at()))?;
-    if rows.is_empty() {
-        let fault = ConfigFault::OutOfRange(switches_at().place);
-        return Err(FileFault { switch: 0, fault });
-    }
+    let rows = in_switch(0, switch_tables(alloc, tree))?;
     in_switch(0, only_cascade_keys(tree))?;
     let switches = switches_of(alloc, &rows)?;
     match first_fault(&switches) {
@@ -58,6 +71,7 @@ fn switches_in(alloc: Global, tree: &Table) -> Result<Switches, FileFault>
 #[tactic(auto, unfolding(crate::specs::Files::file_at))]
 fn described_by(alloc: Global, tree: &Table) -> Result<Described, FileFault>
     ensures lawful { IfOk result spec.IsLawfulFile }
+    ensures one { IfOk result (spec.IsOneStated (table_view tree.now)) }
     ensures value { GivesIn (λ d. d) result (spec.file_at (table_view tree.now)) }
 {
     if are_several(tree) {
