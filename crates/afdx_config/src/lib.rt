@@ -10,6 +10,7 @@ mod ends;
 mod fault;
 mod file_fault;
 mod key_tables;
+mod key_texts;
 mod keys;
 mod known_keys;
 pub mod laws;
@@ -32,8 +33,8 @@ pub use fault::{CONFIG_FAULTS, ConfigFault, Part, Place};
 pub use file_fault::FileFault;
 pub use key_tables::{
     CASCADE_KEYS, Key, LINK_KEYS, NEIGHBOUR_KEYS, PORT_KEYS, SWITCH_KEYS, SYSTEM_KEYS, TOP_KEYS,
-    UNKNOWN_KEYS,
 };
+pub use key_texts::{UNKNOWN_KEYS, WIDER_KEYS};
 pub use read::{read_tables, read_to_solve, read_to_solve_asking};
 pub use rows::{ComRow, KeptKeys, Kind, Link, System, SystemId, Times};
 pub use switches::{FarEnd, SwitchId, Switches};
