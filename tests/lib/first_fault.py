@@ -2,8 +2,9 @@
 the program."""
 from __future__ import annotations
 
+import itertools
 import re
-from typing import Iterator
+from typing import Callable, Iterator, NamedTuple
 
 from tables import tomllib
 
@@ -31,9 +32,18 @@ KEY_ROWS = {
     },
 }
 KEYS = {part: list(rows) for part, rows in KEY_ROWS.items()}
-MOST_ROWS = {part: most for part, (_, most) in KEY_ROWS["top"].items() if part in KEY_ROWS}
+# the same of a file of several switches: of the top of a switch, and of its neighbours
+SWITCH_ROWS = {
+    "switch": KEY_ROWS["top"] | {"name": (1, 16), "neighbour": (0, 23)},
+    "neighbour": {"name": (1, 16), "port": (1, 24), "rate": (10, 1_000)},
+}
+ALL_KEYS = KEYS | {part: list(rows) for part, rows in SWITCH_ROWS.items()}
+RANGES = {
+    (part, key): rows[key] for part, rows in (KEY_ROWS | SWITCH_ROWS).items() for key in rows
+}
+ROWS = ("system", "neighbour", "link", "port")  # the parts that are arrays, in their order
 TEXTS = ("name", "from", "priority", "policing", "kind")
-RANGES = {(part, key): rows[key] for part, rows in KEY_ROWS.items() for key in rows}
+LATE_US = 100_000  # what the jitter of a link from a neighbour may have beside its BAG
 
 
 def is_whole(value: object) -> bool:
@@ -43,11 +53,18 @@ def is_whole(value: object) -> bool:
 
 def is_of_kind(part: str, key: str, value: object) -> bool:
     """The value is of the key's kind."""
+    if part in ("top", "switch") and key in ROWS:
+        return isinstance(value, list) and all(isinstance(row, dict) for row in value)
     if key == "to":
         return isinstance(value, list) and all(isinstance(name, str) for name in value)
     if key in TEXTS or (part, key) == ("port", "system"):
         return isinstance(value, str)
     return is_whole(value)
+
+
+def names_of(tables: dict, *parts: str) -> list[str]:
+    """The names of the systems, of the neighbours, or of both."""
+    return [row["name"] for part in parts for row in tables.get(part, [])]
 
 
 def in_range(tables: dict, part: str, row: dict, key: str) -> bool:
@@ -62,7 +79,7 @@ def in_range(tables: dict, part: str, row: dict, key: str) -> bool:
     }
     if key in lower:
         return re.fullmatch(lower[key], value) is not None
-    if key == "to":
+    if isinstance(value, list):
         return low <= len(value) <= high
     if (part, key) == ("port", "link"):
         return any(link["vl"] == value and row["system"] in link["to"] for link in tables["link"])
@@ -75,23 +92,28 @@ def in_range(tables: dict, part: str, row: dict, key: str) -> bool:
     if key == "lmax":
         low = row["lmin"]
     if key == "jitter_us":
-        high = 1000 * row["bag_ms"]
+        late = LATE_US if row["from"] in names_of(tables, "neighbour") else 0
+        high = 1000 * row["bag_ms"] + late
     if key == "depth" and row["kind"] == "sampling":
         high = 1
     return low <= value <= high
 
 
 def names_systems(tables: dict, part: str, row: dict, key: str) -> bool:
-    """Each system that the value names is there."""
-    if key not in ("from", "to") and (part, key) != ("port", "system"):
+    """Each system that the value names is there; of a link it may be a neighbour as well."""
+    if (part, key) == ("port", "system"):
+        return row[key] in names_of(tables, "system")
+    if key not in ("from", "to"):
         return True
-    names = [system["name"] for system in tables["system"]]
+    names = names_of(tables, "system", "neighbour")
     return all(name in names for name in (row["to"] if key == "to" else [row[key]]))
 
 
 def is_new(tables: dict, part: str, place: int, key: str) -> bool:
     """The value stood not earlier."""
-    rows, row = tables[part][:place], tables[part][place]
+    rows, row = itertools.islice(tables[part], place), tables[part][place]
+    if part == "neighbour" and key in ("name", "port"):
+        return all(other[key] != row[key] for other in [*tables["system"], *rows])
     if (part == "system" and key in ("name", "port", "id")) or (part, key) == ("link", "vl"):
         return all(other[key] != row[key] for other in rows)
     if key == "to":
@@ -103,51 +125,87 @@ def is_new(tables: dict, part: str, place: int, key: str) -> bool:
     return True
 
 
+class Fault(NamedTuple):
+    """Its name, and where it is: in which part, the how manieth of them, at the key of which
+    number."""
+
+    name: str
+    part: str
+    index: int
+    key: int
+
+    def text(self, switch: str = "") -> str:
+        """As it is written; `switch` says in which one it is, where there are several."""
+        if self.name == "BadProfile" and not switch:
+            return self.name
+        return f"{self.name} {switch}{self.part} {self.index} key {self.key}"
+
+
+def has_profile(tables: dict) -> bool:
+    """There is a profile, and it is known."""
+    return is_whole(tables.get("profile")) and tables["profile"] in (1, 2)
+
+
+def top_faults(tables: dict, part: str) -> Iterator[Fault]:
+    """The faults of the top of a file or of a switch; arrays that are absent are empty then."""
+    for number, key in enumerate(ALL_KEYS[part], 1):
+        if key in ROWS:
+            tables.setdefault(key, [])
+        if key == "profile":
+            if not has_profile(tables):
+                yield Fault("BadProfile", "top", 0, number)
+            continue
+        if key not in tables:
+            yield Fault("Missing", "top", 0, number)
+            continue
+        if not is_of_kind(part, key, tables[key]):
+            yield Fault("WrongKind", "top", 0, number)
+        if not in_range(tables, part, tables, key):
+            yield Fault("OutOfRange", "top", 0, number)
+    if set(tables) - set(ALL_KEYS[part]):
+        yield Fault("UnknownKey", "top", 0, 0)
+
+
+def row_faults(tables: dict, part: str, place: int) -> Iterator[Fault]:
+    """The faults of a row."""
+    row = tables[part][place]
+    for number, key in enumerate(ALL_KEYS[part], 1):
+        if key not in row:
+            yield Fault("Missing", part, place + 1, number)
+            continue
+        if not is_of_kind(part, key, row[key]):
+            yield Fault("WrongKind", part, place + 1, number)
+        if not in_range(tables, part, row, key):
+            yield Fault("OutOfRange", part, place + 1, number)
+        if not names_systems(tables, part, row, key):
+            yield Fault("NoSuchSystem", part, place + 1, number)
+        if not is_new(tables, part, place, key):
+            yield Fault("Twice", part, place + 1, number)
+    if set(row) - set(ALL_KEYS[part]):
+        yield Fault("UnknownKey", part, place + 1, 0)
+
+
+def table_faults(tables: dict, part: str) -> Iterator[Fault]:
+    """The faults of a file of one switch (`top`), or of a switch by its own table (`switch`), in
+    their order; only the first one counts."""
+    yield from top_faults(tables, part)
+    for rows in ROWS:
+        for place in range(len(tables.get(rows, []))):
+            yield from row_faults(tables, rows, place)
+
+
 def faults_of(tables: dict) -> Iterator[str]:
-    """The faults of tables in their order; only the first one counts."""
-    if not is_whole(tables.get("profile")) or tables["profile"] not in (1, 2):
-        yield "BadProfile"
-    if "buffer" not in tables:
-        yield "Missing top 0 key 2"
-    if not is_whole(tables["buffer"]):
-        yield "WrongKind top 0 key 2"
-    low, high = RANGES["top", "buffer"]
-    if not low <= tables["buffer"] <= high:
-        yield "OutOfRange top 0 key 2"
-    for part, most in MOST_ROWS.items():
-        rows = tables.setdefault(part, [])
-        if not isinstance(rows, list) or not all(isinstance(row, dict) for row in rows):
-            yield f"WrongKind top 0 key {KEYS['top'].index(part) + 1}"
-        if len(rows) > most:
-            yield f"OutOfRange top 0 key {KEYS['top'].index(part) + 1}"
-    if set(tables) - set(KEYS["top"]):
-        yield "UnknownKey top 0 key 0"
-    for part in MOST_ROWS:
-        for place, row in enumerate(tables[part]):
-            at = f"{part} {place + 1} key"
-            for number, key in enumerate(KEYS[part], 1):
-                if key not in row:
-                    yield f"Missing {at} {number}"
-                    continue
-                if not is_of_kind(part, key, row[key]):
-                    yield f"WrongKind {at} {number}"
-                if not in_range(tables, part, row, key):
-                    yield f"OutOfRange {at} {number}"
-                if not names_systems(tables, part, row, key):
-                    yield f"NoSuchSystem {at} {number}"
-                if not is_new(tables, part, place, key):
-                    yield f"Twice {at} {number}"
-            if set(row) - set(KEYS[part]):
-                yield f"UnknownKey {at} 0"
+    """The faults of tables of one switch in their order; only the first one counts."""
+    return (fault.text() for fault in table_faults(tables, "top"))
 
 
-def config_fault(text: bytes) -> bytes:
+def config_fault(text: bytes, faults: Callable[[dict], Iterator[str]] = faults_of) -> bytes:
     """The line on standard error; none where the configuration has no fault."""
     try:
         tables = tomllib.loads(text.decode("utf-8"))
     except ValueError:
         return b"config NotToml\n"
-    fault = next(faults_of(tables), None)
+    fault = next(faults(tables), None)
     return b"" if fault is None else f"config {fault}\n".encode()
 
 

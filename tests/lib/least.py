@@ -8,7 +8,7 @@ from typing import Collection, Iterator, NamedTuple
 
 from first_fault import RANGES, faults_of, is_whole
 from frames import OVERHEAD, byte_ns
-from tables import system_named, tomllib
+from tables import tomllib
 
 UNITS = 128_000_000  # an account's units in a byte, so that all sums are whole
 FIXED_JITTER, GREATEST_JITTER = 40_000, 500_000  # of a system's output, in ns
@@ -44,7 +44,8 @@ def is_high(link: dict) -> bool:
 
 
 class Output(NamedTuple):
-    """The output port of a system: its number, the ns of a byte on its line, and its links."""
+    """The output port of a system or a neighbour: its number, the ns of a byte on its line, and its
+    links."""
 
     port: int
     byte_ns: int
@@ -78,20 +79,23 @@ class Output(NamedTuple):
 
 
 def outputs_of(tables: dict) -> list[Output]:
-    """The output ports that have a system, ascending."""
-    links_to: dict[str, list[dict]] = {system["name"]: [] for system in tables["system"]}
+    """The output ports that have a system or a neighbour, ascending."""
+    ends = [*tables["system"], *tables.get("neighbour", [])]
+    links_to: dict[str, list[dict]] = {end["name"]: [] for end in ends}
     for link in tables["link"]:
         for name in link["to"]:
             links_to[name].append(link)
-    systems = sorted(tables["system"], key=lambda system: system["port"])
-    return [Output(s["port"], byte_ns(s), links_to[s["name"]]) for s in systems]
+    ends.sort(key=lambda end: end["port"])
+    return [Output(end["port"], byte_ns(end), links_to[end["name"]]) for end in ends]
 
 
 def jitters_of(tables: dict) -> dict[str, int]:
     """The jitter of each system's output, in ns: its own, and one frame of each of its links."""
     jitters = {system["name"]: FIXED_JITTER for system in tables["system"]}
+    a_byte = {system["name"]: byte_ns(system) for system in tables["system"]}
     for link in tables["link"]:
-        jitters[link["from"]] += wire_size(link) * byte_ns(system_named(tables, link["from"]))
+        if link["from"] in jitters:
+            jitters[link["from"]] += wire_size(link) * a_byte[link["from"]]
     return jitters
 
 
@@ -116,6 +120,14 @@ def port_line(output: Output) -> str:
     return f"P {output.port} {output.high_bound()} {low} {output.buffer_need()}"
 
 
+def port_lines(tables: dict, with_margins: bool = False) -> Iterator[str]:
+    """The bounds of each output port; with them, each link's at once behind its port's."""
+    for output in outputs_of(tables):
+        yield port_line(output)
+        for link, bound in margins(output) if with_margins else ():
+            yield f"m {output.port} {link['vl']} {told(bound)} {1000 * link['latency_us']}"
+
+
 def false_at(output: Output, buffer: int) -> Iterator[str]:
     """The lines that are false at an output port: A1, A2, A3 of high links, A4 of low ones."""
     if output.load(output.links) > UNITS:
@@ -136,7 +148,7 @@ def false_lines(tables: dict) -> list[str]:
     jitters = jitters_of(tables)
     lines += [f"no A5 {name} {ns}" for name, ns in jitters.items() if ns > GREATEST_JITTER]
     for link in tables["link"]:
-        needed = jitters[link["from"]]
+        needed = jitters.get(link["from"], 0)  # none of a link from a neighbour
         if needed > 1000 * link["jitter_us"]:
             lines.append(f"no A6 {link['vl']} {needed}")
         if link["latency_us"] > link["skew_us"]:
@@ -147,7 +159,7 @@ def false_lines(tables: dict) -> list[str]:
 def check_text(tables: dict, is_all: bool) -> bytes:
     """What `check` writes of tables without a fault, with `--all` or without it."""
     answer = false_lines(tables) or ["ok"]
-    lines = [*map(port_line, outputs_of(tables)), *(answer if is_all else answer[:1])]
+    lines = [*port_lines(tables), *(answer if is_all else answer[:1])]
     return "".join(f"{line}\n" for line in lines).encode()
 
 
@@ -169,13 +181,16 @@ class Choice(NamedTuple):
     keep: Collection[str] = ()
     raise_only: bool = False
 
-    def written(self, row: dict, part: str, key: str, enough: int | None) -> int:
-        """The value of a key, of which so much is enough (None: no value is)."""
+    def written(
+        self, row: dict, part: str, key: str, enough: int | None, late_us: int = 0
+    ) -> int:
+        """The value of a key, of which so much is enough (None: no value is); a jitter may be so
+        much over the BAG."""
         if key in self.keep:
             return row[key]
         least, greatest = RANGES[part, key]
         if key == "jitter_us":
-            greatest = 1000 * row["bag_ms"]
+            greatest = 1000 * row["bag_ms"] + late_us
         asked = row.get(key, 0) if self.raise_only else 0
         return greatest if enough is None else min(max(least, asked, enough), greatest)
 

@@ -75,6 +75,8 @@ def largest_tables() -> dict:
 
 def value_text(value: object) -> str:
     """A value as TOML spells it."""
+    if isinstance(value, bool):
+        return str(value).lower()
     if isinstance(value, str):
         return f'"{value}"'
     if isinstance(value, list):

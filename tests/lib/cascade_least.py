@@ -1,0 +1,84 @@
+"""The least jitters, latencies, skews and buffers with which several switches a side are admitted,
+computed apart from the program."""
+from __future__ import annotations
+
+from typing import Collection, NamedTuple
+
+from cascade_check import Ways, cascade_false_lines, latency_sum
+from first_fault import LATE_US
+from least import SOLVED, Choice, jitters_of, quotient_up, with_buffer, with_latencies
+
+
+class SolvedCascade(NamedTuple):
+    """The switches with their values: each the least that is enough, or the greatest in its range
+    where none is; and the first line of admission that is false then, or nothing."""
+
+    switches: list[dict]
+    fault: str
+
+
+def begun(switch: dict, choice: Choice) -> dict:
+    """The switch with the latencies from which the rounds begin, and jitters of 0 where they are
+    absent."""
+    links = [
+        {"jitter_us": 0, **link, "latency_us": choice.written(link, "link", "latency_us", 1)}
+        for link in switch["link"]
+    ]
+    return switch | {"link": links}
+
+
+def with_link_keys(switch: dict, key: str, values: dict[tuple[str, int], int]) -> dict:
+    """The switch with a key of its links, by the switch's name and the link."""
+    links = [link | {key: values[switch["name"], link["vl"]]} for link in switch["link"]]
+    return switch | {"link": links}
+
+
+def with_way_jitters(switches: list[dict], choice: Choice) -> list[dict]:
+    """The jitters: of a link's first row from its sender, of each next one from the row before."""
+    ways = Ways(switches)
+    senders = {switch["name"]: jitters_of(switch) for switch in switches}
+    found: dict[tuple[str, int], int] = {}
+
+    def jitter(name: str, vl: int) -> int:
+        if (name, vl) not in found:
+            row = ways.rows[name, vl]
+            if row["from"] in ways.own[name]:
+                enough, late = quotient_up(senders[name][row["from"]], 1000), 0
+            elif ways.way_to(name, vl) is None:
+                enough, late = 0, LATE_US
+            else:
+                before = ways.rows[row["from"], vl]
+                enough, late = jitter(row["from"], vl) + before["latency_us"], LATE_US
+            found[name, vl] = choice.written(row, "link", "jitter_us", enough, late)
+        return found[name, vl]
+
+    for name, vl in ways.rows:
+        jitter(name, vl)
+    return [with_link_keys(switch, "jitter_us", found) for switch in switches]
+
+
+def with_way_skews(switches: list[dict], choice: Choice) -> list[dict]:
+    """The skews: a row's latency, or that of its whole way where the row goes to a system."""
+    ways = Ways(switches)
+    found = {}
+    for (name, vl), row in ways.rows.items():
+        way = ways.way_to(name, vl) if ways.own[name].intersection(row["to"]) else None
+        enough = max(row["latency_us"], latency_sum(way or []))
+        found[name, vl] = choice.written(row, "link", "skew_us", enough)
+    return [with_link_keys(switch, "skew_us", found) for switch in switches]
+
+
+def solved_cascade(
+    cascade: dict, keep: Collection[str] = (), raise_only: bool = False
+) -> SolvedCascade:
+    """The least values, by rounds: each rests on those before it as they are written."""
+    choice = Choice([SOLVED[word] for word in keep], raise_only)
+    switches = [begun(switch, choice) for switch in cascade["switch"]]
+    while True:
+        switches = with_way_jitters(switches, choice)
+        later = [with_latencies(switch, choice) for switch in switches]
+        if later == switches:
+            break
+        switches = later
+    switches = [with_buffer(sw, choice) for sw in with_way_skews(switches, choice)]
+    return SolvedCascade(switches, next(iter(cascade_false_lines(switches)), ""))

@@ -1,0 +1,293 @@
+#!/usr/bin/env python3
+"""Compares what `check` says of several switches a side with what is computed here.
+
+    tests/run/cascades.py [PROGRAM]
+
+tests/lib/cascade_check.py and switch_fault.py say what `check` must write of a configuration of
+several switches, apart from the program; they must say what tests/cascades/cascade_rows.py spells
+out. So must the program, of these and of generated ones of 1 to 5 switches, admitted or not, with
+`--all` and `--margins` and without; of files that are changed at random or break off at any byte,
+of which the first fault is reported; of 24 switches in a row and around one. One switch must be
+answered as a file of its own, with its name and its latencies added, and such a file as ever. Where
+no PROGRAM is given only what is computed here is tried. Prints `ok NAME` or `FAILED NAME` for each
+case, then `N passed, M failed`; ends with status 1 if a case failed. Needs Python 3.11.
+"""
+from __future__ import annotations
+
+import os
+import random
+import sys
+import tempfile
+
+sys.dont_write_bytecode = True
+TESTS = os.path.join(os.path.dirname(os.path.abspath(__file__)), "..")
+sys.path[:0] = [os.path.join(TESTS, name) for name in ("lib", "cascades")]
+import tables as made  # noqa: E402
+from cascade import cascade_text, of_one  # noqa: E402
+from cascade_check import at_switch, check_lines  # noqa: E402
+from cascade_least import solved_cascade  # noqa: E402
+from cascade_rows import FAULTS, LEAST, ROWS, THREE_TEXT, TWO, TWO_TEXT  # noqa: E402
+from cascade_rows import FaultRow, LeastRow, Row  # noqa: E402
+from first_fault import ROWS as PARTS  # noqa: E402
+from least import check_text, port_lines  # noqa: E402
+from made_cascades import made_cascade, mutated, solved, spoiled  # noqa: E402
+from networks import network  # noqa: E402
+from program import Answer, Cases, Program, answers, must, same_text  # noqa: E402
+from switch_fault import file_fault  # noqa: E402
+
+OPTIONS: list[tuple[str, ...]] = [(), ("--all",), ("--margins",), ("--all", "--margins")]
+EXAMPLES = ("base.toml", "network.toml", "refused.toml", "gigabit.toml")
+ONE = "only"  # the name of a switch that is alone
+
+
+# ---- what is computed here -----------------------------------------------------------------------
+
+
+def loaded(text: bytes) -> dict:
+    """The tables of a file of several switches that has no fault, absent arrays too."""
+    cascade = made.tomllib.loads(text.decode())
+    return {"switch": [{part: [] for part in PARTS} | switch for switch in cascade["switch"]]}
+
+
+def wanted(cascade: dict, options: tuple[str, ...]) -> bytes:
+    """What `check` writes of such tables."""
+    lines = check_lines(cascade, "--all" in options, "--margins" in options)
+    return "".join(f"{line}\n" for line in lines).encode()
+
+
+def row_is_computed(row: Row) -> None:
+    """What is spelled out is what is computed here."""
+    must(file_fault(row.text) == b"", file_fault(row.text).decode())
+    found = wanted(loaded(row.text), row.options).decode()
+    must(found.endswith(row.lines), f"it ends {found[-len(row.lines) :]!r}")
+
+
+def fault_is_computed(row: FaultRow) -> None:
+    """The same of a fault."""
+    found = file_fault(row.text).decode()
+    must(found == f"config {row.fault}\n", f"it is {found!r}, wanted {row.fault!r}")
+
+
+def least_is_computed(row: LeastRow) -> None:
+    """The same of least values."""
+    found = solved_cascade(row.cascade, row.keep)
+    must(found.fault == row.fault, f"the first false line is {found.fault!r}")
+    for switch in found.switches if not row.fault else ():
+        links = [(one["jitter_us"], one["latency_us"], one["skew_us"]) for one in switch["link"]]
+        values = [switch["buffer"], *links]
+        must(values == row.values[switch["name"]], f"{switch['name']} has {values}")
+
+
+# ---- what the program says -----------------------------------------------------------------------
+
+
+def checked(program: Program, text: bytes, options: tuple[str, ...] = ()) -> Answer:
+    """What `check` answers."""
+    return program.run("check", *options, "/dev/stdin", given=text)
+
+
+def check_alike(program: Program, text: bytes, every: list[tuple[str, ...]]) -> bytes:
+    """`check` answers what is computed here, with each of these options; its fault."""
+    fault = file_fault(text)
+    cascade = {} if fault else loaded(text)
+    for options in every:
+        found = checked(program, text, options)
+        if fault:
+            answers(found, 1, b"", fault)
+        else:
+            lines = wanted(cascade, options)
+            answers(found, 0 if lines.endswith(b"\nok\n") else 1, lines, b"")
+    return fault
+
+
+def row_is_told(program: Program, row: Row) -> None:
+    """The program ends with the lines that are spelled out."""
+    found = checked(program, row.text, row.options)
+    answers(found, 0 if row.lines.endswith("\nok\n") else 1, None, b"")
+    lines = row.lines.encode()
+    same_text("the end of standard output", lines, found.out[-len(lines) :])
+    check_alike(program, row.text, OPTIONS)
+
+
+def fault_is_told(program: Program, row: FaultRow) -> None:
+    """The program reports the fault that is spelled out, and has no output."""
+    for options in OPTIONS:
+        answers(checked(program, row.text, options), 1, b"", f"config {row.fault}\n".encode())
+
+
+def all_alike(program: Program, seed: int, count: int) -> None:
+    """So many cascades with any values, with the least ones, and with these spoiled."""
+    chance = random.Random(seed)
+    for _ in range(count):
+        is_light = chance.random() < 0.7
+        cascade = made_cascade(chance, chance.randint(1, 5), chance.randint(0, 25), is_light)
+        least = solved(cascade)
+        for one in (cascade, least, spoiled(chance, least), spoiled(chance, least)):
+            check_alike(program, cascade_text(one), OPTIONS)
+
+
+def all_faults(program: Program, seed: int, count: int) -> None:
+    """So many files that are changed at random."""
+    chance = random.Random(seed)
+    faults = 0
+    for _ in range(count):
+        cascade = made_cascade(chance, chance.randint(1, 5), chance.randint(0, 8), True)
+        faults += check_alike(program, mutated(chance, cascade), [()]) != b""
+    must(faults > count // 2, f"{faults} of {count} have a fault")
+
+
+def all_beginnings(program: Program, text: bytes) -> None:
+    """Every beginning of a file: what it describes, or its fault."""
+    for count in range(len(text)):
+        check_alike(program, text[:count], [()])
+
+
+def needed_to_the_end() -> bytes:
+    """The two switches: the first one's end of the cable stands before its last key, and the other
+    one's is the last table."""
+    one, other = (
+        b'[[switch.neighbour]]\nname = "%s"\nport = %d\nrate = 100\n' % end
+        for end in ((b"aft", 24), (b"fwd", 20))
+    )
+    text = cascade_text(TWO)
+    must(text.count(one) == text.count(other) == 1, "there are no such tables")
+    end = b'neighbour = [{ name = "aft", port = 24, rate = 100 }]\nbuffer ='
+    return text.replace(b"buffer =", end, 1).replace(one, b"").replace(other, b"") + other
+
+
+def no_beginning_is_whole(program: Program) -> None:
+    """A file of which each beginning has one fault, up to its last key."""
+    text = needed_to_the_end()
+    answers(checked(program, text), 0, wanted(TWO, ()), b"")
+    for count in range(len(text) - len(b"0\n")):
+        fault = file_fault(text[:count])
+        must(fault.startswith(b"config ") and fault.count(b"\n") == 1, f"{count}: {fault!r}")
+        answers(checked(program, text[:count]), 1, b"", fault)
+
+
+def in_a_row(count: int) -> dict:
+    """So many switches in a row; one link goes from the first to the last."""
+    link = made.base_tables()["link"][0] | {"skew_us": 100_000}
+    switches = []
+    for k in range(count):
+        cables = [{"name": f"w{n}", "port": 20 + n - k, "rate": 100}
+                  for n in (k - 1, k + 1) if 0 <= n < count]
+        system = [made.system_of(k // (count - 1) + 1)] if k in (0, count - 1) else []
+        row = {"from": f"w{k - 1}" if k else "s1", "to": [f"w{k + 1}" if k < count - 1 else "s2"]}
+        switches.append({
+            "name": f"w{k}", "profile": 1, "buffer": 4096, "system": system, "neighbour": cables,
+            "link": [link | row], "port": [],
+        })
+    return solved({"switch": switches})
+
+
+def around_one(count: int) -> dict:
+    """So many switches around one, each with a system whose link goes to all others."""
+    link = made.base_tables()["link"][0] | {"bag_ms": 32, "skew_us": 100_000}
+    names = range(1, count + 1)
+    ends = [{"name": f"w{n}", "port": n, "rate": 100} for n in names]
+    rows = [link | {"vl": n, "from": f"w{n}", "to": [f"w{m}" for m in names if m != n]}
+            for n in names]
+    switches = [{"name": "w0", "profile": 1, "buffer": 4096, "system": [], "neighbour": ends,
+                 "link": rows, "port": []}]
+    for n in names:
+        rows = [link | {"vl": m, "from": "w0", "to": [f"s{n}"]} for m in names if m != n]
+        rows.insert(0, link | {"vl": n, "from": f"s{n}", "to": ["w0"]})
+        system, cable = made.system_of(n), {"name": "w0", "port": 24, "rate": 100}
+        switches.append({"name": f"w{n}", "profile": 1, "buffer": 4096, "system": [system],
+                         "neighbour": [cable], "link": rows, "port": []})
+    return solved({"switch": switches})
+
+
+def admitted(program: Program, cascade: dict) -> None:
+    """It is admitted, and answered as computed here."""
+    must(wanted(cascade, ()).endswith(b"\nok\n"), "it is not admitted")
+    check_alike(program, cascade_text(cascade), OPTIONS)
+
+
+def one_as_ever(program: Program, text: bytes) -> None:
+    """A file of one switch has its lines; the cascade of this switch has them too, its name before
+    them and in a false line, and its latencies behind the ports."""
+    tables: dict = {"system": [], "link": [], "port": []}
+    tables |= made.tomllib.loads(text.decode())
+    ends = [f"E {link['vl']} {system['name']} {1000 * link['latency_us']}"
+            for link in tables["link"] for system in tables["system"]
+            if system["name"] in link["to"]]
+    for options in OPTIONS:
+        ports = [*port_lines(tables, "--margins" in options)]
+        false = check_text(tables, "--all" in options).decode().splitlines()[len(tables["system"]):]
+        status = 0 if false == ["ok"] else 1
+        lines = "".join(f"{line}\n" for line in [*ports, *false])
+        answers(checked(program, text, options), status, lines.encode(), b"")
+        named = [line if line == "ok" else at_switch(line, ONE) for line in false]
+        lines = "".join(f"{line}\n" for line in [f"S {ONE}", *ports, *ends, *named])
+        found = checked(program, cascade_text(of_one(tables, ONE)), options)
+        answers(found, status, lines.encode(), b"")
+
+
+def ones_as_ever(program: Program, seed: int, count: int) -> None:
+    """The same of so many generated networks."""
+    chance = random.Random(seed)
+    for _ in range(count):
+        tables = network(chance, chance.randint(1, 40), chance.random() < 0.5)
+        one_as_ever(program, made.text_of(tables))
+
+
+def only_checked(program: Program) -> None:
+    """The other commands don't know several switches yet."""
+    config, fault = program.write("config", TWO_TEXT), b"config BadProfile\n"
+    for words in (["replay", config, "-"], ["send", config, "s1", "-"], ["solve", config]):
+        answers(program.run(*words), 1, b"", fault)
+
+
+# ---- all -----------------------------------------------------------------------------------------
+
+
+def computed_cases() -> list[tuple]:
+    """What is tried without the program."""
+    return [
+        *((f"computed: {row.name}", row_is_computed, row) for row in ROWS),
+        *((f"computed: {row.name}", fault_is_computed, row) for row in FAULTS),
+        *((f"computed, least values: {row.name}", least_is_computed, row) for row in LEAST),
+    ]
+
+
+def program_cases(program: Program) -> list[tuple]:
+    """What is tried with the program."""
+    cases: list[tuple] = [(row.name, row_is_told, program, row) for row in ROWS]
+    cases += [(row.name, fault_is_told, program, row) for row in FAULTS]
+    cases += [
+        ("24 switches in a row", admitted, program, in_a_row(24)),
+        ("23 switches around one", admitted, program, around_one(23)),
+        ("aircraft.toml", admitted, program, loaded(made.example("aircraft.toml"))),
+        ("no beginning is whole", no_beginning_is_whole, program),
+        ("beginnings of two switches", all_beginnings, program, TWO_TEXT),
+        ("beginnings of three switches", all_beginnings, program, THREE_TEXT),
+        ("commands that know one switch alone", only_checked, program.apart()),
+    ]
+    for seed in range(4):
+        cases.append((f"25 generated cascades, {seed}", all_alike, program, seed, 25))
+        cases.append((f"400 changed files, {seed}", all_faults, program, seed, 400))
+        cases.append((f"30 networks of one switch, {seed}", ones_as_ever, program, seed, 30))
+    return cases + [
+        (f"one switch: {name}", one_as_ever, program, made.example(name)) for name in EXAMPLES
+    ]
+
+
+def main() -> None:
+    """Takes PROGRAM from the words, tries all cases in a folder that is removed, and ends."""
+    words = sys.argv[1:]
+    if len(words) > 1 or not all(os.access(path, os.X_OK) for path in words):
+        print(__doc__.strip(), file=sys.stderr)
+        sys.exit(2)
+    cases = Cases()
+    with tempfile.TemporaryDirectory(prefix="afdx-tests-") as folder:
+        given = computed_cases()
+        if words:
+            given += program_cases(Program(words[0], folder))
+        cases.try_at_once(given)
+    sys.exit(cases.told())
+
+
+if __name__ == "__main__":
+    main()
