@@ -8,6 +8,7 @@ mod locating;
 mod places;
 mod progress;
 mod running;
+mod searching;
 mod telling;
 
 use crate::configs::{check_config, solve_tables};

@@ -1,7 +1,11 @@
 -- What a fault speaks of.
-use Rattle.std.specs.Prelude.{ℕ, ◌<◌, List, [], length, slice_get}
+use Rattle.std.specs.Prelude.{ℕ, ◌≡◌, ◌<◌, List, [], length, slice_get, Some}
 use Rattle.std.specs.Option.{option_map_or}
 use Rattle.afdx_config.specs.Rows.{Rows}
+use Rattle.afdx_config.specs.Switches.{NamedRows}
+use Rattle.afdx_admit.specs.declared.cascade_fault.CascadeFault.{CascadeFault}
+use Rattle.afdx_admit.specs.declared.cascade_fault.SwitchFault.{SwitchFault}
+use Rattle.afdx_admit.specs.declared.cascade_fault.SwitchFault.TheVariants.{Own, Unread}
 use Rattle.afdx_admit.specs.declared.fault.AdmitFault.{AdmitFault}
 use Rattle.afdx_admit.specs.declared.fault.AdmitFault.TheVariants.{SenderJitter}
 
@@ -14,3 +18,23 @@ IsKnown t _ = Unit {0}
 abbrev pub name_of : Rows → AdmitFault → List ℕ
 name_of t (SenderJitter system ns) = option_map_or (λ s. s.name) (slice_get t.systems system.0) []
 name_of t _ = []
+
+-- ---- in a cascade
+
+-- what a fault at a switch speaks of stands in the switch's tables
+abbrev pub IsKnownAt : Rows → SwitchFault → Type 0
+IsKnownAt t (Own fault) = IsKnown t fault
+IsKnownAt t (Unread vl place) = place.0 < length t.systems
+IsKnownAt t _ = Unit {0}
+
+-- its name, or none
+abbrev pub name_at : Rows → SwitchFault → List ℕ
+name_at t (Own fault) = name_of t fault
+name_at t (Unread vl place) = option_map_or (λ s. s.name) (slice_get t.systems place.0) []
+name_at t _ = []
+
+-- the switch that it stands at is one of these
+pub record IsKnownIn (switches : List NamedRows) (fault : CascadeFault) : Type 0 where
+  pub switch : NamedRows
+  pub stands : slice_get switches fault.switch.0 ≡ Some switch
+  pub subject : IsKnownAt switch.rows fault.fault

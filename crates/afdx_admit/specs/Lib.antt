@@ -5,3 +5,4 @@ pub mod FaultText
 pub mod Known
 pub mod Laws
 pub mod Bounds
+pub mod Cascade

@@ -6,6 +6,7 @@
 mod admitted;
 mod all;
 mod bounds;
+mod cascade_fault;
 mod fault;
 pub mod laws;
 mod lines;
@@ -14,5 +15,6 @@ mod sums;
 pub use admitted::{Admitted, admit};
 pub use all::all_faults;
 pub use bounds::{PortBounds, bounds_of, bounds_to, buffer_need, high_bound, low_bound};
+pub use cascade_fault::{CASCADE_ADMISSION, CascadeFault, CascadeText, SwitchFault};
 pub use fault::{ADMISSION, AdmitFault, AdmitText};
 pub use lines::sender_jitters;

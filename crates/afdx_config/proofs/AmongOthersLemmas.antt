@@ -6,7 +6,7 @@ use Rattle.std.proofs.Math.Seq.{take-length}
 use Rattle.std.proofs.lemmas.Option.{slice_get_within}
 use Rattle.afdx_frame.proofs.ListLemmas.{AllByRecursion-slice_get}
 use Rattle.afdx_config.specs.Lawful.{IsLink, IsLinkUpTo, IsPort, jitter_from_system, jitter_from_any}
-use Rattle.afdx_config.specs.Lawful.{IsLawful, IsLawfulSwitch, AreDistinct}
+use Rattle.afdx_config.specs.Lawful.{IsLawful, IsLawfulSwitch, AreSystems, AreEnds, AreDistinct}
 use Rattle.afdx_config.specs.Laws.{AloneIsOne, OneIsBetweenSystems, AdmittedIsServing}
 use Rattle.afdx_config.specs.Rows.{SystemRow, LinkRow, Rows}
 
@@ -31,6 +31,17 @@ links-among : (systems : ℕ) (links : List LinkRow) → AllByRecursion (IsLink 
 links-among systems [] all = tt
 links-among systems (l ∷ links) all = (link-among systems l all.0, links-among systems links all.1)
 
+-- systems alone are ends, of which all are systems
+pub ends_alone : (profile own : ℕ) (systems : List SystemRow) → own ≡ length systems → AreSystems profile systems
+    → AreEnds profile own systems
+ends_alone profile own systems alone are = record {
+  count = are.count;
+  each = are.each;
+  names = are.names;
+  ports = are.ports;
+  ids = rw alone (rw (take-length systems) are.ids);
+}
+
 -- the port entries are of systems
 module _ (t : Rows) (lawful : IsLawful t) where
   pub among_others : IsLawfulSwitch t
@@ -38,13 +49,7 @@ module _ (t : Rows) (lawful : IsLawful t) where
     profile = lawful.profile;
     buffer = lawful.buffer;
     own = omega (arith, lawful.own);
-    systems = record {
-      count = lawful.systems.count;
-      each = lawful.systems.each;
-      names = lawful.systems.names;
-      ports = lawful.systems.ports;
-      ids = rw lawful.own (rw (take-length t.systems) lawful.systems.ids);
-    };
+    systems = ends_alone t.profile t.own t.systems lawful.own lawful.systems;
     links = record {
       count = lawful.links.count;
       each = links-among (length t.systems) t.links lawful.links.each;

@@ -5,5 +5,8 @@ mod AskedLemmas
 pub mod EntryLemmas
 pub mod GatheredLemmas
 pub mod GrownLemmas
+pub mod AnyLemmas
 pub mod LookUpLemmas
 pub mod NumberLemmas
+pub mod OverLemmas
+pub mod TakenLemmas

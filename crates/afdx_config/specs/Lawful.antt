@@ -90,10 +90,21 @@ pub record AreLinksUpTo (greatest_jitter : ℕ → ℕ) (systems : ℕ) (links :
 abbrev pub AreLinks : ℕ → List LinkRow → Type 0
 AreLinks = AreLinksUpTo jitter_from_system
 
+-- a link that one of the first `own` ends sends has no greater jitter than with one switch
+abbrev pub HaveSystemJitter : (own : ℕ) → List LinkRow → Type 0
+HaveSystemJitter own links = (i : ℕ) (l : LinkRow) →
+    slice_get links i ≡ Some l →
+    l.from < own →
+    l.jitter_us ≤ jitter_from_system l.bag_ms
+
 pub record ArePorts (systems : ℕ) (links : List LinkRow) (ports : List PortRow) : Type 0 where
   pub count : length ports ≤ most_ports
   pub each : AllByRecursion (IsPort systems links) ports
   pub triples : AreDistinct triple ports
+
+-- each is of one of the first `own` ends
+abbrev pub AreOfSystems : (own : ℕ) → List PortRow → Type 0
+AreOfSystems own ports = (i : ℕ) (p : PortRow) → slice_get ports i ≡ Some p → p.system < own
 
 -- the tables of the one switch on a side: all that stands at its ports is a system
 pub record IsLawful (t : Rows) : Type 0 where
@@ -113,12 +124,9 @@ pub record IsLawfulSwitch (t : Rows) : Type 0 where
   pub own : t.own ≤ length t.systems
   pub systems : AreEnds t.profile t.own t.systems
   pub links : AreLinksUpTo jitter_from_any (length t.systems) t.links
-  pub sent : (i : ℕ) (l : LinkRow) →
-      slice_get t.links i ≡ Some l →
-      l.from < t.own →
-      l.jitter_us ≤ jitter_from_system l.bag_ms
+  pub sent : HaveSystemJitter t.own t.links
   pub ports : ArePorts (length t.systems) t.links t.ports
-  pub heard : (i : ℕ) (p : PortRow) → slice_get t.ports i ≡ Some p → p.system < t.own
+  pub heard : AreOfSystems t.own t.ports
 
 -- the link comes from a system and goes to this one: neither is a neighbour
 pub record IsBetweenSystems (t : Rows) (system : ℕ) (l : LinkRow) : Type 0 where

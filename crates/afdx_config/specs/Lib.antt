@@ -11,6 +11,7 @@ pub mod Asked
 pub mod New
 pub mod Lawful
 pub mod Switches
+pub mod Files
 pub mod Flows
 pub mod Numbers
 pub mod SentList

@@ -1,6 +1,6 @@
 -- The one order of the checks, over the tree that TOML reads: the top, then each system, each link
 -- and each port entry in file order. A table is read key by key, in the order of the keys' numbers.
-use Rattle.std.specs.Prelude.{◌≡◌, ℕ, ◌+◌, ◌*◌, Bool, false, not, ◌&&◌, ◌||◌, ◌==◌, nat_le, nat_eq}
+use Rattle.std.specs.Prelude.{◌≡◌, ℕ, ◌+◌, Bool, false, not, ◌&&◌, ◌||◌, ◌==◌, nat_le, nat_eq}
 use Rattle.std.specs.Prelude.{nat_lt}
 use Rattle.std.specs.Prelude.{List, [], ◌∷◌, ◌++◌, length, codes, position, find, Option, Some}
 use Rattle.std.specs.Prelude.{None, is_some, option_map, option_and_then, Result, Ok, Err, IsUtf8}

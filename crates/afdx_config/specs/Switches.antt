@@ -1,17 +1,16 @@
 -- A file that describes several switches on a side: each by its own table alone, and then what
 -- holds over all of them. A switch is named by its place, from 0.
 use Rattle.std.specs.Prelude.{◌≡◌, ℕ, ◌+◌, ◌-◌, Bool, true, false, not, ◌&&◌, nat_le, nat_lt, nat_eq, ◌||◌}
-use Rattle.std.specs.Prelude.{List, [], ◌∷◌, ◌++◌, length, position, take, slice_get, codes}
+use Rattle.std.specs.Prelude.{List, [], ◌∷◌, ◌++◌, length, position, take, slice_get}
 use Rattle.std.specs.Prelude.{Option, Some, None, is_some, option_map, option_and_then, Result, Ok}
 use Rattle.std.specs.Prelude.{Err, if◌then◌else◌}
 use Rattle.std.specs.List.{list_any, AllByRecursion}
 use Rattle.std.specs.Option.{option_map_or}
 use Rattle.std.specs.Str.{bytes_eq}
-use Rattle.toml.specs.Data.{Members, get_member}
-use Rattle.afdx_frame.specs.Checks.{◌>>=◌, ◌>>◌, check, or_else}
+use Rattle.toml.specs.Data.{Members}
+use Rattle.afdx_frame.specs.Checks.{◌>>=◌, ◌>>◌, check}
 use Rattle.afdx_frame.specs.Lines.{Line, line, first_false, each_from}
 use Rattle.afdx_config.specs.declared.fault.Part.TheVariants as part
-use Rattle.afdx_config.specs.declared.fault.Place.{Place}
 use Rattle.afdx_config.specs.declared.fault.ConfigFault.{ConfigFault}
 use Rattle.afdx_config.specs.declared.fault.ConfigFault.TheVariants.{OutOfRange, Twice}
 use Rattle.afdx_config.specs.declared.fault.ConfigFault.TheVariants.{NoSuchSystem}
@@ -74,6 +73,13 @@ home_of_id switches id = position (λ s. own_has_id s.rows id) switches
 
 unfoldable pub start_of : List NamedRows → ℕ → Option ℕ
 start_of switches vl = position (λ s. starts s.rows vl) switches
+
+-- the system of this name: its switch, and its place there
+unfoldable pub system_of : List NamedRows → List ℕ → Option (ℕ × ℕ)
+system_of switches name =
+    option_and_then (λ k. option_map (λ i. (k, i))
+    (option_and_then (λ s. own_named s.rows name) (slice_get switches k)))
+    (home_of switches name)
 
 -- the row of the neighbour by this name, at a switch
 abbrev pub neighbour_row : Rows → List ℕ → Option SystemRow
@@ -252,10 +258,16 @@ no_fault (Some fault) = Err fault
 abbrev pub most_switches : ℕ
 most_switches = 24
 
+-- the tables of the switches: there is one, and at most as many as the key's range says
+unfoldable pub switch_tables : Members → Result (List Members) ConfigFault
+switch_tables t = do
+  switches ← tables keys.switches_at t
+  check (nat_le 1 (length switches)) (OutOfRange keys.switches_at.place)
+  Ok switches
+
 unfoldable pub switches_at : Members → Result (List NamedRows) FileFault
 switches_at t = do
-  switches ← in_switch 0 (tables keys.switches_at t)
-  in_switch 0 (check (nat_le 1 (length switches)) (OutOfRange keys.switches_at.place))
+  switches ← in_switch 0 (switch_tables t)
   in_switch 0 (only_cascade_keys t)
   switches ← each_switch [] switches
   no_fault (first_false (over_all switches))

@@ -1,6 +1,10 @@
 //! Why a file is refused that may describe several switches.
 
+ghost use Rattle.std.specs.Prelude.{◌≡◌};
+ghost use Rattle.afdx_config.specs.Switches as spec;
+
 use crate::fault::{ConfigFault, Part, Place};
+use std::alloc::AllocFailed;
 use std::fmt;
 
 /// The first check that fails, or want of memory: the switch that it stands in, counted from 1, and
@@ -52,3 +56,30 @@ impl fmt::Display for FileFault {
 }
 
 impl std::error::Error for FileFault {}
+
+impl<T: Drop> From<AllocFailed<T>> for FileFault {
+    ghost use Rattle.std.specs.Prelude.{◌≡◌};
+    ghost use Rattle.afdx_config.specs.declared.fault.ConfigFault.TheVariants.{Memory};
+
+    ghost from_gives = { λ _ e. e.fault ≡ Memory };
+
+    fn from(e: AllocFailed<T>) -> FileFault {
+        FileFault {
+            switch: 0,
+            fault: ConfigFault::from(e),
+        }
+    }
+}
+
+/// What a reading gives, where a fault stands in the switch of this number; 0 is the file's top.
+pub(crate) fn in_switch<T: Drop>(
+    switch: u8,
+    reading: Result<T, ConfigFault>,
+) -> Result<T, FileFault>
+    ensures { result ≡ spec.in_switch switch reading }
+{
+    match reading {
+        Ok(value) => Ok(value),
+        Err(fault) => Err(FileFault { switch, fault }),
+    }
+}

@@ -2,8 +2,8 @@
 //! 1 on.
 
 /// A key of a part of a configuration: its name; the least and the greatest of its values; the
-/// forms of the lines of its faults; its number, its part, its name and its values in words, and
-/// what it is.
+/// forms of the lines of its faults, each on a line of its own; its number, its part, its name and
+/// its values in words, and what it is.
 ///
 /// The values are those of whole numbers, of the bytes of a text, of the rows or texts of an array.
 /// What was read before may narrow them. Both are 0 where it is one of two words.
@@ -80,7 +80,8 @@ Each system has a port of its own.",
         "id",
         0,
         65535,
-        "config Missing|WrongKind|OutOfRange|Twice system n key 3",
+        "config Missing|WrongKind|OutOfRange|Twice system n key 3\n\
+         config Missing|WrongKind|OutOfRange|Twice switch n system n key 3",
         "\
 Key 3 of a system is id: its number in addresses: 0 to 65535.
 Each system has a number of its own.",
@@ -89,7 +90,8 @@ Each system has a number of its own.",
         "partition",
         0,
         255,
-        "config Missing|WrongKind|OutOfRange system n key 4",
+        "config Missing|WrongKind|OutOfRange system n key 4\n\
+         config Missing|WrongKind|OutOfRange switch n system n key 4",
         "\
 Key 4 of a system is partition: last byte of its IPv4 address: 0 to 255.",
     ),
@@ -97,7 +99,8 @@ Key 4 of a system is partition: last byte of its IPv4 address: 0 to 255.",
         "rate",
         10,
         1000,
-        "config Missing|WrongKind|OutOfRange system n key 5",
+        "config Missing|WrongKind|OutOfRange system n key 5\n\
+         config Missing|WrongKind|OutOfRange switch n system n key 5",
         "\
 Key 5 of a system is rate: Mbit/s: 10 or 100; with profile 2 also 1000.",
     ),
@@ -135,7 +138,8 @@ Each is the name of a system, stands once, and isn't the sender's: to = [\"s2\",
         "bag_ms",
         1,
         128,
-        "config Missing|WrongKind|OutOfRange link n key 4",
+        "config Missing|WrongKind|OutOfRange link n key 4\n\
+         config Missing|WrongKind|OutOfRange switch n link n key 4",
         "\
 Key 4 of a link is bag_ms: 1, 2, 4, 8, 16, 32, 64 or 128.
 It is the gap in ms between two frames of the link at their sender. Take the greatest
@@ -145,7 +149,8 @@ that isn't more than the period of the messages.",
         "lmin",
         64,
         1518,
-        "config Missing|WrongKind|OutOfRange link n key 5",
+        "config Missing|WrongKind|OutOfRange link n key 5\n\
+         config Missing|WrongKind|OutOfRange switch n link n key 5",
         "\
 Key 5 of a link is lmin: bytes: 64 to 1518.
 It is the length of the shortest frame that may pass, check sequence included.",
@@ -154,7 +159,8 @@ It is the length of the shortest frame that may pass, check sequence included.",
         "lmax",
         64,
         1518,
-        "config Missing|WrongKind|OutOfRange link n key 6",
+        "config Missing|WrongKind|OutOfRange link n key 6\n\
+         config Missing|WrongKind|OutOfRange switch n link n key 6",
         "\
 Key 6 of a link is lmax: bytes: lmin to 1518.
 It is the length of the longest frame that may pass: the bytes of the longest message
@@ -174,7 +180,8 @@ much the sender needs.",
         "priority",
         0,
         0,
-        "config Missing|WrongKind|OutOfRange link n key 8",
+        "config Missing|WrongKind|OutOfRange link n key 8\n\
+         config Missing|WrongKind|OutOfRange switch n link n key 8",
         "\
 Key 8 of a link is priority: \"high\" or \"low\", in quotes.
 Of the frames that wait in an output port those of high links go first.",
@@ -183,7 +190,8 @@ Of the frames that wait in an output port those of high links go first.",
         "policing",
         0,
         0,
-        "config Missing|WrongKind|OutOfRange link n key 9",
+        "config Missing|WrongKind|OutOfRange link n key 9\n\
+         config Missing|WrongKind|OutOfRange switch n link n key 9",
         "\
 Key 9 of a link is policing: \"byte\" or \"frame\", in quotes.
 By bytes a frame is charged by its length, by frames each as the longest of its link.",
@@ -192,7 +200,8 @@ By bytes a frame is charged by its length, by frames each as the longest of its 
         "latency_us",
         1,
         100000,
-        "config Missing|WrongKind|OutOfRange link n key 10",
+        "config Missing|WrongKind|OutOfRange link n key 10\n\
+         config Missing|WrongKind|OutOfRange switch n link n key 10",
         "\
 Key 10 of a link is latency_us: 1 to 100000.
 It is the longest in us that a frame may take through a switch.",
@@ -211,7 +220,8 @@ latency_us.",
         "subs",
         1,
         4,
-        "config Missing|WrongKind|OutOfRange link n key 12",
+        "config Missing|WrongKind|OutOfRange link n key 12\n\
+         config Missing|WrongKind|OutOfRange switch n link n key 12",
         "\
 Key 12 of a link is subs: number of sub-VLs: 1 to 4.
 Messages of each wait in a queue of their own; 1 where the link needs no such queues.",
@@ -224,7 +234,8 @@ pub const PORT_KEYS: [Key; 5] = [
         "system",
         1,
         16,
-        "config Missing|WrongKind|NoSuchSystem port n key 1",
+        "config Missing|WrongKind|NoSuchSystem port n key 1\n\
+         config Missing|WrongKind|NoSuchSystem switch n port n key 1",
         "\
 Key 1 of a port is system: a system's name, that of the system that reads there.",
     ),
@@ -232,7 +243,8 @@ Key 1 of a port is system: a system's name, that of the system that reads there.
         "link",
         0,
         65535,
-        "config Missing|WrongKind|OutOfRange port n key 2",
+        "config Missing|WrongKind|OutOfRange port n key 2\n\
+         config Missing|WrongKind|OutOfRange switch n port n key 2",
         "\
 Key 2 of a port is link: the vl of a link whose to names that system.",
     ),
@@ -240,7 +252,8 @@ Key 2 of a port is link: the vl of a link whose to names that system.",
         "udp",
         1,
         65535,
-        "config Missing|WrongKind|OutOfRange|Twice port n key 3",
+        "config Missing|WrongKind|OutOfRange|Twice port n key 3\n\
+         config Missing|WrongKind|OutOfRange|Twice switch n port n key 3",
         "\
 Key 3 of a port is udp: UDP destination port: 1 to 65535.
 A system has one port for each link and UDP port.",
@@ -249,7 +262,8 @@ A system has one port for each link and UDP port.",
         "kind",
         0,
         0,
-        "config Missing|WrongKind|OutOfRange port n key 4",
+        "config Missing|WrongKind|OutOfRange port n key 4\n\
+         config Missing|WrongKind|OutOfRange switch n port n key 4",
         "\
 Key 4 of a port is kind: \"sampling\" or \"queuing\", in quotes.
 A sampling port keeps the newest message, a queuing port gives each one, in order.",
@@ -258,7 +272,8 @@ A sampling port keeps the newest message, a queuing port gives each one, in orde
         "depth",
         1,
         64,
-        "config Missing|WrongKind|OutOfRange port n key 5",
+        "config Missing|WrongKind|OutOfRange port n key 5\n\
+         config Missing|WrongKind|OutOfRange switch n port n key 5",
         "\
 Key 5 of a port is depth: 1 for sampling, 1 to 64 for queuing.
 It is the number of messages that may wait in the port.",
@@ -378,17 +393,3 @@ Key 3 of a neighbour is rate: Mbit/s: 10 or 100; with profile 2 also 1000.
 It is that of the cable, so both of its ends have the same.",
     ),
 ];
-
-/// The forms of the lines of keys that aren't known, and what they mean: the names in the tables.
-pub const UNKNOWN_KEYS: [(&str, &str); 1] = [(
-    "\
-config UnknownKey top 0 key 0
-config UnknownKey system|link|port n key 0",
-    "\
-Keys of the top are profile, buffer, system, link and port.
-Keys of a system are name, port, id, partition and rate.
-Keys of a link are vl, from, to, bag_ms, lmin, lmax, jitter_us, priority, policing,
-latency_us, skew_us and subs.
-Keys of a port are system, link, udp, kind and depth.
-Correct the key's name, or take the key out; capital letters count.",
-)];

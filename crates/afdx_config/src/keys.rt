@@ -1,13 +1,8 @@
 //! The reading of one key of a table.
 
-ghost use Rattle.std.specs.Prelude.{◌≡◌, ◌≢◌, IfErr, ◌≤◌, ◌<◌, ◌∷◌, [], ◌^◌, length, map, codes};
-ghost use Rattle.std.specs.Prelude.{None, Some, option_map, string_bytes, nat_eq, true, IfOk, pos};
-ghost use Rattle.std.specs.Prelude.{ℤ};
-ghost use Rattle.std.specs.BTreeMap.{keys};
+ghost use Rattle.std.specs.Prelude.{◌≡◌, ◌≢◌, ◌≤◌, IfOk, IfErr, length, option_map};
 ghost use Rattle.toml.specs.Data.{get_member, as_table, as_array, as_str};
 ghost use Rattle.toml.specs.View.{view, table_view, items_view};
-ghost use Rattle.std.specs.List.{list_any, list_all};
-ghost use Rattle.std.specs.Str.{bytes_eq};
 ghost use Rattle.afdx_config.specs.Lawful.{IsWithin, IsOneOf};
 ghost use Rattle.afdx_frame.specs.Checks.{or_else};
 ghost use Rattle.afdx_config.specs.Fault.{Gives};
@@ -15,11 +10,13 @@ ghost use Rattle.afdx_config.specs.Trees.{trees, lent_texts};
 ghost use Rattle.afdx_config.specs.Keys as spec;
 
 use crate::fault::{ConfigFault, Part, Place};
-use crate::key_tables::{Key, LINK_KEYS, PORT_KEYS, SYSTEM_KEYS, TOP_KEYS};
+use crate::key_tables::{
+    CASCADE_KEYS, Key, LINK_KEYS, NEIGHBOUR_KEYS, PORT_KEYS, SWITCH_KEYS, SYSTEM_KEYS, TOP_KEYS,
+};
 use std::alloc::Global;
 use toml::{Table, Value};
 
-fn place(part: Part, index: usize, key: u8) -> Place
+pub(crate) fn place(part: Part, index: usize, key: u8) -> Place
     ensures { result ≡ spec.place part index key }
 {
     Place { part, index, key }
@@ -88,6 +85,38 @@ pub(crate) fn port_at(index: usize, number: u8) -> At
     ensures place { result.place ≡ spec.place Part.Port index number }
 {
     key_of(Part::Port, &PORT_KEYS, index, number)
+}
+
+/// The one key at the top of a file that describes several switches.
+#[tactic(auto, unfolding(crate::specs::Keys::cascade_keys, crate::specs::Keys::spot_of))]
+pub(crate) fn switches_at() -> At
+    ensures spot { spec.spot_of result ≡ spec.switches_at }
+    ensures place { result.place ≡ spec.place Part.Top 0 6 }
+{
+    At {
+        place: place(Part::Top, 0, 6),
+        ..key_of(Part::Top, &CASCADE_KEYS, 0, 1)
+    }
+}
+
+/// The key of this number, of the top of a switch.
+#[tactic(auto, unfolding(crate::specs::Keys::switch_keys))]
+pub(crate) fn switch_at(number: u8) -> At
+    requires { (1 ≤ number) × (number ≤ 7) }
+    ensures spot { spec.spot_of result ≡ spec.switch_at number }
+    ensures place { result.place ≡ spec.place Part.Top 0 number }
+{
+    key_of(Part::Top, &SWITCH_KEYS, 0, number)
+}
+
+/// The key of this number, of the neighbour of this number.
+#[tactic(auto, unfolding(crate::specs::Keys::neighbour_keys))]
+pub(crate) fn neighbour_at(index: usize, number: u8) -> At
+    requires { (1 ≤ number) × (number ≤ 3) }
+    ensures spot { spec.spot_of result ≡ spec.neighbour_at index number }
+    ensures place { result.place ≡ spec.place Part.Neighbour index number }
+{
+    key_of(Part::Neighbour, &NEIGHBOUR_KEYS, index, number)
 }
 
 impl At {
@@ -285,59 +314,4 @@ pub(crate) fn texts<'a>(
     } else {
         Err(ConfigFault::OutOfRange(at.place))
     }
-}
-
-/// Refuses a key that isn't known.
-#[tactic(auto, unfolding(crate::specs::Keys::only))]
-fn only(table: &Table, at: Place, known: &[Key]) -> Result<(), ConfigFault>
-    ensures { Gives (λ _. tt) result
-        (spec.only at (spec.key_rows known.now) (table_view table.now)) }
-{
-    if are_among(known, table) {
-        Ok(())
-    } else {
-        Err(ConfigFault::UnknownKey(at))
-    }
-}
-
-fn are_among(known: &[Key], table: &Table) -> bool
-    ensures { result
-        ≡ list_all (λ k. list_any (λ s. bytes_eq s.0.now (string_bytes k)) known.now)
-        (keys table.now) }
-{
-    table.keys().all(|key| is_among(known, key.as_str()))
-}
-
-fn is_among(known: &[Key], name: &str) -> bool
-    ensures { result ≡ list_any (λ s. bytes_eq s.0.now name.now) known.now }
-{
-    known.iter().any(|key| key.0 == name)
-}
-
-#[tactic(auto, unfolding(crate::specs::Keys::top_keys, crate::specs::Keys::only_top_keys))]
-pub(crate) fn only_top_keys(table: &Table) -> Result<(), ConfigFault>
-    ensures { Gives (λ _. tt) result (spec.only_top_keys (table_view table.now)) }
-{
-    only(table, place(Part::Top, 0, 0), &TOP_KEYS)
-}
-
-#[tactic(auto, unfolding(crate::specs::Keys::system_keys, crate::specs::Keys::only_system_keys))]
-pub(crate) fn only_system_keys(table: &Table, index: usize) -> Result<(), ConfigFault>
-    ensures { Gives (λ _. tt) result (spec.only_system_keys index (table_view table.now)) }
-{
-    only(table, place(Part::System, index, 0), &SYSTEM_KEYS)
-}
-
-#[tactic(auto, unfolding(crate::specs::Keys::link_keys, crate::specs::Keys::only_link_keys))]
-pub(crate) fn only_link_keys(table: &Table, index: usize) -> Result<(), ConfigFault>
-    ensures { Gives (λ _. tt) result (spec.only_link_keys index (table_view table.now)) }
-{
-    only(table, place(Part::Link, index, 0), &LINK_KEYS)
-}
-
-#[tactic(auto, unfolding(crate::specs::Keys::port_keys, crate::specs::Keys::only_port_keys))]
-pub(crate) fn only_port_keys(table: &Table, index: usize) -> Result<(), ConfigFault>
-    ensures { Gives (λ _. tt) result (spec.only_port_keys index (table_view table.now)) }
-{
-    only(table, place(Part::Port, index, 0), &PORT_KEYS)
 }

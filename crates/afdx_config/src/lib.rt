@@ -5,29 +5,37 @@
 
 mod asked;
 mod choices;
+mod describing;
+mod ends;
 mod fault;
 mod file_fault;
 mod key_tables;
+mod key_texts;
 mod keys;
+mod known_keys;
 pub mod laws;
 mod links;
 mod named_tables;
+mod over_all;
 mod read;
 mod read_links;
+mod read_neighbours;
 mod read_ports;
+mod read_switch;
 mod read_systems;
 mod rows;
 mod switches;
 mod systems;
 mod tables;
 
+pub use describing::{Described, read_file};
 pub use fault::{CONFIG_FAULTS, ConfigFault, Part, Place};
 pub use file_fault::FileFault;
 pub use key_tables::{
     CASCADE_KEYS, Key, LINK_KEYS, NEIGHBOUR_KEYS, PORT_KEYS, SWITCH_KEYS, SYSTEM_KEYS, TOP_KEYS,
-    UNKNOWN_KEYS,
 };
+pub use key_texts::{UNKNOWN_KEYS, WIDER_KEYS};
 pub use read::{read_tables, read_to_solve, read_to_solve_asking};
 pub use rows::{ComRow, KeptKeys, Kind, Link, System, SystemId, Times};
-pub use switches::{FarEnd, SwitchId};
+pub use switches::{FarEnd, SwitchId, Switches};
 pub use tables::Tables;

@@ -11,7 +11,8 @@ ghost use Rattle.afdx_config.specs.Reading as spec;
 use crate::asked::latencies_in;
 use crate::choices::{ALL_KEPT, choice};
 use crate::fault::ConfigFault;
-use crate::keys::{only_top_keys, tables, top_at, whole};
+use crate::keys::{At, tables, top_at, whole};
+use crate::known_keys::only_top_keys;
 use crate::read_links::links_of;
 use crate::read_ports::coms_of;
 use crate::read_systems::systems_of;
@@ -20,13 +21,13 @@ use crate::tables::Tables;
 use std::alloc::Global;
 use toml::Table;
 
-#[tactic(auto, unfolding(crate::specs::Keys::top_keys))]
-fn profile_of(tree: &Table) -> Result<u64, ConfigFault>
-    ensures known { IfOk result (IsWithin 1 2) }
+/// The profile. Whatever is wrong with it, it is `BadProfile`.
+pub(crate) fn profile_of(tree: &Table, at: At) -> Result<u64, ConfigFault>
+    ensures known { IfOk result (IsWithin (keys.spot_of at).least (keys.spot_of at).greatest) }
     ensures value { Gives (λ n. n) result
-        (spec.or_bad_profile (keys.whole (keys.top_at 1) (table_view tree.now))) }
+        (spec.or_bad_profile (keys.whole (keys.spot_of at) (table_view tree.now))) }
 {
-    match whole(tree, top_at(1)) {
+    match whole(tree, at) {
         Ok(profile) => Ok(profile),
         Err(_) => Err(ConfigFault::BadProfile),
     }
@@ -35,24 +36,25 @@ fn profile_of(tree: &Table) -> Result<u64, ConfigFault>
 /// The tables that a tree states, or the first check that fails. Of the four keys that may be
 /// solved for, those that aren't kept may be absent or out of range.
 #[tactic(auto, unfolding(crate::specs::Reading::tables_at, crate::specs::Keys::top_keys))]
-fn tables_of(alloc: Global, tree: &Table, kept: KeptKeys) -> Result<Tables, ConfigFault>
+pub(crate) fn tables_of(alloc: Global, tree: &Table, kept: KeptKeys) -> Result<Tables, ConfigFault>
     ensures lawful { IfOk result IsLawful }
     ensures value { Gives (λ t. t) result (spec.tables_at kept (table_view tree.now)) }
 {
-    let profile = profile_of(tree)?;
+    let profile = profile_of(tree, top_at(1))?;
     let buffer = choice(tree, top_at(2), kept.buffer)?;
     let systems = tables(alloc, tree, top_at(3))?;
     let links = tables(alloc, tree, top_at(4))?;
     let ports = tables(alloc, tree, top_at(5))?;
     only_top_keys(tree)?;
     let systems = systems_of(alloc, &systems, profile)?;
-    let links = links_of(alloc, &links, &systems, kept)?;
-    let coms = coms_of(alloc, &ports, &systems, &links)?;
-    Ok(Tables::new(profile, buffer, systems, links, coms))
+    let own = systems.len();
+    let links = links_of(alloc, &links, own, &systems, kept)?;
+    let coms = coms_of(alloc, &ports, own, &systems, &links)?;
+    Ok(Tables::new(profile, buffer, own, systems, links, coms))
 }
 
 /// The tree that the text spells. It is `NotToml` where it spells none.
-fn tree_of(alloc: Global, text: &[u8]) -> Result<Table, ConfigFault>
+pub(crate) fn tree_of(alloc: Global, text: &[u8]) -> Result<Table, ConfigFault>
     ensures tree { IfOk result (λ tree. spec.IsTreeOf text.now (table_view tree)) }
     ensures fault { IfErr result (λ e. e ≢ ConfigFault.Memory →
         (e ≡ ConfigFault.NotToml) × spec.HasNoTree text.now) }

@@ -1,15 +1,17 @@
 //! The reading of links.
 
 ghost use Rattle.std.specs.Prelude.{◌≡◌, ◌≤◌, ◌<◌, ◌∷◌, [], length, None, IfOk, codes, true};
-ghost use Rattle.std.specs.Prelude.{nat_eq, IsTrue, ◌*◌};
+ghost use Rattle.std.specs.Prelude.{nat_eq, IsTrue};
 ghost use Rattle.std.specs.List.{list_any, AllByRecursion};
 ghost use Rattle.toml.specs.View.{table_view};
 ghost use Rattle.afdx_frame.specs.declared.link.Priority.TheVariants.{High, Low};
 ghost use Rattle.afdx_frame.specs.declared.link.Policing.TheVariants.{Byte, Frame};
 ghost use Rattle.afdx_frame.specs.Lengths.{least_frame, greatest_frame};
-ghost use Rattle.afdx_frame.specs.Regulation.{is_bag};
+ghost use Rattle.afdx_frame.specs.Regulation.{is_bag, longest_gap};
+ghost use Rattle.afdx_frame.specs.Regulation.{jitter_from_system, jitter_from_any};
 ghost use Rattle.afdx_frame.specs.Ports.{last_port};
-ghost use Rattle.afdx_config.specs.Lawful.{IsLink, AreLinks, IsWithin};
+ghost use Rattle.afdx_config.specs.Lawful.{IsLinkAmong, AreLinksUpTo, HaveSystemJitter};
+ghost use Rattle.afdx_config.specs.Lawful.{IsWithin};
 ghost use Rattle.afdx_config.specs.Rows.{AreKnown, link_row, system_places};
 ghost use Rattle.afdx_frame.specs.Checks.{or_else};
 ghost use Rattle.afdx_config.specs.Fault.{Gives};
@@ -19,12 +21,13 @@ ghost use Rattle.afdx_config.specs.Reading as spec;
 
 use crate::choices::choice;
 use crate::fault::{ConfigFault, Place};
-use crate::keys::{At, link_at, one_of, only_link_keys, text, texts, whole};
+use crate::keys::{At, link_at, one_of, text, texts, whole};
+use crate::known_keys::only_link_keys;
 use crate::links::Links;
 use crate::read_systems::named;
 use crate::rows::{KeptKeys, Link, SystemId};
 use crate::systems::Systems;
-use afdx_frame::{GAPS_MS, Policing, Priority, VlId};
+use afdx_frame::{GAPS_MS, GREATEST_DELAY_US, Policing, Priority, VlId};
 use std::alloc::Global;
 use toml::Table;
 
@@ -144,19 +147,45 @@ struct Treatment {
     subs: u64,
 }
 
+/// The greatest jitter of a link, in us, by its end and its gap: of the ends the first `own` are
+/// systems, and what comes from another switch may be later.
+#[tactic(auto, unfolding(crate::specs::Reading::greatest_jitter))]
+fn greatest_jitter(own: usize, from: SystemId, bag_ms: u64) -> u64
+    requires { bag_ms ≤ longest_gap }
+    ensures value { result ≡ spec.greatest_jitter own from.0 bag_ms }
+    ensures any { result ≤ jitter_from_any bag_ms }
+    ensures sent { from.0 < own → result ≤ jitter_from_system bag_ms }
+{
+    let from_system = 1000 * bag_ms;
+    if (from.0 as usize) < own {
+        from_system
+    } else {
+        from_system + GREATEST_DELAY_US
+    }
+}
+
+/// How much the link of this number may send, which comes from this end.
 #[tactic(auto, unfolding(crate::specs::Reading::traffic_at, crate::specs::Keys::link_keys))]
-fn traffic_of(table: &Table, index: usize, kept: KeptKeys) -> Result<Traffic, ConfigFault>
+fn traffic_of(
+    table: &Table,
+    index: usize,
+    own: usize,
+    from: SystemId,
+    kept: KeptKeys,
+) -> Result<Traffic, ConfigFault>
     ensures gap { IfOk result (λ x. IsTrue (is_bag x.bag_ms)) }
     ensures least { IfOk result (λ x. IsWithin least_frame greatest_frame x.lmin) }
     ensures greatest { IfOk result (λ x. IsWithin x.lmin greatest_frame x.lmax) }
-    ensures jitter { IfOk result (λ x. IsWithin 0 (1000 * x.bag_ms) x.jitter_us) }
+    ensures jitter { IfOk result (λ x. IsWithin 0 (jitter_from_any x.bag_ms) x.jitter_us) }
+    ensures sent { IfOk result (λ x. from.0 < own → x.jitter_us ≤ jitter_from_system x.bag_ms) }
     ensures value { Gives (λ x. x) result
-        (spec.traffic_at kept index (table_view table.now)) }
+        (spec.traffic_at kept (spec.greatest_jitter own from.0) index (table_view table.now)) }
 {
     let bag_ms = one_of(table, link_at(index, 4), &GAPS_MS)?;
     let lmin = whole(table, link_at(index, 5))?;
     let lmax = whole(table, link_at(index, 6).at_least(lmin))?;
-    let jitter_us = choice(table, link_at(index, 7).at_most(1000 * bag_ms), kept.jitter)?;
+    let greatest = greatest_jitter(own, from, bag_ms);
+    let jitter_us = choice(table, link_at(index, 7).at_most(greatest), kept.jitter)?;
     Ok(Traffic {
         bag_ms,
         lmin,
@@ -216,28 +245,29 @@ fn to_of(
     destinations(alloc, table, link_at(index, 3), systems, from)
 }
 
-/// The link that a table states, after those before it.
+/// The link that a table states, after those before it. Of the ends the first `own` are systems.
 #[tactic(auto, unfolding(crate::specs::Reading::link_at))]
 fn link_of(
     alloc: Global,
     table: &Table,
-    systems: &Systems,
+    own: usize,
+    ends: &Systems,
     before: &Links,
     kept: KeptKeys,
 ) -> Result<Link, ConfigFault>
     ensures value { Gives link_row result
-        (spec.link_at kept systems.now before.now (table_view table.now)) }
+        (spec.link_at kept own ends.now before.now (table_view table.now)) }
     ensures fresh { IfOk result (λ l. spec.link_of before.now l.vl.0 ≡ None) }
-    ensures lawful { IfOk result (λ l. IsLink (length systems.now) (link_row l)) }
+    ensures lawful { IfOk result (λ l. IsLinkAmong own (length ends.now) (link_row l)) }
 {
     let index = before.len() + 1;
     let vl = vl_of(table, index)?;
     if before.of(vl).is_some() {
         return Err(ConfigFault::Twice(link_at(index, 1).place));
     }
-    let from = named(table, link_at(index, 2), systems)?;
-    let to = to_of(alloc, table, index, systems, from)?;
-    let traffic = traffic_of(table, index, kept)?;
+    let from = named(table, link_at(index, 2), ends)?;
+    let to = to_of(alloc, table, index, ends, from)?;
+    let traffic = traffic_of(table, index, own, from, kept)?;
     let treatment = treatment_of(table, index, kept)?;
     only_link_keys(table, index)?;
     Ok(Link {
@@ -256,21 +286,23 @@ fn link_of(
     })
 }
 
-/// The links that the tables state, in their order.
+/// The links that the tables state, in their order. Of the ends the first `own` are systems.
 pub(crate) fn links_of(
     alloc: Global,
     tables: &[&Table],
-    systems: &Systems,
+    own: usize,
+    ends: &Systems,
     kept: KeptKeys,
 ) -> Result<Links, ConfigFault>
     requires { length tables.now ≤ spec.most_links }
-    ensures lawful { IfOk result (AreLinks (length systems.now)) }
+    ensures lawful { IfOk result (AreLinksUpTo jitter_from_any (length ends.now)) }
+    ensures sent { IfOk result (HaveSystemJitter own) }
     ensures value { Gives (λ l. l) result
-        (spec.each (spec.link_at kept systems.now) [] (trees tables.now)) }
+        (spec.each (spec.link_at kept own ends.now) [] (trees tables.now)) }
 {
     let mut links = Links::new(alloc);
     for table in tables {
-        let link = link_of(alloc, table, systems, &links, kept)?;
+        let link = link_of(alloc, table, own, ends, &links, kept)?;
         links.push(link)?;
     }
     Ok(links)

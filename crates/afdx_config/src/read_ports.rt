@@ -1,10 +1,10 @@
 //! The reading of communication ports.
 
 ghost use Rattle.std.specs.Prelude.{◌≡◌, ◌≤◌, ◌<◌, ◌∷◌, [], length, IfOk, codes, nat_eq, ◌&&◌};
-ghost use Rattle.std.specs.Prelude.{false, true};
+ghost use Rattle.std.specs.Prelude.{false, true, take};
 ghost use Rattle.std.specs.List.{list_any};
 ghost use Rattle.toml.specs.View.{table_view};
-ghost use Rattle.afdx_config.specs.Lawful.{IsPort, ArePorts, IsWithin};
+ghost use Rattle.afdx_config.specs.Lawful.{IsPort, ArePorts, AreOfSystems, IsWithin};
 ghost use Rattle.afdx_config.specs.Rows.{port_row, port_rows};
 ghost use Rattle.afdx_config.specs.Fault.{Gives};
 ghost use Rattle.afdx_config.specs.Trees.{trees};
@@ -13,9 +13,10 @@ ghost use Rattle.afdx_config.specs.Reading.{goes_to};
 ghost use Rattle.afdx_config.specs.Reading as spec;
 
 use crate::fault::ConfigFault;
-use crate::keys::{At, only_port_keys, port_at, text, whole};
+use crate::keys::{At, port_at, text, whole};
+use crate::known_keys::only_port_keys;
 use crate::links::Links;
-use crate::read_systems::named;
+use crate::read_systems::own_named;
 use crate::rows::{ComRow, Kind, SystemId};
 use crate::systems::Systems;
 use afdx_frame::VlId;
@@ -68,25 +69,27 @@ struct Socket {
 }
 
 /// What the entry of this number takes, where the link goes to the system, and no entry before
-/// takes the same.
+/// takes the same. Of the ends the first `own` are systems.
 #[tactic(auto, unfolding(crate::specs::Reading::socket_at))]
 fn socket_of(
     table: &Table,
     index: usize,
-    systems: &Systems,
+    own: usize,
+    ends: &Systems,
     links: &Links,
     before: &[ComRow],
 ) -> Result<Socket, ConfigFault>
-    ensures system { IfOk result (λ s. s.system.0 < length systems.now) }
+    ensures own { IfOk result (λ s. s.system.0 < own) }
+    ensures system { IfOk result (λ s. s.system.0 < length ends.now) }
     ensures link { IfOk result (λ s. goes_to links.now s.link.0 s.system.0 ≡ true) }
     ensures udp { IfOk result (λ s. IsWithin 1 65535 s.udp) }
     ensures fresh { IfOk result
         (λ s. spec.has_port (port_rows before.now) s.system.0 s.link.0 s.udp ≡ false) }
     ensures value { Gives (λ s. s) result
-        (spec.socket_at (keys.port_at index) systems.now links.now
+        (spec.socket_at (keys.port_at index) (take own ends.now) links.now
         (port_rows before.now) (table_view table.now)) }
 {
-    let system = named(table, port_at(index, 1), systems)?;
+    let system = own_named(table, port_at(index, 1), own, ends)?;
     let link = link_of(table, index)?;
     if !links.goes_to(link, system) {
         return Err(ConfigFault::OutOfRange(port_at(index, 2).place));
@@ -102,19 +105,22 @@ fn socket_of(
 #[tactic(auto, unfolding(crate::specs::Reading::port_at, crate::specs::Keys::port_keys))]
 fn com_of(
     table: &Table,
-    systems: &Systems,
+    own: usize,
+    ends: &Systems,
     links: &Links,
     before: &[ComRow],
 ) -> Result<ComRow, ConfigFault>
     requires { length before.now < spec.most_ports }
     ensures fresh { IfOk result
         (λ p. spec.has_port (port_rows before.now) p.system.0 p.link.0 p.udp ≡ false) }
-    ensures lawful { IfOk result (λ p. IsPort (length systems.now) links.now (port_row p)) }
+    ensures own { IfOk result (λ p. p.system.0 < own) }
+    ensures lawful { IfOk result (λ p. IsPort (length ends.now) links.now (port_row p)) }
     ensures value { Gives port_row result
-        (spec.port_at systems.now links.now (port_rows before.now) (table_view table.now)) }
+        (spec.port_at (take own ends.now) links.now (port_rows before.now)
+        (table_view table.now)) }
 {
     let index = before.len() + 1;
-    let Socket { system, link, udp } = socket_of(table, index, systems, links, before)?;
+    let Socket { system, link, udp } = socket_of(table, index, own, ends, links, before)?;
     let kind = kind_at(table, port_at(index, 4))?;
     let depth = whole(table, port_at(index, 5).at_most(deepest(kind)))?;
     only_port_keys(table, index)?;
@@ -150,22 +156,25 @@ fn kind_at(table: &Table, at: At) -> Result<Kind, ConfigFault>
     }
 }
 
-/// The communication ports that the tables state, in their order.
+/// The communication ports that the tables state, in their order. Of the ends the first `own` are
+/// systems.
 pub(crate) fn coms_of(
     alloc: Global,
     tables: &[&Table],
-    systems: &Systems,
+    own: usize,
+    ends: &Systems,
     links: &Links,
 ) -> Result<Vec<ComRow>, ConfigFault>
     requires { length tables.now ≤ spec.most_ports }
     ensures lawful { IfOk result
-        (λ v. ArePorts (length systems.now) links.now (port_rows v.items)) }
+        (λ v. ArePorts (length ends.now) links.now (port_rows v.items)) }
+    ensures own { IfOk result (λ v. AreOfSystems own (port_rows v.items)) }
     ensures value { Gives (λ v. port_rows v.items) result
-        (spec.each (spec.port_at systems.now links.now) [] (trees tables.now)) }
+        (spec.each (spec.port_at (take own ends.now) links.now) [] (trees tables.now)) }
 {
     let mut coms = Vec::new(alloc);
     for table in tables {
-        let com = com_of(table, systems, links, &coms)?;
+        let com = com_of(table, own, ends, links, &coms)?;
         coms.push(com)?;
     }
     Ok(coms)

@@ -1,6 +1,7 @@
 //! The reading of systems.
 
 ghost use Rattle.std.specs.Prelude.{◌≡◌, ◌≤◌, ◌<◌, [], length, None, IfOk, true, string_bytes};
+ghost use Rattle.std.specs.Prelude.{take};
 ghost use Rattle.std.specs.List.{list_all};
 ghost use Rattle.std.specs.Char.{is_ascii_alphanumeric};
 ghost use Rattle.toml.specs.View.{table_view};
@@ -12,9 +13,11 @@ ghost use Rattle.afdx_config.specs.Fault.{Gives};
 ghost use Rattle.afdx_config.specs.Trees.{trees};
 ghost use Rattle.afdx_config.specs.Keys.{spot_of, system_at, whole};
 ghost use Rattle.afdx_config.specs.Reading as spec;
+ghost use Rattle.afdx_config.specs.Switches.{name_at};
 
 use crate::fault::ConfigFault;
-use crate::keys::{At, one_of, only_system_keys, system_at, text, whole};
+use crate::keys::{At, one_of, system_at, text, whole};
+use crate::known_keys::only_system_keys;
 use crate::rows::{System, SystemId};
 use crate::systems::Systems;
 use std::alloc::Global;
@@ -34,6 +37,26 @@ pub(crate) fn named(table: &Table, at: At, systems: &Systems) -> Result<SystemId
     }
 }
 
+/// The system that a text names, of ends of which the first `own` are systems.
+#[tactic(auto, unfolding(crate::specs::Reading::named, crate::specs::Keys::spot_of))]
+pub(crate) fn own_named(
+    table: &Table,
+    at: At,
+    own: usize,
+    ends: &Systems,
+) -> Result<SystemId, ConfigFault>
+    ensures own { IfOk result (λ i. i.0 < own) }
+    ensures known { IfOk result (λ i. i.0 < length ends.now) }
+    ensures value { Gives (λ i. i.0) result
+        (spec.named (spot_of at) (take own ends.now) (table_view table.now)) }
+{
+    let name = text(table, at)?;
+    match ends.named_before(name, own) {
+        Some(id) => Ok(id),
+        None => Err(ConfigFault::NoSuchSystem(at.place)),
+    }
+}
+
 /// Whether a text is 1 to 16 ASCII letters and digits.
 #[tactic(auto, unfolding(crate::specs::Reading::is_name))]
 fn is_name(text: &str) -> bool
@@ -48,17 +71,33 @@ fn is_alphanumeric(text: &str) -> bool
     text.as_bytes().iter().all(|b| b.is_ascii_alphanumeric())
 }
 
-#[tactic(auto, unfolding(crate::specs::Reading::new_name, crate::specs::Keys::spot_of))]
-fn new_name<'a>(table: &'a Table, at: At, before: &Systems) -> Result<&'a str, ConfigFault>
+/// A name of 1 to 16 ASCII letters and digits.
+#[tactic(auto, unfolding(crate::specs::Switches::name_at, crate::specs::Keys::spot_of))]
+pub(crate) fn name_of<'a>(table: &'a Table, at: At) -> Result<&'a str, ConfigFault>
+    ensures value { Gives (λ s. s.now) result (name_at (spot_of at) (table_view table.now)) }
+    ensures lawful { IfOk result (λ s. spec.is_name s.now ≡ true) }
+{
+    let name = text(table, at)?;
+    if is_name(name) {
+        Ok(name)
+    } else {
+        Err(ConfigFault::OutOfRange(at.place))
+    }
+}
+
+/// A name that none before has.
+#[tactic(auto, unfolding(crate::specs::Reading::new_name, crate::specs::Switches::name_at, crate::specs::Keys::spot_of))]
+pub(crate) fn new_name<'a>(
+    table: &'a Table,
+    at: At,
+    before: &Systems,
+) -> Result<&'a str, ConfigFault>
     ensures value { Gives (λ s. s.now) result
         (spec.new_name (spot_of at) before.now (table_view table.now)) }
     ensures fresh { IfOk result (λ s. spec.system_named before.now s.now ≡ None) }
     ensures lawful { IfOk result (λ s. spec.is_name s.now ≡ true) }
 {
-    let name = text(table, at)?;
-    if !is_name(name) {
-        return Err(ConfigFault::OutOfRange(at.place));
-    }
+    let name = name_of(table, at)?;
     if before.named(name).is_some() {
         return Err(ConfigFault::Twice(at.place));
     }
@@ -66,7 +105,7 @@ fn new_name<'a>(table: &'a Table, at: At, before: &Systems) -> Result<&'a str, C
 }
 
 /// The rates that a line may have in a profile, in Mbit/s.
-fn rates(profile: u64) -> &'static [u64]
+pub(crate) fn rates(profile: u64) -> &'static [u64]
     ensures { result.now ≡ spec.rates profile }
 {
     if profile == 2 {

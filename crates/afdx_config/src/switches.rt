@@ -1,5 +1,15 @@
 //! Several switches on a side, joined by cables.
 
+ghost use Rattle.std.specs.Prelude.{◌≡◌, ◌≤◌, length};
+ghost use Rattle.afdx_config.specs.Rows.{system_row};
+ghost use Rattle.afdx_config.specs.Switches as spec;
+
+use crate::named_tables::NamedTables;
+use crate::over_all::{at, home_of, listed_at, switch_named};
+use crate::rows::{System, SystemId};
+use crate::tables::Tables;
+use std::marker::Model;
+
 /// The place of a switch in the configuration, from 0.
 #[derive(Clone, Copy, Debug, PartialEq, Eq, Hash)]
 pub struct SwitchId(pub u8);
@@ -9,4 +19,116 @@ pub struct SwitchId(pub u8);
 pub struct FarEnd {
     pub switch: SwitchId,
     pub port: u8,
+}
+
+/// The switches of a cascade in the order of the file, each with its name and its own tables: 1 to
+/// 24 on a side. What each lists as a neighbour is another of them, which lists it, too.
+#[derive(Debug)]
+pub struct Switches {
+    switches: Vec<NamedTables>,
+}
+
+impl Drop for Switches {
+    // (written out, it is one call wherever a value is let go)
+    fn drop(self) {
+        let Self { switches } = self;
+    }
+}
+
+impl Model for Switches {
+    ghost use Rattle.std.specs.Prelude.{List};
+    ghost use Rattle.afdx_config.specs.Switches.{NamedRows, AreSwitches};
+
+    ghost Value = { List NamedRows };
+
+    ghost view = { λ s. s.switches.items };
+
+    ghost invariant = { λ s. AreSwitches s.switches.items };
+}
+
+impl Switches {
+    ghost use Rattle.std.specs.Prelude.{◌≡◌, ◌<◌, length, option_map, slice_get, Some, IfSome};
+    ghost use Rattle.afdx_config.specs.Lawful.{IsLawfulSwitch};
+    ghost use Rattle.afdx_config.specs.Switches.{NamedRows, AreSwitches, switch_named};
+    ghost use Rattle.afdx_config.specs.Switches.{system_of, far_end};
+
+    pub(crate) fn new(switches: Vec<NamedTables>) -> Switches
+        requires { AreSwitches switches.items }
+        ensures { result ≡ switches.items }
+    {
+        Switches { switches }
+    }
+
+    /// How many switches there are on a side, 1 to 24.
+    pub fn count(&self) -> usize
+        ensures count { result ≡ length self.now }
+        ensures switches { AreSwitches self.now }
+    {
+        self.switches.len()
+    }
+
+    /// The name of the switch at this place.
+    pub fn name(&self, switch: SwitchId) -> &str
+        requires { switch.0 < length self.now }
+        ensures name { option_map (λ s. s.name) (slice_get self.now switch.0) ≡ Some result.now }
+    {
+        at(self.switches.as_slice(), switch.0 as usize).name()
+    }
+
+    /// The tables of the switch at this place.
+    pub fn tables(&self, switch: SwitchId) -> &Tables
+        requires { switch.0 < length self.now }
+        ensures tables { option_map (λ s. s.rows) (slice_get self.now switch.0)
+            ≡ Some result.now }
+        ensures lawful { IsLawfulSwitch result.now }
+    {
+        at(self.switches.as_slice(), switch.0 as usize).tables()
+    }
+
+    /// The switch of this name, if there is one. It tries each of them.
+    pub fn named(&self, name: &str) -> Option<SwitchId>
+        ensures place { option_map (λ k. k.0) result ≡ switch_named self.now name.now }
+        ensures known { IfSome result (λ k. k.0 < length self.now) }
+    {
+        let place = switch_named(self.switches.as_slice(), name)?;
+        Some(SwitchId(place as u8))
+    }
+
+    /// The system of this name, if there is one, and its switch. It looks it up at each of them.
+    #[tactic(auto, unfolding(crate::specs::Switches::system_of))]
+    pub fn system_named(&self, name: &str) -> Option<(SwitchId, SystemId)>
+        ensures place { option_map (λ found. (found.0.0, found.1.0)) result
+            ≡ system_of self.now name.now }
+    {
+        let place = home_of(self.switches.as_slice(), name)?;
+        let system = at(self.switches.as_slice(), place)
+            .tables()
+            .own_named(name)?;
+        Some((SwitchId(place as u8), system))
+    }
+
+    /// The other end of the cable at a port of a switch, if there is one. It tries each of what
+    /// stands at the ports, and each switch.
+    #[tactic(auto, unfolding(crate::specs::Switches::far_end))]
+    pub fn far_end(&self, switch: SwitchId, port: u8) -> Option<FarEnd>
+        requires { switch.0 < length self.now }
+        ensures { result ≡ far_end self.now switch.0 port }
+    {
+        let here = at(self.switches.as_slice(), switch.0 as usize);
+        let neighbour = here.tables().neighbour_at(port)?;
+        end_at(self.switches.as_slice(), here.name(), neighbour)
+    }
+}
+
+/// The other end of a neighbour's cable, at the switch that is called `name`.
+fn end_at(switches: &[NamedTables], name: &str, neighbour: &System) -> Option<FarEnd>
+    requires { length switches.now ≤ spec.most_switches }
+    ensures { result ≡ spec.end_at switches.now name.now (system_row neighbour.now) }
+{
+    let far = switch_named(switches, neighbour.name.as_str())?;
+    let back = listed_at(switches, name, far)?;
+    Some(FarEnd {
+        switch: SwitchId(far as u8),
+        port: back.port,
+    })
 }

@@ -1,7 +1,7 @@
 //! The systems of a network, by name.
 
 ghost use Rattle.std.specs.Prelude.{◌≡◌, ◌<◌, ◌≤◌, ◌++◌, [], ◌∷◌, length, slice_get, string_bytes};
-ghost use Rattle.std.specs.Prelude.{option_map, None, Some, OnOk, IfSome, position, ◌==◌};
+ghost use Rattle.std.specs.Prelude.{option_map, None, Some, OnOk, IfSome, position, ◌==◌, take};
 ghost use Rattle.std.specs.List.{list_any};
 ghost use Rattle.indexmap.specs.IndexMap.{values};
 ghost use Rattle.afdx_frame.specs.Ports.{last_port};
@@ -63,6 +63,22 @@ impl Systems {
     {
         let index = self.by_name.get_index_of(name)?;
         Some(SystemId(index as u8))
+    }
+
+    /// The same among the first `count` of them.
+    #[tactic(auto, using(crate::proofs::TakenLemmas::named_take))]
+    pub(crate) fn named_before(&self, name: &str, count: usize) -> Option<SystemId>
+        ensures place { option_map (λ i. i.0) result
+            ≡ system_named (take count self.now) name.now }
+        ensures before { IfSome result (λ i. i.0 < count) }
+        ensures known { IfSome result (λ i. i.0 < length self.now) }
+    {
+        let id = self.named(name)?;
+        if (id.0 as usize) < count {
+            Some(id)
+        } else {
+            None
+        }
     }
 
     pub(crate) fn at(&self, id: SystemId) -> &System

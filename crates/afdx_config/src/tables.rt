@@ -63,20 +63,21 @@ impl Tables {
     ghost use Rattle.afdx_config.specs.Changed.{with_buffer, with_times, with_link_at};
     ghost use Rattle.afdx_frame.specs.Lengths.{least_frame, greatest_buffer};
 
-    /// The tables of one switch, at whose ports systems alone stand.
+    /// The tables of a switch: of what stands at its ports the first `own` are systems.
     pub(crate) fn new(
         profile: u64,
         buffer: u64,
+        own: usize,
         systems: Systems,
         links: Links,
         coms: Vec<ComRow>,
     ) -> Tables
-        requires { IsLawful
-            (rows_with profile buffer (length systems) systems links (port_rows coms.items)) }
-        ensures { result
-            ≡ rows_with profile buffer (length systems) systems links (port_rows coms.items) }
+        requires { IsLawfulSwitch
+            (rows_with profile buffer own systems links (port_rows coms.items)) }
+        ensures value { result
+            ≡ rows_with profile buffer own systems links (port_rows coms.items) }
+        ensures alone { own ≡ length systems → IsLawful result }
     {
-        let own = systems.len();
         Tables {
             profile,
             buffer,

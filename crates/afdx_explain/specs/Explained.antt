@@ -6,7 +6,9 @@ use Rattle.afdx_frame.specs.declared.fault.TheConstants.{MAC_FAULTS, IP_FAULTS}
 use Rattle.afdx_police.specs.declared.shape.TheConstants.{REASONS}
 use Rattle.afdx_config.specs.declared.fault.TheConstants.{CONFIG_FAULTS}
 use Rattle.afdx_config.specs.declared.key_tables.TheConstants.{TOP_KEYS, SYSTEM_KEYS, LINK_KEYS}
-use Rattle.afdx_config.specs.declared.key_tables.TheConstants.{PORT_KEYS, UNKNOWN_KEYS}
+use Rattle.afdx_config.specs.declared.key_tables.TheConstants.{PORT_KEYS, CASCADE_KEYS}
+use Rattle.afdx_config.specs.declared.key_tables.TheConstants.{SWITCH_KEYS, NEIGHBOUR_KEYS}
+use Rattle.afdx_config.specs.declared.key_texts.TheConstants.{WIDER_KEYS, UNKNOWN_KEYS}
 use Rattle.afdx_admit.specs.declared.fault.TheConstants.{ADMISSION}
 use Rattle.afdx_receive.specs.declared.reception.TheConstants.{DROP_REASONS}
 use Rattle.afdx_send.specs.declared.fault.TheConstants.{SEND_FAULTS}
@@ -61,13 +63,32 @@ link_key line = text_among (map (λ key. (key.3.now, key.4.now)) LINK_KEYS) line
 unfoldable pub port_key : List ℕ → Option (List ℕ)
 port_key line = text_among (map (λ key. (key.3.now, key.4.now)) PORT_KEYS) line
 
+-- where the file describes several switches: of its top, of a switch, of a neighbour, and of keys
+-- that say more there
+unfoldable pub cascade_key : List ℕ → Option (List ℕ)
+cascade_key line = text_among (map (λ key. (key.3.now, key.4.now)) CASCADE_KEYS) line
+
+unfoldable pub switch_key : List ℕ → Option (List ℕ)
+switch_key line = text_among (map (λ key. (key.3.now, key.4.now)) SWITCH_KEYS) line
+
+unfoldable pub neighbour_key : List ℕ → Option (List ℕ)
+neighbour_key line = text_among (map (λ key. (key.3.now, key.4.now)) NEIGHBOUR_KEYS) line
+
+unfoldable pub wider_key : List ℕ → Option (List ℕ)
+wider_key line = text_among (map (λ entry. (entry.0.now, entry.1.now)) WIDER_KEYS) line
+
+unfoldable pub key_of_several : List ℕ → Option (List ℕ)
+key_of_several line =
+    or_else (cascade_key line) (or_else (switch_key line) (or_else (neighbour_key line)
+    (wider_key line)))
+
 unfoldable pub unknown_key : List ℕ → Option (List ℕ)
 unknown_key line = text_among (map (λ entry. (entry.0.now, entry.1.now)) UNKNOWN_KEYS) line
 
 unfoldable pub key : List ℕ → Option (List ℕ)
 key line =
     or_else (top_key line) (or_else (system_key line) (or_else (link_key line)
-    (or_else (port_key line) (unknown_key line))))
+    (or_else (port_key line) (or_else (key_of_several line) (unknown_key line)))))
 
 unfoldable pub admission : List ℕ → Option (List ℕ)
 admission line = formed_among (map (λ row. formed_row row.0.now row.1.now row.2.now) ADMISSION) line

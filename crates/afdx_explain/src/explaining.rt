@@ -4,12 +4,13 @@ ghost use Rattle.std.specs.Prelude.{◌≡◌};
 ghost use Rattle.std.specs.Option.{option_copied};
 ghost use Rattle.afdx_explain.specs.Explained as spec;
 
-use crate::entry::{formed_among, key_among, named_among, named_row, row_among, text_among};
+use crate::entry::{formed_among, named_among, named_row, row_among, text_among};
 use crate::faults::FAULTS;
+use crate::keys::key;
 use crate::kinds::KINDS;
 use crate::lines::LINES;
 use afdx_admit::ADMISSION;
-use afdx_config::{CONFIG_FAULTS, LINK_KEYS, PORT_KEYS, SYSTEM_KEYS, TOP_KEYS, UNKNOWN_KEYS};
+use afdx_config::CONFIG_FAULTS;
 use afdx_frame::{IP_FAULTS, MAC_FAULTS};
 use afdx_lists::{RECORDING_FAULTS, RUN_FAULTS};
 use afdx_police::REASONS;
@@ -73,66 +74,6 @@ fn config_fault(line: &[u8]) -> Option<&'static str>
     ensures { option_copied result ≡ spec.config_fault line.now }
 {
     formed_among(&CONFIG_FAULTS[..2], line)
-}
-
-/// What the fault of a key of the top means.
-#[tactic(auto, unfolding(crate::specs::Explained::top_key))]
-fn top_key(line: &[u8]) -> Option<&'static str>
-    ensures { option_copied result ≡ spec.top_key line.now }
-{
-    key_among(&TOP_KEYS, line)
-}
-
-/// What the fault of a system's key means.
-#[tactic(auto, unfolding(crate::specs::Explained::system_key))]
-fn system_key(line: &[u8]) -> Option<&'static str>
-    ensures { option_copied result ≡ spec.system_key line.now }
-{
-    key_among(&SYSTEM_KEYS, line)
-}
-
-/// What the fault of a link's key means.
-#[tactic(auto, unfolding(crate::specs::Explained::link_key))]
-fn link_key(line: &[u8]) -> Option<&'static str>
-    ensures { option_copied result ≡ spec.link_key line.now }
-{
-    key_among(&LINK_KEYS, line)
-}
-
-/// What the fault of a port entry's key means.
-#[tactic(auto, unfolding(crate::specs::Explained::port_key))]
-fn port_key(line: &[u8]) -> Option<&'static str>
-    ensures { option_copied result ≡ spec.port_key line.now }
-{
-    key_among(&PORT_KEYS, line)
-}
-
-/// What is said of keys that aren't known.
-#[tactic(auto, unfolding(crate::specs::Explained::unknown_key))]
-fn unknown_key(line: &[u8]) -> Option<&'static str>
-    ensures { option_copied result ≡ spec.unknown_key line.now }
-{
-    text_among(&UNKNOWN_KEYS, line)
-}
-
-/// What the fault of a key means.
-#[tactic(auto, unfolding(crate::specs::Explained::key))]
-fn key(line: &[u8]) -> Option<&'static str>
-    ensures { option_copied result ≡ spec.key line.now }
-{
-    if let Some(text) = top_key(line) {
-        return Some(text);
-    }
-    if let Some(text) = system_key(line) {
-        return Some(text);
-    }
-    if let Some(text) = link_key(line) {
-        return Some(text);
-    }
-    if let Some(text) = port_key(line) {
-        return Some(text);
-    }
-    unknown_key(line)
 }
 
 /// What it means that a line of admission is false.

@@ -3,7 +3,7 @@
 use crate::entry::Entry;
 
 /// What the lines of a kind have in common.
-pub const KINDS: [Entry; 8] = [
+pub const KINDS: [Entry; 14] = [
     (
         "list * n",
         "\
@@ -18,6 +18,57 @@ recording * n A|B",
 The recording can't be replayed beyond this place; what the arrivals before it gave stands on
 standard output. Numbers are those of the frames in Wireshark, from 1. Of two recordings, A or
 B behind the number says which.",
+    ),
+    (
+        "config Missing switch n * n key n",
+        "\
+A switch of the configuration has a fault: the key is absent.
+Add it to the table that the line names: top is the switch's own. Switches are counted from 1 in
+the order of the file, their systems, links, ports and neighbours from 1 in that of the switch.",
+    ),
+    (
+        "config WrongKind switch n * n key n",
+        "\
+A switch of the configuration has a fault: the value isn't a whole number, a text, an array of
+texts or an array of tables, as its key wants it.
+Texts stand in quotes, numbers don't. Switches are counted from 1 in the order of the file, their
+tables from 1 in that of the switch.",
+    ),
+    (
+        "config UnknownKey switch n * n key 0",
+        "\
+A switch of the configuration has a fault: the table has a key that isn't one of its keys.
+Switches are counted from 1 in the order of the file, their tables from 1 in that of the switch;
+0 is the top of the switch, its own table.",
+    ),
+    (
+        "config OutOfRange switch n * n key n",
+        "\
+A switch of the configuration has a fault: the value is outside its range; to is empty; a port
+entry's link is no link's vl in this switch, or that link doesn't go to the system; the switch
+that a neighbour names doesn't list this one as its neighbour (key 1), or with another rate
+(key 3).
+Switches are counted from 1 in the order of the file, their tables from 1 in that of the switch.",
+    ),
+    (
+        "config Twice switch n * n key n",
+        "\
+A switch of the configuration has a fault: in the switch a name or a port of a system or of a
+neighbour, a system's id, or a link's vl, stood earlier; in the file a switch's name, or a
+system's name or id, stood earlier, or a system has a switch's name; an earlier switch has this
+link from a system, too (link, key 2); a name stands twice in to, or is that of from; a port
+entry's system, link and udp stood together earlier (port, key 3).
+The table that the line names is the second one. Switches are counted from 1 in the order of the
+file, their tables from 1 in that of the switch.",
+    ),
+    (
+        "config NoSuchSystem switch n * n key n",
+        "\
+A switch of the configuration has a fault: from, or a name in to, is that of no system and no
+neighbour of the switch; a port entry's system is no system of it; a neighbour's name is no other
+switch's.
+Correct the name, or add the system or the neighbour. Switches are counted from 1 in the order of
+the file, their tables from 1 in that of the switch.",
     ),
     (
         "NoSuchSystem",

@@ -7,6 +7,7 @@ mod entry;
 mod explaining;
 mod faults;
 mod forms;
+mod keys;
 mod kinds;
 mod lines;
 

@@ -3,7 +3,7 @@
 use crate::entry::Entry;
 
 /// Lines of the output.
-pub const LINES: [Entry; 16] = [
+pub const LINES: [Entry; 18] = [
     (
         "\
 accept
@@ -73,6 +73,26 @@ longest time in ns that its frames can take there, rounded up, - where the high 
 take the whole line; latency is the link's, in ns.
 The link's frames are in time there if latency is bound or more, and the port isn't
 overloaded.",
+    ),
+    (
+        "\
+S
+S *",
+        "\
+S SWITCH: of several switches: the lines P and m that follow are those of this switch, by its own
+tables.",
+    ),
+    (
+        "\
+E
+E n * n
+E n * -",
+        "\
+E vl system ns: of several switches: the link vl goes to this system; ns is the sum of the link's
+latencies, in ns, in all switches on its way there, - where the way is broken: a switch gets the
+link from a neighbour that doesn't send it there.
+On an admitted network no frame takes longer from its arrival at the first of these switches to
+the end of its slot at the last.",
     ),
     (
         "vl n at * n ns needed, n us asked",

@@ -47,6 +47,80 @@ fn lines_are_explained() -> Result<(), Fail> {
         ("TooManyLines", "It is line 1,000,001"),
         ("recording TimeBack", "More arrivals"),
         ("# not-afdx 2", "not-afdx:"),
+        ("S fwd", "S SWITCH:"),
+        ("E 1 s3 35000", "E vl system ns:"),
+        ("E 1 s3 -", "E vl system ns:"),
+    ];
+    all_right(otherwise_explained(&rows))
+}
+
+#[test]
+fn faults_in_a_switch_are_explained() -> Result<(), Fail> {
+    let rows = [
+        (
+            "config OutOfRange top 0 key 6",
+            "Key 6 of the top is switch:",
+        ),
+        ("config UnknownKey top 0 key 0", "Keys of the top are"),
+        (
+            "config BadProfile switch 2 top 0 key 1",
+            "The switch's profile is absent",
+        ),
+        (
+            "config Missing switch 1 top 0 key 6",
+            "Key 6 of a switch is name:",
+        ),
+        (
+            "config UnknownKey switch 2 top 0 key 0",
+            "Keys of a switch are",
+        ),
+        (
+            "config Twice switch 2 neighbour 1 key 2",
+            "Key 2 of a neighbour is port:",
+        ),
+        (
+            "config UnknownKey switch 1 neighbour 1 key 0",
+            "Keys of a neighbour are",
+        ),
+        (
+            "config UnknownKey switch 1 link 12 key 0",
+            "Keys of the top are",
+        ),
+        (
+            "config Twice switch 2 system 1 key 3",
+            "Key 3 of a system is id:",
+        ),
+        (
+            "config Missing switch 2 link 1 key 4",
+            "Key 4 of a link is bag_ms:",
+        ),
+        (
+            "config NoSuchSystem switch 2 port 1 key 1",
+            "Key 1 of a port is system:",
+        ),
+    ];
+    all_right(otherwise_explained(&rows))
+}
+
+#[test]
+fn keys_that_mean_more_in_a_switch() -> Result<(), Fail> {
+    let rows = [
+        (
+            "config Twice switch 2 system 2 key 1",
+            "Key 1 of a switch's system is name:",
+        ),
+        (
+            "config Twice switch 2 link 1 key 2",
+            "Key 2 of a switch's link is from:",
+        ),
+        (
+            "config OutOfRange switch 2 link 1 key 7",
+            "Key 7 of a switch's link is jitter_us: 0 to 1000 times bag_ms; where from",
+        ),
+        (
+            "config OutOfRange link 1 key 7",
+            "Key 7 of a link is jitter_us: 0 to 1000 times bag_ms.\n",
+        ),
     ];
     all_right(otherwise_explained(&rows))
 }
@@ -57,6 +131,14 @@ fn other_lines_are_not(rt: HostRuntime) {
         "config Missing link 1 key 13",
         "recording BadHex",
         "list BadHex x",
+        "config Missing top 0 key 6",
+        "config Twice link 1 key 2",
+        "config Missing neighbour 1 key 1",
+        "config Missing switch 1 key 1",
+        "config BadProfile switch x top 0 key 1",
+        "config Missing switch 1 top 0 key 7",
+        "S fwd aft",
+        "E 1 s3 x",
     ] {
         assert!(rt; meaning_of(line).is_none());
     }
@@ -66,6 +148,9 @@ fn other_lines_are_not(rt: HostRuntime) {
 fn kinds_are_explained(rt: HostRuntime) {
     assert!(rt;
         kind_of("config Missing link 1 key 7").is_some()
+            && kind_of("config Missing switch 2 link 1 key 7").is_some()
+            && kind_of("config UnknownKey switch 2 top 0 key 0").is_some()
+            && kind_of("config BadProfile switch 2 top 0 key 1").is_none()
             && kind_of("# 1 S5").is_some()
             && kind_of("over-rate").is_none()
     );

@@ -1,5 +1,6 @@
 //! Lines that are put into a text, written and held, and faults that are told.
 
+mod check_lines;
 mod digits;
 mod whole_lines;
 
@@ -319,7 +320,7 @@ fn receptions(rt: HostRuntime) -> Result<(), Fail> {
 }
 
 #[test]
-fn what_is_sent_and_what_is_checked(rt: HostRuntime) -> Result<(), Fail> {
+fn what_is_sent(rt: HostRuntime) -> Result<(), Fail> {
     let mut text = Text::new(rt.alloc());
     let sent = OutLine::Listed {
         kind: FrameKind::Raw,
@@ -343,41 +344,11 @@ fn what_is_sent_and_what_is_checked(rt: HostRuntime) -> Result<(), Fail> {
         n: 3,
         word: "too-large",
     };
-    let bounds = OutLine::Bounds {
-        port: 24,
-        high: 0,
-        low: Some(u64::MAX),
-        buffer: 1518,
-    };
-    let no_low = OutLine::Bounds {
-        port: 1,
-        high: 13_440,
-        low: None,
-        buffer: 64,
-    };
-    let margin = OutLine::Margin {
-        port: 24,
-        vl: VlId(65_535),
-        bound: Some(u64::MAX),
-        latency: 17_000,
-    };
-    let no_bound = OutLine::Margin {
-        port: 3,
-        vl: VlId(2),
-        bound: None,
-        latency: u64::MAX,
-    };
     let rows = [
-        (margin, "m 24 65535 18446744073709551615 17000\n"),
-        (no_bound, "m 3 2 - 18446744073709551615\n"),
         (sent, "R 5 B 1 \n"),
         (bad, "B 1000000000000000 A 24 03ff\n"),
         (remark, "# not-afdx 18446744073709551615\n"),
         (refused, "# 3 too-large\n"),
-        (bounds, "P 24 0 18446744073709551615 1518\n"),
-        (no_low, "P 1 13440 - 64\n"),
-        (OutLine::Admitted, "ok\n"),
-        (OutLine::Denied { line: "A3 1" }, "no A3 1\n"),
     ];
     all_right(wrongly_put(&mut text, rows.as_slice())?)
 }

@@ -1,7 +1,7 @@
 -- The tree of a lawful row reads as the row, after rows that differ from it.
-use Rattle.std.proofs.Common.{◌≡◌, ℕ, ◌+◌, ◌*◌, ◌==◌, Bool, true, false, List, [], ◌∷◌, codes, length, map, Some, None, Ok, refl, arith, if◌then◌else◌}
-use Rattle.std.proofs.Common.{◌<◌, nat_eq, cond, subst, sym}
-use Rattle.std.proofs.lemmas.Bool.{eqb-true}
+use Rattle.std.proofs.Common.{◌≡◌, ℕ, ◌+◌, ◌==◌, Bool, true, false, List, [], ◌∷◌, codes, length, map, Some, None, Ok, refl, arith, if◌then◌else◌}
+use Rattle.std.proofs.Common.{◌<◌, nat_eq, cond, subst, sym, inl, inr}
+use Rattle.std.proofs.lemmas.Bool.{eqb-true, cases_lt, lt-ltb, le-ltb}
 use Rattle.std.proofs.lemmas.List.{length-map}
 use Rattle.std.specs.List.{AllByRecursion, find}
 use Rattle.std.specs.Option.{option_map_or}
@@ -19,10 +19,10 @@ use Rattle.afdx_config.specs.Choices.{choice, all_kept}
 use Rattle.afdx_config.specs.Keys as keys
 use Rattle.afdx_config.specs.Keys.{top_keys, system_keys, link_keys, port_keys, whole, one_of, text, word, meaning, at_least, at_most}
 use Rattle.afdx_config.specs.Keys.{only, are_among, only_top_keys, only_system_keys, only_link_keys, only_port_keys}
-use Rattle.afdx_config.specs.Lawful.{IsSystem, IsLink, IsPort, IsWithin, IsOneOf}
+use Rattle.afdx_config.specs.Lawful.{IsSystem, IsLink, IsLinkUpTo, IsLinkAmong, IsPort, IsWithin, IsOneOf, jitter_from_any}
 use Rattle.afdx_config.specs.Reading.{all_of, named, destinations, link_of, link_at, goes_to, has_port, socket_at, port_at}
 use Rattle.afdx_config.specs.Reading.{system_at, new_name, rates, system_named, system_at_port, has_id}
-use Rattle.afdx_config.specs.Reading.{traffic_at, treatment_at, deepest}
+use Rattle.afdx_config.specs.Reading.{traffic_at, treatment_at, deepest, greatest_jitter}
 use Rattle.afdx_config.specs.Rows.{SystemRow, LinkRow, PortRow, is_to}
 use Rattle.afdx_solve.specs.ConfigText.{class_word, policing_word, kind_word, name_at}
 use Rattle.afdx_solve.proofs.KeyLemmas.{whole-reads, one_of-reads, text-reads, word-reads, texts-read}
@@ -148,7 +148,20 @@ pub choice-kept : (at : keys.Spot) (t : Members) → choice true at t ≡ whole 
 unfolding choice
 choice-kept at t = refl
 
-module _ (systems : List SystemRow) (i : ℕ) (l : LinkRow) (is : IsLink (length systems) l) where
+-- a link may have its jitter, which is less where it comes from a system
+jitter-least : (own ends : ℕ) (l : LinkRow) → IsLinkAmong own ends l
+    → IsWithin 0 (greatest_jitter own l.from l.bag_ms) l.jitter_us
+unfolding greatest_jitter
+jitter-least own ends l is = elim (cases_lt l.from own) [
+  | inl below ↦ rw (lt-ltb l.from own below) (omega arith, is.sent below)
+  | inr past ↦ rw (le-ltb l.from own past) is.link.jitter_us
+]
+
+-- of the ends the first `own` are systems
+module _ (own : ℕ) (systems : List SystemRow) (i : ℕ) (l : LinkRow) (among : IsLinkAmong own (length systems) l) where
+  abbrev is : IsLinkUpTo jitter_from_any (length systems) l
+  is = among.link
+
   vl-read : whole (keys.link_at i 1) (link_tree systems l) ≡ Ok l.vl
   unfolding link_nodes link_keys
   vl-read = whole-reads (keys.link_at i 1) (link_tree systems l) l.vl refl is.vl
@@ -168,18 +181,19 @@ module _ (systems : List SystemRow) (i : ℕ) (l : LinkRow) (is : IsLink (length
         is.apart,
       )
 
-  traffic-read : traffic_at all_kept i (link_tree systems l)
+  traffic-read : traffic_at all_kept (greatest_jitter own l.from) i (link_tree systems l)
       ≡ Ok (record { bag_ms = l.bag_ms; lmin = l.lmin; lmax = l.lmax; jitter_us = l.jitter_us })
   unfolding link_nodes link_keys traffic_at
   traffic-read =
       let t = link_tree systems l in
+      let greatest = greatest_jitter own l.from l.bag_ms in
       let bag = whole-reads (keys.link_at i 4) t l.bag_ms refl (bag-within l.bag_ms is.bag_ms) in
       rw (
         one_of-reads (keys.link_at i 4) t gaps l.bag_ms bag is.bag_ms,
         whole-reads (keys.link_at i 5) t l.lmin refl is.lmin,
         whole-reads (at_least l.lmin (keys.link_at i 6)) t l.lmax refl is.lmax,
-        choice-kept (at_most (1000 * l.bag_ms) (keys.link_at i 7)) t,
-        whole-reads (at_most (1000 * l.bag_ms) (keys.link_at i 7)) t l.jitter_us refl is.jitter_us,
+        choice-kept (at_most greatest (keys.link_at i 7)) t,
+        whole-reads (at_most greatest (keys.link_at i 7)) t l.jitter_us refl (jitter-least own (length systems) l among),
       )
 
   treatment-read : treatment_at all_kept i (link_tree systems l)
@@ -208,20 +222,20 @@ module _ (systems : List SystemRow) (i : ℕ) (l : LinkRow) (is : IsLink (length
   unfolding link_nodes link_keys only_link_keys only are_among
   only-link = refl
 
-pub link-reads : (systems : List SystemRow) (before : List LinkRow) (l : LinkRow)
-    → IsLink (length systems) l → AreNamed systems
-    → link_of before l.vl ≡ None → link_at all_kept systems before (link_tree systems l) ≡ Ok l
+pub link-reads : (own : ℕ) (systems : List SystemRow) (before : List LinkRow) (l : LinkRow)
+    → IsLinkAmong own (length systems) l → AreNamed systems
+    → link_of before l.vl ≡ None → link_at all_kept own systems before (link_tree systems l) ≡ Ok l
 unfolding link_at
-link-reads systems before l is named_back new =
+link-reads own systems before l is named_back new =
     let i = length before + 1 in
     rw (
-      vl-read systems i l is,
+      vl-read own systems i l is,
       new,
-      from-read systems i l is named_back,
-      to-read systems i l is named_back,
-      traffic-read systems i l is,
-      treatment-read systems i l is,
-      only-link systems i l is,
+      from-read own systems i l is named_back,
+      to-read own systems i l is named_back,
+      traffic-read own systems i l is,
+      treatment-read own systems i l is,
+      only-link own systems i l is,
     )
 
 -- ---- communication ports

@@ -14,7 +14,7 @@ use Rattle.afdx_config.specs.declared.fault.ConfigFault.{ConfigFault}
 use Rattle.afdx_config.specs.Choices.{all_kept}
 use Rattle.afdx_config.specs.Keys as keys
 use Rattle.afdx_config.specs.Keys.{Spot, top_keys, whole, tables, all_as, tables_or_none, only_top_keys, only, are_among}
-use Rattle.afdx_config.specs.Lawful.{IsLawful, AreDistinct, IsSystem, IsLink, IsPort, triple}
+use Rattle.afdx_config.specs.Lawful.{IsLawful, IsLawfulSwitch, AreDistinct, IsSystem, IsLinkUpTo, IsLinkAmong, IsPort, triple, jitter_from_any}
 use Rattle.afdx_config.specs.Reading.{each, tables_at, system_at, link_at, port_at, system_named, system_at_port, has_id, link_of, has_port}
 use Rattle.afdx_config.specs.Rows.{SystemRow, LinkRow, PortRow, Rows, rows_with}
 use Rattle.afdx_config.proofs.AmongOthersLemmas.{among_others}
@@ -107,10 +107,19 @@ module _ (t : Rows) (lawful : IsLawful t) where
       not_found (λ r. nat_eq l.vl r.vl) before (fresh (λ r. r.vl) (λ r. nat_eq l.vl r.vl) before after l
       (subst (AreDistinct (λ r. r.vl)) e lawful.links.identifiers) (λ r h. sym (eqb-true l.vl r.vl h)))
 
-  links-read : each (link_at all_kept t.systems) [] (map (link_tree t.systems) t.links) ≡ Ok t.links
-  links-read = each-reads (link_at all_kept t.systems) (link_tree t.systems) t.links
-      (λ before after l e. link-reads t.systems before l
-      (row-of (IsLink (length t.systems)) t.links before after l lawful.links.each e) systems-named
+  -- each may have its jitter
+  link-among : (before after : List LinkRow) (l : LinkRow) → t.links ≡ before ++ l ∷ after
+      → IsLinkAmong (length t.systems) (length t.systems) l
+  link-among before after l e =
+      let is : IsLawfulSwitch t = among_others t lawful in
+      record {
+        link = row-of (IsLinkUpTo jitter_from_any (length t.systems)) t.links before after l is.links.each e;
+        sent = λ from. is.sent (length before) l (rw e (at-end before after l)) (rw lawful.own from);
+      }
+
+  links-read : each (link_at all_kept (length t.systems) t.systems) [] (map (link_tree t.systems) t.links) ≡ Ok t.links
+  links-read = each-reads (link_at all_kept (length t.systems) t.systems) (link_tree t.systems) t.links
+      (λ before after l e. link-reads (length t.systems) t.systems before l (link-among before after l e) systems-named
       (link-new before after l e))
       [] t.links refl
 

@@ -12,7 +12,7 @@ use Rattle.afdx_receive.specs.Words.{drop_word}
 use Rattle.afdx_text.specs.declared.line.OutLine.{OutLine}
 use Rattle.afdx_text.specs.declared.line.OutLine.TheVariants.{Verdict, Lost, Left, Message, Unread}
 use Rattle.afdx_text.specs.declared.line.OutLine.TheVariants.{Listed, Remark, Refused, Bounds, Margin, Admitted}
-use Rattle.afdx_text.specs.declared.line.OutLine.TheVariants.{Denied}
+use Rattle.afdx_text.specs.declared.line.OutLine.TheVariants.{Denied, Switch, EndToEnd}
 
 abbrev pub side_text : Side → List ℕ
 side_text A = codes "A"
@@ -104,6 +104,16 @@ admitted_line = codes "ok\n"
 abbrev pub denied_line : List ℕ → List ℕ
 denied_line line = codes "no " ++ line ++ codes "\n"
 
+-- the lines of the ports of a switch follow, of which there are several
+abbrev pub switch_line : List ℕ → List ℕ
+switch_line name = codes "S " ++ name ++ codes "\n"
+
+-- a link and a system that it goes to: the sum of the link's latencies on the way there, in ns, or
+-- a dash where the way is broken
+abbrev pub end_to_end_line : ℕ → List ℕ → Option ℕ → List ℕ
+end_to_end_line vl system ns =
+    codes "E " ++ decimal vl ++ codes " " ++ system ++ codes " " ++ bound_text ns ++ codes "\n"
+
 abbrev pub line_text : OutLine → List ℕ
 line_text (Verdict n side reason) = verdict_line n side reason
 line_text (Lost n side port) = loss_line n side port
@@ -117,6 +127,8 @@ line_text (Bounds port high low buffer) = bounds_line port high low buffer
 line_text (Margin port vl bound latency) = margin_line port vl.0 bound latency
 line_text Admitted = admitted_line
 line_text (Denied line) = denied_line line.now
+line_text (Switch name) = switch_line name.now
+line_text (EndToEnd vl system ns) = end_to_end_line vl.0 system.now ns
 
 -- at least as many bytes as a line has
 abbrev pub longest : OutLine → ℕ
@@ -132,3 +144,5 @@ longest (Bounds port high low buffer) = 128
 longest (Margin port vl bound latency) = 128
 longest Admitted = 128
 longest (Denied line) = 128 + length line.now
+longest (Switch name) = 128 + length name.now
+longest (EndToEnd vl system ns) = 128 + length system.now

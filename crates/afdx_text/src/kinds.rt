@@ -5,8 +5,7 @@ ghost use Rattle.std.specs.Prelude.{◌≡◌, ◌≤◌, ◌+◌, ◌*◌, ◌+
 ghost use Rattle.afdx_receive.specs.Words.{drop_word};
 ghost use Rattle.afdx_text.specs.OutLines.{verdict_text, letter_of, kind_letter, verdict_line, loss_line};
 ghost use Rattle.afdx_text.specs.OutLines.{departure_line, message_line, drop_line, frame_line};
-ghost use Rattle.afdx_text.specs.OutLines.{refused_line, remark_line, bound_text, bounds_line, margin_line};
-ghost use Rattle.afdx_text.specs.OutLines.{denied_line};
+ghost use Rattle.afdx_text.specs.OutLines.{refused_line, remark_line};
 
 use crate::numeral::Numeral;
 use crate::piece::{put, put_digits, put_number, put_piece, put_side, put_small};
@@ -321,80 +320,5 @@ pub(crate) fn put_refusal(room: &mut [u8], at: usize, n: u64, word: &str) -> usi
     let at = put_number(room, at, n);
     let at = put(room, at, b" ");
     let at = put_piece(room, at, word.as_bytes());
-    put(room, at, b"\n")
-}
-
-/// Puts a bound, or a dash where there is none.
-#[inline(always)]
-fn put_bound(room: &mut [u8], at: usize, bound: Option<u64>) -> usize
-    requires { at + 32 ≤ length room.old }
-    ensures within { result ≤ at + 20 }
-    ensures text { take result room.new ≡ take at room.old ++ bound_text bound }
-{
-    match bound {
-        Some(bound) => put_number(room, at, bound),
-        None => put(room, at, b"-"),
-    }
-}
-
-/// `P port high low buffer`.
-#[inline(never)]
-pub(crate) fn put_bounds(
-    room: &mut [u8],
-    at: usize,
-    port: u8,
-    high: u64,
-    low: Option<u64>,
-    buffer: u64,
-) -> usize
-    requires { at + 128 ≤ length room.old }
-    ensures within { result ≤ at + 128 }
-    ensures text { take result room.new ≡ take at room.old ++ bounds_line port high low buffer }
-{
-    let at = put(room, at, b"P ");
-    let at = put_small(room, at, port);
-    let at = put(room, at, b" ");
-    let at = put_number(room, at, high);
-    let at = put(room, at, b" ");
-    let at = put_bound(room, at, low);
-    let at = put(room, at, b" ");
-    let at = put_number(room, at, buffer);
-    put(room, at, b"\n")
-}
-
-/// `m port vl bound latency`.
-#[inline(never)]
-pub(crate) fn put_margin(
-    room: &mut [u8],
-    at: usize,
-    port: u8,
-    vl: u16,
-    bound: Option<u64>,
-    latency: u64,
-) -> usize
-    requires { at + 128 ≤ length room.old }
-    ensures within { result ≤ at + 128 }
-    ensures text { take result room.new ≡ take at room.old ++ margin_line port vl bound latency }
-{
-    let at = put(room, at, b"m ");
-    let at = put_small(room, at, port);
-    let at = put(room, at, b" ");
-    let at = put_number(room, at, u64::from(vl));
-    let at = put(room, at, b" ");
-    let at = put_bound(room, at, bound);
-    let at = put(room, at, b" ");
-    let at = put_number(room, at, latency);
-    put(room, at, b"\n")
-}
-
-/// `no LINE`.
-#[inline(never)]
-pub(crate) fn put_denial(room: &mut [u8], at: usize, line: &str) -> usize
-    requires { at + 128 + length line.now ≤ length room.old }
-    ensures within { result ≤ at + 128 + length line.now }
-    ensures text { take result room.new ≡ take at room.old ++ denied_line line.now }
-{
-    let at = put(room, at, b"no ");
-    let at = put_piece(room, at, line.as_bytes());
     put(room, at, b"\n")
 }

@@ -3,6 +3,7 @@
 //! Its tests are in `afdx_part_tests`.
 #![tactic(auto)]
 
+mod check_lines;
 mod digits;
 mod kinds;
 mod line;

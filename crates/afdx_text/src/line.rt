@@ -2,9 +2,8 @@
 
 ghost use Rattle.std.specs.Prelude.{◌≡◌, ◌≤◌, ◌+◌, ◌++◌, length, take};
 
-use crate::kinds::{
-    Kept, put_bounds, put_denial, put_loss, put_margin, put_refusal, put_remark, put_verdict,
-};
+use crate::check_lines::{put_bounds, put_denial, put_end_to_end, put_margin, put_switch};
+use crate::kinds::{Kept, put_loss, put_refusal, put_remark, put_verdict};
 use crate::piece::put;
 use afdx_frame::{Side, VlId};
 use afdx_lists::FrameKind;
@@ -88,6 +87,17 @@ pub enum OutLine<'a> {
     Denied {
         line: &'a str,
     },
+    /// The lines of a switch's ports follow: `S SWITCH`.
+    Switch {
+        name: &'a str,
+    },
+    /// A link that goes to a system, over one or more switches: `E vl system ns`, the sum of its
+    /// latencies on the way there, in ns, or `-` where the way is broken.
+    EndToEnd {
+        vl: VlId,
+        system: &'a str,
+        ns: Option<u64>,
+    },
 }
 
 /// The most bytes of a line, but for those of a name, a word and what is written in digits.
@@ -115,6 +125,8 @@ impl OutLine<'_> {
             OutLine::Remark { word, .. } => MOST_FIXED.checked_add(word.len()),
             OutLine::Refused { word, .. } => MOST_FIXED.checked_add(word.len()),
             OutLine::Denied { line } => MOST_FIXED.checked_add(line.len()),
+            OutLine::Switch { name } => MOST_FIXED.checked_add(name.len()),
+            OutLine::EndToEnd { system, .. } => MOST_FIXED.checked_add(system.len()),
             _ => Some(MOST_FIXED),
         }
     }
@@ -183,6 +195,8 @@ impl OutLine<'_> {
             } => put_margin(room, at, *port, vl.0, *bound, *latency),
             OutLine::Admitted => put(room, at, b"ok\n"),
             OutLine::Denied { line } => put_denial(room, at, line),
+            OutLine::Switch { name } => put_switch(room, at, name),
+            OutLine::EndToEnd { vl, system, ns } => put_end_to_end(room, at, vl.0, system, *ns),
         }
     }
 }

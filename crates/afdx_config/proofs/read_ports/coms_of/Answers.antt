@@ -4,7 +4,7 @@ use Rattle.std.proofs.lemmas.Grind.{common_steps}
 use Rattle.afdx_config.specs.Rows.{port_row, port_rows}
 use Rattle.afdx_config.specs.Reading.{has_port}
 use Rattle.afdx_config.proofs.GatheredLemmas.{port_rows-push}
-use Rattle.afdx_config.proofs.GrownLemmas.{no_ports, ports_push}
+use Rattle.afdx_config.proofs.GrownLemmas.{no_ports, ports_push, own_push}
 use Rattle.afdx_config.proofs.read_ports.coms_of.Goals as goal
 
 pub loop-table-init : goal.loop-table-init
@@ -12,7 +12,8 @@ loop-table-init c = rw c.new-coms.ensures.items
     (record {
       so_far = refl;
       count = refl;
-      lawful = no_ports (length c.args.systems.now) c.args.links.now;
+      lawful = no_ports (length c.args.ends.now) c.args.links.now;
+      own = λ i p at. absurd (cc at);
     })
 
 pub loop-table-preserved : goal.loop-table-preserved
@@ -26,6 +27,8 @@ loop-table-preserved c =
       so_far = grind (arith, common_steps);
       count = grind (arith, common_steps);
       lawful = rw (c.in_ok-push.ensures.items, port_rows-push coms c.in_ok-com.com)
-          (ports_push (length c.args.systems.now) c.args.links.now (port_rows coms) row
+          (ports_push (length c.args.ends.now) c.args.links.now (port_rows coms) row
           c.loop-table.invariant.lawful room c.in_ok-com.ensures.lawful fresh);
+      own = rw (c.in_ok-push.ensures.items, port_rows-push coms c.in_ok-com.com)
+          (own_push c.args.own (port_rows coms) row c.loop-table.invariant.own c.in_ok-com.ensures.own);
     }

@@ -2,7 +2,7 @@ use Rattle.std.proofs.Common.{◌≡◌, true, false, sym, ◌∙◌}
 use Rattle.toml.specs.View.{table_view}
 use Rattle.afdx_config.specs.Keys.{only, are_among, key_rows}
 use Rattle.afdx_config.proofs.GatheredLemmas.{are_among-keys}
-use Rattle.afdx_config.proofs.keys.only.Goals as goal
+use Rattle.afdx_config.proofs.known_keys.only.Goals as goal
 
 pub returns-then-are_among : goal.returns-then-are_among
 unfolding only

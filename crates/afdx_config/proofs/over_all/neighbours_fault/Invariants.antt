@@ -1,0 +1,9 @@
+use Rattle.std.proofs.Common.{length}
+use Rattle.afdx_config.specs.Switches.{neighbours_lines}
+use Rattle.afdx_frame.specs.Lines.{first_false, each_from}
+use Rattle.afdx_frame.proofs.FirstFalseLemmas.{IsSoFar}
+use Rattle.afdx_config.proofs.over_all.neighbours_fault.Given as goal
+
+abbrev pub invariant-loop-k : goal.invariant-loop-k
+invariant-loop-k l = IsSoFar (neighbours_lines l.switches) l.k (length l.switches)
+    (first_false (each_from (neighbours_lines l.switches) 0 (length l.switches)))
