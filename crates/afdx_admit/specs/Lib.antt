@@ -6,3 +6,4 @@ pub mod Known
 pub mod Laws
 pub mod Bounds
 pub mod Cascade
+pub mod AtSwitch

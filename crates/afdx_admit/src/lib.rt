@@ -11,6 +11,7 @@ mod fault;
 pub mod laws;
 mod lines;
 mod sums;
+mod way;
 
 pub use admitted::{Admitted, admit};
 pub use all::all_faults;
@@ -18,3 +19,4 @@ pub use bounds::{PortBounds, bounds_of, bounds_to, buffer_need, high_bound, low_
 pub use cascade_fault::{CASCADE_ADMISSION, CascadeFault, CascadeText, SwitchFault};
 pub use fault::{ADMISSION, AdmitFault, AdmitText};
 pub use lines::sender_jitters;
+pub use way::way_latency;
