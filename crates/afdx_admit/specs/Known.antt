@@ -35,6 +35,6 @@ name_at t _ = []
 
 -- the switch that it stands at is one of these
 pub record IsKnownIn (switches : List NamedRows) (fault : CascadeFault) : Type 0 where
-  pub switch : NamedRows
-  pub stands : slice_get switches fault.switch.0 ≡ Some switch
-  pub subject : IsKnownAt switch.rows fault.fault
+  pub switch : fault.switch.0 < length switches
+  pub subject : (s : NamedRows) → slice_get switches fault.switch.0 ≡ Some s →
+      IsKnownAt s.rows fault.fault

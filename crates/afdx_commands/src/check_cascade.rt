@@ -1,11 +1,12 @@
 //! What the command `check` writes of a cascade.
 
 ghost use Rattle.std.specs.Prelude.{◌≡◌, ◌<◌, ◌≤◌, ◌++◌, All, Ok, OnOk, IfOk, Some, length, slice_get};
-ghost use Rattle.std.specs.Prelude.{option_map};
+ghost use Rattle.std.specs.Prelude.{option_map, option_and_then, IsSome};
 ghost use Rattle.afdx_frame.specs.Lines.{first_false, false_lines};
 ghost use Rattle.afdx_config.specs.Rows.{link_row};
-ghost use Rattle.afdx_config.specs.Switches.{NamedRows, is_this};
-ghost use Rattle.afdx_admit.specs.Cascade.{IsCascadeAdmitted, cascade_lines};
+ghost use Rattle.afdx_config.specs.Switches.{is_this, first_of};
+ghost use Rattle.afdx_admit.specs.AtSwitch.{link_at};
+ghost use Rattle.afdx_admit.specs.Cascade.{IsCascadeAdmitted, cascade_lines, row_at};
 ghost use Rattle.afdx_admit.specs.Known.{IsKnownIn};
 ghost use Rattle.afdx_text.specs.Texts.{text_bytes};
 ghost use Rattle.afdx_commands.specs.CascadeText as spec;
@@ -90,12 +91,9 @@ fn put_ends_of_row(
 
 /// The latency of the way to a row, in ns, where the way is whole.
 fn way_ns(switches: &Switches, switch: SwitchId, link: usize) -> Option<u64>
-    requires within { switch.0 < length switches.now }
-    requires known { (s : NamedRows) → slice_get switches.now switch.0 ≡ Some s →
-        link < length s.rows.links }
-    ensures { (s : NamedRows) → slice_get switches.now switch.0 ≡ Some s →
-        (l : LinkRow) → slice_get s.rows.links link ≡ Some l →
-        result ≡ spec.way_ns switches.now (row_at switch.0 l) }
+    requires { IsSome (link_at switches.now switch.0 link) }
+    ensures { result ≡ option_and_then (λ l. spec.way_ns switches.now (row_at switch.0 l))
+        (link_at switches.now switch.0 link) }
 {
     match way_latency(switches, switch, link) {
         Some(us) => Some(1000 * us),
