@@ -10,9 +10,7 @@ mod cascade_fault;
 mod fault;
 pub mod laws;
 mod lines;
-mod stub;
 mod sums;
-pub use stub::{admit_all, all_cascade_faults};
 mod way;
 
 pub use admitted::{Admitted, admit};
