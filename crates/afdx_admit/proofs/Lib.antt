@@ -1,3 +1,4 @@
+pub mod CascadeLemmas
 pub mod ExactLemmas
 pub mod FalseLinesLemmas
 pub mod KnownLemmas
