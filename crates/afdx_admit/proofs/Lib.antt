@@ -8,6 +8,7 @@ pub mod OutputLemmas
 pub mod PortLemmas
 pub mod PushedLemmas
 pub mod RateLemmas
+pub mod ReadersLemmas
 pub mod ScaledLemmas
 pub mod SmallLemmas
 pub mod TakenLemmas

@@ -31,8 +31,9 @@ fn own_fault(switches: &Switches, switch: SwitchId) -> Option<CascadeFault>
 
 /// The first false line of all switches by their own tables.
 fn owns_fault(switches: &Switches) -> Option<CascadeFault>
-    ensures { result
+    ensures fault { result
         ≡ first_false (each_from (spec.own_lines switches.now) 0 (length switches.now)) }
+    ensures switches { AreSwitches switches.now }
 {
     let count = switches.count();
     for k in 0..count {

@@ -9,8 +9,8 @@ loop-k-init c =
     let ss = c.args.switches.now in
     so_far-start (own_lines ss) 0 (length ss) (length ss) (omega arith)
 
-pub returns-in-Some : goal.returns-in-Some
-returns-in-Some c =
+pub returns-in-Some-clause-fault : goal.returns-in-Some-clause-fault
+returns-in-Some-clause-fault c =
     let ss = c.args.switches.now in
     sym (so_far-found (own_lines ss) c.loop-k.k (length ss) (first_false (each_from (own_lines ss) 0 (length ss)))
     c.in-Some.fault c.loop-k.invariant (omega arith) (sym c.in-Some.ensures))
@@ -21,8 +21,8 @@ loop-k-preserved c =
     so_far-next (own_lines ss) c.loop-k.k (length ss) (first_false (each_from (own_lines ss) 0 (length ss)))
     c.loop-k.invariant (sym c.own_fault.ensures ∙ none_of c.own_fault.result c.in_default.not-Some)
 
-pub returns : goal.returns
-returns c =
+pub returns-clause-fault : goal.returns-clause-fault
+returns-clause-fault c =
     let ss = c.args.switches.now in
     sym (so_far-end (own_lines ss) c.loop-k.k (length ss) (first_false (each_from (own_lines ss) 0 (length ss)))
     c.loop-k.invariant (omega arith))
