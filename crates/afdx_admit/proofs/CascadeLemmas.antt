@@ -38,11 +38,11 @@ row_can_send ss r h =
     (length s.0.rows.systems, h.row s.0.rows (ap (option_map (λ s. s.rows)) s.1))
 
 -- the first false of lines that are mapped
-own-first : (k : ℕ) (ls : List (Line AdmitFault)) → first_false (map (own_line k) ls)
+pub own_first : (k : ℕ) (ls : List (Line AdmitFault)) → first_false (map (own_line k) ls)
     ≡ option_map (λ fault. fault_at k (Own fault)) (first_false ls)
 unfolding first_false
-own-first k [] = refl
-own-first k (l ∷ ls) = by l.holds (own-first k ls)
+own_first k [] = refl
+own_first k (l ∷ ls) = by l.holds (own_first k ls)
   where
     by : (b : Bool) → first_false (map (own_line k) ls) ≡ option_map (λ fault. fault_at k (Own fault)) (first_false ls)
         → (if b then first_false (map (own_line k) ls) else Some (fault_at k (Own l.fault)))
@@ -81,4 +81,4 @@ pub own_first_at : (ss : List NamedRows) (k : ℕ) (t : Rows) → tables_at ss k
     → first_false (own_lines ss k) ≡ option_map (λ fault. fault_at k (Own fault)) (first_false (lines t))
 own_first_at ss k t at =
     let s = with_tables (slice_get ss k) t at in
-    ap first_false (owns-at ss k (named_rows s.0 t) s.1) ∙ own-first k (lines t)
+    ap first_false (owns-at ss k (named_rows s.0 t) s.1) ∙ own_first k (lines t)

@@ -1,4 +1,7 @@
+pub mod CascadeExactLemmas
+pub mod CascadeKnownLemmas
 pub mod CascadeLemmas
+pub mod EachLineLemmas
 pub mod ExactLemmas
 pub mod FalseLinesLemmas
 pub mod KnownLemmas
