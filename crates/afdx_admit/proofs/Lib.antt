@@ -1,4 +1,5 @@
 pub mod CascadeExactLemmas
+pub mod CascadeFalseLemmas
 pub mod CascadeKnownLemmas
 pub mod CascadeLemmas
 pub mod EachLineLemmas

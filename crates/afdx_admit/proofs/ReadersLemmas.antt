@@ -1,7 +1,9 @@
 -- The lines of the neighbours to which a row goes, one after the other.
 use Rattle.std.proofs.Common.{◌≡◌, ℕ, ◌+◌, ◌++◌, Bool, true, false, not, ◌&&◌, nat_le, List, [], ◌∷◌}
 use Rattle.std.proofs.Common.{map, filter, drop, cond, Some, slice_get, refl, sym, ap, ◌∙◌, length, ◌<◌}
-use Rattle.std.proofs.Common.{slice_index_or, option_map}
+use Rattle.std.proofs.Common.{slice_index_or, option_map, subst, ◌≤◌, arith}
+use Rattle.std.proofs.Math.ListN.{drop_of_length-le}
+use Rattle.std.proofs.lemmas.List.{length-map}
 use Rattle.std.proofs.lemmas.Option.{slice_get-map, slice_get-get_or}
 use Rattle.afdx_config.specs.declared.rows.SystemId.{SystemId}
 use Rattle.afdx_config.specs.Rows.{LinkRow, system_places}
@@ -14,12 +16,18 @@ use Rattle.afdx_admit.specs.Cascade.{reads, read_line}
 use Rattle.afdx_admit.specs.AtSwitch.{is_unread}
 use Rattle.afdx_admit.proofs.LateLemmas.{drop_next}
 
--- the place that a row's list names there
-pub place-at : (ids : List SystemId) (i : ℕ) (d : SystemId) → i < length ids
-    → slice_get (system_places ids) i ≡ Some (slice_index_or ids i d).0
-place-at ids i d within =
-    slice_get-map (λ (id : SystemId). id.0) ids i
-    ∙ ap (option_map (λ (id : SystemId). id.0)) (slice_get-get_or ids i d within)
+-- the places that a row names, as its list has them
+pub place-at : (items ids : List SystemId) (i : ℕ) (d : SystemId) → items ≡ ids → i < length items
+    → slice_get (system_places ids) i ≡ Some (slice_index_or items i d).0
+place-at items ids i d same within =
+    subst (λ (xs : List SystemId). slice_get (system_places xs) i ≡ Some (slice_index_or items i d).0) same
+    (slice_get-map (λ (id : SystemId). id.0) items i
+    ∙ ap (option_map (λ (id : SystemId). id.0)) (slice_get-get_or items i d within))
+
+pub no-place-past : (items ids : List SystemId) (i : ℕ) → items ≡ ids → length items ≤ i → drop i (system_places ids) ≡ []
+no-place-past items ids i same past =
+    drop_of_length-le (system_places ids)
+    (omega (arith, past, ap (length {A = SystemId}) same, length-map ids (λ (id : SystemId). id.0)))
 
 module _ (ss : List NamedRows) (k : ℕ) (s : NamedRows) (l : LinkRow) where
   -- of some of the places to which it goes

@@ -4,7 +4,7 @@ ghost use Rattle.std.specs.Prelude.{◌≡◌, ◌<◌, ◌++◌, ◌↔◌, [],
 ghost use Rattle.afdx_frame.specs.Lines.{false_lines, each_from};
 ghost use Rattle.afdx_config.specs.Rows.{Rows, link_row};
 ghost use Rattle.afdx_config.specs.Lawful.{IsLinkUpTo, jitter_from_any};
-ghost use Rattle.afdx_config.specs.Switches.{named_rows};
+ghost use Rattle.afdx_config.specs.Switches.{AreSwitches, named_rows};
 ghost use Rattle.afdx_admit.specs.Cascade as spec;
 ghost use Rattle.afdx_admit.specs.AtSwitch.{IsRowAt, IsKnownAt, tables_at};
 ghost use Rattle.afdx_admit.specs.Sums.{CanSend};
@@ -43,8 +43,9 @@ fn add_owns(
     found: &mut Vec<CascadeFault>,
     switches: &Switches,
 ) -> Result<(), AllocError>
-    ensures { OnOk result (found.new.items ≡ found.old.items ++ false_lines
+    ensures found { OnOk result (found.new.items ≡ found.old.items ++ false_lines
         (each_from (spec.own_lines switches.now) 0 (length switches.now))) }
+    ensures switches { AreSwitches switches.now }
 {
     let count = switches.count();
     for k in 0..count {
