@@ -1,8 +1,8 @@
 -- No line of a cascade is false exactly where it is admitted.
-use Rattle.std.proofs.Common.{◌≡◌, inl, inr, ℕ, ◌+◌, ◌<◌, ◌≤◌, nat_le, nat_lt, Bool, true, false, not, ◌||◌, List, []}
+use Rattle.std.proofs.Common.{◌≡◌, inl, inr, ℕ, ◌≤◌, nat_le, nat_lt, Bool, true, false, not, ◌||◌, List, []}
 use Rattle.std.proofs.Common.{◌∷◌, ◌++◌, length, map, filter, cond, Option, Some, None, slice_get, if◌then◌else◌}
-use Rattle.std.proofs.Common.{refl, sym, ap, subst, ◌∙◌, arith}
-use Rattle.std.specs.List.{AllByRecursion, Contains}
+use Rattle.std.proofs.Common.{refl, sym, ap, ◌∙◌, arith}
+use Rattle.std.specs.List.{AllByRecursion}
 use Rattle.std.specs.Option.{option_map}
 use Rattle.std.proofs.lemmas.Bool.{cases_lt}
 use Rattle.std.proofs.lemmas.Bool.Decides.{nat_tests}
@@ -12,7 +12,6 @@ use Rattle.afdx_frame.specs.Lines.{Line, line, first_false, each_from}
 use Rattle.afdx_frame.proofs.FirstFalseLemmas.{first_false-nil, cons_holds, holds_cons, append_holds, holds_append}
 use Rattle.afdx_frame.proofs.FirstFalseLemmas.{each_holds, holds_each, le-true, true-le}
 use Rattle.afdx_frame.proofs.ListLemmas.{AllByRecursion-slice_get, slice_get-within}
-use Rattle.afdx_config.specs.Admission.{IsAdmitted}
 use Rattle.afdx_config.specs.Lawful.{IsLawfulSwitch}
 use Rattle.afdx_config.specs.Rows.{LinkRow, Rows}
 use Rattle.afdx_config.specs.Switches.{NamedRows, AreSwitches}
@@ -23,7 +22,7 @@ use Rattle.afdx_admit.specs.Lines.{lines}
 use Rattle.afdx_admit.specs.Cascade.{RowAt, row_at, row_before, way_latency, fault_at, own_line, own_lines}
 use Rattle.afdx_admit.specs.Cascade.{same_contract, late_behind, goes_to_system, allows_way, lines_of_hop, fed_line}
 use Rattle.afdx_admit.specs.Cascade.{lines_if_fed, lines_of_row, hop_lines, hops_lines, reads, read_line}
-use Rattle.afdx_admit.specs.Cascade.{lines_of_readers, reader_lines, readers_lines, cascade_lines}
+use Rattle.afdx_admit.specs.Cascade.{reader_lines, readers_lines, cascade_lines}
 use Rattle.afdx_admit.specs.Cascade.{IsHop, IsCascadeAdmitted}
 use Rattle.afdx_admit.proofs.CascadeLemmas.{own_first, owns-at, hops-at, hop-at, readers-at, reader-at}
 use Rattle.afdx_admit.proofs.ExactLemmas.{admitted_from, from_admitted}

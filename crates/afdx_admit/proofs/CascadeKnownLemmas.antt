@@ -1,8 +1,8 @@
 -- Each line of a cascade speaks of a switch that is there, and of what it has.
-use Rattle.std.proofs.Common.{◌≡◌, ℕ, ◌+◌, ◌<◌, ◌≤◌, nat_le, Bool, true, false, List, [], ◌∷◌, ◌++◌, length, map, filter}
+use Rattle.std.proofs.Common.{◌≡◌, ℕ, ◌<◌, nat_le, Bool, true, false, List, [], ◌∷◌, ◌++◌, length, map}
 use Rattle.std.proofs.Common.{Option, Some, None, slice_get, sym, ap, subst, ◌∙◌, arith, nat_lt, if◌then◌else◌}
 use Rattle.std.specs.List.{AllByRecursion}
-use Rattle.std.specs.Option.{option_map, option_map_or}
+use Rattle.std.specs.Option.{option_map}
 use Rattle.std.proofs.lemmas.Option.{slice_get_within, same_Some}
 use Rattle.afdx_config.specs.Rows.{LinkRow, Rows}
 use Rattle.afdx_config.specs.Lawful.{IsLawfulSwitch, IsLinkUpTo, jitter_from_any}
@@ -15,9 +15,9 @@ use Rattle.afdx_admit.specs.declared.cascade_fault.SwitchFault.{SwitchFault}
 use Rattle.afdx_admit.specs.Known.{IsKnown}
 use Rattle.afdx_admit.specs.Lines.{lines}
 use Rattle.afdx_admit.specs.Cascade.{RowAt, row_at, row_before, way_latency, fault_at, own_line, own_lines}
-use Rattle.afdx_admit.specs.Cascade.{lines_if_fed, lines_of_row, hop_lines, hops_lines, read_line}
-use Rattle.afdx_admit.specs.Cascade.{lines_of_readers, reader_lines, readers_lines, cascade_lines}
-use Rattle.afdx_admit.specs.AtSwitch.{tables_at, IsKnownThere, IsKnownAt}
+use Rattle.afdx_admit.specs.Cascade.{lines_if_fed, hop_lines, hops_lines, read_line}
+use Rattle.afdx_admit.specs.Cascade.{reader_lines, readers_lines, cascade_lines}
+use Rattle.afdx_admit.specs.AtSwitch.{IsKnownThere, IsKnownAt}
 use Rattle.afdx_admit.proofs.CascadeLemmas.{owns-at, hops-at, hop-at, readers-at, reader-at}
 use Rattle.afdx_admit.proofs.EachLineLemmas.{OfEach, of_append, of_passing, of_places, of_false, of_first}
 use Rattle.afdx_admit.proofs.KnownLemmas.{lines-known}

@@ -3,12 +3,10 @@ use Rattle.std.proofs.Common.{◌≡◌, ℕ, List, [], ◌∷◌, length, map, 
 use Rattle.std.proofs.Common.{refl, ap, ◌∙◌, Bool, true, false, if◌then◌else◌}
 use Rattle.std.specs.Option.{option_map, option_map_or}
 use Rattle.afdx_config.specs.Rows.{LinkRow, Rows}
-use Rattle.afdx_config.specs.Lawful.{IsLinkUpTo}
 use Rattle.afdx_config.specs.Switches.{NamedRows, named_rows}
 use Rattle.afdx_frame.specs.Lines.{Line, first_false, each_from}
 use Rattle.afdx_frame.proofs.ListLemmas.{slice_get-within}
 use Rattle.afdx_admit.specs.declared.fault.AdmitFault.{AdmitFault}
-use Rattle.afdx_admit.specs.declared.cascade_fault.CascadeFault.{CascadeFault}
 use Rattle.afdx_admit.specs.declared.cascade_fault.SwitchFault.TheVariants.{Own}
 use Rattle.afdx_admit.specs.Lines.{lines}
 use Rattle.afdx_admit.specs.Cascade.{fault_at, own_line, own_lines, hops_lines, hop_lines, lines_of_row}

@@ -1,6 +1,6 @@
 -- What holds of the fault of each of some lines.
 use Rattle.std.proofs.Common.{◌≡◌, ℕ, zero, suc, ◌+◌, ◌<◌, ◌≤◌, Bool, true, false, not, List, [], ◌∷◌, ◌++◌}
-use Rattle.std.proofs.Common.{map, filter, cond, Some, None, if◌then◌else◌, subst, arith}
+use Rattle.std.proofs.Common.{map, filter, cond, Some, if◌then◌else◌, subst, arith}
 use Rattle.std.specs.List.{AllByRecursion}
 use Rattle.std.proofs.lemmas.Option.{same_Some}
 use Rattle.afdx_frame.specs.Lines.{Line, each_from, false_lines, first_false}

@@ -1,6 +1,6 @@
 -- The lines of the neighbours to which a row goes, one after the other.
-use Rattle.std.proofs.Common.{◌≡◌, ℕ, ◌+◌, ◌++◌, Bool, true, false, not, ◌&&◌, nat_le, List, [], ◌∷◌}
-use Rattle.std.proofs.Common.{map, filter, drop, cond, Some, slice_get, refl, sym, ap, ◌∙◌, length, ◌<◌}
+use Rattle.std.proofs.Common.{◌≡◌, ℕ, ◌+◌, Bool, true, false, not, ◌&&◌, nat_le, List, [], ◌∷◌}
+use Rattle.std.proofs.Common.{map, filter, drop, cond, Some, slice_get, refl, ap, ◌∙◌, length, ◌<◌}
 use Rattle.std.proofs.Common.{slice_index_or, option_map, subst, ◌≤◌, arith}
 use Rattle.std.proofs.Math.ListN.{drop_of_length-le}
 use Rattle.std.proofs.lemmas.List.{length-map}

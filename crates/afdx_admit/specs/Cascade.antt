@@ -2,7 +2,7 @@
 -- from one row of a link to the next. Jitters, latencies and skews are in us.
 use Rattle.std.specs.Prelude.{◌≡◌, ℕ, zero, suc, ◌+◌, ◌≤◌, Bool, true, false, not, ◌&&◌, ◌||◌, nat_le}
 use Rattle.std.specs.Prelude.{nat_lt, nat_eq, List, [], ◌∷◌, ◌++◌, length, map, filter, Option, Some}
-use Rattle.std.specs.Prelude.{None, is_some, slice_get, option_map, option_and_then, Contains}
+use Rattle.std.specs.Prelude.{None, slice_get, option_map, option_and_then, Contains}
 use Rattle.std.specs.Prelude.{if◌then◌else◌}
 use Rattle.std.specs.List.{list_any}
 use Rattle.std.specs.Option.{option_map_or}

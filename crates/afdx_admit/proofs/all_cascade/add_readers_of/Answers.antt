@@ -1,13 +1,10 @@
-use Rattle.std.proofs.Common.{◌≡◌, ◌<◌, ◌+◌, ◌++◌, ◌∷◌, [], drop, length, sym, ap, ◌∙◌, append_assoc, arith}
+use Rattle.std.proofs.Common.{◌<◌, ◌+◌, ◌++◌, drop, length, sym, ap, ◌∙◌, append_assoc, arith}
 use Rattle.std.proofs.lemmas.List.{append-nil}
 use Rattle.afdx_config.specs.Rows.{link_row}
 use Rattle.afdx_config.specs.Switches.{named_rows}
 use Rattle.afdx_frame.specs.Lines.{false_lines}
 use Rattle.afdx_frame.proofs.FalseLinesLemmas.{false_lines-nil}
 use Rattle.afdx_frame.proofs.ListLemmas.{AllByRecursion-slice_get}
-use Rattle.afdx_admit.specs.declared.cascade_fault.CascadeFault.{CascadeFault}
-use Rattle.afdx_admit.specs.declared.cascade_fault.SwitchFault.TheVariants.{Unread}
-use Rattle.afdx_admit.specs.Cascade.{fault_at}
 use Rattle.afdx_admit.proofs.ReadersLemmas.{place-at, no-place-past, lines_to, false-read, false-unread}
 use Rattle.afdx_admit.proofs.all_cascade.add_readers_of.Goals as goal
 use Rattle.afdx_admit.proofs.all_cascade.add_readers_of.Goals.{then-is_unread+in_ok-push, else-is_unread}

@@ -1,9 +1,9 @@
 use Rattle.std.proofs.Common.{◌≡◌, length, sym, ap, ◌∙◌, arith}
 use Rattle.afdx_config.specs.Rows.{Rows, link_row}
-use Rattle.afdx_config.specs.Switches.{NamedRows, named_rows}
+use Rattle.afdx_config.specs.Switches.{named_rows}
 use Rattle.afdx_frame.specs.Lines.{first_false, each_from}
 use Rattle.afdx_frame.proofs.FirstFalseLemmas.{so_far-start, so_far-next, so_far-found, so_far-end, none_of}
-use Rattle.afdx_admit.specs.Cascade.{hop_lines, hops_lines}
+use Rattle.afdx_admit.specs.Cascade.{hop_lines}
 use Rattle.afdx_admit.proofs.CascadeLemmas.{with_tables, hops-at, hop-at}
 use Rattle.afdx_admit.proofs.cascade_lines.hops_fault_at.Goals as goal
 
