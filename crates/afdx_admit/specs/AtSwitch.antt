@@ -1,13 +1,13 @@
 -- What stands at a switch of a cascade, and what a fault there speaks of.
 use Rattle.std.specs.Prelude.{◌≡◌, ℕ, ◌<◌, List, length, Option, Some, option_map, option_and_then}
-use Rattle.std.specs.Prelude.{slice_get}
+use Rattle.std.specs.Prelude.{slice_get, Bool, not, ◌&&◌, nat_le}
 use Rattle.afdx_config.specs.Rows.{LinkRow, Rows}
 use Rattle.afdx_config.specs.Lawful.{IsLinkUpTo, jitter_from_any}
 use Rattle.afdx_config.specs.Switches.{NamedRows}
 use Rattle.afdx_admit.specs.declared.cascade_fault.CascadeFault.{CascadeFault}
 use Rattle.afdx_admit.specs.declared.cascade_fault.SwitchFault.{SwitchFault}
 use Rattle.afdx_admit.specs.declared.cascade_fault.SwitchFault.TheVariants.{Own, Unread}
-use Rattle.afdx_admit.specs.Cascade.{RowAt}
+use Rattle.afdx_admit.specs.Cascade.{RowAt, reads}
 use Rattle.afdx_admit.specs.Known.{IsKnown}
 
 -- the tables of a switch, and the row at a place there
@@ -33,3 +33,7 @@ IsKnownThere t _ = Unit {0}
 pub record IsKnownAt (switches : List NamedRows) (e : CascadeFault) : Type 0 where
   pub switch : e.switch.0 < length switches
   pub tables : (t : Rows) → tables_at switches e.switch.0 ≡ Some t → IsKnownThere t e.fault
+
+-- the place to which a switch sends the link is that of a neighbour which doesn't read it
+abbrev pub is_unread : List NamedRows → NamedRows → LinkRow → (place : ℕ) → Bool
+is_unread switches s l place = nat_le s.rows.own place && not (reads switches s l place)

@@ -1,9 +1,7 @@
 -- What a fault speaks of.
-use Rattle.std.specs.Prelude.{ℕ, ◌≡◌, ◌<◌, List, [], length, slice_get, Some}
+use Rattle.std.specs.Prelude.{ℕ, ◌<◌, List, [], length, slice_get}
 use Rattle.std.specs.Option.{option_map_or}
 use Rattle.afdx_config.specs.Rows.{Rows}
-use Rattle.afdx_config.specs.Switches.{NamedRows}
-use Rattle.afdx_admit.specs.declared.cascade_fault.CascadeFault.{CascadeFault}
 use Rattle.afdx_admit.specs.declared.cascade_fault.SwitchFault.{SwitchFault}
 use Rattle.afdx_admit.specs.declared.cascade_fault.SwitchFault.TheVariants.{Own, Unread}
 use Rattle.afdx_admit.specs.declared.fault.AdmitFault.{AdmitFault}
@@ -21,20 +19,8 @@ name_of t _ = []
 
 -- ---- in a cascade
 
--- what a fault at a switch speaks of stands in the switch's tables
-abbrev pub IsKnownAt : Rows → SwitchFault → Type 0
-IsKnownAt t (Own fault) = IsKnown t fault
-IsKnownAt t (Unread vl place) = place.0 < length t.systems
-IsKnownAt t _ = Unit {0}
-
--- its name, or none
+-- the name of what a fault at a switch speaks of, or none
 abbrev pub name_at : Rows → SwitchFault → List ℕ
 name_at t (Own fault) = name_of t fault
 name_at t (Unread vl place) = option_map_or (λ s. s.name) (slice_get t.systems place.0) []
 name_at t _ = []
-
--- the switch that it stands at is one of these
-pub record IsKnownIn (switches : List NamedRows) (fault : CascadeFault) : Type 0 where
-  pub switch : fault.switch.0 < length switches
-  pub subject : (s : NamedRows) → slice_get switches fault.switch.0 ≡ Some s →
-      IsKnownAt s.rows fault.fault

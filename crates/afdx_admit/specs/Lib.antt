@@ -7,3 +7,4 @@ pub mod Laws
 pub mod Bounds
 pub mod Cascade
 pub mod AtSwitch
+pub mod CascadeLaws

@@ -80,7 +80,8 @@ neighbour out of to.",
 impl SwitchFault {
     ghost use Rattle.std.specs.Prelude.{◌≡◌};
     ghost use Rattle.afdx_admit.specs.FaultText.{switch_word};
-    ghost use Rattle.afdx_admit.specs.Known.{IsKnownAt, name_at};
+    ghost use Rattle.afdx_admit.specs.AtSwitch.{IsKnownThere};
+    ghost use Rattle.afdx_admit.specs.Known.{name_at};
 
     /// Its line in a word: `A1` to `A7`, `B1` to `B5`.
     #[tactic(auto, unfolding(crate::specs::FaultText::hop_words))]
@@ -100,7 +101,7 @@ impl SwitchFault {
     /// The name of the sender or the neighbour that it speaks of, or an empty one. The tables are
     /// those of the switch that it stands at.
     fn name(self, tables: &Tables) -> &str
-        requires { IsKnownAt tables.now self }
+        requires { IsKnownThere tables.now self }
         ensures { result.now ≡ name_at tables.now self }
     {
         match self {
@@ -113,13 +114,14 @@ impl SwitchFault {
 
 impl CascadeFault {
     ghost use Rattle.std.specs.Prelude.{◌≡◌, slice_get, Some};
-    ghost use Rattle.afdx_admit.specs.Known.{IsKnownIn, name_at};
+    ghost use Rattle.afdx_admit.specs.AtSwitch.{IsKnownAt};
+    ghost use Rattle.afdx_admit.specs.Known.{name_at};
     ghost use Rattle.afdx_config.specs.Switches.{NamedRows};
 
     /// The fault with its text: `A1 aft 3`, `B3 aft 1 517` and the like. The switches are those that
     /// were refused.
     pub fn text<'a>(self, switches: &'a Switches) -> CascadeText<'a>
-        requires { IsKnownIn switches.now self }
+        requires { IsKnownAt switches.now self }
         ensures { (s : NamedRows) → slice_get switches.now self.switch.0 ≡ Some s →
             (result.fault ≡ self.fault) × (result.switch.now ≡ s.name)
             × (result.name.now ≡ name_at s.rows self.fault) }

@@ -2,10 +2,17 @@
 
 ghost use Rattle.afdx_admit.specs.FaultText.{TheLineWords, TheHopWords};
 ghost use Rattle.afdx_admit.specs.Laws.{FirstIsOfAll, LinesAreAdmission, LowBoundIsANumber};
+ghost use Rattle.afdx_admit.specs.CascadeLaws.{CascadeLinesAreAdmission};
 
 /// In lawful tables no line is false exactly where they are admitted.
 pub fn lines_are_admission()
     ensures { LinesAreAdmission }
+{}
+
+/// Of switches that stand in the tables of a file no line of the cascade is false exactly where they
+/// are admitted.
+pub fn cascade_lines_are_admission()
+    ensures { CascadeLinesAreAdmission }
 {}
 
 /// Where a low link goes through a port that isn't overloaded, the low bound is a number.

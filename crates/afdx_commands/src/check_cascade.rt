@@ -5,9 +5,8 @@ ghost use Rattle.std.specs.Prelude.{option_map, option_and_then, IsSome};
 ghost use Rattle.afdx_frame.specs.Lines.{first_false, false_lines};
 ghost use Rattle.afdx_config.specs.Rows.{link_row};
 ghost use Rattle.afdx_config.specs.Switches.{is_this, first_of};
-ghost use Rattle.afdx_admit.specs.AtSwitch.{link_at};
+ghost use Rattle.afdx_admit.specs.AtSwitch.{link_at, IsKnownAt};
 ghost use Rattle.afdx_admit.specs.Cascade.{IsCascadeAdmitted, cascade_lines, row_at};
-ghost use Rattle.afdx_admit.specs.Known.{IsKnownIn};
 ghost use Rattle.afdx_text.specs.Texts.{text_bytes};
 ghost use Rattle.afdx_commands.specs.CascadeText as spec;
 
@@ -199,7 +198,7 @@ fn put_cascade_fault(
     switches: &Switches,
     fault: CascadeFault,
 ) -> Result<(), AllocError>
-    requires { IsKnownIn switches.now fault }
+    requires { IsKnownAt switches.now fault }
     ensures { OnOk result (text_bytes text.new ≡ text_bytes text.old
         ++ spec.cascade_fault_line switches.now fault) }
 {
@@ -218,7 +217,7 @@ fn put_cascade_faults(
     switches: &Switches,
     faults: &[CascadeFault],
 ) -> Result<(), AllocError>
-    requires { All (IsKnownIn switches.now) faults.now }
+    requires { All (IsKnownAt switches.now) faults.now }
     ensures { OnOk result (text_bytes text.new ≡ text_bytes text.old
         ++ spec.cascade_fault_lines switches.now faults.now) }
 {
