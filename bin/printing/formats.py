@@ -161,8 +161,9 @@ def admission(rows: list[Row]) -> str:
 
 
 def config_faults(rows: list[Row]) -> str:
-    """The faults, with the place that their lines have where there is one switch."""
-    forms = [form for row in of_kind(rows, "key") for form in row.forms if " switch " not in form]
+    """The faults, with the place that their lines have."""
+    # those in a switch have its place besides, and a bad profile has one there
+    forms = [form for row in of_kind(rows, "key") for form in row.forms if " switch n " not in form]
     cells = []
     for row in of_kind(rows, "config"):
         found = [form for form in forms if re.match(rf"config \S*\b{row.word}\b\S* ", form)]

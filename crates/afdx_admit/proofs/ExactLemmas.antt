@@ -1,12 +1,12 @@
 -- No line is false exactly where the tables are admitted.
-use Rattle.std.proofs.Common.{◌≡◌, inl, inr, ℕ, zero, suc, ◌+◌, ◌-◌, ◌*◌, ◌<◌, ◌≤◌, Bool, true}
+use Rattle.std.proofs.Common.{◌≡◌, inl, inr, ℕ, ◌-◌, ◌*◌, ◌<◌, ◌≤◌, Bool, true}
 use Rattle.std.proofs.Common.{false, ◌||◌, nat_le, List, [], ◌∷◌, ◌++◌, length, map, cond, Option}
-use Rattle.std.proofs.Common.{Some, None, if◌then◌else◌, slice_get, refl, sym, ap, subst, ◌∙◌, arith}
+use Rattle.std.proofs.Common.{Some, None, slice_get, refl, sym, ap, subst, ◌∙◌, arith}
 use Rattle.std.specs.List.{AllByRecursion}
 use Rattle.std.specs.Option.{option_map_or}
 use Rattle.std.proofs.lemmas.List.Elements.{All-from_recursion, recursion_from_All}
 use Rattle.std.proofs.lemmas.Option.{slice_get_within}
-use Rattle.std.proofs.lemmas.Bool.{cases_eq, cases_lt}
+use Rattle.std.proofs.lemmas.Bool.{cases_lt}
 use Rattle.afdx_frame.specs.declared.link.Priority.{Priority}
 use Rattle.afdx_frame.specs.declared.link.Priority.TheVariants.{High, Low}
 use Rattle.afdx_frame.specs.Regulation.{byte_units}
@@ -27,8 +27,8 @@ use Rattle.afdx_admit.specs.Lines.{Line, line, first_false, each_from, lines, Lo
 use Rattle.afdx_admit.specs.Lines.{loaded_output_to, output_lines, port_lines}
 use Rattle.afdx_admit.specs.Lines.{sender_lines, link_lines}
 use Rattle.afdx_admit.specs.Lines.{lines_of_link, allows_jitter, jitter_at, high_line, low_line, high_bound_of, buffer_need_of, told_low_bound_of}
-use Rattle.afdx_frame.proofs.FirstFalseLemmas.{first_false-skip, first_false-nil, first_false-append, le-true, le-false, true-le}
-use Rattle.afdx_frame.proofs.FirstFalseLemmas.{BothHold, cons_holds, holds_cons, append_holds, holds_append, each_holds, holds_each}
+use Rattle.afdx_frame.proofs.FirstFalseLemmas.{first_false-nil, le-true, le-false, true-le}
+use Rattle.afdx_frame.proofs.FirstFalseLemmas.{cons_holds, holds_cons, append_holds, holds_append, each_holds, holds_each}
 use Rattle.afdx_admit.specs.Late.{class_line}
 use Rattle.afdx_admit.proofs.PortLemmas.{loaded_output_at-some, loaded_output_at-none, found_within}
 

@@ -1,20 +1,18 @@
 -- The faults of the false lines of the links of a class.
-use Rattle.std.proofs.Common.{◌≡◌, ℕ, zero, suc, ◌+◌, ◌*◌, nat_le, nat_lt, Bool, true}
-use Rattle.std.proofs.Common.{false, not, ◌&&◌, List, [], ◌∷◌, ◌++◌, map, filter, drop, cond, Some, if◌then◌else◌}
-use Rattle.std.proofs.Common.{None, slice_get, refl, sym, ap, ◌∙◌, append_assoc, arith}
+use Rattle.std.proofs.Common.{◌≡◌, ℕ, ◌+◌, ◌*◌, nat_le, nat_lt, Bool, true}
+use Rattle.std.proofs.Common.{false, not, ◌&&◌, List, [], ◌∷◌, ◌++◌, map, filter, drop, cond, Some}
+use Rattle.std.proofs.Common.{slice_get, refl, sym, ap, ◌∙◌, append_assoc, arith}
 use Rattle.std.proofs.lemmas.Bool.Decides.{nat_tests}
-use Rattle.std.proofs.lemmas.List.{append-nil, map-append}
-use Rattle.std.proofs.lemmas.List.Elements.{filter-append}
 use Rattle.afdx_admit.specs.declared.fault.AdmitFault.{AdmitFault}
 use Rattle.afdx_frame.specs.declared.link.Priority.{Priority}
 use Rattle.afdx_frame.specs.Flows.{is_class, of_class}
 use Rattle.afdx_config.specs.Rows.{LinkRow, is_to}
 use Rattle.afdx_config.specs.Flows.{flow_of_link}
 use Rattle.afdx_config.specs.Admission.{flows_to}
-use Rattle.afdx_admit.specs.Lines.{Line, line, false_lines, first_false, each_from}
+use Rattle.afdx_admit.specs.Lines.{Line, line, false_lines}
 use Rattle.afdx_admit.specs.Late.{is_late, class_line}
 use Rattle.afdx_admit.proofs.LateLemmas.{drop_next}
-use Rattle.afdx_frame.proofs.FalseLinesLemmas.{false_lines-nil, false_lines-append, false_lines-holds, false_lines-fails}
+use Rattle.afdx_frame.proofs.FalseLinesLemmas.{false_lines-append, false_lines-holds, false_lines-fails}
 
 -- ---- the rows of a class at a port
 

@@ -1,3 +1,8 @@
+pub mod CascadeExactLemmas
+pub mod CascadeFalseLemmas
+pub mod CascadeKnownLemmas
+pub mod CascadeLemmas
+pub mod EachLineLemmas
 pub mod ExactLemmas
 pub mod FalseLinesLemmas
 pub mod KnownLemmas
@@ -7,6 +12,7 @@ pub mod OutputLemmas
 pub mod PortLemmas
 pub mod PushedLemmas
 pub mod RateLemmas
+pub mod ReadersLemmas
 pub mod ScaledLemmas
 pub mod SmallLemmas
 pub mod TakenLemmas

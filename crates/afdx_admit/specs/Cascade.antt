@@ -2,7 +2,7 @@
 -- from one row of a link to the next. Jitters, latencies and skews are in us.
 use Rattle.std.specs.Prelude.{◌≡◌, ℕ, zero, suc, ◌+◌, ◌≤◌, Bool, true, false, not, ◌&&◌, ◌||◌, nat_le}
 use Rattle.std.specs.Prelude.{nat_lt, nat_eq, List, [], ◌∷◌, ◌++◌, length, map, filter, Option, Some}
-use Rattle.std.specs.Prelude.{None, is_some, slice_get, option_map, option_and_then, Contains}
+use Rattle.std.specs.Prelude.{None, slice_get, option_map, option_and_then, Contains}
 use Rattle.std.specs.Prelude.{if◌then◌else◌}
 use Rattle.std.specs.List.{list_any}
 use Rattle.std.specs.Option.{option_map_or}
@@ -116,6 +116,10 @@ late_behind l = l.jitter_us + l.latency_us
 abbrev pub goes_to_system : Rows → LinkRow → Bool
 goes_to_system t l = list_any (λ place. nat_lt place t.own) l.to
 
+-- where it does, the row's skew allows for a way of so many us
+abbrev pub allows_way : Rows → LinkRow → (sum : ℕ) → Bool
+allows_way t l sum = not (goes_to_system t l) || nat_le sum l.skew_us
+
 -- of a row with the one before it and the sum of its way: the same contract, a jitter that allows
 -- for what is behind, and where it goes to a system a skew that allows for the whole way
 abbrev pub lines_of_hop : ℕ → Rows → (before l : LinkRow) → (sum : ℕ) → List (Line CascadeFault)
@@ -123,8 +127,7 @@ lines_of_hop k t before l sum =
     line (same_contract before l) (fault_at k (Contract (record { 0 = l.vl })))
     ∷ line (nat_le (late_behind before) l.jitter_us)
     (fault_at k (HopJitter (record { 0 = l.vl }) (late_behind before)))
-    ∷ line (not (goes_to_system t l) || nat_le sum l.skew_us)
-    (fault_at k (PathSkew (record { 0 = l.vl }) sum)) ∷ []
+    ∷ line (allows_way t l sum) (fault_at k (PathSkew (record { 0 = l.vl }) sum)) ∷ []
 
 -- there is a way to the row; where there is none nothing more is asked
 abbrev pub fed_line : Bool → ℕ → LinkRow → Line CascadeFault

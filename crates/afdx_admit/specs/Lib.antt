@@ -6,3 +6,5 @@ pub mod Known
 pub mod Laws
 pub mod Bounds
 pub mod Cascade
+pub mod AtSwitch
+pub mod CascadeLaws

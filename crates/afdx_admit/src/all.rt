@@ -18,10 +18,10 @@ use afdx_frame::{BYTE_UNITS, LAST_PORT, Priority, VlId, port_at};
 use std::alloc::{AllocError, Global};
 
 /// Adds the fault of a line, if it is false.
-fn add_if_false(
-    found: &mut Vec<AdmitFault>,
+pub(crate) fn add_if_false<F: Copy>(
+    found: &mut Vec<F>,
     holds: bool,
-    fault: AdmitFault,
+    fault: F,
 ) -> Result<(), AllocError>
     ensures { OnOk result
         (found.new.items ≡ found.old.items ++ spec.false_lines (spec.line holds fault ∷ [])) }

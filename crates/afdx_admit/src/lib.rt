@@ -5,16 +5,23 @@
 
 mod admitted;
 mod all;
+mod all_cascade;
 mod bounds;
+mod cascade;
 mod cascade_fault;
+mod cascade_lines;
 mod fault;
 pub mod laws;
 mod lines;
 mod sums;
+mod way;
 
 pub use admitted::{Admitted, admit};
 pub use all::all_faults;
+pub use all_cascade::all_cascade_faults;
 pub use bounds::{PortBounds, bounds_of, bounds_to, buffer_need, high_bound, low_bound};
-pub use cascade_fault::{CascadeFault, SwitchFault};
+pub use cascade::{AdmittedSwitches, admit_all};
+pub use cascade_fault::{CASCADE_ADMISSION, CascadeFault, CascadeText, SwitchFault};
 pub use fault::{ADMISSION, AdmitFault, AdmitText};
 pub use lines::sender_jitters;
+pub use way::way_latency;

@@ -1,0 +1,28 @@
+use Rattle.std.proofs.Common.{length, sym, ◌∙◌, arith}
+use Rattle.afdx_frame.specs.Lines.{first_false, each_from}
+use Rattle.afdx_frame.proofs.FirstFalseLemmas.{so_far-start, so_far-next, so_far-found, so_far-end, none_of}
+use Rattle.afdx_admit.specs.Cascade.{hops_lines}
+use Rattle.afdx_admit.proofs.cascade_lines.hops_fault.Goals as goal
+
+pub loop-k-init : goal.loop-k-init
+loop-k-init c =
+    let ss = c.args.switches.now in
+    so_far-start (hops_lines ss) 0 (length ss) (length ss) (omega arith)
+
+pub returns-in-Some : goal.returns-in-Some
+returns-in-Some c =
+    let ss = c.args.switches.now in
+    sym (so_far-found (hops_lines ss) c.loop-k.k (length ss) (first_false (each_from (hops_lines ss) 0 (length ss)))
+    c.in-Some.fault c.loop-k.invariant (omega arith) (sym c.in-Some.ensures))
+
+pub loop-k-preserved : goal.loop-k-preserved
+loop-k-preserved c =
+    let ss = c.args.switches.now in
+    so_far-next (hops_lines ss) c.loop-k.k (length ss) (first_false (each_from (hops_lines ss) 0 (length ss)))
+    c.loop-k.invariant (sym c.hops_fault_at.ensures ∙ none_of c.hops_fault_at.result c.in_default.not-Some)
+
+pub returns : goal.returns
+returns c =
+    let ss = c.args.switches.now in
+    sym (so_far-end (hops_lines ss) c.loop-k.k (length ss) (first_false (each_from (hops_lines ss) 0 (length ss)))
+    c.loop-k.invariant (omega arith))

@@ -1,0 +1,11 @@
+use Rattle.std.proofs.Common.{length}
+use Rattle.afdx_frame.specs.Lines.{first_false, each_from}
+use Rattle.afdx_frame.proofs.FirstFalseLemmas.{IsSoFar}
+use Rattle.afdx_admit.specs.Cascade.{hop_lines}
+use Rattle.afdx_admit.proofs.cascade_lines.hops_fault_at.Given as goal
+
+abbrev pub invariant-loop-i : goal.invariant-loop-i
+invariant-loop-i l =
+    let t = l.tables in
+    IsSoFar (hop_lines l.switches l.switch.0) l.i (length t.links)
+    (first_false (each_from (hop_lines l.switches l.switch.0) 0 (length t.links)))
