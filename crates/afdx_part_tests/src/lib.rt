@@ -10,6 +10,8 @@ mod arrivals;
 #[cfg(test)]
 mod bounds;
 #[cfg(test)]
+mod cascade;
+#[cfg(test)]
 mod config;
 #[cfg(test)]
 mod conform;

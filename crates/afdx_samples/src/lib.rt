@@ -3,11 +3,13 @@
 //! A long text is what a function answers, so that a proof doesn't carry its letters.
 #![tactic(auto)]
 
+mod cascades;
 mod configurations;
 mod frames;
 mod rows;
 mod weak;
 
+pub use cascades::two_switches;
 pub use configurations::{
     GREATEST_COUNT, ShortText, admitted, base, base_tables, changed, largest, largest_tables, read,
 };
