@@ -162,11 +162,7 @@ fn put_if_first(
 }
 
 /// Adds those of the links that stand for the first time at this switch.
-fn put_switch_ends(
-    text: &mut Text,
-    switches: &Switches,
-    switch: SwitchId,
-) -> Result<(), AllocError>
+fn put_switch_ends(text: &mut Text, switches: &Switches, switch: SwitchId) -> Result<(), AllocError>
     requires { switch.0 < length switches.now }
     ensures { OnOk result (text_bytes text.new ≡ text_bytes text.old
         ++ spec.switch_ends switches.now switch.0) }

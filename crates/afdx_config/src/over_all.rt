@@ -51,7 +51,9 @@ pub(crate) fn first_of(switches: &[NamedTables], vl: VlId) -> Option<usize>
     ensures place { result ≡ spec.first_of switches.now vl.0 }
     ensures known { IfSome result (λ k. k < length switches.now) }
 {
-    switches.iter().position(|switch| switch.tables().link_of(vl).is_some())
+    switches
+        .iter()
+        .position(|switch| switch.tables().link_of(vl).is_some())
 }
 
 /// The place of the first switch at which this link starts. It looks it up at each of them.

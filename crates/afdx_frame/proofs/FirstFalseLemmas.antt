@@ -75,6 +75,7 @@ module _ {F : Type 0} (lines_of : ℕ → List (Line F)) where
   pub so_far-end : (place end : ℕ) (all : Option F) → IsSoFar lines_of place end all → place ≡ end → all ≡ None
   unfolding each_from first_false
   so_far-end place end all h e = let e' : place + zero ≡ end = omega arith in sym (h.rest zero e')
+
 pub none_of : {A : Type 0} (o : Option A) → ((x : A) → o ≡ Some x → ⊥) → o ≡ None
 none_of None h = refl
 none_of (Some x) h = absurd (h x refl)

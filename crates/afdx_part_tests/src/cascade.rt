@@ -94,16 +94,31 @@ fn faults_have_their_switch(rt: HostRuntime) -> Result<(), Fail> {
     let alloc = rt.alloc();
     let rows = [
         ("buffer = 254\n", "", "Missing switch 1 top 0 key 2"),
-        ("profile = 1", "profile = 3", "BadProfile switch 1 top 0 key 1"),
+        (
+            "profile = 1",
+            "profile = 3",
+            "BadProfile switch 1 top 0 key 1",
+        ),
         ("id = 2", "id = 1", "Twice switch 2 system 1 key 3"),
-        ("port = 20\nrate = 100", "port = 20\nrate = 10", "OutOfRange switch 1 neighbour 1 key 3"),
-        ("[[switch]]", "buffer = 252\n[[switch]]", "UnknownKey top 0 key 0"),
+        (
+            "port = 20\nrate = 100",
+            "port = 20\nrate = 10",
+            "OutOfRange switch 1 neighbour 1 key 3",
+        ),
+        (
+            "[[switch]]",
+            "buffer = 252\n[[switch]]",
+            "UnknownKey top 0 key 0",
+        ),
     ];
     for (old, new, fault) in rows {
         let text = changed(two_switches(), old, new)?;
         equal(told(alloc, text.as_str())?.as_str(), fault)?;
     }
-    equal(told(alloc, "switch = []")?.as_str(), "OutOfRange top 0 key 6")
+    equal(
+        told(alloc, "switch = []")?.as_str(),
+        "OutOfRange top 0 key 6",
+    )
 }
 
 /// The first false line of a text's switches, as it is written; nothing where they are admitted.
