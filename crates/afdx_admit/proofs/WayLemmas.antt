@@ -2,14 +2,14 @@
 use Rattle.std.proofs.Common.{◌≡◌, inl, inr, ℕ, zero, suc, ◌+◌, ◌<◌, ◌≤◌, Bool, true, false, ◌||◌, nat_eq, List, []}
 use Rattle.std.proofs.Common.{◌∷◌, length, Option, Some, None, is_some, slice_get, if◌then◌else◌, refl, sym, ap, subst}
 use Rattle.std.proofs.Common.{◌∙◌, arith, option_map, option_and_then}
-use Rattle.std.specs.List.{list_any, AllByRecursion, IsDistinct, position}
+use Rattle.std.specs.List.{list_any, AllByRecursion, IsDistinct}
 use Rattle.std.proofs.lemmas.Bool.{eqb-true, cases_Bool}
 use Rattle.std.proofs.lemmas.List.Quantifiers.{position-Some}
 use Rattle.std.proofs.lemmas.Map.Steps.{length-le_from_distinct_below}
 use Rattle.std.proofs.lemmas.Option.{same_Some, slice_get_within, slice_get-get_or}
 use Rattle.afdx_config.specs.Lawful.{IsLawfulSwitch}
 use Rattle.afdx_config.specs.Reading.{link_of}
-use Rattle.afdx_config.specs.Rows.{SystemRow, LinkRow, Rows}
+use Rattle.afdx_config.specs.Rows.{LinkRow, Rows}
 use Rattle.afdx_config.specs.Switches.{NamedRows, AreSwitches, switch_named}
 use Rattle.afdx_config.proofs.LookUpLemmas.{each_row-found}
 use Rattle.afdx_frame.proofs.ListLemmas.{AllByRecursion-slice_get}
