@@ -113,7 +113,8 @@ def switch_text(place):
 
 def cascade(rows):
     """The text of the cascade with so many rows."""
-    links, ports = ([[] for _ in range(SWITCHES)] for _ in range(2))
+    links: list[list[str]] = [[] for _ in range(SWITCHES)]
+    ports: list[list[str]] = [[] for _ in range(SWITCHES)]
     vl = count = 0
     while count < rows:
         hops = min(vl // SWITCHES % WAY + 1, rows - count)

@@ -23,6 +23,7 @@ MARKED = {
     "from, a name in to, or a port entry's system names":
         "`from`, a name in `to`, or a port entry's `system` names",
     "the vl of a link whose to names": "the `vl` of a link whose `to` names",
+    "where from is a neighbour": "where `from` is a neighbour",
     '"high" or "low"': '`"high"` or `"low"`',
     '"byte" or "frame"': '`"byte"` or `"frame"`',
     '"sampling" or "queuing"': '`"sampling"` or `"queuing"`',
@@ -161,7 +162,8 @@ def admission(rows: list[Row]) -> str:
 
 def config_faults(rows: list[Row]) -> str:
     """The faults, with the place that their lines have."""
-    forms = [form for row in of_kind(rows, "key") for form in row.forms]
+    # those in a switch have its place besides, and a bad profile has one there
+    forms = [form for row in of_kind(rows, "key") for form in row.forms if " switch n " not in form]
     cells = []
     for row in of_kind(rows, "config"):
         found = [form for form in forms if re.match(rf"config \S*\b{row.word}\b\S* ", form)]
@@ -173,14 +175,16 @@ def config_faults(rows: list[Row]) -> str:
 
 
 def keys(rows: list[Row]) -> str:
-    """The keys of a configuration."""
-    pattern = r"[Kk]ey (\d+) of (?:the|a) (\w+)(?: is|:) (\w+): (.*?)\.(?:\s|$)"
-    cells = []
+    """The keys of a configuration; those of a switch of several where they have other values."""
+    pattern = r"[Kk]ey (\d+) of (?:the|a) ((?:switch's )?\w+)(?: is|:) (\w+): (.*?)\.(?:\s|$)"
+    cells, values = [], {}
     for row in of_kind(rows, "key"):
         found = re.search(pattern, row.text)
         if found:
             number, part, key, value = found.groups()
-            cells.append([part, number, f"`{key}`", marked(value)])
+            if values.get((part.removeprefix("switch's "), key)) != value:
+                cells.append([part, number, f"`{key}`", marked(value)])
+            values[part, key] = value
     return table("| Part | Number | Key | Value |", cells)
 
 
@@ -205,7 +209,7 @@ TABLES: dict[str, Tables] = {
         "why a switch drops a frame": dropped,
         "keys of a configuration": keys,
         "faults of a configuration": config_faults,
-        "lines of check": lambda rows: lines(rows, "P ", "m "),
+        "lines of check": lambda rows: lines(rows, "P ", "m ", "S ", "E "),
         "conditions of admission": admission,
         "lines of solve": lambda rows: lines(
             rows, "vl ", heading="| Line on standard error | Meaning |"),

@@ -10,7 +10,6 @@ from first_fault import BAGS, ROWS
 
 KEYS_OF_LINK = ("jitter_us", "latency_us", "skew_us")  # of which one less makes a line false
 RATES = {1: (10, 100, 100, 100), 2: (10, 100, 100, 1000, 1000)}
-Tree = dict[str, list[str]]  # of each switch those that a link's frames go on to
 
 
 # ---- a cascade -----------------------------------------------------------------------------------
@@ -233,7 +232,7 @@ def change_table(chance: random.Random, cascade: dict) -> None:
 
 def change_rows(chance: random.Random, cascade: dict) -> None:
     """A table that is gone, stands twice, or stands at another switch or place."""
-    switches = cascade.get("switch")
+    switches = cascade.get("switch", [])
     if not is_tables(switches):
         return
     arrays = [switches]
@@ -257,7 +256,7 @@ def change_rows(chance: random.Random, cascade: dict) -> None:
 def change_names(chance: random.Random, cascade: dict) -> None:
     """A link that comes from another system or neighbour of its switch, or an end or a switch that
     has the name of another."""
-    switches = cascade.get("switch")
+    switches = cascade.get("switch", [])
     named = [row for row in switches if "name" in row] if is_tables(switches) else []
     if not named:
         return

@@ -91,11 +91,11 @@ def end_lines(switches: list[dict]) -> Iterator[str]:
     ways = Ways(switches)
     for vl in dict.fromkeys(link["vl"] for switch in switches for link in switch["link"]):
         for switch in switches:
-            row = ways.rows.get((switch["name"], vl))
+            row = ways.rows.get((switch["name"], vl), {"to": []})
             way = ways.way_to(switch["name"], vl)
-            for system in switch["system"] if row else ():
+            ns = "-" if way is None else 1000 * latency_sum(way)
+            for system in switch["system"]:
                 if system["name"] in row["to"]:
-                    ns = "-" if way is None else 1000 * latency_sum(way)
                     yield f"E {vl} {system['name']} {ns}"
 
 

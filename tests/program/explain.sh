@@ -27,6 +27,11 @@ tell 'a fault is found in a configuration' \
 text_case 'a key by its number' 0 out 'Key 7 of a link is jitter_us: 0 to 1000 times bag_ms.' \
     explain 'config Missing link 1 key 7'
 text_case 'the same in several words' 0 out 'the key is absent' explain config Missing link 1 key 7
+text_case 'a key of a switch' 0 out 'Key 6 of a switch is name: ' \
+    explain 'config Missing switch 1 top 0 key 6'
+text_case 'a key in a switch' 0 out 'where from is a neighbour, up to' \
+    explain 'config OutOfRange switch 2 link 1 key 7'
+text_case 'a link over several switches' 0 out 'E vl system ns: ' explain E 1 s3 35000
 text_case 'a reason' 0 out 'over-rate: ' explain over-rate
 case_of 'no line of the program' 2 '' $'words UnknownText\n' explain nonsense
 case_of 'a key that is not there' 2 '' $'words UnknownText\n' explain config Missing link 1 key 13
@@ -35,7 +40,9 @@ case_of 'an empty text' 2 '' $'words UnknownText\n' explain ''
 for line in ' ' 'config' 'config Twice link 1 key 7' 'config Missing link x key 7' \
     'config Missing link  key 7' 'config Missing link 1 key 7 ' ' config Missing link 1 key 7' \
     'list BadHex x' 'list over-rate' 'recording BadHex' 'BadHex 1' 'V 7 C drop over-rate' \
-    'V 7 A drop overrate' '# 1 S6' 'n' '*' 'no|admit A1 3'; do
+    'V 7 A drop overrate' '# 1 S6' 'n' '*' 'no|admit A1 3' 'config Missing top 0 key 6' \
+    'config Missing switch 1 key 2' 'config BadProfile switch 2 top 0 key 2' \
+    'config Twice link 1 key 2' 'config Missing switch 1 neighbour 1 key 4' 'S fwd aft' 'E 1 s3'; do
     case_of "no line of the program: '$line'" 2 '' $'words UnknownText\n' explain "$line"
 done
 for line in 'recording Ended 4 C' 'recording Ended 4 A B' 'recording Ended A' 'recording Ended 4A' \
@@ -63,6 +70,7 @@ full_case 'each word to a full device' 4 $'device Write\n' explain --list
 {
     "$program" check examples/network.toml || true
     "$program" check examples/refused.toml || true
+    "$program" check --margins examples/two_switches.toml || true
     "$program" replay --no-admission examples/gigabit.toml examples/gigabit.list
     "$program" send --summary examples/network.toml fcc1 examples/messages.list 2>&1
 } >"$work/lines"
@@ -78,6 +86,12 @@ sed 's/^bag_ms = .*/bag_ms = 3/' examples/base.toml >"$work/explained.toml"
 explained_case 'check explains a fault' 1 '' 'config OutOfRange link 1 key 4' \
     'Key 4 of a link is bag_ms: 1, 2, 4, 8, 16, 32, 64 or 128.' \
     check --explain "$work/explained.toml"
+sed 's/^jitter_us = 517/jitter_us = 101001/' examples/two_switches.toml >"$work/explained.toml"
+for words in 'where from is a neighbour, up to' \
+    'jitter_us of link 1 (vl 1) of switch 2 (name aft).'; do
+    explained_case "check explains a fault in a switch: '$words'" 1 '' \
+        'config OutOfRange switch 2 link 1 key 7' "$words" check --explain "$work/explained.toml"
+done
 printf 'profile = 1\nbuffer = = 2\n' >"$work/explained.toml"
 explained_case 'where a text stops being TOML' 1 '' 'config NotToml' 'line 2, column 10' \
     check --explain "$work/explained.toml"

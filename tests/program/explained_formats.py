@@ -21,22 +21,32 @@ sys.path[:0] = [str(TOP / "tests" / "lib"), str(TOP / "bin")]
 sys.dont_write_bytecode = True
 
 import closed_lists as lists  # noqa: E402
-from first_fault import KEYS, RANGES  # noqa: E402
+from first_fault import ALL_KEYS, KEYS, RANGES  # noqa: E402
 from printing.listing import Row, rows_of  # noqa: E402
 
 Wanted = list[tuple[str, list[str]]]
 FIELDS = {"port": "3", "vl": "101", "needed": "252", "bound": "16800", "system": "s3", "ns": "6"}
 KEY_FAULTS = ["Missing", "WrongKind", "OutOfRange", "Twice", "NoSuchSystem"]
-# keys by their part and number that can't have this fault, or that alone can
+# keys by their part and number that can't have this fault, or that alone can; those of a switch of
+# several stand behind those of a file of one
 NEVER = {
-    "Missing": ["top 1", "top 3", "top 4", "top 5"],
-    "WrongKind": ["top 1"],
-    "OutOfRange": ["top 1", "link 2", "port 1"],
+    "Missing": ["top 1", "top 3", "top 4", "top 5", "top 6",
+                "switch 1", "switch 3", "switch 4", "switch 5", "switch 7"],
+    "WrongKind": ["top 1", "switch 1"],
+    "OutOfRange": ["top 1", "link 2", "port 1", "switch 1", "switch's link 2", "switch's port 1"],
 }
 ALONE = {
-    "Twice": ["system 1", "system 2", "system 3", "link 1", "link 3", "port 3"],
-    "NoSuchSystem": ["link 2", "link 3", "port 1"],
+    "Twice": ["system 1", "system 2", "system 3", "link 1", "link 3", "port 3", "switch 6",
+              "switch's system 1", "switch's system 2", "switch's system 3", "switch's link 1",
+              "switch's link 2", "switch's link 3", "switch's port 3", "neighbour 1",
+              "neighbour 2"],
+    "NoSuchSystem": ["link 2", "link 3", "port 1", "switch's link 2", "switch's link 3",
+                     "switch's port 1", "neighbour 1"],
 }
+# what is said of each fault in a switch of several
+IN_SWITCH = "A switch of the configuration has a fault: "
+# the keys that have other values there
+OTHER_VALUES = {"switch's system": ["port"], "switch's link": ["from", "to", "jitter_us"]}
 # names of faults that an earlier list has too
 EARLIER = ["recording TimeBack", "recording TimeTooLarge", "config NoSuchSystem"]
 
@@ -111,42 +121,74 @@ def can_come(fault: str, key: str) -> bool:
     return key not in NEVER.get(fault, []) and key in ALONE.get(fault, [key])
 
 
+def place_of(part: str) -> str:
+    """The place of a part in the form of a line."""
+    if part == "top":
+        return "top 0"
+    if part == "switch":
+        return "switch n top 0"
+    own = part.removeprefix("switch's ")
+    return f"switch n {own} n" if own != part or part == "neighbour" else f"{part} n"
+
+
+def listed_keys() -> list[list[str]]:
+    """Part, number, name and values of each key; of a switch of several also where the values are
+    those of a file of one."""
+    there = [row[:2] for row in lists.KEYS]
+    same = [[f"switch's {part}", *row] for part, *row in lists.KEYS
+            if part in ("system", "link", "port") and [f"switch's {part}", row[0]] not in there]
+    return lists.KEYS + same
+
+
 def key_lines(rows: list[Row]) -> tuple[Wanted, list[str]]:
     """The faults of keys that can come, with what is said of the fault and of the key; and those
     that can't."""
     texts = {row.word: row.text for row in of_kind(rows, "config")}
-    said = {form.partition(" key ")[0].split(" ", 2)[2] + form.partition(" key")[2]: row.text
+    said = {form.split(" ", 2)[2]: row.text
             for row in of_kind(rows, "key") for form in row.forms if " key " in form}
     wanted, never = [], []
-    for part, number, key, value in lists.KEYS:
-        index = "0" if part == "top" else "12"
-        text = said.get(f"{part} {'0' if part == 'top' else 'n'} {number}", "")
+    for part, number, key, value in listed_keys():
+        place = place_of(part)
+        text = said.get(f"{place} key {number}", "")
         for fault in KEY_FAULTS:
-            line = f"config {fault} {part} {index} key {number}"
+            line = f"config {fault} {place} key {number}".replace(" n ", " 12 ")
+            kind = IN_SWITCH if " switch " in line else texts[fault]
             if can_come(fault, f"{part} {number}"):
-                wanted.append((line, [texts[fault], text, f"{key}: {value}"]))
+                wanted.append((line, [kind, text, f"{key}: {value}"]))
             else:
                 never.append(line)
-    for part in ("top 0", "system 1", "link 4096", "port 2"):
-        wanted.append((f"config UnknownKey {part} key 0", [texts["UnknownKey"]]))
+    for place in ("top 0", "system 1", "link 4096", "port 2"):
+        wanted.append((f"config UnknownKey {place} key 0", [texts["UnknownKey"]]))
+    for place in ("top 0", "system 1", "neighbour 23", "link 4096", "port 2"):
+        wanted.append((f"config UnknownKey switch 24 {place} key 0", [IN_SWITCH]))
     return wanted, never
+
+
+def numbered_keys() -> list[list[str]]:
+    """Part, number and name of each key, in the order of FORMATS."""
+    parts = {part: keys for part, keys in ALL_KEYS.items() if part not in KEYS}
+    keys = [[part, str(number), key] for part, keys in KEYS.items()
+            for number, key in enumerate(keys, 1)]
+    keys.append(["top", str(len(KEYS["top"]) + 1), "switch"])
+    keys += [[part, str(number), key] for part, keys in parts.items()
+             for number, key in enumerate(keys, 1)]
+    return keys + [[part, str(KEYS[part.removeprefix("switch's ")].index(key) + 1), key]
+                   for part, keys in OTHER_VALUES.items() for key in keys]
 
 
 def other_keys(rows: list[Row]) -> list[str]:
     """How the keys of FORMATS, and those that are said where a key is unknown, are others than
     those that the tests compute with."""
     found = []
-    numbered = [[part, str(number), key] for part, keys in KEYS.items()
-                for number, key in enumerate(keys, 1)]
-    if [row[:3] for row in lists.KEYS] != numbered:
+    if [row[:3] for row in lists.KEYS] != numbered_keys():
         found.append(f"FORMATS has the keys {[row[:3] for row in lists.KEYS]}")
     for part, _, key, value in lists.KEYS:
-        greatest = RANGES[part, key][1]
+        greatest = 24 if key == "switch" else RANGES[part.removeprefix("switch's "), key][1]
         numbers = {int(digits) for digits in re.findall(r"\b\d+\b", value)}
         if greatest and "name" not in value and greatest not in numbers | {128000}:
             found.append(f"FORMATS says of {key} of {part} {value}, and it goes to {greatest}")
-    unknown = of_kind(rows, "key")[-1].text
-    for part, keys in KEYS.items():
+    unknown = " ".join(row.text for row in of_kind(rows, "key") if "UnknownKey" in row.word)
+    for part, keys in ALL_KEYS.items():
         whose = "the top" if part == "top" else f"a {part}"
         if f"Keys of {whose} are {', '.join(keys[:-1])} and {keys[-1]}." not in unknown:
             found.append(f"what is said of unknown keys has other keys of {whose}")

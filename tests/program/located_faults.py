@@ -3,11 +3,12 @@
 
     tests/program/located_faults.py PROGRAM
 
-A sound configuration is written in many layouts: heads or braces, on one line or several, remarks
-and texts with brackets in them, keys and texts in each kind of quotes, other ends of lines. One
-value is put out of range, one key left out, or one that isn't known put in, in a table or at the
-top: with a value of any kind, with dots, or as a table below a head of its own. The last line on
-standard error must name the line on which it was written, the key, and the table by its values.
+A sound configuration, of one switch or of several, is written in many layouts: heads or braces, on
+one line or several, remarks and texts with brackets in them, keys and texts in each kind of quotes,
+other ends of lines. One value is put out of range, one key left out, or one that isn't known put
+in, in a table, at the top of a switch or at that of the file: with a value of any kind, with dots,
+or as a table below a head of its own. The last line on standard error must name the line on which
+it was written, the key, and the table and its switch by their values.
 Prints a line for each layout that isn't explained so, and nothing where all are; ends with status 1
 if there is one.
 """
@@ -16,14 +17,16 @@ import random
 import subprocess
 import sys
 import tempfile
+from typing import NamedTuple
 
 TOP = pathlib.Path(__file__).resolve().parent.parent.parent
 sys.path.insert(0, str(TOP / "tests" / "lib"))
 
-from tables import base_tables  # noqa: E402
+from tables import base_tables, example_tables  # noqa: E402
 
-COUNT = 300
-MARKS = {"system": ["name", "id"], "link": ["vl"], "port": ["system", "link", "udp"]}
+COUNT = 600
+MARKS = {"switch": ["name"], "system": ["name", "id"], "neighbour": ["name", "port"],
+         "link": ["vl"], "port": ["system", "link", "udp"]}
 REMARKS = ["", "", " # [[link]] vl = 7, {", ' # "', " # '''", "  # = ] }"]
 BETWEEN = ["", "", "# [[system]]", '  # """ {', "\t"]
 WRONG: dict[str, object] = {"name": "", "from": 7, "to": []}
@@ -33,6 +36,8 @@ WRONG |= dict.fromkeys(["priority", "policing", "kind"], "no")
 UNKNOWN = "vlan"
 # a key that is absent at the top has no line: this is the last one of what is said of it
 ABSENT = "'afdx check' prints the bytes that each port needs in the last field of its P line."
+# a table by the arrays that lead to it and its number in each, or a key by its table and its name
+Place = tuple[str | int, ...]
 
 
 class Toml(str):
@@ -54,7 +59,7 @@ class Layout:
         self.lines: dict[tuple, int] = {}
         self.feed = chance.choice(["\n", "\n", "\r\n"])
 
-    def put(self, text: str, *place: object) -> None:
+    def put(self, text: str, *place: str | int) -> None:
         """Puts a piece of the text; at this place."""
         if place:
             self.lines[place] = self.text.count("\n") + 1
@@ -84,7 +89,7 @@ class Layout:
             return self.quoted(value)
         return str(value)
 
-    def pair(self, value: object, *place: object) -> None:
+    def pair(self, value: object, *place: str | int) -> None:
         """A key of a table, with dots if it isn't known, and its value."""
         name = str(place[-1])
         dots = self.chance.choice(["", "", ".x", ' . "y".z']) if name == UNKNOWN else ""
@@ -95,100 +100,146 @@ class Layout:
         """The head of a table."""
         return self.chance.choice([".", " . "]).join(self.key(name) for name in names)
 
-    def below(self, *place: object) -> None:
+    def below(self, *place: str | int) -> None:
         """The key that isn't known, as a table below a head."""
-        names = [str(name) for name in place if isinstance(name, str) and name != "top"]
-        head = self.head(*names, *self.chance.choice([(), ("x", "y")]))
+        head = self.head(*names_in(place), *self.chance.choice([(), ("x", "y")]))
         self.put(self.chance.choice([f"[{head}]", f" [ {head} ]", f"[[{head}]]"]), *place)
         self.end_line()
         self.put(f"vl = 7{self.feed}buffer = []")
         self.end_line()
 
-    def heads(self, part: str, index: int, row: dict) -> None:
-        """A table below a head."""
-        head = self.head(part)
-        self.put(self.chance.choice([f"[[{head}]]", f"  [[ {head} ]]"]), part, index)
+    def heads(self, row: dict, *place: str | int) -> None:
+        """A table below a head, and then the tables in it."""
+        head = self.head(*names_in(place))
+        self.put(self.chance.choice([f"[[{head}]]", f"  [[ {head} ]]"]), *place)
         self.end_line()
+        self.keys(row, *place)
+
+    def keys(self, row: dict, *place: str | int) -> None:
+        """The keys of a table below a head, or of the top; then the tables in it, in braces or
+        below heads."""
+        parts = [key for key in row if key in MARKS and is_tables(row[key])]
         is_below = UNKNOWN in row and self.chance.random() < 0.5
         for key, value in row.items():
-            if key != UNKNOWN or not is_below:
-                self.pair(value, part, index, key)
+            if key not in parts and (key != UNKNOWN or not is_below):
+                self.pair(value, *place, key)
                 self.end_line()
+        braces = [part for part in parts if self.chance.random() < 0.5]
+        for part in braces:
+            self.braces(row[part], *place, part)
+            self.end_line()
+        heads = [part for part in parts if part not in braces for _ in row[part]]
+        self.chance.shuffle(heads)
+        for before, part in enumerate(heads):
+            index = heads[:before].count(part)
+            self.heads(row[part][index], *place, part, index + 1)
         if is_below:
-            self.below(part, index, UNKNOWN)
+            self.below(*place, UNKNOWN)
 
-    def braces(self, part: str, rows: list[dict]) -> None:
-        """All tables of a part in braces."""
-        self.put(f"{self.key(part)} = [")
+    def braces(self, rows: list[dict], *place: str | int) -> None:
+        """All tables of an array in braces."""
+        self.put(f"{self.key(str(place[-1]))} = [")
         for index, row in enumerate(rows, 1):
             self.break_line()
-            self.put("{", part, index)
+            self.put("{", *place, index)
             for number, (key, value) in enumerate(row.items()):
                 if number > 0:
                     self.put(", ")
                 self.break_line()
-                self.pair(value, part, index, key)
+                if key in MARKS and is_tables(value):
+                    self.braces(value, *place, index, key)
+                else:
+                    self.pair(value, *place, index, key)
             self.put("}, ")
         self.put("]")
-        self.end_line()
 
 
-def written(chance: random.Random, tables: dict) -> Layout:
-    """The tables in a layout: what stands at the top first."""
-    layout = Layout(chance)
-    is_below = UNKNOWN in tables and chance.random() < 0.5
-    for key in tables:
-        if key not in MARKS and (key != UNKNOWN or not is_below):
-            layout.pair(tables[key], "top", 0, key)
-            layout.end_line()
-    braces = [part for part in MARKS if chance.random() < 0.5]
-    for part in braces:
-        layout.braces(part, tables[part])
-    heads = [part for part in MARKS if part not in braces for _ in tables[part]]
-    chance.shuffle(heads)
-    told = dict.fromkeys(MARKS, 0)
-    for part in heads:
-        told[part] += 1
-        layout.heads(part, told[part], tables[part][told[part] - 1])
-    if is_below:
-        layout.below("top", 0, UNKNOWN)
-    return layout
+class Fault(NamedTuple):
+    """Where a fault was put, the key that has it, and what is wrong."""
+
+    place: Place
+    key: str
+    how: str
 
 
-def spoiled(chance: random.Random, tables: dict) -> tuple[str, int, str, str]:
-    """Puts one fault into the tables: the part, the table, the key, and what is wrong."""
-    part = chance.choice(["top", *MARKS])
-    index = 0 if part == "top" else chance.randrange(len(tables[part])) + 1
-    row = tables if part == "top" else tables[part][index - 1]
-    known = ["buffer"] if part == "top" else list(row)
-    key, how = chance.choice(known), chance.choice(["wrong", "absent", "unknown"])
+def is_tables(value: object) -> bool:
+    """It is an array of tables."""
+    return isinstance(value, list) and all(isinstance(row, dict) for row in value)
+
+
+def names_in(place: Place) -> list[str]:
+    """The names of a place."""
+    return [str(name) for name in place if isinstance(name, str)]
+
+
+def table_at(tables: dict, place: Place) -> dict:
+    """The table of a place."""
+    for array, number in zip(place[::2], place[1::2]):
+        tables = tables[array][int(number) - 1]
+    return tables
+
+
+def tables_in(chance: random.Random, tables: dict, place: Place) -> Place:
+    """The place of one of the tables of a table, or its own."""
+    part = chance.choice([None, *(part for part in MARKS if tables.get(part))])
+    return place if part is None else (*place, part, chance.randrange(len(tables[part])) + 1)
+
+
+def place_for(chance: random.Random, tables: dict) -> Place:
+    """The place of a table in which a fault is put."""
+    place = tables_in(chance, tables, ())
+    return tables_in(chance, table_at(tables, place), place) if "switch" in place else place
+
+
+def spoiled(chance: random.Random, tables: dict) -> Fault:
+    """Puts one fault into the tables."""
+    place = place_for(chance, tables)
+    row = table_at(tables, place)
+    known = [key for key in row if key not in MARKS or not is_tables(row[key])]
+    if "switch" not in place and row is tables:
+        known = ["buffer"] if "buffer" in row else []
+    how = chance.choice(["wrong", "absent", "unknown"] if known else ["unknown"])
+    key = UNKNOWN if how == "unknown" else chance.choice(known)
     if how == "wrong":
         row[key] = WRONG.get(key, 99_999_999)
     elif how == "absent":
         del row[key]
     else:
-        key = UNKNOWN
         row[key] = Toml(chance.choice(STRANGE))
     rows = list(row.items())
     chance.shuffle(rows)
     row.clear()
     row.update(rows)
-    return part, index, key, how
+    return Fault(place, key, how)
 
 
-def wanted(layout: Layout, tables: dict, fault: tuple[str, int, str, str]) -> str:
+def table_text(tables: dict, place: Place) -> str:
+    """A table, with its switch if it is in one, by their values."""
+    texts = []
+    for end in range(len(place), 0, -2):
+        part, row = str(place[end - 2]), table_at(tables, place[:end])
+        marks = [f"{mark} {row[mark]}" for mark in MARKS[part] if row.get(mark, "") != ""]
+        texts.append(f"{part} {place[end - 1]}" + (f" ({', '.join(marks)})" if marks else ""))
+    return " of ".join(texts)
+
+
+def wanted(layout: Layout, tables: dict, fault: Fault) -> str:
     """The last line of the explanation."""
-    part, index, key, how = fault
-    if part == "top" and how == "absent":
+    place, key, how = fault
+    if not place and how == "absent":
         return ABSENT
-    place = (part, index) if how == "absent" else (part, index, key)
-    line = f"Line {layout.lines[place]} of CONFIG"
-    if part == "top":
-        return f"{line}: {key}."
-    row = tables[part][index - 1]
-    marks = [f"{mark} {row[mark]}" for mark in MARKS[part] if row.get(mark, "") != ""]
-    table = f"{part} {index}" + (f" ({', '.join(marks)})" if marks else "")
-    return f"{line}: {table}, without {key}." if how == "absent" else f"{line}: {key} of {table}."
+    line = f"Line {layout.lines[place if how == 'absent' else (*place, key)]} of CONFIG"
+    table = table_text(tables, place)
+    if how == "absent":
+        return f"{line}: {table}, without {key}."
+    return f"{line}: {key} of {table}." if place else f"{line}: {key}."
+
+
+def sound_tables(chance: random.Random) -> dict:
+    """A sound configuration, of one switch or of two."""
+    if chance.random() < 0.5:
+        return base_tables()
+    return example_tables("two_switches.toml")
 
 
 def main() -> int:
@@ -200,9 +251,10 @@ def main() -> int:
         path = pathlib.Path(folder) / "config.toml"
         for seed in range(COUNT):
             chance = random.Random(seed)
-            tables = base_tables()
+            tables = sound_tables(chance)
             fault = spoiled(chance, tables)
-            layout = written(chance, tables)
+            layout = Layout(chance)
+            layout.keys(tables)
             path.write_bytes(layout.text.encode())
             words = [sys.argv[1], "check", "--explain", str(path)]
             ran = subprocess.run(words, capture_output=True, text=True, check=False)

@@ -4,7 +4,10 @@ use crate::devices::INPUT_NAME;
 use crate::locating::place_in;
 use crate::telling::tell_text;
 use afdx_admit::ADMISSION;
-use afdx_config::{CONFIG_FAULTS, Key, LINK_KEYS, PORT_KEYS, SYSTEM_KEYS, TOP_KEYS, UNKNOWN_KEYS};
+use afdx_config::{
+    CASCADE_KEYS, CONFIG_FAULTS, Key, LINK_KEYS, NEIGHBOUR_KEYS, PORT_KEYS, SWITCH_KEYS,
+    SYSTEM_KEYS, TOP_KEYS, UNKNOWN_KEYS, WIDER_KEYS,
+};
 use afdx_explain::{FAULTS, LINES, kind_of, meaning_of};
 use afdx_frame::{IP_FAULTS, MAC_FAULTS};
 use afdx_lists::{RECORDING_FAULTS, RUN_FAULTS};
@@ -62,13 +65,18 @@ fn print_formed(rt: &HostRuntime, list: &str, rows: &[(&str, &str, &str)]) -> io
     Ok(())
 }
 
+/// Prints the forms of a line, each with the name of the list, and what such a line means.
+fn print_row(rt: &HostRuntime, list: &str, forms: &str, meaning: &str) -> io::Result<()> {
+    for form in forms.split('\n') {
+        println!(rt; "{list} {form}")?;
+    }
+    println!(rt; "{meaning}\n")
+}
+
 /// Prints the forms of lines, each with what such a line means.
 fn print_forms(rt: &HostRuntime, list: &str, rows: &[(&str, &str)]) -> io::Result<()> {
     for (forms, meaning) in rows {
-        for form in forms.split('\n') {
-            println!(rt; "{list} {form}")?;
-        }
-        println!(rt; "{meaning}\n")?;
+        print_row(rt, list, forms, meaning)?;
     }
     Ok(())
 }
@@ -76,7 +84,7 @@ fn print_forms(rt: &HostRuntime, list: &str, rows: &[(&str, &str)]) -> io::Resul
 /// Prints the keys of a part, by the forms of their faults.
 fn print_keys(rt: &HostRuntime, keys: &[Key]) -> io::Result<()> {
     for (_, _, _, forms, meaning) in keys {
-        println!(rt; "key {forms}\n{meaning}\n")?;
+        print_row(rt, "key", forms, meaning)?;
     }
     Ok(())
 }
@@ -143,6 +151,26 @@ fn print_port_keys(rt: &HostRuntime) -> io::Result<()> {
     print_keys(rt, &PORT_KEYS)
 }
 
+/// Prints the keys of the top of a file that describes several switches.
+fn print_cascade_keys(rt: &HostRuntime) -> io::Result<()> {
+    print_keys(rt, &CASCADE_KEYS)
+}
+
+/// Prints the keys of a switch.
+fn print_switch_keys(rt: &HostRuntime) -> io::Result<()> {
+    print_keys(rt, &SWITCH_KEYS)
+}
+
+/// Prints the keys of a neighbour.
+fn print_neighbour_keys(rt: &HostRuntime) -> io::Result<()> {
+    print_keys(rt, &NEIGHBOUR_KEYS)
+}
+
+/// Prints the keys that mean more in a switch of several.
+fn print_wider_keys(rt: &HostRuntime) -> io::Result<()> {
+    print_forms(rt, "key", &WIDER_KEYS)
+}
+
 /// Prints what is said of keys that aren't known.
 fn print_unknown_keys(rt: &HostRuntime) -> io::Result<()> {
     print_forms(rt, "key", &UNKNOWN_KEYS)
@@ -183,6 +211,10 @@ pub fn print_lists(rt: &HostRuntime) -> io::Result<()> {
     print_system_keys(rt)?;
     print_link_keys(rt)?;
     print_port_keys(rt)?;
+    print_cascade_keys(rt)?;
+    print_switch_keys(rt)?;
+    print_neighbour_keys(rt)?;
+    print_wider_keys(rt)?;
     print_unknown_keys(rt)?;
     print_run_faults(rt)?;
     print_recording_faults(rt)?;

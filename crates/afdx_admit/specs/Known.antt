@@ -2,6 +2,8 @@
 use Rattle.std.specs.Prelude.{ℕ, ◌<◌, List, [], length, slice_get}
 use Rattle.std.specs.Option.{option_map_or}
 use Rattle.afdx_config.specs.Rows.{Rows}
+use Rattle.afdx_admit.specs.declared.cascade_fault.SwitchFault.{SwitchFault}
+use Rattle.afdx_admit.specs.declared.cascade_fault.SwitchFault.TheVariants.{Own, Unread}
 use Rattle.afdx_admit.specs.declared.fault.AdmitFault.{AdmitFault}
 use Rattle.afdx_admit.specs.declared.fault.AdmitFault.TheVariants.{SenderJitter}
 
@@ -14,3 +16,11 @@ IsKnown t _ = Unit {0}
 abbrev pub name_of : Rows → AdmitFault → List ℕ
 name_of t (SenderJitter system ns) = option_map_or (λ s. s.name) (slice_get t.systems system.0) []
 name_of t _ = []
+
+-- ---- in a cascade
+
+-- the name of what a fault at a switch speaks of, or none
+abbrev pub name_at : Rows → SwitchFault → List ℕ
+name_at t (Own fault) = name_of t fault
+name_at t (Unread vl place) = option_map_or (λ s. s.name) (slice_get t.systems place.0) []
+name_at t _ = []

@@ -143,19 +143,46 @@ impl fmt::Display for AdmitText<'_> {
 
     fn fmt<W: fmt::Write>(&self, f: &mut fmt::Formatter<W>) -> fmt::Result {
         let word = self.fault.word();
-        match self.fault {
-            AdmitFault::Overload(port) => write!(f, "{word} {port}"),
-            AdmitFault::Buffer(port, needed) => write!(f, "{word} {port} {needed}"),
-            AdmitFault::HighLatency(port, vl, bound) => write!(f, "{word} {port} {} {bound}", vl.0),
-            AdmitFault::LowLatency(port, vl, bound) if bound == 0 => {
-                write!(f, "{word} {port} {} -", vl.0)
-            }
-            AdmitFault::LowLatency(port, vl, bound) => write!(f, "{word} {port} {} {bound}", vl.0),
-            AdmitFault::SenderJitter(_, ns) => write!(f, "{word} {} {ns}", self.name),
-            AdmitFault::LinkJitter(vl, needed) => write!(f, "{word} {} {needed}", vl.0),
-            AdmitFault::Skew(vl) => write!(f, "{word} {}", vl.0),
-        }
+        let subject = self.subject();
+        write!(f, "{word} {subject}")
     }
 }
 
 impl std::error::Error for AdmitText<'_> {}
+
+impl<'a> AdmitText<'a> {
+    ghost use Rattle.std.specs.Prelude.{◌≡◌};
+
+    /// What it speaks of: numbers, a link's identifier, or the name of a sender.
+    pub(crate) fn subject(&self) -> Subject<'a>
+        ensures { result.text ≡ self.now }
+    {
+        Subject { text: *self }
+    }
+}
+
+/// What a fault speaks of, as it is written.
+#[derive(Clone, Copy, Debug)]
+pub(crate) struct Subject<'a> {
+    pub(crate) text: AdmitText<'a>,
+}
+
+impl fmt::Display for Subject<'_> {
+    ghost use Rattle.std.specs.Prelude.{Some};
+    ghost use Rattle.afdx_admit.specs.FaultText.{subject};
+
+    ghost output = { λ s. Some (subject s.text.name.now s.text.fault) };
+
+    fn fmt<W: fmt::Write>(&self, f: &mut fmt::Formatter<W>) -> fmt::Result {
+        match self.text.fault {
+            AdmitFault::Overload(port) => write!(f, "{port}"),
+            AdmitFault::Buffer(port, needed) => write!(f, "{port} {needed}"),
+            AdmitFault::HighLatency(port, vl, bound) => write!(f, "{port} {} {bound}", vl.0),
+            AdmitFault::LowLatency(port, vl, bound) if bound == 0 => write!(f, "{port} {} -", vl.0),
+            AdmitFault::LowLatency(port, vl, bound) => write!(f, "{port} {} {bound}", vl.0),
+            AdmitFault::SenderJitter(_, ns) => write!(f, "{} {ns}", self.text.name),
+            AdmitFault::LinkJitter(vl, needed) => write!(f, "{} {needed}", vl.0),
+            AdmitFault::Skew(vl) => write!(f, "{}", vl.0),
+        }
+    }
+}

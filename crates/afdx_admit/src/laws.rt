@@ -1,6 +1,6 @@
 //! Laws over the definitions.
 
-ghost use Rattle.afdx_admit.specs.FaultText.{TheLineWords};
+ghost use Rattle.afdx_admit.specs.FaultText.{TheLineWords, TheHopWords};
 ghost use Rattle.afdx_admit.specs.Laws.{FirstIsOfAll, LinesAreAdmission, LowBoundIsANumber};
 ghost use Rattle.afdx_admit.specs.CascadeLaws.{CascadeLinesAreAdmission, WaysAreWhole};
 
@@ -30,8 +30,10 @@ pub fn first_is_of_all()
     ensures { FirstIsOfAll }
 {}
 
-/// The words of the lines of admission are those of the formats.
-#[tactic(auto, unfolding(crate::specs::FaultText::line_words))]
+/// The words of the lines of admission are those of the formats: of a switch by its own tables, and
+/// of those that join a link's rows.
+#[tactic(auto, unfolding(crate::specs::FaultText::line_words, crate::specs::FaultText::hop_words))]
 pub fn words_are()
-    ensures { TheLineWords }
+    ensures lines { TheLineWords }
+    ensures hops { TheHopWords }
 {}

@@ -21,7 +21,7 @@ pub use all::all_faults;
 pub use all_cascade::all_cascade_faults;
 pub use bounds::{PortBounds, bounds_of, bounds_to, buffer_need, high_bound, low_bound};
 pub use cascade::{AdmittedSwitches, admit_all};
-pub use cascade_fault::{CascadeFault, SwitchFault};
+pub use cascade_fault::{CASCADE_ADMISSION, CascadeFault, CascadeText, SwitchFault};
 pub use fault::{ADMISSION, AdmitFault, AdmitText};
 pub use lines::sender_jitters;
 pub use way::way_latency;

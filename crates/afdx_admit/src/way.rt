@@ -111,7 +111,9 @@ fn latency_within(switches: &Switches, switch: SwitchId, link: &Link, count: usi
 #[tactic(auto, unfolding(crate::specs::Cascade::way_latency))]
 pub(crate) fn latency_of(switches: &Switches, switch: SwitchId, link: &Link) -> Option<u64>
     requires { IsRowAt switches.now (spec.row_at switch.0 (link_row link.now)) }
-    ensures { result ≡ spec.way_latency switches.now (spec.row_at switch.0 (link_row link.now)) }
+    ensures sum { result
+        ≡ spec.way_latency switches.now (spec.row_at switch.0 (link_row link.now)) }
+    ensures small { IfSome result (λ sum. sum ≤ most_switches * greatest_delay) }
 {
     latency_within(switches, switch, link, switches.count())
 }
@@ -121,8 +123,10 @@ pub(crate) fn latency_of(switches: &Switches, switch: SwitchId, link: &Link) -> 
 /// None where the way is broken: where a neighbour on it doesn't send the link on.
 pub fn way_latency(switches: &Switches, switch: SwitchId, link: usize) -> Option<u64>
     requires { IsSome (link_at switches.now switch.0 link) }
-    ensures { result ≡ option_and_then (λ l. spec.way_latency switches.now (spec.row_at switch.0 l))
+    ensures sum { result
+        ≡ option_and_then (λ l. spec.way_latency switches.now (spec.row_at switch.0 l))
         (link_at switches.now switch.0 link) }
+    ensures small { IfSome result (λ sum. sum ≤ most_switches * greatest_delay) }
 {
     latency_of(switches, switch, switches.tables(switch).link(link))
 }

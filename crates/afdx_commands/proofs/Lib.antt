@@ -1,3 +1,4 @@
 pub mod CheckLemmas
 mod SolveLemmas
 pub mod RefusalLemmas
+pub mod BelowLemmas

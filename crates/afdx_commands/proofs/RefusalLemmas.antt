@@ -11,36 +11,45 @@ use Rattle.afdx_config.specs.declared.fault.ConfigFault.TheVariants.{NoSuchSyste
 use Rattle.afdx_admit.specs.Lines.{first_false, lines}
 use Rattle.afdx_admit.specs.declared.fault.AdmitFault.{AdmitFault}
 use Rattle.afdx_lists.specs.declared.watched.Watched.{Watched}
-use Rattle.afdx_commands.specs.Refusals.{admit_line, config_line, RefusesConfig}
+use Rattle.afdx_config.specs.Files.{IsFileFault}
+use Rattle.afdx_config.specs.declared.file_fault.FileFault.{FileFault}
+use Rattle.afdx_commands.specs.Refusals.{admit_line, config_line, file_line, RefusesConfig, RefusesFile}
 use Rattle.afdx_commands.specs.Refusals.{RefusesTables, IsToldRefused, WantsMemory}
+
+-- memory was refused, or there is another fault
+memory_or : (fault : ConfigFault) → (fault ≡ Memory) ⊎ (fault ≡ Memory → ⊥)
+memory_or NotToml = inr (λ e. cc e)
+memory_or BadProfile = inr (λ e. cc e)
+memory_or (Missing p) = inr (λ e. cc e)
+memory_or (WrongKind p) = inr (λ e. cc e)
+memory_or (UnknownKey p) = inr (λ e. cc e)
+memory_or (OutOfRange p) = inr (λ e. cc e)
+memory_or (Twice p) = inr (λ e. cc e)
+memory_or (NoSuchSystem p) = inr (λ e. cc e)
+memory_or Memory = inl refl
 
 -- a configuration was refused: it has the fault that is told, or memory was refused
 module _ {E : Type 0} (bytes : E → Option (List ℕ)) (old new : Watched E) (config : List ℕ)
     (status : ℕ) where
-  for_its_fault : (fault : ConfigFault) → (fault ≡ Memory → ⊥)
-      → ((fault ≡ Memory → ⊥) → IsToldRefused bytes old new status (config_line fault))
-      → (fault ≢ Memory → IsFaultOf config fault) →
-      RefusesConfig bytes old new config status ⊎ WantsMemory bytes old new status
-  for_its_fault fault other told faulty = inl (fault, faulty other, told other)
-
   pub config-refused : (fault : ConfigFault)
       → ((fault ≡ Memory → ⊥) → IsToldRefused bytes old new status (config_line fault))
       → (fault ≡ Memory → WantsMemory bytes old new status)
       → (fault ≢ Memory → IsFaultOf config fault) →
       RefusesConfig bytes old new config status ⊎ WantsMemory bytes old new status
-  config-refused NotToml told memory faulty = for_its_fault NotToml (λ e. cc e) told faulty
-  config-refused BadProfile told memory faulty = for_its_fault BadProfile (λ e. cc e) told faulty
-  config-refused (Missing p) told memory faulty = for_its_fault (Missing p) (λ e. cc e) told faulty
-  config-refused (WrongKind p) told memory faulty =
-      for_its_fault (WrongKind p) (λ e. cc e) told faulty
-  config-refused (UnknownKey p) told memory faulty =
-      for_its_fault (UnknownKey p) (λ e. cc e) told faulty
-  config-refused (OutOfRange p) told memory faulty =
-      for_its_fault (OutOfRange p) (λ e. cc e) told faulty
-  config-refused (Twice p) told memory faulty = for_its_fault (Twice p) (λ e. cc e) told faulty
-  config-refused (NoSuchSystem p) told memory faulty =
-      for_its_fault (NoSuchSystem p) (λ e. cc e) told faulty
-  config-refused Memory told memory faulty = inr (memory refl)
+  config-refused fault told memory faulty = elim (memory_or fault) [
+    | inl is ↦ inr (memory is)
+    | inr other ↦ inl (fault, faulty other, told other)
+  ]
+
+  pub file-refused : (f : FileFault)
+      → ((f.fault ≡ Memory → ⊥) → IsToldRefused bytes old new status (file_line f))
+      → (f.fault ≡ Memory → WantsMemory bytes old new status)
+      → (f.fault ≢ Memory → IsFileFault config f) →
+      RefusesFile bytes old new config status ⊎ WantsMemory bytes old new status
+  file-refused f told memory faulty = elim (memory_or f.fault) [
+    | inl is ↦ inr (memory is)
+    | inr other ↦ inl (f, faulty other, told other)
+  ]
 
 -- with status 1 it has that fault
 pub config-faulty : {E : Type 0} (bytes : E → Option (List ℕ)) (old new : Watched E) (config : List ℕ) (status : ℕ) →
@@ -48,6 +57,14 @@ pub config-faulty : {E : Type 0} (bytes : E → Option (List ℕ)) (old new : Wa
     → RefusesConfig bytes old new config 1
 config-faulty bytes old new config status (inl refuses) is = subst (RefusesConfig bytes old new config) is refuses
 config-faulty bytes old new config status (inr wants) is =
+    let four = wants.status_is in
+    absurd (omega (arith, four, is))
+
+pub file-faulty : {E : Type 0} (bytes : E → Option (List ℕ)) (old new : Watched E) (config : List ℕ) (status : ℕ) →
+    RefusesFile bytes old new config status ⊎ WantsMemory bytes old new status → status ≡ 1
+    → RefusesFile bytes old new config 1
+file-faulty bytes old new config status (inl refuses) is = subst (RefusesFile bytes old new config) is refuses
+file-faulty bytes old new config status (inr wants) is =
     let four = wants.status_is in
     absurd (omega (arith, four, is))
 

@@ -22,7 +22,7 @@ use Rattle.afdx_text.specs.OutLines.{bounds_line, margin_line, admitted_line, de
 use Rattle.afdx_text.specs.Telling.{TellsLine}
 use Rattle.afdx_lists.specs.declared.watched.Watched.{Watched}
 use Rattle.afdx_lists.specs.Watching.{device_of, has_failed}
-use Rattle.afdx_commands.specs.declared.check_command.CheckOptions.{CheckOptions}
+use Rattle.afdx_commands.specs.declared.check_tables.CheckOptions.{CheckOptions}
 use Rattle.afdx_commands.specs.Refusals.{RefusesConfig, WantsMemory}
 
 -- the high and the low bound in ns, and the bytes of buffer that are needed, at a port of the
@@ -87,58 +87,3 @@ check_text_of options t = used_port_lines options.margins t last_port ++ answer 
 
 abbrev pub check_text : Rows → List ℕ
 check_text t = check_text_of (record { all = false; margins = false }) t
-
--- this text of the tables that these bytes spell, which are lawful, is written
-pub record WritesCheck (text : Rows → List ℕ) (config : List ℕ) (old new : Option (List ℕ))
-    (t : Rows) : Type 0 where
-  pub spelled : Spells config t
-  pub lawful : IsLawful t
-  pub written : Appends old new (text t)
-
--- a beginning of it is written
-pub record BeginsCheck (text : Rows → List ℕ) (config : List ℕ) (old new : Option (List ℕ))
-    (t : Rows) : Type 0 where
-  pub spelled : Spells config t
-  pub written : AppendsFront old new (text t)
-
--- how the command ends, by what its output and its error output were and are
-module _ {O E : Type 0} (text : Rows → List ℕ) (bytes : O → Option (List ℕ))
-    (error_bytes : E → Option (List ℕ)) (config : List ℕ) (old new : Watched O × Watched E) where
-  -- the configuration is read, its tables are admitted, and that is written
-  pub record IsChecked : Type 0 where
-    pub tables : Rows
-    pub writes : WritesCheck text config (bytes (device_of old.0)) (bytes (device_of new.0)) tables
-    pub admitted : IsAdmitted tables
-    pub told : new.1 ≡ old.1
-
-  -- it is read, its tables are not admitted, and that is written
-  pub record IsDenied : Type 0 where
-    pub tables : Rows
-    pub writes : WritesCheck text config (bytes (device_of old.0)) (bytes (device_of new.0)) tables
-    pub denied : IsAdmitted tables → ⊥
-    pub told : new.1 ≡ old.1
-
-  -- it has a fault, and nothing is written
-  pub record IsFaulty : Type 0 where
-    pub refuses : RefusesConfig error_bytes old.1 new.1 config 1
-    pub written : new.0 ≡ old.0
-
-  -- the output failed, and a beginning of the text is written
-  pub record IsCut : Type 0 where
-    pub failed : has_failed new.0 ≡ true
-    pub tables : Rows
-    pub begins : BeginsCheck text config (bytes (device_of old.0)) (bytes (device_of new.0)) tables
-    pub told : TellsLine error_bytes old.1 new.1
-
-  -- memory was refused, and nothing is written
-  pub record IsUnchecked : Type 0 where
-    pub wants : WantsMemory error_bytes old.1 new.1 4
-    pub written : new.0 ≡ old.0
-
-  -- and by its exit status
-  pub record Checks (status : ℕ) : Type 0 where
-    pub statuses : (status ≡ 0) ⊎ (status ≡ 1) ⊎ (status ≡ 4)
-    pub device : has_failed new.0 ≡ true → status ≡ 4
-    pub checked : status ≡ 0 → IsChecked
-    pub refused : status ≡ 1 → IsDenied ⊎ IsFaulty
-    pub stopped : status ≡ 4 → IsCut ⊎ IsUnchecked

@@ -4,7 +4,9 @@ use Rattle.afdx_config.specs.Admission.{IsAdmitted}
 use Rattle.afdx_config.specs.FaultText as config_fault
 use Rattle.afdx_config.specs.Reading.{Spells, IsFaultOf}
 use Rattle.afdx_config.specs.Rows.{Rows}
+use Rattle.afdx_config.specs.Files.{IsFileFault}
 use Rattle.afdx_config.specs.declared.fault.ConfigFault.{ConfigFault}
+use Rattle.afdx_config.specs.declared.file_fault.FileFault.{FileFault}
 use Rattle.afdx_admit.specs.FaultText as admit_fault
 use Rattle.afdx_admit.specs.Known.{name_of}
 use Rattle.afdx_admit.specs.Lines.{first_false, lines}
@@ -15,6 +17,9 @@ use Rattle.afdx_lists.specs.declared.watched.Watched.{Watched}
 -- the line of a configuration's fault
 abbrev pub config_line : ConfigFault → List ℕ
 config_line fault = codes "config " ++ config_fault.fault_text fault ++ codes "\n"
+
+abbrev pub file_line : FileFault → List ℕ
+file_line fault = codes "config " ++ config_fault.file_fault_text fault ++ codes "\n"
 
 -- the line of tables that are not admitted
 abbrev pub admit_line : Rows → AdmitFault → List ℕ
@@ -40,6 +45,11 @@ module _ {E : Type 0} (error_bytes : E → Option (List ℕ)) (old new : Watched
   abbrev pub RefusesConfig : List ℕ → ℕ → Type 0
   RefusesConfig config status = (fault : ConfigFault) × IsFaultOf config fault
       × IsToldRefused status (config_line fault)
+
+  -- the same of one that may describe several switches
+  abbrev pub RefusesFile : List ℕ → ℕ → Type 0
+  RefusesFile config status = (fault : FileFault) × IsFileFault config fault
+      × IsToldRefused status (file_line fault)
 
   -- its tables are not admitted, and this line of admission is the first that is false
   abbrev pub RefusesTables : List ℕ → ℕ → Type 0

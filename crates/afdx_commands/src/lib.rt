@@ -4,7 +4,9 @@
 //! Its tests are in `afdx_run_tests`.
 #![tactic(auto)]
 
+mod check_cascade;
 mod check_command;
+mod check_tables;
 mod ending;
 pub mod refusing;
 mod solve_command;
@@ -13,7 +15,8 @@ mod summary;
 
 pub use afdx_config::KeptKeys;
 pub use afdx_solve::SolveOptions;
-pub use check_command::{CheckOptions, check, check_lines};
+pub use check_command::{check, check_lines};
+pub use check_tables::CheckOptions;
 pub use ending::{Ended, end, finish};
 pub use solve_command::solve_config;
 pub use summary::{NO_COUNTS, Summary};

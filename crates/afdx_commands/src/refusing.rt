@@ -1,15 +1,15 @@
 //! How a command refuses a configuration or its tables.
 
 ghost use Rattle.std.specs.Prelude.{◌≡◌, ◌++◌, Some, codes, decimal};
-ghost use Rattle.afdx_config.specs.FaultText.{behind, place_of};
+ghost use Rattle.afdx_config.specs.FaultText.{behind, place_of, place_in, switch_text};
 ghost use Rattle.afdx_admit.specs.FaultText.{low_bound_text, subject};
 ghost use Rattle.afdx_admit.specs.Known.{IsKnown};
 ghost use Rattle.afdx_text.specs.Telling.{Tells};
-ghost use Rattle.afdx_commands.specs.Refusals.{admit_line, config_line, IsToldRefused, WantsMemory, no_system_line};
+ghost use Rattle.afdx_commands.specs.Refusals.{admit_line, config_line, file_line, IsToldRefused, WantsMemory, no_system_line};
 
 use crate::status::{REFUSED, WRONG_WORDS};
 use afdx_admit::{AdmitFault, AdmitText};
-use afdx_config::{ConfigFault, Place, Tables};
+use afdx_config::{ConfigFault, FileFault, Place, Tables};
 use afdx_frame::VlId;
 use afdx_lists::{RunFault, Watched};
 use afdx_text::{tell, tell_fault, tell_number};
@@ -67,6 +67,54 @@ pub fn refuse_config<E: Write>(fault: ConfigFault, errors: &mut Watched<E>) -> u
         return want_memory(errors);
     }
     tell_config(errors, fault);
+    REFUSED
+}
+
+/// Tells the switch that a fault stands in, counted from 1; nothing where it is 0.
+fn tell_switch<E: Write>(errors: &mut Watched<E>, switch: u8)
+    ensures { Tells E.contents errors.old errors.new (switch_text switch) }
+{
+    if switch == 0 {
+        tell(errors, b"");
+    } else {
+        tell(errors, b" switch ");
+        tell_number(errors, u64::from(switch));
+    }
+}
+
+/// Tells the place of the check that failed, if the fault has one.
+fn tell_file_place<E: Write>(errors: &mut Watched<E>, fault: FileFault)
+    ensures { Tells E.contents errors.old errors.new
+        (behind (place_in fault.switch fault.fault)) }
+{
+    match fault.place() {
+        Some(place) => tell_place(errors, place),
+        None => tell(errors, b""),
+    }
+}
+
+/// Tells the line of a fault of a file that may describe several switches.
+fn tell_file<E: Write>(errors: &mut Watched<E>, fault: FileFault)
+    ensures { Tells E.contents errors.old errors.new (file_line fault) }
+{
+    tell(errors, b"config ");
+    tell(errors, fault.fault.word().as_bytes());
+    tell_switch(errors, fault.switch);
+    tell_file_place(errors, fault);
+    tell(errors, b"\n");
+}
+
+/// Tells why such a file is refused, and gives the exit status.
+pub fn refuse_file<E: Write>(fault: FileFault, errors: &mut Watched<E>) -> u8
+    ensures told { (fault.fault ≡ ConfigFault.Memory → ⊥) →
+        IsToldRefused E.contents errors.old errors.new result (file_line fault) }
+    ensures memory { fault.fault ≡ ConfigFault.Memory →
+        WantsMemory E.contents errors.old errors.new result }
+{
+    if let ConfigFault::Memory = fault.fault {
+        return want_memory(errors);
+    }
+    tell_file(errors, fault);
     REFUSED
 }
 

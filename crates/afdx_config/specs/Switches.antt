@@ -74,6 +74,10 @@ home_of_id switches id = position (λ s. own_has_id s.rows id) switches
 unfoldable pub start_of : List NamedRows → ℕ → Option ℕ
 start_of switches vl = position (λ s. starts s.rows vl) switches
 
+-- and with any row of the link
+unfoldable pub first_of : List NamedRows → ℕ → Option ℕ
+first_of switches vl = position (λ s. is_some (link_of s.rows.links vl)) switches
+
 -- the system of this name: its switch, and its place there
 unfoldable pub system_of : List NamedRows → List ℕ → Option (ℕ × ℕ)
 system_of switches name =

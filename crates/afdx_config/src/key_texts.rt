@@ -15,7 +15,7 @@ speak of it by this name.",
     (
         "config Missing|WrongKind|OutOfRange|Twice switch n system n key 2",
         "\
-Key 2 of a switch's system is port: its port at this switch of both sides: 1 to 24.
+Key 2 of a switch's system is port: its port at this switch, on each side: 1 to 24.
 Each system and each neighbour of a switch has a port of its own.",
     ),
     (

@@ -45,6 +45,15 @@ fn home_of_id(switches: &[NamedTables], id: u16) -> Option<usize>
         .position(|switch| switch.tables().own_has_id(id))
 }
 
+/// The place of the first switch that has a row of this link. It looks it up at each of them.
+#[tactic(auto, unfolding(crate::specs::Switches::first_of))]
+pub(crate) fn first_of(switches: &[NamedTables], vl: VlId) -> Option<usize>
+    ensures place { result ≡ spec.first_of switches.now vl.0 }
+    ensures known { IfSome result (λ k. k < length switches.now) }
+{
+    switches.iter().position(|switch| switch.tables().link_of(vl).is_some())
+}
+
 /// The place of the first switch at which this link starts. It looks it up at each of them.
 #[tactic(auto, unfolding(crate::specs::Switches::start_of))]
 fn start_of(switches: &[NamedTables], vl: VlId) -> Option<usize>

@@ -5,9 +5,10 @@ ghost use Rattle.afdx_config.specs.Rows.{system_row};
 ghost use Rattle.afdx_config.specs.Switches as spec;
 
 use crate::named_tables::NamedTables;
-use crate::over_all::{at, home_of, listed_at, switch_named};
+use crate::over_all::{at, first_of, home_of, listed_at, switch_named};
 use crate::rows::{System, SystemId};
 use crate::tables::Tables;
+use afdx_frame::VlId;
 use std::marker::Model;
 
 /// The place of a switch in the configuration, from 0.
@@ -50,7 +51,7 @@ impl Switches {
     ghost use Rattle.std.specs.Prelude.{◌≡◌, ◌<◌, length, option_map, slice_get, Some, IfSome};
     ghost use Rattle.afdx_config.specs.Lawful.{IsLawfulSwitch};
     ghost use Rattle.afdx_config.specs.Switches.{NamedRows, AreSwitches, switch_named};
-    ghost use Rattle.afdx_config.specs.Switches.{system_of, far_end};
+    ghost use Rattle.afdx_config.specs.Switches.{system_of, far_end, first_of};
 
     pub(crate) fn new(switches: Vec<NamedTables>) -> Switches
         requires { AreSwitches switches.items }
@@ -105,6 +106,15 @@ impl Switches {
             .tables()
             .own_named(name)?;
         Some((SwitchId(place as u8), system))
+    }
+
+    /// The first switch that has a row of this link, if there is one. It looks it up at each of them.
+    pub fn first_of(&self, vl: VlId) -> Option<SwitchId>
+        ensures place { option_map (λ k. k.0) result ≡ first_of self.now vl.0 }
+        ensures known { IfSome result (λ k. k.0 < length self.now) }
+    {
+        let place = first_of(self.switches.as_slice(), vl)?;
+        Some(SwitchId(place as u8))
     }
 
     /// The other end of the cable at a port of a switch, if there is one. It tries each of what

@@ -37,5 +37,5 @@ returns c =
     let past : nat_lt l.from c.tables-tables.result.now.own ≡ false = sym c.is_own.ensures ∙ c.if-is_own.false in
     subst (λ (r : Rows). c.add_hop.new.found.items ≡ old ++ false_lines (lines_of_row ss k r l)) same
     (more ∙ ap (λ fs. old ++ fs) (sym (row-fed ss k c.tables-tables.result.now l past before (sym c.in-Some.ensures.row)
-    c.in-Some-latency_of.sum (sym c.in-Some-latency_of.ensures)))))
+    c.in-Some-latency_of.sum (sym c.in-Some-latency_of.ensures.sum)))))
     c.add_hop.ensures

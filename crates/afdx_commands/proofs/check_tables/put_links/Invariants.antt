@@ -3,7 +3,7 @@ use Rattle.std.specs.List.{flat_map}
 use Rattle.afdx_text.specs.Texts.{text_bytes}
 use Rattle.afdx_config.specs.Admission.{links_to}
 use Rattle.afdx_commands.specs.CheckText.{link_line}
-use Rattle.afdx_commands.proofs.check_command.put_links.Given as goal
+use Rattle.afdx_commands.proofs.check_tables.put_links.Given as goal
 
 abbrev pub invariant-loop-i : goal.invariant-loop-i
 invariant-loop-i l = text_bytes l.text

@@ -2,7 +2,7 @@ use Rattle.std.proofs.Common.{◌≡◌, ◌++◌, List, ℕ, subst}
 use Rattle.std.specs.Prelude.{OnOk}
 use Rattle.afdx_text.specs.Texts.{text_bytes}
 use Rattle.afdx_commands.proofs.CheckLemmas.{used, unused}
-use Rattle.afdx_commands.proofs.check_command.put_port.Goals as goal
+use Rattle.afdx_commands.proofs.check_tables.put_port.Goals as goal
 
 pub returns-in-Some : goal.returns-in-Some
 returns-in-Some c =

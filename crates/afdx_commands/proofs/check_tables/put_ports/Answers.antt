@@ -1,6 +1,6 @@
 use Rattle.afdx_text.specs.Texts.{text_bytes}
 use Rattle.afdx_commands.proofs.CheckLemmas.{port_lines-none, port_lines-next}
-use Rattle.afdx_commands.proofs.check_command.put_ports.Goals as goal
+use Rattle.afdx_commands.proofs.check_tables.put_ports.Goals as goal
 
 pub loop-count-init : goal.loop-count-init
 loop-count-init c = port_lines-none c.args.margins c.args.tables.now (text_bytes c.args.text.now)

@@ -2,8 +2,8 @@ use Rattle.std.proofs.Common.{sym, ap, ◌∙◌}
 use Rattle.afdx_text.specs.Texts.{text_bytes}
 use Rattle.afdx_config.specs.Rows.{link_row}
 use Rattle.afdx_commands.proofs.CheckLemmas.{link_line-next, no_line-next}
-use Rattle.afdx_commands.proofs.check_command.put_links.Goals as goal
-use Rattle.afdx_commands.proofs.check_command.put_links.Goals.{then-goes_to+in_ok-put_margin, else-goes_to}
+use Rattle.afdx_commands.proofs.check_tables.put_links.Goals as goal
+use Rattle.afdx_commands.proofs.check_tables.put_links.Goals.{then-goes_to+in_ok-put_margin, else-goes_to}
 
 pub loop-i-preserved : goal.loop-i-preserved
 loop-i-preserved c =
