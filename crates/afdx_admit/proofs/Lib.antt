@@ -16,3 +16,4 @@ pub mod ReadersLemmas
 pub mod ScaledLemmas
 pub mod SmallLemmas
 pub mod TakenLemmas
+pub mod WayLemmas

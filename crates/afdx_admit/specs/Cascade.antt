@@ -1,8 +1,8 @@
 -- The lines of admission of a cascade: those of each switch by its own tables, and then what holds
 -- from one row of a link to the next. Jitters, latencies and skews are in us.
-use Rattle.std.specs.Prelude.{◌≡◌, ℕ, zero, suc, ◌+◌, ◌≤◌, Bool, true, false, not, ◌&&◌, ◌||◌, nat_le}
-use Rattle.std.specs.Prelude.{nat_lt, nat_eq, List, [], ◌∷◌, ◌++◌, length, map, filter, Option, Some}
-use Rattle.std.specs.Prelude.{None, slice_get, option_map, option_and_then, Contains}
+use Rattle.std.specs.Prelude.{◌≡◌, ℕ, zero, suc, ◌+◌, ◌≤◌, Bool, true, false, not, ◌&&◌, ◌||◌}
+use Rattle.std.specs.Prelude.{nat_le, nat_lt, nat_eq, List, [], ◌∷◌, ◌++◌, length, map, filter}
+use Rattle.std.specs.Prelude.{Option, Some, None, slice_get, option_map, option_and_then, Contains}
 use Rattle.std.specs.Prelude.{if◌then◌else◌}
 use Rattle.std.specs.List.{list_any}
 use Rattle.std.specs.Option.{option_map_or}
@@ -147,8 +147,8 @@ lines_of_row switches k t l =
 
 unfoldable pub hop_lines : List NamedRows → (k i : ℕ) → List (Line CascadeFault)
 hop_lines switches k i =
-    option_map_or (λ s. option_map_or (lines_of_row switches k s.rows) (slice_get s.rows.links i) [])
-    (slice_get switches k) []
+    option_map_or (λ s. option_map_or (lines_of_row switches k s.rows)
+    (slice_get s.rows.links i) []) (slice_get switches k) []
 
 -- the neighbour at a place has a row of the link that comes from the switch called `name`
 abbrev pub comes_from : Rows → (name : List ℕ) → (vl : ℕ) → Bool
@@ -175,8 +175,8 @@ lines_of_readers switches k s l =
 
 unfoldable pub reader_lines : List NamedRows → (k i : ℕ) → List (Line CascadeFault)
 reader_lines switches k i =
-    option_map_or (λ s. option_map_or (lines_of_readers switches k s) (slice_get s.rows.links i) [])
-    (slice_get switches k) []
+    option_map_or (λ s. option_map_or (lines_of_readers switches k s)
+    (slice_get s.rows.links i) []) (slice_get switches k) []
 
 -- of one switch, each of its links
 unfoldable pub hops_lines : List NamedRows → ℕ → List (Line CascadeFault)
@@ -209,8 +209,8 @@ pub record IsHop (switches : List NamedRows) (t : Rows) (r : RowAt) : Type 0 whe
   pub jitter : late_behind before.row ≤ r.row.jitter_us
   pub skew : goes_to_system t r.row ≡ true → sum ≤ r.row.skew_us
 
--- each switch is admitted by its own tables, each row that comes from a neighbour is a hop, and each
--- neighbour to which a row goes reads it
+-- each switch is admitted by its own tables, each row that comes from a neighbour is a hop, and
+-- each neighbour to which a row goes reads it
 pub record IsCascadeAdmitted (switches : List NamedRows) : Type 0 where
   pub each : (k : ℕ) (s : NamedRows) → slice_get switches k ≡ Some s → IsAdmitted s.rows
   pub hops : (k : ℕ) (s : NamedRows) → slice_get switches k ≡ Some s →

@@ -2,17 +2,22 @@
 
 ghost use Rattle.afdx_admit.specs.FaultText.{TheLineWords, TheHopWords};
 ghost use Rattle.afdx_admit.specs.Laws.{FirstIsOfAll, LinesAreAdmission, LowBoundIsANumber};
-ghost use Rattle.afdx_admit.specs.CascadeLaws.{CascadeLinesAreAdmission};
+ghost use Rattle.afdx_admit.specs.CascadeLaws.{CascadeLinesAreAdmission, WaysAreWhole};
 
 /// In lawful tables no line is false exactly where they are admitted.
 pub fn lines_are_admission()
     ensures { LinesAreAdmission }
 {}
 
-/// Of switches that stand in the tables of a file no line of the cascade is false exactly where they
-/// are admitted.
+/// Of the switches of a file no line of the cascade is false exactly where they are admitted.
 pub fn cascade_lines_are_admission()
     ensures { CascadeLinesAreAdmission }
+{}
+
+/// The way of a link to a row of a switch has no more rows than there are switches: where any number
+/// of them is enough, so many are.
+pub fn ways_are_whole()
+    ensures { WaysAreWhole }
 {}
 
 /// Where a low link goes through a port that isn't overloaded, the low bound is a number.
