@@ -2,7 +2,7 @@
 
 use crate::texts::short_text;
 use afdx_replay::{Watched, check};
-use afdx_samples::{ShortText, all_right, base, changed, equal, largest};
+use afdx_samples::{ShortText, all_right, base, changed, equal, largest, two_switches};
 use std::alloc::Global;
 use std::test::Fail;
 
@@ -23,6 +23,28 @@ fn base_tables(rt: HostRuntime) -> Result<(), Fail> {
     let (status, output, errors) = checked(rt.alloc(), base().as_bytes())?;
     let is_told = output.as_str().strip_prefix(BASE_PORTS) == Some("ok\n");
     equal((status, is_told, errors.as_str()), (0, true, ""))
+}
+
+/// What is said of two switches.
+fn two_switches_text() -> &'static str {
+    "S fwd\nP 1 6720 10222 128\nP 24 10080 10149 126\n\
+        S aft\nP 2 0 0 0\nP 3 16915 20412 254\nP 20 6720 10080 126\n\
+        E 1 s3 35000\nE 2 s1 42000\nE 2 s3 21000\nok\n"
+}
+
+#[test]
+fn several_switches(rt: HostRuntime) -> Result<(), Fail> {
+    let (status, output, errors) = checked(rt.alloc(), two_switches().as_bytes())?;
+    let is_told = output.as_str() == two_switches_text();
+    equal((status, is_told, errors.as_str()), (0, true, ""))
+}
+
+#[test]
+fn fault_of_a_switch(rt: HostRuntime) -> Result<(), Fail> {
+    let config = changed(two_switches(), "id = 2", "id = 1")?;
+    let (status, output, errors) = checked(rt.alloc(), config.as_str().as_bytes())?;
+    let fault = "config Twice switch 2 system 1 key 3\n";
+    equal((status, output.as_str(), errors.as_str()), (1, "", fault))
 }
 
 /// A piece of the base text, what takes its place, the status, the last line, and the fault.
