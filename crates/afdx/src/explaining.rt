@@ -3,7 +3,7 @@
 use crate::devices::INPUT_NAME;
 use crate::locating::place_in;
 use crate::telling::tell_text;
-use afdx_admit::ADMISSION;
+use afdx_admit::{ADMISSION, CASCADE_ADMISSION};
 use afdx_config::{
     CASCADE_KEYS, CONFIG_FAULTS, Key, LINK_KEYS, NEIGHBOUR_KEYS, PORT_KEYS, SWITCH_KEYS,
     SYSTEM_KEYS, TOP_KEYS, UNKNOWN_KEYS, WIDER_KEYS,
@@ -123,7 +123,8 @@ fn print_skipped(rt: &HostRuntime) -> io::Result<()> {
 
 /// Prints the lines of admission.
 fn print_admission(rt: &HostRuntime) -> io::Result<()> {
-    print_formed(rt, "admission", &ADMISSION)
+    print_formed(rt, "admission", &ADMISSION)?;
+    print_formed(rt, "admission", &CASCADE_ADMISSION)
 }
 
 /// Prints the faults of a configuration.

@@ -10,6 +10,7 @@ use Rattle.afdx_config.specs.declared.key_tables.TheConstants.{PORT_KEYS, CASCAD
 use Rattle.afdx_config.specs.declared.key_tables.TheConstants.{SWITCH_KEYS, NEIGHBOUR_KEYS}
 use Rattle.afdx_config.specs.declared.key_texts.TheConstants.{WIDER_KEYS, UNKNOWN_KEYS}
 use Rattle.afdx_admit.specs.declared.fault.TheConstants.{ADMISSION}
+use Rattle.afdx_admit.specs.declared.cascade_fault.TheConstants.{CASCADE_ADMISSION}
 use Rattle.afdx_receive.specs.declared.reception.TheConstants.{DROP_REASONS}
 use Rattle.afdx_send.specs.declared.fault.TheConstants.{SEND_FAULTS}
 use Rattle.afdx_recorded.specs.declared.skipped.TheConstants.{SKIPPED}
@@ -26,7 +27,7 @@ or_else (Some text) other = Some text
 or_else None other = other
 
 -- ---- faults: of the words and files, of a run, of a recording, of a whole configuration, of a
--- key, and the lines of admission
+-- key, and the lines of admission, of a switch and from one switch to the next
 
 unfoldable pub fault : List ℕ → Option (List ℕ)
 fault line = text_among (map (λ entry. (entry.0.now, entry.1.now)) FAULTS) line
@@ -93,6 +94,10 @@ key line =
 unfoldable pub admission : List ℕ → Option (List ℕ)
 admission line = formed_among (map (λ row. formed_row row.0.now row.1.now row.2.now) ADMISSION) line
 
+unfoldable pub hop : List ℕ → Option (List ℕ)
+hop line =
+    formed_among (map (λ row. formed_row row.0.now row.1.now row.2.now) CASCADE_ADMISSION) line
+
 -- ---- lines of the output, and words in them: why a switch or a receiver dropped a frame, why a
 -- message was refused or a number of a recording skipped, and the other lines
 
@@ -150,7 +155,7 @@ named line =
 unfoldable pub any_fault : List ℕ → Option (List ℕ)
 any_fault line =
     or_else (fault line) (or_else (run_fault line) (or_else (recording_fault line)
-    (or_else (config_fault line) (or_else (key line) (admission line)))))
+    (or_else (config_fault line) (or_else (key line) (or_else (admission line) (hop line))))))
 
 unfoldable pub any_line : List ℕ → Option (List ℕ)
 any_line line =

@@ -9,7 +9,7 @@ use crate::faults::FAULTS;
 use crate::keys::key;
 use crate::kinds::KINDS;
 use crate::lines::LINES;
-use afdx_admit::ADMISSION;
+use afdx_admit::{ADMISSION, CASCADE_ADMISSION};
 use afdx_config::CONFIG_FAULTS;
 use afdx_frame::{IP_FAULTS, MAC_FAULTS};
 use afdx_lists::{RECORDING_FAULTS, RUN_FAULTS};
@@ -82,6 +82,14 @@ fn admission(line: &[u8]) -> Option<&'static str>
     ensures { option_copied result ≡ spec.admission line.now }
 {
     formed_among(&ADMISSION, line)
+}
+
+/// What it means that a line is false which joins a link's rows at two switches.
+#[tactic(auto, unfolding(crate::specs::Explained::hop))]
+fn hop(line: &[u8]) -> Option<&'static str>
+    ensures { option_copied result ≡ spec.hop line.now }
+{
+    formed_among(&CASCADE_ADMISSION, line)
 }
 
 /// Why a switch dropped a frame.
@@ -160,7 +168,10 @@ fn any_fault(line: &[u8]) -> Option<&'static str>
     if let Some(text) = key(line) {
         return Some(text);
     }
-    admission(line)
+    if let Some(text) = admission(line) {
+        return Some(text);
+    }
+    hop(line)
 }
 
 /// What a line of the output means, or a word of one.
