@@ -118,8 +118,8 @@ impl CascadeFault {
     ghost use Rattle.afdx_admit.specs.Known.{name_at};
     ghost use Rattle.afdx_config.specs.Switches.{NamedRows};
 
-    /// The fault with its text: `A1 aft 3`, `B3 aft 1 517` and the like. The switches are those that
-    /// were refused.
+    /// The fault with its text: `A1 aft 3`, `B3 aft 1 517` and the like. The switches are those
+    /// that were refused.
     pub fn text<'a>(self, switches: &'a Switches) -> CascadeText<'a>
         requires { IsKnownAt switches.now self }
         ensures { (s : NamedRows) → slice_get switches.now self.switch.0 ≡ Some s →

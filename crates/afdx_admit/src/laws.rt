@@ -14,8 +14,8 @@ pub fn cascade_lines_are_admission()
     ensures { CascadeLinesAreAdmission }
 {}
 
-/// The way of a link to a row of a switch has no more rows than there are switches: where any number
-/// of them is enough, so many are.
+/// The way of a link to a row of a switch has no more rows than there are switches: where any
+/// number of them is enough, so many are.
 pub fn ways_are_whole()
     ensures { WaysAreWhole }
 {}

@@ -42,8 +42,8 @@ fn checked_file(
 /// none, and its latency, in ns. A fault's one line goes to `errors`.
 ///
 /// Where the file describes several switches, a line `S switch` stands before the ports of each,
-/// and behind them all, before the answer, a line `E vl system ns` for each link and each system that it goes to: the
-/// latencies of its way there, summed, `-` where the way is broken.
+/// and behind them all, before the answer, a line `E vl system ns` for each link and each system
+/// that it goes to: the latencies of its way there, summed, `-` where the way is broken.
 ///
 /// It gives the exit status: 0 where the network is admitted, 1 where it isn't or the configuration
 /// has a fault, 4 for a device, of which a beginning of the text is written, or memory, of which

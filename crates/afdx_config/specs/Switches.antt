@@ -97,7 +97,8 @@ listed_at switches name j =
 -- the port to which a neighbour's cable leads, at the switch called `name`
 abbrev pub end_at : List NamedRows → (name : List ℕ) → SystemRow → Option FarEnd
 end_at switches name e =
-    option_and_then (λ j. option_map (λ back. record { switch = record { 0 = j }; port = back.port })
+    option_and_then (λ j.
+    option_map (λ back. record { switch = record { 0 = j }; port = back.port })
     (listed_at switches name j)) (switch_named switches e.name)
 
 -- the neighbour at a port of a switch
@@ -190,7 +191,8 @@ name_lines switches k =
 -- a system's name is no switch's, and no system's before; nor is its number
 abbrev pub lines_of_system : List NamedRows → (k i : ℕ) → SystemRow → List (Line FileFault)
 lines_of_system switches k i s =
-    over_all_line (not (is_some (switch_named switches s.name)) && is_this (home_of switches s.name) k)
+    over_all_line
+    (not (is_some (switch_named switches s.name)) && is_this (home_of switches s.name) k)
     k (Twice (place part.System (i + 1) 1))
     ∷ over_all_line (is_this (home_of_id switches s.id) k) k (Twice (place part.System (i + 1) 3))
     ∷ []

@@ -108,7 +108,8 @@ impl Switches {
         Some((SwitchId(place as u8), system))
     }
 
-    /// The first switch that has a row of this link, if there is one. It looks it up at each of them.
+    /// The first switch that has a row of this link, if there is one. It looks it up at each of
+    /// them.
     pub fn first_of(&self, vl: VlId) -> Option<SwitchId>
         ensures place { option_map (λ k. k.0) result ≡ first_of self.now vl.0 }
         ensures known { IfSome result (λ k. k.0 < length self.now) }

@@ -4,7 +4,7 @@ use Rattle.std.proofs.Common.{false, not, List, [], ◌∷◌, ◌++◌, map, fi
 use Rattle.std.proofs.Common.{None, slice_get, refl, sym, ap, ◌∙◌, append_assoc, arith}
 use Rattle.std.proofs.lemmas.List.{append-nil, map-append}
 use Rattle.std.proofs.lemmas.List.Elements.{filter-append}
-use Rattle.afdx_frame.specs.Lines.{Line, line, false_lines, first_false, each_from}
+use Rattle.afdx_frame.specs.Lines.{Line, false_lines, first_false, each_from}
 
 pub false_lines-nil : {F : Type 0} → false_lines {F = F} [] ≡ []
 unfolding false_lines

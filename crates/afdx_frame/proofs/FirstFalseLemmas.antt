@@ -128,7 +128,8 @@ each_holds f from (suc count) h k low high =
       | inr other ↦ each_holds f (from + 1) count both.1 k (omega (arith, low, other)) (omega (arith, high))
     ]
 
-pub holds_each : {F : Type 0} (f : ℕ → List (Line F)) (from count : ℕ) → ((k : ℕ) → from ≤ k → k < from + count → first_false (f k) ≡ None) →
+pub holds_each : {F : Type 0} (f : ℕ → List (Line F)) (from count : ℕ)
+    → ((k : ℕ) → from ≤ k → k < from + count → first_false (f k) ≡ None) →
     first_false (each_from f from count) ≡ None
 unfolding each_from
 holds_each f from zero h = first_false-nil

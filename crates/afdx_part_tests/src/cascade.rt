@@ -1,5 +1,5 @@
-//! Two switches with known answers: what a file describes, its look-ups and its admission. Each row of
-//! faults is tried at the program (tests/run/cascades.py).
+//! Two switches with known answers: what a file describes, its look-ups and its admission. Each row
+//! of faults is tried at the program (tests/run/cascades.py).
 //!
 //! Each reading that lacks memory is made again, so the tests pass where any one growth is refused.
 

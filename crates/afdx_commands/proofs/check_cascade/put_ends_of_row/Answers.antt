@@ -5,9 +5,11 @@ use Rattle.afdx_commands.proofs.BelowLemmas.{below-none, below-next}
 use Rattle.afdx_commands.proofs.check_cascade.put_ends_of_row.Goals as goal
 
 pub loop-place-init : goal.loop-place-init
-loop-place-init c = below-none (end_line c.args.tables.now (link_row c.args.link.now) c.args.ns) (text_bytes c.args.text.now)
+loop-place-init c =
+    below-none (end_line c.args.tables.now (link_row c.args.link.now) c.args.ns) (text_bytes c.args.text.now)
 
 pub loop-place-preserved : goal.loop-place-preserved
 loop-place-preserved c =
-    below-next (end_line c.args.tables.now (link_row c.args.link.now) c.args.ns) c.loop-place.place (text_bytes c.args.text.now) (text_bytes c.loop-place.text) _
+    below-next (end_line c.args.tables.now (link_row c.args.link.now) c.args.ns) c.loop-place.place
+    (text_bytes c.args.text.now) (text_bytes c.loop-place.text) _
     c.loop-place.invariant c.in_ok-put_end.ensures

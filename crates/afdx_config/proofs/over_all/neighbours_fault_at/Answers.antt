@@ -18,7 +18,9 @@ loop-i-init c =
     let same : t ≡ s.rows = c.tables-tables.ensures.tables in
     subst (λ from. IsSoFar (neighbour_lines ss k) from (length t.systems)
     (first_false (each_from (neighbour_lines ss k) t.own (length t.systems - t.own)))) (sym c.own_count-own.ensures.count)
-    (so_far-start (neighbour_lines ss k) t.own (length t.systems - t.own) (length t.systems) (below t.own (length t.systems) (subst (λ (r : Rows). r.own ≤ length r.systems) (sym same) c.tables-tables.ensures.lawful.own)))
+    (so_far-start (neighbour_lines ss k) t.own (length t.systems - t.own) (length t.systems)
+    (below t.own (length t.systems)
+    (subst (λ (r : Rows). r.own ≤ length r.systems) (sym same) c.tables-tables.ensures.lawful.own)))
 
 pub returns-in-Some : goal.returns-in-Some
 returns-in-Some c =
