@@ -1,6 +1,7 @@
 """What `afdx solve` makes of a configuration, and what `afdx check` says of one."""
 from __future__ import annotations
 
+import os
 import re
 import subprocess
 import tomllib
@@ -11,6 +12,9 @@ from afdx_tools.program import program, version
 
 AS_WRITTEN = "jitter,buffer,latency,skew"  # the keys that `solve` finds; kept, all stay
 NEED = re.compile(r"vl (\d+) at (\d+): (\d+) ns needed, (\d+) us asked")
+SEVERAL = "so far only `afdx check` reads a configuration of several switches a side"
+# what `check` says of such a file: the name of the first switch, or a fault in one, or of the key
+NAMED = re.compile(r"S |config \w+ (switch |top 0 key 6$)")
 
 
 class Need(NamedTuple):
@@ -77,12 +81,29 @@ def run(words: list[str], config: bytes) -> Said:
     return Said(done.returncode, out, errors)
 
 
+def is_of_several(config: bytes) -> bool:
+    """Does a configuration describe several switches a side, as the program reads it?"""
+    said = run(["check"], config)
+    return bool(NAMED.match(said.out or said.errors[0]))
+
+
+def want_one_switch(path: str) -> None:
+    """Failed where a file describes several switches a side. What is no file can be read only once,
+    and the program says of it what it can."""
+    if os.path.isfile(path):
+        with open(path, "rb") as file:
+            if is_of_several(file.read()):
+                raise Failed(SEVERAL, 1)
+
+
 def solve(config: bytes, options: Sequence[str] = ("--raise-only",)) -> Solved:
     """Gives a configuration the least values with which it is admitted; with these options none of
     them is less than it has."""
     said = run(["solve", *options], config)
     if said.status == 1:
-        return Solved("", [], shown([*said.out.splitlines(), *said.errors][0]))
+        line = shown([*said.out.splitlines(), *said.errors][0])
+        is_unread = line.startswith("config ") and is_of_several(config)
+        return Solved("", [], SEVERAL if is_unread else line)
     found = map(NEED.fullmatch, said.errors)
     return Solved(said.out, [Need(*map(int, match.groups())) for match in found if match], "")
 

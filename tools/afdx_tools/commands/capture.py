@@ -34,6 +34,7 @@ from afdx_tools.recordings.options import (
     recording_options,
 )
 from afdx_tools.recordings.tapped import found_by
+from afdx_tools.solving import want_one_switch
 from afdx_tools.version import add_version
 
 TOOL = "afdx-capture"
@@ -140,6 +141,7 @@ def pass_on(run: subprocess.Popen[bytes]) -> None:
 def to_list(args: argparse.Namespace) -> None:
     """Recordings to a frame list, by `afdx list`. Its counts come once the list is written."""
     version()
+    want_one_switch(args.config)
     pipe = subprocess.PIPE
     with subprocess.Popen(program_words(args), stdout=pipe, stderr=pipe) as run:
         lines = listed_lines(run)
@@ -231,6 +233,7 @@ def to_annotated(args: argparse.Namespace) -> None:
     count = 0
     with contextlib.ExitStack() as files:
         config = files.enter_context(at_hand(os.path.join(".", args.config)))
+        want_one_switch(config)
         paths = [files.enter_context(at_hand(name)) for name in names]
         options = options_of(args, config, paths)
         file = files.enter_context(finished(args.recording))

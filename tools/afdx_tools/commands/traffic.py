@@ -30,6 +30,7 @@ from afdx_tools.inputs import as_file
 from afdx_tools.lists import MOST_LINES
 from afdx_tools.outputs import whole as whole_file
 from afdx_tools.program import program, version
+from afdx_tools.solving import want_one_switch
 from afdx_tools.version import add_version
 
 TOOL = "afdx-traffic"
@@ -124,6 +125,7 @@ def run() -> int:
     want_room(counts, args.config is not None, end_ns)
     if args.config is not None:
         version()
+        want_one_switch(args.config)
     write(args, streams, end_ns)
     say(f"{sum(counts.values())} messages of {len(counts)} systems written")
     return 0
