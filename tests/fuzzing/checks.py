@@ -18,9 +18,10 @@ CONFIG_FAULT = re.compile(
     rf"config ({'|'.join(lists.CONFIG_FAULTS[:2])}|({'|'.join(lists.CONFIG_FAULTS[2:])})"
     rf" (top 0|({'|'.join(PARTS)}) [1-9][0-9]*) key [0-9]+)\n"
 )
-# of each condition its word, and its fields: the name of a system, or numbers
+# of each condition its word, and its fields: names, or numbers
+NAMES = ("system", "switch", "neighbour")
 FORMS = [
-    word + "".join(r" \w+" if field == "system" else " [0-9]+" for field in fields)
+    word + "".join(r" \w+" if field in NAMES else " [0-9]+" for field in fields)
     for word, *fields in map(str.split, lists.ADMISSION_LINES)
 ]
 ADMISSION = f"({'|'.join(FORMS)})"

@@ -32,6 +32,7 @@ text_case 'a key of a switch' 0 out 'Key 6 of a switch is name: ' \
 text_case 'a key in a switch' 0 out 'where from is a neighbour, up to' \
     explain 'config OutOfRange switch 2 link 1 key 7'
 text_case 'a link over several switches' 0 out 'E vl system ns: ' explain E 1 s3 35000
+text_case 'a condition of several switches' 0 out 'B3 switch vl needed: ' explain no B3 aft 1 517
 text_case 'a reason' 0 out 'over-rate: ' explain over-rate
 case_of 'no line of the program' 2 '' $'words UnknownText\n' explain nonsense
 case_of 'a key that is not there' 2 '' $'words UnknownText\n' explain config Missing link 1 key 13
@@ -103,6 +104,13 @@ tell 'check explains a line of admission' "$(
     has_status 1
     if ! grep -qF 'A3 port vl bound' "$work/err"; then echo 'no explanation'; fi
     if [[ $(tail -n 1 "$work/out") != 'no A3 7 104 267995' ]]; then echo 'another last line'; fi
+)"
+sed 's/^jitter_us = 517/jitter_us = 500/' examples/two_switches.toml >"$work/explained.toml"
+launch check --explain "$work/explained.toml"
+tell 'check explains a line of admission of several switches' "$(
+    has_status 1
+    if ! grep -qF 'B3 switch vl needed' "$work/err"; then echo 'no explanation'; fi
+    if [[ $(tail -n 1 "$work/out") != 'no B3 aft 1 517' ]]; then echo 'another last line'; fi
 )"
 case_of 'nothing to explain' 0 "$three" '' police --explain 1 64 500 examples/one_link.list
 case_of 'nothing to explain of a configuration' 0 "$base"$'ok\n' '' \

@@ -25,7 +25,8 @@ from first_fault import ALL_KEYS, KEYS, RANGES  # noqa: E402
 from printing.listing import Row, rows_of  # noqa: E402
 
 Wanted = list[tuple[str, list[str]]]
-FIELDS = {"port": "3", "vl": "101", "needed": "252", "bound": "16800", "system": "s3", "ns": "6"}
+FIELDS = {"port": "3", "vl": "101", "needed": "252", "bound": "16800", "system": "s3", "ns": "6",
+          "switch": "aft", "neighbour": "fwd"}
 KEY_FAULTS = ["Missing", "WrongKind", "OutOfRange", "Twice", "NoSuchSystem"]
 # keys by their part and number that can't have this fault, or that alone can; those of a switch of
 # several stand behind those of a file of one
