@@ -33,6 +33,7 @@ fn spot(place: Place) -> (u8, usize, u8) {
         Part::System => 1,
         Part::Link => 2,
         Part::Port => 3,
+        Part::Neighbour => 4,
     };
     (number, index, key)
 }

@@ -6,6 +6,8 @@
 #[cfg(test)]
 mod admit;
 #[cfg(test)]
+mod cascade;
+#[cfg(test)]
 mod comport;
 #[cfg(test)]
 mod config;
