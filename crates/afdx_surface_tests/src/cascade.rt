@@ -67,7 +67,7 @@ fn found(
     (named, system, first)
 }
 
-/// Whether the second switch has its name, its cable and the sum of the latencies of its first link.
+/// Whether the second switch has its name, its cable and the sum of its first link's latencies.
 fn is_second(switches: &Switches) -> bool {
     if switches.count() < 2 {
         return false;
