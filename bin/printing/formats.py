@@ -180,7 +180,8 @@ def config_faults(rows: list[Row]) -> str:
 def keys(rows: list[Row]) -> str:
     """The keys of a configuration; those of a switch of several where they have other values."""
     pattern = r"[Kk]ey (\d+) of (?:the|a) ((?:switch's )?\w+)(?: is|:) (\w+): (.*?)\.(?:\s|$)"
-    cells, values = [], {}
+    cells: list[list[str]] = []
+    values: dict[tuple[str, str], str] = {}
     for row in of_kind(rows, "key"):
         found = re.search(pattern, row.text)
         if found:

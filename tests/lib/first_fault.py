@@ -131,14 +131,14 @@ class Fault(NamedTuple):
 
     name: str
     part: str
-    index: int
+    place: int
     key: int
 
     def text(self, switch: str = "") -> str:
         """As it is written; `switch` says in which one it is, where there are several."""
         if self.name == "BadProfile" and not switch:
             return self.name
-        return f"{self.name} {switch}{self.part} {self.index} key {self.key}"
+        return f"{self.name} {switch}{self.part} {self.place} key {self.key}"
 
 
 def has_profile(tables: dict) -> bool:
