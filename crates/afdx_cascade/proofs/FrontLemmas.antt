@@ -24,7 +24,7 @@ use Rattle.afdx_network.proofs.OrderLemmas.{below_first, below_next}
 use Rattle.afdx_cascade.specs.Cables.{brought}
 use Rattle.afdx_cascade.specs.SwitchEvents.{Plan, SwitchEvent, at_switch, came_to, end_at}
 use Rattle.afdx_cascade.specs.Runs.{IsDue, event_at, turn_phase}
-use Rattle.afdx_cascade.specs.Due.{OnCable}
+use Rattle.afdx_cascade.specs.Due.{OnCable, IsRing}
 use Rattle.afdx_cascade.specs.Found.{AllStand, FindsLeast}
 use Rattle.afdx_cascade.specs.Keeping.{FrontCanArrive, FrontKeeps, LineKeeps, StartKeeps}
 use Rattle.afdx_cascade.specs.declared.scan.First.{First}
@@ -153,6 +153,21 @@ line-before t end false ns h = below_first t end (2 ∷ []) (0 ∷ ns) (omega (a
 line-before t end true ns h =
     below_next t end (2 ∷ []) (3 ∷ ns) (omega (arith, h)) (below_first 2 3 [] ns (omega arith))
 
+-- where all networks are quiet at a time, and no cable has a frame, nothing is due until then
+pub due-later : (c : Plan) (so_far : List SwitchEvent) (networks : List Network) (time until : ℕ)
+    → AllStand c networks so_far → IsRing c so_far time []
+    → ((k : ℕ) (n : Network) → slice_get networks k ≡ Some n → network.IsQuiet n until)
+    → (place : List ℕ) (g : SwitchEvent) → IsDue c so_far place g
+    → is_below (until ∷ 2 ∷ []) place ≡ true
+due-later c so_far networks time until all empty quiet place g (inr frame) =
+    absurd (no-frames c so_far time empty place g frame)
+due-later c so_far networks time until all empty quiet place g (inl due) =
+    subst (λ p. is_below (until ∷ 2 ∷ []) p ≡ true) (sym due.place_is)
+    (line-before until due.turn.end due.turn.too_old
+    (side_number due.side ∷ due.k ∷ due.port ∷ [])
+    (quiet-at c networks so_far until due.k all (λ n at. quiet due.k n at) due.side due.port due.turn
+    due.low due.high due.next))
+
 pub line-keeps : LineKeeps
 line-keeps c so_far old networks time line keeps quiet free stands size clock still =
     let a = admission_after (c.tables line.switch) (came_to line.switch so_far) line.arrival in
@@ -164,7 +179,7 @@ line-keeps c so_far old networks time line keeps quiet free stands size clock st
         are = refl;
         free = free;
         is = refl;
-        first = λ place g due. first place g due;
+        first = due-later c so_far old time line.arrival.time keeps.stands.all keeps.stands.carried quiet;
       };
       keeps = record {
         plan = keeps.plan;
@@ -196,15 +211,6 @@ line-keeps c so_far old networks time line keeps quiet free stands size clock st
     all-after j side port s low high next =
         quiet-at c old so_far line.arrival.time j keeps.stands.all
         (λ n at. quiet j n at) side port s low high next
-
-    first : (place : List ℕ) (g : SwitchEvent) → IsDue c so_far place g
-        → is_below (line.arrival.time ∷ 2 ∷ []) place ≡ true
-    first place g (inr frame) = absurd (no-frames c so_far time keeps.stands.carried place g frame)
-    first place g (inl due) =
-        subst (λ p. is_below (line.arrival.time ∷ 2 ∷ []) p ≡ true) (sym due.place_is)
-        (line-before line.arrival.time due.turn.end due.turn.too_old
-        (side_number due.side ∷ due.k ∷ due.port ∷ [])
-        (all-after due.k due.side due.port due.turn due.low due.high due.next))
 
 -- ---- nothing has happened
 

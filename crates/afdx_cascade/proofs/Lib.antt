@@ -23,6 +23,9 @@ pub mod FrontLemmas
 pub mod TurningLemmas
 pub mod NextLemmas
 pub mod EndLemmas
+pub mod PlanLemmas
+pub mod BuildLemmas
+pub mod CascadeLemmas
 pub mod OneFrameLemmas
 pub mod TwoHopsLemmas
 pub mod TwoHopsRunLemmas

@@ -11,4 +11,6 @@ pub mod Found
 pub mod Standing
 pub mod Turning
 pub mod Keeping
+pub mod Plans
+pub mod Cascade
 pub mod TwoHops

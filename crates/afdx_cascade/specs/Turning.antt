@@ -18,7 +18,7 @@ use Rattle.afdx_cascade.specs.Standing.{Stands, IsLast}
 use Rattle.afdx_cascade.specs.Cables.{brought}
 use Rattle.afdx_network.specs.declared.network.Departed.{Departed}
 use Rattle.afdx_cascade.specs.declared.told.Brought.{Brought}
-use Rattle.afdx_cascade.specs.declared.cable.FarEnd.{FarEnd}
+use Rattle.afdx_config.specs.declared.switches.FarEnd.{FarEnd}
 use Rattle.afdx_cascade.specs.declared.cable.InTransit.{InTransit}
 use Rattle.afdx_cascade.specs.declared.told.Sent.{Sent}
 use Rattle.afdx_cascade.specs.declared.told.Turned.{Turned}
@@ -32,7 +32,7 @@ entry_in (Some entry) = entry
 
 abbrev pub end_of : Option FarEnd → Option End
 end_of None = None
-end_of (Some e) = Some (end_at e.switch e.port)
+end_of (Some e) = Some (end_at e.switch.0 e.port)
 
 abbrev pub end_in : List (Option FarEnd) → ℕ → ℕ → Option End
 end_in ends k port = end_of (entry_in (slice_get ends (k * 25 + port)))

@@ -14,7 +14,10 @@ ghost use Rattle.afdx_switch.specs.Departures.{as_given};
 ghost use Rattle.afdx_cascade.specs.Cables.{brought};
 ghost use Rattle.afdx_cascade.specs.SwitchEvents.{Plan, IsPlan, SwitchEvent, came_to, end_at};
 ghost use Rattle.afdx_cascade.specs.Runs.{arriving};
+ghost use Rattle.afdx_cascade.specs.Found.{AllStand};
 ghost use Rattle.afdx_cascade.specs.Standing.{Stands};
+ghost use Rattle.afdx_switch.specs.Early.{IsEarlyBy};
+ghost use Rattle.afdx_switch.specs.Verdicts.{shape_fault};
 ghost use Rattle.afdx_cascade.specs.Turning.{GivesAt};
 
 use afdx_frame::{Checked, Side};
@@ -56,6 +59,26 @@ pub fn arrive_at(
     ensures refused { OnErr result (networks.new ≡ networks.old) }
 {
     networks[switch].arrive(side, time, port, tag, frame)
+}
+
+/// By how many nanoseconds a frame comes too early that arrives at a switch at `time`, if none
+/// comes before it.
+pub(crate) fn early_at(
+    networks: &[Network],
+    switch: usize,
+    side: Side,
+    time: u64,
+    port: u8,
+    frame: Checked<'_>,
+) -> u64
+    requires within { switch < length networks.now }
+    requires clock { (n : At) → slice_get networks.now switch ≡ Some n → network.IsUntil n time }
+    ensures { (c : Plan) (so_far : List SwitchEvent) (tag : ℕ) → AllStand c networks.now so_far →
+        let x = arrival_with tag time side port (bytes_of frame.entry) in
+        shape_fault (c.tables switch) x ≡ None →
+        IsEarlyBy (c.tables switch) (came_to switch so_far) x result }
+{
+    networks[switch].early(side, time, port, frame)
 }
 
 /// The next turn of a switch that is given by `until`.

@@ -4,18 +4,12 @@ ghost use Rattle.std.specs.Prelude.{◌≡◌, ◌+◌, ◌*◌, ◌<◌, slice_
 ghost use Rattle.afdx_cascade.specs.Scan.{switches_most};
 ghost use Rattle.afdx_cascade.specs.Turning.{entry_in};
 
+use afdx_config::FarEnd;
 use afdx_network::Departed;
 
 /// How many entries a switch has in a table of the ends of cables: for the numbers 0 to 24, of
 /// which 1 to 24 are its ports.
-const ENTRIES: usize = 25;
-
-/// The other end of a cable: a port of the switch of this number.
-#[derive(Clone, Copy, Debug)]
-pub struct FarEnd {
-    pub switch: usize,
-    pub port: u8,
-}
+pub(crate) const ENTRIES: usize = 25;
 
 /// A frame on a cable, which ends at a port of the switch of this number.
 #[derive(Drop)]

@@ -14,6 +14,7 @@ ghost use Rattle.afdx_cascade.specs.Found.{ScanFindsLeast, NothingIsDue};
 ghost use Rattle.afdx_cascade.specs.Standing.{NothingHappened, LineArrives, FrameArrives};
 ghost use Rattle.afdx_cascade.specs.Standing.{TurnEnds, FrameIsCarried};
 ghost use Rattle.afdx_cascade.specs.TwoHops.{FramePassesBoth};
+ghost use Rattle.afdx_cascade.specs.Plans.{SwitchesAreAPlan};
 ghost use Rattle.afdx_cascade.specs.Keeping.{StartKeeps, TurnKeeps};
 ghost use Rattle.afdx_cascade.specs.Keeping.{FrontCanArrive, FrontKeeps, LineKeeps};
 ghost use Rattle.afdx_cascade.specs.Standing.{SlotJoinsBehind, TurnStaysBehind, ArrivalStaysBehind};
@@ -108,6 +109,12 @@ pub fn ring_stays_in_order()
     ensures joins { SlotJoinsBehind }
     ensures turn { TurnStaysBehind }
     ensures arrival { ArrivalStaysBehind }
+{}
+
+/// The switches of a configuration are a plan: the other end of each cable is at a port of a
+/// switch, and leads back.
+pub fn switches_are_a_plan()
+    ensures { SwitchesAreAPlan }
 {}
 
 /// New networks and an empty ring keep to no events.

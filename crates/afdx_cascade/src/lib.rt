@@ -1,9 +1,11 @@
-//! Several switches on each side, joined by cables: laws over definitions, and the steps by which
-//! one event after the other happens.
+//! Several switches on each side, joined by cables: laws over definitions, and all events of a
+//! cascade, one after the other.
 #![tactic(auto)]
 
 mod arriving;
+mod build;
 mod cable;
+mod cascade;
 pub mod laws;
 mod scan;
 mod taking;
@@ -11,7 +13,8 @@ mod told;
 mod turning;
 
 pub use arriving::arrive_at;
-pub use cable::{FarEnd, InTransit};
+pub use cable::InTransit;
+pub use cascade::Cascade;
 pub use scan::{First, first_from};
 pub use taking::{bring_next, turn_next};
-pub use told::{Brought, Sent, Turned};
+pub use told::{Brought, Happened, Sent, Turned};

@@ -11,10 +11,11 @@ ghost use Rattle.afdx_cascade.specs.Keeping.{Keeps, TurnsNext, BringsNext, IsFro
 ghost use Rattle.afdx_cascade.specs.Scan.{IsFirstFrom, switches_most};
 ghost use Rattle.afdx_cascade.specs.Turning.{AreEnds, AreInTransit};
 
-use crate::cable::{FarEnd, InTransit};
+use crate::cable::InTransit;
 use crate::scan::First;
 use crate::told::{Brought, Turned};
 use crate::turning::{front_at, turn_at};
+use afdx_config::FarEnd;
 use afdx_network::Network;
 use std::alloc::AllocError;
 use std::collections::VecDeque;

@@ -33,3 +33,10 @@ pub struct Brought {
     pub tag: u64,
     pub verdict: Verdict,
 }
+
+/// What happened: a turn of the switch of this number is over, or a cable brought a frame.
+#[derive(Drop)]
+pub enum Happened {
+    Over(usize, Turned),
+    Came(Brought),
+}

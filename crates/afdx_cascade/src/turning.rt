@@ -13,8 +13,9 @@ ghost use Rattle.afdx_cascade.specs.Standing.{Stands};
 ghost use Rattle.afdx_cascade.specs.Turning.{AreEnds, AreInTransit, TurnsAt, ArrivesAt, CanArrive};
 
 use crate::arriving::{bring_at, take_at};
-use crate::cable::{FarEnd, InTransit, far_end};
+use crate::cable::{InTransit, far_end};
 use crate::told::{Brought, Sent, Turned};
+use afdx_config::FarEnd;
 use afdx_network::Network;
 use std::alloc::AllocError;
 use std::collections::VecDeque;
@@ -66,7 +67,7 @@ pub(crate) fn turn_at(
                 tag: departure.tag(),
             };
             transit.push_back_reserved(InTransit {
-                switch: to.switch,
+                switch: to.switch.0 as usize,
                 port: to.port,
                 departed,
             });

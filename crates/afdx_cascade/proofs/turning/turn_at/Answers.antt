@@ -70,7 +70,7 @@ returns-in-Some c = record {
         tag = c.tag.result;
       })
       (record {
-        switch = c.in-Some.to.switch;
+        switch = c.in-Some.to.switch.0;
         port = c.in-Some.to.port;
         departed =
             c.in_ok-departed.departed;

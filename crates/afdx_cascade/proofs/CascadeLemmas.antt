@@ -1,0 +1,317 @@
+-- What comes next of a cascade is told, and it stands for it too.
+use Rattle.std.proofs.Common.{◌≡◌, ℕ, ◌+◌, ◌<◌, ◌≤◌, Bool, true, false, List, [], ◌∷◌, length, refl}
+use Rattle.std.proofs.Common.{sym, ap, ◌∙◌, subst, arith}
+use Rattle.std.specs.Prelude.{if◌then◌else◌, Option, Some, None, IfSome, IfNone, IfOk, OnOk, Result, Ok, Err, slice_get}
+use Rattle.std.specs.List.{AllByRecursion}
+use Rattle.afdx_config.specs.Switches.{NamedRows, AreSwitches}
+use Rattle.afdx_port.specs.Times.{drain_end}
+use Rattle.afdx_port.specs.declared.left.Left.{Left as LeftOver}
+use Rattle.afdx_switch.specs.Departures.{as_given}
+use Rattle.afdx_switch.specs.HeldFrames.{HeldFrame}
+use Rattle.afdx_switch.specs.declared.verdict.Verdict.{Verdict}
+use Rattle.afdx_network.specs.Events.{Left, admission_after}
+use Rattle.afdx_network.specs.Network as network
+use Rattle.afdx_network.specs.Order.{side_number}
+use Rattle.afdx_network.specs.declared.network.Network.{Network}
+use Rattle.afdx_network.proofs.OrderLemmas.{below_first, below_next}
+use Rattle.afdx_cascade.specs.Cables.{brought}
+use Rattle.afdx_cascade.specs.Cascade.{StandsFor, IsUntil, IsQuiet, IsUnchanged, AreFrom}
+use Rattle.afdx_cascade.specs.Cascade.{GivesNext, GivesNone, ArrivesNext}
+use Rattle.afdx_cascade.specs.Due.{OnCable, IsRing}
+use Rattle.afdx_cascade.specs.Found.{AllStand}
+use Rattle.afdx_cascade.specs.Keeping.{Keeps, BringsNext, TurnsNext, IsNothingDue}
+use Rattle.afdx_cascade.specs.Plans.{plan_of, tables_of}
+use Rattle.afdx_cascade.specs.Runs.{Line, IsBeforeLine, arriving, event_at, turn_phase}
+use Rattle.afdx_cascade.specs.Scan.{IsFirstFrom}
+use Rattle.afdx_cascade.specs.Standing.{Stands}
+use Rattle.afdx_cascade.specs.SwitchEvents.{Plan, SwitchEvent, came_to}
+use Rattle.afdx_cascade.specs.Turning.{AreEnds, AreInTransit}
+use Rattle.afdx_cascade.specs.declared.cable.InTransit.{InTransit}
+use Rattle.afdx_cascade.specs.declared.cascade.Cascade.{Cascade}
+use Rattle.afdx_cascade.specs.declared.scan.First.{First}
+use Rattle.afdx_cascade.specs.declared.told.Brought.{Brought}
+use Rattle.afdx_cascade.specs.declared.told.Happened.TheVariants.{Over, Came}
+use Rattle.afdx_cascade.specs.declared.told.Turned.{Turned}
+use Rattle.afdx_cascade.proofs.FrontLemmas.{due-later, line-keeps, start-keeps}
+use Rattle.afdx_cascade.proofs.NextLemmas.{until-more}
+use Rattle.afdx_cascade.proofs.PlanLemmas.{switches-plan}
+
+pub some-of : {X : Type 0} (o : Option X) (P : X → Type 0) (x : X) → o ≡ Some x → IfSome o P → P x
+some-of o P x e h = subst (λ z. IfSome z P) e h
+
+pub none-of : {X : Type 0} (o : Option X) (P : Type 0) → o ≡ None → IfNone o P → P
+none-of o P e h = subst (λ z. IfNone z P) e h
+
+-- ---- before the list's next frame
+
+frame-line : (t until : ℕ) (ms : List ℕ) (lines : List Line) → t ≤ until → AreFrom until lines
+    → IsBeforeLine (t ∷ 1 ∷ ms) lines
+frame-line t until ms [] le from = tt
+frame-line t until ms (line ∷ lines) le from =
+    below_next t line.arrival.time (1 ∷ ms) (2 ∷ []) (omega (arith, le, from))
+    (below_first 1 2 ms [] (omega arith))
+
+turn-line : (end until : ℕ) (old : Bool) (ms : List ℕ) (lines : List Line)
+    → end + (if old then 1 else 0) ≤ until → AreFrom until lines
+    → IsBeforeLine (end ∷ turn_phase old ∷ ms) lines
+turn-line end until old ms [] le from = tt
+turn-line end until true ms (line ∷ lines) le from =
+    below_first end line.arrival.time (3 ∷ ms) (2 ∷ []) (omega (arith, le, from))
+turn-line end until false ms (line ∷ lines) le from =
+    below_next end line.arrival.time (0 ∷ ms) (2 ∷ []) (omega (arith, le, from))
+    (below_first 0 2 ms [] (omega arith))
+
+-- ---- the times of frames on cables
+
+ring-by : (c : Plan) (transit : List InTransit) (ring : List OnCable) (until : ℕ)
+    → AreInTransit c transit ring
+    → AllByRecursion (λ v. (as_given v.departed.departure).end ≤ until) transit
+    → AllByRecursion (λ r. r.turn.end ≤ until) ring
+ring-by c [] [] until are by = tt
+ring-by c [] (r ∷ ring) until are by = absurd are
+ring-by c (v ∷ transit) [] until are by = absurd are
+ring-by c (v ∷ transit) (r ∷ ring) until are by = (
+  (let end : (as_given v.departed.departure).end ≡ r.turn.end = ap (λ (l : LeftOver HeldFrame). l.end) are.0.left in
+      let le = by.0 in omega (arith, end, le)),
+  ring-by c transit ring until are.1 by.1,
+)
+
+transit-by : (c : Plan) (transit : List InTransit) (ring : List OnCable) (time until : ℕ)
+    → time ≤ until → AllByRecursion (λ r. r.turn.end ≡ time) ring → AreInTransit c transit ring
+    → AllByRecursion (λ v. (as_given v.departed.departure).end ≤ until) transit
+transit-by c [] [] time until soon ends are = tt
+transit-by c [] (r ∷ ring) time until soon ends are = absurd are
+transit-by c (v ∷ transit) [] time until soon ends are = absurd are
+transit-by c (v ∷ transit) (r ∷ ring) time until soon ends are = (
+  (let end : (as_given v.departed.departure).end ≡ r.turn.end = ap (λ (l : LeftOver HeldFrame). l.end) are.0.left in
+      let at = ends.0 in omega (arith, end, at, soon)),
+  transit-by c transit ring time until soon ends.1 are.1,
+)
+
+-- a ring that is empty where its time is past
+ring-empty : (ring : List OnCable) (time until : ℕ) → AllByRecursion (λ r. r.turn.end ≡ time) ring
+    → AllByRecursion (λ r. r.turn.end ≤ until) ring → (time ≤ until → ring ≡ []) → ring ≡ []
+ring-empty [] time until ends by none = refl
+ring-empty (r ∷ ring) time until ends by none =
+    none (let at = ends.0 in let le = by.0 in omega (arith, at, le))
+
+no-ring : (c : Plan) (transit : List InTransit) (ring : List OnCable) → transit ≡ []
+    → AreInTransit c transit ring → ring ≡ []
+no-ring c [] [] e are = refl
+no-ring c [] (r ∷ ring) e are = absurd are
+no-ring c (v ∷ transit) ring e are = absurd (cc e)
+
+no-transit : (c : Plan) (transit : List InTransit) → AreInTransit c transit [] → transit ≡ []
+no-transit c [] are = refl
+no-transit c (v ∷ transit) are = absurd are
+
+-- ---- nothing has changed
+
+pub stands-same : (c : Plan) (so_far : List SwitchEvent) (w new : Cascade) → StandsFor c w so_far
+    → IsUnchanged w new → StandsFor c new so_far
+stands-same c so_far w new st same = record {
+  count = ap length same.networks ∙ st.count;
+  some = st.some;
+  few = st.few;
+  time = st.time;
+  ring = st.ring;
+  keeps = subst (λ ns. Keeps c ns st.time st.ring so_far) (sym same.networks) st.keeps;
+  ends = subst (AreEnds c) (sym same.ends) st.ends;
+  in_transit = subst (λ vs. AreInTransit c vs st.ring) (sym same.transit) st.in_transit;
+}
+
+pub until-same : (w new : Cascade) (time : ℕ) → IsUntil w time → IsUnchanged w new → IsUntil new time
+until-same w new time is same = record {
+  networks = λ k n at. is.networks k n (subst (λ ns. slice_get ns k ≡ Some n) same.networks at);
+  transit = subst (λ vs. AllByRecursion (λ v. (as_given v.departed.departure).end ≤ time) vs)
+      (sym same.transit) is.transit;
+}
+
+-- ---- the next event
+
+module _ (c : Plan) (so_far : List SwitchEvent) (w new : Cascade) (until : ℕ)
+    (st : StandsFor c w so_far) (by : IsUntil w until) (ends : new.ends.items ≡ w.ends.items)
+    (size : length new.networks.items ≡ length w.networks.items) where
+  -- a cable brought a frame
+  module _ (b : Brought)
+      (next : BringsNext c new.networks.items new.transit.items st.time st.ring so_far b) where
+    soon : st.time ≤ until
+    soon =
+        let le = (subst (λ zs. AllByRecursion (λ r. r.turn.end ≤ until) zs) next.are
+        (ring-by c w.transit.items st.ring until st.in_transit by.transit)).0 in
+        let at = (subst (λ zs. AllByRecursion (λ r. r.turn.end ≡ st.time) zs) next.are
+        st.keeps.stands.carried.at_time).0 in
+        omega (arith, le, at)
+
+    frame-soon : next.r.turn.end ≤ until
+    frame-soon =
+        (subst (λ zs. AllByRecursion (λ r. r.turn.end ≤ until) zs) next.are
+        (ring-by c w.transit.items st.ring until st.in_transit by.transit)).0
+
+    pub came-next : GivesNext c new until so_far (Came b)
+    came-next = record {
+      event = arriving c so_far b.switch (brought next.r.side b.port next.r.turn);
+      next = λ lines from. next.is.next lines
+          (frame-line next.r.turn.end until
+          (side_number next.r.side ∷ next.r.from.switch ∷ next.r.from.port ∷ []) lines frame-soon from);
+      tells = record {
+        arrival = brought next.r.side b.port next.r.turn;
+        is = refl;
+        side = next.is.arrived.side;
+        port = refl;
+        time = next.is.arrived.time_is;
+        tag = next.is.arrived.tag;
+        verdict = next.is.arrived.verdict;
+      };
+      stands = record {
+        count = size ∙ st.count;
+        some = st.some;
+        few = st.few;
+        time = st.time;
+        ring = next.rest;
+        keeps = next.is.keeps;
+        ends = subst (AreEnds c) (sym ends) st.ends;
+        in_transit = next.is.in_transit;
+      };
+      clock = record {
+        networks = λ k n at. until-more n st.time until soon (next.is.keeps.clock k n at);
+        transit = transit-by c new.transit.items next.rest st.time until soon
+            next.is.keeps.stands.carried.at_time next.is.in_transit;
+      };
+    }
+
+  -- a turn is over
+  module _ (k : ℕ) (value : Turned)
+      (next : TurnsNext c new.networks.items new.transit.items until so_far k value) where
+    pub over-next : GivesNext c new until so_far (Over k value)
+    over-next = record {
+      event = event_at k (Left next.is.departure);
+      next = λ lines from. next.is.next lines
+          (turn-line next.is.departure.turn.end until next.is.departure.turn.too_old
+          (side_number next.is.departure.side ∷ k ∷ next.is.departure.port ∷ []) lines
+          (let given = next.is.given in let soon = next.in_time in omega (arith, given, soon)) from);
+      tells = (next.is.departure, refl, next.is.tells);
+      stands = record {
+        count = size ∙ st.count;
+        some = st.some;
+        few = st.few;
+        time = next.at;
+        ring = next.is.ring;
+        keeps = next.is.keeps;
+        ends = subst (AreEnds c) (sym ends) st.ends;
+        in_transit = next.is.in_transit;
+      };
+      clock = record {
+        networks = λ j n at. until-more n next.at until next.in_time (next.is.keeps.clock j n at);
+        transit = transit-by c new.transit.items next.is.ring next.at until next.in_time
+            next.is.keeps.stands.carried.at_time next.is.in_transit;
+      };
+    }
+
+-- ---- nothing comes next
+
+pub none-next : (c : Plan) (so_far : List SwitchEvent) (w new : Cascade) (until : ℕ)
+    (st : StandsFor c w so_far) → IsUntil w until → IsUnchanged w new
+    → (st.time ≤ until → st.ring ≡ [])
+    → ((k : ℕ) (n : Network) → slice_get new.networks.items k ≡ Some n → network.IsQuiet n until)
+    → (drain_end ≤ until → IsNothingDue c so_far) → GivesNone c new until so_far
+none-next c so_far w new until st by same none quiet done =
+    let empty = ring-empty st.ring st.time until st.keeps.stands.carried.at_time
+    (ring-by c w.transit.items st.ring until st.in_transit by.transit) none in
+    record {
+      none = due-later c so_far new.networks.items st.time until
+          (subst (λ ns. AllStand c ns so_far) (sym same.networks) st.keeps.stands.all)
+          (subst (λ zs. IsRing c so_far st.time zs) empty st.keeps.stands.carried) quiet;
+      all_done = done;
+      stands = stands-same c so_far w new st same;
+      clock = until-same w new until by same;
+      quiet = record {
+        networks = quiet;
+        transit = same.transit ∙ no-transit c w.transit.items
+            (subst (λ zs. AreInTransit c w.transit.items zs) empty st.in_transit);
+      };
+    }
+
+-- ---- a frame of the list
+
+pub ok-both : {V E : Type 0} (r : Result V E) (P : Type 0) (Q R : V → Type 0)
+    → ((v : V) → P → Q v → R v) → OnOk r P → IfOk r Q → IfOk r R
+ok-both (Ok v) P Q R f p q = f v p q
+ok-both (Err e) P Q R f p q = tt
+
+pub line-next : (c : Plan) (so_far : List SwitchEvent) (w new : Cascade) (line : Line)
+    (st : StandsFor c w so_far) → IsQuiet w line.arrival.time → IsUntil w line.arrival.time
+    → c.far_end line.switch line.arrival.port ≡ None → new.ends.items ≡ w.ends.items
+    → new.transit.items ≡ w.transit.items → (ns : List Network) → new.networks.items ≡ ns
+    → length ns ≡ length w.networks.items
+    → ((k : ℕ) (n : Network) → slice_get ns k ≡ Some n → network.IsUntil n line.arrival.time)
+    → ((n : Network) → slice_get ns line.switch ≡ Some n → network.IsQuiet n line.arrival.time)
+    → (verdict : Verdict)
+    → Stands c ns st.time st.ring (arriving c so_far line.switch line.arrival ∷ so_far)
+    → network.Tells verdict (admission_after (c.tables line.switch) (came_to line.switch so_far) line.arrival)
+    → ArrivesNext c new so_far line verdict
+line-next c so_far w new line st quiet by free ends transit ns is size clock still verdict stands tells =
+    let empty = no-ring c w.transit.items st.ring quiet.transit st.in_transit in
+    let next = line-keeps c so_far w.networks.items ns st.time line
+    (subst (λ zs. Keeps c w.networks.items st.time zs so_far) empty st.keeps) quiet.networks free
+    (subst (λ zs. Stands c ns st.time zs
+    (arriving c so_far line.switch line.arrival ∷ so_far)) empty stands)
+    size clock still in
+    record {
+      next = next.next;
+      tells = tells;
+      stands = record {
+        count = ap length is ∙ size ∙ st.count;
+        some = st.some;
+        few = st.few;
+        time = line.arrival.time;
+        ring = [];
+        keeps = subst (λ zs. Keeps c zs line.arrival.time []
+            (arriving c so_far line.switch line.arrival ∷ so_far)) (sym is) next.keeps;
+        ends = subst (AreEnds c) (sym ends) st.ends;
+        in_transit = subst (λ vs. AreInTransit c vs []) (sym (transit ∙ quiet.transit)) tt;
+      };
+      clock = record {
+        networks = λ k n at. clock k n (subst (λ zs. slice_get zs k ≡ Some n) is at);
+        transit = subst (λ vs. AllByRecursion (λ v. (as_given v.departed.departure).end ≤ line.arrival.time) vs)
+            (sym transit) by.transit;
+      };
+    }
+
+-- ---- the start
+
+-- some networks have a first turn
+pub some-first : (networks : List Network) (o : Option First) → 1 ≤ length networks
+    → IsFirstFrom 0 networks o → o ≡ None → ⊥
+some-first [] o some is none = omega (arith, some)
+some-first (n ∷ ns) None some is none = absurd (cc (is.5))
+some-first (n ∷ ns) (Some f) some is none = absurd (cc none)
+
+pub new-stands : (ss : List NamedRows) → AreSwitches ss → (w : Cascade)
+    → length w.networks.items ≡ length ss
+    → ((k : ℕ) (n : Network) → slice_get w.networks.items k ≡ Some n → network.StandsFor (tables_of ss k) n [])
+    → ((k : ℕ) (n : Network) → slice_get w.networks.items k ≡ Some n → network.IsUntil n 0)
+    → AreEnds (plan_of ss) w.ends.items → w.transit.items ≡ []
+    → StandsFor (plan_of ss) w []
+new-stands ss are w size each clock ends none =
+    let plan = switches-plan ss are in
+    record {
+      count = size;
+      some = are.count.0;
+      few = are.count.1;
+      time = 0;
+      ring = [];
+      keeps = start-keeps (plan_of ss) w.networks.items plan.0
+          (λ k port e joined. (let within = plan.1.to k port e joined in omega (arith, within, size)))
+          each clock;
+      ends = ends;
+      in_transit = subst (λ vs. AreInTransit (plan_of ss) vs []) (sym none) tt;
+    }
+
+pub new-until : (w : Cascade)
+    → ((k : ℕ) (n : Network) → slice_get w.networks.items k ≡ Some n → network.IsUntil n 0)
+    → w.transit.items ≡ [] → IsUntil w 0
+new-until w clock none = record {
+  networks = clock;
+  transit = subst (λ vs. AllByRecursion (λ v. (as_given v.departed.departure).end ≤ 0) vs) (sym none) tt;
+}

@@ -1,0 +1,121 @@
+-- What the switches of a cascade have to do with the events so far.
+use Rattle.std.specs.Prelude.{◌≡◌, ℕ, ◌≤◌, true, List, [], ◌∷◌, Some, length, slice_get}
+use Rattle.std.specs.List.{AllByRecursion}
+use Rattle.afdx_police.specs.Arrival.{Arrival}
+use Rattle.afdx_port.specs.Times.{drain_end}
+use Rattle.afdx_switch.specs.Departures.{as_given}
+use Rattle.afdx_switch.specs.declared.verdict.Verdict.{Verdict}
+use Rattle.afdx_network.specs.Events.{Departure, Left, admission_after}
+use Rattle.afdx_network.specs.Network as network
+use Rattle.afdx_network.specs.Order.{is_below}
+use Rattle.afdx_network.specs.declared.network.Network.{Network}
+use Rattle.afdx_cascade.specs.Due.{OnCable}
+use Rattle.afdx_cascade.specs.Keeping.{Keeps, IsNothingDue}
+use Rattle.afdx_cascade.specs.Runs.{Line, IsDue, IsFirstDue, IsNextLine, arriving, event_at}
+use Rattle.afdx_cascade.specs.Scan.{switches_most}
+use Rattle.afdx_cascade.specs.SwitchEvents.{Plan, SwitchEvent, came_to}
+use Rattle.afdx_cascade.specs.Turning.{AreEnds, AreInTransit, TellsTurn}
+use Rattle.afdx_cascade.specs.declared.cascade.Cascade.{Cascade}
+use Rattle.afdx_cascade.specs.declared.told.Brought.{Brought}
+use Rattle.afdx_cascade.specs.declared.told.Happened.{Happened}
+use Rattle.afdx_cascade.specs.declared.told.Happened.TheVariants.{Over, Came}
+
+-- how many switches a side has
+abbrev pub switch_count : Cascade → ℕ
+switch_count w = length w.networks.items
+
+-- networks, table and ring are those that these events leave
+pub record StandsFor (c : Plan) (w : Cascade) (so_far : List SwitchEvent) : Type 0 where
+  pub count : switch_count w ≡ c.count
+  pub some : 1 ≤ c.count
+  pub few : c.count ≤ switches_most
+  pub time : ℕ
+  pub ring : List OnCable
+  pub keeps : Keeps c w.networks.items time ring so_far
+  pub ends : AreEnds c w.ends.items
+  pub in_transit : AreInTransit c w.transit.items ring
+
+-- they are those that some events leave
+abbrev pub IsSound : Cascade → Type 0
+IsSound w = (c : Plan) × (so_far : List SwitchEvent) × StandsFor c w so_far
+
+-- no network was used after this time, and no frame that a cable carries left after it
+pub record IsUntil (w : Cascade) (time : ℕ) : Type 0 where
+  pub networks : (k : ℕ) (n : Network) →
+      slice_get w.networks.items k ≡ Some n →
+      network.IsUntil n time
+  pub transit : AllByRecursion (λ v. (as_given v.departed.departure).end ≤ time) w.transit.items
+
+-- `take(time)` would answer that nothing happens
+pub record IsQuiet (w : Cascade) (time : ℕ) : Type 0 where
+  pub networks : (k : ℕ) (n : Network) →
+      slice_get w.networks.items k ≡ Some n →
+      network.IsQuiet n time
+  pub transit : w.transit.items ≡ []
+
+-- networks, table and ring are the same
+pub record IsUnchanged (old new : Cascade) : Type 0 where
+  pub networks : new.networks.items ≡ old.networks.items
+  pub ends : new.ends.items ≡ old.ends.items
+  pub transit : new.transit.items ≡ old.transit.items
+
+-- ---- the next event
+
+-- what the list has next comes no earlier
+abbrev pub AreFrom : ℕ → List Line → Type 0
+AreFrom until [] = Unit {0}
+AreFrom until (line ∷ lines) = until ≤ line.arrival.time
+
+-- a frame that a cable brought, and what became of it
+pub record TellsArrival (c : Plan) (so_far : List SwitchEvent) (b : Brought) (h : SwitchEvent) :
+    Type 0 where
+  pub arrival : Arrival
+  pub is : h ≡ arriving c so_far b.switch arrival
+  pub side : b.side ≡ arrival.side
+  pub port : b.port ≡ arrival.port
+  pub time : b.time ≡ arrival.time
+  pub tag : b.tag ≡ arrival.tag
+  pub verdict : network.Tells b.verdict
+      (admission_after (c.tables b.switch) (came_to b.switch so_far) arrival)
+
+-- what is told is the event
+abbrev pub TellsEvent : Plan → List SwitchEvent → Happened → SwitchEvent → Type 0
+TellsEvent c so_far (Over k turned) h =
+    (d : Departure) × (h ≡ event_at k (Left d)) × TellsTurn turned d
+TellsEvent c so_far (Came b) h = TellsArrival c so_far b h
+
+-- an event is told: the next one of each list whose next frame comes at `until` or later
+pub record GivesNext (c : Plan) (new : Cascade) (until : ℕ) (so_far : List SwitchEvent)
+    (value : Happened) : Type 0 where
+  pub event : SwitchEvent
+  pub next : (lines : List Line) → AreFrom until lines → IsFirstDue c so_far lines event
+  pub tells : TellsEvent c so_far value event
+  pub stands : StandsFor c new (event ∷ so_far)
+  pub clock : IsUntil new until
+
+-- none is told: nothing is due before a frame of the list that comes at `until`; and late enough
+-- nothing is due at all
+pub record GivesNone (c : Plan) (new : Cascade) (until : ℕ) (so_far : List SwitchEvent) :
+    Type 0 where
+  pub none : (place : List ℕ) (g : SwitchEvent) →
+      IsDue c so_far place g →
+      is_below (until ∷ 2 ∷ []) place ≡ true
+  pub all_done : drain_end ≤ until → IsNothingDue c so_far
+  pub stands : StandsFor c new so_far
+  pub clock : IsUntil new until
+  pub quiet : IsQuiet new until
+
+-- ---- a frame of the list
+
+abbrev pub line_at : ℕ → Arrival → Line
+line_at k x = record { switch = k; arrival = x }
+
+-- it is the next event, and this is its verdict
+pub record ArrivesNext (c : Plan) (new : Cascade) (so_far : List SwitchEvent) (line : Line)
+    (verdict : Verdict) : Type 0 where
+  pub next : (rest : List Line) →
+      IsNextLine c so_far (line ∷ rest) (arriving c so_far line.switch line.arrival) rest
+  pub tells : network.Tells verdict
+      (admission_after (c.tables line.switch) (came_to line.switch so_far) line.arrival)
+  pub stands : StandsFor c new (arriving c so_far line.switch line.arrival ∷ so_far)
+  pub clock : IsUntil new line.arrival.time

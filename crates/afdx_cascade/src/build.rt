@@ -1,0 +1,45 @@
+//! What a cascade starts with: new networks, and the table of the ends of its cables.
+
+ghost use Rattle.std.specs.Prelude.{◌≡◌, ℕ, [], IfOk, Some, length, slice_get};
+ghost use Rattle.afdx_config.specs.Switches.{AreSwitches};
+ghost use Rattle.afdx_network.specs.declared.network.Network.{Network as At};
+ghost use Rattle.afdx_network.specs.Network as network;
+ghost use Rattle.afdx_cascade.specs.Plans.{plan_of, tables_of};
+ghost use Rattle.afdx_cascade.specs.Turning.{AreEnds};
+
+use crate::cable::ENTRIES;
+use afdx_config::{FarEnd, SwitchId, Switches};
+use afdx_network::Network;
+use std::alloc::{AllocError, Global};
+
+/// The networks of all switches at time 0.
+pub(crate) fn new_networks(alloc: Global, switches: &Switches) -> Result<Vec<Network>, AllocError>
+    ensures switches { AreSwitches switches.now }
+    ensures count { IfOk result (λ v. length v.items ≡ length switches.now) }
+    ensures stands { IfOk result (λ v. (k : ℕ) (n : At) → slice_get v.items k ≡ Some n →
+        network.StandsFor (tables_of switches.now k) n []) }
+    ensures clock { IfOk result (λ v. (k : ℕ) (n : At) → slice_get v.items k ≡ Some n →
+        network.IsUntil n 0) }
+{
+    let mut networks = Vec::new(alloc);
+    for place in 0..switches.count() {
+        let tables = switches.tables(SwitchId(place as u8));
+        networks.push(Network::new(alloc, tables)?)?;
+    }
+    Ok(networks)
+}
+
+/// The table of the ends of all cables: of each switch in turn, by the numbers of its ports.
+pub(crate) fn new_ends(
+    alloc: Global,
+    switches: &Switches,
+) -> Result<Vec<Option<FarEnd>>, AllocError>
+    ensures { IfOk result (λ v. AreEnds (plan_of switches.now) v.items) }
+{
+    let mut ends = Vec::new(alloc);
+    for place in 0..ENTRIES * switches.count() {
+        let switch = SwitchId((place / ENTRIES) as u8);
+        ends.push(switches.far_end(switch, (place % ENTRIES) as u8))?;
+    }
+    Ok(ends)
+}

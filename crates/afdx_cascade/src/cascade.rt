@@ -1,0 +1,132 @@
+//! Several switches on each side, joined by cables, as one.
+
+ghost use Rattle.std.specs.Prelude.{◌≡◌, ℕ, ◌<◌, ◌≤◌, List, [], IfOk, IfSome, IfNone, OnErr, None};
+ghost use Rattle.afdx_frame.specs.Parts.{bytes_of};
+ghost use Rattle.afdx_port.specs.Times.{latest_put};
+
+use crate::arriving::{arrive_at, early_at};
+use crate::build::{new_ends, new_networks};
+use crate::cable::InTransit;
+use crate::scan::first_from;
+use crate::taking::{bring_next, turn_next};
+use crate::told::Happened;
+use afdx_config::{FarEnd, Switches};
+use afdx_frame::{Checked, Side};
+use afdx_network::Network;
+use afdx_switch::Verdict;
+use std::alloc::{AllocError, Global};
+use std::collections::VecDeque;
+
+/// The switches of both sides, and what cables carry now. A contract speaks of them as what they
+/// stand for: a list of all events so far, the newest first.
+#[derive(Drop)]
+pub struct Cascade {
+    networks: Vec<Network>,
+    ends: Vec<Option<FarEnd>>,
+    transit: VecDeque<InTransit>,
+}
+
+impl Cascade {
+    ghost use Rattle.afdx_police.specs.Arrival.{arrival_with};
+    ghost use Rattle.afdx_switch.specs.Early.{IsEarlyBy};
+    ghost use Rattle.afdx_switch.specs.Verdicts.{shape_fault};
+    ghost use Rattle.afdx_cascade.specs.Plans.{plan_of};
+    ghost use Rattle.afdx_cascade.specs.SwitchEvents.{Plan, SwitchEvent, came_to};
+    ghost use Rattle.afdx_cascade.specs.Cascade.{StandsFor, IsSound, IsUntil, IsQuiet, IsUnchanged};
+    ghost use Rattle.afdx_cascade.specs.Cascade.{GivesNext, GivesNone, ArrivesNext};
+    ghost use Rattle.afdx_cascade.specs.Cascade.{line_at, switch_count};
+
+    /// The switches of a configuration at time 0, with empty cables. It looks up the ends of all
+    /// cables once. The error says that memory was refused.
+    pub fn new(alloc: Global, switches: &Switches) -> Result<Cascade, AllocError>
+        ensures stands { IfOk result (λ w. StandsFor (plan_of switches.now) w []) }
+        ensures clock { IfOk result (λ w. IsUntil w 0) }
+    {
+        let networks = new_networks(alloc, switches)?;
+        let ends = new_ends(alloc, switches)?;
+        Ok(Cascade {
+            networks,
+            ends,
+            transit: VecDeque::new(alloc),
+        })
+    }
+
+    /// A frame of the list arrives at `time`, in ns, at a port of a side's switch of this number
+    /// where no cable is. That switch filters and polices it and offers it to the output ports of
+    /// its link.
+    ///
+    /// `time` isn't before the last time used and is at most 1,000,032,768,000,000;
+    /// `take(time)` would give nothing. `tag` is handed back with the frame's events. The error
+    /// says that memory was refused: then nothing has changed.
+    pub fn arrive(
+        &mut self,
+        switch: usize,
+        side: Side,
+        time: u64,
+        port: u8,
+        tag: u64,
+        frame: Checked<'_>,
+    ) -> Result<Verdict, AllocError>
+        requires within { switch < switch_count self.old }
+        requires limit { time ≤ latest_put }
+        requires clock { IsUntil self.old time }
+        requires quiet { IsQuiet self.old time }
+        ensures next { (c : Plan) (so_far : List SwitchEvent) → StandsFor c self.old so_far →
+            c.far_end switch port ≡ None →
+            let line = line_at switch (arrival_with tag time side port (bytes_of frame.entry)) in
+            IfOk result (ArrivesNext c self.new so_far line) }
+        ensures refused { OnErr result (IsUnchanged self.old self.new) }
+    {
+        arrive_at(&mut self.networks, switch, side, time, port, tag, frame)
+    }
+
+    /// By how many nanoseconds a frame comes too early that arrives at a side's switch of this
+    /// number at `time`, if none comes before it: the least wait after which its link's account
+    /// there covers it, 0 for one that would be accepted. Of one with something wrong in its shape
+    /// it says nothing.
+    pub fn early(&self, switch: usize, side: Side, time: u64, port: u8, frame: Checked<'_>) -> u64
+        requires within { switch < switch_count self.now }
+        requires clock { IsUntil self.now time }
+        ensures { (c : Plan) (so_far : List SwitchEvent) (tag : ℕ) → StandsFor c self.now so_far →
+            let arrival = arrival_with tag time side port (bytes_of frame.entry) in
+            shape_fault (c.tables switch) arrival ≡ None →
+            IsEarlyBy (c.tables switch) (came_to switch so_far) arrival result }
+    {
+        early_at(&self.networks, switch, side, time, port, frame)
+    }
+
+    /// The next event of all that happen before a frame of the list that arrives at `until`, in ns:
+    /// a turn that is over, or the arrival of a frame that a cable brings. If `until` is 1.2e15 or
+    /// later, None says that these were all events.
+    ///
+    /// `until` isn't before the last time used. The error says that memory was refused: then
+    /// nothing has changed, and the event is still to come.
+    pub fn take(&mut self, until: u64) -> Result<Option<Happened>, AllocError>
+        requires sound { IsSound self.old }
+        requires clock { IsUntil self.old until }
+        ensures given { (c : Plan) (so_far : List SwitchEvent) → StandsFor c self.old so_far →
+            IfOk result (λ o. IfSome o (GivesNext c self.new until so_far)) }
+        ensures none { (c : Plan) (so_far : List SwitchEvent) → StandsFor c self.old so_far →
+            IfOk result (λ o. IfNone o (GivesNone c self.new until so_far)) }
+        ensures refused { OnErr result (IsUnchanged self.old self.new) }
+    {
+        let Some(first) = first_from(&self.networks, 0) else {
+            unreachable!()
+        };
+        match bring_next(&mut self.networks, &mut self.transit, first)? {
+            Some(brought) => Ok(Some(Happened::Came(brought))),
+            None => {
+                match turn_next(
+                    &mut self.networks,
+                    &self.ends,
+                    &mut self.transit,
+                    first,
+                    until,
+                )? {
+                    Some(turned) => Ok(Some(Happened::Over(first.switch, turned))),
+                    None => Ok(None),
+                }
+            }
+        }
+    }
+}
