@@ -1,5 +1,5 @@
 -- The switches of a configuration are a plan.
-use Rattle.std.proofs.Common.{◌≡◌, ℕ, ◌+◌, ◌<◌, ◌≤◌, ◌==◌, Bool, true, false, List, [], ◌∷◌, ◌++◌, length, refl}
+use Rattle.std.proofs.Common.{◌≡◌, ℕ, ◌<◌, ◌≤◌, ◌==◌, Bool, true, false, List, [], ◌∷◌, ◌++◌, length, refl}
 use Rattle.std.proofs.Common.{sym, ap, ◌∙◌, subst, arith, Option, Some, None, slice_get, position, nat_le, if◌then◌else◌}
 use Rattle.std.proofs.Common.{option_map, option_and_then}
 use Rattle.std.specs.Option.{option_map_or}
@@ -24,9 +24,9 @@ use Rattle.afdx_config.specs.Switches.{neighbour_named, neighbour_row, neighbour
 use Rattle.afdx_config.specs.Switches.{far_end, name_lines, systems_lines, neighbours_lines}
 use Rattle.afdx_config.specs.Switches.{starts_lines, over_all, over_all_line}
 use Rattle.afdx_config.proofs.LookUpLemmas.{each_row-found}
-use Rattle.afdx_cascade.specs.SwitchEvents.{End, IsPlan, end_at}
+use Rattle.afdx_cascade.specs.SwitchEvents.{End, end_at}
 use Rattle.afdx_cascade.specs.Turning.{end_of}
-use Rattle.afdx_cascade.specs.Plans.{SwitchesAreAPlan, AreJoined, plan_of, tables_of, first_tables}
+use Rattle.afdx_cascade.specs.Plans.{SwitchesAreAPlan, tables_of, first_tables}
 
 -- ---- look-ups that found something
 

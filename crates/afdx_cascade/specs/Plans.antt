@@ -1,5 +1,5 @@
 -- The plan of a configuration's switches: the tables of each, and where its cables end.
-use Rattle.std.specs.Prelude.{◌≡◌, ℕ, ◌<◌, Option, Some, List, [], ◌∷◌, length, slice_get}
+use Rattle.std.specs.Prelude.{◌≡◌, ℕ, ◌<◌, Some, List, [], ◌∷◌, length, slice_get}
 use Rattle.std.specs.Option.{option_map_or}
 use Rattle.afdx_config.specs.Rows.{Rows, rows_with}
 use Rattle.afdx_config.specs.Switches.{NamedRows, AreSwitches, far_end}
