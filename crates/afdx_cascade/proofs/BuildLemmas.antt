@@ -28,7 +28,8 @@ module _ (ss : List NamedRows) (ends : List (Option FarEnd))
     | inl within ↦ absurd (let found = slice_get-within ends (k * 25 + port) within in cc (found.1, none))
     | inr past ↦
         let counted = all.counted in
-        ap (option_and_then (λ (s : NamedRows). option_and_then (switches.end_at ss s.name) (neighbour_at_port s.rows port)))
+        ap (option_and_then (λ (s : NamedRows). option_and_then (switches.end_at ss s.name)
+        (neighbour_at_port s.rows port)))
         (slice_get_past ss k (omega (arith, past, counted, low)))
   ]
 

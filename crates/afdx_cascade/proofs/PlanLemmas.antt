@@ -130,10 +130,12 @@ module _ (ss : List NamedRows) where
   cable : (k port : ℕ) (f : FarEnd) → far_end ss k port ≡ Some f → IsCable ss k port f
   unfolding far_end
   cable k port f h =
-      let here = and-then (λ (s : NamedRows). option_and_then (switches.end_at ss s.name) (neighbour_at_port s.rows port))
+      let here = and-then (λ (s : NamedRows). option_and_then (switches.end_at ss s.name)
+      (neighbour_at_port s.rows port))
       (slice_get ss k) f h in
       let one = and-then (switches.end_at ss here.0.name) (neighbour_at_port here.0.rows port) f here.2 in
-      let far = and-then (λ j. option_map (leads j) (listed_at ss here.0.name j)) (switch_named ss one.0.name) f one.2 in
+      let far = and-then (λ j. option_map (leads j) (listed_at ss here.0.name j))
+      (switch_named ss one.0.name) f one.2 in
       let back = mapped (leads far.0) (listed_at ss here.0.name far.0) f far.2 in
       let there = and-then (λ (s : NamedRows). neighbour_row s.rows here.0.name) (slice_get ss far.0) back.0 back.1 in
       record {
@@ -162,7 +164,8 @@ module _ (ss : List NamedRows) where
       → neighbour_row t.rows s.name ≡ Some back → far_end ss k port ≡ Some (leads j back)
   unfolding far_end
   cable-is k port s t e back j at one named there lists =
-      ap (option_and_then (λ (r : NamedRows). option_and_then (switches.end_at ss r.name) (neighbour_at_port r.rows port))) at
+      ap (option_and_then (λ (r : NamedRows). option_and_then (switches.end_at ss r.name)
+      (neighbour_at_port r.rows port))) at
       ∙ ap (option_and_then (switches.end_at ss s.name)) one
       ∙ ap (option_and_then (λ i. option_map (leads i) (listed_at ss s.name i))) named
       ∙ ap (λ o. option_map (leads j) (option_and_then (λ (r : NamedRows). neighbour_row r.rows s.name) o)) there

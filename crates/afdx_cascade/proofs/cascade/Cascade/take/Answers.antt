@@ -110,7 +110,8 @@ returns-in-Some-3-clause-given c p so_far st =
     (subst (λ vs. AreInTransit p vs st.ring) (sym same.1) st.in_transit)) in
     over-next p so_far old new c.args.until st c.requires.clock refl (ap length now_is ∙ size)
     c.in-Some.first.switch c.in-Some-3.turned
-    (subst (λ zs. TurnsNext p zs c.turn_next.new.transit.items c.args.until so_far c.in-Some.first.switch c.in-Some-3.turned)
+    (subst (λ zs. TurnsNext p zs c.turn_next.new.transit.items c.args.until so_far c.in-Some.first.switch
+    c.in-Some-3.turned)
     (sym now_is) turns)
 
 -- nothing comes next
