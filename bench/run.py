@@ -4,10 +4,10 @@
 
 PROGRAM is the built program, crates/afdx/out/afdx where it isn't given. The lists have N lines
 (1,000,000 where it isn't given), but at most about 500 MB, and are made in a temporary folder by
-bench/make_list.py, bench/make_network.py and bench/make_messages.py. Each list is run T times (3
-where it isn't given) from a file into /dev/null. Where the program reads recordings, frames are
-also recorded, by bench/make_recording.py; each counts as a line. They stand in order, and none is
-held but in rows that say so. One table in Markdown is printed:
+bench/make_list.py, bench/make_network.py, bench/make_cascade.py and bench/make_messages.py. Each
+list is run T times (3 where it isn't given) from a file into /dev/null. Where the program reads
+recordings, frames are also recorded, by bench/make_recording.py; each counts as a line. They stand
+in order, and none is held but in rows that say so. One table in Markdown is printed:
 
     seconds        user and system seconds together, the least of the runs
     user seconds   the least of the runs
@@ -17,8 +17,9 @@ held but in rows that say so. One table in Markdown is printed:
                    isn't installed
 
 MB are 1,000,000 bytes of the list. Lines below the table say what each further copy of a frame
-takes (the run in which a link goes to 23 ports less that in which it goes to one), and what share
-of the instructions of its list line a recorded frame takes.
+takes (the run in which a link goes to 23 ports less that in which it goes to one), what share of
+the instructions of its list line a recorded frame takes, and what a frame takes at each of several
+switches that it passes.
 
 With --baseline the hand-written C program bench/handwritten/police_baseline.c is compiled by
 `cc -O2`, must print the same as `police`, and stands in the table beside it. Both run by turns, and
@@ -34,18 +35,18 @@ alone. It is a measurement and no test: it fails only where a run fails or the t
 import argparse
 import filecmp
 import os
-import statistics
 import subprocess
 import sys
 import tempfile
-from typing import NamedTuple, Optional
 
 sys.dont_write_bytecode = True
+from make_cascade import write_cascade  # noqa: E402
 from make_list import MOST_LINES, write_list  # noqa: E402
 from make_messages import write_messages  # noqa: E402
 from make_network import write_network  # noqa: E402
 from make_recording import write_recording  # noqa: E402
-from measure import HERE, PROGRAM, Run, instructions, timed  # noqa: E402
+from measure import HERE, PROGRAM, instructions, timed  # noqa: E402
+from table import HEAD, RATIOS, Row, head, show  # noqa: E402
 
 BASELINE = os.path.join(HERE, "handwritten", "police_baseline.c")
 MOST_BYTES = 500_000_000
@@ -81,21 +82,11 @@ REPLAY = [
     ("replay, an overloaded port, frames lost", "lost", False),
     ("replay, an overloaded port, frames too old, profile 2", "old", False),
 ]
+CASCADE = "replay, 8 switches a side, 984 links on ways of 1 to 4 switches"
+TENTH = "the same, a tenth of the lines"
 FURTHER = 22  # copies of a frame in the row `copies` beyond that in the row `one`
 SEND = "send, 20 links of one system"
 BY_HAND = "the same by hand-written C"
-HEAD = [
-    "run",
-    "lines",
-    "MB",
-    "seconds",
-    "user seconds",
-    "lines a second",
-    "MB a second",
-    "peak memory",
-    "instructions a line",
-]
-RATIOS = ["instructions to C", "user CPU to C"]
 GROWTH_HEAD = [
     "links",
     "lines",
@@ -104,42 +95,6 @@ GROWTH_HEAD = [
     "us a line",
     "peak memory",
 ]
-
-
-class Row(NamedTuple):
-    """What a list took: its runs, and the instructions of a line where they are known."""
-
-    name: str
-    lines: int
-    size: int
-    runs: list[Run]
-    instructions: Optional[float]
-
-    @property
-    def seconds(self):
-        return min(run.seconds for run in self.runs)
-
-    def cells(self):
-        memory = max(run.memory for run in self.runs)
-        return [
-            self.name,
-            f"{self.lines:,}",
-            f"{self.size / 1e6:,.0f}",
-            f"{self.seconds:.2f}",
-            f"{min(run.user for run in self.runs):.2f}",
-            f"{self.lines / self.seconds:,.0f}" if self.seconds else "-",
-            f"{self.size / self.seconds / 1e6:,.0f}" if self.seconds else "-",
-            f"{memory / 1024:.1f} MiB",
-            "-" if self.instructions is None else f"{self.instructions:,.0f}",
-        ]
-
-    def ratios(self, other):
-        """How it compares with another program's row, whose runs took turns with these."""
-        turns = [one.user / two.user for one, two in zip(self.runs, other.runs) if two.user]
-        return [
-            f"{self.instructions / other.instructions:.2f}" if self.instructions else "-",
-            f"{statistics.median(turns):.2f}" if turns else "-",
-        ]
 
 
 class Bench:
@@ -238,6 +193,23 @@ class Bench:
 
         return self.rows([(name, words)], lines, make)[0]
 
+    def cascade(self, lines):
+        """The rows of several switches a side: all lines, and a tenth; and the instructions of a
+        hop, where a frame passes a switch."""
+        config, listing, hops = self.path("cascade.toml"), self.path("long.list"), [0]
+
+        def make(path, count):
+            hops[0] = write_cascade(self.path("few.toml"), path, count)
+
+        write_cascade(config, listing, lines // 10)
+        words = [self.program, "replay", config]
+        runs = self.by_turns([*words, listing])[0]
+        tenth = Row(TENTH, lines // 10, os.path.getsize(listing), runs, None)
+        write_cascade(config, listing, lines)
+        row = self.rows([(CASCADE, words)], lines, make)[0]
+        hop = None if row.instructions is None else row.instructions * FEW / hops[0]
+        return [row, tenth], hop
+
     def send(self, lines):
         config = self.path("send.toml")
         write_messages(config, self.path("long.list"), lines)
@@ -259,15 +231,6 @@ class Bench:
             f"{(seconds - empty) / lines * 1e6:.2f}",
             f"{memory / 1024:.1f} MiB",
         ]
-
-
-def show(cells):
-    print("| " + " | ".join(cells) + " |", flush=True)
-
-
-def head(cells):
-    show(cells)
-    print("|" + "---|" * len(cells))
 
 
 def read_words():
@@ -360,6 +323,16 @@ def show_replay(bench, given, empty):
     return by_kind
 
 
+def show_cascade(bench, given, empty):
+    """The rows of several switches a side; the line of a hop, which is printed last."""
+    if given.only not in CASCADE:
+        return ""
+    rows, hop = bench.cascade(given.lines)
+    for row in rows:
+        show([*row.cells(), *empty])
+    return "" if hop is None else f"A frame through a switch of several: {hop:,.0f} instructions"
+
+
 def show_copies(one, copies):
     """What each further copy of a frame takes."""
     ns = (copies.seconds - one.seconds) / copies.lines / FURTHER * 1e9
@@ -385,11 +358,14 @@ def main():
         if knows(bench.program, b"--interface"):
             recorded = show_recorded(bench, given, empty)
         by_kind = show_replay(bench, given, empty)
+        told = show_cascade(bench, given, empty)
         if given.only in SEND:
             show([*bench.send(given.lines).cells(), *empty])
         show_shares(recorded, by_name)
         if {"one", "copies"} <= set(by_kind):
             show_copies(by_kind["one"], by_kind["copies"])
+        if told:
+            print(f"\n{told}")
 
 
 if __name__ == "__main__":

@@ -1,5 +1,5 @@
 #!/usr/bin/env python3
-"""Writes the frame lists bench.list and gigabit.list.
+"""Writes the frame lists bench.list, gigabit.list and two_switches.list.
 
     examples/make_bench.py [FOLDER]
 
@@ -31,6 +31,9 @@ SYSTEMS = {
     "radar1": (1, 1, 1),
     "radar2": (2, 2, 1),
     "fms": (3, 3, 1),
+    # and those of two_switches.toml, with their switches
+    "s1": ("fwd 1", 1, 1),
+    "s2": ("aft 2", 2, 1),
 }
 
 
@@ -251,12 +254,60 @@ def gigabit():
     return frames
 
 
+TWO_SWITCHES = """\
+# A list for two_switches.toml, written by examples/make_bench.py: each line names a switch too.
+#
+#     afdx replay examples/two_switches.toml examples/two_switches.list
+#
+# What comes over the cable has the number of its line here. No frame is lost or too old, as the
+# network is admitted. Smaller buffers and a limit on waiting (profile 2) show that too:
+#
+#     sed 's/^profile = 1/profile = 2/; s/^buffer = 254/buffer = 64/
+#         s/^latency_us = 21/latency_us = 6/' examples/two_switches.toml > small.toml
+#     afdx replay --no-admission small.toml examples/two_switches.list
+#
+# A message of s1, on both sides: fwd passes it to the cable, aft to s3, which drops the copy.
+"""
+AT_ONE_MOMENT = """\
+What the cable brings arrives at aft when a frame of s2 does, before it. Both go to s3, the one of
+s1 first, as it is high; that of s2 goes over the cable to s1 too. (small.toml: L 18 A aft 3.)
+"""
+A_NS_LATER = "The same, but s2's frame comes 1 ns later. (small.toml: T 21 2013440 A aft 3.)"
+TOO_SOON = "s1 sends again after 600 us, which its account at fwd covers, and after 100 us more."
+STRANGER = "s3 sends under the name of link 1: it comes from fwd, at port 20. Then a damaged frame."
+UNREAD = "s3 has no communication port for this UDP port; and then two numbers are left out."
+
+
+def two_switches():
+    frames = Frames()
+    frames.head = TWO_SWITCHES.splitlines()
+    frames.send(0, "s1", 1, "hello", 0, udp=1000)
+    frames.say(1 * MS, AT_ONE_MOMENT)
+    frames.send(1 * MS, "s1", 1, "first", 1, "A", udp=1000)
+    frames.send(1 * MS + 6_720, "s2", 2, "second", 0, "A", udp=2000)
+    frames.say(2 * MS, A_NS_LATER)
+    frames.send(2 * MS, "s1", 1, "first", 2, "A", udp=1000)
+    frames.send(2 * MS + 6_721, "s2", 2, "second", 1, "A", udp=2000)
+    frames.say(4 * MS, TOO_SOON)
+    frames.send(4 * MS, "s1", 1, "once", 3, "A", udp=1000)
+    frames.send(4 * MS + 600 * US, "s1", 1, "twice", 4, "A", udp=1000)
+    frames.send(4 * MS + 700 * US, "s1", 1, "thrice", 5, "A", udp=1000)
+    frames.say(6 * MS, STRANGER)
+    frames.add(6 * MS, "A", "aft 3", built("s1", 1, "mine", 6, udp=1000))
+    frames.add(6 * MS + 1, "A", "fwd 1", built("s1", 1, "damaged", 6, udp=1000), "B")
+    frames.say(8 * MS, UNREAD)
+    frames.send(8 * MS, "s1", 1, "unread", 5, "A", udp=1001)
+    frames.send(10 * MS, "s1", 1, "late", 8, "A", udp=1000)
+    return frames
+
+
 def main():
     if len(sys.argv) > 2:
         sys.exit(__doc__)
     folder = sys.argv[1] if len(sys.argv) == 2 else os.path.dirname(os.path.abspath(__file__))
     bench().write(os.path.join(folder, "bench.list"))
     gigabit().write(os.path.join(folder, "gigabit.list"))
+    two_switches().write(os.path.join(folder, "two_switches.list"))
 
 
 if __name__ == "__main__":

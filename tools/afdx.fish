@@ -116,7 +116,7 @@ complete -c afdx -n '__afdx_in police' -l help -d 'Print help'
 complete -c afdx -n '__afdx_at police 0 0' -a '1 2 4 8 16 32 64 128'
 complete -c afdx -n '__afdx_at police 3 3' -a '(__afdx_files list pcap pcapng)'
 complete -c afdx -n '__afdx_at - 0 0' -a replay \
-    -d 'Replays a list of frames through both switches to the systems'
+    -d 'Replays a list of frames through the switches to the systems'
 complete -c afdx -n '__afdx_in replay' -l no-admission \
     -d 'Replays also in tables that are not admitted'
 complete -c afdx -n '__afdx_in replay' -l explain-drops -d 'Prints on standard error'

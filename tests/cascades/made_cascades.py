@@ -192,6 +192,19 @@ def spoiled(chance: random.Random, cascade: dict) -> dict:
     return cascade
 
 
+def flooded(chance: random.Random, cascade: dict) -> dict:
+    """The cascade, in which most rows go to all neighbours but the one from which they come: over a
+    ring of cables frames come again."""
+    cascade = copy.deepcopy(cascade)
+    for switch in cascade["switch"]:
+        for link in switch["link"]:
+            if chance.random() < 0.7:
+                own = own_names(switch).intersection(link["to"])
+                cables = [end["name"] for end in switch["neighbour"] if end["name"] != link["from"]]
+                link["to"] = [*sorted(own), *cables] or link["to"]
+    return cascade
+
+
 # ---- files with faults ---------------------------------------------------------------------------
 
 VALUES = [

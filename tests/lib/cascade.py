@@ -1,6 +1,8 @@
 """Configurations of several switches a side, as tables and as text."""
 from __future__ import annotations
 
+import tomllib
+
 from first_fault import ROWS
 from tables import value_text
 
@@ -39,3 +41,9 @@ def cascade_text(cascade: dict) -> bytes:
 def of_one(tables: dict, name: str) -> dict:
     """A cascade of one switch of that name, which has the tables of a file of one switch."""
     return {"switch": [{"name": name, **tables, "neighbour": []}]}
+
+
+def loaded(text: bytes) -> dict:
+    """The tables of a file of several switches that has no fault, absent arrays too."""
+    cascade = tomllib.loads(text.decode())
+    return {"switch": [{part: [] for part in ROWS} | switch for switch in cascade["switch"]]}

@@ -244,9 +244,19 @@ def field_faults(fields: list[bytes], latest: int, is_frames: bool) -> Iterator[
         yield "BadHex"
 
 
-def list_fault(text: bytes, is_frames: bool) -> bytes:
-    """The line on standard error; none where the list has no fault."""
-    latest = 0
+def first_field_fault(is_frames: bool) -> Callable[[list[bytes], int], str | None]:
+    """What is wrong first with the fields of a line, given them and the time before."""
+    return lambda fields, latest: next(field_faults(fields, latest, is_frames), None)
+
+
+def list_fault(
+    text: bytes,
+    is_frames: bool,
+    fault_of: Callable[[list[bytes], int], str | None] | None = None,
+) -> bytes:
+    """The line on standard error; none where the list has no fault. Where lines have other fields
+    than those of one switch `fault_of` says what is wrong with them."""
+    latest, fault_of = 0, fault_of or first_field_fault(is_frames)
     for number, line in enumerate(list_lines(text), 1):
         if number > MOST_LINES:
             return b"list TooManyLines\n"
@@ -256,7 +266,7 @@ def list_fault(text: bytes, is_frames: bool) -> bytes:
         if line == b"" or line.startswith(b"#"):
             continue
         fields = line.split(b" ")
-        fault = next(field_faults(fields, latest, is_frames), None)
+        fault = fault_of(fields, latest)
         if fault is not None:
             return f"list {fault} {number}\n".encode()
         latest = int(fields[1 if is_frames else 0])

@@ -172,3 +172,20 @@ def main_of(text: str, try_all: Callable[[Cases, Program], None]) -> None:
         program = Program(sys.argv[1], folder)
         try_all(cases, program)
     sys.exit(cases.told())
+
+
+def main_of_both(
+    text: str, computed: Callable[[], list[tuple]], of_program: Callable[[Program], list[tuple]]
+) -> None:
+    """The same of a step that may go without PROGRAM: then only what is computed here is tried."""
+    words = sys.argv[1:]
+    if len(words) > 1 or not all(os.access(path, os.X_OK) for path in words):
+        print(text.strip(), file=sys.stderr)
+        sys.exit(2)
+    cases = Cases()
+    with tempfile.TemporaryDirectory(prefix="afdx-tests-") as folder:
+        given = computed()
+        if words:
+            given += of_program(Program(words[0], folder))
+        cases.try_at_once(given)
+    sys.exit(cases.told())

@@ -33,7 +33,14 @@ text_case 'a key in a switch' 0 out 'where from is a neighbour, up to' \
     explain 'config OutOfRange switch 2 link 1 key 7'
 text_case 'a link over several switches' 0 out 'E vl system ns: ' explain E 1 s3 35000
 text_case 'a condition of several switches' 0 out 'B3 switch vl needed: ' explain no B3 aft 1 517
+text_case 'a condition of one of several switches' 0 out 'A3 port vl bound: ' \
+    explain no A3 fwd 24 1 10080
 text_case 'a reason' 0 out 'over-rate: ' explain over-rate
+text_case 'a line of one of several switches' 0 out 'at the switch of this name' \
+    explain V 1 A fwd drop over-rate
+text_case 'a line of a switch that is named as a word' 0 out 'accept: ' explain V 1 A drop accept
+text_case 'a configuration of several switches' 0 out "'solve' and 'list' don't yet" \
+    explain config BadProfile
 case_of 'no line of the program' 2 '' $'words UnknownText\n' explain nonsense
 case_of 'a key that is not there' 2 '' $'words UnknownText\n' explain config Missing link 1 key 13
 case_of 'a line feed is none of a line' 2 '' $'words UnknownText\n' explain $'memory\n'
@@ -43,7 +50,8 @@ for line in ' ' 'config' 'config Twice link 1 key 7' 'config Missing link x key 
     'list BadHex x' 'list over-rate' 'recording BadHex' 'BadHex 1' 'V 7 C drop over-rate' \
     'V 7 A drop overrate' '# 1 S6' 'n' '*' 'no|admit A1 3' 'config Missing top 0 key 6' \
     'config Missing switch 1 key 2' 'config BadProfile switch 2 top 0 key 2' \
-    'config Twice link 1 key 2' 'config Missing switch 1 neighbour 1 key 4' 'S fwd aft' 'E 1 s3'; do
+    'config Twice link 1 key 2' 'config Missing switch 1 neighbour 1 key 4' 'S fwd aft' 'E 1 s3' \
+    'V 1 fwd accept' 'V 1 A fwd aft accept' 'D 1 6720 C fwd 24' 'early 2 aft 5'; do
     case_of "no line of the program: '$line'" 2 '' $'words UnknownText\n' explain "$line"
 done
 for line in 'recording Ended 4 C' 'recording Ended 4 A B' 'recording Ended A' 'recording Ended 4A' \
@@ -74,6 +82,8 @@ full_case 'each word to a full device' 4 $'device Write\n' explain --list
     "$program" check --margins examples/two_switches.toml || true
     "$program" replay --no-admission examples/gigabit.toml examples/gigabit.list
     "$program" send --summary examples/network.toml fcc1 examples/messages.list 2>&1
+    echo '0 2 1 2000 61' | "$program" send examples/two_switches.toml s2 - | tee "$work/s2.list"
+    "$program" replay examples/two_switches.toml "$work/s2.list"
 } >"$work/lines"
 tell 'each line of the examples is explained' "$(
     sort -u -t ' ' -k 1,1 -k 5,5 "$work/lines" >"$work/some"

@@ -84,15 +84,18 @@ def wanted_lines(rows: list[Row]) -> Wanted:
     """Lines with the words of the lists."""
     wanted = []
     for row in of_kind(rows, "drop"):
-        wanted += [(f"V 3 {side} drop {row.word}", [row.text]) for side in "AB"]
+        wanted += [(f"V 3 {place} drop {row.word}", [row.text]) for place in ("A", "B", "B fwd")]
     wanted += [(f"X 6720 s3 2 {row.word}", [row.text]) for row in of_kind(rows, "unread")]
     wanted += [(f"# 7 {row.word}", [row.text, "was refused"]) for row in of_kind(rows, "refusal")]
     wanted += [(f"# {row.word} 7", [row.text]) for row in of_kind(rows, "skipped")]
     for row in of_kind(rows, "admission"):
-        line = row.text.partition(":")[0]
-        line = " ".join(FIELDS.get(field, field) for field in line.split())
-        wanted += [(f"{first} {line}", [row.text]) for first in ("no", "admit")]
-    return wanted + [("no A4 3 101 -", [of_kind(rows, "admission")[3].text])]
+        word, *fields = row.text.partition(":")[0].split()
+        values = " ".join(FIELDS[field] for field in fields)
+        places = ["", " aft"] if word.startswith("A") else [""]
+        wanted += [(f"{first} {word}{place} {values}", ["isn't admitted", row.text])
+                   for first in ("no", "admit") for place in places]
+    low = of_kind(rows, "admission")[3].text
+    return wanted + [(f"no A4 {port} 101 -", ["isn't admitted", low]) for port in ("3", "aft 3")]
 
 
 def wanted_names(rows: list[Row]) -> Wanted:

@@ -74,6 +74,8 @@ file_case 'replay bench.list, without admission' 0 examples/bench.out '' \
     replay --no-admission examples/network.toml examples/bench.list
 file_case 'replay gigabit.list' 0 examples/gigabit.out '' \
     replay --no-admission examples/gigabit.toml examples/gigabit.list
+file_case 'replay two_switches.list' 0 examples/two_switches.out '' \
+    replay examples/two_switches.toml examples/two_switches.list
 case_of 'gigabit.toml is not admitted' 1 '' $'admit A2 4 1430\n' \
     replay examples/gigabit.toml examples/gigabit.list
 case_of 'refused.toml is not admitted' 1 '' $'admit A3 7 104 267995\n' \
@@ -83,7 +85,7 @@ if command -v python3 >/dev/null; then
     tell 'make_bench.py writes the lists as they are' "$(
         mkdir "$work/made"
         python3 examples/make_bench.py "$work/made" 2>&1 || echo 'it failed'
-        for list in bench.list gigabit.list; do
+        for list in bench.list gigabit.list two_switches.list; do
             cmp "$work/made/$list" "examples/$list" 2>&1 || true
         done
     )"
@@ -93,7 +95,7 @@ tell 'the lines that NETWORK.md explains' "$(
     quoted=$(grep -oE '`[VLDTMX] [0-9][^`]*`' docs/NETWORK.md | tr -d '`')
     if [[ $(wc -l <<<"$quoted") -lt 40 ]]; then echo 'there are too few of them'; fi
     while read -r line; do
-        grep -qxF "$line" examples/bench.out examples/gigabit.out || echo "no output has: $line"
+        grep -qxF "$line" examples/{bench,gigabit,two_switches}.out || echo "no output has: $line"
     done <<<"$quoted"
 )"
 

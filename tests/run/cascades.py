@@ -17,22 +17,21 @@ from __future__ import annotations
 import os
 import random
 import sys
-import tempfile
 
 sys.dont_write_bytecode = True
 TESTS = os.path.join(os.path.dirname(os.path.abspath(__file__)), "..")
 sys.path[:0] = [os.path.join(TESTS, name) for name in ("lib", "cascades")]
 import tables as made  # noqa: E402
-from cascade import cascade_text, of_one  # noqa: E402
+from cascade import cascade_text, loaded, of_one  # noqa: E402
 from cascade_check import at_switch, check_lines  # noqa: E402
 from cascade_least import solved_cascade  # noqa: E402
 from cascade_rows import FAULTS, LEAST, ROWS, THREE_TEXT, TWO, TWO_TEXT  # noqa: E402
 from cascade_rows import FaultRow, LeastRow, Row  # noqa: E402
-from first_fault import ROWS as PARTS  # noqa: E402
+from large_cascades import around_one, in_a_mesh, in_a_ring, in_a_row  # noqa: E402
 from least import check_text, port_lines  # noqa: E402
 from made_cascades import made_cascade, mutated, solved, spoiled  # noqa: E402
 from networks import network  # noqa: E402
-from program import Answer, Cases, Program, answers, must, same_text  # noqa: E402
+from program import Answer, Program, answers, main_of_both, must, same_text  # noqa: E402
 from switch_fault import file_fault  # noqa: E402
 
 OPTIONS: list[tuple[str, ...]] = [(), ("--all",), ("--margins",), ("--all", "--margins")]
@@ -41,12 +40,6 @@ ONE = "only"  # the name of a switch that is alone
 
 
 # ---- what is computed here -----------------------------------------------------------------------
-
-
-def loaded(text: bytes) -> dict:
-    """The tables of a file of several switches that has no fault, absent arrays too."""
-    cascade = made.tomllib.loads(text.decode())
-    return {"switch": [{part: [] for part in PARTS} | switch for switch in cascade["switch"]]}
 
 
 def wanted(cascade: dict, options: tuple[str, ...]) -> bytes:
@@ -165,40 +158,6 @@ def no_beginning_is_whole(program: Program) -> None:
         answers(checked(program, text[:count]), 1, b"", fault)
 
 
-def in_a_row(count: int) -> dict:
-    """So many switches in a row; one link goes from the first to the last."""
-    link = made.base_tables()["link"][0] | {"skew_us": 100_000}
-    switches = []
-    for k in range(count):
-        cables = [{"name": f"w{n}", "port": 20 + n - k, "rate": 100}
-                  for n in (k - 1, k + 1) if 0 <= n < count]
-        system = [made.system_of(k // (count - 1) + 1)] if k in (0, count - 1) else []
-        row = {"from": f"w{k - 1}" if k else "s1", "to": [f"w{k + 1}" if k < count - 1 else "s2"]}
-        switches.append({
-            "name": f"w{k}", "profile": 1, "buffer": 4096, "system": system, "neighbour": cables,
-            "link": [link | row], "port": [],
-        })
-    return solved({"switch": switches})
-
-
-def around_one(count: int) -> dict:
-    """So many switches around one, each with a system whose link goes to all others."""
-    link = made.base_tables()["link"][0] | {"bag_ms": 32, "skew_us": 100_000}
-    names = range(1, count + 1)
-    ends = [{"name": f"w{n}", "port": n, "rate": 100} for n in names]
-    rows = [link | {"vl": n, "from": f"w{n}", "to": [f"w{m}" for m in names if m != n]}
-            for n in names]
-    switches = [{"name": "w0", "profile": 1, "buffer": 4096, "system": [], "neighbour": ends,
-                 "link": rows, "port": []}]
-    for n in names:
-        rows = [link | {"vl": m, "from": "w0", "to": [f"s{n}"]} for m in names if m != n]
-        rows.insert(0, link | {"vl": n, "from": f"s{n}", "to": ["w0"]})
-        system, cable = made.system_of(n), {"name": "w0", "port": 24, "rate": 100}
-        switches.append({"name": f"w{n}", "profile": 1, "buffer": 4096, "system": [system],
-                         "neighbour": [cable], "link": rows, "port": []})
-    return solved({"switch": switches})
-
-
 def admitted(program: Program, cascade: dict) -> None:
     """It is admitted, and answered as computed here."""
     must(wanted(cascade, ()).endswith(b"\nok\n"), "it is not admitted")
@@ -234,10 +193,9 @@ def ones_as_ever(program: Program, seed: int, count: int) -> None:
 
 
 def only_checked(program: Program) -> None:
-    """The other commands don't know several switches yet."""
+    """Another command doesn't know several switches yet."""
     config, fault = program.write("config", TWO_TEXT), b"config BadProfile\n"
-    for words in (["replay", config, "-"], ["send", config, "s1", "-"], ["solve", config]):
-        answers(program.run(*words), 1, b"", fault)
+    answers(program.run("solve", config), 1, b"", fault)
 
 
 # ---- all -----------------------------------------------------------------------------------------
@@ -259,11 +217,13 @@ def program_cases(program: Program) -> list[tuple]:
     cases += [
         ("24 switches in a row", admitted, program, in_a_row(24)),
         ("23 switches around one", admitted, program, around_one(23)),
+        ("24 switches in a ring", admitted, program, in_a_ring(24)),
+        ("24 switches each to each", admitted, program, in_a_mesh(24, False)),
         ("aircraft.toml", admitted, program, loaded(made.example("aircraft.toml"))),
         ("no beginning is whole", no_beginning_is_whole, program),
         ("beginnings of two switches", all_beginnings, program, TWO_TEXT),
         ("beginnings of three switches", all_beginnings, program, THREE_TEXT),
-        ("commands that know one switch alone", only_checked, program.apart()),
+        ("a command that knows one switch alone", only_checked, program.apart()),
     ]
     for seed in range(4):
         cases.append((f"25 generated cascades, {seed}", all_alike, program, seed, 25))
@@ -274,20 +234,5 @@ def program_cases(program: Program) -> list[tuple]:
     ]
 
 
-def main() -> None:
-    """Takes PROGRAM from the words, tries all cases in a folder that is removed, and ends."""
-    words = sys.argv[1:]
-    if len(words) > 1 or not all(os.access(path, os.X_OK) for path in words):
-        print(__doc__.strip(), file=sys.stderr)
-        sys.exit(2)
-    cases = Cases()
-    with tempfile.TemporaryDirectory(prefix="afdx-tests-") as folder:
-        given = computed_cases()
-        if words:
-            given += program_cases(Program(words[0], folder))
-        cases.try_at_once(given)
-    sys.exit(cases.told())
-
-
 if __name__ == "__main__":
-    main()
+    main_of_both(__doc__, computed_cases, program_cases)

@@ -6,15 +6,16 @@
 tests/lib/weak_devices.c, which `cc` compiles, makes the devices weak: at most 16 bytes a call, and
 the first call broken, then the second, and so on. A call is broken by an error that stays, by an
 error that is gone at the next call, by an interruption, or by moving no byte. `police`, `replay`,
-with admission and without, and `send` are run on lists of a few lines, read by path or as standard
-input, and `check` and `solve` on configurations; `police` and `replay` also on recordings, and on
-two at once, of which one is weak, if the program reads them (tests/lib/reads.py). Each run must
-write a beginning of the undisturbed text, exactly as far as it has to, and end with the status and
-the one line of the device that failed; and a device that failed, or has ended, must not be asked
-again, nor the other one be asked for more than what is held. With --line-buffered the text of each
-line, or recorded frame, must be handed over before more is read; frames that are held to be put in
-order are reported at the end and at a fault, and not after a failed read. The first bytes are also
-read one by one, and each of these reads is broken too.
+with admission and without, and `send` are run on lists of a few lines, over several switches a side
+too, read by path or as standard input, and `check` and `solve` on configurations; `police` and
+`replay` also on recordings, and on two at once, of which one is weak, if the program reads them
+(tests/lib/reads.py). Each run must write a beginning of the undisturbed text, exactly as far as it
+has to, and end with the status and the one line of the device that failed; and a device that
+failed, or has ended, must not be asked again, nor the other one be asked for more than what is
+held. With --line-buffered the text of each line, or recorded frame, must be handed over before more
+is read; frames that are held to be put in order are reported at the end and at a fault, and not
+after a failed read. The first bytes are also read one by one, and each of these reads is broken
+too.
 Prints `ok NAME` or `FAILED NAME` for each case, then `N passed, M failed`; ends with status 1 if a
 case failed.
 """
@@ -159,6 +160,10 @@ REPLAYED = {
     "an odd number of digits": spelled("F 0 A 1 H1 / F 7000 A 2 H2 / F 20000 A 1 030"),
 }
 TOO_OLD = {"frames too old": spelled("F 0 A 1 H1 / F 0 A 2 H2 / F 6720 B 1 H1 / ")}
+OVER_TWO = {
+    "frames over two switches": spelled("F 0 A fwd 1 H1 / F 6720 A aft 2 H2 / F 6720 B fwd 1 H1"),
+    "a cable's port": spelled("F 0 A aft 2 H2 / F 20000 A aft 3 H1 / F 20000 A fwd 24 H2 / "),
+}
 MESSAGES = {
     "four messages": submission_list(
         [Message(0, 1, 1 + k % 2, 1000, b"%c" % (97 + k)) for k in range(4)]
@@ -168,6 +173,7 @@ MESSAGES = {
     + b"\n",
     "a time beyond the last": b"0 1 1 1000 61\n5000000 1 2 1000 62\n1000000000000001 1 1 1000 61\n",
 }
+SENT_OVER_TWO = {"messages to two switches": b"0 2 1 2000 61\n0 1 1 2000 62\n9000 2 1 7 63\n"}
 
 
 def short_lists(program: Program, config: str) -> Iterator[tuple]:
@@ -175,6 +181,7 @@ def short_lists(program: Program, config: str) -> Iterator[tuple]:
     old = made.base_tables(2)
     old["link"][1]["latency_us"] = 6
     too_old = program.write("old.toml", made.text_of(old))
+    two = program.write("two.toml", made.example("two_switches.toml"))
     unadmitted = ["replay", "--no-admission"]
     for words, lists in (
         (POLICE, FRAMES),
@@ -182,6 +189,9 @@ def short_lists(program: Program, config: str) -> Iterator[tuple]:
         ([*unadmitted, config], REPLAYED),
         ([*unadmitted, too_old], TOO_OLD),
         (["send", config, "s1"], MESSAGES),
+        (["replay", two], OVER_TWO),
+        ([*unadmitted, two], OVER_TWO),
+        (["send", two, "s2"], SENT_OVER_TWO),
     ):
         for by_path, (name, given) in zip(itertools.cycle((True, False)), lists.items()):
             yield f"{named(words)}: {name}", weak_devices, Weak(program, words, given, by_path)

@@ -7,11 +7,12 @@
 # PROGRAM polices examples/one_link.list on standard input, checks examples/base.toml, the same with
 # `--margins`, and with late links by `--all`, solves it with late links, explains a line, replays a
 # frame and its copy in base.toml, replays examples/gigabit.list, and sends five messages, of which
-# one is refused. It polices and replays recordings, and replays and lists two at once, if it reads
-# them (tests/lib/reads.py). Each of these is run with the first request refused, then the second,
-# and so on, until a run meets no refusal; and again with all requests refused from the first on,
-# from the second on, and so on. Each run must write a beginning of what the undisturbed run writes,
-# and end either with the line `memory` and status 4, or as the undisturbed run does.
+# one is refused; it replays and sends over examples/two_switches.toml. It polices and replays
+# recordings, and replays and lists two at once, if it reads them (tests/lib/reads.py). Each of
+# these is run with the first request refused, then the second, and so on, until a run meets no
+# refusal; and again with all requests refused from the first on, from the second on, and so on.
+# Each run must write a beginning of what the undisturbed run writes, and end either with the line
+# `memory` and status 4, or as the undisturbed run does.
 #
 # Of each RUNNER the tests whose names, with their modules', contain `refused` are run, with one
 # request refused at a time, and with all refused from one on. Such a test makes a call again where
@@ -183,6 +184,10 @@ if [[ $tests == no ]]; then
     input=$work/messages.list
     printf '0 1 %d 1000 61\n' 1 1 2 2 3 >"$input"
     refuse_program 'send five messages' "$1" send "$top/examples/base.toml" s1 -
+    refuse_program 'send over two switches' "$1" send "$top/examples/two_switches.toml" s1 -
+    input=$work/several.list
+    sed 's/^F 0 [AB]/& fwd/' "$work/copies.list" >"$input"
+    refuse_program 'replay over two switches' "$1" replay "$top/examples/two_switches.toml" -
     refuse_recordings "$1"
 else
     input=/dev/null

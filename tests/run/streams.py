@@ -259,10 +259,13 @@ def bounded_memory(program: Program, count: int) -> None:
     frame = frame_of(tables["system"][0], 1, 1000, b"hello", 0, "A").hex().encode()
     lines = [b"R %d A 1 %s\n" % (k * MS, frame) for k in range(count)]
     messages = [b"%d 1 1 1000 61\n" % (k * MS) for k in range(count)]
+    two = program.write("two", made.example("two_switches.toml"))
+    over_two = [line.replace(b" A ", b" A fwd ", 1) for line in lines]
     for words, all_lines in (
         (["police", "1", "64", "500"], lines),
         (["replay", config], lines),
         (["replay", "--no-admission", config], lines),
+        (["replay", two], over_two),
         (["send", config, "s1"], messages),
     ):
         few = program.write("few", b"".join(all_lines[: count // 100]))

@@ -26,6 +26,13 @@ several_switches_tests() {
     sed 's/^jitter_us = 517/jitter_us = 101001/' "$two" >"$work/several.toml"
     launch tools/afdx-fill "$work/several.toml" "$made"
     tell 'refused: the same with a fault' "$(is_status 1; one_line; says err 'several switches')"
+    launch tools/afdx-capture pcap <(printf 'F 0 A fwd 1 00\n') "$made"
+    tell 'refused: a list of several switches' "$(
+        is_status 2
+        one_line
+        says err 'line 1 is no line of a frame list'
+        if [[ -e $made ]]; then echo "there is a $made"; fi
+    )"
     launch tools/afdx-fill <(printf 'profile = 3\n') "$made"
     tell 'a profile that is none has its own fault' "$(is_status 1; says err 'config BadProfile')"
 }

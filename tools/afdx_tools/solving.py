@@ -12,7 +12,7 @@ from afdx_tools.program import program, version
 
 AS_WRITTEN = "jitter,buffer,latency,skew"  # the keys that `solve` finds; kept, all stay
 NEED = re.compile(r"vl (\d+) at (\d+): (\d+) ns needed, (\d+) us asked")
-SEVERAL = "so far only `afdx check` reads a configuration of several switches a side"
+SEVERAL = "so far no tool reads a configuration of several switches a side"
 # what `check` says of such a file: the name of the first switch, or a fault in one, or of the key
 NAMED = re.compile(r"S |config \w+ (switch |top 0 key 6$)")
 

@@ -9,11 +9,10 @@ use crate::telling::{complain, error_lines, memory};
 use crate::{explain_if_asked, no_file};
 use afdx_commands::status::{DONE, WRONG_WORDS};
 use afdx_frame::BySide;
-use afdx_inputs::Arrivals;
 use afdx_replay::{
     CommandedRule, Ended, InputEnded, ListEnded, Output, PairOptions, Peeked, RecordingOptions,
-    Sink, Watched, finish, list_and_count, list_pair_and_count, police_input, replay_input,
-    send_and_count,
+    Sink, SitedInput, Watched, finish, list_and_count, list_pair_and_count, police_input,
+    replay_input, send_and_count,
 };
 use afdx_text::WholeLines;
 use afdx_words::{Refused, pair_options, recording_options};
@@ -131,7 +130,7 @@ fn early_lines(rt: &HostRuntime, are_asked: bool) -> Option<Watched<WholeLines<S
 }
 
 /// What `list` takes: a recording, or two that are read at once.
-trait Recordings<P>: Arrivals<P> {
+trait Recordings<P>: SitedInput<P> {
     /// Writes what they say as a list.
     fn list<O: Sink, E: Write>(
         &mut self,

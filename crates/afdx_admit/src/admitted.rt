@@ -41,6 +41,15 @@ impl Admitted {
     {
         &self.tables
     }
+
+    /// Tables that were admitted with others.
+    pub(crate) fn of_all(tables: Tables) -> Admitted
+        requires lawful { IsLawfulSwitch tables }
+        requires admitted { IsAdmitted tables }
+        ensures { result ≡ tables }
+    {
+        Admitted { tables }
+    }
 }
 
 /// Admits tables of which all lines hold. Otherwise they are handed back with the first line that

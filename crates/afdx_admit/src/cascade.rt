@@ -5,9 +5,10 @@ ghost use Rattle.afdx_frame.specs.Lines.{first_false};
 ghost use Rattle.afdx_admit.specs.Cascade.{IsCascadeAdmitted, cascade_lines};
 ghost use Rattle.afdx_admit.specs.AtSwitch.{IsKnownAt};
 
+use crate::admitted::Admitted;
 use crate::cascade_fault::CascadeFault;
 use crate::cascade_lines::first_fault;
-use afdx_config::Switches;
+use afdx_config::{SwitchId, Switches};
 use std::marker::Model;
 
 /// Switches at each of which every frame keeps its link's latency, and whose rows of a link allow
@@ -30,7 +31,7 @@ impl Model for AdmittedSwitches {
 }
 
 impl AdmittedSwitches {
-    ghost use Rattle.std.specs.Prelude.{◌≡◌};
+    ghost use Rattle.std.specs.Prelude.{◌≡◌, ◌<◌, length, option_map, slice_get, Some};
     ghost use Rattle.afdx_config.specs.Switches.{AreSwitches};
     ghost use Rattle.afdx_admit.specs.Cascade.{IsCascadeAdmitted};
 
@@ -41,6 +42,14 @@ impl AdmittedSwitches {
         ensures admitted { IsCascadeAdmitted self.now }
     {
         &self.switches
+    }
+
+    /// The tables of the switch at this place alone, which are admitted too.
+    pub fn into_admitted(self, switch: SwitchId) -> Admitted
+        requires { switch.0 < length self }
+        ensures { option_map (λ s. s.rows) (slice_get self switch.0) ≡ Some result }
+    {
+        Admitted::of_all(self.switches.into_tables(switch))
     }
 }
 

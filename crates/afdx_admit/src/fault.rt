@@ -30,7 +30,7 @@ pub enum AdmitFault {
 pub const ADMISSION: [(&str, &str, &str); 7] = [
     (
         "A1",
-        "?\nno|admit ? n",
+        "?\nno|admit ? n\nno|admit ? * n",
         "\
 A1 port: the port is overloaded: the links to it send more than its line carries.
 What may help: fewer or shorter frames to it, longer BAGs, a faster line (bag_ms, lmax of
@@ -38,7 +38,7 @@ the links to that system, its rate).",
     ),
     (
         "A2",
-        "?\nno|admit ? n n",
+        "?\nno|admit ? n n\nno|admit ? * n n",
         "\
 A2 port needed: its buffer is too small; needed bytes is what may wait there.
 What may help: a larger buffer, less jitter (buffer at the top, 64 to 4194304; jitter_us and
@@ -46,7 +46,7 @@ lmax of the links to that system).",
     ),
     (
         "A3",
-        "?\nno|admit ? n n n",
+        "?\nno|admit ? n n n\nno|admit ? * n n n",
         "\
 A3 port vl bound: the high link vl allows less than bound ns there.
 What may help: a larger latency, less high traffic, shorter low frames (latency_us of the
@@ -54,7 +54,7 @@ link to bound / 1000 or more, 1 to 100000; lmax of low links to that system).",
     ),
     (
         "A4",
-        "?\nno|admit ? n n n\nno ? n n -",
+        "?\nno|admit ? n n n\nno ? n n -\nno|admit ? * n n n\nno ? * n n -",
         "\
 A4 port vl bound: the low link vl allows less than bound ns there.
 What may help: a larger latency, less traffic (latency_us of the link to bound / 1000 or
@@ -62,7 +62,7 @@ more, 1 to 100000).",
     ),
     (
         "A5",
-        "?\nno|admit ? * n",
+        "?\nno|admit ? * n\nno|admit ? * * n",
         "\
 A5 system ns: the system's jitter is ns, over 500,000 ns.
 What may help: fewer links or shorter frames from it, a faster line (lmax of its links, its
@@ -70,7 +70,7 @@ rate).",
     ),
     (
         "A6",
-        "?\nno|admit ? n n",
+        "?\nno|admit ? n n\nno|admit ? * n n",
         "\
 A6 vl needed: the link's jitter is less than its sender's, needed ns.
 What may help: a larger jitter_us, for all links of that sender: needed / 1000, rounded up;
@@ -78,7 +78,7 @@ What may help: a larger jitter_us, for all links of that sender: needed / 1000, 
     ),
     (
         "A7",
-        "?\nno|admit ? n",
+        "?\nno|admit ? n\nno|admit ? * n",
         "\
 A7 vl: the link's latency is greater than its skew.
 What may help: a larger skew_us, latency_us or more, 1 to 100000.",

@@ -33,6 +33,7 @@ use Rattle.afdx_cascade.specs.declared.told.Brought.{Brought}
 use Rattle.afdx_cascade.specs.declared.told.Happened.TheVariants.{Over, Came}
 use Rattle.afdx_cascade.specs.declared.told.Turned.{Turned}
 use Rattle.afdx_cascade.proofs.FrontLemmas.{due-later, line-keeps, start-keeps}
+use Rattle.afdx_cascade.proofs.InsideLemmas.{all-inside}
 use Rattle.afdx_cascade.proofs.NextLemmas.{until-more}
 use Rattle.afdx_cascade.proofs.PlanLemmas.{switches-plan}
 
@@ -113,6 +114,7 @@ stands-same c so_far w new st same = record {
   count = ap length same.networks ∙ st.count;
   some = st.some;
   few = st.few;
+  inside = st.inside;
   time = st.time;
   ring = st.ring;
   keeps = subst (λ ns. Keeps c ns st.time st.ring so_far) (sym same.networks) st.keeps;
@@ -162,12 +164,16 @@ module _ (c : Plan) (so_far : List SwitchEvent) (w new : Cascade) (until : ℕ)
         time = next.is.arrived.time_is;
         tag = next.is.arrived.tag;
         verdict = next.is.arrived.verdict;
+        early = next.is.arrived.early;
       };
       stands = record {
         count = size ∙ st.count;
         some = st.some;
         few = st.few;
         time = st.time;
+        inside = all-inside c new.networks.items
+            (arriving c so_far b.switch (brought next.r.side b.port next.r.turn) ∷ so_far)
+            next.is.keeps.stands.all (size ∙ st.count);
         ring = next.rest;
         keeps = next.is.keeps;
         ends = subst (AreEnds c) (sym ends) st.ends;
@@ -196,6 +202,8 @@ module _ (c : Plan) (so_far : List SwitchEvent) (w new : Cascade) (until : ℕ)
         some = st.some;
         few = st.few;
         time = next.at;
+        inside = all-inside c new.networks.items (event_at k (Left next.is.departure) ∷ so_far)
+            next.is.keeps.stands.all (size ∙ st.count);
         ring = next.is.ring;
         keeps = next.is.keeps;
         ends = subst (AreEnds c) (sym ends) st.ends;
@@ -264,6 +272,8 @@ line-next c so_far w new line st quiet by free ends transit ns is size clock sti
         count = ap length is ∙ size ∙ st.count;
         some = st.some;
         few = st.few;
+        inside = all-inside c ns (arriving c so_far line.switch line.arrival ∷ so_far)
+            stands.all (size ∙ st.count);
         time = line.arrival.time;
         ring = [];
         keeps = subst (λ zs. Keeps c zs line.arrival.time []
@@ -299,6 +309,7 @@ new-stands ss are w size each clock ends none =
       count = size;
       some = are.count.0;
       few = are.count.1;
+      inside = tt;
       time = 0;
       ring = [];
       keeps = start-keeps (plan_of ss) w.networks.items plan.0

@@ -18,9 +18,9 @@ use Rattle.afdx_network.specs.Events.{Event, Came, Left, Admission, Departure, a
 use Rattle.afdx_network.proofs.EventLemmas.{ports-same, taken-same, taken-other}
 use Rattle.afdx_promises.specs.Sent.{arrivals_at}
 use Rattle.afdx_cascade.specs.Cables.{brought}
-use Rattle.afdx_cascade.specs.SwitchEvents.{Plan, IsPlan, End, SwitchEvent, FrameTest, AlwaysKeepsRules}
+use Rattle.afdx_cascade.specs.SwitchEvents.{Plan, IsPlan, End, SwitchEvent, FrameTest, AlwaysKeepsRules, HasPort, IsInPlan}
 use Rattle.afdx_cascade.specs.SwitchEvents.{at_switch, came_to, count_if, in_clock, passes, listed, turns_of, with_listed}
-use Rattle.afdx_cascade.specs.Once.{EventsAreFew, HasPort, IsInPlan}
+use Rattle.afdx_cascade.specs.Once.{EventsAreFew}
 use Rattle.afdx_cascade.proofs.CountLemmas.{turns-and-rest}
 use Rattle.afdx_cascade.proofs.OnceLemmas.{at-most-listed, turns-there}
 use Rattle.afdx_cascade.proofs.AcceptedLemmas.{entries-few, entry_meant}
@@ -31,19 +31,19 @@ abbrev pub sum_below : (ℕ → ℕ) → ℕ → ℕ
 sum_below f zero = 0
 sum_below f (suc n) = sum_below f n + f n
 
-sum-most : (f : ℕ → ℕ) (most n : ℕ) → ((m : ℕ) → m < n → f m ≤ most) → sum_below f n ≤ n * most
+pub sum-most : (f : ℕ → ℕ) (most n : ℕ) → ((m : ℕ) → m < n → f m ≤ most) → sum_below f n ≤ n * most
 sum-most f most zero h = omega arith
 sum-most f most (suc n) h =
     let rest = sum-most f most n (λ m lt. h m (omega (arith, lt))) in
     let here = h n (omega arith) in
     omega (arith, rest, here)
 
-sum-grows : (f g : ℕ → ℕ) (n : ℕ) → ((m : ℕ) → f m ≤ g m) → sum_below f n ≤ sum_below g n
+pub sum-grows : (f g : ℕ → ℕ) (n : ℕ) → ((m : ℕ) → f m ≤ g m) → sum_below f n ≤ sum_below g n
 sum-grows f g zero h = omega arith
 sum-grows f g (suc n) h = let rest = sum-grows f g n h in let here = h n in
     omega (arith, rest, here)
 
-sum-more : (f g : ℕ → ℕ) (n m : ℕ) → m < n → ((i : ℕ) → f i ≤ g i) → f m + 1 ≤ g m
+pub sum-more : (f g : ℕ → ℕ) (n m : ℕ) → m < n → ((i : ℕ) → f i ≤ g i) → f m + 1 ≤ g m
     → sum_below f n + 1 ≤ sum_below g n
 sum-more f g zero m lt h more = absurd (omega (arith, lt))
 sum-more f g (suc n) m lt h more = elim (cases_eq m n) [
@@ -267,14 +267,14 @@ others-busy c k (h ∷ before) plan all =
 
 -- ---- each is at most as many as the list has on its side
 
-abbrev all_frames : FrameTest
+abbrev pub all_frames : FrameTest
 all_frames tag bytes = true
 
 all-counted : {X : Type 0} (xs : List X) → count_if (λ x. true) xs ≡ length xs
 all-counted [] = refl
 all-counted (x ∷ xs) = ap suc (all-counted xs)
 
-both-sides : (xs : List Arrival)
+pub both-sides : (xs : List Arrival)
     → count_if (passes A all_frames) xs + count_if (passes B all_frames) xs ≡ length xs
 both-sides [] = refl
 both-sides (x ∷ xs) = by x.side refl (both-sides xs)

@@ -25,7 +25,11 @@ pub mod NextLemmas
 pub mod EndLemmas
 pub mod PlanLemmas
 pub mod BuildLemmas
+pub mod InsideLemmas
+pub mod EarlyLemmas
 pub mod CascadeLemmas
+pub mod CountedLemmas
+pub mod PartLemmas
 pub mod OneFrameLemmas
 pub mod TwoHopsLemmas
 pub mod TwoHopsRunLemmas

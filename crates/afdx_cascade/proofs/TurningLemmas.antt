@@ -48,7 +48,7 @@ module _ (c : Plan) (networks : List Network) (transit : List InTransit) (time :
     carried = λ to young soon joined early below. absurd (not-last to young soon joined silent);
   }
 
-  pub turns-carried : (s : Sent) (v : InTransit) (grown : List InTransit) → IsSent s g.departure
+  pub turns-carried : (s : Sent) (v : InTransit) (grown : List InTransit) → IsSent c k s g.departure
       → v.departed ≡ value
       → g.departure.turn.too_old ≡ false → g.departure.turn.end ≤ 1000032768000000
       → c.far_end k g.departure.port ≡ Some (end_at v.switch v.port)

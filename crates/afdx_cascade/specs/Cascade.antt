@@ -13,8 +13,8 @@ use Rattle.afdx_cascade.specs.Due.{OnCable}
 use Rattle.afdx_cascade.specs.Keeping.{Keeps, IsNothingDue}
 use Rattle.afdx_cascade.specs.Runs.{Line, IsDue, IsFirstDue, IsNextLine, arriving, event_at}
 use Rattle.afdx_cascade.specs.Scan.{switches_most}
-use Rattle.afdx_cascade.specs.SwitchEvents.{Plan, SwitchEvent, came_to}
-use Rattle.afdx_cascade.specs.Turning.{AreEnds, AreInTransit, TellsTurn}
+use Rattle.afdx_cascade.specs.SwitchEvents.{Plan, SwitchEvent, IsInPlan, came_to}
+use Rattle.afdx_cascade.specs.Turning.{AreEnds, AreInTransit, TellsTurn, WasEarlyBy}
 use Rattle.afdx_cascade.specs.declared.cascade.Cascade.{Cascade}
 use Rattle.afdx_cascade.specs.declared.told.Brought.{Brought}
 use Rattle.afdx_cascade.specs.declared.told.Happened.{Happened}
@@ -29,6 +29,8 @@ pub record StandsFor (c : Plan) (w : Cascade) (so_far : List SwitchEvent) : Type
   pub count : switch_count w ≡ c.count
   pub some : 1 ≤ c.count
   pub few : c.count ≤ switches_most
+  -- each event is at one of the switches, and each turn at one of its ports
+  pub inside : AllByRecursion (IsInPlan c) so_far
   pub time : ℕ
   pub ring : List OnCable
   pub keeps : Keeps c w.networks.items time ring so_far
@@ -77,11 +79,12 @@ pub record TellsArrival (c : Plan) (so_far : List SwitchEvent) (b : Brought) (h 
   pub tag : b.tag ≡ arrival.tag
   pub verdict : network.Tells b.verdict
       (admission_after (c.tables b.switch) (came_to b.switch so_far) arrival)
+  pub early : WasEarlyBy (c.tables b.switch) (came_to b.switch so_far) arrival b.early
 
 -- what is told is the event
 abbrev pub TellsEvent : Plan → List SwitchEvent → Happened → SwitchEvent → Type 0
 TellsEvent c so_far (Over k turned) h =
-    (d : Departure) × (h ≡ event_at k (Left d)) × TellsTurn turned d
+    (d : Departure) × (h ≡ event_at k (Left d)) × TellsTurn c k turned d
 TellsEvent c so_far (Came b) h = TellsArrival c so_far b h
 
 -- an event is told: the next one of each list whose next frame comes at `until` or later

@@ -45,7 +45,7 @@ pub record Keeps (c : Plan) (networks : List Network) (time : ℕ) (ring : List 
 pub record TurnIsNext (c : Plan) (networks : List Network) (transit : List InTransit) (until : ℕ)
     (so_far : List SwitchEvent) (k : ℕ) (value : Turned) : Type 0 where
   pub departure : Departure
-  pub tells : TellsTurn value departure
+  pub tells : TellsTurn c k value departure
   pub next : (lines : List Line) →
       IsBeforeLine (turn_place k departure.side
       (record { port = departure.port; turn = departure.turn })) lines →

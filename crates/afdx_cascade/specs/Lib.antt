@@ -14,3 +14,4 @@ pub mod Keeping
 pub mod Plans
 pub mod Cascade
 pub mod TwoHops
+pub mod Parts

@@ -1,6 +1,6 @@
 -- What happens in a cascade: several switches on each side, joined by cables. Lists have the latest
 -- first.
-use Rattle.std.specs.Prelude.{◌≡◌, ℕ, ◌≤◌, ◌==◌, ◌&&◌, suc, Bool, is_none, not, nat_lt, filter, if◌then◌else◌, Option, Some, List, [], ◌∷◌, ◌++◌}
+use Rattle.std.specs.Prelude.{◌≡◌, ℕ, ◌<◌, ◌≤◌, ◌==◌, ◌&&◌, suc, Bool, is_none, not, nat_lt, filter, if◌then◌else◌, Option, Some, List, [], ◌∷◌, ◌++◌}
 use Rattle.afdx_frame.specs.Ports.{last_port}
 use Rattle.afdx_frame.specs.declared.link.Side.{Side}
 use Rattle.afdx_config.specs.Lawful.{IsLawfulSwitch}
@@ -46,6 +46,14 @@ pub record IsPlan (c : Plan) : Type 0 where
 pub record SwitchEvent : Type 0 where
   pub switch : ℕ
   pub event : Event
+
+-- it is at one of the switches, and a turn at one of its ports
+abbrev pub HasPort : Event → Type 0
+HasPort (Came a) = Unit {0}
+HasPort (Left d) = (1 ≤ d.port) × (d.port ≤ last_port)
+
+abbrev pub IsInPlan : Plan → SwitchEvent → Type 0
+IsInPlan c h = (h.switch < c.count) × HasPort h.event
 
 -- the events at one switch
 abbrev pub at_switch : ℕ → List SwitchEvent → List Event

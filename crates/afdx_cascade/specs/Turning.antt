@@ -1,12 +1,17 @@
 -- Networks and a ring as values of the code: what a turn and an arrival make of them.
-use Rattle.std.specs.Prelude.{◌≡◌, ℕ, ◌+◌, ◌*◌, ◌<◌, ◌≤◌, length, ◌⊎◌, false, true, Option, Some, None, List, [], ◌∷◌, ◌++◌, slice_get}
+use Rattle.std.specs.Prelude.{◌≡◌, ℕ, ◌+◌, ◌*◌, ◌<◌, ◌≤◌, length, ◌⊎◌, Bool, false, true, Option, Some, None, List, [], ◌∷◌, ◌++◌, slice_get}
 use Rattle.std.specs.List.{AllByRecursion}
 use Rattle.afdx_frame.specs.Ports.{last_port}
+use Rattle.afdx_config.specs.Rows.{Rows}
+use Rattle.afdx_police.specs.Arrival.{Arrival}
+use Rattle.afdx_police.specs.Verdicts.{is_over_rate}
 use Rattle.afdx_port.specs.Due.{IsBy}
 use Rattle.afdx_port.specs.History.{left_of, due_at}
 use Rattle.afdx_port.specs.Times.{latest_put}
 use Rattle.afdx_switch.specs.Departures.{as_given}
+use Rattle.afdx_switch.specs.Early.{IsEarlyBy}
 use Rattle.afdx_switch.specs.Switching.{IsNextOf}
+use Rattle.afdx_switch.specs.Verdicts.{reason_of}
 use Rattle.afdx_network.specs.Events.{Departure, Left, admission_after, calls_on}
 use Rattle.afdx_network.specs.Network as network
 use Rattle.afdx_network.specs.Order.{is_below}
@@ -85,16 +90,18 @@ pub record GivesAt (c : Plan) (networks : List Network) (time : ℕ) (ring : Lis
       Stands c networks departure.turn.end (ring ++ r ∷ [])
       (event_at k (Left departure) ∷ so_far)
 
--- what is told of a slot at a port where a cable is
-pub record IsSent (s : Sent) (d : Departure) : Type 0 where
+-- what is told of a slot at a port of a switch where a cable is
+pub record IsSent (c : Plan) (k : ℕ) (s : Sent) (d : Departure) : Type 0 where
+  pub left : d.turn.too_old ≡ false
+  pub cable : (to : End) × (c.far_end k d.port ≡ Some to)
   pub side : s.side ≡ d.side
   pub port : s.port ≡ d.port
   pub time : s.time ≡ d.turn.end
   pub tag : s.tag ≡ d.turn.entry.item.tag
 
-abbrev pub TellsTurn : Turned → Departure → Type 0
-TellsTurn (Ended value) d = network.Hands value d
-TellsTurn (Carried s) d = IsSent s d
+abbrev pub TellsTurn : Plan → ℕ → Turned → Departure → Type 0
+TellsTurn c k (Ended value) d = network.Hands value d
+TellsTurn c k (Carried s) d = IsSent c k s d
 
 -- the network of a switch gave its first turn by then, and networks and ring stand for it too: no
 -- cable carries its frame, or it joined the ring
@@ -102,7 +109,7 @@ pub record TurnsAt (c : Plan) (networks : List Network) (transit : List InTransi
     (ring : List OnCable) (so_far : List SwitchEvent) (k until : ℕ) (value : Turned) : Type 0 where
   pub departure : Departure
   pub in_time : IsBy until (due_at departure.turn)
-  pub tells : TellsTurn value departure
+  pub tells : TellsTurn c k value departure
   pub new : Network
   pub stands : network.StandsFor (c.tables k) new (Left departure ∷ at_switch k so_far)
   pub next : IsNextOf (c.tables k) departure.side (calls_on departure.side (at_switch k so_far) 0)
@@ -136,6 +143,14 @@ pub record CanArrive (networks : List Network) (v : InTransit) : Type 0 where
       slice_get networks v.switch ≡ Some n →
       network.IsQuiet n (as_given v.departed.departure).end
 
+-- by how much an arrival came too early, if it was dropped for its link's rate; else 0
+abbrev pub IsWait : (was_dropped : Bool) → Rows → List Arrival → Arrival → ℕ → Type 0
+IsWait true t past x wait = IsEarlyBy t past x wait
+IsWait false t past x wait = wait ≡ 0
+
+abbrev pub WasEarlyBy : Rows → List Arrival → Arrival → ℕ → Type 0
+WasEarlyBy t past x wait = IsWait (is_over_rate (reason_of t past x)) t past x wait
+
 -- it arrived, and left the ring; what is told of it
 pub record ArrivesAt (c : Plan) (networks : List Network) (transit : List InTransit) (time : ℕ)
     (r : OnCable) (rest : List OnCable) (so_far : List SwitchEvent) (value : Brought) : Type 0 where
@@ -149,3 +164,5 @@ pub record ArrivesAt (c : Plan) (networks : List Network) (transit : List InTran
   pub verdict : network.Tells value.verdict
       (admission_after (c.tables value.switch) (came_to value.switch so_far)
       (brought r.side value.port r.turn))
+  pub early : WasEarlyBy (c.tables value.switch) (came_to value.switch so_far)
+      (brought r.side value.port r.turn) value.early

@@ -5,6 +5,7 @@ ghost use Rattle.std.specs.Prelude.{◌≡◌, ℕ, ◌<◌, ◌≤◌, ◌∷�
 ghost use Rattle.afdx_frame.specs.Parts.{bytes_of};
 ghost use Rattle.afdx_port.specs.Times.{latest_put};
 ghost use Rattle.afdx_police.specs.Arrival.{arrival_with};
+ghost use Rattle.afdx_police.specs.Verdicts.{is_over_rate as over_rate};
 ghost use Rattle.afdx_network.specs.declared.network.Network.{Network as At};
 ghost use Rattle.afdx_network.specs.Network as network;
 ghost use Rattle.afdx_network.specs.Events.{admission_after};
@@ -18,10 +19,11 @@ ghost use Rattle.afdx_cascade.specs.Found.{AllStand};
 ghost use Rattle.afdx_cascade.specs.Standing.{Stands};
 ghost use Rattle.afdx_switch.specs.Early.{IsEarlyBy};
 ghost use Rattle.afdx_switch.specs.Verdicts.{shape_fault};
-ghost use Rattle.afdx_cascade.specs.Turning.{GivesAt};
+ghost use Rattle.afdx_cascade.specs.Turning.{GivesAt, WasEarlyBy};
 
 use afdx_frame::{Checked, Side};
 use afdx_network::{Departed, Network};
+use afdx_police::Reason;
 use afdx_switch::Verdict;
 use std::alloc::AllocError;
 
@@ -139,4 +141,42 @@ pub(crate) fn bring_at(
         departure.tag(),
         departure.frame(),
     )
+}
+
+/// Whether a frame with this verdict was dropped for its link's rate.
+fn is_over_rate(verdict: Verdict) -> bool
+    ensures { result ≡ over_rate (network.reason_in verdict) }
+{
+    match verdict {
+        Verdict::Dropped(Reason::OverRate) => true,
+        _ => false,
+    }
+}
+
+/// By how many nanoseconds a frame came too early that left another switch and arrived at a port of
+/// this one, with this verdict, if it was dropped for its link's rate; else 0.
+pub(crate) fn early_by(
+    networks: &[Network],
+    switch: usize,
+    port: u8,
+    departed: &Departed,
+    verdict: Verdict,
+) -> u64
+    requires within { switch < length networks.now }
+    requires clock { (n : At) → slice_get networks.now switch ≡ Some n →
+        network.IsUntil n (as_given departed.now.departure).end }
+    ensures { (c : Plan) (so_far : List SwitchEvent) (r : OnCable) →
+        let x = brought r.side port r.turn in
+        AllStand c networks.now (arriving c so_far switch x ∷ so_far) →
+        departed.now.side ≡ r.side → as_given departed.now.departure ≡ left_of r.turn →
+        network.Tells verdict (admission_after (c.tables switch) (came_to switch so_far) x) →
+        WasEarlyBy (c.tables switch) (came_to switch so_far) x result }
+{
+    if !is_over_rate(verdict) {
+        return 0;
+    }
+    let departure = &departed.departure;
+    let time = departure.time();
+    let frame = departure.frame();
+    early_at(networks, switch, departed.side, time, port, frame)
 }

@@ -7,6 +7,9 @@ ghost use Rattle.afdx_cascade.specs.Ways.{FirstAreAccepted, FirstLeave};
 ghost use Rattle.afdx_cascade.specs.Ways.{AllAreAccepted, AllLeave, FramesAreAlone};
 ghost use Rattle.afdx_cascade.specs.Examples.{PremisesAreMet};
 ghost use Rattle.afdx_cascade.specs.Once.{AcceptsAtMostListed, AcceptsLineOnce, EventsAreFew};
+ghost use Rattle.afdx_cascade.specs.Once.{EventsAreCounted};
+ghost use Rattle.afdx_cascade.specs.Parts.{SwitchBeginsAlone, SwitchRunsAlone, CablesBringAll};
+ghost use Rattle.afdx_cascade.specs.Parts.{ListedIsListed, EventsAreOfList};
 ghost use Rattle.afdx_cascade.specs.Runs.{EventsBegin, EventsAreOne};
 ghost use Rattle.afdx_cascade.specs.Again.{BroughtIsAccepted};
 ghost use Rattle.afdx_cascade.specs.Due.{TurnComesNext, FrameComesNext};
@@ -66,11 +69,38 @@ pub fn accepted_at_most_listed()
     ensures few { EventsAreFew }
 {}
 
+/// The events of a cascade can be counted: of each frame of its list there are at most 1,153, and
+/// at most 24 of these are arrivals that a switch accepted.
+pub fn events_are_counted()
+    ensures { EventsAreCounted }
+{}
+
 /// A list of frames has one list of events: after some events and with what is left of the list,
 /// one event comes next.
 pub fn events_are_one()
     ensures begin { EventsBegin }
     ensures one { EventsAreOne }
+{}
+
+/// The events at a switch are the first of those of its own tables and of what came to it. Where
+/// nothing is due any more they are all of these.
+pub fn switches_run_alone()
+    ensures so_far { SwitchBeginsAlone }
+    ensures all { SwitchRunsAlone }
+{}
+
+/// Where nothing is due any more, all that left the port at a cable's other end has arrived, in
+/// order, but for what left too late to arrive anywhere.
+pub fn cables_bring_all()
+    ensures { CablesBringAll }
+{}
+
+/// The arrivals at ports where no cable is are those of the lines that were taken. Of any frames
+/// each switch accepts at most as many as the list has; all events of the list are few, and no
+/// others are.
+pub fn events_are_of_list()
+    ensures listed { ListedIsListed }
+    ensures all { EventsAreOfList }
 {}
 
 /// Of the events of a cascade too: what an admitted switch accepted of a link, and a cable brings

@@ -23,7 +23,8 @@ pub enum Turned {
 }
 
 /// A frame that a cable brought to a port of the switch of this number, when, in ns, and what
-/// became of it there.
+/// became of it there. If it was dropped for its link's rate, `early` is by how many ns it came too
+/// early, else 0.
 #[derive(Clone, Copy, Debug)]
 pub struct Brought {
     pub switch: usize,
@@ -32,6 +33,7 @@ pub struct Brought {
     pub time: u64,
     pub tag: u64,
     pub verdict: Verdict,
+    pub early: u64,
 }
 
 /// What happened: a turn of the switch of this number is over, or a cable brought a frame.

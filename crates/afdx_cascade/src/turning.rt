@@ -12,7 +12,7 @@ ghost use Rattle.afdx_cascade.specs.Scan.{switches_most};
 ghost use Rattle.afdx_cascade.specs.Standing.{Stands};
 ghost use Rattle.afdx_cascade.specs.Turning.{AreEnds, AreInTransit, TurnsAt, ArrivesAt, CanArrive};
 
-use crate::arriving::{bring_at, take_at};
+use crate::arriving::{bring_at, early_by, take_at};
 use crate::cable::{InTransit, far_end};
 use crate::told::{Brought, Sent, Turned};
 use afdx_config::FarEnd;
@@ -110,6 +110,7 @@ pub(crate) fn front_at(
     let time = front.departed.departure.time();
     let tag = front.departed.departure.tag();
     let verdict = bring_at(networks, switch, port, &front.departed)?;
+    let early = early_by(networks, switch, port, &front.departed, verdict);
     let _ = transit.pop_front();
     Ok(Brought {
         switch,
@@ -118,5 +119,6 @@ pub(crate) fn front_at(
         time,
         tag,
         verdict,
+        early,
     })
 }

@@ -2,3 +2,5 @@ pub mod CheckLemmas
 mod SolveLemmas
 pub mod RefusalLemmas
 pub mod BelowLemmas
+pub mod TakingLemmas
+pub mod SenderLemmas

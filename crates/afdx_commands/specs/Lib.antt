@@ -5,3 +5,5 @@ pub mod CascadeText
 pub mod Checking
 pub mod SolveText
 pub mod Refusals
+pub mod Taking
+pub mod Senders

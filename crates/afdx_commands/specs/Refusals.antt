@@ -1,15 +1,18 @@
 -- What a command tells that refuses a configuration or its tables.
-use Rattle.std.specs.Prelude.{ℕ, ◌≡◌, List, ◌++◌, Option, Some, codes}
+use Rattle.std.specs.Prelude.{ℕ, ◌≡◌, List, [], ◌++◌, Option, Some, codes, slice_get}
+use Rattle.std.specs.Option.{option_map_or}
 use Rattle.afdx_config.specs.Admission.{IsAdmitted}
 use Rattle.afdx_config.specs.FaultText as config_fault
 use Rattle.afdx_config.specs.Reading.{Spells, IsFaultOf}
 use Rattle.afdx_config.specs.Rows.{Rows}
+use Rattle.afdx_config.specs.Switches.{NamedRows}
 use Rattle.afdx_config.specs.Files.{IsFileFault}
 use Rattle.afdx_config.specs.declared.fault.ConfigFault.{ConfigFault}
 use Rattle.afdx_config.specs.declared.file_fault.FileFault.{FileFault}
 use Rattle.afdx_admit.specs.FaultText as admit_fault
-use Rattle.afdx_admit.specs.Known.{name_of}
+use Rattle.afdx_admit.specs.Known.{name_at, name_of}
 use Rattle.afdx_admit.specs.Lines.{first_false, lines}
+use Rattle.afdx_admit.specs.declared.cascade_fault.CascadeFault.{CascadeFault}
 use Rattle.afdx_admit.specs.declared.fault.AdmitFault.{AdmitFault}
 use Rattle.afdx_text.specs.Telling.{Tells, TellsLine}
 use Rattle.afdx_lists.specs.declared.watched.Watched.{Watched}
@@ -24,6 +27,16 @@ file_line fault = codes "config " ++ config_fault.file_fault_text fault ++ codes
 -- the line of tables that are not admitted
 abbrev pub admit_line : Rows → AdmitFault → List ℕ
 admit_line t fault = codes "admit " ++ admit_fault.fault_text (name_of t fault) fault ++ codes "\n"
+
+-- the line of switches that are not admitted
+abbrev pub admit_line_there : CascadeFault → NamedRows → List ℕ
+admit_line_there e s =
+    codes "admit " ++ admit_fault.switch_fault_text s.name (name_at s.rows e.fault) e.fault
+    ++ codes "\n"
+
+abbrev pub admit_line_at : List NamedRows → CascadeFault → List ℕ
+admit_line_at switches e =
+    option_map_or (admit_line_there e) (slice_get switches e.switch.0) []
 
 -- what is told where no system has the name
 abbrev pub no_system_line : List ℕ

@@ -1,5 +1,6 @@
-//! What the commands share: exit statuses, what a run counts, how a command ends and refuses; and
-//! the commands that read a configuration alone, `check` and `solve`.
+//! What the commands share: exit statuses, what a run counts, what a command takes of a
+//! configuration, how it ends and refuses; and the commands that read a configuration alone,
+//! `check` and `solve`.
 //!
 //! Its tests are in `afdx_run_tests`.
 #![tactic(auto)]
@@ -9,14 +10,18 @@ mod check_command;
 mod check_tables;
 mod ending;
 pub mod refusing;
+mod sender;
 mod solve_command;
 pub mod status;
 mod summary;
+mod taking;
 
 pub use afdx_config::KeptKeys;
 pub use afdx_solve::SolveOptions;
 pub use check_command::{check, check_lines};
 pub use check_tables::CheckOptions;
 pub use ending::{Ended, end, finish};
+pub use sender::{SenderTaken, take_sender};
 pub use solve_command::solve_config;
 pub use summary::{NO_COUNTS, Summary};
+pub use taking::{Taken, take_file};

@@ -2,14 +2,17 @@
 
 ghost use Rattle.std.specs.Prelude.{◌≡◌, ◌++◌, Some, codes, decimal};
 ghost use Rattle.afdx_config.specs.FaultText.{behind, place_of, place_in, switch_text};
-ghost use Rattle.afdx_admit.specs.FaultText.{low_bound_text, subject};
+ghost use Rattle.afdx_admit.specs.AtSwitch.{IsKnownAt};
+ghost use Rattle.afdx_admit.specs.FaultText.{low_bound_text, subject, switch_subject};
+ghost use Rattle.afdx_admit.specs.FaultText.{switch_fault_text};
 ghost use Rattle.afdx_admit.specs.Known.{IsKnown};
 ghost use Rattle.afdx_text.specs.Telling.{Tells};
-ghost use Rattle.afdx_commands.specs.Refusals.{admit_line, config_line, file_line, IsToldRefused, WantsMemory, no_system_line};
+ghost use Rattle.afdx_commands.specs.Refusals.{admit_line, admit_line_at, config_line, file_line};
+ghost use Rattle.afdx_commands.specs.Refusals.{IsToldRefused, WantsMemory, no_system_line};
 
 use crate::status::{REFUSED, WRONG_WORDS};
-use afdx_admit::{AdmitFault, AdmitText};
-use afdx_config::{ConfigFault, FileFault, Place, Tables};
+use afdx_admit::{AdmitFault, AdmitText, CascadeFault, CascadeText, SwitchFault};
+use afdx_config::{ConfigFault, FileFault, Place, Switches, Tables};
 use afdx_frame::VlId;
 use afdx_lists::{RunFault, Watched};
 use afdx_text::{tell, tell_fault, tell_number};
@@ -190,6 +193,57 @@ pub fn refuse_tables<E: Write>(tables: &Tables, fault: AdmitFault, errors: &mut 
     tell(errors, fault.word().as_bytes());
     tell(errors, b" ");
     tell_subject(errors, &text);
+    tell(errors, b"\n");
+    REFUSED
+}
+
+/// Tells what a false line of admission at a switch of a cascade speaks of.
+fn tell_switch_subject<E: Write>(errors: &mut Watched<E>, text: &CascadeText<'_>)
+    ensures { Tells E.contents errors.old errors.new
+        (switch_subject text.now.name.now text.now.fault) }
+{
+    match text.fault {
+        SwitchFault::Own(fault) => {
+            let name = text.name;
+            tell_subject(errors, &AdmitText { fault, name })
+        }
+        SwitchFault::Unfed(vl) => tell_number(errors, u64::from(vl.0)),
+        SwitchFault::Contract(vl) => tell_number(errors, u64::from(vl.0)),
+        SwitchFault::HopJitter(vl, needed) => tell_both(errors, u64::from(vl.0), needed),
+        SwitchFault::PathSkew(vl, needed) => tell_both(errors, u64::from(vl.0), needed),
+        SwitchFault::Unread(vl, _) => {
+            tell_number(errors, u64::from(vl.0));
+            tell(errors, b" ");
+            tell(errors, text.name.as_bytes())
+        }
+    }
+}
+
+/// Tells a false line of admission, with the names of its switch and of what it speaks of.
+fn tell_switch_fault<E: Write>(errors: &mut Watched<E>, text: &CascadeText<'_>)
+    ensures { Tells E.contents errors.old errors.new
+        (switch_fault_text text.now.switch.now text.now.name.now text.now.fault) }
+{
+    tell(errors, text.fault.word().as_bytes());
+    tell(errors, b" ");
+    tell(errors, text.switch.as_bytes());
+    tell(errors, b" ");
+    tell_switch_subject(errors, text);
+}
+
+/// Tells why switches are not admitted, and gives the exit status.
+pub fn refuse_switches<E: Write>(
+    switches: &Switches,
+    fault: CascadeFault,
+    errors: &mut Watched<E>,
+) -> u8
+    requires { IsKnownAt switches.now fault }
+    ensures { IsToldRefused E.contents errors.old errors.new result
+        (admit_line_at switches.now fault) }
+{
+    let text = fault.text(switches);
+    tell(errors, b"admit ");
+    tell_switch_fault(errors, &text);
     tell(errors, b"\n");
     REFUSED
 }

@@ -58,4 +58,12 @@ impl NamedTables {
     {
         &self.tables
     }
+
+    pub(crate) fn into_tables(self) -> Tables
+        ensures tables { result ≡ self.rows }
+        ensures lawful { IsLawfulSwitch result }
+    {
+        let Self { name, tables } = self;
+        tables
+    }
 }

@@ -86,6 +86,16 @@ impl Switches {
         at(self.switches.as_slice(), switch.0 as usize).tables()
     }
 
+    /// The tables of the switch at this place, and of no other.
+    pub fn into_tables(self, switch: SwitchId) -> Tables
+        requires { switch.0 < length self }
+        ensures tables { option_map (λ s. s.rows) (slice_get self switch.0) ≡ Some result }
+        ensures lawful { IsLawfulSwitch result }
+    {
+        let Self { mut switches } = self;
+        switches.swap_remove(switch.0 as usize).into_tables()
+    }
+
     /// The switch of this name, if there is one. It tries each of them.
     pub fn named(&self, name: &str) -> Option<SwitchId>
         ensures place { option_map (λ k. k.0) result ≡ switch_named self.now name.now }

@@ -28,7 +28,7 @@ use Rattle.afdx_send.specs.declared.fault.SendFault.TheVariants.{TooLarge, Queue
 use Rattle.afdx_promises.specs.Sent.{frame_on}
 use Rattle.afdx_end_to_end.specs.EndToEnd.{says_at, lines_at}
 use Rattle.afdx_sending.specs.Events.{Event, Emitted, Submitted, turns_in}
-use Rattle.afdx_sending.specs.Text.{sent_line, refusal_line, event_lines, send_text}
+use Rattle.afdx_sending.specs.Text.{side_text, sent_line, refusal_line, event_lines, send_text}
 use Rattle.afdx_sending.proofs.SendLemmas.{text-none, text-more}
 use Rattle.afdx_end_to_end.proofs.SentLineLemmas.{AtLeast, append-least, lower-least, none-below}
 use Rattle.afdx_end_to_end.proofs.SentLineLemmas.{index-least, decimal-least, line_of, line-feed}
@@ -120,20 +120,20 @@ lines_on s side (turn ∷ earlier) = lines_on s side earlier ++ line_on s side t
 feed-more : (line : List ℕ) (rest : List ℕ) → line ++ 10 ∷ rest ≡ (line ++ 10 ∷ []) ++ rest
 feed-more line rest = sym (append_assoc line (10 ∷ []) rest)
 
-event-fed : (s : SystemRow) (e : Event) → fed (lines_in s e) ≡ event_lines s e
+event-fed : (s : SystemRow) (e : Event) → fed (lines_in s e) ≡ event_lines [] s e
 event-fed s (Emitted turn) =
     feed-more (line_on s A turn) (fed (line_on s B turn ∷ []))
     ∙ ap (λ (z : List ℕ). z ++ fed (line_on s B turn ∷ []))
     (line-feed A s.port turn.end (frame_on s A turn.entry.item))
-    ∙ ap (λ (z : List ℕ). sent_line A s.port turn.end (frame_on s A turn.entry.item) ++ z)
+    ∙ ap (λ (z : List ℕ). sent_line (side_text A) s.port turn.end (frame_on s A turn.entry.item) ++ z)
     (line-feed B s.port turn.end (frame_on s B turn.entry.item))
 event-fed s (Submitted x (Some fault)) = refused-feed x.line fault
 event-fed s (Submitted x None) = refl
 
 text-fed : (s : SystemRow) (events : List Event) → send_text s events ≡ fed (all_lines s events)
-text-fed s [] = text-none s
+text-fed s [] = text-none [] s
 text-fed s (e ∷ before) =
-    text-more s e before ∙ ap (λ (z : List ℕ). z ++ event_lines s e) (text-fed s before)
+    text-more [] s e before ∙ ap (λ (z : List ℕ). z ++ event_lines [] s e) (text-fed s before)
     ∙ ap (λ (z : List ℕ). fed (all_lines s before) ++ z) (sym (event-fed s e))
     ∙ sym (fed-append (all_lines s before) (lines_in s e))
 

@@ -228,7 +228,7 @@ feed-at letter port time bytes =
     ap (λ (z : List ℕ). 82 ∷ 32 ∷ z) time_on
 
 pub line-feed : (side : Side) (port time : ℕ) (bytes : List ℕ)
-    → line_of side port time (encode_lower bytes) ++ 10 ∷ [] ≡ sent_line side port time bytes
+    → line_of side port time (encode_lower bytes) ++ 10 ∷ [] ≡ sent_line (side_text side) port time bytes
 line-feed A port time bytes = feed-at 65 port time bytes ∙ grind (arith, common_steps)
 line-feed B port time bytes = feed-at 66 port time bytes ∙ grind (arith, common_steps)
 
@@ -268,7 +268,7 @@ module _ (side : Side) (port time : ℕ) (bytes : List ℕ) (one : 1 ≤ port) (
     ),
   )
 
-  one-line : lines_of (sent_line side port time bytes) ≡ line ∷ []
+  one-line : lines_of (sent_line (side_text side) port time bytes) ≡ line ∷ []
   one-line =
       ap lines_of (sym (line-feed side port time bytes))
       ∙ lines_of_feed line [] (none-below 32 10 line (omega arith) line-least)
@@ -368,7 +368,7 @@ module _ (side : Side) (port time : ℕ) (bytes : List ℕ) (one : 1 ≤ port) (
   are-sound zero lt = fine
   are-sound (suc i) lt = absurd (omega (arith, lt))
 
-  pub sent-line : IsArrival (sent_line side port time bytes) (arrival_with 1 time side port bytes)
+  pub sent-line : IsArrival (sent_line (side_text side) port time bytes) (arrival_with 1 time side port bytes)
   sent-line = record {
     one_line = ap length one-line;
     sound = subst (λ (z : List (List ℕ)). HaveNoFault frames z 1) (sym one-line) are-sound;

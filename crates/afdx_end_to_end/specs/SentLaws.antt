@@ -16,7 +16,7 @@ use Rattle.afdx_engine.specs.Listed.{AreSound, arrivals_of}
 use Rattle.afdx_engine.specs.Lists.{items_of, HaveNoFault}
 use Rattle.afdx_engine.specs.Listed.{Handed, submissions}
 use Rattle.afdx_sending.specs.Events.{Event, turns_in, AreEventsOf, AreDone}
-use Rattle.afdx_sending.specs.Text.{sent_line}
+use Rattle.afdx_sending.specs.Text.{side_text, sent_line}
 use Rattle.afdx_sending.specs.Sent.{source_at, WritesAll}
 use Rattle.afdx_commands.specs.declared.summary.Summary.{Summary}
 
@@ -30,7 +30,7 @@ pub record IsArrival (text : List ℕ) (x : Arrival) : Type 0 where
 -- are arrivals: of its frame for that side, when its slot ends, at the system's port.
 abbrev pub IsTold : SystemRow → Turn Frame → Type 0
 IsTold s turn = turn.end ≤ latest_listed → (side : Side) →
-    IsArrival (sent_line side s.port turn.end (frame_on s side turn.entry.item))
+    IsArrival (sent_line (side_text side) s.port turn.end (frame_on s side turn.entry.item))
     (arrival_with 1 turn.end side s.port (frame_on s side turn.entry.item))
 
 -- So it is with each emission of a sender's text: of the events of the first n lines of any list of

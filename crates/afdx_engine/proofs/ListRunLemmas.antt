@@ -11,7 +11,9 @@ use Rattle.afdx_lists.specs.declared.watched.Watched.{Watched}
 use Rattle.afdx_engine.specs.Engine.{Item, Runs, without_newest}
 use Rattle.afdx_text.specs.Sinks.{IsOfOutput}
 use Rattle.afdx_engine.specs.Lists.{Kind, items_of, item_said, with_item}
-use Rattle.afdx_engine.specs.ListSource.{GaveOf, EndedOf, StoppedOf}
+use Rattle.afdx_engine.specs.Items.{thing_of}
+use Rattle.afdx_engine.specs.ListSource.{GaveOf, EndedOf, StoppedOf, HasGiven, HasEnded, HasStopped}
+use Rattle.afdx_engine.specs.declared.read_list.ReadList.{ReadList}
 use Rattle.afdx_engine.specs.Progress.{HasRead, HasComeIn}
 use Rattle.afdx_engine.specs.Stops.{GaveLines, StopsIn}
 use Rattle.afdx_engine.proofs.RunLemmas.{GaveLines-taken, GaveLines-end, GaveLines-less, HasCome-done}
@@ -162,6 +164,30 @@ module _ {H R Y X : Type 0} (k : Kind Y X) (said : Item H → X) (remaining : R 
   done-answers n is h =
       subst (λ (m : ℕ). IfSome (remaining start.inner) (λ bytes. AnswersOver bytes (Ok m))) (sym is)
       (done-done (Of said done) h (λ past d. (past, refl, d)))
+
+-- what a run over a list of this form answers
+module _ {F H R Y X : Type 0} (IsForm : F → Type 0) (kind : F → Kind Y X) (says_of : H → List ℕ → Y)
+    (time_of : H → ℕ) (remaining : R → Option (List ℕ)) (start input : Watched R) (list : ReadList F H)
+    (done so_far begins : List (Item H) → Type 0) where
+  abbrev FormRunsOver : {A : Type 0} → F → Result A RunFault → Type 0
+  FormRunsOver form result =
+      RunsOver (kind form) (thing_of (kind form) says_of) remaining start input list.reader (time_of list.head)
+      done so_far begins result
+
+  own-runs-over : {A : Type 0} (result : Result A RunFault) →
+      Runs (HasGiven IsForm kind says_of time_of remaining start list input)
+      (HasEnded kind says_of time_of remaining start list input) done so_far begins
+      (HasStopped kind says_of remaining start list input) result → FormRunsOver list.form result
+  own-runs-over (Ok a) h = h
+  own-runs-over (Err fault) (past, inl h) = (past, inl h)
+  own-runs-over (Err fault) (past, inr (is, inl given, b)) = (past, inr (is, inl given.gave, b))
+  own-runs-over (Err fault) (past, inr (is, inr end, b)) = (past, inr (is, inr end, b))
+
+  pub runs-over : {A : Type 0} (result : Result A RunFault) (form : F) → list.form ≡ form →
+      Runs (HasGiven IsForm kind says_of time_of remaining start list input)
+      (HasEnded kind says_of time_of remaining start list input) done so_far begins
+      (HasStopped kind says_of remaining start list input) result → FormRunsOver form result
+  runs-over result form is h = subst (λ f. FormRunsOver f result) is (own-runs-over result h)
 
 -- memory ran out before anything was read
 pub start-answers : {H Y X : Type 0} (k : Kind Y X) (said : Item H → X)

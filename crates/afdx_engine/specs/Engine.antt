@@ -12,6 +12,14 @@ pub record Item (H : Type 0) : Type 0 where
 abbrev pub item_of : {H : Type 0} → ℕ → H → List ℕ → Item H
 item_of number head bytes = record { number = number; head = head; bytes = bytes }
 
+-- each item of which this holds can be told
+abbrev pub CanTell : {H : Type 0} → (holds can : Item H → Type 0) → Type 0
+CanTell {H} holds can = (item : Item H) → holds item → can item
+
+-- each item can be told
+abbrev pub CanAll : {H : Type 0} → (can : Item H → Type 0) → Type 0
+CanAll {H} can = (item : Item H) → can item
+
 -- the bytes of a device, where they are known
 abbrev pub Bytes : Type 0
 Bytes = Option (List ℕ)

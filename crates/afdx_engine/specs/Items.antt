@@ -28,7 +28,7 @@ handed past = map (thing_of submissions submission_of) past
 
 -- the most frames that a run can count: those of any recording, and far more than a list has
 abbrev pub most_frames : ℕ
-most_frames = 200000000000000000
+most_frames = 2000000000000000
 
 -- the limits of a run: an item may come after these, no earlier than they, not too late, and there
 -- are not too many

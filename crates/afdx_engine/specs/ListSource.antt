@@ -61,21 +61,26 @@ module _ {H R Y X : Type 0} (k : Kind Y X) (said : Item H → X)
         bytes (remaining input.inner) fault)
 
 -- the item of the line that was read last
-abbrev pub item_given : {H : Type 0} → ReadList H → Item H
+abbrev pub item_given : {F H : Type 0} → ReadList F H → Item H
 item_given list = item_of (lines_taken list.reader) list.head list.bytes.items
 
--- the same of a list with its head
-module _ {H R Y X : Type 0} (k : Kind Y X) (says_of : H → List ℕ → Y) (time_of : H → ℕ)
-    (remaining : R → Option (List ℕ)) where
-  abbrev pub HasGiven : Watched R → ReadList H → Watched R → List (Item H) → Type 0
-  HasGiven start list input past =
-      GaveOf k (thing_of k says_of) remaining start list.reader (time_of list.head) input past
+-- the same of a list with its head, whose lines are of a form
+module _ {F H R Y X : Type 0} (IsForm : F → Type 0) (kind : F → Kind Y X)
+    (says_of : H → List ℕ → Y) (time_of : H → ℕ) (remaining : R → Option (List ℕ)) where
+  pub record HasGiven (start : Watched R) (list : ReadList F H) (input : Watched R)
+      (past : List (Item H)) : Type 0 where
+    pub form : IsForm list.form
+    pub gave : GaveOf (kind list.form) (thing_of (kind list.form) says_of) remaining
+        start list.reader (time_of list.head) input past
 
-  abbrev pub HasEnded : Watched R → ReadList H → Watched R → List (Item H) → Type 0
+module _ {F H R Y X : Type 0} (kind : F → Kind Y X) (says_of : H → List ℕ → Y)
+    (time_of : H → ℕ) (remaining : R → Option (List ℕ)) where
+  abbrev pub HasEnded : Watched R → ReadList F H → Watched R → List (Item H) → Type 0
   HasEnded start list input past =
-      EndedOf k (thing_of k says_of) remaining start list.reader (time_of list.head) input past
+      EndedOf (kind list.form) (thing_of (kind list.form) says_of) remaining
+      start list.reader (time_of list.head) input past
 
-abbrev pub HasStopped : {H R Y X : Type 0} → Kind Y X → (H → List ℕ → Y) →
-    (R → Option (List ℕ)) → Watched R → ReadList H → Watched R → List (Item H) → RunFault → Type 0
-HasStopped k says_of remaining start list input past fault =
-    StoppedOf k (thing_of k says_of) remaining start input past fault
+abbrev pub HasStopped : {F H R Y X : Type 0} → (F → Kind Y X) → (H → List ℕ → Y) →
+    (R → Option (List ℕ)) → Watched R → ReadList F H → Watched R → List (Item H) → RunFault → Type 0
+HasStopped kind says_of remaining start list input past fault =
+    StoppedOf (kind list.form) (thing_of (kind list.form) says_of) remaining start input past fault

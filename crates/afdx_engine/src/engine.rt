@@ -3,7 +3,7 @@
 ghost use Rattle.std.specs.Prelude.{◌≡◌, ◌<◌, ◌⊎◌, ◌∷◌, [], ℕ, List, Ok, OnOk, OnErr, IfErr, true, false};
 ghost use Rattle.afdx_lists.specs.Calls.{is_failed_write};
 ghost use Rattle.afdx_lists.specs.declared.fault.RunFault.{RunFault as Fault};
-ghost use Rattle.afdx_engine.specs.Engine.{Bytes, Item, item_of, Runs};
+ghost use Rattle.afdx_engine.specs.Engine.{Bytes, CanTell, Item, item_of, Runs};
 ghost use Rattle.afdx_text.specs.Sinks.{IsOfOutput};
 
 use afdx_lists::{Next, RunFault};
@@ -28,6 +28,9 @@ pub trait Source<H: Head, I> {
 
     ghost settings: { Self → Settings };
 
+    /// What holds of each item that it gives.
+    ghost Gives: { Settings → Item H → Type 0 };
+
     /// From the input as it was first, these were given: the newest first.
     ghost Gave: { I → Self → I → List (Item H) → Type 0 };
 
@@ -42,7 +45,8 @@ pub trait Source<H: Head, I> {
         requires { (start : I) × (past : List (Item H)) × Gave start self.old input.old past }
         ensures item { (start : I) (past : List (Item H)) → Gave start self.old input.old past →
             result ≡ Ok Next.Given → Gave start self.new input.new (current self.new ∷ past)
-            × H.can_follow past (current self.new) }
+            × H.can_follow past (current self.new)
+            × Gives (settings self.new) (current self.new) }
         ensures end { (start : I) (past : List (Item H)) → Gave start self.old input.old past →
             result ≡ Ok Next.Ended → Ended start self.new input.new past }
         ensures stop { (start : I) (past : List (Item H)) → Gave start self.old input.old past →
@@ -69,6 +73,9 @@ pub trait Machine<H: Head> {
     /// What it works by.
     ghost Rules: { Type 0 };
 
+    /// By these rules it can tell this item.
+    ghost Can: { Rules → Item H → Type 0 };
+
     /// By these rules it stands for these items, and told them: the output held the first bytes
     /// and now holds the second.
     ghost Told: { Rules → Self → Bytes → Bytes → List (Item H) → Type 0 };
@@ -90,13 +97,15 @@ pub trait Machine<H: Head> {
         requires sound { O.failed output.old ≡ false }
         requires told { (rules : Rules) × (start : Bytes) × (past : List (Item H))
             × Told rules self.old start (O.written output.old) past
-            × H.can_follow past (item_of n head.now bytes.now) }
+            × H.can_follow past (item_of n head.now bytes.now)
+            × Can rules (item_of n head.now bytes.now) }
         ensures failed { O.failed output.new ≡ is_failed_write result }
         ensures fault { IfErr result IsOfOutput }
         ensures settings { O.settings output.new ≡ O.settings output.old }
         ensures told { (rules : Rules) (start : Bytes) (past : List (Item H)) →
             Told rules self.old start (O.written output.old) past →
             H.can_follow past (item_of n head.now bytes.now) →
+            Can rules (item_of n head.now bytes.now) →
             OnOk result (Told rules self.new start (O.written output.new)
             (item_of n head.now bytes.now ∷ past)) }
         ensures begins { (rules : Rules) (start : Bytes) (past : List (Item H)) →
@@ -121,7 +130,7 @@ pub trait Machine<H: Head> {
             OnErr result (Begins rules self.new start (O.written output.new) past) };
 }
 
-/// Lets a machine tell all that a source gives.
+/// Lets a machine tell all that a source gives. It can tell each such item.
 ///
 /// The text of an item is handed to `output` before the next one is asked for. The first fault ends
 /// the run: behind one of the source all items before it are told, behind one of the output, or
@@ -135,12 +144,14 @@ pub fn drive<H: Head, I, S: Source<H, I>, M: Machine<H>, O: Sink>(
     requires sound { O.failed output.old ≡ false }
     requires gave { S.Gave input.old source.old input.old [] }
     requires told { (rules : M.Rules) × M.Told rules machine.old
-        (O.written output.old) (O.written output.old) [] }
+        (O.written output.old) (O.written output.old) []
+        × CanTell (S.Gives (S.settings source.old)) (M.Can rules) }
     ensures write { O.failed output.new ≡ is_failed_write result }
     ensures settings { S.settings source.new ≡ S.settings source.old }
     ensures output { O.settings output.new ≡ O.settings output.old }
     ensures answer { (rules : M.Rules) → M.Told rules machine.old
         (O.written output.old) (O.written output.old) [] →
+        CanTell (S.Gives (S.settings source.old)) (M.Can rules) →
         Runs (S.Gave input.old source.new input.new) (S.Ended input.old source.new input.new)
         (M.Done rules machine.new (O.written output.old)
         (O.written output.new))

@@ -5,10 +5,13 @@
 #![tactic(auto)]
 
 mod engine;
+mod line_form;
 mod list_run;
 mod listed;
 mod read_list;
 
 pub use engine::{Head, Machine, Source, drive};
+pub use line_form::{LineForm, Listed};
 pub use list_run::run_list;
-pub use read_list::{Listed, ReadList};
+pub use listed::{FrameLines, MessageLines};
+pub use read_list::ReadList;

@@ -4,24 +4,28 @@ ghost use Rattle.std.specs.Prelude.{◌≡◌, ◌+◌, ◌≤◌, [], IfSome, O
 ghost use Rattle.afdx_lists.specs.Calls.{is_failed_read, is_failed_write};
 ghost use Rattle.afdx_lists.specs.Lines.{most_reads};
 ghost use Rattle.afdx_lists.specs.Watching.{calls_of, device_of, has_ended, has_failed};
+ghost use Rattle.afdx_engine.specs.Engine.{CanTell};
 ghost use Rattle.afdx_engine.specs.Items.{thing_of};
 ghost use Rattle.afdx_engine.specs.ListRun.{ListAnswers};
 
 use crate::engine::{Machine, drive};
-use crate::read_list::{Listed, ReadList};
+use crate::line_form::{LineForm, Listed};
+use crate::read_list::ReadList;
 use afdx_lists::{RunFault, Watched};
 use afdx_text::Sink;
 use std::alloc::Global;
 use std::io::Read;
 
-/// Lets a machine tell what the lines of a list say, and gives the number of lines.
+/// Lets a machine tell what the lines of a list say, by their form, and gives the number of lines.
+/// It can tell each item that lines of this form say.
 ///
 /// The whole text of a line is handed to `output` before the next line is read. A list that can't
 /// be read ends the run with its first fault; the text of the lines before it stands written.
 /// `RunFault::Read` and `RunFault::Write` come exactly where the input's or the output's device
 /// failed; neither is tried again.
-pub fn run_list<H: Listed, R: Read, M: Machine<H>, O: Sink>(
+pub fn run_list<F: LineForm<H>, H: Listed, R: Read, M: Machine<H>, O: Sink>(
     alloc: Global,
+    form: F,
     machine: &mut M,
     input: &mut Watched<R>,
     output: &mut O,
@@ -29,8 +33,10 @@ pub fn run_list<H: Listed, R: Read, M: Machine<H>, O: Sink>(
     requires sound_input { has_failed input.old ≡ false }
     requires unended { has_ended input.old ≡ false }
     requires sound_output { O.failed output.old ≡ false }
+    requires form { F.IsForm form }
     requires told { (rules : M.Rules) × M.Told rules machine.old
-        (O.written output.old) (O.written output.old) [] }
+        (O.written output.old) (O.written output.old) []
+        × CanTell (F.Gives form) (M.Can rules) }
     ensures ended { OnOk result (has_ended input.new ≡ true) }
     ensures read { has_failed input.new ≡ is_failed_read result }
     ensures write { O.failed output.new ≡ is_failed_write result }
@@ -40,8 +46,9 @@ pub fn run_list<H: Listed, R: Read, M: Machine<H>, O: Sink>(
     // Where the input's bytes are known: what is answered and written for the list that they are.
     ensures answer { (rules : M.Rules) → M.Told rules machine.old
         (O.written output.old) (O.written output.old) [] →
+        CanTell (F.Gives form) (M.Can rules) →
         IfSome (R.remaining (device_of input.old)) (λ bytes.
-        ListAnswers H.kind (thing_of H.kind H.says_of)
+        ListAnswers (F.kind form) (thing_of (F.kind form) F.says_of)
         (M.Done rules machine.new (O.written output.old)
         (O.written output.new))
         (M.Told rules machine.new (O.written output.old)
@@ -49,7 +56,7 @@ pub fn run_list<H: Listed, R: Read, M: Machine<H>, O: Sink>(
         (M.Begins rules machine.new (O.written output.old) (O.written output.new))
         bytes (R.remaining (device_of input.new)) result) }
 {
-    let mut list: ReadList<H> = ReadList::new(alloc)?;
+    let mut list: ReadList<F, H> = ReadList::new(alloc, form)?;
     drive(&mut list, input, machine, output)?;
     Ok(list.lines())
 }

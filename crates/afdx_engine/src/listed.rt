@@ -10,7 +10,7 @@ ghost use Rattle.afdx_engine.specs.Listed.{submissions};
 ghost use Rattle.afdx_engine.specs.Listed as listed;
 
 use crate::engine::Head;
-use crate::read_list::Listed;
+use crate::line_form::{LineForm, Listed};
 use afdx_frame::{Seal, Side};
 use afdx_lists::{Handed, Heading, LineError, read_frame_line, read_submission_line};
 
@@ -19,22 +19,13 @@ impl Head for Heading {
 }
 
 impl Listed for Heading {
-    ghost Said = { ListedFrame };
-
-    ghost Thing = { Arrival };
-
-    ghost kind = { frames };
-
-    ghost says_of = { listed_frame };
-
     ghost time_of = { λ heading. heading.time };
-
-    ghost times = { λ n heading bytes. refl };
 
     fn none() -> Heading {
         Heading {
             time: 0,
             side: Side::A,
+            switch: 0,
             port: 1,
             seal: Seal::Missing,
         }
@@ -43,8 +34,29 @@ impl Listed for Heading {
     fn time(&self) -> u64 {
         self.time
     }
+}
+
+/// The lines of a list of frames, of one switch.
+#[derive(Clone, Copy, Debug)]
+pub struct FrameLines;
+
+impl LineForm<Heading> for FrameLines {
+    ghost IsForm = { λ form. Unit {0} };
+
+    ghost Said = { ListedFrame };
+
+    ghost Thing = { Arrival };
+
+    ghost kind = { λ form. frames };
+
+    ghost says_of = { listed_frame };
+
+    ghost Gives = { λ form item. Unit {0} };
+
+    ghost times = { λ form n heading bytes. refl };
 
     fn read_line(
+        &self,
         line: &[u8],
         latest: u64,
         frame: &mut Vec<u8>,
@@ -58,17 +70,7 @@ impl Head for Handed {
 }
 
 impl Listed for Handed {
-    ghost Said = { Submission };
-
-    ghost Thing = { listed.Handed };
-
-    ghost kind = { submissions };
-
-    ghost says_of = { submission_of };
-
     ghost time_of = { λ handed. handed.time };
-
-    ghost times = { λ n handed bytes. refl };
 
     fn none() -> Handed {
         Handed {
@@ -82,8 +84,29 @@ impl Listed for Handed {
     fn time(&self) -> u64 {
         self.time
     }
+}
+
+/// The lines of a list of messages.
+#[derive(Clone, Copy, Debug)]
+pub struct MessageLines;
+
+impl LineForm<Handed> for MessageLines {
+    ghost IsForm = { λ form. Unit {0} };
+
+    ghost Said = { Submission };
+
+    ghost Thing = { listed.Handed };
+
+    ghost kind = { λ form. submissions };
+
+    ghost says_of = { submission_of };
+
+    ghost Gives = { λ form item. Unit {0} };
+
+    ghost times = { λ form n handed bytes. refl };
 
     fn read_line(
+        &self,
         line: &[u8],
         latest: u64,
         payload: &mut Vec<u8>,

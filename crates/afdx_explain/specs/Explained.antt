@@ -103,7 +103,8 @@ hop line =
 
 unfoldable pub dropped : List ℕ → Option (List ℕ)
 dropped line =
-    row_among (codes "?\nV n A|B drop ?") (map (λ row. (row.1.now, row.2.now)) REASONS) line
+    row_among (codes "?\nV n A|B drop ?\nV n A|B * drop ?")
+    (map (λ row. (row.1.now, row.2.now)) REASONS) line
 
 unfoldable pub no_frame : List ℕ → Option (List ℕ)
 no_frame line =

@@ -19,7 +19,7 @@ use afdx_recorded::SKIPPED;
 use afdx_send::SEND_FAULTS;
 
 /// The forms of a line that tells why a switch dropped a frame.
-const SWITCH_FORMS: &[u8] = b"?\nV n A|B drop ?";
+const SWITCH_FORMS: &[u8] = b"?\nV n A|B drop ?\nV n A|B * drop ?";
 
 /// The forms of a line that tells why a receiver dropped a frame.
 const RECEIVER_FORMS: &[u8] = b"?\nX n * n ?";

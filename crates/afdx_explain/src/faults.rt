@@ -41,7 +41,8 @@ and --lmin is 64 to LMAX bytes.",
         "words NoSuchSystem",
         "\
 The configuration has no SYSTEM of that name.
-The names stand at the key name of its systems; capital letters count.",
+The names stand at the key name of its systems; capital letters count. A name of a switch or a
+neighbour is none.",
     ),
     (
         "words UnknownText",

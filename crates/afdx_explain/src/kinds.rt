@@ -3,7 +3,7 @@
 use crate::entry::Entry;
 
 /// What the lines of a kind have in common.
-pub const KINDS: [Entry; 14] = [
+pub const KINDS: [Entry; 17] = [
     (
         "list * n",
         "\
@@ -86,16 +86,37 @@ A list and a recording have a fault of this name. Here is that of a list; of a r
         "\
 no|admit * n
 no|admit * * n
-no|admit * * n n",
+no|admit * * * n
+no|admit * * n *
+no|admit * * n n n
+no * * n n -",
         "\
 The network isn't admitted: it isn't sure that every frame is in time and that none is lost.
-This is the first line of admission that is false. 'afdx replay --no-admission' replays a
-network that isn't admitted.",
+This is the first line of admission that is false; of several switches the switch's name stands
+behind its word, A1 to B5. 'afdx replay --no-admission' replays a network that isn't admitted.",
+    ),
+    (
+        "config BadProfile",
+        "\
+A file with switch and without profile at its top describes several switches a side. 'check',
+'replay' and 'send' take it, 'solve' and 'list' don't yet.",
+    ),
+    (
+        "V n A|B * accept",
+        "\
+The frame of the list's line of this number came to the switch of this name, on this side, A or B:
+by the list, or over a cable.",
     ),
     (
         "V n A|B drop *",
         "\
 The frame of the list's line of this number was dropped at the switch of this side, A or B.",
+    ),
+    (
+        "V n A|B * drop *",
+        "\
+The frame of the list's line of this number was dropped at the switch of this name, on this side, A
+or B; it came there by the list, or over a cable.",
     ),
     (
         "X n * n *",

@@ -7,42 +7,50 @@ pub const LINES: [Entry; 18] = [
     (
         "\
 accept
-V n A|B accept",
+V n A|B accept
+V n A|B * accept",
         "\
 accept: the frame of line n was accepted at the switch of this side.",
     ),
     (
-        "early n n",
+        "\
+early n n
+early n A|B * n",
         "\
 early n NS: on standard error, with --explain-drops: the frame of line n was dropped as
 over-rate: it came NS ns too early. It would have been accepted that much later, and no
-sooner.",
+sooner. Of several switches the side and the name of the one that dropped it stand before NS.",
     ),
     (
         "\
 L
-L n A|B n",
+L n A|B n
+L n A|B * n",
         "\
 L n side port: its copy for that output port was lost to a full buffer.
-It doesn't come on an admitted network. A larger buffer, or less traffic to that port;
-'afdx check' says what the port needs.",
+Of several switches the switch's name stands behind the side. It doesn't come on an admitted
+network. A larger buffer, or less traffic to that port; 'afdx check' says what the port needs.",
     ),
     (
         "\
 D
-D n n A|B n",
+D n n A|B n
+D n n A|B * n",
         "\
 D n time side port: its copy left that port at that time: its slot ended, in ns. n is the
-list's line of the frame.",
+list's line of the frame. Of several switches the switch's name stands behind the side; if a cable
+is at the port, the copy arrives at its other end at that time.",
     ),
     (
         "\
 T
-T n n A|B n",
+T n n A|B n
+T n n A|B * n",
         "\
 T n time side port: profile 2: its copy was dropped there as too old, at that time: it had
 waited for longer than the latency_us of its link, 1 to 100000.
-It doesn't come on an admitted network.",
+Of several switches the switch's name stands behind the side. It doesn't come on an admitted
+network.",
     ),
     (
         "\
@@ -112,10 +120,10 @@ ok: the network is admitted: no accepted frame is lost in a switch, and each is 
         "summary lines n accepted n dropped n lost n departed n too-old n delivered n",
         "\
 summary: the counts of a run: the lines that were read; frames that were accepted and those
-that were dropped at a switch; copies that were lost to a full buffer, that left a port, and
-that were dropped as too old; messages that were delivered. With 'send' accepted are the
-messages that were taken, dropped those that were refused, departed the frames that left, one
-for both sides.",
+that were dropped at a switch, of several at each; copies that were lost to a full buffer, that
+left a port, and that were dropped as too old; messages that were delivered. With 'send' accepted
+are the messages that were taken, dropped those that were refused, departed the frames that left,
+one for both sides.",
     ),
     (
         "\
@@ -139,35 +147,43 @@ that they aren't claimed.",
     (
         "\
 R
-R n A n *",
+R n A n *
+R n A * n *",
         "\
 R time A port HEX: the frame of a message left the system for switch A; its slot ended then.
 port is the system's port at the switches, HEX the whole frame.
 Of 'list' it is an arrival with its check sequence, or an arrival of which over 2,000 bytes were
-recorded with the first 2,000, which every switch drops as too-long; port is the switch's.",
+recorded with the first 2,000, which every switch drops as too-long; port is the switch's. Of
+several switches the name of the system's switch stands behind A.",
     ),
     (
-        "R n B n *",
+        "\
+R n B n *
+R n B * n *",
         "\
 R time B port HEX: its copy for switch B, always right behind it.
 Of 'list' it is an arrival with its check sequence, or an arrival of which over 2,000 bytes were
-recorded with the first 2,000, which every switch drops as too-long.",
+recorded with the first 2,000, which every switch drops as too-long. Of several switches the name
+of the system's switch stands behind B.",
     ),
     (
         "\
 F
-F n A|B n *",
+F n A|B n *
+F n A|B * n *",
         "\
 F time side port HEX: of 'list' it is an arrival without its check sequence: a frame that came
 at that time, in ns, on that side, at that input port of the switch. In a frame list the program
-appends the check sequence.",
+appends the check sequence. Of several switches the switch's name stands behind the side.",
     ),
     (
         "\
 B
-B n A|B n *",
+B n A|B n *
+B n A|B * n *",
         "\
 B time side port HEX: of 'list' it is an arrival without its check sequence, which the recorder
-found wrong. In a frame list the program appends a bad one: each bit of the right one inverted.",
+found wrong. In a frame list the program appends a bad one: each bit of the right one inverted. Of
+several switches the switch's name stands behind the side.",
     ),
 ];

@@ -4,7 +4,7 @@ use Rattle.std.specs.Io.KnownBytes.{Appends}
 use Rattle.afdx_lists.specs.declared.fault.RunFault.{RunFault}
 use Rattle.afdx_lists.specs.Calls.{AppendsFront}
 use Rattle.afdx_engine.specs.Engine.{Bytes, Item}
-use Rattle.afdx_text.specs.OutLines.{frame_line, remark_line}
+use Rattle.afdx_text.specs.OutLines.{side_text, frame_line, remark_line}
 use Rattle.afdx_recorded.specs.declared.number_line.NumberLine.{NumberLine}
 use Rattle.afdx_recorded.specs.declared.number_line.NumberLine.TheVariants.{Arrival, Skipped}
 use Rattle.afdx_recorded.specs.declared.counts.Tally.{Tally}
@@ -18,7 +18,7 @@ use Rattle.afdx_recorded.specs.Words.{skipped_word}
 -- the line of number n of a recording, with its recorded bytes; one that is skipped is named
 abbrev pub number_text : (n : ℕ) → NumberLine → List ℕ → List ℕ
 number_text n (Arrival kind time side port) bytes =
-    frame_line kind side port time bytes
+    frame_line kind (side_text side) port time bytes
 number_text n (Skipped reason) bytes = remark_line (skipped_word reason) n
 
 -- all lines; the latest stands first in the list of them, and last in the text

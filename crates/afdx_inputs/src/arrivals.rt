@@ -8,7 +8,7 @@ ghost use Rattle.afdx_lists.specs.Watching.{device_of};
 ghost use Rattle.afdx_lists.specs.declared.fault.RunFault.{RunFault as Fault};
 ghost use Rattle.afdx_lists.specs.declared.fault.RunFault.TheVariants.{Memory};
 ghost use Rattle.afdx_lists.specs.declared.frame_line.Heading.{Heading as Head};
-ghost use Rattle.afdx_engine.specs.Engine.{Item};
+ghost use Rattle.afdx_engine.specs.Engine.{CanAll, Item};
 ghost use Rattle.afdx_engine.specs.Items.{arrivals as arrivals_of};
 ghost use Rattle.afdx_recorded.specs.Claims.{Ports, ports_unsaid};
 ghost use Rattle.afdx_inputs.specs.Arrivals.{By, DontGoBack};
@@ -77,13 +77,13 @@ pub trait Arrivals<P>: Input {
         requires new { IsNew self.old }
         requires sound_output { O.failed output.old ≡ false }
         requires told { (rules : M.Rules) × M.Told rules machine.old
-            (O.written output.old) (O.written output.old) [] }
+            (O.written output.old) (O.written output.old) [] × CanAll (M.Can rules) }
         ensures ended { OnOk result (Self.ended self.new) }
         ensures read { Self.failed self.new ≡ is_failed_read result }
         ensures write { O.failed output.new ≡ is_failed_write result }
         ensures calls { IsAskedFew options self.old self.new }
         ensures answer { (rules : M.Rules) → M.Told rules machine.old
-            (O.written output.old) (O.written output.old) [] →
+            (O.written output.old) (O.written output.old) [] → CanAll (M.Can rules) →
             IfSome (known self.old) (λ bytes. (items : List (Item Head))
             × Takes options (ports_unsaid unsaid.entry) bytes self.new (arrivals_of items) result
             × By result

@@ -4,6 +4,7 @@ ghost use Rattle.std.specs.Prelude.{◌≡◌, [], IfSome, OnOk, true, false};
 ghost use Rattle.afdx_lists.specs.Calls.{is_failed_read, is_failed_write};
 ghost use Rattle.afdx_lists.specs.Peeking.{held, is_untouched, left_in};
 ghost use Rattle.afdx_lists.specs.Watching.{calls_of, device_of, has_ended, has_failed};
+ghost use Rattle.afdx_engine.specs.Engine.{CanAll};
 ghost use Rattle.afdx_recorded.specs.Becoming.{options_of};
 ghost use Rattle.afdx_recorded.specs.Claims.{ports_unsaid};
 ghost use Rattle.afdx_inputs.specs.InputRun as spec;
@@ -11,7 +12,7 @@ ghost use Rattle.afdx_inputs.specs.InputRun.{InputAnswers, IsAskedBy, IsAskedFew
 ghost use Rattle.afdx_inputs.specs.RecordingRun.{IsAskedOnce, RecordingAnswers};
 
 use crate::recording_run::run_recording;
-use afdx_engine::{Machine, run_list};
+use afdx_engine::{FrameLines, Machine, run_list};
 use afdx_lists::{Heading, Peeked, RunFault, Watched};
 use afdx_recorded::{RecordingOptions, SystemPorts, Tally, UnsaidPort};
 use afdx_recordings::is_recording;
@@ -49,14 +50,14 @@ fn run_recorded<R: Read, M: Machine<Heading>, O: Sink>(
     requires unended { has_ended input.old ≡ false }
     requires sound_output { O.failed output.old ≡ false }
     requires told { (rules : M.Rules) × M.Told rules machine.old
-        (O.written output.old) (O.written output.old) [] }
+        (O.written output.old) (O.written output.old) [] × CanAll (M.Can rules) }
     ensures ended { OnOk result (has_ended input.new ≡ true) }
     ensures read { has_failed input.new ≡ is_failed_read result }
     ensures write { O.failed output.new ≡ is_failed_write result }
     ensures calls { IsAskedOnce (R.remaining (device_of input.old))
         (R.remaining (device_of input.new)) (calls_of input.old) (calls_of input.new) }
     ensures answer { (rules : M.Rules) → M.Told rules machine.old
-        (O.written output.old) (O.written output.old) [] →
+        (O.written output.old) (O.written output.old) [] → CanAll (M.Can rules) →
         IfSome (R.remaining (device_of input.old)) (λ bytes.
         RecordingAnswers (options_of options) (ports_unsaid unsaid.entry)
         (M.Done rules machine.new (O.written output.old) (O.written output.new))
@@ -82,7 +83,7 @@ fn run_looked<R: Read, M: Machine<Heading>, O: Sink>(
     requires unended { has_ended input.old ≡ false }
     requires sound_output { O.failed output.old ≡ false }
     requires told { (rules : M.Rules) × M.Told rules machine.old
-        (O.written output.old) (O.written output.old) [] }
+        (O.written output.old) (O.written output.old) [] × CanAll (M.Can rules) }
     ensures ended { OnOk result (has_ended input.new ≡ true) }
     ensures read { has_failed input.new ≡ is_failed_read result }
     ensures write { O.failed output.new ≡ is_failed_write result }
@@ -90,7 +91,7 @@ fn run_looked<R: Read, M: Machine<Heading>, O: Sink>(
         (left_in R.remaining (device_of input.old)) (left_in R.remaining (device_of input.new))
         (calls_of input.old) (calls_of input.new) }
     ensures answer { (rules : M.Rules) → M.Told rules machine.old
-        (O.written output.old) (O.written output.old) [] →
+        (O.written output.old) (O.written output.old) [] → CanAll (M.Can rules) →
         IfSome (left_in R.remaining (device_of input.old)) (λ bytes.
         InputAnswers (options_of options, ports_unsaid unsaid.entry)
         (M.Done rules machine.new (O.written output.old) (O.written output.new))
@@ -103,7 +104,7 @@ fn run_looked<R: Read, M: Machine<Heading>, O: Sink>(
         let tally = run_recorded(alloc, options, unsaid, machine, input, output)?;
         return Ok(InputCount::Recorded(tally));
     }
-    let lines = run_list(alloc, machine, input, output)?;
+    let lines = run_list(alloc, FrameLines, machine, input, output)?;
     Ok(InputCount::Lines(lines))
 }
 
@@ -127,7 +128,7 @@ pub fn run_input<R: Read, M: Machine<Heading>, O: Sink>(
     requires unended { has_ended input.old ≡ false }
     requires sound_output { O.failed output.old ≡ false }
     requires told { (rules : M.Rules) × M.Told rules machine.old
-        (O.written output.old) (O.written output.old) [] }
+        (O.written output.old) (O.written output.old) [] × CanAll (M.Can rules) }
     ensures ended { OnOk result (has_ended input.new ≡ true) }
     ensures read { has_failed input.new ≡ is_failed_read result }
     ensures write { O.failed output.new ≡ is_failed_write result }
@@ -138,7 +139,7 @@ pub fn run_input<R: Read, M: Machine<Heading>, O: Sink>(
     // Where all its bytes are known: what is answered and written for the list, or the recording,
     // that they are.
     ensures answer { (rules : M.Rules) → M.Told rules machine.old
-        (O.written output.old) (O.written output.old) [] →
+        (O.written output.old) (O.written output.old) [] → CanAll (M.Can rules) →
         IfSome (left_in R.remaining (device_of input.old)) (λ bytes.
         InputAnswers (options_of options, ports_unsaid unsaid.entry)
         (M.Done rules machine.new (O.written output.old) (O.written output.new))

@@ -17,7 +17,7 @@ use afdx_engine::Machine;
 use afdx_frame::BySide;
 use afdx_lists::{RunFault, Watched};
 use afdx_recorded::{NumberLine, PairOptions, RecordingOptions, SystemPorts, Tally, UnsaidPort};
-use afdx_text::{OutLine, Sink};
+use afdx_text::{OutLine, Sink, Site};
 use std::alloc::Global;
 use std::io::Read;
 
@@ -47,7 +47,7 @@ fn put_number<O: Sink>(
             let line = OutLine::Listed {
                 kind: *kind,
                 time: *time,
-                side: *side,
+                site: Site::on(*side),
                 port: *port,
                 bytes,
             };
@@ -71,6 +71,8 @@ impl Machine<NumberLine> for Lister {
     ghost use Rattle.afdx_inputs.specs.ListText.{WritesLines, WritesSomeLines};
 
     ghost Rules = { Unit {0} };
+
+    ghost Can = { λ rules item. Unit {0} };
 
     ghost Told = { λ rules lister old new past. WritesLines old new past };
 

@@ -3,6 +3,7 @@
 ghost use Rattle.std.specs.Prelude.{◌≡◌, ◌||◌, [], IfSome, OnOk, true, false};
 ghost use Rattle.afdx_lists.specs.Calls.{is_failed_read, is_failed_write};
 ghost use Rattle.afdx_lists.specs.Watching.{calls_of, device_of, has_ended, has_failed};
+ghost use Rattle.afdx_engine.specs.Engine.{CanAll};
 ghost use Rattle.afdx_recorded.specs.Becoming.{options_of};
 ghost use Rattle.afdx_recorded.specs.Claims.{ports_of, ports_unsaid};
 ghost use Rattle.afdx_inputs.specs.RecordingRun.{AreCutOffInPair, IfBothKnown, IsAskedOnce};
@@ -40,7 +41,7 @@ pub fn run_recording<R: Read, M: Machine<Heading>, O: Sink>(
     requires unended { has_ended input.old ≡ false }
     requires sound_output { O.failed output.old ≡ false }
     requires told { (rules : M.Rules) × M.Told rules machine.old
-        (O.written output.old) (O.written output.old) [] }
+        (O.written output.old) (O.written output.old) [] × CanAll (M.Can rules) }
     ensures ended { OnOk result (has_ended input.new ≡ true) }
     ensures read { has_failed input.new ≡ is_failed_read result }
     ensures write { O.failed output.new ≡ is_failed_write result }
@@ -50,7 +51,7 @@ pub fn run_recording<R: Read, M: Machine<Heading>, O: Sink>(
     // Where the input's bytes are known: what is answered and written for the recording that they
     // are.
     ensures answer { (rules : M.Rules) → M.Told rules machine.old
-        (O.written output.old) (O.written output.old) [] →
+        (O.written output.old) (O.written output.old) [] → CanAll (M.Can rules) →
         IfSome (R.remaining (device_of input.old)) (λ bytes.
         RecordingAnswers (options_of options) (ports_of ports)
         (M.Done rules machine.new (O.written output.old) (O.written output.new))
@@ -84,7 +85,7 @@ pub fn run_pair<R: Read, M: Machine<Heading>, O: Sink>(
     requires unended_b { has_ended inputs.old.b ≡ false }
     requires sound_output { O.failed output.old ≡ false }
     requires told { (rules : M.Rules) × M.Told rules machine.old
-        (O.written output.old) (O.written output.old) [] }
+        (O.written output.old) (O.written output.old) [] × CanAll (M.Can rules) }
     ensures ended { OnOk result (has_ended inputs.new.a ≡ true × has_ended inputs.new.b ≡ true) }
     ensures read { (has_failed inputs.new.a || has_failed inputs.new.b) ≡ is_failed_read result }
     ensures write { O.failed output.new ≡ is_failed_write result }
@@ -96,7 +97,7 @@ pub fn run_pair<R: Read, M: Machine<Heading>, O: Sink>(
     // Where the bytes of both are known: what is answered and written for the recordings that they
     // are.
     ensures answer { (rules : M.Rules) → M.Told rules machine.old
-        (O.written output.old) (O.written output.old) [] →
+        (O.written output.old) (O.written output.old) [] → CanAll (M.Can rules) →
         IfBothKnown R.remaining inputs.old (λ a b.
         TakenAnswers (taken_of_pair options (ports_unsaid unsaid.entry) a b)
         (AreCutOffInPair options (ports_unsaid unsaid.entry) R.remaining a b inputs.new)

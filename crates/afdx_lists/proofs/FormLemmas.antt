@@ -10,7 +10,8 @@ use Rattle.afdx_lists.specs.declared.fault.LineError.TheVariants.{Fault, Memory}
 use Rattle.afdx_lists.specs.Faults.{IsErrorOf, IsBytesError, NeedsRoom}
 use Rattle.afdx_lists.specs.Splitting.{between_spaces}
 use Rattle.afdx_lists.specs.Fields.{holds_space, is_skipped, bytes_of_digits}
-use Rattle.afdx_lists.specs.Forms.{Form, from_five, five_of, if_five, said_with, fields_say_with}
+use Rattle.afdx_lists.specs.Forms.{Form, from_five, five_of, from_six, six_of, if_no_more}
+use Rattle.afdx_lists.specs.Forms.{said_with, fields_say_with}
 use Rattle.afdx_lists.specs.Forms.{fields_say, said_by}
 use Rattle.afdx_lists.proofs.SpaceLemmas.{one_part, more_parts, none_either, first_of, none_of}
 
@@ -19,7 +20,7 @@ use Rattle.afdx_lists.proofs.SpaceLemmas.{one_part, more_parts, none_either, fir
 module _ {A B C D F Y : Type 0} (form : Form F Y) (make : A → B → C → D → List ℕ → F)
     (are_digits : (a : A) (b : B) (c : C) (d : D) (digits : List ℕ) → form.digits (make a b c d digits) ≡ digits) where
   if_five-from : (a : Option A) (b : Option B) (c : Option C) (d : Option D) (digits : List ℕ) →
-      if_five form (from_five make a b c d digits)
+      if_no_more form (from_five make a b c d digits)
       ≡ cond (holds_space digits) None (from_five make a b c d digits)
   if_five-from None b c d digits = none_either (holds_space digits)
   if_five-from (Some a) None c d digits = none_either (holds_space digits)
@@ -32,7 +33,7 @@ module _ {A B C D F Y : Type 0} (form : Form F Y) (make : A → B → C → D �
   pub five_fields : (read : List ℕ → List ℕ → List ℕ → List ℕ → List ℕ → Option F) (cut : F → F)
       (p q r s digits : List ℕ) (a : Option A) (b : Option B) (c : Option C) (d : Option D) →
       from_five make a b c d digits ≡ option_map cut (read p q r s digits) →
-      if_five form (from_five make a b c d digits)
+      if_no_more form (from_five make a b c d digits)
       ≡ option_map cut (five_of read (p ∷ q ∷ r ∷ s ∷ between_spaces digits))
   five_fields read cut p q r s digits a b c d same = if_five-from a b c d digits ∙ by (holds_space digits) refl
     where
@@ -40,6 +41,36 @@ module _ {A B C D F Y : Type 0} (form : Form F Y) (make : A → B → C → D �
           ≡ option_map cut (five_of read (p ∷ q ∷ r ∷ s ∷ between_spaces digits))
       by true e = rw (more_parts digits e).3 refl
       by false e = rw (one_part digits e) same
+
+-- ---- six fields
+
+module _ {A B C D E F Y : Type 0} (form : Form F Y) (make : A → B → C → D → E → List ℕ → F)
+    (are_digits : (a : A) (b : B) (c : C) (d : D) (e : E) (digits : List ℕ)
+    → form.digits (make a b c d e digits) ≡ digits) where
+  if_six-from : (a : Option A) (b : Option B) (c : Option C) (d : Option D) (e : Option E) (digits : List ℕ) →
+      if_no_more form (from_six make a b c d e digits)
+      ≡ cond (holds_space digits) None (from_six make a b c d e digits)
+  if_six-from None b c d e digits = none_either (holds_space digits)
+  if_six-from (Some a) None c d e digits = none_either (holds_space digits)
+  if_six-from (Some a) (Some b) None d e digits = none_either (holds_space digits)
+  if_six-from (Some a) (Some b) (Some c) None e digits = none_either (holds_space digits)
+  if_six-from (Some a) (Some b) (Some c) (Some d) None digits = none_either (holds_space digits)
+  if_six-from (Some a) (Some b) (Some c) (Some d) (Some e) [] = none_either (holds_space [])
+  if_six-from (Some a) (Some b) (Some c) (Some d) (Some e) (digit ∷ digits) =
+      rw (are_digits a b c d e (digit ∷ digits)) refl
+
+  -- the fields before the fifth space, and what stands behind it
+  pub six_fields : (read : List ℕ → List ℕ → List ℕ → List ℕ → List ℕ → List ℕ → Option F) (cut : F → F)
+      (p q r s t digits : List ℕ) (a : Option A) (b : Option B) (c : Option C) (d : Option D) (e : Option E) →
+      from_six make a b c d e digits ≡ option_map cut (read p q r s t digits) →
+      if_no_more form (from_six make a b c d e digits)
+      ≡ option_map cut (six_of read (p ∷ q ∷ r ∷ s ∷ t ∷ between_spaces digits))
+  six_fields read cut p q r s t digits a b c d e same = if_six-from a b c d e digits ∙ by (holds_space digits) refl
+    where
+      by : (x : Bool) → holds_space digits ≡ x → cond x None (from_six make a b c d e digits)
+          ≡ option_map cut (six_of read (p ∷ q ∷ r ∷ s ∷ t ∷ between_spaces digits))
+      by true h = rw (more_parts digits h).3 refl
+      by false h = rw (one_part digits h) same
 
 -- ---- what they say
 
@@ -89,7 +120,7 @@ module _ {F Y : Type 0} (form : Form F Y) (latest : ℕ) (line text : List ℕ)
             ap Some (sym (is ∙ is_cut.whole whole none))
 
         -- an error of the fields, or a space behind the fourth one
-        first_error : (error : LineError) → if_five form (Some fields) ≡ option_map cut (form.fields text)
+        first_error : (error : LineError) → if_no_more form (Some fields) ≡ option_map cut (form.fields text)
             → (Some fields ≡ option_map cut (form.fields text) → IsErrorOf (said_by form latest line) error) →
             IsErrorOf (said_by form latest line) (cond (holds_space (form.digits fields)) (Fault BadLine) error)
         first_error error five is = by (holds_space (form.digits fields)) refl
@@ -99,7 +130,7 @@ module _ {F Y : Type 0} (form : Form F Y) (latest : ℕ) (line text : List ℕ)
             by true e = says_bad_line (none_of _ fields _ e five)
             by false e = is (first_of _ fields _ e five)
 
-        pub says_first_fault : (fault : LineFault) → if_five form (Some fields) ≡ option_map cut (form.fields text)
+        pub says_first_fault : (fault : LineFault) → if_no_more form (Some fields) ≡ option_map cut (form.fields text)
             → Some fault ≡ form.fault latest fields →
             IsErrorOf (said_by form latest line) (cond (holds_space (form.digits fields)) (Fault BadLine) (Fault fault))
         says_first_fault fault five found = first_error (Fault fault) five
@@ -119,7 +150,7 @@ module _ {F Y : Type 0} (form : Form F Y) (latest : ℕ) (line text : List ℕ)
             needs None = refl
 
         -- what stands behind the fourth space isn't digits, or finds no room
-        pub says_bytes_error : (error : LineError) → if_five form (Some fields) ≡ option_map cut (form.fields text)
+        pub says_bytes_error : (error : LineError) → if_no_more form (Some fields) ≡ option_map cut (form.fields text)
             → form.fault latest fields ≡ None → IsBytesError (bytes_of_digits (form.digits fields)) error →
             IsErrorOf (said_by form latest line) (cond (holds_space (form.digits fields)) (Fault BadLine) error)
         says_bytes_error error five sound is = first_error error five (by error is)

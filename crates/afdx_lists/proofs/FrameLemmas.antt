@@ -9,7 +9,7 @@ use Rattle.afdx_lists.specs.declared.frame_line.FrameKind.{FrameKind}
 use Rattle.afdx_lists.specs.declared.fault.LineFault.{LineFault}
 use Rattle.afdx_lists.specs.Splitting.{between_spaces, number_of}
 use Rattle.afdx_lists.specs.Fields.{cut, cut_number, is_skipped, fault_or, time_fault}
-use Rattle.afdx_lists.specs.Forms.{from_five, five_of, if_five}
+use Rattle.afdx_lists.specs.Forms.{from_five, five_of, if_no_more}
 use Rattle.afdx_lists.specs.FrameLines.{kind_of, side_of, frame_fields_with, frame_fields_from, cut_frame}
 use Rattle.afdx_lists.specs.FrameLines.{ListedFrame, frame_form, port_fault, numbers_fault, line_says}
 use Rattle.afdx_frame.specs.Times.{latest_listed}
@@ -29,7 +29,7 @@ from_five-cut (Some kind) (Some time) (Some side) (Some port) (digit ∷ digits)
 
 -- the fields before the fourth space, and what stands behind it
 pub frame_five : (kind time side port digits : List ℕ) →
-    if_five frame_form (from_five frame_fields_with (kind_of kind) (cut_number (number_of time))
+    if_no_more frame_form (from_five frame_fields_with (kind_of kind) (cut_number (number_of time))
     (side_of side) (cut_number (number_of port)) digits)
     ≡ option_map cut_frame (five_of frame_fields_from (kind ∷ time ∷ side ∷ port ∷ between_spaces digits))
 frame_five kind time side port digits =
@@ -39,7 +39,7 @@ frame_five kind time side port digits =
 port_fault-cut : (port : ℕ) → port_fault (cut port) ≡ port_fault port
 port_fault-cut port = grind (arith, common_steps)
 
-port_fault-none : (port : ℕ) → port_fault port ≡ None → (1 ≤ port) × (port ≤ last_port)
+pub port_fault-none : (port : ℕ) → port_fault port ≡ None → (1 ≤ port) × (port ≤ last_port)
 port_fault-none port h = grind (arith, common_steps, h)
 
 -- no check of the numbers is false
@@ -68,7 +68,7 @@ pub line_says_nothing : (latest : ℕ) (line text : List ℕ) → text ≡ strip
 unfolding line_says
 line_says_nothing latest line text e h = says_nothing frame_form latest line text e h
 
-time_fault-alone : (time latest : ℕ) → time_fault time latest ≡ None → time_fault time 0 ≡ None
+pub time_fault-alone : (time latest : ℕ) → time_fault time latest ≡ None → time_fault time 0 ≡ None
 time_fault-alone time latest none = let parts = time_fault-none time latest none in grind (arith, common_steps, parts.0)
 
 -- what a line says after others it says alone

@@ -9,4 +9,5 @@ pub mod SubmissionLemmas
 mod DigitLemmas
 mod SpaceLemmas
 pub mod FrameLemmas
+pub mod SitedLemmas
 mod PeekLemmas

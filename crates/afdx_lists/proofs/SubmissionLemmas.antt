@@ -5,7 +5,7 @@ use Rattle.std.specs.Option.{option_map}
 use Rattle.afdx_frame.specs.Times.{latest_listed}
 use Rattle.afdx_lists.specs.Splitting.{between_spaces, number_of}
 use Rattle.afdx_lists.specs.Fields.{cut, cut_number}
-use Rattle.afdx_lists.specs.Forms.{from_five, five_of, if_five}
+use Rattle.afdx_lists.specs.Forms.{from_five, five_of, if_no_more}
 use Rattle.afdx_lists.specs.SubmissionLines.{at_most, submission_fields_with, submission_fields_from}
 use Rattle.afdx_lists.specs.SubmissionLines.{cut_submission, submission_form}
 use Rattle.afdx_lists.proofs.FieldLemmas.{time_fault-cut, time_fault-none}
@@ -29,7 +29,7 @@ from_five-cut (Some time) (Some vl) (Some sub) (Some udp) (digit ∷ digits) = r
 
 -- the fields before the fourth space, and what stands behind it
 pub submission_five : (time vl sub udp digits : List ℕ) →
-    if_five submission_form (from_five submission_fields_with (cut_number (number_of time))
+    if_no_more submission_form (from_five submission_fields_with (cut_number (number_of time))
     (at_most 65535 (cut_number (number_of vl))) (at_most 255 (cut_number (number_of sub)))
     (at_most 65535 (cut_number (number_of udp))) digits)
     ≡ option_map cut_submission (five_of submission_fields_from (time ∷ vl ∷ sub ∷ udp ∷ between_spaces digits))

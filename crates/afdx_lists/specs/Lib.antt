@@ -8,5 +8,6 @@ pub mod Splitting
 pub mod Fields
 pub mod Forms
 pub mod FrameLines
+pub mod SitedLines
 pub mod SubmissionLines
 pub mod FaultForms

@@ -17,7 +17,7 @@ pub enum LineFault {
     TimeTooLarge,
     /// Its time is before that of the last line that was read.
     TimeBack,
-    /// Its port is not one of 1 to 24.
+    /// Its port is not one of 1 to 24, or a cable to another switch is there.
     BadPort,
     /// Its bytes are not pairs of hexadecimal digits.
     BadHex,
@@ -96,10 +96,13 @@ pub const RUN_FAULTS: [(&str, &str); 10] = [
     (
         "list BadLine n",
         "\
-Not five fields, an empty field, an unknown K or side, a time or port that isn't all digits.
+Not five fields (six of several switches), an empty field, an unknown K, side or switch, a time
+or port that isn't all digits.
 A line of a frame list is 'K time side port HEX' with K one of F, B and R, and the side A or
-B; a line of a submission list is 'time vl sub udp HEX', with vl and udp at most 65535 and
-sub at most 255. Exactly one space stands between two fields.",
+B; of several switches it is 'K time side SWITCH port HEX', with the name of one. A line of a
+submission list is 'time vl sub udp HEX', with vl and udp at most 65535 and sub at most 255.
+Exactly one space stands between two fields. Of several switches no recording is read yet: it
+counts as a list.",
     ),
     (
         "list BadHex n",
@@ -122,7 +125,8 @@ Count the times of the list from its first line.",
     (
         "list BadPort n",
         "\
-The port isn't 1 to 24. It is the fourth field, the input port of the switch.",
+The port isn't 1 to 24, or it is one where a cable joins two switches. It is the field before
+HEX, the input port of the switch. What a cable brings is computed, so no list has it.",
     ),
     (
         "list LineTooLong n",

@@ -5,7 +5,7 @@ ghost use Rattle.afdx_frame.specs.Parts.{bytes_of};
 ghost use Rattle.afdx_frame.specs.Seals.{whole, IsSealedAs};
 ghost use Rattle.afdx_lists.specs.Faults.{IsErrorOf};
 ghost use Rattle.afdx_frame.specs.Times.{latest_listed};
-ghost use Rattle.afdx_lists.specs.Forms.{from_five, if_five};
+ghost use Rattle.afdx_lists.specs.Forms.{from_five, if_no_more};
 ghost use Rattle.afdx_lists.specs.FrameLines.{kind_of, side_of, frame_fields, frame_bytes};
 ghost use Rattle.afdx_lists.specs.FrameLines.{listed_frame, line_says, cut_frame, frame_fields_of};
 ghost use Rattle.afdx_lists.specs.FrameLines.{frame_fields_with, frame_form, numbers_fault};
@@ -26,6 +26,8 @@ pub struct Heading {
     pub time: u64,
     /// The network by which it comes.
     pub side: Side,
+    /// The place of its switch among those of its side, from 0; 0 where there is one.
+    pub switch: u8,
     /// The port at which it comes in, 1 to 24.
     pub port: u8,
     /// How it is sealed: what follows its message.
@@ -58,15 +60,15 @@ pub enum FrameKind {
 
 /// The fields of a line, read as far as their form goes.
 #[derive(Drop)]
-struct Fields<'a> {
-    kind: FrameKind,
-    time: u64,
-    side: Side,
-    port: u64,
-    digits: &'a [u8],
+pub(crate) struct Fields<'a> {
+    pub(crate) kind: FrameKind,
+    pub(crate) time: u64,
+    pub(crate) side: Side,
+    pub(crate) port: u64,
+    pub(crate) digits: &'a [u8],
 }
 
-fn read_kind(text: &[u8]) -> Option<FrameKind>
+pub(crate) fn read_kind(text: &[u8]) -> Option<FrameKind>
     ensures { result ≡ kind_of text.now }
 {
     match text {
@@ -77,7 +79,7 @@ fn read_kind(text: &[u8]) -> Option<FrameKind>
     }
 }
 
-fn read_side(text: &[u8]) -> Option<Side>
+pub(crate) fn read_side(text: &[u8]) -> Option<Side>
     ensures { result ≡ side_of text.now }
 {
     match text {
@@ -113,7 +115,7 @@ fn fields_from<'a>(
 /// The fields of a text. The last one is all that stands behind the fourth space: it isn't searched
 /// for a further one.
 fn read_fields(text: &[u8]) -> Option<Fields<'_>>
-    ensures { if_five frame_form (option_map frame_fields_of result)
+    ensures { if_no_more frame_form (option_map frame_fields_of result)
         ≡ option_map cut_frame (frame_fields text.now) }
 {
     let (kind, rest) = first_field(text, b' ');
@@ -149,7 +151,7 @@ fn fault_of_port(port: u64) -> Option<LineFault>
 }
 
 /// The first false check of a line's numbers.
-fn fault_of_numbers(time: u64, port: u64, latest: u64) -> Option<LineFault>
+pub(crate) fn fault_of_numbers(time: u64, port: u64, latest: u64) -> Option<LineFault>
     ensures fault { result ≡ numbers_fault time port latest }
     ensures time { result ≡ None → time ≤ latest_listed }
     ensures order { result ≡ None → latest ≤ time }
@@ -163,7 +165,7 @@ fn fault_of_numbers(time: u64, port: u64, latest: u64) -> Option<LineFault>
 }
 
 /// How the frame of a line's bytes is sealed; its message is left in `frame`.
-fn seal_of(kind: FrameKind, frame: &mut Vec<u8>) -> Seal
+pub(crate) fn seal_of(kind: FrameKind, frame: &mut Vec<u8>) -> Seal
     ensures bytes { whole result frame.new.items ≡ frame_bytes kind frame.old.items }
     ensures known { IsSealedAs result frame.new.items }
 {
@@ -188,6 +190,7 @@ pub fn read_frame_line(
     requires { latest ≤ latest_listed }
     ensures time { IfOk result (λ heading. IfSome heading (λ h. h.time ≤ latest_listed)) }
     ensures order { IfOk result (λ heading. IfSome heading (λ h. latest ≤ h.time)) }
+    ensures switch { IfOk result (λ heading. IfSome heading (λ h. h.switch ≡ 0)) }
     ensures some_port { IfOk result (λ heading. IfSome heading (λ h. 1 ≤ h.port)) }
     ensures port { IfOk result (λ heading. IfSome heading (λ h. h.port ≤ last_port)) }
     ensures sealed { IfOk result (λ heading.
@@ -214,6 +217,7 @@ pub fn read_frame_line(
     Ok(Some(Heading {
         time: fields.time,
         side: fields.side,
+        switch: 0,
         port: fields.port as u8,
         seal,
     }))

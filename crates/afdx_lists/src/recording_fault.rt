@@ -58,7 +58,7 @@ pub const RECORDING_FAULTS: [(&str, &str); 13] = [
         "\
 The input isn't a recording: its first four bytes are those of no pcap and no pcapng. The
 option that was given, or the command, needs one; two LISTs both have to be recordings. Make
-one of another format by: editcap -F pcapng IN OUT.",
+one of another format by: editcap -F pcapng IN OUT. Of several switches no recording is read yet.",
     ),
     (
         "recording BadVersion n",

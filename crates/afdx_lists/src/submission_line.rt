@@ -3,7 +3,7 @@
 ghost use Rattle.std.specs.Prelude.{◌≡◌, ◌⊎◌, ◌^◌, ◌-◌, ◌<◌, ◌≤◌, min, None, Ok, Err, IfOk, IfSome, IfErr, option_map};
 ghost use Rattle.afdx_lists.specs.Faults.{IsErrorOf};
 ghost use Rattle.afdx_frame.specs.Times.{latest_listed};
-ghost use Rattle.afdx_lists.specs.Forms.{from_five, if_five};
+ghost use Rattle.afdx_lists.specs.Forms.{from_five, if_no_more};
 ghost use Rattle.afdx_lists.specs.SubmissionLines.{at_most, submission_fields, submission_of};
 ghost use Rattle.afdx_lists.specs.SubmissionLines.{submission_said, cut_submission, submission_form};
 ghost use Rattle.afdx_lists.specs.SubmissionLines.{submission_fields_of, submission_fields_with};
@@ -91,7 +91,7 @@ fn fields_from<'a>(
 /// The fields of a text. The last one is all that stands behind the fourth space: it isn't searched
 /// for a further one.
 fn read_fields(text: &[u8]) -> Option<Fields<'_>>
-    ensures { if_five submission_form (option_map submission_fields_of result)
+    ensures { if_no_more submission_form (option_map submission_fields_of result)
         ≡ option_map cut_submission (submission_fields text.now) }
 {
     let (time, rest) = split_number(text);

@@ -13,6 +13,8 @@ use std::alloc::Global;
 use std::fmt::Write;
 use std::test::Fail;
 
+mod refused;
+
 fn read(alloc: Global, text: &str) -> Result<Described, FileFault> {
     match read_file(alloc, text.as_bytes()) {
         Err(fault) if fault.fault == ConfigFault::Memory => read_file(alloc, text.as_bytes()),

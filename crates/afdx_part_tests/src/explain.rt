@@ -55,6 +55,28 @@ fn lines_are_explained() -> Result<(), Fail> {
 }
 
 #[test]
+fn places_are_explained() -> Result<(), Fail> {
+    let rows = [
+        ("V 1 A fwd accept", "accept:"),
+        ("V 2 B fwd drop over-rate", "over-rate:"),
+        ("V 2 B drop accept", "accept:"),
+        ("L 5 A fwd 3", "L n side port:"),
+        ("D 5 100 A fwd 3", "D n time side port:"),
+        ("T 5 100 B aft 3", "T n time side port:"),
+        ("early 2 A aft 500000", "early n NS:"),
+        ("R 6720 A aft 2 0300", "R time A port HEX:"),
+        ("R 6720 B aft 2 0300", "R time B port HEX:"),
+        ("F 0 A fwd 1 -", "F time side port HEX:"),
+        ("B 0 B fwd 1 -", "B time side port HEX:"),
+        ("no A3 fwd 24 1 10080", "A3 port vl bound:"),
+        ("no A4 fwd 24 1 -", "A4 port vl bound:"),
+        ("admit A5 fwd s1 532160", "A5 system ns:"),
+        ("no B5 fwd 1 aft", "B5 switch vl neighbour:"),
+    ];
+    all_right(otherwise_explained(&rows))
+}
+
+#[test]
 fn faults_in_a_switch_are_explained() -> Result<(), Fail> {
     let rows = [
         (
@@ -139,6 +161,10 @@ fn other_lines_are_not(rt: HostRuntime) {
         "config Missing switch 1 top 0 key 7",
         "S fwd aft",
         "E 1 s3 x",
+        "V 1 fwd accept",
+        "V 1 A fwd aft accept",
+        "D 1 6720 C fwd 24",
+        "early 2 aft 500000",
     ] {
         assert!(rt; meaning_of(line).is_none());
     }
@@ -152,6 +178,11 @@ fn kinds_are_explained(rt: HostRuntime) {
             && kind_of("config UnknownKey switch 2 top 0 key 0").is_some()
             && kind_of("config BadProfile switch 2 top 0 key 1").is_none()
             && kind_of("# 1 S5").is_some()
+            && kind_of("V 1 A fwd drop over-rate").is_some()
+            && kind_of("no A2 3 252").is_some()
+            && kind_of("no A3 fwd 24 1 10080").is_some()
+            && kind_of("no A4 fwd 24 1 -").is_some()
+            && kind_of("no B5 fwd 1 aft").is_some()
             && kind_of("over-rate").is_none()
     );
 }

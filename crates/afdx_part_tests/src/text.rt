@@ -2,6 +2,7 @@
 
 mod check_lines;
 mod digits;
+mod sites;
 mod whole_lines;
 
 use afdx_frame::{IpFault, MacFault, Side, VlId};
@@ -9,7 +10,7 @@ use afdx_lists::{FrameKind, RecordingFault, RunFault, Watched};
 use afdx_police::Reason;
 use afdx_receive::DropReason;
 use afdx_samples::{Break, WeakWriter, all_right, equal};
-use afdx_text::{OutLine, Output, Sink, Text, tell_fault, write_text};
+use afdx_text::{OutLine, Output, Sink, Site, Text, tell_fault, write_text};
 use std::alloc::{AllocError, Global};
 use std::test::Fail;
 
@@ -58,7 +59,10 @@ fn text_is_written_once(rt: HostRuntime) {
 /// The line of an accepted frame: 13 bytes.
 const ACCEPTED: OutLine<'static> = OutLine::Verdict {
     n: 1,
-    side: Side::A,
+    site: Site {
+        side: Side::A,
+        switch: "",
+    },
     reason: None,
 };
 
@@ -256,25 +260,25 @@ fn verdicts_and_departures(rt: HostRuntime) -> Result<(), Fail> {
     equal(text.as_bytes(), b"".as_slice())?;
     let dropped = OutLine::Verdict {
         n: 1_000_000,
-        side: Side::B,
+        site: Site::on(Side::B),
         reason: Some(Reason::UnderLmin),
     };
     let lost = OutLine::Lost {
         n: 20,
-        side: Side::B,
+        site: Site::on(Side::B),
         port: 24,
     };
     let left = OutLine::Left {
         n: 7,
         time: 1_000_000_000_000_000,
-        side: Side::A,
+        site: Site::on(Side::A),
         port: 9,
         too_old: false,
     };
     let too_old = OutLine::Left {
         n: 0,
         time: u64::MAX,
-        side: Side::B,
+        site: Site::on(Side::B),
         port: 255,
         too_old: true,
     };
@@ -325,14 +329,14 @@ fn what_is_sent(rt: HostRuntime) -> Result<(), Fail> {
     let sent = OutLine::Listed {
         kind: FrameKind::Raw,
         time: 5,
-        side: Side::B,
+        site: Site::on(Side::B),
         port: 1,
         bytes: &[],
     };
     let bad = OutLine::Listed {
         kind: FrameKind::Bad,
         time: 1_000_000_000_000_000,
-        side: Side::A,
+        site: Site::on(Side::A),
         port: 24,
         bytes: &[3, 255],
     };

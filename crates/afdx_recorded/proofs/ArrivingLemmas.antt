@@ -49,7 +49,7 @@ module _ (x : Item NumberLine) (lines : Lines) (kind : FrameKind) (time : ℕ) (
     (seal-is : seal ≡ seal_by kind own) where
   abbrev Arrives : Item Heading
   Arrives =
-      item_of x.number (record { time = time; side = side; port = port; seal = seal }) (without_own own x.bytes)
+      item_of x.number (record { time = time; side = side; switch = 0; port = port; seal = seal }) (without_own own x.bytes)
 
   -- an arrival stands in front
   pub arrival-first : Arrives ∷ arrivals_listed lines ≡ arrivals_listed (x ∷ lines)

@@ -20,7 +20,8 @@ Lines = List (Item NumberLine)
 -- the arrival that a line is read as, in front of those before it
 abbrev pub as_arrival : ℕ → List ℕ → NumberLine → List (Item Heading) → List (Item Heading)
 as_arrival n bytes (line.Arrival kind time side port) past =
-    item_of n (record { time = time; side = side; port = port; seal = seal_with kind bytes })
+    let seal = seal_with kind bytes in
+    item_of n (record { time = time; side = side; switch = 0; port = port; seal = seal })
     (message_with kind bytes) ∷ past
 as_arrival n bytes (line.Skipped reason) past = past
 

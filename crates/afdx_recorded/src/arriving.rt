@@ -59,6 +59,7 @@ impl<S> Arriving<S> {
             head: Heading {
                 time: 0,
                 side: Side::A,
+                switch: 0,
                 port: 1,
                 seal: Seal::Missing,
             },
@@ -78,6 +79,8 @@ impl<I, S: Source<NumberLine, I>> Source<Heading, I> for Arriving<S> {
     ghost Settings = { S.Settings };
 
     ghost settings = { λ source. S.settings source.lines };
+
+    ghost Gives = { λ settings item. Unit {0} };
 
     ghost Gave = { λ start source input past.
         AreItems arrivals_listed (S.Gave start source.lines input) past };
@@ -103,6 +106,7 @@ impl<I, S: Source<NumberLine, I>> Source<Heading, I> for Arriving<S> {
                 self.head = Heading {
                     time,
                     side,
+                    switch: 0,
                     port,
                     seal: seal_by(kind, own),
                 };

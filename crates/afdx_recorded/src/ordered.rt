@@ -191,6 +191,8 @@ impl<I, S: Source<AsRead, I>> Source<Number, I> for Ordered<S> {
 
     ghost settings = { λ ordered. (S.settings ordered.source, ordered.most) };
 
+    ghost Gives = { λ settings item. Unit {0} };
+
     ghost Gave = { spec.HasOrdered S.Gave S.Ended S.Stopped };
 
     ghost Ended = { spec.HasOrderedAll S.Gave S.Ended S.Stopped };

@@ -155,6 +155,8 @@ impl<R: Read> Source<AsRead, Watched<R>> for ReadRecording {
 
     ghost settings = { λ source. (source.options, source.ports) };
 
+    ghost Gives = { λ settings item. Unit {0} };
+
     ghost Gave = { HasRead R.remaining };
 
     ghost Ended = { HasReadAll R.remaining };

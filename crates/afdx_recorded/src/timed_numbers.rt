@@ -45,6 +45,8 @@ impl<I, S: Source<Number, I>> Source<NumberLine, I> for TimedNumbers<S> {
 
     ghost settings = { λ source. (S.settings source.numbers, source.clock.said) };
 
+    ghost Gives = { λ settings item. Unit {0} };
+
     ghost Gave = { HasTimed S.Gave S.Ended };
 
     ghost Ended = { HasTimedAll S.Gave S.Ended };

@@ -70,6 +70,8 @@ impl<I, S: Source<Number, I>> Source<NumberLine, BySide<I>> for TimedPair<S> {
       source.clock.said,
     ) };
 
+    ghost Gives = { λ settings item. Unit {0} };
+
     ghost Gave = { HasPaired S.current S.Gave S.Ended };
 
     ghost Ended = { HasPairedAll S.current S.Gave S.Ended };

@@ -13,7 +13,7 @@ use afdx_lists::{RecordingFault, RunFault};
 use std::alloc::{AllocError, Global};
 
 /// The most numbers, and the most blocks.
-pub const MOST_NUMBERS: u64 = 100_000_000_000_000_000;
+pub const MOST_NUMBERS: u64 = 1_000_000_000_000_000;
 /// The most interfaces of a section.
 pub const MOST_INTERFACES: usize = 4_096;
 /// What is no frame has no bytes.

@@ -8,5 +8,11 @@ pub mod AdmittedRunLemmas
 pub mod DefinedLemmas
 mod AccountLemmas
 mod ListingLemmas
-mod NotReplayedLemmas
 mod ReplaysLemmas
+mod CascadeEventLemmas
+mod CascadeArrivalLemmas
+mod CascadeOverLemmas
+mod CascadeRunLemmas
+mod CascadePromisedLemmas
+mod CascadeStepLemmas
+mod CascadeArriveLemmas

@@ -6,7 +6,6 @@ use Rattle.std.specs.Prelude.{filter}
 use Rattle.std.specs.Io.KnownBytes.{Appends}
 use Rattle.std.proofs.KnownBytes.{Appends-trans}
 use Rattle.afdx_lists.specs.Calls.{AppendsFront}
-use Rattle.afdx_frame.specs.declared.link.Side.{Side}
 use Rattle.afdx_switch.specs.Ports.{holds}
 use Rattle.afdx_switch.specs.Verdicts.{numbers}
 use Rattle.afdx_switch.specs.declared.ports.PortSet.{PortSet}
@@ -55,15 +54,15 @@ filter-push f (x ∷ xs) y = by (f x) (filter-push f xs y)
     by true rest = ap (λ (zs : List ℕ). x ∷ zs) rest
     by false rest = rest
 
-lines-push : (n : ℕ) (side : Side) (xs : List ℕ) (y : ℕ) (b : Bool)
-    → loss_lines n side (xs ++ (if b then y ∷ [] else [])) ≡ loss_lines n side xs
-    ++ (if b then loss_line n side y else [])
-lines-push n side [] y true = append-nil (loss_line n side y)
-lines-push n side [] y false = refl
-lines-push n side (x ∷ xs) y b =
-    ap (λ (zs : List ℕ). loss_line n side x ++ zs) (lines-push n side xs y b)
-    ∙ sym (append_assoc (loss_line n side x) (loss_lines n side xs)
-    (if b then loss_line n side y else []))
+lines-push : (n : ℕ) (place : List ℕ) (xs : List ℕ) (y : ℕ) (b : Bool)
+    → loss_lines n place (xs ++ (if b then y ∷ [] else [])) ≡ loss_lines n place xs
+    ++ (if b then loss_line n place y else [])
+lines-push n place [] y true = append-nil (loss_line n place y)
+lines-push n place [] y false = refl
+lines-push n place (x ∷ xs) y b =
+    ap (λ (zs : List ℕ). loss_line n place x ++ zs) (lines-push n place xs y b)
+    ∙ sym (append_assoc (loss_line n place x) (loss_lines n place xs)
+    (if b then loss_line n place y else []))
 
 count-push : (xs : List ℕ) (y : ℕ) (b : Bool) → length (xs ++ (if b then y ∷ [] else []))
     ≡ length xs + (if b then 1 else 0)
@@ -87,23 +86,23 @@ all-below set i e = ap (λ (k : ℕ). lost_below (holds set) k) e ∙ all
     all : lost_below (holds set) 24 ≡ filter (holds set) numbers
     all = refl
 
-lines-step : (n : ℕ) (side : Side) (f : ℕ → Bool) (i : ℕ) (b : Bool) → i < 24 → b ≡ f (i + 1)
-    → loss_lines n side (lost_below f i) ++ (if b then loss_line n side (i + 1) else [])
-    ≡ loss_lines n side (lost_below f (i + 1))
-lines-step n side f i b below is =
-    ap (λ (c : Bool). loss_lines n side (lost_below f i) ++ (if c then loss_line n side (i + 1) else [])) is
-    ∙ sym (lines-push n side (lost_below f i) (i + 1) (f (i + 1)))
-    ∙ ap (λ (xs : List ℕ). loss_lines n side xs) (sym (lost-more f i below))
+lines-step : (n : ℕ) (place : List ℕ) (f : ℕ → Bool) (i : ℕ) (b : Bool) → i < 24 → b ≡ f (i + 1)
+    → loss_lines n place (lost_below f i) ++ (if b then loss_line n place (i + 1) else [])
+    ≡ loss_lines n place (lost_below f (i + 1))
+lines-step n place f i b below is =
+    ap (λ (c : Bool). loss_lines n place (lost_below f i) ++ (if c then loss_line n place (i + 1) else [])) is
+    ∙ sym (lines-push n place (lost_below f i) (i + 1) (f (i + 1)))
+    ∙ ap (λ (xs : List ℕ). loss_lines n place xs) (sym (lost-more f i below))
 
 -- the line of a port more is written
-pub lines-more : (n : ℕ) (side : Side) (f : ℕ → Bool) (i : ℕ) (b : Bool) (old middle new : Option (List ℕ))
-    → i < 24 → b ≡ f (i + 1) → Appends old middle (loss_lines n side (lost_below f i))
-    → Appends middle new (if b then loss_line n side (i + 1) else []) →
-    Appends old new (loss_lines n side (lost_below f (i + 1)))
-lines-more n side f i b old middle new below is first more =
-    subst (λ x. Appends old new x) (lines-step n side f i b below is)
-    (Appends-trans old middle new (loss_lines n side (lost_below f i))
-    (if b then loss_line n side (i + 1) else []) first more)
+pub lines-more : (n : ℕ) (place : List ℕ) (f : ℕ → Bool) (i : ℕ) (b : Bool) (old middle new : Option (List ℕ))
+    → i < 24 → b ≡ f (i + 1) → Appends old middle (loss_lines n place (lost_below f i))
+    → Appends middle new (if b then loss_line n place (i + 1) else []) →
+    Appends old new (loss_lines n place (lost_below f (i + 1)))
+lines-more n place f i b old middle new below is first more =
+    subst (λ x. Appends old new x) (lines-step n place f i b below is)
+    (Appends-trans old middle new (loss_lines n place (lost_below f i))
+    (if b then loss_line n place (i + 1) else []) first more)
 
 filter-append : (f : ℕ → Bool) (xs ys : List ℕ) → filter f (xs ++ ys) ≡ filter f xs ++ filter f ys
 filter-append f [] ys = refl
@@ -115,35 +114,35 @@ filter-append f (x ∷ xs) ys = by (f x) (filter-append f xs ys)
     by true rest = ap (λ (zs : List ℕ). x ∷ zs) rest
     by false rest = rest
 
-lines-append : (n : ℕ) (side : Side) (xs ys : List ℕ)
-    → loss_lines n side (xs ++ ys) ≡ loss_lines n side xs ++ loss_lines n side ys
-lines-append n side [] ys = refl
-lines-append n side (x ∷ xs) ys =
-    ap (λ (zs : List ℕ). loss_line n side x ++ zs) (lines-append n side xs ys)
-    ∙ sym (append_assoc (loss_line n side x) (loss_lines n side xs) (loss_lines n side ys))
+lines-append : (n : ℕ) (place : List ℕ) (xs ys : List ℕ)
+    → loss_lines n place (xs ++ ys) ≡ loss_lines n place xs ++ loss_lines n place ys
+lines-append n place [] ys = refl
+lines-append n place (x ∷ xs) ys =
+    ap (λ (zs : List ℕ). loss_line n place x ++ zs) (lines-append n place xs ys)
+    ∙ sym (append_assoc (loss_line n place x) (loss_lines n place xs) (loss_lines n place ys))
 
 -- those of the first ports begin all of them
-lines-rest : (n : ℕ) (side : Side) (set : PortSet) (i : ℕ)
-    → loss_lines n side (lost_below (holds set) i) ++ loss_lines n side (filter (holds set) (drop i numbers))
-    ≡ loss_lines n side (ports_in set)
+lines-rest : (n : ℕ) (place : List ℕ) (set : PortSet) (i : ℕ)
+    → loss_lines n place (lost_below (holds set) i) ++ loss_lines n place (filter (holds set) (drop i numbers))
+    ≡ loss_lines n place (ports_in set)
 unfolding ports_in
-lines-rest n side set i =
-    sym (lines-append n side (filter (holds set) (take i numbers)) (filter (holds set) (drop i numbers)))
-    ∙ ap (loss_lines n side) (sym (filter-append (holds set) (take i numbers) (drop i numbers)))
-    ∙ ap (λ (xs : List ℕ). loss_lines n side (filter (holds set) xs)) (take-append-drop i numbers)
+lines-rest n place set i =
+    sym (lines-append n place (filter (holds set) (take i numbers)) (filter (holds set) (drop i numbers)))
+    ∙ ap (loss_lines n place) (sym (filter-append (holds set) (take i numbers) (drop i numbers)))
+    ∙ ap (λ (xs : List ℕ). loss_lines n place (filter (holds set) xs)) (take-append-drop i numbers)
 
 -- a beginning of the line of a port more is
-pub lines-front : (n : ℕ) (side : Side) (set : PortSet) (i : ℕ) (b : Bool) (old middle new : Option (List ℕ))
-    → i < 24 → b ≡ holds set (i + 1) → Appends old middle (loss_lines n side (lost_below (holds set) i))
-    → AppendsFront middle new (if b then loss_line n side (i + 1) else []) →
-    AppendsFront old new (loss_lines n side (ports_in set))
-lines-front n side set i b old middle new below is first more =
-    subst (λ x. AppendsFront old new x) (lines-rest n side set (i + 1))
-    (front-longer old new (loss_lines n side (lost_below (holds set) (i + 1)))
-    (loss_lines n side (filter (holds set) (drop (i + 1) numbers)))
-    (subst (λ x. AppendsFront old new x) (lines-step n side (holds set) i b below is)
-    (front-more old middle new (loss_lines n side (lost_below (holds set) i))
-    (if b then loss_line n side (i + 1) else []) first more)))
+pub lines-front : (n : ℕ) (place : List ℕ) (set : PortSet) (i : ℕ) (b : Bool) (old middle new : Option (List ℕ))
+    → i < 24 → b ≡ holds set (i + 1) → Appends old middle (loss_lines n place (lost_below (holds set) i))
+    → AppendsFront middle new (if b then loss_line n place (i + 1) else []) →
+    AppendsFront old new (loss_lines n place (ports_in set))
+lines-front n place set i b old middle new below is first more =
+    subst (λ x. AppendsFront old new x) (lines-rest n place set (i + 1))
+    (front-longer old new (loss_lines n place (lost_below (holds set) (i + 1)))
+    (loss_lines n place (filter (holds set) (drop (i + 1) numbers)))
+    (subst (λ x. AppendsFront old new x) (lines-step n place (holds set) i b below is)
+    (front-more old middle new (loss_lines n place (lost_below (holds set) i))
+    (if b then loss_line n place (i + 1) else []) first more)))
 
 pub count-more : (f : ℕ → Bool) (i : ℕ) (b : Bool) (count more total : ℕ) → i < 24 → b ≡ f (i + 1)
     → count ≡ length (lost_below f i) → more ≡ (if b then 1 else 0) → total ≡ count + more
@@ -166,27 +165,27 @@ none-in set none = none-pass (holds set) numbers none
 
 -- ---- behind the line of a verdict
 
-module _ (n : ℕ) (side : Side) (reason told : Option Reason) where
+module _ (n : ℕ) (place : List ℕ) (reason told : Option Reason) where
   -- a beginning of it, under another word for its reason
   pub verdict-front : (old new : Option (List ℕ)) → reason ≡ told → (more : List ℕ)
-      → AppendsFront old new (verdict_line n side reason) → AppendsFront old new (verdict_line n side told ++ more)
+      → AppendsFront old new (verdict_line n place reason) → AppendsFront old new (verdict_line n place told ++ more)
   verdict-front old new same more front =
-      front-longer old new (verdict_line n side told) more
-      (subst (λ r. AppendsFront old new (verdict_line n side r)) same front)
+      front-longer old new (verdict_line n place told) more
+      (subst (λ r. AppendsFront old new (verdict_line n place r)) same front)
 
   -- it, and the lines of the copies that were lost, or a beginning of them
   pub losses-whole : {lost ports : List ℕ} (old middle new : Option (List ℕ)) → reason ≡ told → lost ≡ ports
-      → Appends old middle (verdict_line n side reason) → Appends middle new (loss_lines n side lost)
-      → Appends old new (verdict_line n side told ++ loss_lines n side ports)
+      → Appends old middle (verdict_line n place reason) → Appends middle new (loss_lines n place lost)
+      → Appends old new (verdict_line n place told ++ loss_lines n place ports)
   losses-whole {ports = ports} old middle new same are first more =
-      Appends-trans old middle new (verdict_line n side told) (loss_lines n side ports)
-      (subst (λ r. Appends old middle (verdict_line n side r)) same first)
-      (subst (λ x. Appends middle new (loss_lines n side x)) are more)
+      Appends-trans old middle new (verdict_line n place told) (loss_lines n place ports)
+      (subst (λ r. Appends old middle (verdict_line n place r)) same first)
+      (subst (λ x. Appends middle new (loss_lines n place x)) are more)
 
   pub losses-front : {lost ports : List ℕ} (old middle new : Option (List ℕ)) → reason ≡ told → lost ≡ ports
-      → Appends old middle (verdict_line n side reason) → AppendsFront middle new (loss_lines n side lost)
-      → AppendsFront old new (verdict_line n side told ++ loss_lines n side ports)
+      → Appends old middle (verdict_line n place reason) → AppendsFront middle new (loss_lines n place lost)
+      → AppendsFront old new (verdict_line n place told ++ loss_lines n place ports)
   losses-front {ports = ports} old middle new same are first more =
-      front-more old middle new (verdict_line n side told) (loss_lines n side ports)
-      (subst (λ r. Appends old middle (verdict_line n side r)) same first)
-      (subst (λ x. AppendsFront middle new (loss_lines n side x)) are more)
+      front-more old middle new (verdict_line n place told) (loss_lines n place ports)
+      (subst (λ r. Appends old middle (verdict_line n place r)) same first)
+      (subst (λ x. AppendsFront middle new (loss_lines n place x)) are more)

@@ -21,6 +21,7 @@ use Rattle.afdx_promises.proofs.ToldLemmas as promise
 use Rattle.afdx_end_systems.specs.Handovers.{came_to, arrival_of}
 use Rattle.afdx_end_systems.specs.Receptions.{line_at, reception_line, is_delivered}
 use Rattle.afdx_replay.specs.policing.Text.{verdict_line}
+use Rattle.afdx_text.specs.OutLines.{side_text}
 use Rattle.afdx_replay.specs.replaying.Promises.{text_of, ReplayIsAsPromised, ReplaySoFarIsAsPromised, NoneIsCounted}
 use Rattle.afdx_replay.specs.replaying.Text.{handed_over, frames_left, loss_lines, departure_line}
 use Rattle.afdx_replay.specs.replaying.Text.{heard, lines_after, replay_text, replay_counts}
@@ -74,28 +75,28 @@ lines-kept : (t : Rows) (before : List Event) (e : Event) → AreKept (e ∷ bef
 unfolding text_of told_by reception_line
 lines-kept t before (Came c) kept =
     ap (λ ports. text_of t (told_by t before)
-    ++ (verdict_line c.arrival.tag c.arrival.side c.reason
-    ++ loss_lines c.arrival.tag c.arrival.side ports)) (kept.came c (inl refl))
-    ∙ ap (λ zs. text_of t (told_by t before) ++ zs) (append-none (verdict_line c.arrival.tag c.arrival.side c.reason))
+    ++ (verdict_line c.arrival.tag (side_text c.arrival.side) c.reason
+    ++ loss_lines c.arrival.tag (side_text c.arrival.side) ports)) (kept.came c (inl refl))
+    ∙ ap (λ zs. text_of t (told_by t before) ++ zs) (append-none (verdict_line c.arrival.tag (side_text c.arrival.side) c.reason))
 lines-kept t before (Left d) kept =
     ap (λ b. text_of t (told_by t before)
-    ++ (departure_line b d.turn.entry.item.tag d.turn.end d.side d.port
+    ++ (departure_line b d.turn.entry.item.tag d.turn.end (side_text d.side) d.port
     ++ heard b t (frames_left before) (handed_over d))) (kept.left d (inl refl))
     ∙ ap (λ past. text_of t (told_by t before)
-    ++ (departure_line false d.turn.entry.item.tag d.turn.end d.side d.port
+    ++ (departure_line false d.turn.entry.item.tag d.turn.end (side_text d.side) d.port
     ++ line_at t past (handed_over d) (listener_at t d.port)))
     (handed-are-brought d.port before)
     ∙ by (listener_at t d.port)
   where
     by : (o : Option ℕ) → text_of t (told_by t before)
-        ++ (departure_line false d.turn.entry.item.tag d.turn.end d.side d.port
+        ++ (departure_line false d.turn.entry.item.tag d.turn.end (side_text d.side) d.port
         ++ line_at t (brought_by d.port before) (handed_over d) o)
         ≡ text_of t (with_reception t (brought_by d.port before) (leaving d) o
         (Departed (leaving d) ∷ told_by t before))
     by None = ap (λ zs. text_of t (told_by t before) ++ zs)
-        (append-none (departure_line false d.turn.entry.item.tag d.turn.end d.side d.port))
+        (append-none (departure_line false d.turn.entry.item.tag d.turn.end (side_text d.side) d.port))
     by (Some k) = sym (append_assoc (text_of t (told_by t before))
-        (departure_line false d.turn.entry.item.tag d.turn.end d.side d.port)
+        (departure_line false d.turn.entry.item.tag d.turn.end (side_text d.side) d.port)
         (line_at t (brought_by d.port before) (handed_over d) (Some k)))
 
 text-kept : (t : Rows) (events : List Event) → AreKept events → replay_text t events ≡ text_of t (told_by t events)

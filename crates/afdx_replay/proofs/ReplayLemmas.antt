@@ -26,12 +26,13 @@ use Rattle.afdx_network.proofs.FirstLemmas.{are-first, so-far}
 use Rattle.afdx_network.proofs.OrderedLemmas.{one-order, one-order-so-far, begins}
 use Rattle.afdx_replay.specs.policing.Text.{verdict_line}
 use Rattle.afdx_replay.specs.replaying.Text.{handed_over, frames_left, departure_line, heard}
-use Rattle.afdx_replay.specs.replaying.Text.{lines_after, loss_lines, admission_lines, replay_text}
+use Rattle.afdx_replay.specs.replaying.Text.{lines_after, lines_at, loss_lines, admission_lines, place_text, replay_text}
 use Rattle.afdx_commands.specs.Counts.{no_counts}
-use Rattle.afdx_replay.specs.replaying.Text.{with_admission, with_departure, replay_counts}
+use Rattle.afdx_replay.specs.replaying.Text.{with_admission, with_departure, with_event, replay_counts}
 use Rattle.afdx_commands.specs.Counts.{with_lines}
 use Rattle.afdx_replay.specs.replaying.Replayed.{WritesSoFar, WritesSome, WritesAll, HasTold, AreTold}
-use Rattle.afdx_replay.specs.replaying.Replayed.{ToldAll, TellsDeparture, HasRoom}
+use Rattle.afdx_replay.specs.replaying.Replayed.{ToldAll, TellsDeparture, HasRoom, AreLow}
+use Rattle.afdx_engine.specs.Items.{most_frames}
 use Rattle.afdx_engine.specs.Listed.{frames, arrivals_of}
 use Rattle.afdx_commands.specs.declared.summary.Summary.{Summary}
 use Rattle.afdx_engine.specs.Stops.{StopsAt}
@@ -42,15 +43,17 @@ abbrev pub hand : Side → ℕ → ℕ → ℕ → List ℕ → HandedOver
 hand side port time line bytes = record { side = side; port = port; time = time; line = line; bytes = bytes }
 
 -- what is handed out for a departure
-module _ (value : Departed) (d : Departure) (h : network.Hands value d) where
+module _ (name : List ℕ) (value : Departed) (d : Departure) (h : network.Hands value d) where
   pub line-is : departure_line value.departure.left.too_old value.departure.left.item.tag
-      value.departure.left.end value.side value.departure.port
-      ≡ departure_line d.turn.too_old d.turn.entry.item.tag d.turn.end d.side d.port
+      value.departure.left.end (place_text value.side name) value.departure.port
+      ≡ departure_line d.turn.too_old d.turn.entry.item.tag d.turn.end (place_text d.side name) d.port
   line-is =
-      ap (λ l. departure_line l.too_old l.item.tag l.end value.side value.departure.port) h.left
-      ∙ ap (λ s. departure_line d.turn.too_old d.turn.entry.item.tag d.turn.end s value.departure.port) h.side
-      ∙ ap (λ k. departure_line d.turn.too_old d.turn.entry.item.tag d.turn.end d.side k) h.port
+      ap (λ l. departure_line l.too_old l.item.tag l.end (place_text value.side name) value.departure.port) h.left
+      ∙ ap (λ s. departure_line d.turn.too_old d.turn.entry.item.tag d.turn.end (place_text s name)
+      value.departure.port) h.side
+      ∙ ap (λ k. departure_line d.turn.too_old d.turn.entry.item.tag d.turn.end (place_text d.side name) k) h.port
 
+module _ (value : Departed) (d : Departure) (h : network.Hands value d) where
   pub old-is : value.departure.left.too_old ≡ d.turn.too_old
   old-is = ap (λ l. l.too_old) h.left
 
@@ -68,55 +71,49 @@ module _ (value : Departed) (d : Departure) (h : network.Hands value d) where
       ∙ ap (λ k. hand d.side d.port d.turn.end k bytes) tag
       ∙ ap (λ k. hand d.side d.port d.turn.end d.turn.entry.item.tag k) all
 
-module _ (t : Rows) (before : List Event) (d : Departure) where
+module _ (name : List ℕ) (t : Rows) (before : List Event) (d : Departure) where
   -- the lines of a departure that was too old, and of one whose frame came to its system
   old-lines : d.turn.too_old ≡ true →
-      departure_line true d.turn.entry.item.tag d.turn.end d.side d.port ≡ lines_after t before (Left d)
-  old-lines e = sym (append-nil (departure_line true d.turn.entry.item.tag d.turn.end d.side d.port))
-      ∙ ap (λ b. departure_line b d.turn.entry.item.tag d.turn.end d.side d.port
+      departure_line true d.turn.entry.item.tag d.turn.end (place_text d.side name) d.port
+      ≡ lines_at name t before (Left d)
+  old-lines e =
+      sym (append-nil (departure_line true d.turn.entry.item.tag d.turn.end (place_text d.side name) d.port))
+      ∙ ap (λ b. departure_line b d.turn.entry.item.tag d.turn.end (place_text d.side name) d.port
       ++ heard b t (frames_left before) (handed_over d)) (sym e)
 
   pub left-lines : d.turn.too_old ≡ false →
-      departure_line false d.turn.entry.item.tag d.turn.end d.side d.port
-      ++ reception_line t (frames_left before) (handed_over d) ≡ lines_after t before (Left d)
-  left-lines e = ap (λ b. departure_line b d.turn.entry.item.tag d.turn.end d.side d.port
+      departure_line false d.turn.entry.item.tag d.turn.end (place_text d.side name) d.port
+      ++ reception_line t (frames_left before) (handed_over d) ≡ lines_at name t before (Left d)
+  left-lines e = ap (λ b. departure_line b d.turn.entry.item.tag d.turn.end (place_text d.side name) d.port
       ++ heard b t (frames_left before) (handed_over d)) (sym e)
 
   -- it is told
   pub tells-old : (s : Systems) (old counts : Summary) (a b : Option (List ℕ)) → d.turn.too_old ≡ true
-      → systems.StandsFor t s (frames_left before) → old ≡ replay_counts t before →
-      counts ≡ with_departure old true false
-      → Appends a b (departure_line true d.turn.entry.item.tag d.turn.end d.side d.port)
-      → TellsDeparture t s counts before d a b
-  unfolding replay_counts
-  tells-old s old counts a b e stands counted more written = record {
+      → systems.StandsFor t s (frames_left before) → counts ≡ with_departure old true false
+      → Appends a b (departure_line true d.turn.entry.item.tag d.turn.end (place_text d.side name) d.port)
+      → TellsDeparture name t s old counts before d a b
+  tells-old s old counts a b e stands more written = record {
     systems_are = subst (λ b.
         systems.StandsFor t s (if b then frames_left before else handed_over d
         ∷ frames_left before)) (sym e) stands;
-    counted = more ∙ ap (λ c.
-        with_departure c true (is_delivered t (frames_left before) (handed_over d))) counted
-        ∙ ap (λ b. with_departure (replay_counts t before) b
+    counted = more ∙ ap (λ b. with_departure old b
         (is_delivered t (frames_left before) (handed_over d))) (sym e);
     written = subst (λ x. Appends a b x) (old-lines e) written;
   }
 
   pub tells-left : (s : Systems) (old counts : Summary) (a b : Option (List ℕ)) (delivered : Bool)
       → d.turn.too_old ≡ false → systems.StandsFor t s (handed_over d ∷ frames_left before)
-      → old ≡ replay_counts t before →
-      delivered ≡ is_delivered t (frames_left before) (handed_over d) → counts ≡ with_departure old false delivered →
-      Appends a b (departure_line false d.turn.entry.item.tag d.turn.end d.side d.port
+      → delivered ≡ is_delivered t (frames_left before) (handed_over d) → counts ≡ with_departure old false delivered →
+      Appends a b (departure_line false d.turn.entry.item.tag d.turn.end (place_text d.side name) d.port
       ++ reception_line t (frames_left before) (handed_over d))
-      → TellsDeparture t s counts before d a b
-  unfolding replay_counts
-  tells-left s old counts a b delivered e stands counted heard_is more written = record {
+      → TellsDeparture name t s old counts before d a b
+  tells-left s old counts a b delivered e stands heard_is more written = record {
     systems_are = subst (λ b.
         systems.StandsFor t s (if b then frames_left before else handed_over d
         ∷ frames_left before)) (sym e) stands;
     counted =
-        more ∙ ap (λ c. with_departure c false delivered) counted
-        ∙ ap (λ m. with_departure (replay_counts t before) false m) heard_is
-        ∙ ap (λ b. with_departure (replay_counts t before) b
-        (is_delivered t (frames_left before) (handed_over d))) (sym e);
+        more ∙ ap (λ m. with_departure old false m) heard_is
+        ∙ ap (λ b. with_departure old b (is_delivered t (frames_left before) (handed_over d))) (sym e);
     written = subst (λ x. Appends a b x) (left-lines e) written;
   }
 
@@ -141,10 +138,10 @@ pub text-more : (t : Rows) (e : Event) (before : List Event) → replay_text t (
 unfolding replay_text
 text-more t e before = refl
 
-counts-came : (t : Rows) (c : Admission) (before : List Event) → replay_counts t (Came c ∷ before)
-    ≡ with_admission (replay_counts t before) c.reason (length c.lost)
+counts-more : (t : Rows) (e : Event) (before : List Event) → replay_counts t (e ∷ before)
+    ≡ with_event t before e (replay_counts t before)
 unfolding replay_counts
-counts-came t c before = refl
+counts-more t e before = refl
 
 counts-start : (t : Rows) → replay_counts t [] ≡ no_counts
 unfolding replay_counts
@@ -155,26 +152,27 @@ pub told-left : (t : Rows) (n after : Network) (s systems_after : Systems)
     (counts counts_after : Summary) (old middle new : Option (List ℕ)) (before : List Event)
     (d : Departure) →
     HasTold t n s counts old middle before → network.StandsFor t after (Left d ∷ before)
-    → TellsDeparture t systems_after counts_after before d middle new →
+    → TellsDeparture [] t systems_after counts counts_after before d middle new →
     HasTold t after systems_after counts_after old new (Left d ∷ before)
 told-left t n after s systems_after counts counts_after old middle new before d h stands tells = record {
   switches_are = stands;
   systems_are = tells.systems_are;
-  counted = tells.counted;
+  counted = tells.counted ∙ ap (λ k. with_event t before (Left d) k) h.counted
+      ∙ sym (counts-more t (Left d) before);
   written = subst (λ x. Appends old new x) (sym (text-more t (Left d) before))
       (Appends-trans old middle new (replay_text t before) (lines_after t before (Left d)) h.written
       tells.written);
 }
 
 -- the lines of a verdict that tells an admission
-pub lines-told : (v : Verdict) (c : Admission) → network.Tells v c
-    → verdict_line c.arrival.tag c.arrival.side (network.reason_in v)
-    ++ loss_lines c.arrival.tag c.arrival.side (network.lost_in v) ≡ admission_lines c
-lines-told v c tells =
-    ap (λ r. verdict_line c.arrival.tag c.arrival.side r
-    ++ loss_lines c.arrival.tag c.arrival.side (network.lost_in v)) tells.reason
-    ∙ ap (λ l. verdict_line c.arrival.tag c.arrival.side c.reason
-    ++ loss_lines c.arrival.tag c.arrival.side l) tells.lost
+pub lines-told : (name : List ℕ) (v : Verdict) (c : Admission) → network.Tells v c
+    → verdict_line c.arrival.tag (place_text c.arrival.side name) (network.reason_in v)
+    ++ loss_lines c.arrival.tag (place_text c.arrival.side name) (network.lost_in v) ≡ admission_lines name c
+lines-told name v c tells =
+    ap (λ r. verdict_line c.arrival.tag (place_text c.arrival.side name) r
+    ++ loss_lines c.arrival.tag (place_text c.arrival.side name) (network.lost_in v)) tells.reason
+    ∙ ap (λ l. verdict_line c.arrival.tag (place_text c.arrival.side name) c.reason
+    ++ loss_lines c.arrival.tag (place_text c.arrival.side name) l) tells.lost
 
 -- an arrival more is told
 pub told-came : (t : Rows) (n after : Network) (s : Systems) (counts counts_after : Summary)
@@ -182,7 +180,7 @@ pub told-came : (t : Rows) (n after : Network) (s : Systems) (counts counts_afte
     (reason : Option Reason) (lost : ℕ) (lines : List ℕ) →
     HasTold t n s counts old middle before → network.StandsFor t after (Came c ∷ before)
     → reason ≡ c.reason → lost ≡ length c.lost
-    → counts_after ≡ with_admission counts reason lost → lines ≡ admission_lines c →
+    → counts_after ≡ with_admission counts reason lost → lines ≡ admission_lines [] c →
     Appends middle new lines → HasTold t after s counts_after old new (Came c ∷ before)
 told-came t n after s counts counts_after old middle new before c reason lost lines h stands
     reason_is lost_is more is w = record {
@@ -192,9 +190,9 @@ told-came t n after s counts counts_after old middle new before c reason lost li
           more ∙ ap (λ k. with_admission k reason lost) h.counted
           ∙ ap (λ r. with_admission (replay_counts t before) r lost) reason_is
           ∙ ap (λ k. with_admission (replay_counts t before) c.reason k) lost_is
-          ∙ sym (counts-came t c before);
+          ∙ sym (counts-more t (Came c) before);
       written = subst (λ x. Appends old new x) (sym (text-more t (Came c) before))
-          (Appends-trans old middle new (replay_text t before) (admission_lines c) h.written
+          (Appends-trans old middle new (replay_text t before) (admission_lines [] c) h.written
           (subst (λ x. Appends middle new x) is w));
     }
 
@@ -243,12 +241,12 @@ begun-left t n after s counts old middle new before d h stands w =
 pub begun-came : (t : Rows) (n after : Network) (s : Systems) (counts : Summary)
     (old middle new : Option (List ℕ)) (before : List Event) (c : Admission) (lines : List ℕ) →
     HasTold t n s counts old middle before → network.StandsFor t after (Came c ∷ before)
-    → lines ≡ admission_lines c → AppendsFront middle new lines
+    → lines ≡ admission_lines [] c → AppendsFront middle new lines
     → WritesSome t old new (c.arrival ∷ arrivals_in before)
 begun-came t n after s counts old middle new before c lines h stands is w =
     some-of t after (Came c ∷ before) old new stands
     (subst (λ x. AppendsFront old new x) (sym (text-more t (Came c) before))
-    (front-more old middle new (replay_text t before) (admission_lines c) h.written
+    (front-more old middle new (replay_text t before) (admission_lines [] c) h.written
     (subst (λ x. AppendsFront middle new x) is w)))
 
 pub are-some : (t : Rows) (n : Network) (s : Systems) (counts : Summary) (old new : Option (List ℕ))
@@ -342,6 +340,48 @@ room-less counts held more n le h =
       losses = h.losses;
       turns = omega (arith, le, h.turns);
       messages = h.messages;
+    }
+
+pub room-came : (counts after : Summary) (reason : Option Reason) (lost held n : ℕ) → lost ≤ 24
+    → after ≡ with_admission counts reason lost → HasRoom counts held n → HasRoom after (held + 24) (n + 1)
+room-came counts after reason lost held n few e h = rw e (by reason)
+  where
+    by : (r : Option Reason) → HasRoom (with_admission counts r lost) (held + 24) (n + 1)
+    by None =
+        let verdicts = h.verdicts in
+        let losses = h.losses in
+        let turns = h.turns in
+        record {
+          verdicts = omega (arith, verdicts);
+          losses = omega (arith, losses, few);
+          turns = omega (arith, turns);
+          messages = h.messages;
+        }
+    by (Some r) =
+        let verdicts = h.verdicts in
+        let losses = h.losses in
+        let turns = h.turns in
+        record {
+          verdicts = omega (arith, verdicts);
+          losses = omega (arith, losses);
+          turns = omega (arith, turns);
+          messages = h.messages;
+        }
+
+-- there is room for one more of each
+pub room-low : (counts : Summary) (held n : ℕ) → n ≤ most_frames → HasRoom counts held n → AreLow counts
+room-low counts held n few h =
+    let verdicts = h.verdicts in
+    let losses = h.losses in
+    let turns = h.turns in
+    let messages = h.messages in
+    record {
+      accepted = omega (arith, few, verdicts);
+      dropped = omega (arith, few, verdicts);
+      lost = omega (arith, few, losses);
+      departed = omega (arith, few, turns);
+      too_old = omega (arith, few, turns);
+      delivered = omega (arith, few, turns, messages);
     }
 
 -- ---- where a replay stops

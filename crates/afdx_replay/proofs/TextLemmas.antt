@@ -5,7 +5,7 @@ use Rattle.afdx_police.specs.declared.shape.Reason.{Reason}
 use Rattle.afdx_police.specs.Arrival.{Arrival}
 use Rattle.afdx_police.specs.Rule.{Rule}
 use Rattle.afdx_police.specs.Verdicts.{verdict_in}
-use Rattle.afdx_replay.specs.policing.Text.{text_of, count_judged, verdict_line}
+use Rattle.afdx_replay.specs.policing.Text.{text_of, count_judged, side_text, verdict_line}
 
 -- what holds of it where it was lent holds of it once it is back
 pub once-back : {X : Type 0} (lent : X) (P : X → Type 0) {back : X} → P lent → lent ≡ back → P back
@@ -17,9 +17,10 @@ text_of-none rule = refl
 
 pub text_of-more : (rule : Rule) (x : Arrival) (past : List Arrival) (reason : Option Reason)
     → reason ≡ verdict_in rule past x → text_of rule (x ∷ past) ≡ text_of rule past
-    ++ verdict_line x.tag x.side reason
+    ++ verdict_line x.tag (side_text x.side) reason
 unfolding text_of
-text_of-more rule x past reason e = ap (λ (r : Option Reason). text_of rule past ++ verdict_line x.tag x.side r) (sym e)
+text_of-more rule x past reason e =
+    ap (λ (r : Option Reason). text_of rule past ++ verdict_line x.tag (side_text x.side) r) (sym e)
 
 -- one more arrival counts, where its verdict is such a one
 pub judged-more : (test : Option Reason → Bool) (rule : Rule) (x : Arrival) (past : List Arrival)

@@ -17,7 +17,7 @@ use Rattle.afdx_police.specs.Verdicts.{verdict_in}
 use Rattle.afdx_commands.specs.declared.summary.Summary.{Summary}
 use Rattle.afdx_engine.specs.Listed.{frames}
 use Rattle.afdx_engine.specs.Stops.{StopsAt}
-use Rattle.afdx_replay.specs.policing.Text.{text_of, count_judged, verdict_line}
+use Rattle.afdx_replay.specs.policing.Text.{text_of, count_judged, side_text, verdict_line}
 use Rattle.afdx_replay.specs.policing.Policed.{WritesText, WritesBeginning, WritesAll}
 use Rattle.afdx_replay.specs.policing.Accounts.{HaveSeen}
 use Rattle.afdx_replay.specs.policing.Told.{HasTold}
@@ -82,7 +82,7 @@ pub told-next : (rule : Rule) (accounts after : BySide LinkAccount) (accepted dr
     (text : List ℕ)
     → HasTold rule accounts accepted dropped old new past → reason ≡ verdict_in rule past x
     → HaveSeen after rule (x ∷ past) → Counts reason accepted dropped accepted' dropped'
-    → text ≡ verdict_line x.tag x.side reason → Appends new newer text
+    → text ≡ verdict_line x.tag (side_text x.side) reason → Appends new newer text
     → HasTold rule after accepted' dropped' old newer (x ∷ past)
 told-next rule accounts after accepted dropped accepted' dropped' old new newer x past reason text h e seen k t w =
     let counts = counted rule x past reason accepted dropped accepted' dropped' e k h.accepted_is h.dropped_is in
@@ -91,7 +91,7 @@ told-next rule accounts after accepted dropped accepted' dropped' old new newer 
       accepted_is = counts.0;
       dropped_is = counts.1;
       written = subst (λ (t : List ℕ). Appends old newer t) (sym (text_of-more rule x past reason e))
-          (Appends-trans old new newer (text_of rule past) (verdict_line x.tag x.side reason)
+          (Appends-trans old new newer (text_of rule past) (verdict_line x.tag (side_text x.side) reason)
           h.written (subst (λ (t : List ℕ). Appends new newer t) t w));
     }
 
@@ -100,11 +100,11 @@ pub begun-next : (rule : Rule) (accounts : BySide LinkAccount) (accepted dropped
     (old new newer : Option (List ℕ)) (x : Arrival) (past : List Arrival) (reason : Option Reason)
     (text : List ℕ)
     → HasTold rule accounts accepted dropped old new past → reason ≡ verdict_in rule past x
-    → text ≡ verdict_line x.tag x.side reason → AppendsFront new newer text
+    → text ≡ verdict_line x.tag (side_text x.side) reason → AppendsFront new newer text
     → WritesBeginning rule old newer (x ∷ past)
 begun-next rule accounts accepted dropped old new newer x past reason text h e t w =
     subst (λ (t : List ℕ). AppendsFront old newer t) (sym (text_of-more rule x past reason e))
-    (front-more old new newer (text_of rule past) (verdict_line x.tag x.side reason) h.written
+    (front-more old new newer (text_of rule past) (verdict_line x.tag (side_text x.side) reason) h.written
     (subst (λ (t : List ℕ). AppendsFront new newer t) t w))
 
 pub told-text : (rule : Rule) (accounts : BySide LinkAccount) (accepted dropped : ℕ)

@@ -1,3 +1,4 @@
+pub mod cascading
 pub mod Inputs
 pub mod Listing
 pub mod policing

@@ -8,4 +8,3 @@ pub mod Promises
 pub mod PromisedRun
 pub mod DefinedRun
 pub mod Input
-pub mod Tables

@@ -3,6 +3,7 @@
 //! Its tests are in `afdx_run_tests`.
 #![tactic(auto)]
 
+mod cascading;
 mod input_ending;
 pub mod laws;
 mod listing;
@@ -18,6 +19,9 @@ pub use afdx_lists::{Peeked, RecordingFault, RunFault, Watched};
 pub use afdx_recorded::{Interfaces, PairOptions, Place, RecordingOptions, Tally};
 pub use afdx_sending::{run_send, send, send_and_count};
 pub use afdx_text::{Output, Sink};
+pub use cascading::admitted::run_cascade;
+pub use cascading::over::SitedInput;
+pub use cascading::unadmitted::run_cascade_unadmitted;
 pub use input_ending::{InputEnded, InputSummary};
 pub use listing::{ListEnded, list_and_count, list_pair_and_count};
 pub use policing::command::{CommandedRule, police};

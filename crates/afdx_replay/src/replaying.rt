@@ -2,9 +2,9 @@
 
 pub mod admitted;
 pub mod command;
-mod explained;
+pub(crate) mod explained;
 pub mod input_command;
-mod lines;
+pub(crate) mod lines;
 mod over;
 pub mod run;
-mod tables;
+pub(crate) mod telling;

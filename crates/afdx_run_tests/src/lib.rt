@@ -15,4 +15,6 @@ mod switch;
 #[cfg(test)]
 mod systems;
 #[cfg(test)]
+mod taking;
+#[cfg(test)]
 mod texts;

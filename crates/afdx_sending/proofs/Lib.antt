@@ -1,3 +1,2 @@
 pub mod SendLemmas
 pub mod SendStartLemmas
-mod NotSentLemmas

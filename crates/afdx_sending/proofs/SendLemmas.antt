@@ -29,22 +29,32 @@ use Rattle.afdx_engine.specs.Listed.{Handed, submissions}
 use Rattle.afdx_sending.specs.Events.{message_of, Event, Emitted, Submitted}
 use Rattle.afdx_sending.specs.Events.{submissions_in, turns_in, taken_by, calls_in, EachFollows}
 use Rattle.afdx_sending.specs.Events.{AreDone}
-use Rattle.afdx_sending.specs.Text.{emission_lines, event_lines, send_text, with_event, send_counts}
-use Rattle.afdx_sending.specs.Sent.{Source, source_at, WritesSoFar, WritesSome, WritesEvents, WritesAll, Answers}
+use Rattle.afdx_sending.specs.Text.{emission_lines, event_lines, send_text_at, with_event, send_counts}
+use Rattle.afdx_sending.specs.Sent.{Source, source_of, WritesSoFar, WritesSome, WritesEvents, WritesAll, Answers}
 use Rattle.afdx_sending.specs.Command.{Sends}
+use Rattle.afdx_commands.specs.Senders.{SystemThere, TakesSender, sender_of, sender_taken, system_among, system_there}
+use Rattle.afdx_commands.specs.declared.sender.SenderTaken.{SenderTaken}
+use Rattle.afdx_config.specs.Files.{IsLawfulFile}
+use Rattle.afdx_config.specs.Lawful.{IsLawfulSwitch}
+use Rattle.std.specs.List.{AllByRecursion}
+use Rattle.afdx_config.specs.Switches.{NamedRows, own_named, system_of}
+use Rattle.afdx_config.specs.declared.describing.Described.{Described}
+use Rattle.afdx_config.specs.declared.describing.Described.TheVariants.{One, Several}
+use Rattle.std.specs.Prelude.{option_map, option_and_then, string_bytes}
+use Rattle.afdx_sending.specs.declared.run.SwitchPort.{SwitchPort}
 use Rattle.afdx_sending.specs.Progress.{HasTold, AreTold, ToldUntil, TellsSubmission, HasRoom}
 use Rattle.afdx_commands.specs.declared.summary.Summary.{Summary}
 use Rattle.afdx_engine.proofs.RunLemmas.{IsDone}
 use Rattle.afdx_text.proofs.OutputLemmas.{whole_front as front-whole, front-more}
 
-pub text-none : (s : SystemRow) → send_text s [] ≡ []
-unfolding send_text
-text-none s = refl
+pub text-none : (switch : List ℕ) (s : SystemRow) → send_text_at switch s [] ≡ []
+unfolding send_text_at
+text-none switch s = refl
 
-pub text-more : (s : SystemRow) (e : Event) (before : List Event) → send_text s (e ∷ before)
-    ≡ send_text s before ++ event_lines s e
-unfolding send_text
-text-more s e before = refl
+pub text-more : (switch : List ℕ) (s : SystemRow) (e : Event) (before : List Event)
+    → send_text_at switch s (e ∷ before) ≡ send_text_at switch s before ++ event_lines switch s e
+unfolding send_text_at
+text-more switch s e before = refl
 
 counts-none : send_counts [] ≡ no_counts
 unfolding send_counts
@@ -224,22 +234,24 @@ abbrev sent : ℕ → List ℕ → List ℕ → Sending
 sent time a b = record { time = time; a = a; b = b }
 
 -- its lines are those of the event
-lines-emitted : (s : Source) (w after : SenderState) (port until : ℕ) (before : List Event)
-    (e : Emission) → port ≡ s.row.port
+lines-emitted : (s : Source) (w after : SenderState) (port : SwitchPort) (until : ℕ) (before : List Event)
+    (e : Emission) → port.number ≡ s.row.port → port.switch.now ≡ s.switch
     → (g : Gives (calls_in s.row s.links before (last_time w)) until e after) →
-    emission_lines port (sending_of e) ≡ event_lines s.row (Emitted g.slot)
-lines-emitted s w after port until before e is g =
+    emission_lines port.switch.now port.number (sending_of e) ≡ event_lines s.switch s.row (Emitted g.slot)
+lines-emitted s w after port until before e is named g =
     let y = sent_in s.row g.slot in
     let sending : sending_of e ≡ y = ap (λ t. sent t e.a.items e.b.items) g.time
     ∙ ap (λ a. sent g.slot.end a e.b.items) g.a ∙ ap (λ b. sent g.slot.end y.a b) g.b in
-    ap (λ z. emission_lines port z) sending ∙ ap (λ p. emission_lines p y) is
+    ap (λ z. emission_lines port.switch.now port.number z) sending
+    ∙ ap (λ p. emission_lines port.switch.now p y) is
+    ∙ ap (λ (name : List ℕ). emission_lines name s.row.port y) named
 
 -- an emission more is told
-pub told-emitted : (s : Source) (w after : SenderState) (port until : ℕ) (counts counts_after : Summary)
+pub told-emitted : (s : Source) (w after : SenderState) (port : SwitchPort) (until : ℕ) (counts counts_after : Summary)
     (old middle new : Option (List ℕ)) (before : List Event) (e : Emission) (lines : List ℕ) →
     HasTold s w port counts old middle before
     → (g : Gives (calls_in s.row s.links before (last_time w)) until e after)
-    → last_time after ≡ until → lines ≡ emission_lines port (sending_of e) →
+    → last_time after ≡ until → lines ≡ emission_lines port.switch.now port.number (sending_of e) →
     counts_after ≡ one_emitted counts → Appends middle new lines
     → HasTold s after port counts_after old new (Emitted g.slot ∷ before)
 told-emitted s w after port until counts counts_after old middle new before e lines h g clock is
@@ -248,17 +260,19 @@ told-emitted s w after port until counts counts_after old middle new before e li
           StandsFor after (with_emission (calls_in s.row s.links before (last_time w)) g.slot z))
           (sym clock) g.stands;
       port_is = h.port_is;
+      switch_is = h.switch_is;
       follow = (g.next, h.follow);
       in_time = rw clock g.in_time;
       counted = count ∙ ap one_emitted h.counted ∙ sym (counts-more (Emitted g.slot) before);
-      written = subst (λ z. Appends old new z) (sym (text-more s.row (Emitted g.slot) before))
-          (Appends-trans old middle new (send_text s.row before) (event_lines s.row (Emitted g.slot))
+      written = subst (λ z. Appends old new z) (sym (text-more s.switch s.row (Emitted g.slot) before))
+          (Appends-trans old middle new (send_text_at s.switch s.row before)
+          (event_lines s.switch s.row (Emitted g.slot))
           h.written (subst (λ z. Appends middle new z)
-          (is ∙ lines-emitted s w after port until before e h.port_is g) written));
+          (is ∙ lines-emitted s w after port until before e h.port_is h.switch_is g) written));
     }
 
 some-of : (s : Source) (old new : Option (List ℕ)) (events : List Event)
-    → EachFollows s.row s.links events → AppendsFront old new (send_text s.row events)
+    → EachFollows s.row s.links events → AppendsFront old new (send_text_at s.switch s.row events)
     → WritesSome s old new (submissions_in events)
 some-of s old new events follow written =
     record {
@@ -267,34 +281,35 @@ some-of s old new events follow written =
       written = written;
     }
 
-pub told-some : (s : Source) (w : SenderState) (port : ℕ) (counts : Summary) (old new : Option (List ℕ))
+pub told-some : (s : Source) (w : SenderState) (port : SwitchPort) (counts : Summary) (old new : Option (List ℕ))
     (events : List Event) → HasTold s w port counts old new events
     → WritesSome s old new (submissions_in events)
 told-some s w port counts old new events h =
-    some-of s old new events h.follow (front-whole old new (send_text s.row events) h.written)
+    some-of s old new events h.follow (front-whole old new (send_text_at s.switch s.row events) h.written)
 
 -- a beginning of its lines is written
-pub begun-emitted : (s : Source) (w after : SenderState) (port until : ℕ) (counts : Summary)
+pub begun-emitted : (s : Source) (w after : SenderState) (port : SwitchPort) (until : ℕ) (counts : Summary)
     (old middle new : Option (List ℕ)) (before : List Event) (e : Emission) (lines : List ℕ) →
     HasTold s w port counts old middle before
     → Gives (calls_in s.row s.links before (last_time w)) until e after
-    → lines ≡ emission_lines port (sending_of e) →
+    → lines ≡ emission_lines port.switch.now port.number (sending_of e) →
     AppendsFront middle new lines → WritesSome s old new (submissions_in before)
 begun-emitted s w after port until counts old middle new before e lines h g is written =
     some-of s old new (Emitted g.slot ∷ before) (g.next, h.follow)
-    (subst (λ z. AppendsFront old new z) (sym (text-more s.row (Emitted g.slot) before))
-    (front-more old middle new (send_text s.row before) (event_lines s.row (Emitted g.slot))
+    (subst (λ z. AppendsFront old new z) (sym (text-more s.switch s.row (Emitted g.slot) before))
+    (front-more old middle new (send_text_at s.switch s.row before) (event_lines s.switch s.row (Emitted g.slot))
     h.written (subst (λ z. AppendsFront middle new z)
-    (is ∙ lines-emitted s w after port until before e h.port_is g) written)))
+    (is ∙ lines-emitted s w after port until before e h.port_is h.switch_is g) written)))
 
 -- nothing more is emitted by then
-pub told-later : (s : Source) (w after : SenderState) (port until : ℕ) (counts : Summary)
+pub told-later : (s : Source) (w after : SenderState) (port : SwitchPort) (until : ℕ) (counts : Summary)
     (old new : Option (List ℕ)) (events : List Event) → HasTold s w port counts old new events →
     StandsFor after (at (calls_in s.row s.links events (last_time w)) until)
     → last_time after ≡ until → last_time w ≤ until → HasTold s after port counts old new events
 told-later s w after port until counts old new events h stands clock le = record {
   stands = subst (λ (z : ℕ). StandsFor after (calls_in s.row s.links events z)) (sym clock) stands;
   port_is = h.port_is;
+  switch_is = h.switch_is;
   follow = h.follow;
   in_time = (let early = h.in_time in omega (arith, early, clock, le));
   counted = h.counted;
@@ -304,7 +319,7 @@ told-later s w after port until counts old new events h stands clock le = record
 -- ---- a submission more
 
 -- its line, if it has one, is written
-follow-submitted : (s : Source) (w after : SenderState) (port : ℕ) (counts counts_after : Summary)
+follow-submitted : (s : Source) (w after : SenderState) (port : SwitchPort) (counts counts_after : Summary)
     (old middle : Option (List ℕ)) (events : List Event) (x : Handed) (fault : Option SendFault) →
     (u : ToldUntil s x.submission.time w port counts old middle events)
     → last_time w ≡ x.submission.time → TellsSubmission s after counts_after u.told.more x fault →
@@ -318,13 +333,13 @@ follow-submitted s w after port counts counts_after old middle events x fault u 
   u.told.told.follow,
 )
 
-pub told-submitted : (s : Source) (w after : SenderState) (port port_after : ℕ)
+pub told-submitted : (s : Source) (w after : SenderState) (port port_after : SwitchPort)
     (counts counts_after : Summary) (old middle new : Option (List ℕ)) (events : List Event)
     (past : List Handed) (x : Handed) (fault : Option SendFault) →
     (u : ToldUntil s x.submission.time w port counts old middle events)
     → submissions_in events ≡ past → last_time w ≡ x.submission.time
     → TellsSubmission s after counts_after u.told.more x fault → last_time after ≡ x.submission.time →
-    port_after ≡ port → Appends middle new (event_lines s.row (Submitted x fault))
+    port_after ≡ port → Appends middle new (event_lines s.switch s.row (Submitted x fault))
     → AreTold s after port_after counts_after old new (x ∷ past)
 told-submitted s w after port port_after counts counts_after old middle new events past x fault u
     are clock tells after_clock same written = record {
@@ -335,24 +350,25 @@ told-submitted s w after port port_after counts counts_after old middle new even
         stands = subst (λ (z : ℕ).
             StandsFor after (calls_in s.row s.links (Submitted x fault ∷ u.told.more) z))
             (sym after_clock) tells.stands;
-        port_is = same ∙ u.told.told.port_is;
+        port_is = ap (λ (p : SwitchPort). p.number) same ∙ u.told.told.port_is;
+        switch_is = ap (λ (p : SwitchPort). p.switch.now) same ∙ u.told.told.switch_is;
         follow = follow-submitted s w after port counts counts_after old middle events x fault u clock tells;
         in_time = (let early = u.told.told.in_time in omega (arith, early, clock, after_clock));
         counted = tells.counted;
-        written = subst (λ z. Appends old new z) (sym (text-more s.row (Submitted x fault) u.told.more))
-            (Appends-trans old middle new (send_text s.row u.told.more)
-            (event_lines s.row (Submitted x fault)) u.told.told.written written);
+        written = subst (λ z. Appends old new z) (sym (text-more s.switch s.row (Submitted x fault) u.told.more))
+            (Appends-trans old middle new (send_text_at s.switch s.row u.told.more)
+            (event_lines s.switch s.row (Submitted x fault)) u.told.told.written written);
       };
     }
 
 -- a beginning of it is
-pub begun-submitted : (s : Source) (w after : SenderState) (port : ℕ) (counts counts_after : Summary)
+pub begun-submitted : (s : Source) (w after : SenderState) (port : SwitchPort) (counts counts_after : Summary)
     (old middle new : Option (List ℕ)) (events : List Event) (past : List Handed) (x : Handed)
     (fault : Option SendFault) →
     (u : ToldUntil s x.submission.time w port counts old middle events)
     → submissions_in events ≡ past → last_time w ≡ x.submission.time
     → TellsSubmission s after counts_after u.told.more x fault →
-    AppendsFront middle new (event_lines s.row (Submitted x fault)) → WritesSome s old new (x ∷ past)
+    AppendsFront middle new (event_lines s.switch s.row (Submitted x fault)) → WritesSome s old new (x ∷ past)
 begun-submitted s w after port counts counts_after old middle new events past x fault u are clock
     tells written = record {
       events = Submitted x fault ∷ u.told.more;
@@ -362,13 +378,13 @@ begun-submitted s w after port counts counts_after old middle new events past x 
         follow = follow-submitted s w after port counts counts_after old middle events x fault u clock
             tells;
       };
-      written = subst (λ z. AppendsFront old new z) (sym (text-more s.row (Submitted x fault) u.told.more))
-          (front-more old middle new (send_text s.row u.told.more)
-          (event_lines s.row (Submitted x fault)) u.told.told.written written);
+      written = subst (λ z. AppendsFront old new z) (sym (text-more s.switch s.row (Submitted x fault) u.told.more))
+          (front-more old middle new (send_text_at s.switch s.row u.told.more)
+          (event_lines s.switch s.row (Submitted x fault)) u.told.told.written written);
     }
 
 -- what is told of the emissions up to then
-pub until-some : (s : Source) (time : ℕ) (w : SenderState) (port : ℕ) (counts : Summary)
+pub until-some : (s : Source) (time : ℕ) (w : SenderState) (port : SwitchPort) (counts : Summary)
     (old new : Option (List ℕ)) (events : List Event) (past : List Handed)
     → ToldUntil s time w port counts old new events → submissions_in events ≡ past
     → WritesSome s old new past
@@ -378,24 +394,25 @@ until-some s time w port counts old new events past u are =
 
 -- ---- the start, the end, and between
 
-pub are-told-start : (s : Source) (w : SenderState) (port : ℕ) (output : Option (List ℕ))
-    → StandsFor w (calls_in s.row s.links [] 0) → last_time w ≡ 0 → port ≡ s.row.port
-    → AreTold s w port no_counts output output []
-are-told-start s w port output stands clock same = record {
+pub are-told-start : (s : Source) (w : SenderState) (port : SwitchPort) (output : Option (List ℕ))
+    → StandsFor w (calls_in s.row s.links [] 0) → last_time w ≡ 0 → port.number ≡ s.row.port
+    → port.switch.now ≡ s.switch → AreTold s w port no_counts output output []
+are-told-start s w port output stands clock same named = record {
   events = [];
   submissions_are = refl;
   at_submission = tt;
   told = record {
     stands = subst (λ (z : ℕ). StandsFor w (calls_in s.row s.links [] z)) (sym clock) stands;
     port_is = same;
+    switch_is = named;
     follow = tt;
     in_time = omega arith;
     counted = sym counts-none;
-    written = subst (λ z. Appends output output z) (sym (text-none s.row)) (Appends-nil output);
+    written = subst (λ z. Appends output output z) (sym (text-none s.switch s.row)) (Appends-nil output);
   };
 }
 
-pub are-so-far : (s : Source) (w : SenderState) (port : ℕ) (counts : Summary)
+pub are-so-far : (s : Source) (w : SenderState) (port : SwitchPort) (counts : Summary)
     (old new : Option (List ℕ)) (past : List Handed) → AreTold s w port counts old new past
     → WritesSoFar s old new past
 are-so-far s w port counts old new past h = record {
@@ -405,7 +422,7 @@ are-so-far s w port counts old new past h = record {
   written = h.told.written;
 }
 
-pub are-some : (s : Source) (w : SenderState) (port : ℕ) (counts : Summary) (old new : Option (List ℕ))
+pub are-some : (s : Source) (w : SenderState) (port : SwitchPort) (counts : Summary) (old new : Option (List ℕ))
     (past : List Handed) → AreTold s w port counts old new past → WritesSome s old new past
 are-some s w port counts old new past h =
     subst (λ p. WritesSome s old new p) h.submissions_are
@@ -415,12 +432,12 @@ pub start-some : (s : Source) (output : Option (List ℕ)) → WritesSome s outp
 start-some s output = record {
   events = [];
   are_events = record { submissions_are = refl; follow = tt };
-  written = subst (λ z. AppendsFront output output z) (sym (text-none s.row))
+  written = subst (λ z. AppendsFront output output z) (sym (text-none s.switch s.row))
       (front-whole output output [] (Appends-nil output));
 }
 
 -- all is told
-pub told-all : (s : Source) (until : ℕ) (w : SenderState) (port : ℕ) (counts : Summary)
+pub told-all : (s : Source) (until : ℕ) (w : SenderState) (port : SwitchPort) (counts : Summary)
     (old new : Option (List ℕ)) (events : List Event) (past : List Handed)
     → ToldUntil s until w port counts old new events → submissions_in events ≡ past →
     1200000000000000 ≤ until → WritesEvents s counts old new past
@@ -480,21 +497,58 @@ row-at [] i within = absurd (omega arith)
 row-at (x ∷ xs) zero within = (x, refl)
 row-at (x ∷ xs) (suc i) within = row-at xs i (omega arith)
 
+some-same : {X : Type 0} {x y : X} → Some x ≡ Some y → x ≡ y
+some-same e = cc
+
+none-some : {X : Type 0} {x : X} → None ≡ Some x → ⊥
+none-some e = cc
+
+each-at : {X : Type 0} (P : X → Type 0) (xs : List X) → AllByRecursion P xs → (k : ℕ) (x : X)
+    → slice_get xs k ≡ Some x → P x
+each-at P [] h k x is = absurd (none-some is)
+each-at P (y ∷ ys) h zero x is = subst P (some-same is) h.0
+each-at P (y ∷ ys) h (suc k) x is = each-at P ys h.1 k x is
+
+-- the tables of a system that was found by its name have no more systems than ends
+abbrev HasEnds : SystemThere → Type 0
+HasEnds from = from.tables.own ≤ length from.tables.systems
+
+own-ends : (d : Described) (name : List ℕ) (from : SystemThere) → IsLawfulFile d → sender_of d name ≡ Some from
+    → HasEnds from
+own-ends (One t) name from lawful e = by (own_named t name) e
+  where
+    by : (o : Option ℕ) → option_map (λ i. system_there t i []) o ≡ Some from → HasEnds from
+    by None e = absurd (none-some e)
+    by (Some i) e = let own = lawful.own in subst HasEnds (some-same e) (omega (arith, own))
+own-ends (Several switches) name from lawful e = by (system_of switches name) e
+  where
+    at : (k i : ℕ) (o : Option NamedRows) → slice_get switches k ≡ o → option_map (system_among i) o ≡ Some from
+        → HasEnds from
+    at k i None is e = absurd (none-some e)
+    at k i (Some s) is e = subst HasEnds (some-same e) (each-at (λ s. IsLawfulSwitch s.rows) switches lawful.each k s is).own
+
+    by : (o : Option (ℕ × ℕ)) → option_and_then (λ found. option_map (system_among found.1)
+        (slice_get switches found.0)) o ≡ Some from → HasEnds from
+    by None e = absurd (none-some e)
+    by (Some found) e = at found.0 found.1 (slice_get switches found.0) refl e
+
 -- what a run answers, for the row of its system, is what the command does
-pub sends-in : (config name : List ℕ) (t : Rows) (place : ℕ) (input rest old new : Option (List ℕ))
-    (answer : Result Summary RunFault) →
-    Spells config t → system_named t.systems name ≡ Some place → IsAdmitted t → place < length t.systems →
-    ((row : SystemRow) → slice_get t.systems place ≡ Some row
-    → IfSome input (λ bytes. Answers (source_at t place row) bytes rest old new answer)) →
+pub sends-in : (config name : List ℕ) (taken : SenderTaken) (input rest old new : Option (List ℕ))
+    (answer : Result Summary RunFault) → TakesSender config name taken → taken.system.0 < taken.admitted.own
+    →
+    ((row : SystemRow) → slice_get taken.admitted.systems taken.system.0 ≡ Some row
+    → IfSome input (λ bytes. Answers (source_of (string_bytes taken.switch) taken.admitted taken.system.0 row) bytes
+    rest old new answer)) →
     Sends config name input rest old new answer
-sends-in config name t place input rest old new answer spelled named admitted within h =
-    let e = row-at t.systems place within in
+sends-in config name taken input rest old new answer takes own h =
+    let within = own-ends takes.described name (sender_taken taken) takes.read.lawful takes.stands in
+    let e = row-at taken.admitted.systems taken.system.0 (omega (arith, own, within)) in
     record {
-      tables = t;
-      spelled = spelled;
-      system = place;
-      named = named;
-      admitted = admitted;
+      described = takes.described;
+      read = takes.read;
+      from = sender_taken taken;
+      named = takes.stands;
+      admitted = takes.admitted;
       row = e.0;
       stands = e.1;
       answers = h e.0 e.1;

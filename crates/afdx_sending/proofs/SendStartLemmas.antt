@@ -4,18 +4,19 @@ use Rattle.afdx_config.specs.Rows.{SystemRow, Rows}
 use Rattle.afdx_send.specs.Sender.{StandsFor, no_calls, frames_held, last_time}
 use Rattle.afdx_commands.specs.Counts.{no_counts}
 use Rattle.afdx_sending.specs.Told.{TellsItems}
-use Rattle.afdx_sending.specs.Sent.{source_at}
+use Rattle.afdx_sending.specs.Sent.{source_of}
 use Rattle.afdx_sending.specs.declared.run.Sending.{Sending}
 use Rattle.afdx_sending.proofs.SendLemmas.{are-told-start, stands-start, room-start}
 
 -- a sender that was asked nothing yet has told of no items
-pub items-start : (t : Rows) (system : ℕ) (row : SystemRow) (sending : Sending) (output : Option (List ℕ))
+pub items-start : (switch : List ℕ) (t : Rows) (system : ℕ) (row : SystemRow) (sending : Sending)
+    (output : Option (List ℕ))
     → StandsFor sending.sender (no_calls t system row) → last_time sending.sender ≡ 0
-    → frames_held sending.sender ≡ 0 → sending.port ≡ row.port → sending.counts ≡ no_counts
-    → TellsItems (source_at t system row) sending output output []
-items-start t system row sending output stands clock held port counts = record {
-  told = rw counts (are-told-start (source_at t system row) sending.sender sending.port output
-      (stands-start t system row sending.sender stands) clock port);
+    → frames_held sending.sender ≡ 0 → sending.port.number ≡ row.port → sending.port.switch.now ≡ switch
+    → sending.counts ≡ no_counts → TellsItems (source_of switch t system row) sending output output []
+items-start switch t system row sending output stands clock held port named counts = record {
+  told = rw counts (are-told-start (source_of switch t system row) sending.sender sending.port output
+      (stands-start t system row sending.sender stands) clock port named);
   early = omega arith;
   clock = omega (arith, clock);
   few = omega arith;

@@ -11,8 +11,9 @@ use Rattle.afdx_send.specs.declared.fault.SendFault.{SendFault}
 use Rattle.afdx_send.specs.declared.sender_state.SenderState.{SenderState}
 use Rattle.afdx_engine.specs.Listed.{Handed}
 use Rattle.afdx_sending.specs.Events.{Event, Submitted, submissions_in, turns_in, calls_in, EachFollows, IsAnswered, IsAtSubmission, AreDone}
-use Rattle.afdx_sending.specs.Text.{send_text, send_counts}
+use Rattle.afdx_sending.specs.Text.{send_text_at, send_counts}
 use Rattle.afdx_sending.specs.Sent.{Source}
+use Rattle.afdx_sending.specs.declared.run.SwitchPort.{SwitchPort}
 use Rattle.afdx_commands.specs.declared.summary.Summary.{Summary}
 
 -- the submission that was read on line n
@@ -20,17 +21,18 @@ abbrev pub handed_at : ℕ → HandedLine → List ℕ → Handed
 handed_at n handed payload = record { line = n; submission = submission_of handed payload }
 
 -- these events are told: the sender stands for them, they are counted, and their text is written
-pub record HasTold (s : Source) (w : SenderState) (port : ℕ) (counts : Summary)
+pub record HasTold (s : Source) (w : SenderState) (port : SwitchPort) (counts : Summary)
     (old new : Option (List ℕ)) (events : List Event) : Type 0 where
   pub stands : StandsFor w (calls_in s.row s.links events (last_time w))
-  pub port_is : port ≡ s.row.port
+  pub port_is : port.number ≡ s.row.port
+  pub switch_is : port.switch.now ≡ s.switch
   pub follow : EachFollows s.row s.links events
   pub in_time : end_of (turns_in events) ≤ last_time w
   pub counted : counts ≡ send_counts events
-  pub written : Appends old new (send_text s.row events)
+  pub written : Appends old new (send_text_at s.switch s.row events)
 
 -- these submissions are told, and the emissions before the last of them
-pub record AreTold (s : Source) (w : SenderState) (port : ℕ) (counts : Summary)
+pub record AreTold (s : Source) (w : SenderState) (port : SwitchPort) (counts : Summary)
     (old new : Option (List ℕ)) (past : List Handed) : Type 0 where
   pub events : List Event
   pub submissions_are : submissions_in events ≡ past
@@ -38,15 +40,15 @@ pub record AreTold (s : Source) (w : SenderState) (port : ℕ) (counts : Summary
   pub told : HasTold s w port counts old new events
 
 -- more emissions are told, of the same submissions
-pub record ToldMore (s : Source) (w : SenderState) (port : ℕ) (counts : Summary)
+pub record ToldMore (s : Source) (w : SenderState) (port : SwitchPort) (counts : Summary)
     (old new : Option (List ℕ)) (events : List Event) : Type 0 where
   pub more : List Event
   pub submissions_are : submissions_in more ≡ submissions_in events
   pub told : HasTold s w port counts old new more
 
 -- all that end by this time
-pub record ToldUntil (s : Source) (until : ℕ) (w : SenderState) (port : ℕ) (counts : Summary)
-    (old new : Option (List ℕ)) (events : List Event) : Type 0 where
+pub record ToldUntil (s : Source) (until : ℕ) (w : SenderState) (port : SwitchPort)
+    (counts : Summary) (old new : Option (List ℕ)) (events : List Event) : Type 0 where
   pub told : ToldMore s w port counts old new events
   pub no_more : (turn : Turn Frame) →
       IsNextIn (calls_in s.row s.links told.more until) turn →

@@ -1,5 +1,5 @@
 -- What a run that sends answers and writes, and how far it has come.
-use Rattle.std.specs.Prelude.{ℕ, ◌≡◌, List, length, Option, Result, Ok, Err}
+use Rattle.std.specs.Prelude.{ℕ, ◌≡◌, List, [], length, Option, Result, Ok, Err}
 use Rattle.std.specs.Io.KnownBytes.{Appends}
 use Rattle.afdx_config.specs.Admission.{links_from}
 use Rattle.afdx_config.specs.Rows.{SystemRow, LinkRow, Rows}
@@ -11,13 +11,14 @@ use Rattle.afdx_engine.specs.Stops.{StopsIn}
 use Rattle.afdx_commands.specs.Counts.{with_lines}
 use Rattle.afdx_engine.specs.Listed.{Handed, submissions}
 use Rattle.afdx_sending.specs.Events.{Event, AreEventsOf, IsAtSubmission, AreDone}
-use Rattle.afdx_sending.specs.Text.{send_text, send_counts}
+use Rattle.afdx_sending.specs.Text.{send_text_at, send_counts}
 use Rattle.afdx_commands.specs.declared.summary.Summary.{Summary}
 
--- a system that sends, and its links
+-- a system that sends, its links, and the name of its switch: none where each side has one switch
 pub record Source : Type 0 where
   pub row : SystemRow
   pub links : List LinkRow
+  pub switch : List ℕ
 
 -- the output, which held `old`, now holds after it the text of the events of these submissions
 -- up to the last of them
@@ -25,13 +26,13 @@ pub record WritesSoFar (s : Source) (old new : Option (List ℕ)) (past : List H
   pub events : List Event
   pub are_events : AreEventsOf s.row s.links past events
   pub at_submission : IsAtSubmission events
-  pub written : Appends old new (send_text s.row events)
+  pub written : Appends old new (send_text_at s.switch s.row events)
 
 -- the same of a beginning of the text of events of these submissions
 pub record WritesSome (s : Source) (old new : Option (List ℕ)) (past : List Handed) : Type 0 where
   pub events : List Event
   pub are_events : AreEventsOf s.row s.links past events
-  pub written : AppendsFront old new (send_text s.row events)
+  pub written : AppendsFront old new (send_text_at s.switch s.row events)
 
 -- the text of all events of these submissions is written, and they are counted
 pub record WritesEvents (s : Source) (counts : Summary) (old new : Option (List ℕ))
@@ -39,7 +40,7 @@ pub record WritesEvents (s : Source) (counts : Summary) (old new : Option (List 
   pub events : List Event
   pub are_events : AreEventsOf s.row s.links past events
   pub are_done : AreDone s.row s.links events
-  pub written : Appends old new (send_text s.row events)
+  pub written : Appends old new (send_text_at s.switch s.row events)
   pub counted : counts ≡ send_counts events
 
 -- all lines were read, none has a fault, and the text of all events of their submissions is
@@ -59,6 +60,11 @@ Answers s bytes rest old new (Ok summary) = WritesAll s (lines_of bytes) old new
 Answers s bytes rest old new (Err fault) =
     StopsIn submissions (WritesSoFar s old new) (WritesSome s old new) bytes rest fault
 
--- the system at this place, and the links that it sends
+-- the system at this place of the tables of the switch of this name, and the links that it sends
+abbrev pub source_of : (switch : List ℕ) → Rows → ℕ → SystemRow → Source
+source_of switch t system row =
+    record { row = row; links = links_from t.links system; switch = switch }
+
+-- where each side has one switch
 abbrev pub source_at : Rows → ℕ → SystemRow → Source
-source_at t system row = record { row = row; links = links_from t.links system }
+source_at t system row = source_of [] t system row

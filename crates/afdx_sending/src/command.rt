@@ -6,20 +6,19 @@ ghost use Rattle.afdx_lists.specs.Watching.{calls_of, device_of, has_ended, has_
 ghost use Rattle.afdx_lists.specs.declared.fault.RunFault.{RunFault};
 ghost use Rattle.afdx_commands.specs.Commands.{EndsAs, IsFourIfFailed, IsWholeIfDone};
 ghost use Rattle.afdx_commands.specs.declared.summary.Summary.{Summary};
-ghost use Rattle.afdx_sending.specs.Command.{IsNotSent, Sends};
+ghost use Rattle.afdx_commands.specs.Senders.{IsNoSender};
+ghost use Rattle.afdx_sending.specs.Command.{Sends};
 ghost use Rattle.afdx_commands.specs.declared.ending.Ended.{Ended as End};
 
 use crate::run::send_into;
-use afdx_admit::admit;
-use afdx_commands::refusing::{refuse_config, refuse_name, refuse_tables};
-use afdx_commands::{Ended, end};
-use afdx_config::read_tables;
+use afdx_commands::{Ended, end, take_sender};
 use afdx_lists::Watched;
 use afdx_text::{AtOnce, Sink, Text};
 use std::alloc::Global;
 use std::io::{Read, Write};
 
-/// Sends the messages of a list from the system of this name in the tables of a configuration.
+/// Sends the messages of a list from the system of this name in a configuration, which describes
+/// one switch on a side or several.
 ///
 /// Its frames for both networks go to `output`, as a list that `replay` reads, with a remark for
 /// each message that was refused; a fault's one line goes to `errors`. It also gives what the run
@@ -53,23 +52,16 @@ pub fn send_and_count<R: Read, O: Sink, E: Write>(
         × EndsAs E.contents input.new (O.failed output.new) errors.old errors.new result answer
         × Sends config.now system.now (R.remaining (device_of input.old))
         (R.remaining (device_of input.new)) (O.written output.old) (O.written output.new) answer)
-        ⊎ (IsNotSent E.contents config.now system.now errors.old errors.new result.status
+        ⊎ (IsNoSender E.contents errors.old errors.new config.now system.now result.status
         × (input.new ≡ input.old) × (output.new ≡ output.old)) }
 {
-    let tables = match read_tables(alloc, config) {
-        Ok(tables) => tables,
-        Err(fault) => return Ended::without_counts(refuse_config(fault, errors)),
+    let taken = match take_sender(alloc, config, system, errors) {
+        Ok(taken) => taken,
+        Err(status) => return Ended::without_counts(status),
     };
-    let Some(place) = tables.system_named(system) else {
-        return Ended::without_counts(refuse_name(errors));
-    };
-    match admit(tables) {
-        Ok(admitted) => {
-            let answer = send_into(alloc, &admitted, place, input, output);
-            end(answer, errors)
-        }
-        Err((tables, fault)) => { Ended::without_counts(refuse_tables(&tables, fault, errors)) }
-    }
+    let (switch, place) = (taken.switch.as_str(), taken.system);
+    let answer = send_into(alloc, switch, &taken.admitted, place, input, output);
+    end(answer, errors)
 }
 
 /// Sends the messages of a list from the system of this name, as `send_and_count` does, and gives
@@ -95,7 +87,7 @@ pub fn send<R: Read, O: Write, E: Write>(
         × Sends config.now system.now (R.remaining (device_of input.old))
         (R.remaining (device_of input.new)) (O.contents (device_of output.old))
         (O.contents (device_of output.new)) answer)
-        ⊎ (IsNotSent E.contents config.now system.now errors.old errors.new ended.status
+        ⊎ (IsNoSender E.contents errors.old errors.new config.now system.now ended.status
         × (input.new ≡ input.old) × (output.new ≡ output.old))) }
 {
     let mut text = Text::new(alloc);

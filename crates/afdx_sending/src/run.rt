@@ -12,46 +12,64 @@ ghost use Rattle.afdx_engine.specs.Listed.{Handed as HandedSubmission};
 ghost use Rattle.afdx_sending.specs.Events.{Event, submissions_in, calls_in};
 ghost use Rattle.afdx_sending.specs.Text.{emission_lines, send_counts};
 ghost use Rattle.afdx_text.specs.Sinks.{IsOfOutput};
-ghost use Rattle.afdx_sending.specs.Sent.{Source, source_at, WritesSome, Answers};
+ghost use Rattle.afdx_sending.specs.Sent.{Source, source_at, source_of, WritesSome, Answers};
 ghost use Rattle.afdx_sending.specs.Progress.{handed_at, HasTold, AreTold, ToldUntil, TellsSubmission, HasRoom};
 
 use afdx_admit::Admitted;
 use afdx_commands::{NO_COUNTS, Summary};
 use afdx_config::SystemId;
-use afdx_engine::{Machine, run_list};
+use afdx_engine::{Machine, MessageLines, run_list};
 use afdx_frame::{Side, VlId};
 use afdx_lists::{FrameKind, Handed, RunFault, Watched};
 use afdx_send::{Emission, SendFault, Sender};
-use afdx_text::{AtOnce, OutLine, Sink, Text};
+use afdx_text::{AtOnce, OutLine, Sink, Site, Text};
 use std::alloc::{AllocError, Global};
 use std::io::{Read, Write};
 
 /// By then each message of a list has been emitted: the end of the drain, in ns.
 const DRAIN_END: u64 = 1_200_000_000_000_000;
 
+/// The port of a switch that a system sends to.
+#[derive(Clone, Copy)]
+struct SwitchPort<'a> {
+    /// The switch's name; empty where each side has one switch.
+    switch: &'a str,
+    number: u8,
+}
+
 /// Puts the lines of an emission.
-fn put_emission<O: Sink>(output: &mut O, port: u8, emission: &Emission) -> Result<(), RunFault>
+fn put_emission<O: Sink>(
+    output: &mut O,
+    port: SwitchPort<'_>,
+    emission: &Emission,
+) -> Result<(), RunFault>
     requires sound { O.failed output.old ≡ false }
     ensures failed { O.failed output.new ≡ is_failed_write result }
     ensures fault { IfErr result IsOfOutput }
     ensures settings { O.settings output.new ≡ O.settings output.old }
     ensures lines { OnOk result (Appends (O.written output.old) (O.written output.new)
-        (emission_lines port (sending_of emission.now))) }
+        (emission_lines port.entry.switch.now port.entry.number (sending_of emission.now))) }
     ensures front { OnErr result (AppendsFront (O.written output.old) (O.written output.new)
-        (emission_lines port (sending_of emission.now))) }
+        (emission_lines port.entry.switch.now port.entry.number (sending_of emission.now))) }
 {
     let on_a = OutLine::Listed {
         kind: FrameKind::Raw,
         time: emission.time,
-        side: Side::A,
-        port,
+        site: Site {
+            side: Side::A,
+            switch: port.switch,
+        },
+        port: port.number,
         bytes: emission.a.as_slice(),
     };
     let on_b = OutLine::Listed {
         kind: FrameKind::Raw,
         time: emission.time,
-        side: Side::B,
-        port,
+        site: Site {
+            side: Side::B,
+            switch: port.switch,
+        },
+        port: port.number,
         bytes: emission.b.as_slice(),
     };
     output.put(&on_a)?;
@@ -76,28 +94,36 @@ fn refusal_of(fault: SendFault) -> Result<SendFault, AllocError>
 
 /// What a run that sends works with.
 #[derive(Drop)]
-struct Sending {
+struct Sending<'a> {
     sender: Sender,
     /// The switch port of its system.
-    port: u8,
+    port: SwitchPort<'a>,
     counts: Summary,
 }
 
-impl Sending {
+impl<'a> Sending<'a> {
     ghost use Rattle.afdx_sending.specs.Told.{TellsItems};
 
     /// It has told nothing yet.
-    fn new(alloc: Global, tables: &Admitted, system: SystemId) -> Result<Sending, AllocError>
+    fn new(
+        alloc: Global,
+        switch: &'a str,
+        tables: &Admitted,
+        system: SystemId,
+    ) -> Result<Sending<'a>, AllocError>
         requires { system.0 < tables.now.own }
         ensures within { OnOk result (system.0 < length tables.now.systems) }
         ensures told { (row : SystemRow) → slice_get tables.now.systems system.0 ≡ Some row →
             (output : Option (List ℕ)) → IfOk result (λ sending.
-            TellsItems (source_at tables.now system.0 row) sending output output []) }
+            TellsItems (source_of switch.now tables.now system.0 row) sending output output []) }
     {
         let sender = Sender::new(alloc, tables, system)?;
         Ok(Sending {
             sender,
-            port: tables.tables().system(system).port,
+            port: SwitchPort {
+                switch,
+                number: tables.tables().system(system).port,
+            },
             counts: NO_COUNTS,
         })
     }
@@ -212,10 +238,12 @@ impl Sending {
     }
 }
 
-impl Machine<Handed> for Sending {
+impl Machine<Handed> for Sending<'_> {
     ghost use Rattle.afdx_sending.specs.Told.{TellsItems, BeginsItems, TellsAll};
 
     ghost Rules = { Source };
+
+    ghost Can = { λ rules item. Unit {0} };
 
     ghost Told = { TellsItems };
 
@@ -241,8 +269,10 @@ impl Machine<Handed> for Sending {
 }
 
 /// Sends the messages of a list from one system, as `run_send` does, and puts the lines to a sink.
+/// The name of its switch is empty where each side has one switch.
 pub(crate) fn send_into<R: Read, O: Sink>(
     alloc: Global,
+    switch: &str,
     tables: &Admitted,
     system: SystemId,
     input: &mut Watched<R>,
@@ -261,11 +291,11 @@ pub(crate) fn send_into<R: Read, O: Sink>(
     // Where the input's bytes are known: what is answered and written for the list that they are.
     ensures answer { (row : SystemRow) → slice_get tables.now.systems system.0 ≡ Some row →
         IfSome (R.remaining (device_of input.old)) (λ bytes.
-        Answers (source_at tables.now system.0 row) bytes (R.remaining (device_of input.new))
-        (O.written output.old) (O.written output.new) result) }
+        Answers (source_of switch.now tables.now system.0 row) bytes
+        (R.remaining (device_of input.new)) (O.written output.old) (O.written output.new) result) }
 {
-    let mut sending = Sending::new(alloc, tables, system)?;
-    let lines = run_list(alloc, &mut sending, input, output)?;
+    let mut sending = Sending::new(alloc, switch, tables, system)?;
+    let lines = run_list(alloc, MessageLines, &mut sending, input, output)?;
     let mut summary = sending.counts;
     summary.lines = lines;
     Ok(summary)
@@ -304,5 +334,5 @@ pub fn run_send<R: Read, W: Write>(
 {
     let mut text = Text::new(alloc);
     let mut output = AtOnce::new(output, &mut text);
-    send_into(alloc, tables, system, input, &mut output)
+    send_into(alloc, "", tables, system, input, &mut output)
 }

@@ -1,5 +1,6 @@
 -- The lines of the program's output.
-use Rattle.std.specs.Prelude.{ℕ, ◌+◌, ◌*◌, length, Bool, true, false, List, ◌++◌, Option, Some, None, codes}
+use Rattle.std.specs.Prelude.{ℕ, ◌+◌, ◌*◌, length, Bool, true, false, List, [], ◌∷◌, ◌++◌}
+use Rattle.std.specs.Prelude.{Option, Some, None, codes}
 use Rattle.std.specs.Fmt.{decimal}
 use Rattle.hex.specs.Hex.{encode_lower}
 use Rattle.afdx_frame.specs.declared.link.Side.{Side}
@@ -9,6 +10,7 @@ use Rattle.afdx_lists.specs.declared.frame_line.FrameKind.TheVariants.{Good, Bad
 use Rattle.afdx_police.specs.declared.shape.Reason.{Reason}
 use Rattle.afdx_police.specs.Words.{reason_word}
 use Rattle.afdx_receive.specs.Words.{drop_word}
+use Rattle.afdx_text.specs.declared.site.Site.{Site}
 use Rattle.afdx_text.specs.declared.line.OutLine.{OutLine}
 use Rattle.afdx_text.specs.declared.line.OutLine.TheVariants.{Verdict, Lost, Left, Message, Unread}
 use Rattle.afdx_text.specs.declared.line.OutLine.TheVariants.{Listed, Remark, Refused, Bounds, Margin, Admitted}
@@ -18,32 +20,39 @@ abbrev pub side_text : Side → List ℕ
 side_text A = codes "A"
 side_text B = codes "B"
 
+-- where a line says that something was: the side, and the switch's name where each side has several
+abbrev pub place_text : Side → (name : List ℕ) → List ℕ
+place_text side [] = side_text side
+place_text side (c ∷ name) = side_text side ++ codes " " ++ c ∷ name
+
+abbrev pub site_text : Site → List ℕ
+site_text site = place_text site.side site.switch.now
+
 -- no reason to drop a frame: it is accepted
 abbrev pub verdict_text : Option Reason → List ℕ
 verdict_text None = codes "accept"
 verdict_text (Some reason) = codes "drop " ++ reason_word reason
 
--- the line of a verdict on the frame of line n
-abbrev pub verdict_line : ℕ → Side → Option Reason → List ℕ
-verdict_line n side reason =
-    codes "V " ++ decimal n ++ codes " " ++ side_text side ++ codes " " ++ verdict_text reason
+-- the line of a verdict on the frame of line n, at a place
+abbrev pub verdict_line : ℕ → (place : List ℕ) → Option Reason → List ℕ
+verdict_line n place reason =
+    codes "V " ++ decimal n ++ codes " " ++ place ++ codes " " ++ verdict_text reason
     ++ codes "\n"
 
--- a copy of the frame of line n was lost at a port
-abbrev pub loss_line : ℕ → Side → ℕ → List ℕ
-loss_line n side port =
-    codes "L " ++ decimal n ++ codes " " ++ side_text side ++ codes " " ++ decimal port
-    ++ codes "\n"
+-- a copy of the frame of line n was lost at a port of a place
+abbrev pub loss_line : ℕ → (place : List ℕ) → ℕ → List ℕ
+loss_line n place port =
+    codes "L " ++ decimal n ++ codes " " ++ place ++ codes " " ++ decimal port ++ codes "\n"
 
 abbrev pub letter_of : (is_too_old : Bool) → List ℕ
 letter_of false = codes "D "
 letter_of true = codes "T "
 
 -- the frame of line n left an output port, or was dropped there as too old
-abbrev pub departure_line : Bool → ℕ → ℕ → Side → ℕ → List ℕ
-departure_line is_too_old n time side port =
+abbrev pub departure_line : Bool → ℕ → ℕ → (place : List ℕ) → ℕ → List ℕ
+departure_line is_too_old n time place port =
     letter_of is_too_old ++ decimal n ++ codes " " ++ decimal time ++ codes " "
-    ++ side_text side ++ codes " " ++ decimal port ++ codes "\n"
+    ++ place ++ codes " " ++ decimal port ++ codes "\n"
 
 -- the `M` line of a message of a link that a system read at this time
 abbrev pub message_line : ℕ → List ℕ → ℕ → List ℕ → List ℕ
@@ -63,14 +72,14 @@ kind_letter Bad = codes "B "
 kind_letter Raw = codes "R "
 
 -- a line of a frame list
-abbrev pub frame_line : FrameKind → Side → ℕ → ℕ → List ℕ → List ℕ
-frame_line kind side port time bytes =
-    kind_letter kind ++ decimal time ++ codes " " ++ side_text side ++ codes " " ++ decimal port
+abbrev pub frame_line : FrameKind → (place : List ℕ) → ℕ → ℕ → List ℕ → List ℕ
+frame_line kind place port time bytes =
+    kind_letter kind ++ decimal time ++ codes " " ++ place ++ codes " " ++ decimal port
     ++ codes " " ++ encode_lower bytes ++ codes "\n"
 
--- a frame that was sent on one network
-abbrev pub sent_line : Side → ℕ → ℕ → List ℕ → List ℕ
-sent_line side port time bytes = frame_line Raw side port time bytes
+-- a frame that was sent on one network, to a place
+abbrev pub sent_line : (place : List ℕ) → ℕ → ℕ → List ℕ → List ℕ
+sent_line place port time bytes = frame_line Raw place port time bytes
 
 -- the number n of a recording is skipped: a remark in a list
 abbrev pub remark_line : List ℕ → ℕ → List ℕ
@@ -115,12 +124,14 @@ end_to_end_line vl system ns =
     codes "E " ++ decimal vl ++ codes " " ++ system ++ codes " " ++ bound_text ns ++ codes "\n"
 
 abbrev pub line_text : OutLine → List ℕ
-line_text (Verdict n side reason) = verdict_line n side reason
-line_text (Lost n side port) = loss_line n side port
-line_text (Left n time side port is_too_old) = departure_line is_too_old n time side port
+line_text (Verdict n site reason) = verdict_line n (site_text site) reason
+line_text (Lost n site port) = loss_line n (site_text site) port
+line_text (Left n time site port is_too_old) =
+    departure_line is_too_old n time (site_text site) port
 line_text (Message time system vl bytes) = message_line time system.now vl.0 bytes.now
 line_text (Unread time system n why) = drop_line time system.now n (drop_word why)
-line_text (Listed kind time side port bytes) = frame_line kind side port time bytes.now
+line_text (Listed kind time site port bytes) =
+    frame_line kind (site_text site) port time bytes.now
 line_text (Remark word n) = remark_line word.now n
 line_text (Refused n word) = refused_line n word.now
 line_text (Bounds port high low buffer) = bounds_line port high low buffer
@@ -132,12 +143,13 @@ line_text (EndToEnd vl system ns) = end_to_end_line vl.0 system.now ns
 
 -- at least as many bytes as a line has
 abbrev pub longest : OutLine → ℕ
-longest (Verdict n side reason) = 128
-longest (Lost n side port) = 128
-longest (Left n time side port is_too_old) = 128
+longest (Verdict n site reason) = 128 + length site.switch.now
+longest (Lost n site port) = 128 + length site.switch.now
+longest (Left n time site port is_too_old) = 128 + length site.switch.now
 longest (Message time system vl bytes) = 128 + length system.now + 2 * length bytes.now
 longest (Unread time system n why) = 128 + length system.now
-longest (Listed kind time side port bytes) = 128 + 2 * length bytes.now
+longest (Listed kind time site port bytes) =
+    128 + length site.switch.now + 2 * length bytes.now
 longest (Remark word n) = 128 + length word.now
 longest (Refused n word) = 128 + length word.now
 longest (Bounds port high low buffer) = 128

@@ -3,13 +3,14 @@
 
 ghost use Rattle.std.specs.Prelude.{◌≡◌, ◌≤◌, ◌+◌, ◌*◌, ◌++◌, length, take};
 ghost use Rattle.afdx_receive.specs.Words.{drop_word};
-ghost use Rattle.afdx_text.specs.OutLines.{verdict_text, letter_of, kind_letter, verdict_line, loss_line};
+ghost use Rattle.afdx_text.specs.OutLines.{verdict_text, letter_of, kind_letter};
+ghost use Rattle.afdx_text.specs.OutLines.{verdict_line, loss_line};
 ghost use Rattle.afdx_text.specs.OutLines.{departure_line, message_line, drop_line, frame_line};
 ghost use Rattle.afdx_text.specs.OutLines.{refused_line, remark_line};
 
 use crate::numeral::Numeral;
-use crate::piece::{put, put_digits, put_number, put_piece, put_side, put_small};
-use afdx_frame::Side;
+use crate::piece::{put, put_digits, put_number, put_piece, put_small};
+use crate::place::Place;
 use afdx_lists::FrameKind;
 use afdx_police::Reason;
 use afdx_receive::DropReason;
@@ -65,39 +66,40 @@ fn put_why(room: &mut [u8], at: usize, why: DropReason) -> usize
     }
 }
 
-/// `V n side accept`, or `V n side drop WORD`.
+/// `V n place accept`, or `V n place drop WORD`.
 #[inline(never)]
-pub(crate) fn put_verdict(
+pub(crate) fn put_verdict<P: Place>(
     room: &mut [u8],
     at: usize,
     n: u64,
-    side: Side,
+    place: P,
     reason: Option<Reason>,
 ) -> usize
-    requires { at + 128 ≤ length room.old }
-    ensures within { result ≤ at + 128 }
-    ensures text { take result room.new ≡ take at room.old ++ verdict_line n side reason }
+    requires { at + 128 + P.named place ≤ length room.old }
+    ensures within { result ≤ at + 128 + P.named place }
+    ensures text { take result room.new
+        ≡ take at room.old ++ verdict_line n (P.text place) reason }
 {
     let at = put(room, at, b"V ");
     let at = put_number(room, at, n);
     let at = put(room, at, b" ");
-    let at = put_side(room, at, side);
+    let at = place.put(room, at);
     let at = put(room, at, b" ");
     let at = put_words(room, at, reason);
     put(room, at, b"\n")
 }
 
-/// `L n side port`.
+/// `L n place port`.
 #[inline(never)]
-pub(crate) fn put_loss(room: &mut [u8], at: usize, n: u64, side: Side, port: u8) -> usize
-    requires { at + 128 ≤ length room.old }
-    ensures within { result ≤ at + 128 }
-    ensures text { take result room.new ≡ take at room.old ++ loss_line n side port }
+pub(crate) fn put_loss<P: Place>(room: &mut [u8], at: usize, n: u64, place: P, port: u8) -> usize
+    requires { at + 128 + P.named place ≤ length room.old }
+    ensures within { result ≤ at + 128 + P.named place }
+    ensures text { take result room.new ≡ take at room.old ++ loss_line n (P.text place) port }
 {
     let at = put(room, at, b"L ");
     let at = put_number(room, at, n);
     let at = put(room, at, b" ");
-    let at = put_side(room, at, side);
+    let at = place.put(room, at);
     let at = put(room, at, b" ");
     let at = put_small(room, at, port);
     put(room, at, b"\n")
@@ -143,19 +145,26 @@ impl Kept {
 
     /// The line of a departure, with the numbers that are kept.
     #[inline(never)]
-    fn put_left(&self, room: &mut [u8], at: usize, side: Side, port: u8, too_old: bool) -> usize
-        requires { at + 128 ≤ length room.old }
-        ensures within { result ≤ at + 128 }
+    fn put_left<P: Place>(
+        &self,
+        room: &mut [u8],
+        at: usize,
+        place: P,
+        port: u8,
+        too_old: bool,
+    ) -> usize
+        requires { at + 128 + P.named place ≤ length room.old }
+        ensures within { result ≤ at + 128 + P.named place }
         ensures text { take result room.new
             ≡ take at room.old
-            ++ departure_line too_old self.now.n.number self.now.time.number side port }
+            ++ departure_line too_old self.now.n.number self.now.time.number (P.text place) port }
     {
         let at = put_letter(room, at, too_old);
         let at = self.n.put(room, at);
         let at = put(room, at, b" ");
         let at = self.time.put(room, at);
         let at = put(room, at, b" ");
-        let at = put_side(room, at, side);
+        let at = place.put(room, at);
         let at = put(room, at, b" ");
         let at = put_small(room, at, port);
         put(room, at, b"\n")
@@ -201,26 +210,26 @@ impl Kept {
         put(room, at, b"\n")
     }
 
-    /// `D n time side port`, or `T ..`.
+    /// `D n time place port`, or `T ..`.
     #[inline(always)]
-    pub(crate) fn put_departure(
+    pub(crate) fn put_departure<P: Place>(
         &mut self,
         room: &mut [u8],
         at: usize,
         n: u64,
         time: u64,
-        side: Side,
+        place: P,
         port: u8,
         too_old: bool,
     ) -> usize
-        requires { at + 128 ≤ length room.old }
-        ensures within { result ≤ at + 128 }
+        requires { at + 128 + P.named place ≤ length room.old }
+        ensures within { result ≤ at + 128 + P.named place }
         ensures text { take result room.new
-            ≡ take at room.old ++ departure_line too_old n time side port }
+            ≡ take at room.old ++ departure_line too_old n time (P.text place) port }
     {
         self.n.set(n);
         self.time.set(time);
-        self.put_left(room, at, side, port, too_old)
+        self.put_left(room, at, place, port, too_old)
     }
 
     /// `M time system vl hex`.
@@ -265,28 +274,28 @@ impl Kept {
         self.put_unread(room, at, name, why)
     }
 
-    /// `K time side port hex`.
+    /// `K time place port hex`.
     #[inline(never)]
-    pub(crate) fn put_listed(
+    pub(crate) fn put_listed<P: Place>(
         &mut self,
         room: &mut [u8],
         at: usize,
         kind: FrameKind,
         time: u64,
-        side: Side,
+        place: P,
         port: u8,
         bytes: &[u8],
     ) -> usize
-        requires { at + 128 + 2 * length bytes.now ≤ length room.old }
-        ensures within { result ≤ at + 128 + 2 * length bytes.now }
+        requires { at + 128 + P.named place + 2 * length bytes.now ≤ length room.old }
+        ensures within { result ≤ at + 128 + P.named place + 2 * length bytes.now }
         ensures text { take result room.new
-            ≡ take at room.old ++ frame_line kind side port time bytes.now }
+            ≡ take at room.old ++ frame_line kind (P.text place) port time bytes.now }
     {
         self.time.set(time);
         let at = put_kind(room, at, kind);
         let at = self.time.put(room, at);
         let at = put(room, at, b" ");
-        let at = put_side(room, at, side);
+        let at = place.put(room, at);
         let at = put(room, at, b" ");
         let at = put_small(room, at, port);
         let at = put(room, at, b" ");

@@ -5,7 +5,8 @@ ghost use Rattle.std.specs.Prelude.{◌≡◌, ◌≤◌, ◌+◌, ◌++◌, len
 use crate::check_lines::{put_bounds, put_denial, put_end_to_end, put_margin, put_switch};
 use crate::kinds::{Kept, put_loss, put_refusal, put_remark, put_verdict};
 use crate::piece::put;
-use afdx_frame::{Side, VlId};
+use crate::site::Site;
+use afdx_frame::VlId;
 use afdx_lists::FrameKind;
 use afdx_police::Reason;
 use afdx_receive::DropReason;
@@ -14,23 +15,23 @@ use std::alloc::AllocError;
 /// A line of the output.
 #[derive(Clone, Copy, Debug)]
 pub enum OutLine<'a> {
-    /// What became of the frame of line `n`: `V n side accept` or `V n side drop WORD`.
+    /// What became of the frame of line `n`: `V n site accept` or `V n site drop WORD`.
     Verdict {
         n: u64,
-        side: Side,
+        site: Site<'a>,
         reason: Option<Reason>,
     },
-    /// A copy of it was lost to a full buffer: `L n side port`.
+    /// A copy of it was lost to a full buffer: `L n site port`.
     Lost {
         n: u64,
-        side: Side,
+        site: Site<'a>,
         port: u8,
     },
-    /// A copy of it left a port, `D n time side port`, or was dropped there: `T ..`.
+    /// A copy of it left a port, `D n time site port`, or was dropped there: `T ..`.
     Left {
         n: u64,
         time: u64,
-        side: Side,
+        site: Site<'a>,
         port: u8,
         too_old: bool,
     },
@@ -48,11 +49,11 @@ pub enum OutLine<'a> {
         n: u64,
         why: DropReason,
     },
-    /// A line of a frame list: `K time side port hex`, with `F`, `B` or `R` for K.
+    /// A line of a frame list: `K time site port hex`, with `F`, `B` or `R` for K.
     Listed {
         kind: FrameKind,
         time: u64,
-        side: Side,
+        site: Site<'a>,
         port: u8,
         bytes: &'a [u8],
     },
@@ -115,13 +116,20 @@ impl OutLine<'_> {
         ensures none { IfNone result (2 ^ 64 ≤ longest self.now) }
     {
         match self {
+            OutLine::Verdict { site, .. } => MOST_FIXED.checked_add(site.switch.len()),
+            OutLine::Lost { site, .. } => MOST_FIXED.checked_add(site.switch.len()),
+            OutLine::Left { site, .. } => MOST_FIXED.checked_add(site.switch.len()),
             OutLine::Message { system, bytes, .. } => {
                 MOST_FIXED
                     .checked_add(system.len())?
                     .checked_add(2 * bytes.len())
             }
             OutLine::Unread { system, .. } => MOST_FIXED.checked_add(system.len()),
-            OutLine::Listed { bytes, .. } => MOST_FIXED.checked_add(2 * bytes.len()),
+            OutLine::Listed { site, bytes, .. } => {
+                MOST_FIXED
+                    .checked_add(site.switch.len())?
+                    .checked_add(2 * bytes.len())
+            }
             OutLine::Remark { word, .. } => MOST_FIXED.checked_add(word.len()),
             OutLine::Refused { word, .. } => MOST_FIXED.checked_add(word.len()),
             OutLine::Denied { line } => MOST_FIXED.checked_add(line.len()),
@@ -151,15 +159,33 @@ impl OutLine<'_> {
         ensures text { take result room.new ≡ take at room.old ++ line_text self.now }
     {
         match self {
-            OutLine::Verdict { n, side, reason } => put_verdict(room, at, *n, *side, *reason),
-            OutLine::Lost { n, side, port } => put_loss(room, at, *n, *side, *port),
+            OutLine::Verdict { n, site, reason } => {
+                if site.switch.is_empty() {
+                    put_verdict(room, at, *n, site.side, *reason)
+                } else {
+                    put_verdict(room, at, *n, *site, *reason)
+                }
+            }
+            OutLine::Lost { n, site, port } => {
+                if site.switch.is_empty() {
+                    put_loss(room, at, *n, site.side, *port)
+                } else {
+                    put_loss(room, at, *n, *site, *port)
+                }
+            }
             OutLine::Left {
                 n,
                 time,
-                side,
+                site,
                 port,
                 too_old,
-            } => kept.put_departure(room, at, *n, *time, *side, *port, *too_old),
+            } => {
+                if site.switch.is_empty() {
+                    kept.put_departure(room, at, *n, *time, site.side, *port, *too_old)
+                } else {
+                    kept.put_departure(room, at, *n, *time, *site, *port, *too_old)
+                }
+            }
             OutLine::Message {
                 time,
                 system,
@@ -175,10 +201,16 @@ impl OutLine<'_> {
             OutLine::Listed {
                 kind,
                 time,
-                side,
+                site,
                 port,
                 bytes,
-            } => kept.put_listed(room, at, *kind, *time, *side, *port, bytes),
+            } => {
+                if site.switch.is_empty() {
+                    kept.put_listed(room, at, *kind, *time, site.side, *port, bytes)
+                } else {
+                    kept.put_listed(room, at, *kind, *time, *site, *port, bytes)
+                }
+            }
             OutLine::Remark { word, n } => put_remark(room, at, word, *n),
             OutLine::Refused { n, word } => put_refusal(room, at, *n, word),
             OutLine::Bounds {

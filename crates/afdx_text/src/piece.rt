@@ -4,11 +4,9 @@
 
 ghost use Rattle.std.specs.Prelude.{◌≡◌, ◌≤◌, ◌+◌, ◌*◌, ◌++◌, length, take, decimal};
 ghost use Rattle.hex.specs.Hex.{encode_lower};
-ghost use Rattle.afdx_text.specs.OutLines.{side_text};
 
 use crate::digits::encode_at;
 use crate::numeral::MOST_DIGITS;
-use afdx_frame::Side;
 use std::simd::prelude::*;
 
 /// Puts a literal piece. Where its length is known to the compiler, it is one store or two.
@@ -115,19 +113,6 @@ pub(crate) fn put_front(room: &mut [u8], at: usize, bytes: &[u8], size: usize) -
 {
     u8x32::from_slice(bytes).copy_to_slice(&mut room[at..]);
     at + size
-}
-
-/// Puts the letter of a side, between spaces.
-#[inline(always)]
-pub(crate) fn put_side(room: &mut [u8], at: usize, side: Side) -> usize
-    requires { at + 1 ≤ length room.old }
-    ensures ends { result ≡ at + 1 }
-    ensures text { take result room.new ≡ take at room.old ++ side_text side }
-{
-    match side {
-        Side::A => put(room, at, b"A"),
-        Side::B => put(room, at, b"B"),
-    }
 }
 
 /// Puts a number in decimal digits.

@@ -152,6 +152,21 @@ each link that goes there, in the order of the file:
 
 bound is that of the link's priority at the port, latency its own, both in ns.
 
+CONFIG may describe several switches a side. A line 'S SWITCH' then stands before the
+lines of each one's ports, also of those with a neighbour. Behind all of them comes for
+each link and each system that it goes to
+
+  E vl system ns     the latencies on its way there, in ns, '-' where it is broken
+
+A1 to A7 have the switch's name behind them, as in 'no A2 aft 3 254'. There are five
+more, of links between switches, whose numbers are in us:
+
+  B1 switch vl            the link comes there from a neighbour that sends it
+  B2 switch vl            its gap, lengths and policing are as at the switch before
+  B3 switch vl needed     its jitter covers jitter and latency at the one before
+  B4 switch vl needed     to a system its skew is at least all latencies on its way
+  B5 switch vl neighbour  each neighbour that it goes to has a row of it
+
 A closed pipe, as with '| head', is the fault 'device Write', status 4.
 
 Example:
@@ -173,7 +188,7 @@ fn check_command<'a>(alloc: Global) -> Result<Command<'a>, AllocError> {
     command(alloc, "check", CHECK_ABOUT, CHECK_AFTER).args(words)
 }
 
-const REPLAY_ABOUT: &str = "Replays a list of frames through both switches to the systems";
+const REPLAY_ABOUT: &str = "Replays a list of frames through the switches to the systems";
 
 const REPLAY_AFTER: &str = "\
 A line is printed for each event, in the order of time:
@@ -198,6 +213,11 @@ B, and both are read at once. n is then a number of the side's own recording; in
 line, of that of the D line before it. --interface K=A.. is about interface K of the
 first, K=B.. of the second, K=- of both.
 
+CONFIG may describe several switches a side. The name of one then stands behind each
+side, in LIST and in all lines, as in 'V 1 A fwd accept': a place of two words. What
+leaves at a port with a cable arrives at its other end at that time, before the frames
+of LIST, with the same n. No recording is read then, and no second LIST.
+
 A closed pipe, as with '| head', is the fault 'device Write', status 4.
 
 Example:
@@ -206,7 +226,7 @@ Example:
 const FREELY_HELP: &str = "Replays also in tables that are not admitted";
 
 const EARLY_HELP: &str = "Prints on standard error, for each frame that was dropped as over-rate, \
-'early n NS': it came NS ns too early";
+'early n NS': it came NS ns too early; of several switches 'early n side SWITCH NS'";
 
 fn replay_command<'a>(alloc: Global) -> Result<Command<'a>, AllocError> {
     let words = vec![in alloc;
@@ -249,7 +269,8 @@ for each network; they are lines of a list that 'replay' reads:
   S5   64 messages of the sub-VL are not yet released
 
 Before a message is handed over, all frames are printed that end by its time; at
-the end the others. The tables of CONFIG have to be admitted, as 'check' says.
+the end the others. The tables of CONFIG have to be admitted, as 'check' says. Of
+several switches the name of the system's switch stands behind A and B.
 
 A closed pipe, as with '| head', is the fault 'device Write', status 4.
 
@@ -340,9 +361,9 @@ const EXPLAIN_AFTER: &str = "\
 TEXT is a line that the program printed, as it was printed: a fault on standard
 error, the line of --summary, a line of 'check', 'list', 'replay', 'police' or
 'send'. Or it is a word of such a line: 'accept', why a frame was dropped, a line of
-admission, why a message was refused, one of the letters B, D, F, L, M, m, P, R and T,
-or the name of a fault, as 'OutOfRange'. With a text that is none of these the line is
-'words UnknownText' and the status 2.
+admission, why a message was refused, one of the letters B, D, E, F, L, M, m, P, R, S
+and T, or the name of a fault, as 'OutOfRange'. With a text that is none of these the
+line is 'words UnknownText' and the status 2.
 
 With --list each word and each form of a line is printed with what it means: the
 name of its list and the word, then the text, then an empty line. The lists are

@@ -94,6 +94,7 @@ fn heading(time: u64, side: Side, seal: Seal) -> Heading {
     Heading {
         time,
         side,
+        switch: 0,
         port: 24,
         seal,
     }

@@ -3,7 +3,7 @@
 use crate::text::put;
 use afdx_frame::Side;
 use afdx_lists::{FrameKind, LineError, LineFault, read_frame_line};
-use afdx_text::{OutLine, Text};
+use afdx_text::{OutLine, Site, Text};
 use std::alloc::{AllocError, Global};
 use std::test::Fail;
 
@@ -21,7 +21,7 @@ fn put_frame(text: &mut Text, bytes: &[u8]) -> Result<(), AllocError> {
     let line = OutLine::Listed {
         kind: FrameKind::Raw,
         time: 5,
-        side: Side::A,
+        site: Site::on(Side::A),
         port: 1,
         bytes,
     };

@@ -13,7 +13,8 @@ pub use Rattle.afdx_text.specs.OutLines.{side_text, verdict_text, verdict_line}
 -- each arrival's line has the verdict on it after those before it
 unfoldable pub text_of : Rule → List Arrival → List ℕ
 text_of rule [] = []
-text_of rule (x ∷ past) = text_of rule past ++ verdict_line x.tag x.side (verdict_in rule past x)
+text_of rule (x ∷ past) =
+    text_of rule past ++ verdict_line x.tag (side_text x.side) (verdict_in rule past x)
 
 -- how many of the arrivals have such a verdict
 unfoldable pub count_judged : (Option Reason → Bool) → Rule → List Arrival → ℕ

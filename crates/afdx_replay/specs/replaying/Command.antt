@@ -1,32 +1,43 @@
--- What the command `replay` does.
-use Rattle.std.specs.Prelude.{ℕ, ◌≡◌, ◌⊎◌, Bool, true, List, Option, Result, IfSome}
-use Rattle.afdx_config.specs.Admission.{IsAdmitted}
-use Rattle.afdx_config.specs.Reading.{Spells}
-use Rattle.afdx_config.specs.Rows.{Rows}
-use Rattle.afdx_lists.specs.declared.fault.RunFault.{RunFault}
-use Rattle.afdx_lists.specs.declared.watched.Watched.{Watched}
-use Rattle.afdx_replay.specs.replaying.PromisedRun.{PromisedAnswers}
-use Rattle.afdx_commands.specs.Refusals.{RefusesConfig, RefusesTables, WantsMemory}
-use Rattle.afdx_replay.specs.replaying.Replayed.{Answers}
+-- What the command `replay` does, whatever its configuration describes.
+use Rattle.std.specs.Prelude.{ℕ, ◌≡◌, Bool, true, List, Option, Result, IfSome}
+use Rattle.afdx_commands.specs.Checking.{IsAdmittedFile, IsRead}
 use Rattle.afdx_commands.specs.declared.summary.Summary.{Summary}
+use Rattle.afdx_config.specs.Rows.{Rows}
+use Rattle.afdx_config.specs.Switches.{NamedRows}
+use Rattle.afdx_config.specs.declared.describing.Described.{Described}
+use Rattle.afdx_config.specs.declared.describing.Described.TheVariants.{One, Several}
+use Rattle.afdx_lists.specs.declared.fault.RunFault.{RunFault}
+use Rattle.afdx_replay.specs.cascading.Ran as cascade
+use Rattle.afdx_replay.specs.replaying.PromisedRun.{PromisedAnswers}
+use Rattle.afdx_replay.specs.replaying.Replayed.{Answers}
 
--- A list is replayed in the tables that the configuration spells, which are admitted if that is
--- asked for. Where the list's bytes are known, what is written is what goes with this answer; and
--- if admission is asked for, it is as promised.
+-- this is so of the one switch of each side that a file describes, or this of the several
+abbrev pub OfOneOr : (one : Rows → Type 0) → (several : List NamedRows → Type 0) → Described → Type 0
+OfOneOr one several (One t) = one t
+OfOneOr one several (Several switches) = several switches
+
+-- what is answered and written for a list of these bytes
+abbrev pub FileAnswers : Described → List ℕ → (rest old new : Option (List ℕ)) →
+    Result Summary RunFault → Type 0
+FileAnswers d bytes rest old new answer =
+    OfOneOr (λ t. Answers t bytes rest old new answer)
+    (λ switches. cascade.Answers switches bytes rest old new answer) d
+
+-- of one switch on a side that is admitted it is as promised; what is promised of several is
+-- in their answers
+abbrev pub FilePromises : Described → List ℕ → (rest old new : Option (List ℕ)) →
+    Result Summary RunFault → Type 0
+FilePromises d bytes rest old new answer =
+    OfOneOr (λ t. PromisedAnswers t bytes rest old new answer) (λ switches. Unit {0}) d
+
+-- A list is replayed by what the configuration describes, which is admitted if that is asked for.
+-- Where the list's bytes are known, what is written is what goes with this answer; and if admission
+-- is asked for, it is as promised.
 pub record Replays (config : List ℕ) (admission : Bool) (list rest old new : Option (List ℕ))
     (answer : Result Summary RunFault) : Type 0 where
-  pub tables : Rows
-  pub spelled : Spells config tables
-  pub admitted : admission ≡ true → IsAdmitted tables
-  pub answers : IfSome list (λ bytes. Answers tables bytes rest old new answer)
+  pub described : Described
+  pub read : IsRead config described
+  pub admitted : admission ≡ true → IsAdmittedFile described
+  pub answers : IfSome list (λ bytes. FileAnswers described bytes rest old new answer)
   pub promised : admission ≡ true →
-      IfSome list (λ bytes. PromisedAnswers tables bytes rest old new answer)
-
--- nothing is replayed, and the error output is told why: the configuration has a fault, or its
--- tables are not admitted and that is asked for, or memory was refused
-abbrev pub IsNotReplayed : {E : Type 0} → (E → Option (List ℕ)) → List ℕ → Bool →
-    (old_errors new_errors : Watched E) → ℕ → Type 0
-IsNotReplayed error_bytes config admission old_errors new_errors status =
-    RefusesConfig error_bytes old_errors new_errors config status
-    ⊎ ((admission ≡ true) × RefusesTables error_bytes old_errors new_errors config status)
-    ⊎ WantsMemory error_bytes old_errors new_errors status
+      IfSome list (λ bytes. FilePromises described bytes rest old new answer)

@@ -11,13 +11,14 @@ use Rattle.afdx_lists.specs.FrameLines.{ListedFrame}
 use Rattle.afdx_end_systems.specs.Receptions.{name_of, answer_line}
 use Rattle.afdx_engine.specs.Listed.{arrival_at, arrivals_of, said_after}
 use Rattle.afdx_replay.specs.policing.Text.{verdict_line}
+use Rattle.afdx_text.specs.OutLines.{side_text}
 use Rattle.afdx_replay.specs.replaying.Text.{departure_line, replay_text, replay_counts}
 
 -- a line as it is written: `V n side ..`, `D n time side port`, and `M time system vl hex` or
 -- `X time system n WORD`
 abbrev pub line_text : Rows → Line → List ℕ
-line_text t (Verdict v) = verdict_line v.arrival.tag v.arrival.side v.reason
-line_text t (Departed d) = departure_line false d.frame.tag d.time d.side d.port
+line_text t (Verdict v) = verdict_line v.arrival.tag (side_text v.arrival.side) v.reason
+line_text t (Departed d) = departure_line false d.frame.tag d.time (side_text d.side) d.port
 line_text t (Received d system answer) = answer_line d.time d.frame.tag (name_of t system) answer
 
 -- so no line tells of a loss or of a frame that is too old

@@ -15,10 +15,15 @@ use Rattle.afdx_network.specs.Network as network
 use Rattle.afdx_network.specs.declared.network.Network.{Network}
 use Rattle.afdx_engine.specs.Listed.{AreSound, arrivals_of}
 use Rattle.afdx_commands.specs.Counts.{with_lines}
-use Rattle.afdx_replay.specs.replaying.Text.{replay_text, replay_counts, frames_left, lines_after}
+use Rattle.afdx_replay.specs.replaying.Text.{replay_text, replay_counts, frames_left, lines_at}
+use Rattle.afdx_replay.specs.replaying.Text.{with_event}
 use Rattle.afdx_engine.specs.Stops.{StopsAt}
 use Rattle.afdx_replay.specs.declared.replaying.run.Replay.{Replay}
 use Rattle.afdx_commands.specs.declared.summary.Summary.{Summary}
+
+-- the greatest count of a run that may still grow
+abbrev pub most_counted : ℕ
+most_counted = 4611686018427387904
 
 -- the bytes of a device, where they are known
 abbrev pub Known : Type 0
@@ -80,14 +85,23 @@ pub record ToldAll
   pub counted : counts ≡ replay_counts t (events_of t past)
   pub written : Appends old new (replay_text t (events_of t past))
 
--- a departure that comes after these is told: its frame came to its system, it is counted, and its
--- lines are written
+-- a departure at the switch of this name, that comes after these there, is told: its frame came to
+-- its system, it is counted, and its lines are written
 pub record TellsDeparture
-    (t : Rows) (s : Systems) (counts : Summary) (before : List Event) (d : Departure)
-    (old new : Known) : Type 0 where
+    (name : List ℕ) (t : Rows) (s : Systems) (old_counts counts : Summary) (before : List Event)
+    (d : Departure) (old new : Known) : Type 0 where
   pub systems_are : systems.StandsFor t s (frames_left (Left d ∷ before))
-  pub counted : counts ≡ replay_counts t (Left d ∷ before)
-  pub written : Appends old new (lines_after t before (Left d))
+  pub counted : counts ≡ with_event t before (Left d) old_counts
+  pub written : Appends old new (lines_at name t before (Left d))
+
+-- counts that can grow
+pub record AreLow (counts : Summary) : Type 0 where
+  pub accepted : counts.accepted ≤ most_counted
+  pub dropped : counts.dropped ≤ most_counted
+  pub lost : counts.lost ≤ most_counted
+  pub departed : counts.departed ≤ most_counted
+  pub too_old : counts.too_old ≤ most_counted
+  pub delivered : counts.delivered ≤ most_counted
 
 -- there is room for more counts: n arrivals came, and so many frames are held
 pub record HasRoom (counts : Summary) (held n : ℕ) : Type 0 where

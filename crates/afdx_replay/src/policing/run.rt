@@ -15,11 +15,11 @@ ghost use Rattle.afdx_replay.specs.policing.Accounts.{AreUntil, HaveSeen};
 ghost use Rattle.afdx_replay.specs.policing.Policed.{Answers};
 
 use afdx_commands::{NO_COUNTS, Summary};
-use afdx_engine::{Machine, run_list};
+use afdx_engine::{FrameLines, Machine, run_list};
 use afdx_frame::BySide;
 use afdx_lists::{Heading, RunFault, Watched};
 use afdx_police::{LinkAccount, LinkRule, Reason};
-use afdx_text::{AtOnce, OutLine, Sink, Text};
+use afdx_text::{AtOnce, OutLine, Sink, Site, Text};
 use std::alloc::Global;
 use std::io::{Read, Write};
 
@@ -91,6 +91,8 @@ impl Machine<Heading> for Police {
 
     ghost Rules = { Rule };
 
+    ghost Can = { λ rules item. Unit {0} };
+
     ghost Told = { TellsItems };
 
     ghost Begins = { λ rules police old new past. BeginsItems rules old new past };
@@ -111,7 +113,7 @@ impl Machine<Heading> for Police {
         self.dropped = count_if(self.dropped, !is_accepted);
         let line = OutLine::Verdict {
             n,
-            side: heading.side,
+            site: Site::on(heading.side),
             reason,
         };
         output.put(&line)?;
@@ -152,7 +154,7 @@ pub fn run_police<R: Read, W: Write>(
     let mut text = Text::new(alloc);
     let mut output = AtOnce::new(output, &mut text);
     let mut police = Police::new(rule);
-    let lines = run_list(alloc, &mut police, input, &mut output)?;
+    let lines = run_list(alloc, FrameLines, &mut police, input, &mut output)?;
     Ok(Summary {
         lines,
         accepted: police.accepted,

@@ -1,25 +1,57 @@
 //! The command `replay`.
 
-ghost use Rattle.std.specs.Prelude.{◌≡◌, ◌≤◌, ◌+◌, ◌⊎◌, Result, false};
+ghost use Rattle.std.specs.Prelude.{◌≡◌, ◌≤◌, ◌+◌, ◌⊎◌, Result, IfSome, OnOk, true, false};
 ghost use Rattle.afdx_lists.specs.Lines.{most_reads};
 ghost use Rattle.afdx_lists.specs.Watching.{calls_of, device_of, has_ended, has_failed};
 ghost use Rattle.afdx_lists.specs.declared.fault.RunFault.{RunFault};
 ghost use Rattle.afdx_commands.specs.Commands.{EndsAs, IsFourIfFailed, IsInputStatus, IsWholeIfDone};
 ghost use Rattle.afdx_commands.specs.declared.summary.Summary.{Summary};
-ghost use Rattle.afdx_replay.specs.replaying.Command.{IsNotReplayed, Replays};
+ghost use Rattle.afdx_commands.specs.Taking.{described_of, IsNotTaken};
+ghost use Rattle.afdx_lists.specs.Calls.{is_failed_read, is_failed_write};
+ghost use Rattle.afdx_replay.specs.replaying.Command.{FileAnswers, Replays};
 ghost use Rattle.afdx_commands.specs.declared.ending.Ended.{Ended as End};
 
+use crate::cascading::unadmitted::run_cascade_unadmitted;
 use crate::replaying::run::run_unadmitted;
-use crate::replaying::tables::take_tables;
-use afdx_commands::end;
-use afdx_lists::Watched;
+use afdx_commands::{Summary, Taken, end, take_file};
+use afdx_lists::{RunFault, Watched};
 use std::alloc::Global;
 use std::io::{Read, Write};
 
-/// Replays a list of frames in the tables of a configuration: the lines of all events go to
-/// `output`, a fault's one line to `errors`.
+/// Replays a list of frames by what was taken of a configuration.
+fn run_taken<R: Read, W: Write>(
+    alloc: Global,
+    taken: &Taken,
+    input: &mut Watched<R>,
+    output: &mut Watched<W>,
+) -> Result<Summary, RunFault>
+    requires sound_input { has_failed input.old ≡ false }
+    requires unended { has_ended input.old ≡ false }
+    requires sound_output { has_failed output.old ≡ false }
+    ensures ended { OnOk result (has_ended input.new ≡ true) }
+    ensures read { has_failed input.new ≡ is_failed_read result }
+    ensures write { has_failed output.new ≡ is_failed_write result }
+    ensures calls { calls_of input.new ≤ calls_of input.old + most_reads }
+    ensures answer { IfSome (R.remaining (device_of input.old)) (λ bytes.
+        FileAnswers (described_of taken.now) bytes (R.remaining (device_of input.new))
+        (W.contents (device_of output.old)) (W.contents (device_of output.new)) result) }
+{
+    match taken {
+        Taken::OneAdmitted(admitted) => run_unadmitted(alloc, admitted.tables(), input, output),
+        Taken::OneUnasked(tables) => run_unadmitted(alloc, tables, input, output),
+        Taken::SeveralAdmitted(admitted) => {
+            run_cascade_unadmitted(alloc, admitted.switches(), input, output)
+        }
+        Taken::SeveralUnasked(switches) => {
+            run_cascade_unadmitted(alloc, switches, input, output)
+        }
+    }
+}
+
+/// Replays a list of frames by a configuration, which describes one switch on a side or several:
+/// the lines of all events go to `output`, a fault's one line to `errors`.
 ///
-/// With `admission` the tables have to be admitted. The exit status is 0 done, 1 a fault of
+/// With `admission` what it describes has to be admitted. The exit status is 0 done, 1 a fault of
 /// the configuration or tables that are not admitted, 3 a fault of the list, 4 a device or memory.
 pub fn replay<R: Read, O: Write, E: Write>(
     alloc: Global,
@@ -43,13 +75,13 @@ pub fn replay<R: Read, O: Write, E: Write>(
         × Replays config.now admission (R.remaining (device_of input.old))
         (R.remaining (device_of input.new)) (O.contents (device_of output.old))
         (O.contents (device_of output.new)) answer)
-        ⊎ (IsNotReplayed E.contents config.now admission errors.old errors.new ended.status
+        ⊎ (IsNotTaken E.contents config.now admission errors.old errors.new ended.status
         × (input.new ≡ input.old) × (output.new ≡ output.old))) }
 {
-    let taken = match take_tables(alloc, admission, config, errors) {
+    let taken = match take_file(alloc, admission, config, errors) {
         Ok(taken) => taken,
         Err(status) => return status,
     };
-    let answer = run_unadmitted(alloc, taken.tables(), input, output);
+    let answer = run_taken(alloc, &taken, input, output);
     end(answer, errors).status
 }

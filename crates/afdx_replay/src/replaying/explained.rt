@@ -30,7 +30,7 @@ pub(crate) struct Explaining<D> {
 }
 
 /// Whether a frame was dropped for its link's rate.
-fn is_over_rate(reason: Option<Reason>) -> bool
+pub(crate) fn is_over_rate(reason: Option<Reason>) -> bool
     ensures { result ≡ over_rate reason }
 {
     match reason {
@@ -85,6 +85,8 @@ impl<D: Write> Machine<Heading> for Explaining<D> {
     ghost use Rattle.afdx_replay.specs.replaying.Early.{ExplainsItems, ExplainsSome, ExplainsAll};
 
     ghost Rules = { Rows × Option (Device D) };
+
+    ghost Can = { λ rules item. Unit {0} };
 
     ghost Told = { λ rules all old new past.
         ExplainsItems D.contents rules all.replay all.early old new past };

@@ -1,27 +1,69 @@
 //! The command `replay`, whatever gives it its arrivals.
 
-ghost use Rattle.std.specs.Prelude.{◌≡◌, ◌||◌, ◌⊎◌, ◌↔◌, Result, IsSome, IfSome, None, false, true};
+ghost use Rattle.std.specs.Prelude.{◌≡◌, ◌||◌, ◌⊎◌, ◌↔◌, Result, IsSome, IfSome, OnOk, None, false, true};
 ghost use Rattle.afdx_lists.specs.declared.fault.RunFault.{RunFault};
 ghost use Rattle.afdx_recorded.specs.Claims.{ports_of_senders};
 ghost use Rattle.afdx_commands.specs.Commands.{IsInputStatus};
 ghost use Rattle.afdx_replay.specs.Inputs.{EndsInputAs};
-ghost use Rattle.afdx_replay.specs.replaying.Command.{IsNotReplayed};
+ghost use Rattle.afdx_commands.specs.Taking.{described_of, IsNotTaken};
+ghost use Rattle.afdx_lists.specs.Calls.{is_failed_read, is_failed_write};
+ghost use Rattle.afdx_replay.specs.cascading.Input as cascade;
+ghost use Rattle.afdx_replay.specs.replaying.Command.{OfOneOr};
 ghost use Rattle.afdx_replay.specs.replaying.Input.{Hears, Replays, RunsIn};
 ghost use Rattle.afdx_replay.specs.declared.input_ending.InputSummary.{InputSummary};
 
-use crate::input_ending::{InputEnded, end_input};
+use crate::cascading::over::{SitedInput, replay_sited};
+use crate::input_ending::{InputEnded, InputSummary, end_input};
 use crate::replaying::over::replay_over;
-use crate::replaying::tables::take_tables;
-use afdx_inputs::Arrivals;
-use afdx_lists::Watched;
+use afdx_commands::{Taken, take_file};
+use afdx_lists::{RunFault, Watched};
 use afdx_text::Sink;
 use std::alloc::Global;
 use std::io::Write;
 
-/// Replays an input in the tables of a configuration: a list of frames or a recording (`Watched` of
-/// `Peeked`, with `RecordingOptions`), or two recordings that are read at once, of network A and of
-/// network B (`BySide` of `Watched`, with `PairOptions`). The lines of all events go to `output`, a
-/// fault's one line to `errors`. It also gives what the run counted.
+/// Replays an input by what was taken of a configuration, and tells `early`.
+fn replay_taken<P: Drop, A: SitedInput<P>, O: Sink, D: Write + Drop>(
+    alloc: Global,
+    options: P,
+    taken: &Taken,
+    input: &mut A,
+    output: &mut O,
+    early: Option<Watched<D>>,
+) -> (Result<InputSummary, RunFault>, Option<Watched<D>>)
+    requires new { A.IsNew input.old }
+    requires sound_output { O.failed output.old ≡ false }
+    ensures ended { OnOk result.0 (A.ended input.new) }
+    ensures read { A.failed input.new ≡ is_failed_read result.0 }
+    ensures write { O.failed output.new ≡ is_failed_write result.0 }
+    ensures calls { A.IsAskedFew options input.old input.new }
+    ensures replays { OfOneOr (λ t. IfSome (A.known input.old) (λ bytes.
+        Replays t (A.Takes options (ports_of_senders t.systems) bytes input.new)
+        (λ past count. Hears t past count D.contents early result.1)
+        (O.written output.old) (O.written output.new) result.0))
+        (λ switches. cascade.Replays D.contents switches
+        (λ sites done told begins count. A.Answers options sites done told begins input.old
+        input.new count) early result.1 (O.written output.old) (O.written output.new) result.0)
+        (described_of taken.now) }
+{
+    match taken {
+        Taken::OneAdmitted(admitted) => {
+            replay_over(alloc, options, admitted.tables(), input, output, early)
+        }
+        Taken::OneUnasked(tables) => replay_over(alloc, options, tables, input, output, early),
+        Taken::SeveralAdmitted(admitted) => {
+            replay_sited(alloc, options, admitted.switches(), input, output, early)
+        }
+        Taken::SeveralUnasked(switches) => {
+            replay_sited(alloc, options, switches, input, output, early)
+        }
+    }
+}
+
+/// Replays an input by a configuration, which describes one switch on a side or several: a list
+/// of frames or a recording (`Watched` of `Peeked`, with `RecordingOptions`), or two recordings
+/// that are read at once, of network A and of network B (`BySide` of `Watched`, with
+/// `PairOptions`). The lines of all events go to `output`, a fault's one line to `errors`. It
+/// also gives what the run counted.
 ///
 /// Nothing of the input is read before the tables are taken. Of one input the first four bytes are
 /// looked at then, in at most four reads: it is a recording if it begins as one; if an option of
@@ -33,7 +75,7 @@ use std::io::Write;
 ///
 /// The exit status is 0 done, 1 a fault of the configuration or tables that are not admitted, 3 a
 /// fault of the list or a recording, 4 a device or memory.
-pub fn replay_input<P: Drop, A: Arrivals<P>, O: Sink, E: Write, D: Write + Drop>(
+pub fn replay_input<P: Drop, A: SitedInput<P>, O: Sink, E: Write, D: Write + Drop>(
     alloc: Global,
     admission: bool,
     options: P,
@@ -63,18 +105,20 @@ pub fn replay_input<P: Drop, A: Arrivals<P>, O: Sink, E: Write, D: Write + Drop>
         × RunsIn config.now admission (λ t. IfSome (A.known input.old) (λ bytes.
         Replays t (A.Takes options (ports_of_senders t.systems) bytes input.new)
         (λ past count. Hears t past count D.contents early result.1)
-        (O.written output.old) (O.written output.new) answer)))
-        ⊎ (IsNotReplayed E.contents config.now admission errors.old errors.new
+        (O.written output.old) (O.written output.new) answer))
+        (λ switches. cascade.Replays D.contents switches
+        (λ sites done told begins count. A.Answers options sites done told begins input.old
+        input.new count) early result.1 (O.written output.old) (O.written output.new) answer))
+        ⊎ (IsNotTaken E.contents config.now admission errors.old errors.new
         result.0.ended.status × (result.0.tally ≡ None) × (input.new ≡ input.old)
         × (output.new ≡ output.old) × (result.1 ≡ early)) }
 {
     // (a law of the input: before it is asked for anything it hasn't failed)
     A::starts();
-    let taken = match take_tables(alloc, admission, config, errors) {
+    let taken = match take_file(alloc, admission, config, errors) {
         Ok(taken) => taken,
         Err(status) => return (InputEnded::without_counts(status), early),
     };
-    let tables = taken.tables();
-    let (answer, early) = replay_over(alloc, options, tables, input, output, early);
+    let (answer, early) = replay_taken(alloc, options, &taken, input, output, early);
     (end_input(answer, errors), early)
 }

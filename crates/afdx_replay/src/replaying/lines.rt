@@ -13,15 +13,16 @@ ghost use Rattle.afdx_network.specs.Network.{reason_in, ports_in, lost_in};
 ghost use Rattle.afdx_switch.specs.Departures.{as_given, giving_port};
 ghost use Rattle.afdx_replay.specs.policing.Text.{verdict_line};
 ghost use Rattle.afdx_replay.specs.replaying.Text.{loss_lines, departure_line, has_message};
+ghost use Rattle.afdx_text.specs.OutLines.{place_text, site_text};
 
 use afdx_end_systems::{Handover, Systems};
-use afdx_frame::{LAST_PORT, Side};
+use afdx_frame::LAST_PORT;
 use afdx_lists::RunFault;
 use afdx_network::Departed;
 use afdx_police::Reason;
 use afdx_receive::Reception;
 use afdx_switch::{PortSet, Verdict};
-use afdx_text::{OutLine, Sink};
+use afdx_text::{OutLine, Sink, Site};
 
 /// Why the frame was dropped, if it was.
 pub(crate) fn reason_of(verdict: &Verdict) -> Option<Reason>
@@ -34,15 +35,20 @@ pub(crate) fn reason_of(verdict: &Verdict) -> Option<Reason>
 }
 
 /// Puts the lines of the copies that were lost, port by port, and counts them.
-fn put_losses<O: Sink>(output: &mut O, n: u64, side: Side, lost: &PortSet) -> Result<u64, RunFault>
+fn put_losses<O: Sink>(
+    output: &mut O,
+    n: u64,
+    site: Site<'_>,
+    lost: &PortSet,
+) -> Result<u64, RunFault>
     requires sound { O.failed output.old ≡ false }
     ensures failed { O.failed output.new ≡ is_failed_write result }
     ensures fault { IfErr result IsOfOutput }
     ensures settings { O.settings output.new ≡ O.settings output.old }
     ensures lines { OnOk result (Appends (O.written output.old) (O.written output.new)
-        (loss_lines n side (ports_in lost.now))) }
+        (loss_lines n (site_text site.entry) (ports_in lost.now))) }
     ensures front { OnErr result (AppendsFront (O.written output.old) (O.written output.new)
-        (loss_lines n side (ports_in lost.now))) }
+        (loss_lines n (site_text site.entry) (ports_in lost.now))) }
     ensures count { IfOk result (λ count. count ≡ length (ports_in lost.now)) }
     ensures few { IfOk result (λ count. count ≤ last_port) }
 {
@@ -54,7 +60,7 @@ fn put_losses<O: Sink>(output: &mut O, n: u64, side: Side, lost: &PortSet) -> Re
     for place in 0..LAST_PORT {
         let port = place + 1;
         if lost.holds(port) {
-            output.put(&OutLine::Lost { n, side, port })?;
+            output.put(&OutLine::Lost { n, site, port })?;
             count += 1;
         }
     }
@@ -65,7 +71,7 @@ fn put_losses<O: Sink>(output: &mut O, n: u64, side: Side, lost: &PortSet) -> Re
 pub(crate) fn put_admission<O: Sink>(
     output: &mut O,
     n: u64,
-    side: Side,
+    site: Site<'_>,
     verdict: &Verdict,
 ) -> Result<u64, RunFault>
     requires sound { O.failed output.old ≡ false }
@@ -73,40 +79,49 @@ pub(crate) fn put_admission<O: Sink>(
     ensures fault { IfErr result IsOfOutput }
     ensures settings { O.settings output.new ≡ O.settings output.old }
     ensures lines { OnOk result (Appends (O.written output.old) (O.written output.new)
-        (verdict_line n side (reason_in verdict.now) ++ loss_lines n side (lost_in verdict.now))) }
+        (verdict_line n (site_text site.entry) (reason_in verdict.now)
+        ++ loss_lines n (site_text site.entry) (lost_in verdict.now))) }
     ensures front { OnErr result (AppendsFront (O.written output.old) (O.written output.new)
-        (verdict_line n side (reason_in verdict.now) ++ loss_lines n side (lost_in verdict.now))) }
+        (verdict_line n (site_text site.entry) (reason_in verdict.now)
+        ++ loss_lines n (site_text site.entry) (lost_in verdict.now))) }
     ensures count { IfOk result (λ count. count ≡ length (lost_in verdict.now)) }
     ensures few { IfOk result (λ count. count ≤ last_port) }
 {
     let reason = reason_of(verdict);
-    output.put(&OutLine::Verdict { n, side, reason })?;
+    output.put(&OutLine::Verdict { n, site, reason })?;
     match verdict {
-        Verdict::Accepted { lost } => put_losses(output, n, side, lost),
+        Verdict::Accepted { lost } => put_losses(output, n, site, lost),
         Verdict::Dropped(_) => Ok(0),
     }
 }
 
-/// Puts the D or T line of a departure.
+/// Puts the D or T line of a departure at the switch of this name.
 #[inline(always)]
-pub(crate) fn put_departure<O: Sink>(output: &mut O, departed: &Departed) -> Result<(), RunFault>
+pub(crate) fn put_departure<O: Sink>(
+    output: &mut O,
+    switch: &str,
+    departed: &Departed,
+) -> Result<(), RunFault>
     requires sound { O.failed output.old ≡ false }
     ensures failed { O.failed output.new ≡ is_failed_write result }
     ensures fault { IfErr result IsOfOutput }
     ensures settings { O.settings output.new ≡ O.settings output.old }
     ensures line { let left = as_given departed.now.departure in
         OnOk result (Appends (O.written output.old) (O.written output.new)
-        (departure_line left.too_old left.item.tag left.end departed.now.side
-        (giving_port departed.now.departure))) }
+        (departure_line left.too_old left.item.tag left.end
+        (place_text departed.now.side switch.now) (giving_port departed.now.departure))) }
     ensures front { let left = as_given departed.now.departure in
         OnErr result (AppendsFront (O.written output.old) (O.written output.new)
-        (departure_line left.too_old left.item.tag left.end departed.now.side
-        (giving_port departed.now.departure))) }
+        (departure_line left.too_old left.item.tag left.end
+        (place_text departed.now.side switch.now) (giving_port departed.now.departure))) }
 {
     let line = OutLine::Left {
         n: departed.departure.tag(),
         time: departed.departure.time(),
-        side: departed.side,
+        site: Site {
+            side: departed.side,
+            switch,
+        },
         port: departed.departure.port(),
         too_old: departed.departure.too_old(),
     };

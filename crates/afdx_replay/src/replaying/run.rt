@@ -23,15 +23,15 @@ ghost use Rattle.afdx_text.specs.Sinks.{IsOfOutput};
 ghost use Rattle.afdx_switch.specs.Verdicts.{reason_of as reason_after};
 ghost use Rattle.afdx_replay.specs.replaying.Text.{replay_counts, frames_left, lines_after, with_admission};
 
-use crate::replaying::lines::{Heard, hear, put_admission, put_departure, reason_of};
+use crate::replaying::telling::{tell_departure, tell_verdict};
 use afdx_commands::{NO_COUNTS, Summary};
 use afdx_config::Tables;
-use afdx_end_systems::{Handover, Systems};
-use afdx_engine::{Machine, run_list};
+use afdx_end_systems::Systems;
+use afdx_engine::{FrameLines, Machine, run_list};
 use afdx_lists::{Heading, RunFault, Watched};
-use afdx_network::{Departed, Network};
+use afdx_network::Network;
 use afdx_police::Reason;
-use afdx_text::{AtOnce, Sink, Text};
+use afdx_text::{AtOnce, Sink, Site, Text};
 use std::alloc::{AllocError, Global};
 use std::io::{Read, Write};
 
@@ -53,23 +53,6 @@ impl Drop for Replay {
     }
 }
 
-/// Counts an arrival, and the copies that it lost.
-fn count_admission(counts: &mut Summary, reason: Option<Reason>, lost: u64)
-    requires room { (n held : ℕ) × (n < most_frames) × HasRoom counts.old held n }
-    requires few { lost ≤ last_port }
-    ensures counted { counts.new ≡ with_admission counts.old reason lost }
-    ensures room { (n held : ℕ) →
-        HasRoom counts.old held n → HasRoom counts.new (held + last_port) (n + 1) }
-{
-    match reason {
-        None => {
-            counts.accepted += 1;
-            counts.lost += lost;
-        }
-        Some(_) => counts.dropped += 1,
-    }
-}
-
 impl Replay {
     ghost use Rattle.afdx_replay.specs.replaying.Replayed.{Tells, TellsMore, TellsArrivals, HasRoomFor};
     ghost use Rattle.afdx_replay.specs.replaying.Told.{TellsItems};
@@ -86,52 +69,6 @@ impl Replay {
             systems,
             counts: NO_COUNTS,
         })
-    }
-
-    /// Tells a departure: hands its frame over to the port's system if it left, and counts it.
-    fn tell_departure<O: Sink>(
-        &mut self,
-        departed: &Departed,
-        output: &mut O,
-    ) -> Result<(), RunFault>
-        requires room { (n held : ℕ) × (n ≤ most_frames) × HasRoom self.old.counts (held + 1) n }
-        requires sound { O.failed output.old ≡ false }
-        ensures failed { O.failed output.new ≡ is_failed_write result }
-        ensures fault { IfErr result IsOfOutput }
-        ensures settings { O.settings output.new ≡ O.settings output.old }
-        ensures network { self.new.network ≡ self.old.network }
-        ensures room { (n held : ℕ) →
-            HasRoom self.old.counts (held + 1) n → OnOk result (HasRoom self.new.counts held n) }
-        ensures told { (t : Rows) (before : List Event) (d : Departure) →
-            systems.StandsFor t self.old.systems (frames_left before) →
-            network.Hands departed.now d → self.old.counts ≡ replay_counts t before →
-            OnOk result (TellsDeparture t self.new.systems self.new.counts before d
-            (O.written output.old) (O.written output.new)) }
-        ensures begun { (t : Rows) (before : List Event) (d : Departure) →
-            systems.StandsFor t self.old.systems (frames_left before) →
-            network.Hands departed.now d →
-            OnErr result (AppendsFront (O.written output.old) (O.written output.new)
-            (lines_after t before (Left d))) }
-    {
-        put_departure(output, departed)?;
-        let departure = &departed.departure;
-        if departure.too_old() {
-            self.counts.too_old += 1;
-            return Ok(());
-        }
-        let handover = Handover {
-            side: departed.side,
-            port: departure.port(),
-            time: departure.time(),
-            line: departure.tag(),
-            frame: departure.frame(),
-        };
-        self.counts.departed += 1;
-        match hear(&mut self.systems, handover, output)? {
-            Heard::Message => self.counts.delivered += 1,
-            Heard::Nothing => {}
-        }
-        Ok(())
     }
 
     /// Tells what leaves by `until`.
@@ -163,7 +100,7 @@ impl Replay {
             (O.written output.new) (arrivals_in events)) }
     {
         while let Some(departed) = self.network.take(until) {
-            self.tell_departure(&departed, output)?;
+            tell_departure(&mut self.systems, &mut self.counts, "", &departed, output)?;
         }
         Ok(())
     }
@@ -205,9 +142,7 @@ impl Replay {
         let (side, time, port) = (heading.side, heading.time, heading.port);
         let frame = heading.frame(message);
         let verdict = self.network.arrive(side, time, port, n, frame)?;
-        let lost = put_admission(output, n, side, &verdict)?;
-        let reason = reason_of(&verdict);
-        count_admission(&mut self.counts, reason, lost);
+        let reason = tell_verdict(&mut self.counts, n, Site::on(side), &verdict, output)?;
         Ok(reason)
     }
 }
@@ -216,6 +151,8 @@ impl Machine<Heading> for Replay {
     ghost use Rattle.afdx_replay.specs.replaying.Told.{TellsItems, BeginsItems, TellsAll};
 
     ghost Rules = { Rows };
+
+    ghost Can = { λ rules item. Unit {0} };
 
     ghost Told = { TellsItems };
 
@@ -278,7 +215,7 @@ pub fn run_unadmitted<R: Read, W: Write>(
     let mut text = Text::new(alloc);
     let mut output = AtOnce::new(output, &mut text);
     let mut replay = Replay::new(alloc, tables)?;
-    let lines = run_list(alloc, &mut replay, input, &mut output)?;
+    let lines = run_list(alloc, FrameLines, &mut replay, input, &mut output)?;
     let mut summary = replay.counts;
     summary.lines = lines;
     Ok(summary)

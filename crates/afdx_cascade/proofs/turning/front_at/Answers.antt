@@ -16,4 +16,8 @@ returns-clause-arrives c p at r rest so_far plan st are =
       time_is = c.time-time.ensures ∙ ap (λ (l : Left HeldFrame). l.end) parts.0.left;
       tag = c.tag-tag.ensures ∙ ap (λ (l : Left HeldFrame). l.item.tag) parts.0.left;
       verdict = c.in_ok-verdict.ensures.verdict p at r rest so_far st parts.0.side parts.0.left;
+      early = c.early_by-early.ensures p so_far r
+          (c.in_ok-verdict.ensures.stands p at r rest so_far plan st parts.0.to parts.0.side parts.0.left).all
+          parts.0.side parts.0.left
+          (c.in_ok-verdict.ensures.verdict p at r rest so_far st parts.0.side parts.0.left);
     }

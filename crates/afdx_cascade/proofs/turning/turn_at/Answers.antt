@@ -1,7 +1,8 @@
-use Rattle.std.proofs.Common.{◌≡◌, ◌∙◌, refl, ◌+◌, ◌*◌, ap, sym, inl, inr, arith}
+use Rattle.std.proofs.Common.{false, Some, ◌≡◌, ◌∙◌, refl, ◌+◌, ◌*◌, ap, sym, inl, inr, arith}
 use Rattle.std.specs.Prelude.{slice_get}
 use Rattle.afdx_port.specs.declared.left.Left.{Left}
 use Rattle.afdx_switch.specs.HeldFrames.{HeldFrame}
+use Rattle.afdx_cascade.specs.SwitchEvents.{end_at}
 use Rattle.afdx_cascade.specs.Turning.{end_of, entry_in}
 use Rattle.afdx_cascade.proofs.turning.turn_at.Goals as goal
 use Rattle.afdx_cascade.proofs.TurningLemmas.{turns-ended, turns-carried}
@@ -60,6 +61,12 @@ returns-in-Some c = record {
       let g = c.in_ok-departed.ensures.gives p at ring so_far plan st in
       let port : c.port-port.result ≡ g.departure.port = c.port-port.ensures ∙ g.hands.port in
       let k = c.args.switch in
+      let left : g.departure.turn.too_old ≡ false = sym (ap (λ (l : Left HeldFrame). l.too_old) g.hands.left)
+      ∙ sym c.too_old.ensures ∙ c.if-too_old.false in
+      let cable : p.far_end k g.departure.port ≡ Some (end_at c.in-Some.to.switch.0 c.in-Some.to.port) =
+      ends k g.departure.port g.next.port_last
+      ∙ ap (λ n. end_of (entry_in (slice_get c.args.ends.now (k * 25 + n)))) (sym port)
+      ∙ ap end_of (sym c.far_end.ensures ∙ c.in-Some.is) in
       turns-carried p c.take_at.new.networks c.args.transit.now.items at ring so_far c.args.switch c.args.until
       c.in_ok-departed.departed g transit
       (record {
@@ -77,18 +84,17 @@ returns-in-Some c = record {
       })
       c.push_back_reserved.new.self.items
       (record {
+        left = left;
+        cable = (end_at c.in-Some.to.switch.0 c.in-Some.to.port, cable);
         side = g.hands.side;
         port = port;
         time = c.time-time.ensures ∙ ap (λ (l : Left HeldFrame). l.end) g.hands.left;
         tag = c.tag.ensures ∙ ap (λ (l : Left HeldFrame). l.item.tag) g.hands.left;
       })
       refl
-      (sym (ap (λ (l : Left HeldFrame). l.too_old) g.hands.left) ∙ sym c.too_old.ensures
-      ∙ c.if-too_old.false)
+      left
       (let t = c.time-time.ensures ∙ ap (λ (l : Left HeldFrame). l.end) g.hands.left in
       let soon = c.if-time-gt-LATEST_ARRIVAL.false in omega (arith, t, soon))
-      (ends k g.departure.port g.next.port_last
-      ∙ ap (λ n. end_of (entry_in (slice_get c.args.ends.now (k * 25 + n)))) (sym port)
-      ∙ ap end_of (sym c.far_end.ensures ∙ c.in-Some.is))
+      cable
       c.push_back_reserved.ensures.items;
 }

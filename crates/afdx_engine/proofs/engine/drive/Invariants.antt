@@ -1,5 +1,5 @@
 use Rattle.std.proofs.Common.{◌≡◌, [], List, false}
-use Rattle.afdx_engine.specs.Engine.{Item}
+use Rattle.afdx_engine.specs.Engine.{CanTell, Item}
 use Rattle.afdx_engine.proofs.engine.drive.Given as goal
 
 abbrev pub invariant-loop-source : goal.invariant-loop-source
@@ -11,6 +11,7 @@ invariant-loop-source g l =
     × (g.O.Sink.settings l.output ≡ g.O.Sink.settings l.fn.output)
     × ((rules : g.M.Machine.Rules) →
     g.M.Machine.Told rules l.fn.machine (g.O.Sink.written l.fn.output) (g.O.Sink.written l.fn.output) [] →
+    CanTell (g.S.Source.Gives (g.S.Source.settings l.fn.source)) (g.M.Machine.Can rules) →
     g.M.Machine.Told rules l.machine (g.O.Sink.written l.fn.output) (g.O.Sink.written l.output) past)
 
 abbrev pub decreases-loop-source : goal.decreases-loop-source

@@ -14,7 +14,7 @@ returns-then-look-clause-calls g c =
     c.look.ensures.left c.look.ensures.calls
 
 pub returns-then-look-clause-answer : goal.returns-then-look-clause-answer
-returns-then-look-clause-answer g c law start =
+returns-then-look-clause-answer g c law start can =
     let left = left_in g.R.Read.remaining c.args.input.now.inner in
     let old = g.O.Sink.written c.args.output.now in
     unread-answers (options_of c.args.options) (ports_unsaid c.args.unsaid)
@@ -31,7 +31,7 @@ returns-clause-calls g c =
     c.look.ensures.left (c.look.ensures.first c.if-look.false) c.look.ensures.calls c.run_looked.ensures.calls
 
 pub returns-clause-answer : goal.returns-clause-answer
-returns-clause-answer g c law start =
+returns-clause-answer g c law start can =
     let old = g.O.Sink.written c.args.output.now in
     let new = g.O.Sink.written c.run_looked.new.output in
     let machine = c.run_looked.new.machine in
@@ -41,4 +41,4 @@ returns-clause-answer g c law start =
     (λ (is : Bool) (bytes : List ℕ). InputAnswers (options_of c.args.options, ports_unsaid c.args.unsaid)
     (g.M.Machine.Done law machine old new) (g.M.Machine.Told law machine old new)
     (g.M.Machine.Begins law machine old new) is bytes rest c.run_looked.result)
-    c.look.ensures.left (c.look.ensures.first c.if-look.false) (c.run_looked.ensures.answer law start)
+    c.look.ensures.left (c.look.ensures.first c.if-look.false) (c.run_looked.ensures.answer law start can)

@@ -8,7 +8,7 @@ use Rattle.afdx_inputs.proofs.input_run.run_recorded.Goals as goal
 
 -- there was no memory
 pub returns-in_err-ports-clause-answer : goal.returns-in_err-ports-clause-answer
-returns-in_err-ports-clause-answer g c law start =
+returns-in_err-ports-clause-answer g c law start can =
     let old = g.O.Sink.written c.args.output.now in
     let stop = answers-start (options_of c.args.options) (ports_unsaid c.args.unsaid) arrivals_listed
     (g.M.Machine.Done law c.args.machine.now old old) (g.M.Machine.Told law c.args.machine.now old old)
@@ -17,7 +17,7 @@ returns-in_err-ports-clause-answer g c law start =
     search rules
 
 pub returns-clause-answer : goal.returns-clause-answer
-returns-clause-answer g c law start =
+returns-clause-answer g c law start can =
     let old = g.O.Sink.written c.args.output.now in
     let new = g.O.Sink.written c.run_recording.new.output in
     let machine = c.run_recording.new.machine in
@@ -25,4 +25,4 @@ returns-clause-answer g c law start =
     c.in_ok-ports.ensures (g.M.Machine.Done law machine old new) (g.M.Machine.Told law machine old new)
     (g.M.Machine.Begins law machine old new) (g.R.Read.remaining c.args.input.now.inner)
     (g.R.Read.remaining c.run_recording.new.input.inner) c.run_recording.result
-    (c.run_recording.ensures.answer law start)
+    (c.run_recording.ensures.answer law start can)

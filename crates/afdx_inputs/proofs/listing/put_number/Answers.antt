@@ -1,16 +1,21 @@
 use Rattle.std.proofs.Common.{◌≡◌, ℕ, List, OnErr, refl, sym, subst, ap}
 use Rattle.afdx_lists.specs.Calls.{AppendsFront}
-use Rattle.afdx_text.specs.OutLines.{frame_line, remark_line}
+use Rattle.afdx_text.specs.OutLines.{side_text, frame_line, remark_line}
 use Rattle.afdx_inputs.specs.ListText.{number_text}
 use Rattle.afdx_inputs.proofs.listing.put_number.Goals as goal
 
 pub returns-in-Arrival-clause-front : goal.returns-in-Arrival-clause-front
 returns-in-Arrival-clause-front g c =
     let e : number_text c.args.n c.args.line.now c.args.bytes.now
-    ≡ frame_line c.in-Arrival.kind c.in-Arrival.side c.in-Arrival.port c.in-Arrival.time c.args.bytes.now =
+    ≡ frame_line c.in-Arrival.kind (side_text c.in-Arrival.side) c.in-Arrival.port c.in-Arrival.time
+    c.args.bytes.now =
     rw c.in-Arrival.is refl in
     subst (λ (x : List ℕ). OnErr c.put.result (AppendsFront (g.O.Sink.written c.args.output.now)
-    (g.O.Sink.written c.put.new.self) x)) (sym e) c.put.ensures.front
+    (g.O.Sink.written c.put.new.self) x)) (sym e)
+    (subst (λ (place : List ℕ). OnErr c.put.result (AppendsFront (g.O.Sink.written c.args.output.now)
+    (g.O.Sink.written c.put.new.self)
+    (frame_line c.in-Arrival.kind place c.in-Arrival.port c.in-Arrival.time c.args.bytes.now)))
+    c.on.ensures c.put.ensures.front)
 
 pub returns-in-Skipped-clause-front : goal.returns-in-Skipped-clause-front
 returns-in-Skipped-clause-front g c =

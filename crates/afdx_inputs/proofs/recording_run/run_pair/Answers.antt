@@ -17,7 +17,7 @@ returns-in_err-read_pair-clause-calls_b g c =
 
 -- there was no memory
 pub returns-in_err-read_pair-clause-answer : goal.returns-in_err-read_pair-clause-answer
-returns-in_err-read_pair-clause-answer g c law start =
+returns-in_err-read_pair-clause-answer g c law start can =
     let old = g.O.Sink.written c.args.output.now in
     let stop = pair-unread g.R.Read.remaining c.args.inputs.now c.args.options (ports_unsaid c.args.unsaid)
     arrivals_listed (g.M.Machine.Done law c.args.machine.now old old)
@@ -50,9 +50,9 @@ pub returns-clause-calls_b : goal.returns-clause-calls_b
 returns-clause-calls_b g c = c.run_over.ensures.calls.1 (rw (c.requires.sound_b, c.requires.unended_b) refl)
 
 pub returns-clause-answer : goal.returns-clause-answer
-returns-clause-answer g c law start =
+returns-clause-answer g c law start can =
     let ports = ports_unsaid c.args.unsaid in
     let lines = c.new-arrivals.result.lines in
     let is : IsNewPair c.args.options ports lines = rw c.new-arrivals.ensures c.in_ok-read_pair.ensures in
     two-by c.args.options ports lines is arrivals_listed _ _ _ c.run_over.result
-    g.R.Read.remaining c.args.inputs.now c.run_over.new.input (c.run_over.ensures.answer law start)
+    g.R.Read.remaining c.args.inputs.now c.run_over.new.input (c.run_over.ensures.answer law start can)

@@ -12,7 +12,7 @@ returns-in_err-read_one-clause-calls g c =
 
 -- there was no memory
 pub returns-in_err-read_one-clause-answer : goal.returns-in_err-read_one-clause-answer
-returns-in_err-read_one-clause-answer g c law start =
+returns-in_err-read_one-clause-answer g c law start can =
     let old = g.O.Sink.written c.args.output.now in
     let stop = answers-start (options_of c.args.options) (ports_of c.args.ports) arrivals_listed
     (g.M.Machine.Done law c.args.machine.now old old) (g.M.Machine.Told law c.args.machine.now old old)
@@ -37,9 +37,9 @@ pub returns-clause-calls : goal.returns-clause-calls
 returns-clause-calls g c = c.run_over.ensures.calls (rw (c.requires.sound_input, c.requires.unended) refl)
 
 pub returns-clause-answer : goal.returns-clause-answer
-returns-clause-answer g c law start =
+returns-clause-answer g c law start can =
     let lines = c.new-arrivals.result.lines in
     let is : IsNewOne c.args.options c.args.ports lines = rw c.new-arrivals.ensures c.in_ok-read_one.ensures in
     one-by c.args.options c.args.ports lines is arrivals_listed _ _ _ c.run_over.result
     (g.R.Read.remaining c.args.input.now.inner) (g.R.Read.remaining c.run_over.new.input.inner)
-    (c.run_over.ensures.answer law start)
+    (c.run_over.ensures.answer law start can)

@@ -7,10 +7,11 @@ use Rattle.afdx_engine.proofs.read_list.ReadListSourceWatched.next.Goals as goal
 
 pub returns-in_err-next_line-clause-stop : goal.returns-in_err-next_line-clause-stop
 returns-in_err-next_line-clause-stop g c start past h =
-    let k = g.H.Listed.kind in
-    let gave = c.loop-self.invariant.gave start past h in
+    let k = g.F.LineForm.kind c.loop-self.self.form in
+    let given = c.loop-self.invariant.gave start past h in
+    let gave = given.gave in
     let e : c.from_residual.result ≡ Err c.in_err-next_line.field-0.0 = search rules in
-    rw e (stopped-reader k (thing_of k g.H.Listed.says_of) g.R.Read.remaining start c.loop-self.input
+    rw e (stopped-reader k (thing_of k g.F.LineForm.says_of) g.R.Read.remaining start c.loop-self.input
     c.next_line.new.input c.loop-self.self.reader c.next_line.new.self
     (g.H.Listed.time_of c.loop-self.self.head) past gave
     c.in_err-next_line.field-0.0 c.in_err-next_line.ensures.fault c.in_err-next_line.ensures.failed
@@ -19,7 +20,7 @@ returns-in_err-next_line-clause-stop g c start past h =
 
 pub returns-in-Ok-Some-clause-item : goal.returns-in-Ok-Some-clause-item
 returns-in-Ok-Some-clause-item g c start past h ok =
-    let k = g.H.Listed.kind in
+    let k = g.F.LineForm.kind c.loop-self.self.form in
     let is : c.next_line.result ≡ Ok next.Given = search rules in
     let lines = c.next_line.ensures.lines is in
     let took : TookLine g.R.Read.remaining c.loop-self.self.reader c.loop-self.input c.next_line.new.self
@@ -32,23 +33,28 @@ returns-in-Ok-Some-clause-item g c start past h ok =
       whole = c.next_line.ensures.whole is;
       calls = c.next_line.ensures.calls;
     } in
-    let gave = c.loop-self.invariant.gave start past h in
+    let given = c.loop-self.invariant.gave start past h in
+    let gave = given.gave in
     let early = rw c.in-Ok-Some.field-0-is at c.in-Ok-Some.ensures.time in
     let follows = rw c.in-Ok-Some.field-0-is at c.in-Ok-Some.ensures.follows in
     let x = item_of c.next_line.new.self.lines c.in-Ok-Some.head c.read_line.new.bytes.items in (
-      gave-item k (thing_of k g.H.Listed.says_of) g.R.Read.remaining start c.loop-self.input
-          c.next_line.new.input c.loop-self.self.reader c.next_line.new.self
-          (g.H.Listed.time_of c.loop-self.self.head) past gave took x
-          (g.H.Listed.says_of c.in-Ok-Some.head c.read_line.new.bytes.items) _
-          (rw (c.line.ensures, c.time.ensures, c.in-Ok-Some.field-0-is) at c.in-Ok-Some.ensures.ok) refl
-          (sym (g.met.H.Listed.times _ _ _)) early,
-      follows past c.next_line.new.self.lines (sym gave.latest_is ∙ sym c.time.ensures)
+      record {
+        form = given.form;
+        gave = gave-item k (thing_of k g.F.LineForm.says_of) g.R.Read.remaining start c.loop-self.input
+            c.next_line.new.input c.loop-self.self.reader c.next_line.new.self
+            (g.H.Listed.time_of c.loop-self.self.head) past gave took x
+            (g.F.LineForm.says_of c.in-Ok-Some.head c.read_line.new.bytes.items) _
+            (rw (c.line.ensures, c.time-latest.ensures, c.in-Ok-Some.field-0-is) at c.in-Ok-Some.ensures.ok) refl
+            (sym (g.met.F.LineForm.times _ _ _ _)) early;
+      },
+      follows past c.next_line.new.self.lines (sym gave.latest_is ∙ sym c.time-latest.ensures)
           (omega (arith, gave.fewer, lines.0, lines.1)),
+      (rw c.in-Ok-Some.field-0-is at c.in-Ok-Some.ensures.gives) c.next_line.new.self.lines,
     )
 
 pub loop-self-preserved : goal.loop-self-preserved
 loop-self-preserved g c =
-    let k = g.H.Listed.kind in
+    let k = g.F.LineForm.kind c.loop-self.self.form in
     let is : c.next_line.result ≡ Ok next.Given = search rules in
     let lines = c.next_line.ensures.lines is in
     let took : TookLine g.R.Read.remaining c.loop-self.self.reader c.loop-self.input c.next_line.new.self
@@ -62,17 +68,21 @@ loop-self-preserved g c =
       calls = c.next_line.ensures.calls;
     } in
     record {
-      gave = λ start past h. gave-skip k (thing_of k g.H.Listed.says_of) g.R.Read.remaining start
-          c.loop-self.input c.next_line.new.input c.loop-self.self.reader c.next_line.new.self
-          (g.H.Listed.time_of c.loop-self.self.head) past
-          (c.loop-self.invariant.gave start past h) took
-          (rw (c.line.ensures, c.time.ensures, c.in-Ok-None.field-0-is) at c.in-Ok-None.ensures.ok);
+      gave = λ start past h. record {
+        form = (c.loop-self.invariant.gave start past h).form;
+        gave = gave-skip k (thing_of k g.F.LineForm.says_of) g.R.Read.remaining start
+            c.loop-self.input c.next_line.new.input c.loop-self.self.reader c.next_line.new.self
+            (g.H.Listed.time_of c.loop-self.self.head) past
+            (c.loop-self.invariant.gave start past h).gave took
+            (rw (c.line.ensures, c.time-latest.ensures, c.in-Ok-None.field-0-is) at c.in-Ok-None.ensures.ok);
+      };
+      form = c.loop-self.invariant.form;
       later = omega (arith, lines.0, c.loop-self.invariant.later);
     }
 
 pub returns-in-Err-clause-stop : goal.returns-in-Err-clause-stop
 returns-in-Err-clause-stop g c start past h =
-    let k = g.H.Listed.kind in
+    let k = g.F.LineForm.kind c.loop-self.self.form in
     let is : c.next_line.result ≡ Ok next.Given = search rules in
     let lines = c.next_line.ensures.lines is in
     let took : TookLine g.R.Read.remaining c.loop-self.self.reader c.loop-self.input c.next_line.new.self
@@ -85,9 +95,10 @@ returns-in-Err-clause-stop g c start past h =
       whole = c.next_line.ensures.whole is;
       calls = c.next_line.ensures.calls;
     } in
-    let gave = c.loop-self.invariant.gave start past h in
-    let stopped = stopped-line k (thing_of k g.H.Listed.says_of) g.R.Read.remaining start c.loop-self.input
+    let given = c.loop-self.invariant.gave start past h in
+    let gave = given.gave in
+    let stopped = stopped-line k (thing_of k g.F.LineForm.says_of) g.R.Read.remaining start c.loop-self.input
     c.next_line.new.input c.loop-self.self.reader c.next_line.new.self
     (g.H.Listed.time_of c.loop-self.self.head) past gave took
-    c.in-Err.error (rw (c.line.ensures, c.time.ensures) at c.in-Err.ensures.err) in
+    c.in-Err.error (rw (c.line.ensures, c.time-latest.ensures) at c.in-Err.ensures.err) in
     rw (c.from.ensures, c.lines-n.ensures) stopped

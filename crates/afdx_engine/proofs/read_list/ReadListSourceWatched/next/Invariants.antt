@@ -1,4 +1,4 @@
-use Rattle.std.proofs.Common.{◌≤◌, ◌-◌, List}
+use Rattle.std.proofs.Common.{◌≡◌, ◌≤◌, ◌-◌, List}
 use Rattle.afdx_lists.specs.Lines.{lines_taken, most_lines}
 use Rattle.afdx_lists.specs.declared.watched.Watched.{Watched}
 use Rattle.afdx_engine.specs.Engine.{Item}
@@ -8,9 +8,11 @@ use Rattle.afdx_engine.proofs.read_list.ReadListSourceWatched.next.Given as goal
 abbrev pub invariant-loop-self : goal.invariant-loop-self
 invariant-loop-self g l = record {
   gave : (start : Watched g.row.R.Denot) (past : List (Item g.row.H.Denot)) →
-      HasGiven g.H.Listed.kind g.H.Listed.says_of g.H.Listed.time_of g.R.Read.remaining start
-      l.fn.self l.fn.input past →
-      HasGiven g.H.Listed.kind g.H.Listed.says_of g.H.Listed.time_of g.R.Read.remaining start l.self l.input past;
+      HasGiven g.F.LineForm.IsForm g.F.LineForm.kind g.F.LineForm.says_of g.H.Listed.time_of
+      g.R.Read.remaining start l.fn.self l.fn.input past →
+      HasGiven g.F.LineForm.IsForm g.F.LineForm.kind g.F.LineForm.says_of g.H.Listed.time_of
+      g.R.Read.remaining start l.self l.input past;
+  form : l.self.form ≡ l.fn.self.form;
   later : lines_taken l.fn.self.reader ≤ lines_taken l.self.reader;
 }
 

@@ -6,7 +6,7 @@ use Rattle.afdx_inputs.proofs.TookLemmas.{two-took}
 use Rattle.afdx_inputs.proofs.arrivals.BySideWatchedArrivalsPairOptions.tell_all.Goals as goal
 
 pub returns-in_err-tally-clause-answer : goal.returns-in_err-tally-clause-answer
-returns-in_err-tally-clause-answer g c law start =
+returns-in_err-tally-clause-answer g c law start can =
     let old = g.O.Sink.written c.args.output.now in
     let new = g.O.Sink.written c.run_pair.new.output in
     let machine = c.run_pair.new.machine in
@@ -15,11 +15,11 @@ returns-in_err-tally-clause-answer g c law start =
     (g.M.Machine.Begins law machine old new) (taken_of_pair c.args.options ports)
     (λ a b. AreCutOffInPair c.args.options ports g.R.Read.remaining a b c.run_pair.new.inputs)
     (g.R.Read.remaining (device_of c.args.self.now.a)) (g.R.Read.remaining (device_of c.args.self.now.b))
-    (Err c.in_err-tally.field-0.0) (c.in_err-tally.ensures.answer law start) in
+    (Err c.in_err-tally.field-0.0) (c.in_err-tally.ensures.answer law start can) in
     search rules
 
 pub returns-clause-answer : goal.returns-clause-answer
-returns-clause-answer g c law start =
+returns-clause-answer g c law start can =
     let old = g.O.Sink.written c.args.output.now in
     let new = g.O.Sink.written c.run_pair.new.output in
     let machine = c.run_pair.new.machine in
@@ -28,4 +28,4 @@ returns-clause-answer g c law start =
     (g.M.Machine.Begins law machine old new) (taken_of_pair c.args.options ports)
     (λ a b. AreCutOffInPair c.args.options ports g.R.Read.remaining a b c.run_pair.new.inputs)
     (g.R.Read.remaining (device_of c.args.self.now.a)) (g.R.Read.remaining (device_of c.args.self.now.b))
-    (Ok c.in_ok-tally.tally) (c.in_ok-tally.ensures.answer law start)
+    (Ok c.in_ok-tally.tally) (c.in_ok-tally.ensures.answer law start can)

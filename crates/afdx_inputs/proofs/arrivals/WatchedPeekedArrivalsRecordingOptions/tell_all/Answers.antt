@@ -6,7 +6,7 @@ use Rattle.afdx_inputs.proofs.TookLemmas.{one-took}
 use Rattle.afdx_inputs.proofs.arrivals.WatchedPeekedArrivalsRecordingOptions.tell_all.Goals as goal
 
 pub returns-clause-answer : goal.returns-clause-answer
-returns-clause-answer g c rules start =
+returns-clause-answer g c rules start can =
     let old = g.O.Sink.written c.args.output.now in
     let new = g.O.Sink.written c.run_input.new.output in
     let machine = c.run_input.new.machine in
@@ -14,4 +14,4 @@ returns-clause-answer g c rules start =
     (g.M.Machine.Begins rules machine old new) (options_of c.args.options) (ports_unsaid c.args.unsaid)
     (is_read_recorded c.args.options) (left_in g.R.Read.remaining c.args.self.now.inner)
     (left_in g.R.Read.remaining c.run_input.new.input.inner) c.run_input.result
-    (c.run_input.ensures.answer rules start)
+    (c.run_input.ensures.answer rules start can)

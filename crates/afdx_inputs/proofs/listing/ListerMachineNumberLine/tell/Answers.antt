@@ -11,6 +11,6 @@ returns-in_err-put_number-clause-begins g c laws start past told =
     rw e (inr begun)
 
 pub returns-clause-told : goal.returns-clause-told
-returns-clause-told g c laws start past told follows =
+returns-clause-told g c laws start past told follows can =
     lines-told start (g.O.Sink.written c.args.output.now) (g.O.Sink.written c.put_number.new.output) past
     (item_of c.args.n c.args.head.now c.args.bytes.now) told c.in_ok-put_number.ensures.whole

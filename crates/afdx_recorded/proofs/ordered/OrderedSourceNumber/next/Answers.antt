@@ -16,7 +16,8 @@ loop-self-preserved g c =
 
 pub returns-in-Given-clause-item : goal.returns-in-Given-clause-item
 returns-in-Given-clause-item g c start past h ok =
-    c.read_one.ensures.given start past (c.loop-self.invariant.gave start past h) (search rules)
+    let given = c.read_one.ensures.given start past (c.loop-self.invariant.gave start past h) (search rules) in
+    (given.0, given.1, tt)
 
 pub returns-then-hand_on : goal.returns-then-hand_on
 returns-then-hand_on g c =
@@ -26,7 +27,7 @@ returns-then-hand_on g c =
       item = λ start past h ok.
           let k = drains S.current S.Gave S.Ended S.Stopped start c.loop-self.self c.loop-self.input past
           (c.loop-self.invariant.gave start past h) c.hand_on.new.self c.in_default.not-Reading hands in
-          (k.gave_them, k.follows);
+          (k.gave_them, k.follows, tt);
       end = λ start past h ok. absurd (cc);
       stop = λ start past h. tt;
       unwritten = refl;

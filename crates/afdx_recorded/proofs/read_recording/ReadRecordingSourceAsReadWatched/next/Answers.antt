@@ -129,4 +129,5 @@ returns-clause-item g c start past h ok =
           h k sorted,
       item-follows g.R.Read.remaining start c.args.input.now c.next.new.input old c.next.new.self c.sort.new.self
           (numbers_read past) h k sorted past refl,
+      tt,
     )

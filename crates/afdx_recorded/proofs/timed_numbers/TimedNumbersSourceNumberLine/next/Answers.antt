@@ -34,4 +34,5 @@ returns-clause-item g c start lines h ok =
       },
       clock-follows late_of_one c.args.self.now.clock c.line.new.self h.numbers x lines h.are_timed
           c.line.ensures.said c.in-Some.line early line item.1.order (omega (arith, item.1.few)),
+      tt,
     )

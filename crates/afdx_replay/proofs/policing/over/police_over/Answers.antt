@@ -13,7 +13,7 @@ returns-in_err-count-clause-polices g c =
     c.tell_all.new.self in
     let so = polices-known rule takes c.tell_all.new.machine old (g.O.Sink.written c.tell_all.new.output)
     (g.A.Arrivals.known c.args.input.now) (Err c.in_err-count.field-0.0)
-    (c.in_err-count.ensures.answer rule (c.new-police.ensures old)) in
+    (c.in_err-count.ensures.answer rule (c.new-police.ensures old) (λ item. tt)) in
     search rules
 
 -- the input came to its end
@@ -25,7 +25,8 @@ returns-clause-polices g c =
     c.tell_all.new.self in
     rw c.of.ensures (polices-known rule takes c.tell_all.new.machine old (g.O.Sink.written c.tell_all.new.output)
     (g.A.Arrivals.known c.args.input.now) (Ok c.in_ok-count.count)
-    (c.in_ok-count.ensures.answer rule (c.new-police.ensures old)))
+    (c.in_ok-count.ensures.answer rule (c.new-police.ensures old) (λ item. tt)))
 
 pub tell_all-requires-clause-told : goal.tell_all-requires-clause-told
-tell_all-requires-clause-told g c = (rule_of c.args.rule.now, c.new-police.ensures (g.O.Sink.written c.args.output.now))
+tell_all-requires-clause-told g c =
+    (rule_of c.args.rule.now, c.new-police.ensures (g.O.Sink.written c.args.output.now), λ item. tt)

@@ -1,7 +1,6 @@
-use Rattle.std.proofs.Common.{None, refl, inl, inr}
-use Rattle.afdx_config.proofs.AmongOthersLemmas.{among_others}
-use Rattle.afdx_replay.specs.replaying.Tables.{tables_of}
-use Rattle.afdx_replay.proofs.AdmittedRunLemmas.{if-known}
+use Rattle.std.proofs.Common.{refl, inl, inr, None}
+use Rattle.afdx_commands.specs.Taking.{described_of}
+use Rattle.afdx_replay.proofs.CascadeOverLemmas.{file-promised}
 use Rattle.afdx_replay.proofs.replaying.command.replay.Goals as goal
 
 pub returns-in-Err-clause-replays : goal.returns-in-Err-clause-replays
@@ -13,31 +12,30 @@ returns-in-Err-clause-replays g c = (
 
 pub returns-clause-replays : goal.returns-clause-replays
 returns-clause-replays g c =
-    let t = tables_of c.in-Ok.taken in
-    let answers = rw c.tables.ensures at c.run_unadmitted-answer.ensures.answer in (
+    let answers = c.run_taken-answer.ensures.answer in (
       c.end.result,
       refl,
       inl (
-        c.run_unadmitted-answer.result,
+        c.run_taken-answer.result,
         record {
           status_is = c.end.ensures.status;
           summary_is = c.end.ensures.summary;
           told = rw c.in-Ok.ensures.silent at c.end.ensures.told;
           silent = rw c.in-Ok.ensures.silent at c.end.ensures.silent;
-          ended = c.run_unadmitted-answer.ensures.ended;
-          read = c.run_unadmitted-answer.ensures.read;
-          write = c.run_unadmitted-answer.ensures.write;
+          ended = c.run_taken-answer.ensures.ended;
+          read = c.run_taken-answer.ensures.read;
+          write = c.run_taken-answer.ensures.write;
         },
         record {
-          tables = t;
-          spelled = c.in-Ok.ensures.spelled;
+          described = described_of c.in-Ok.taken;
+          read = c.in-Ok.ensures.read;
           admitted = c.in-Ok.ensures.admitted;
           answers = answers;
-          promised = λ asked. if-known t (g.R.Read.remaining c.args.input.now.inner)
-              (g.R.Read.remaining c.run_unadmitted-answer.new.input.inner)
+          promised = λ asked. file-promised (described_of c.in-Ok.taken)
+              (g.R.Read.remaining c.args.input.now.inner) (g.R.Read.remaining c.run_taken-answer.new.input.inner)
               (g.O.Write.contents c.args.output.now.inner)
-              (g.O.Write.contents c.run_unadmitted-answer.new.output.inner) c.run_unadmitted-answer.result
-              (among_others _ c.in-Ok.ensures.lawful) (c.in-Ok.ensures.admitted asked) answers;
+              (g.O.Write.contents c.run_taken-answer.new.output.inner) c.run_taken-answer.result
+              c.in-Ok.ensures.read.lawful (c.in-Ok.ensures.admitted asked) answers;
         },
       ),
     )

@@ -1,5 +1,5 @@
 use Rattle.std.proofs.Common.{refl, inl, inr}
-use Rattle.afdx_replay.specs.replaying.Tables.{tables_of}
+use Rattle.afdx_commands.specs.Taking.{described_of}
 use Rattle.afdx_replay.proofs.ReplaysLemmas.{ends-in}
 use Rattle.afdx_replay.proofs.replaying.input_command.replay_input.Goals as goal
 
@@ -17,19 +17,18 @@ returns-in-Err-clause-replays g c = inr (
 
 pub returns-clause-replays : goal.returns-clause-replays
 returns-clause-replays g c = inl (
-  c.replay_over-answer.result.0,
-  ends-in g.E.Write.contents (g.A.Input.ended c.replay_over-answer.new.input)
-      (g.A.Input.failed c.replay_over-answer.new.input) (g.O.Sink.failed c.replay_over-answer.new.output)
-      c.args.errors.now c.end_input.new.errors c.end_input.result c.replay_over-answer.result.0
+  c.replay_taken-answer.result.0,
+  ends-in g.E.Write.contents (g.A.Input.ended c.replay_taken-answer.new.input)
+      (g.A.Input.failed c.replay_taken-answer.new.input) (g.O.Sink.failed c.replay_taken-answer.new.output)
+      c.args.errors.now c.end_input.new.errors c.end_input.result c.replay_taken-answer.result.0
       c.end_input.ensures.status c.end_input.ensures.summary c.end_input.ensures.tally
       (rw c.in-Ok.ensures.silent at c.end_input.ensures.told)
-      (rw c.in-Ok.ensures.silent at c.end_input.ensures.silent) c.replay_over-answer.ensures.ended
-      c.replay_over-answer.ensures.read c.replay_over-answer.ensures.write,
+      (rw c.in-Ok.ensures.silent at c.end_input.ensures.silent) c.replay_taken-answer.ensures.ended
+      c.replay_taken-answer.ensures.read c.replay_taken-answer.ensures.write,
   record {
-    tables = tables_of c.in-Ok.taken;
-    spelled = c.in-Ok.ensures.spelled;
-    lawful = c.in-Ok.ensures.lawful;
+    described = described_of c.in-Ok.taken;
+    read = c.in-Ok.ensures.read;
     admitted = c.in-Ok.ensures.admitted;
-    so = rw c.tables-tables.ensures at c.replay_over-answer.ensures.replays;
+    so = c.replay_taken-answer.ensures.replays;
   },
 )

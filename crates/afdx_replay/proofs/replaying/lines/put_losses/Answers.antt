@@ -3,6 +3,7 @@ use Rattle.std.specs.Io.KnownBytes.{Appends}
 use Rattle.std.proofs.KnownBytes.{Appends-nil}
 use Rattle.afdx_network.specs.Network.{ports_in}
 use Rattle.afdx_switch.specs.Ports.{holds}
+use Rattle.afdx_text.specs.OutLines.{site_text}
 use Rattle.afdx_replay.specs.replaying.Text.{loss_lines}
 use Rattle.afdx_text.proofs.OutputLemmas.{on-err}
 use Rattle.afdx_replay.proofs.LossLemmas.{all-below, lines-more, lines-front, count-more, none-in}
@@ -38,7 +39,7 @@ loop-place-preserved g c =
           rw (w.output-is, w.count-is) (record {
             sound = w.in_ok-put.ensures.write;
             settings = w.put.ensures.settings ∙ inv.settings;
-            lines = lines-more c.args.n c.args.side (holds c.args.lost.now) c.loop-place.place true
+            lines = lines-more c.args.n (site_text c.args.site) (holds c.args.lost.now) c.loop-place.place true
                 _ _ _ c.loop-place-test.true is inv.lines w.in_ok-put.ensures.whole;
             count = count-more (holds c.args.lost.now) c.loop-place.place true c.loop-place.count 1 _
                 c.loop-place-test.true is inv.count refl refl;
@@ -50,7 +51,7 @@ loop-place-preserved g c =
           rw (w.output-is, w.count-is) (record {
             sound = inv.sound;
             settings = inv.settings;
-            lines = lines-more c.args.n c.args.side (holds c.args.lost.now) c.loop-place.place false
+            lines = lines-more c.args.n (site_text c.args.site) (holds c.args.lost.now) c.loop-place.place false
                 _ _ _ c.loop-place-test.true is inv.lines (Appends-nil _);
             count = count-more (holds c.args.lost.now) c.loop-place.place false c.loop-place.count 0 _
                 c.loop-place-test.true is inv.count refl same;
@@ -61,7 +62,7 @@ loop-place-preserved g c =
 pub returns-in_err-put-clause-front : goal.returns-in_err-put-clause-front
 returns-in_err-put-clause-front g c =
     on-err c.from_residual.result _
-    (lines-front c.args.n c.args.side c.args.lost.now c.loop-place.place true
+    (lines-front c.args.n (site_text c.args.site) c.args.lost.now c.loop-place.place true
     _ _ _ c.loop-place-test.true (sym c.if-holds.true ∙ c.holds.ensures.held)
     c.loop-place.invariant.lines c.in_err-put.ensures.front)
 
@@ -69,7 +70,7 @@ pub returns-clause-lines : goal.returns-clause-lines
 returns-clause-lines g c =
     let end : c.loop-place.place ≡ 24 = omega arith in
     subst (λ xs. Appends (g.O.Sink.written c.args.output.now) (g.O.Sink.written c.loop-place.output)
-    (loss_lines c.args.n c.args.side xs)) (all-below c.args.lost.now c.loop-place.place end)
+    (loss_lines c.args.n (site_text c.args.site) xs)) (all-below c.args.lost.now c.loop-place.place end)
     c.loop-place.invariant.lines
 
 pub returns-clause-count : goal.returns-clause-count

@@ -24,6 +24,7 @@ tell_all-count-requires-clause-told g c =
     let t = c.args.tables.now in (
       (t, c.args.early),
       (c.in-Ok.ensures (g.O.Sink.written c.args.output.now), hears-start g.D.Write.contents t c.args.early),
+      λ item. tt,
     )
 
 -- the input came to its end
@@ -39,7 +40,7 @@ returns-in-Ok-count-clause-replays g c =
     (λ bytes past answer took. c.orders.ensures c.args.options (ports_of_senders t.systems) bytes ended.self past
     answer took)
     (c.in-Ok-count.ensures.answer (t, c.args.early)
-    (c.in-Ok.ensures old, hears-start g.D.Write.contents t c.args.early)))
+    (c.in-Ok.ensures old, hears-start g.D.Write.contents t c.args.early) (λ item. tt)))
 
 -- it ended with a fault
 pub returns-clause-replays : goal.returns-clause-replays
@@ -54,4 +55,4 @@ returns-clause-replays g c =
     (λ bytes past answer took. c.orders.ensures c.args.options (ports_of_senders t.systems) bytes ended.self past
     answer took)
     (c.in-Err-count.ensures.answer (t, c.args.early)
-    (c.in-Ok.ensures old, hears-start g.D.Write.contents t c.args.early))
+    (c.in-Ok.ensures old, hears-start g.D.Write.contents t c.args.early) (λ item. tt))

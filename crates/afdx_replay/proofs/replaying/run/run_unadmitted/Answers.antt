@@ -18,8 +18,11 @@ returns-in_err-replay-clause-answer g c =
     search rules
 
 pub run_list-requires-clause-told : goal.run_list-requires-clause-told
-run_list-requires-clause-told g c =
-    (c.args.tables.now, c.in_ok-replay.ensures (g.W.Write.contents c.new-output.result.device.now.inner))
+run_list-requires-clause-told g c = (
+  c.args.tables.now,
+  c.in_ok-replay.ensures (g.W.Write.contents c.new-output.result.device.now.inner),
+  λ item gives. tt,
+)
 
 pub returns-in_err-lines-clause-answer : goal.returns-in_err-lines-clause-answer
 returns-in_err-lines-clause-answer g c =
@@ -33,7 +36,7 @@ returns-in_err-lines-clause-answer g c =
     (TellsItems t replay old new) (BeginsItems t old new) (WritesSoFar t old new) (WritesSome t old new)
     (g.R.Read.remaining c.args.input.now.inner) rest c.in_err-lines.field-0.0
     (λ past h. (are-so-far _ _ _ _ _ _ _ h.told, are-some _ _ _ _ _ _ _ h.told)) (λ past h. h)
-    (rw c.new-output.ensures.device at (c.in_err-lines.ensures.answer t (c.in_ok-replay.ensures _))) in
+    (rw c.new-output.ensures.device at (c.in_err-lines.ensures.answer t (c.in_ok-replay.ensures _) (λ item gives. tt))) in
     once-back device (λ w. IfSome (g.R.Read.remaining c.args.input.now.inner) (λ bytes. Answers t bytes rest old
     (g.W.Write.contents w.inner) c.from_residual-in_err-lines.result)) {back = c.output-3-1.given.0} (search rules)
     (search rules)
@@ -52,7 +55,7 @@ returns-clause-answer g c =
     (answers-ok frames (thing_of frames listed_frame) (TellsAll t replay old new) (TellsItems t replay old new)
     (BeginsItems t old new) (ToldAll t replay.counts old new) (g.R.Read.remaining c.args.input.now.inner)
     rest c.in_ok-lines.lines (λ past h. h)
-    (rw c.new-output.ensures.device at (c.in_ok-lines.ensures.answer t (c.in_ok-replay.ensures _))))
+    (rw c.new-output.ensures.device at (c.in_ok-lines.ensures.answer t (c.in_ok-replay.ensures _) (λ item gives. tt))))
     (λ past h. h) refl)
     (search rules)
 

@@ -3,7 +3,7 @@ use Rattle.afdx_engine.specs.Items.{handed}
 use Rattle.afdx_sending.proofs.run.SendingMachineHanded.tell.Goals as goal
 
 pub returns-clause-told : goal.returns-clause-told
-returns-clause-told g c s start past h follows = record {
+returns-clause-told g c s start past h follows can = record {
   told = c.in_ok-tell_submission.ensures.told s start (handed past) h.told;
   early = follows.early;
   clock = omega (arith, c.in_ok-tell_submission.ensures.clock);

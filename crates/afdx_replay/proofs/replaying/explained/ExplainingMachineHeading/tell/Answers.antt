@@ -6,7 +6,7 @@ use Rattle.afdx_replay.proofs.EarlyLemmas.{begun-early}
 use Rattle.afdx_replay.proofs.replaying.explained.ExplainingMachineHeading.tell.Goals as goal
 
 pub returns-clause-told : goal.returns-clause-told
-returns-clause-told g c = λ rules start past h follows.
+returns-clause-told g c = λ rules start past h follows can.
     let t = rules.0 in
     let x = arrival_at c.args.n (listed_frame c.args.heading.now c.args.message.now) in
     let now = c.in_ok-reason.ensures.told t start (arrivals past) h.0.told in (

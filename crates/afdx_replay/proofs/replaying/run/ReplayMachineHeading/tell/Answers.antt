@@ -3,7 +3,7 @@ use Rattle.afdx_engine.specs.Items.{arrivals}
 use Rattle.afdx_replay.proofs.replaying.run.ReplayMachineHeading.tell.Goals as goal
 
 pub returns-clause-told : goal.returns-clause-told
-returns-clause-told g c t start past h follows = record {
+returns-clause-told g c t start past h follows can = record {
   told = c.in_ok-tell_arrival.ensures.told t start (arrivals past) h.told;
   early = follows.in_order.early;
   clock = c.in_ok-tell_arrival.ensures.clock;

@@ -1,0 +1,63 @@
+"""The table that bench/run.py prints: its head, and a row for each run."""
+import statistics
+from typing import NamedTuple, Optional
+
+from measure import Run
+
+HEAD = [
+    "run",
+    "lines",
+    "MB",
+    "seconds",
+    "user seconds",
+    "lines a second",
+    "MB a second",
+    "peak memory",
+    "instructions a line",
+]
+RATIOS = ["instructions to C", "user CPU to C"]
+
+
+class Row(NamedTuple):
+    """What a list took: its runs, and the instructions of a line where they are known."""
+
+    name: str
+    lines: int
+    size: int
+    runs: list[Run]
+    instructions: Optional[float]
+
+    @property
+    def seconds(self):
+        return min(run.seconds for run in self.runs)
+
+    def cells(self):
+        memory = max(run.memory for run in self.runs)
+        return [
+            self.name,
+            f"{self.lines:,}",
+            f"{self.size / 1e6:,.0f}",
+            f"{self.seconds:.2f}",
+            f"{min(run.user for run in self.runs):.2f}",
+            f"{self.lines / self.seconds:,.0f}" if self.seconds else "-",
+            f"{self.size / self.seconds / 1e6:,.0f}" if self.seconds else "-",
+            f"{memory / 1024:.1f} MiB",
+            "-" if self.instructions is None else f"{self.instructions:,.0f}",
+        ]
+
+    def ratios(self, other):
+        """How it compares with another program's row, whose runs took turns with these."""
+        turns = [one.user / two.user for one, two in zip(self.runs, other.runs) if two.user]
+        return [
+            f"{self.instructions / other.instructions:.2f}" if self.instructions else "-",
+            f"{statistics.median(turns):.2f}" if turns else "-",
+        ]
+
+
+def show(cells):
+    print("| " + " | ".join(cells) + " |", flush=True)
+
+
+def head(cells):
+    show(cells)
+    print("|" + "---|" * len(cells))

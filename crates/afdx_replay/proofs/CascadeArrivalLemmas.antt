@@ -1,0 +1,153 @@
+-- What a replay of several switches tells of an arrival more, and of one that came too early.
+use Rattle.std.proofs.Common.{◌≡◌, ℕ, ◌++◌, ◌∷◌, List, [], length, refl, ap, sym, ◌∙◌, subst}
+use Rattle.std.proofs.Common.{append-nil, Option, Some, None, Bool, true, false}
+use Rattle.std.specs.Io.KnownBytes.{Appends}
+use Rattle.afdx_cascade.specs.Cascade.{TellsArrival}
+use Rattle.afdx_cascade.specs.Plans.{plan_of, tables_of}
+use Rattle.afdx_cascade.specs.Runs.{arriving, event_at}
+use Rattle.afdx_cascade.specs.SwitchEvents.{SwitchEvent, came_to}
+use Rattle.afdx_cascade.specs.Turning.{IsWait}
+use Rattle.afdx_cascade.specs.declared.told.Brought.{Brought}
+use Rattle.afdx_config.specs.Switches.{NamedRows}
+use Rattle.afdx_commands.specs.declared.summary.Summary.{Summary}
+use Rattle.afdx_end_systems.specs.declared.systems.Systems.{Systems}
+use Rattle.afdx_frame.specs.declared.link.Side.{Side}
+use Rattle.afdx_lists.specs.Calls.{AppendsFront}
+use Rattle.afdx_lists.specs.declared.watched.Watched.{Watched}
+use Rattle.afdx_network.specs.Events.{Came, Left, Departure, admission_after}
+use Rattle.afdx_network.specs.Network as network
+use Rattle.afdx_police.specs.Verdicts.{is_over_rate}
+use Rattle.afdx_police.specs.declared.shape.Reason.{Reason}
+use Rattle.afdx_switch.specs.Verdicts.{reason_of}
+use Rattle.afdx_text.proofs.TellingLemmas.{Tells-more, Tells-none}
+use Rattle.afdx_text.specs.OutLines.{place_text, verdict_line}
+use Rattle.afdx_text.specs.Telling.{Tells}
+use Rattle.afdx_replay.specs.cascading.Early.{HearsEarly, IsLineOn, TellsEarly, early_line_at}
+use Rattle.afdx_replay.specs.cascading.Text.{event_lines, name_of}
+use Rattle.afdx_replay.specs.cascading.Told.{SystemsAre, TellsOne}
+use Rattle.afdx_replay.specs.replaying.Replayed.{Known}
+use Rattle.afdx_replay.specs.replaying.Text.{loss_lines, with_admission}
+use Rattle.afdx_replay.proofs.CascadeEventLemmas.{systems-kept}
+use Rattle.afdx_replay.proofs.ReplayLemmas.{lines-told}
+
+-- the lines of a verdict, and of the copies that it lost, at a place
+abbrev pub told_lines : ℕ → Side → (name : List ℕ) → Option Reason → (lost : List ℕ) → List ℕ
+told_lines n side name reason lost =
+    verdict_line n (place_text side name) reason ++ loss_lines n (place_text side name) lost
+
+module _ (s : List NamedRows) (before : List SwitchEvent) (b : Brought) (h : SwitchEvent)
+    (tells : TellsArrival (plan_of s) before b h) where
+  -- its lines, by the name of its switch
+  lines-are : (name : List ℕ) → name ≡ name_of s b.switch
+      → told_lines b.tag b.side name (network.reason_in b.verdict) (network.lost_in b.verdict)
+      ≡ event_lines s before (arriving (plan_of s) before b.switch tells.arrival)
+  lines-are name named =
+      ap (λ n. told_lines n b.side name (network.reason_in b.verdict) (network.lost_in b.verdict)) tells.tag
+      ∙ ap (λ z. told_lines tells.arrival.tag z name (network.reason_in b.verdict) (network.lost_in b.verdict))
+      tells.side
+      ∙ ap (λ n. told_lines tells.arrival.tag tells.arrival.side n (network.reason_in b.verdict)
+      (network.lost_in b.verdict)) named
+      ∙ lines-told (name_of s b.switch) b.verdict
+      (admission_after (tables_of s b.switch) (came_to b.switch before) tells.arrival) tells.verdict
+
+  -- an arrival is told
+  pub told-arrival : (all : List Systems) (name : List ℕ) (old counts : Summary) (x y : Known)
+      → name ≡ name_of s b.switch → SystemsAre s all before
+      → counts ≡ with_admission old (network.reason_in b.verdict) (length (network.lost_in b.verdict))
+      → Appends x y (told_lines b.tag b.side name (network.reason_in b.verdict) (network.lost_in b.verdict))
+      → TellsOne s all old counts x y before h
+  told-arrival all name old counts x y named are more written =
+      subst (λ e. TellsOne s all old counts x y before e) (sym tells.is) (record {
+        systems_are = systems-kept s all b.switch before are
+            (Came (admission_after (tables_of s b.switch) (came_to b.switch before) tells.arrival)) (λ es. refl);
+        counted = more
+            ∙ ap (λ r. with_admission old r (length (network.lost_in b.verdict))) tells.verdict.reason
+            ∙ ap (λ (l : List ℕ). with_admission old (reason_of (tables_of s b.switch) (came_to b.switch before)
+            tells.arrival) (length l)) tells.verdict.lost;
+        written = subst (λ (l : List ℕ). Appends x y l) (lines-are name named) written;
+      })
+
+  pub begun-arrival : (name : List ℕ) (x y : Known) → name ≡ name_of s b.switch
+      → AppendsFront x y (told_lines b.tag b.side name (network.reason_in b.verdict) (network.lost_in b.verdict))
+      → AppendsFront x y (event_lines s before h)
+  begun-arrival name x y named written =
+      subst (λ e. AppendsFront x y (event_lines s before e)) (sym tells.is)
+      (subst (λ (l : List ℕ). AppendsFront x y l) (lines-are name named) written)
+
+  module _ {D : Type 0} (contents : D → Option (List ℕ)) (reason : Option Reason)
+      (is : reason ≡ network.reason_in b.verdict) where
+    over-is : (over : Bool) → is_over_rate reason ≡ over
+        → is_over_rate (reason_of (tables_of s b.switch) (came_to b.switch before) tells.arrival) ≡ over
+    over-is over e = sym (ap is_over_rate (is ∙ tells.verdict.reason)) ∙ e
+
+    more : (first drops after : Watched D) (over : Bool) (line : List ℕ) → is_over_rate reason ≡ over
+        → IsLineOn s b.switch before
+        (admission_after (tables_of s b.switch) (came_to b.switch before) tells.arrival) over line
+        → Tells contents drops after line → TellsEarly contents s first drops before
+        → TellsEarly contents s first after (h ∷ before)
+    more first drops after over line e on told was =
+        subst (λ g. TellsEarly contents s first after (g ∷ before)) (sym tells.is) (record {
+          text = was.text ++ line;
+          lines = record {
+            before = was.text;
+            line = line;
+            are_before = was.lines;
+            is = subst (λ (o : Bool). IsLineOn s b.switch before
+                (admission_after (tables_of s b.switch) (came_to b.switch before) tells.arrival) o line)
+                (sym (over-is over e)) on;
+            whole = refl;
+          };
+          told = Tells-more contents first drops after was.text line was.told told;
+        })
+
+    -- it was dropped for its link's rate
+    pub heard-early : (name : List ℕ) (start : Option (Watched D)) (drops after : Watched D)
+        → name ≡ name_of s b.switch → is_over_rate reason ≡ true
+        → Tells contents drops after (early_line_at b.tag (place_text b.side name) b.early)
+        → HearsEarly contents s start (Some drops) before → HearsEarly contents s start (Some after) (h ∷ before)
+    heard-early name None drops after named over told was = was
+    heard-early name (Some first) drops after named over told was =
+        more first drops after true (early_line_at b.tag (place_text b.side name) b.early) over (
+          b.early,
+          subst (λ (o : Bool). IsWait o (tables_of s b.switch) (came_to b.switch before) tells.arrival b.early)
+              (over-is true over) tells.early,
+          ap (λ n. early_line_at n (place_text b.side name) b.early) tells.tag
+              ∙ ap (λ z. early_line_at tells.arrival.tag (place_text z name) b.early) tells.side
+              ∙ ap (λ n. early_line_at tells.arrival.tag (place_text tells.arrival.side n) b.early) named,
+        ) told was
+
+    -- or wasn't
+    pub heard-same : (start : Option (Watched D)) (drops : Watched D) → is_over_rate reason ≡ false
+        → HearsEarly contents s start (Some drops) before → HearsEarly contents s start (Some drops) (h ∷ before)
+    heard-same None drops over was = was
+    heard-same (Some first) drops over was =
+        more first drops drops false [] over refl (Tells-none contents drops) was
+
+module _ (s : List NamedRows) (before : List SwitchEvent) (h : SwitchEvent) where
+  -- there is nobody to tell
+  pub heard-none : {D : Type 0} (contents : D → Option (List ℕ)) (start early : Option (Watched D))
+      → ((drops : Watched D) → early ≡ Some drops → ⊥)
+      → HearsEarly contents s start early before → HearsEarly contents s start early (h ∷ before)
+  heard-none contents None None none was = was
+  heard-none contents (Some first) None none was = was
+  heard-none contents start (Some drops) none was = absurd (none drops refl)
+
+  -- of a departure nothing is told
+  pub heard-left : (k : ℕ) (d : Departure) → h ≡ event_at k (Left d) → {D : Type 0} (contents : D → Option (List ℕ))
+      (start early : Option (Watched D)) → HearsEarly contents s start early before
+      → HearsEarly contents s start early (h ∷ before)
+  heard-left k d is contents None None was = was
+  heard-left k d is contents (Some first) None was = was
+  heard-left k d is contents None (Some drops) was = was
+  heard-left k d is contents (Some first) (Some drops) was =
+      subst (λ e. TellsEarly contents s first drops (e ∷ before)) (sym is) (record {
+        text = was.text;
+        lines = record {
+          before = was.text;
+          line = [];
+          are_before = was.lines;
+          is = refl;
+          whole = sym (append-nil was.text);
+        };
+        told = was.told;
+      })

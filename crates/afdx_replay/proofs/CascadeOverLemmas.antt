@@ -1,0 +1,393 @@
+-- How a list of several switches is read: the switches that its lines name, and what is told of it.
+use Rattle.std.proofs.Common.{◌≡◌, ℕ, ◌+◌, ◌≤◌, ◌<◌, List, [], ◌∷◌, length, map, refl, ◌∙◌, ap, ap₂, sym, subst, arith}
+use Rattle.std.proofs.Common.{◌⊎◌, ◌||◌, Bool, true, false, true≢false, inl, inr, take, Vec, Global, Option, Some, None}
+use Rattle.std.proofs.Common.{Result, Ok, Err, IfOk, IfSome, is_some, get_or}
+use Rattle.std.specs.Prelude.{slice_get}
+use Rattle.std.specs.Option.{option_map_or}
+use Rattle.std.specs.Io.KnownBytes.{Keeps}
+use Rattle.std.proofs.KnownBytes.{Appends-nil, Consumes-nil}
+use Rattle.std.proofs.lemmas.List.FromFn.{length-map-range_with_len, get_or-map-range_with_len}
+use Rattle.std.proofs.lemmas.Option.{slice_get-get_or}
+use Rattle.afdx_config.proofs.AmongOthersLemmas.{among_others}
+use Rattle.afdx_config.specs.Files.{IsLawfulFile}
+use Rattle.afdx_config.specs.Switches.{NamedRows, far_end}
+use Rattle.afdx_config.specs.declared.describing.Described.{Described}
+use Rattle.afdx_config.specs.declared.describing.Described.TheVariants.{One, Several}
+use Rattle.afdx_config.specs.declared.switches.FarEnd.{FarEnd}
+use Rattle.afdx_cascade.specs.Cascade as cascade
+use Rattle.afdx_cascade.specs.Turning.{end_of}
+use Rattle.afdx_cascade.specs.declared.cascade.Cascade.{Cascade}
+use Rattle.afdx_commands.specs.Checking.{IsAdmittedFile}
+use Rattle.afdx_commands.specs.Counts.{with_lines}
+use Rattle.afdx_commands.specs.declared.summary.Summary.{Summary}
+use Rattle.afdx_end_systems.specs.declared.systems.Systems.{Systems}
+use Rattle.afdx_frame.specs.Ports.{last_port}
+use Rattle.afdx_frame.specs.Seals.{IsSealedAs}
+use Rattle.afdx_frame.specs.Times.{latest_listed}
+use Rattle.afdx_engine.specs.Engine.{CanTell, Item, item_of}
+use Rattle.afdx_engine.specs.Items.{CanFollow, thing_of}
+use Rattle.afdx_engine.specs.ListRun.{IsDone, ListAnswers, Of}
+use Rattle.afdx_engine.specs.Listed.{frames}
+use Rattle.afdx_engine.specs.Lists.{latest_in}
+use Rattle.afdx_engine.proofs.ListRunLemmas.{answers-err, answers-ok, start-answers}
+use Rattle.afdx_engine.proofs.RunLemmas.{items_of-none, stops-at-start, stops-more}
+use Rattle.afdx_inputs.specs.InputRun.{is_read_recorded, is_recorded}
+use Rattle.afdx_inputs.specs.declared.input_run.InputCount.{InputCount}
+use Rattle.afdx_inputs.specs.declared.input_run.InputCount.TheVariants.{Lines, Recorded}
+use Rattle.afdx_inputs.proofs.LookLemmas.{looked-kept}
+use Rattle.afdx_lists.specs.FrameLines.{listed_frame}
+use Rattle.afdx_lists.specs.Lines.{GaveWhole, lines_of, most_lines, whole_lines_of}
+use Rattle.afdx_lists.specs.Peeking.{looked_at}
+use Rattle.afdx_lists.specs.SitedLines.{NamedCables, is_cable_at, sited_frame}
+use Rattle.afdx_lists.specs.declared.fault.RunFault.{RunFault}
+use Rattle.afdx_lists.specs.declared.fault.RunFault.TheVariants as run
+use Rattle.afdx_lists.specs.declared.frame_line.Heading.{Heading}
+use Rattle.afdx_lists.specs.declared.watched.Watched.{Watched}
+use Rattle.afdx_recordings.specs.Beginning.{is_recording}
+use Rattle.afdx_recorded.specs.declared.becoming.RecordingOptions.{RecordingOptions}
+use Rattle.afdx_text.proofs.OutputLemmas.{whole_front}
+use Rattle.afdx_text.proofs.TellingLemmas.{Tells-none}
+use Rattle.afdx_replay.specs.Inputs.{answer_of}
+use Rattle.afdx_replay.specs.cascading.Early.{HearsEarly}
+use Rattle.afdx_replay.specs.cascading.Input.{Answering, IsToldAs, ListIsTold, Replays, TellsReplay}
+use Rattle.afdx_replay.specs.cascading.Items.{BeginsItems, TellsAll, TellsItems}
+use Rattle.afdx_replay.specs.cascading.Ran.{Answers, HearsSoFar, WritesAll, WritesList, WritesSoFar, WritesSome, lists}
+use Rattle.afdx_replay.specs.cascading.Sited.{IsAtPlace, IsAtSite, cables_of, has_cable, lines_in, site_of, sited_frames}
+use Rattle.afdx_replay.specs.cascading.Sited.{sites_of}
+use Rattle.afdx_replay.specs.cascading.Text.{cascade_text, name_of}
+use Rattle.afdx_replay.specs.cascading.Told.{AreSteady, HasTold, SystemsAre, latest_line}
+use Rattle.afdx_replay.specs.declared.cascading.run.Cascading.{Cascading}
+use Rattle.afdx_replay.specs.declared.cascading.teller.Teller.{Teller}
+use Rattle.afdx_replay.specs.replaying.Replayed.{Known}
+use Rattle.afdx_replay.specs.replaying.Command.{FileAnswers, FilePromises}
+use Rattle.afdx_replay.proofs.AdmittedRunLemmas.{if-known}
+use Rattle.afdx_replay.proofs.CascadeRunLemmas.{told-some, told-so-far}
+
+-- ---- the lines of a list
+
+pub same-site : (site : NamedCables) (ss : List NamedRows) (k : ℕ) → site.name ≡ name_of ss k
+    → site.cables ≡ cables_of ss k → site ≡ site_of ss k
+same-site site ss k name cables =
+    let named : List ℕ → List Bool → NamedCables = λ n c. record { name = n; cables = c } in
+    ap₂ named name cables
+
+module _ (sites : List NamedCables) where
+  same-latest : (past : List (Item Heading)) → latest_in frames (map (thing_of frames listed_frame) past)
+      ≡ latest_in (sited_frames sites) (map (thing_of (sited_frames sites) sited_frame) past)
+  same-latest [] = refl
+  same-latest (x ∷ past) = refl
+
+  -- a frame that a line says may come after others
+  abbrev MayFollow : ℕ → List ℕ → Heading → Type 0
+  MayFollow latest bytes h = (past : List (Item Heading)) (n : ℕ) →
+      latest_in (sited_frames sites) (map (thing_of (sited_frames sites) sited_frame) past) ≡ latest →
+      length past < most_lines → CanFollow past (item_of n h bytes)
+
+  pub may-follow : {E : Type 0} (r : Result (Option Heading) E) (latest : ℕ) (bytes : List ℕ)
+      → IfOk r (λ head. IfSome head (λ h. h.time ≤ latest_listed))
+      → IfOk r (λ head. IfSome head (λ h. latest ≤ h.time))
+      → IfOk r (λ head. IfSome head (λ h. IsSealedAs h.seal bytes))
+      → IfOk r (λ head. IfSome head (MayFollow latest bytes))
+  may-follow (Ok (Some h)) latest bytes early order sealed = λ past n is few. record {
+    in_order = record {
+      order = subst (λ t. t ≤ h.time) (sym (same-latest past ∙ is)) order;
+      early = early;
+      few = omega (arith, few);
+    };
+    sealed = sealed;
+  }
+  may-follow (Ok None) latest bytes early order sealed = tt
+  may-follow (Err e) latest bytes early order sealed = tt
+
+-- ---- the switches that it names
+
+no-end : (o : Option FarEnd) → is_some o ≡ false → end_of o ≡ None
+no-end None e = refl
+no-end (Some f) e = absurd (true≢false e)
+
+module _ (ss : List NamedRows) where
+  pub sites-count : length (sites_of ss) ≡ length ss
+  unfolding sites_of
+  sites-count = length-map-range_with_len (site_of ss) 0 (length ss)
+
+  site-at : (k : ℕ) → k < length ss → slice_get (sites_of ss) k ≡ Some (site_of ss k)
+  unfolding sites_of
+  site-at k within =
+      let d = site_of ss 0 in
+      slice_get-get_or (sites_of ss) k d (omega (arith, within, sites-count))
+      ∙ ap Some (get_or-map-range_with_len (site_of ss) 0 (length ss) k k d within (omega arith))
+
+  cable-is : (k port : ℕ) → k < length ss → port ≤ last_port
+      → is_cable_at (sites_of ss) k port ≡ has_cable ss k port
+  unfolding is_cable_at
+  cable-is k port within low =
+      ap (λ o. option_map_or (λ (s : NamedCables). get_or s.cables port false) o false) (site-at k within)
+      ∙ get_or-map-range_with_len (has_cable ss k) 0 (last_port + 1) port port false (omega (arith, low))
+      (omega arith)
+
+  at-place : (x : Item Heading) → IsAtSite (sites_of ss) x → IsAtPlace ss x
+  at-place x is =
+      let within : x.head.switch < length ss = omega (arith, is.within, sites-count) in
+      record {
+        within = within;
+        free = no-end (far_end ss x.head.switch x.head.port)
+            (sym (cable-is x.head.switch x.head.port within is.port) ∙ is.free);
+      }
+
+  -- each frame that the lines of a list say can be told
+  pub can-tell : (sites : List NamedCables) → sites ≡ sites_of ss → CanTell (IsAtSite sites) (IsAtPlace ss)
+  can-tell sites are x is = at-place x (subst (λ named. IsAtSite named x) are is)
+
+-- ---- what is told of its items
+
+module _ {D : Type 0} (contents : D → Option (List ℕ)) (ss : List NamedRows) (start : Option (Watched D))
+    (m : Cascading D) (old new : Known) where
+  pub told-so-far-of : (items : List (Item Heading)) → TellsItems contents (ss, start) m old new items
+      → WritesSoFar ss (lines_in items) old new × HearsSoFar contents ss (lines_in items) start m.teller.early
+  told-so-far-of items h = told-so-far contents ss (lines_in items) start old new m.cascade m.teller h.told
+
+  pub told-some-of : (items : List (Item Heading)) → TellsItems contents (ss, start) m old new items
+      → BeginsItems contents (ss, start) m old new items
+  told-some-of items h =
+      told-some contents ss (lines_in items) start old new m.cascade m.teller (latest_line (lines_in items))
+      h.told.events h.told.told h.told.first
+
+-- nothing is told yet
+pub none-told : {D : Type 0} (contents : D → Option (List ℕ)) (ss : List NamedRows) (start : Option (Watched D))
+    (m : Cascading D) (output : Known) → HasTold contents ss m.cascade m.teller start output output []
+    → cascade.IsUntil m.cascade 0 → AreSteady m.teller.counts
+    → TellsItems contents (ss, start) m output output []
+none-told contents ss start m output has until steady = record {
+  told = record { events = []; first = λ later from. refl; at_line = refl; told = has };
+  early = omega arith;
+  clock = until;
+  few = omega arith;
+  steady = steady;
+}
+
+-- ---- what is answered for a list
+
+start-some : (ss : List NamedRows) (output : Known) → WritesSome ss [] output output
+unfolding cascade_text
+start-some ss output = record {
+  events = [];
+  first = refl;
+  written = whole_front output output [] (Appends-nil output);
+}
+
+-- memory ran out before anything was read
+pub stops-start : (ss : List NamedRows) (input output : Known)
+    → IfSome input (λ bytes. Answers ss bytes input output output (Err run.Memory))
+stops-start ss input output =
+    stops-at-start (lists ss) (λ past. WritesSoFar ss past output output) (λ past. WritesSome ss past output output)
+    input (start-some ss output)
+
+done-list : (ss : List NamedRows) (counts : Summary) (n : ℕ) (lines : List (List ℕ)) (old new : Known)
+    → IsDone (lists ss) (λ past. WritesAll ss past old new counts) n lines
+    → WritesList ss lines old new (with_lines counts n)
+done-list ss counts n lines old new h =
+    record { sound = h.sound; counts = counts; told = h.are_told; counted = ap (with_lines counts) h.all }
+
+done-known : (ss : List NamedRows) (counts : Summary) (n : ℕ) (input old new : Known)
+    → IfSome input (λ bytes. IsDone (lists ss) (λ past. WritesAll ss past old new counts) n (lines_of bytes))
+    → IfSome input (λ bytes. WritesList ss (lines_of bytes) old new (with_lines counts n))
+done-known ss counts n None old new h = tt
+done-known ss counts n (Some bytes) old new h = done-list ss counts n (lines_of bytes) old new h
+
+module _ {D : Type 0} (contents : D → Option (List ℕ)) (ss : List NamedRows) (start : Option (Watched D))
+    (m : Cascading D) (old new input rest : Known) where
+  -- what a run over its lines answers, which names these switches
+  abbrev pub ListSays : List NamedCables → Result ℕ RunFault → Type 0
+  ListSays sites answer = IfSome input (λ bytes. ListAnswers (sited_frames sites)
+      (thing_of (sited_frames sites) sited_frame) (TellsAll contents (ss, start) m old new)
+      (TellsItems contents (ss, start) m old new) (BeginsItems contents (ss, start) m old new) bytes rest answer)
+
+  pub answered-ok : (sites : List NamedCables) (n : ℕ) → sites ≡ sites_of ss → ListSays sites (Ok n)
+      → IfSome input (λ bytes. Answers ss bytes rest old new (Ok (with_lines m.teller.counts n)))
+  answered-ok sites n are h =
+      done-known ss m.teller.counts n input old new
+      (answers-ok (lists ss) (thing_of (lists ss) sited_frame) (TellsAll contents (ss, start) m old new)
+      (TellsItems contents (ss, start) m old new) (BeginsItems contents (ss, start) m old new)
+      (λ past. WritesAll ss past old new m.teller.counts) input rest n (λ items d. d.0)
+      (subst (λ named. ListSays named (Ok n)) are h))
+
+  pub answered-err : (sites : List NamedCables) (fault : RunFault) → sites ≡ sites_of ss
+      → ListSays sites (Err fault)
+      → IfSome input (λ bytes. Answers ss bytes rest old new (Err fault))
+  answered-err sites fault are h =
+      answers-err (lists ss) (thing_of (lists ss) sited_frame) (TellsAll contents (ss, start) m old new)
+      (TellsItems contents (ss, start) m old new) (BeginsItems contents (ss, start) m old new)
+      (λ past. WritesSoFar ss past old new) (λ past. WritesSome ss past old new) input rest fault
+      (λ items t. (
+        (told-so-far-of contents ss start m old new items t).0,
+        (told-some-of contents ss start m old new items t).0,
+      ))
+      (λ items b. b.0) (subst (λ named. ListSays named (Err fault)) are h)
+
+-- ---- what a file describes
+
+-- what is answered for it is as promised, where it is admitted
+pub file-promised : (d : Described) (list rest old new : Known) (answer : Result Summary RunFault)
+    → IsLawfulFile d → IsAdmittedFile d → IfSome list (λ bytes. FileAnswers d bytes rest old new answer)
+    → IfSome list (λ bytes. FilePromises d bytes rest old new answer)
+file-promised (One t) list rest old new answer lawful admitted h =
+    if-known t list rest old new answer (among_others t lawful) admitted h
+file-promised (Several ss) None rest old new answer lawful admitted h = tt
+file-promised (Several ss) (Some bytes) rest old new answer lawful admitted h = tt
+
+-- ---- an input that is looked at
+
+-- it needn't be a recording, and is none
+pub not-recorded : (options : RecordingOptions) (seen held : List ℕ) (is : Bool) → options.are_given ≡ false
+    → seen ≡ held → is ≡ is_recording seen → is ≡ false → is_recorded options held ≡ false
+not-recorded options seen held is given same e none =
+    ap₂ (λ a b. a || b) given (ap is_recording (sym same) ∙ sym e ∙ none)
+
+module _ (options : RecordingOptions) (sites : List NamedCables) (done told begins : List (Item Heading) → Type 0)
+  where
+    -- by the first bytes of an input that gives this, of which `rest` is left
+    abbrev pub LeftIsTold : (left rest : Known) → Result InputCount RunFault → Type 0
+    LeftIsTold left rest answer = IfSome left (λ bytes.
+        IsToldAs done told begins (is_read_recorded options (Some bytes)) sites bytes rest answer)
+
+    memory-told : (is : Bool) (bytes : List ℕ) → told []
+        → IsToldAs done told begins is sites bytes (Some bytes) (Err run.Memory)
+    memory-told true bytes start = (inr (inr (inr refl)), start)
+    memory-told false bytes start =
+        start-answers (sited_frames sites) (thing_of (sited_frames sites) sited_frame) done told begins (Some bytes)
+        start
+
+    -- there was no memory
+    pub memory-left : (left : Known) → told [] → LeftIsTold left left (Err run.Memory)
+    memory-left None start = tt
+    memory-left (Some bytes) start = memory-told (is_read_recorded options (Some bytes)) bytes start
+
+    nothing-whole : (bytes : List ℕ) → GaveWhole (Some bytes) (Some bytes) 0
+    unfolding whole_lines_of
+    nothing-whole bytes = record { read = []; consumed = Consumes-nil (Some bytes); counted = refl }
+
+    unread-told : (is : Bool) (bytes : List ℕ) → told []
+        → IsToldAs done told begins is sites bytes (Some bytes) (Err run.Read)
+    unread-told true bytes start = (inr (inr (inl refl)), start)
+    unread-told false bytes start = (
+      0,
+      nothing-whole bytes,
+      record {
+        within = omega arith;
+        sound = λ i lt. absurd (omega arith);
+        are_told = rw (items_of-none (sited_frames sites) (lines_of bytes)) ([], refl, start);
+      },
+    )
+
+    -- the look failed
+    pub unread-left : (left rest : Known) → Keeps left rest → told [] → LeftIsTold left rest (Err run.Read)
+    unread-left None rest k start = tt
+    unread-left (Some bytes) None k start = absurd k
+    unread-left (Some bytes) (Some same) k start =
+        subst (λ (xs : List ℕ). LeftIsTold (Some bytes) (Some xs) (Err run.Read)) (sym k)
+        (unread-told (is_read_recorded options (Some bytes)) bytes start)
+
+    list-told : (is : Bool) (looked rest : Known) (fault : RunFault) → is ≡ false
+        → IfSome looked (λ bytes. ListIsTold done told begins sites bytes rest (Err fault))
+        → IfSome looked (λ bytes. IsToldAs done told begins is sites bytes rest (Err fault))
+    list-told is looked rest fault e h =
+        subst (λ (b : Bool). IfSome looked (λ bytes. IsToldAs done told begins b sites bytes rest (Err fault)))
+        (sym e) h
+
+    by-first : (left rest : Known) (answer : Result InputCount RunFault)
+        → IfSome left (λ bytes. IsToldAs done told begins (is_read_recorded options left) sites bytes rest answer)
+        → LeftIsTold left rest answer
+    by-first None rest answer h = tt
+    by-first (Some bytes) rest answer h = h
+
+    -- it was looked at, and no recording: a fault of its lines
+    pub listed-left : (left looked rest : Known) (seen : List ℕ) (fault : RunFault) → Keeps left looked
+        → IfSome left (λ bytes. seen ≡ take looked_at bytes) → is_recorded options seen ≡ false
+        → IfSome looked (λ bytes. ListIsTold done told begins sites bytes rest (Err fault))
+        → LeftIsTold left rest (Err fault)
+    listed-left left looked rest seen fault k e none h =
+        by-first left rest (Err fault)
+        (looked-kept options left looked seen
+        (λ is bytes. IsToldAs done told begins is sites bytes rest (Err fault)) k e
+        (list-told (is_recorded options seen) looked rest fault none h))
+
+-- ---- a replay that is handed nothing
+
+module _ {D : Type 0} (contents : D → Option (List ℕ)) (ss : List NamedRows) where
+  hears-none : (early : Option (Watched D)) → HearsEarly contents ss early early []
+  hears-none None = tt
+  hears-none (Some drops) = record { text = []; lines = refl; told = Tells-none contents drops }
+
+  pub none-so-far : (early : Option (Watched D)) (output : Known)
+      → WritesSoFar ss [] output output × HearsSoFar contents ss [] early early
+  unfolding cascade_text
+  none-so-far early output = (
+    record { events = []; first = refl; at_line = refl; written = Appends-nil output },
+    record { events = []; first = refl; at_line = refl; heard = hears-none early },
+  )
+
+  -- a new replay tells this device
+  pub told-anew : (w : Cascade) (t u : Teller D) (early : Option (Watched D)) (output : Known)
+      → HasTold contents ss w t None output output [] → u.switches.now ≡ t.switches.now → u.systems ≡ t.systems
+      → u.counts ≡ t.counts → u.early ≡ early
+      → HasTold contents ss w u early output output []
+  told-anew w t u early output has switches systems counts is = record {
+    fits = record {
+      switches_are = switches ∙ has.fits.switches_are;
+      systems_are = ap (λ (v : Vec Systems Global). length v.items) systems ∙ has.fits.systems_are;
+      few = has.fits.few;
+    };
+    switches_are = has.switches_are;
+    systems_are = subst (λ (v : Vec Systems Global). SystemsAre ss v.items []) (sym systems) has.systems_are;
+    counted = counts ∙ has.counted;
+    written = has.written;
+    heard = subst (λ e. HearsEarly contents ss early e []) (sym is) (hears-none early);
+  }
+
+  -- so far it has told nothing
+  pub first-told : (w : Cascade) (t u : Teller D) (early : Option (Watched D)) (output : Known)
+      → HasTold contents ss w t None output output [] → cascade.IsUntil w 0 → AreSteady t.counts
+      → u.switches.now ≡ t.switches.now → u.systems ≡ t.systems → u.counts ≡ t.counts → u.early ≡ early
+      → TellsItems contents (ss, early) (record { cascade = w; teller = u }) output output []
+  first-told w t u early output has until steady switches systems counts is =
+      none-told contents ss early (record { cascade = w; teller = u }) output
+      (told-anew w t u early output has switches systems counts is) until
+      (subst (λ (c : Summary). AreSteady c) (sym counts) steady)
+
+  module _ (input : List NamedCables → Answering) (early now : Option (Watched D)) (old new : Known) where
+    pub replays-so : (counts : Summary) (count : Result InputCount RunFault)
+        → TellsReplay contents ss input early now old new counts count
+        → Replays contents ss input early now old new (answer_of counts count)
+    replays-so counts count h = record { counts = counts; count = count; answered = refl; told = h }
+
+-- ---- of which more is told
+
+module _ (done more told begins : List (Item Heading) → Type 0)
+    (f : (items : List (Item Heading)) → more items → told items) where
+  either : (items : List (Item Heading)) → more items ⊎ begins items → told items ⊎ begins items
+  either items (inl m) = inl (f items m)
+  either items (inr b) = inr b
+
+  told-list : (sites : List NamedCables) (bytes : List ℕ) (rest : Known) (count : Result InputCount RunFault)
+      → ListIsTold done more begins sites bytes rest count → ListIsTold done told begins sites bytes rest count
+  told-list sites bytes rest (Ok (Lines n)) h = h
+  told-list sites bytes rest (Ok (Recorded tally)) h = h
+  told-list sites bytes rest (Err fault) h =
+      let k = sited_frames sites in
+      let said = thing_of k sited_frame in
+      stops-more k (Of said more) (Of said (λ past. more past ⊎ begins past)) (Of said told)
+      (Of said (λ past. told past ⊎ begins past)) bytes rest (λ n t. (t.0, t.1, f t.0 t.2))
+      (λ n b. (b.0, b.1, either b.0 b.2)) fault h
+
+  told-as : (is : Bool) (sites : List NamedCables) (bytes : List ℕ) (rest : Known)
+      (count : Result InputCount RunFault)
+      → IsToldAs done more begins is sites bytes rest count → IsToldAs done told begins is sites bytes rest count
+  told-as true sites bytes rest count h = (h.0, f [] h.1)
+  told-as false sites bytes rest count h = told-list sites bytes rest count h
+
+  pub told-left : (options : RecordingOptions) (sites : List NamedCables) (left rest : Known)
+      (count : Result InputCount RunFault) → LeftIsTold options sites done more begins left rest count
+      → LeftIsTold options sites done told begins left rest count
+  told-left options sites None rest count h = tt
+  told-left options sites (Some bytes) rest count h =
+      told-as (is_read_recorded options (Some bytes)) sites bytes rest count h

@@ -1,0 +1,6 @@
+use Rattle.afdx_replay.proofs.replaying.input_command.replay_taken.Goals as goal
+
+pub returns-in-OneAdmitted-clause-replays : goal.returns-in-OneAdmitted-clause-replays
+returns-in-OneAdmitted-clause-replays g c =
+    let h = rw c.tables.ensures.tables at c.replay_over.ensures.replays in
+    rw c.in-OneAdmitted.is h

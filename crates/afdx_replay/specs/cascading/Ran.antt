@@ -1,0 +1,125 @@
+-- What a replay of several switches a side writes, tells and counts. A list of lines has the newest
+-- first.
+use Rattle.std.specs.Prelude.{ℕ, ◌≡◌, ◌<◌, ◌≤◌, List, [], length, reverse, Option, Some, Result, Ok, Err}
+use Rattle.std.specs.Io.KnownBytes.{Appends}
+use Rattle.afdx_frame.specs.declared.link.Side.{Side}
+use Rattle.afdx_lists.specs.Lines.{lines_of}
+use Rattle.afdx_lists.specs.SitedLines.{SitedFrame}
+use Rattle.afdx_lists.specs.declared.fault.RunFault.{RunFault}
+use Rattle.afdx_engine.specs.Lists.{Kind, items_of, HaveNoFault}
+use Rattle.afdx_engine.specs.Stops.{StopsIn}
+use Rattle.afdx_commands.specs.Counts.{with_lines}
+use Rattle.afdx_replay.specs.cascading.Sited.{sited_frames, sites_of}
+use Rattle.afdx_cascade.specs.Cables.{brought_by}
+use Rattle.afdx_cascade.specs.Parts.{AreOfList}
+use Rattle.afdx_cascade.specs.Plans.{plan_of, tables_of}
+use Rattle.afdx_cascade.specs.Runs.{Line, Runs, AreAll}
+use Rattle.afdx_cascade.specs.SwitchEvents.{End, SwitchEvent, came_to, in_clock, turns_of}
+use Rattle.afdx_network.specs.Order.{events_of}
+use Rattle.afdx_promises.specs.Sent.{arrivals_at}
+use Rattle.afdx_commands.specs.declared.summary.Summary.{Summary}
+use Rattle.afdx_config.specs.Switches.{NamedRows}
+use Rattle.afdx_lists.specs.Calls.{AppendsFront}
+use Rattle.afdx_lists.specs.declared.watched.Watched.{Watched}
+use Rattle.afdx_replay.specs.cascading.Early.{HearsEarly}
+use Rattle.afdx_replay.specs.cascading.Text.{cascade_text, cascade_counts, own_text}
+use Rattle.afdx_replay.specs.cascading.Told.{EndsAtLine}
+use Rattle.afdx_admit.specs.Cascade.{IsCascadeAdmitted}
+use Rattle.afdx_replay.specs.replaying.Promises.{TellsPromises}
+use Rattle.afdx_replay.specs.replaying.Replayed.{Known}
+use Rattle.afdx_replay.specs.replaying.Text.{replay_text}
+
+-- what all events of some lines are at each part
+pub record AreInParts (switches : List NamedRows) (lines : List Line) (events : List SwitchEvent) :
+    Type 0 where
+  -- the lines of a switch, without its name, are the text of its own tables on what came to it
+  pub alone : (k : ℕ) → k < length switches →
+      own_text switches k events
+      ≡ replay_text (tables_of switches k)
+      (events_of (tables_of switches k) (came_to k events))
+  -- so of admitted switches each keeps the promises of one
+  pub promised : IsCascadeAdmitted switches → (k : ℕ) → k < length switches →
+      TellsPromises (tables_of switches k) (came_to k events) (own_text switches k events)
+  -- a cable brought what left the port at its other end, but for what left too late to arrive
+  pub cables : (k port : ℕ) (side : Side) (other : End) →
+      (plan_of switches).far_end k port ≡ Some other →
+      brought_by side port (in_clock (turns_of other.switch side other.port events))
+      ≡ arrivals_at side port (came_to k events)
+  -- a switch accepts no frame more often than the list has it, there are few events, and one list
+  pub listed : AreOfList (plan_of switches) lines events
+
+module _ (switches : List NamedRows) (past : List Line) where
+  -- these are all events of the lines
+  abbrev pub AreAllOf : List SwitchEvent → Type 0
+  AreAllOf events = AreAll (plan_of switches) (reverse past) events
+
+  -- these are the first events of the lines, which were all taken
+  abbrev pub AreFirstOf : List SwitchEvent → Type 0
+  AreFirstOf events = Runs (plan_of switches) (reverse past) events []
+
+  -- the output, which held `old`, now holds after it the text of all events of the lines, and they
+  -- are counted
+  pub record WritesAll (old new : Known) (counts : Summary) : Type 0 where
+    pub events : List SwitchEvent
+    pub all : AreAllOf events
+    pub parts : AreInParts switches (reverse past) events
+    pub written : Appends old new (cascade_text switches events)
+    pub counted : counts ≡ cascade_counts switches events
+
+  -- the same of the events up to the arrival of the last line's frame
+  pub record WritesSoFar (old new : Known) : Type 0 where
+    pub events : List SwitchEvent
+    pub first : AreFirstOf events
+    pub at_line : EndsAtLine switches past events
+    pub written : Appends old new (cascade_text switches events)
+
+  -- a beginning of the text of first events is written
+  pub record WritesSome (old new : Known) : Type 0 where
+    pub events : List SwitchEvent
+    pub first : AreFirstOf events
+    pub written : AppendsFront old new (cascade_text switches events)
+
+module _ {D : Type 0} (contents : D → Option (List ℕ)) (switches : List NamedRows)
+    (past : List Line) (old new : Option (Watched D)) where
+  -- a device, if there is one, was told of all frames that came too early; of those up to the last
+  -- line's; or of those among first events, before which each line but perhaps the last was taken
+  pub record HearsAll : Type 0 where
+    pub events : List SwitchEvent
+    pub all : AreAllOf switches past events
+    pub heard : HearsEarly contents switches old new events
+
+  pub record HearsSoFar : Type 0 where
+    pub events : List SwitchEvent
+    pub first : AreFirstOf switches past events
+    pub at_line : EndsAtLine switches past events
+    pub heard : HearsEarly contents switches old new events
+
+  pub record HearsSome : Type 0 where
+    pub events : List SwitchEvent
+    pub left : List Line
+    pub few : length left ≤ 1
+    pub first : Runs (plan_of switches) (reverse past) events left
+    pub heard : HearsEarly contents switches old new events
+
+-- ---- a list of several switches
+
+module _ (switches : List NamedRows) where
+  -- the kind of list that names them
+  abbrev pub lists : Kind SitedFrame Line
+  lists = sited_frames (sites_of switches)
+
+  -- all lines were read, none has a fault, and the text of all events of their frames is written,
+  -- and they are counted
+  pub record WritesList (list : List (List ℕ)) (old new : Known) (summary : Summary) : Type 0 where
+    pub sound : HaveNoFault lists list (length list)
+    pub counts : Summary
+    pub told : WritesAll switches (items_of lists list (length list)) old new counts
+    pub counted : summary ≡ with_lines counts (length list)
+
+  -- what a replay answers that is given a list of these bytes, after which the input has `rest` and
+  -- the output `new`
+  abbrev pub Answers : List ℕ → (rest old new : Known) → Result Summary RunFault → Type 0
+  Answers bytes rest old new (Ok summary) = WritesList (lines_of bytes) old new summary
+  Answers bytes rest old new (Err fault) =
+      StopsIn lists (λ past. WritesSoFar switches past old new)
+      (λ past. WritesSome switches past old new) bytes rest fault

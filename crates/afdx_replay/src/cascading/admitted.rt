@@ -1,0 +1,47 @@
+//! A run of several switches on each side that were admitted: each keeps the promises.
+
+ghost use Rattle.std.specs.Prelude.{◌≡◌, ◌+◌, ◌≤◌, OnOk, IfSome, true, false};
+ghost use Rattle.afdx_admit.specs.Cascade.{IsCascadeAdmitted};
+ghost use Rattle.afdx_lists.specs.Calls.{is_failed_read, is_failed_write};
+ghost use Rattle.afdx_lists.specs.Lines.{most_reads};
+ghost use Rattle.afdx_lists.specs.Watching.{calls_of, device_of, has_ended, has_failed};
+ghost use Rattle.afdx_replay.specs.cascading.Ran.{Answers};
+
+use crate::cascading::unadmitted::run_cascade_unadmitted;
+use afdx_admit::AdmittedSwitches;
+use afdx_commands::Summary;
+use afdx_lists::{RunFault, Watched};
+use std::alloc::Global;
+use std::io::{Read, Write};
+
+/// Replays a list of frames through several switches on each side and the systems behind them, all
+/// of which were admitted together.
+///
+/// It answers and writes what `run_cascade_unadmitted` does. As the switches are admitted (clause
+/// `admitted`), what the clause `answer` says of each switch (`promised`) holds: its lines keep the
+/// promises of a run of its own tables on what came to it. No frame is lost there or too old, each
+/// accepted one leaves each of its ports within the link's latency of that switch, and what its
+/// systems get is the integrity and redundancy rules' answer on what came to them. The errors are
+/// those of `run_cascade_unadmitted`.
+pub fn run_cascade<R: Read, W: Write>(
+    alloc: Global,
+    admitted: &AdmittedSwitches,
+    input: &mut Watched<R>,
+    output: &mut Watched<W>,
+) -> Result<Summary, RunFault>
+    requires sound_input { has_failed input.old ≡ false }
+    requires unended { has_ended input.old ≡ false }
+    requires sound_output { has_failed output.old ≡ false }
+    ensures ended { OnOk result (has_ended input.new ≡ true) }
+    ensures read { has_failed input.new ≡ is_failed_read result }
+    ensures write { has_failed output.new ≡ is_failed_write result }
+    ensures calls { calls_of input.new ≤ calls_of input.old + most_reads }
+    ensures admitted { IsCascadeAdmitted admitted.now }
+
+    // Where the input's bytes are known: what is answered and written for the list that they are.
+    ensures answer { IfSome (R.remaining (device_of input.old)) (λ bytes.
+        Answers admitted.now bytes (R.remaining (device_of input.new))
+        (W.contents (device_of output.old)) (W.contents (device_of output.new)) result) }
+{
+    run_cascade_unadmitted(alloc, admitted.switches(), input, output)
+}

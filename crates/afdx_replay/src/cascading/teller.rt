@@ -1,0 +1,266 @@
+//! What is told of an event of several switches: its lines are put, it is counted, and by how much
+//! a frame came too early is told to whom asks.
+
+ghost use Rattle.std.specs.Prelude.{◌≡◌, ℕ, ◌<◌, ◌≤◌, ◌∷◌, [], List, Option, IfOk, OnOk, OnErr, IfErr, length, None, false};
+ghost use Rattle.afdx_cascade.specs.Cascade.{TellsArrival, TellsEvent};
+ghost use Rattle.afdx_cascade.specs.Plans.{plan_of};
+ghost use Rattle.afdx_cascade.specs.Runs.{event_at};
+ghost use Rattle.afdx_cascade.specs.SwitchEvents.{SwitchEvent};
+ghost use Rattle.afdx_cascade.specs.Turning.{TellsTurn};
+ghost use Rattle.afdx_commands.specs.Counts.{no_counts};
+ghost use Rattle.afdx_config.specs.Switches.{AreSwitches};
+ghost use Rattle.afdx_lists.specs.Calls.{AppendsFront, is_failed_write};
+ghost use Rattle.afdx_lists.specs.declared.watched.Watched.{Watched as Device};
+ghost use Rattle.afdx_network.specs.Events.{Departure, Left};
+ghost use Rattle.std.specs.Io.KnownBytes.{Appends};
+ghost use Rattle.afdx_text.specs.OutLines.{departure_line, place_text};
+ghost use Rattle.afdx_text.specs.Sinks.{IsOfOutput};
+ghost use Rattle.afdx_replay.specs.replaying.Text.{with_departure};
+ghost use Rattle.afdx_replay.specs.replaying.Replayed.{AreLow};
+ghost use Rattle.afdx_replay.specs.cascading.Early.{HearsEarly};
+ghost use Rattle.afdx_replay.specs.cascading.Text.{event_lines, name_of};
+ghost use Rattle.afdx_replay.specs.cascading.Told as spec;
+ghost use Rattle.afdx_replay.specs.cascading.Told.{AreSteady, SystemsAre, TellsOne, place_of};
+
+use crate::cascading::early::tell_early;
+use crate::replaying::explained::is_over_rate;
+use crate::replaying::telling::{tell_departure, tell_verdict};
+use afdx_cascade::{Brought, Happened, Sent, Turned};
+use afdx_commands::{NO_COUNTS, Summary};
+use afdx_config::{SwitchId, Switches};
+use afdx_end_systems::Systems;
+use afdx_lists::{RunFault, Watched};
+use afdx_text::{OutLine, Sink, Site};
+use std::alloc::{AllocError, Global};
+use std::io::Write;
+
+/// The systems of each switch, in the order of the file, at which nothing arrived.
+fn new_systems(alloc: Global, switches: &Switches) -> Result<Vec<Systems>, AllocError>
+    ensures switches { AreSwitches switches.now }
+    ensures count { IfOk result (λ all. length all.items ≡ length switches.now) }
+    ensures stands { IfOk result (λ all. SystemsAre switches.now all.items []) }
+{
+    let mut all = Vec::new(alloc);
+    for place in 0..switches.count() {
+        let tables = switches.tables(SwitchId(place as u8));
+        all.push(Systems::new(alloc, tables)?)?;
+    }
+    Ok(all)
+}
+
+/// What tells of the events at several switches: their names, the systems behind them, what was
+/// counted, and a device that is told by how much frames came too early, if there is one.
+#[derive(Drop)]
+pub(crate) struct Teller<'a, D> {
+    switches: &'a Switches,
+    systems: Vec<Systems>,
+    pub(crate) counts: Summary,
+    pub(crate) early: Option<Watched<D>>,
+}
+
+impl<'a, D: Write> Teller<'a, D> {
+    ghost use Rattle.afdx_replay.specs.cascading.Told.{IsFor};
+
+    /// It has told nothing yet, and tells nobody of frames that came too early.
+    pub(crate) fn new(alloc: Global, switches: &'a Switches) -> Result<Teller<'a, D>, AllocError>
+        ensures fits { IfOk result (IsFor switches.entry.now) }
+        ensures stands { IfOk result (λ t. SystemsAre switches.entry.now t.systems.items []) }
+        ensures counts { IfOk result (λ t. t.counts ≡ no_counts) }
+        ensures early { IfOk result (λ t. t.early ≡ None) }
+    {
+        let systems = new_systems(alloc, switches)?;
+        Ok(Teller {
+            switches,
+            systems,
+            counts: NO_COUNTS,
+            early: None,
+        })
+    }
+
+    /// Tells a frame that left a switch of this name and that a cable carries now: nothing hears it
+    /// there.
+    fn tell_sent<O: Sink>(
+        &mut self,
+        switch: &str,
+        sent: &Sent,
+        output: &mut O,
+    ) -> Result<(), RunFault>
+        requires low { AreLow self.old.counts }
+        requires sound { O.failed output.old ≡ false }
+        ensures failed { O.failed output.new ≡ is_failed_write result }
+        ensures fault { IfErr result IsOfOutput }
+        ensures settings { O.settings output.new ≡ O.settings output.old }
+        ensures switches { self.new.switches ≡ self.old.switches }
+        ensures systems { self.new.systems ≡ self.old.systems }
+        ensures early { self.new.early ≡ self.old.early }
+        ensures counted { OnOk result
+            (self.new.counts ≡ with_departure self.old.counts false false) }
+        ensures line { OnOk result (Appends (O.written output.old) (O.written output.new)
+            (departure_line false sent.now.tag sent.now.time
+            (place_text sent.now.side switch.now) sent.now.port)) }
+        ensures front { OnErr result (AppendsFront (O.written output.old) (O.written output.new)
+            (departure_line false sent.now.tag sent.now.time
+            (place_text sent.now.side switch.now) sent.now.port)) }
+    {
+        let line = OutLine::Left {
+            n: sent.tag,
+            time: sent.time,
+            site: Site {
+                side: sent.side,
+                switch,
+            },
+            port: sent.port,
+            too_old: false,
+        };
+        output.put(&line)?;
+        self.counts.departed += 1;
+        Ok(())
+    }
+
+    /// Tells a turn that is over at a switch.
+    fn tell_turn<O: Sink>(
+        &mut self,
+        switch: usize,
+        turned: &Turned,
+        output: &mut O,
+    ) -> Result<(), RunFault>
+        requires within { switch < length self.old.systems.items }
+        requires fits { IsFor self.old.switches.now self.old }
+        requires low { AreLow self.old.counts }
+        requires sound { O.failed output.old ≡ false }
+        ensures failed { O.failed output.new ≡ is_failed_write result }
+        ensures fault { IfErr result IsOfOutput }
+        ensures settings { O.settings output.new ≡ O.settings output.old }
+        ensures fits { OnOk result (IsFor self.old.switches.now self.new) }
+        ensures steady { AreSteady self.old.counts → OnOk result (AreSteady self.new.counts) }
+        ensures early { self.new.early ≡ self.old.early }
+        ensures told { (before : List SwitchEvent) (d : Departure) →
+            SystemsAre self.old.switches.now self.old.systems.items before →
+            TellsTurn (plan_of self.old.switches.now) switch turned.now d →
+            OnOk result (TellsOne self.old.switches.now self.new.systems.items
+            self.old.counts self.new.counts (O.written output.old) (O.written output.new)
+            before (event_at switch (Left d))) }
+        ensures begun { (before : List SwitchEvent) (d : Departure) →
+            SystemsAre self.old.switches.now self.old.systems.items before →
+            TellsTurn (plan_of self.old.switches.now) switch turned.now d →
+            OnErr result (AppendsFront (O.written output.old) (O.written output.new)
+            (event_lines self.old.switches.now before (event_at switch (Left d)))) }
+    {
+        let name = self.switches.name(SwitchId(switch as u8));
+        match turned {
+            Turned::Ended(departed) => {
+                let systems = &mut self.systems[switch];
+                tell_departure(systems, &mut self.counts, name, departed, output)
+            }
+            Turned::Carried(sent) => self.tell_sent(name, sent, output),
+        }
+    }
+
+    /// Tells a frame that came to a switch, of the list or over a cable.
+    pub(crate) fn tell_arrival<O: Sink>(
+        &mut self,
+        brought: &Brought,
+        output: &mut O,
+    ) -> Result<(), RunFault>
+        requires within { brought.now.switch < length self.old.systems.items }
+        requires fits { IsFor self.old.switches.now self.old }
+        requires low { AreLow self.old.counts }
+        requires sound { O.failed output.old ≡ false }
+        ensures failed { O.failed output.new ≡ is_failed_write result }
+        ensures fault { IfErr result IsOfOutput }
+        ensures settings { O.settings output.new ≡ O.settings output.old }
+        ensures fits { OnOk result (IsFor self.old.switches.now self.new) }
+        ensures steady { AreSteady self.old.counts → OnOk result (AreSteady self.new.counts) }
+        ensures told { (before : List SwitchEvent) (h : SwitchEvent) →
+            SystemsAre self.old.switches.now self.old.systems.items before →
+            TellsArrival (plan_of self.old.switches.now) before brought.now h →
+            OnOk result (TellsOne self.old.switches.now self.new.systems.items
+            self.old.counts self.new.counts (O.written output.old) (O.written output.new)
+            before h) }
+        ensures heard { (before : List SwitchEvent) (h : SwitchEvent) (start : Option (Device D)) →
+            TellsArrival (plan_of self.old.switches.now) before brought.now h →
+            HearsEarly D.contents self.old.switches.now start self.old.early before →
+            OnOk result
+            (HearsEarly D.contents self.old.switches.now start self.new.early (h ∷ before)) }
+        ensures kept { OnErr result (self.new.early ≡ self.old.early) }
+        ensures begun { (before : List SwitchEvent) (h : SwitchEvent) →
+            TellsArrival (plan_of self.old.switches.now) before brought.now h →
+            OnErr result (AppendsFront (O.written output.old) (O.written output.new)
+            (event_lines self.old.switches.now before h)) }
+    {
+        let site = Site {
+            side: brought.side,
+            switch: self.switches.name(SwitchId(brought.switch as u8)),
+        };
+        let n = brought.tag;
+        let reason = tell_verdict(&mut self.counts, n, site, &brought.verdict, output)?;
+        if let Some(drops) = &mut self.early {
+            if is_over_rate(reason) {
+                tell_early(drops, n, site, brought.early);
+            }
+        }
+        Ok(())
+    }
+
+    /// Tells what happened.
+    pub(crate) fn tell_event<O: Sink>(
+        &mut self,
+        happened: &Happened,
+        output: &mut O,
+    ) -> Result<(), RunFault>
+        requires within { place_of happened.now < length self.old.systems.items }
+        requires fits { IsFor self.old.switches.now self.old }
+        requires low { AreLow self.old.counts }
+        requires sound { O.failed output.old ≡ false }
+        ensures failed { O.failed output.new ≡ is_failed_write result }
+        ensures fault { IfErr result IsOfOutput }
+        ensures settings { O.settings output.new ≡ O.settings output.old }
+        ensures fits { OnOk result (IsFor self.old.switches.now self.new) }
+        ensures steady { AreSteady self.old.counts → OnOk result (AreSteady self.new.counts) }
+        ensures told { (before : List SwitchEvent) (h : SwitchEvent) →
+            SystemsAre self.old.switches.now self.old.systems.items before →
+            TellsEvent (plan_of self.old.switches.now) before happened.now h →
+            OnOk result (TellsOne self.old.switches.now self.new.systems.items
+            self.old.counts self.new.counts (O.written output.old) (O.written output.new)
+            before h) }
+        ensures heard { (before : List SwitchEvent) (h : SwitchEvent) (start : Option (Device D)) →
+            TellsEvent (plan_of self.old.switches.now) before happened.now h →
+            HearsEarly D.contents self.old.switches.now start self.old.early before →
+            OnOk result
+            (HearsEarly D.contents self.old.switches.now start self.new.early (h ∷ before)) }
+        ensures kept { OnErr result (self.new.early ≡ self.old.early) }
+        ensures begun { (before : List SwitchEvent) (h : SwitchEvent) →
+            SystemsAre self.old.switches.now self.old.systems.items before →
+            TellsEvent (plan_of self.old.switches.now) before happened.now h →
+            OnErr result (AppendsFront (O.written output.old) (O.written output.new)
+            (event_lines self.old.switches.now before h)) }
+    {
+        match happened {
+            Happened::Over(switch, turned) => self.tell_turn(*switch, turned, output),
+            Happened::Came(brought) => self.tell_arrival(brought, output),
+        }
+    }
+}
+
+impl<'a, D: Write + Drop> Teller<'a, D> {
+    /// The same, which tells this device, if there is one, of frames that came too early.
+    pub(crate) fn with_early(self, early: Option<Watched<D>>) -> Teller<'a, D>
+        ensures switches { result.switches.now ≡ self.entry.switches.now }
+        ensures systems { result.systems ≡ self.entry.systems }
+        ensures counts { result.counts ≡ self.entry.counts }
+        ensures early { result.early ≡ early }
+    {
+        let Teller {
+            switches,
+            systems,
+            counts,
+            ..
+        } = self;
+        Teller {
+            switches,
+            systems,
+            counts,
+            early,
+        }
+    }
+}

@@ -1,0 +1,119 @@
+//! What is told of an event at a switch: its lines are put, and it is counted.
+
+ghost use Rattle.std.specs.Prelude.{◌≡◌, ℕ, ◌+◌, ◌++◌, ◌≤◌, List, OnOk, OnErr, IfOk, IfErr, length, false};
+ghost use Rattle.std.specs.Io.KnownBytes.{Appends};
+ghost use Rattle.afdx_frame.specs.Ports.{last_port};
+ghost use Rattle.afdx_config.specs.Rows.{Rows};
+ghost use Rattle.afdx_lists.specs.Calls.{AppendsFront, is_failed_write};
+ghost use Rattle.afdx_end_systems.specs.StandsFor as hearing;
+ghost use Rattle.afdx_network.specs.Events.{Event, Departure, Left};
+ghost use Rattle.afdx_network.specs.Network as network;
+ghost use Rattle.afdx_network.specs.Network.{reason_in, lost_in};
+ghost use Rattle.afdx_text.specs.OutLines.{site_text, verdict_line};
+ghost use Rattle.afdx_text.specs.Sinks.{IsOfOutput};
+ghost use Rattle.afdx_replay.specs.replaying.Replayed.{AreLow, HasRoom, TellsDeparture};
+ghost use Rattle.afdx_replay.specs.replaying.Text.{frames_left, lines_at, loss_lines};
+ghost use Rattle.afdx_replay.specs.replaying.Text.{with_admission};
+
+use crate::replaying::lines::{Heard, hear, put_admission, put_departure, reason_of};
+use afdx_commands::Summary;
+use afdx_end_systems::{Handover, Systems};
+use afdx_lists::RunFault;
+use afdx_network::Departed;
+use afdx_police::Reason;
+use afdx_switch::Verdict;
+use afdx_text::{Sink, Site};
+
+/// Counts an arrival, and the copies that it lost.
+fn count_admission(counts: &mut Summary, reason: Option<Reason>, lost: u64)
+    requires low { AreLow counts.old }
+    requires few { lost ≤ last_port }
+    ensures { counts.new ≡ with_admission counts.old reason lost }
+{
+    match reason {
+        None => {
+            counts.accepted += 1;
+            counts.lost += lost;
+        }
+        Some(_) => counts.dropped += 1,
+    }
+}
+
+/// Tells what became of an arrival at a switch, and why it was dropped, if it was.
+pub(crate) fn tell_verdict<O: Sink>(
+    counts: &mut Summary,
+    n: u64,
+    site: Site<'_>,
+    verdict: &Verdict,
+    output: &mut O,
+) -> Result<Option<Reason>, RunFault>
+    requires low { AreLow counts.old }
+    requires sound { O.failed output.old ≡ false }
+    ensures failed { O.failed output.new ≡ is_failed_write result }
+    ensures fault { IfErr result IsOfOutput }
+    ensures settings { O.settings output.new ≡ O.settings output.old }
+    ensures lines { OnOk result (Appends (O.written output.old) (O.written output.new)
+        (verdict_line n (site_text site.entry) (reason_in verdict.now)
+        ++ loss_lines n (site_text site.entry) (lost_in verdict.now))) }
+    ensures front { OnErr result (AppendsFront (O.written output.old) (O.written output.new)
+        (verdict_line n (site_text site.entry) (reason_in verdict.now)
+        ++ loss_lines n (site_text site.entry) (lost_in verdict.now))) }
+    ensures reason { IfOk result (λ reason. reason ≡ reason_in verdict.now) }
+    ensures counted { OnOk result
+        (counts.new ≡ with_admission counts.old (reason_in verdict.now)
+        (length (lost_in verdict.now))) }
+    ensures few { OnOk result (length (lost_in verdict.now) ≤ last_port) }
+{
+    let lost = put_admission(output, n, site, verdict)?;
+    let reason = reason_of(verdict);
+    count_admission(counts, reason, lost);
+    Ok(reason)
+}
+
+/// Tells a departure at the switch of this name: hands its frame over to the port's system if it
+/// left, and counts it.
+pub(crate) fn tell_departure<O: Sink>(
+    systems: &mut Systems,
+    counts: &mut Summary,
+    switch: &str,
+    departed: &Departed,
+    output: &mut O,
+) -> Result<(), RunFault>
+    requires low { AreLow counts.old }
+    requires sound { O.failed output.old ≡ false }
+    ensures failed { O.failed output.new ≡ is_failed_write result }
+    ensures fault { IfErr result IsOfOutput }
+    ensures settings { O.settings output.new ≡ O.settings output.old }
+    ensures room { (n held : ℕ) →
+        HasRoom counts.old (held + 1) n → OnOk result (HasRoom counts.new held n) }
+    ensures accepted { OnOk result (counts.new.accepted ≡ counts.old.accepted) }
+    ensures lost { OnOk result (counts.new.lost ≡ counts.old.lost) }
+    ensures told { (t : Rows) (before : List Event) (d : Departure) →
+        hearing.StandsFor t systems.old (frames_left before) → network.Hands departed.now d →
+        OnOk result (TellsDeparture switch.now t systems.new counts.old counts.new before d
+        (O.written output.old) (O.written output.new)) }
+    ensures begun { (t : Rows) (before : List Event) (d : Departure) →
+        hearing.StandsFor t systems.old (frames_left before) → network.Hands departed.now d →
+        OnErr result (AppendsFront (O.written output.old) (O.written output.new)
+        (lines_at switch.now t before (Left d))) }
+{
+    put_departure(output, switch, departed)?;
+    let departure = &departed.departure;
+    if departure.too_old() {
+        counts.too_old += 1;
+        return Ok(());
+    }
+    let handover = Handover {
+        side: departed.side,
+        port: departure.port(),
+        time: departure.time(),
+        line: departure.tag(),
+        frame: departure.frame(),
+    };
+    counts.departed += 1;
+    match hear(systems, handover, output)? {
+        Heard::Message => counts.delivered += 1,
+        Heard::Nothing => {}
+    }
+    Ok(())
+}
