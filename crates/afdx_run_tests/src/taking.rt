@@ -57,7 +57,7 @@ fn is_refused(alloc: Global, config: &str, change: Change) -> Result<(), Fail> {
 }
 
 #[test]
-fn files_are_refused(rt: HostRuntime) -> Result<(), Fail> {
+fn bad_files_are_told(rt: HostRuntime) -> Result<(), Fail> {
     let alloc = rt.alloc();
     let one = [
         ("buffer = 252", "buffer = 251", "admit A2 3 252\n"),
@@ -130,7 +130,7 @@ fn senders_are_taken(rt: HostRuntime) -> Result<(), Fail> {
 }
 
 #[test]
-fn senders_are_refused(rt: HostRuntime) -> Result<(), Fail> {
+fn bad_senders_are_told(rt: HostRuntime) -> Result<(), Fail> {
     let alloc = rt.alloc();
     let late = changed(two_switches(), "latency_us = 17", "latency_us = 10")?;
     let twice = changed(two_switches(), "id = 2", "id = 1")?;
