@@ -19,7 +19,7 @@ use Rattle.afdx_recorded.proofs.Sealing.{known}
 latest-next : (n : ℕ) (bytes : List ℕ) (head : NumberLine) (past : List (Item Heading)) (latest : ℕ)
     → latest_in frames (arrivals past) ≡ latest
     → latest_in frames (arrivals (as_arrival n bytes head past)) ≡ time_or head latest
-latest-next n bytes (line.Arrival kind time side port) past latest h = refl
+latest-next n bytes (line.Arrival kind time side switch port) past latest h = refl
 latest-next n bytes (line.Skipped reason) past latest h = h
 
 pub listed-latest : (lines : Lines) → latest_in frames (arrivals (arrivals_listed lines)) ≡ latest_time lines
@@ -30,7 +30,7 @@ listed-latest (x ∷ past) =
 
 few-next : (n : ℕ) (bytes : List ℕ) (head : NumberLine) (past : List (Item Heading)) (m : ℕ) → length past ≤ m
     → length (as_arrival n bytes head past) ≤ suc m
-few-next n bytes (line.Arrival kind time side port) past m h = omega (arith, h)
+few-next n bytes (line.Arrival kind time side switch port) past m h = omega (arith, h)
 few-next n bytes (line.Skipped reason) past m h = omega (arith, h)
 
 pub listed-few : (lines : Lines) → length (arrivals_listed lines) ≤ length lines
@@ -44,12 +44,13 @@ pub skipped-none : (x : Item NumberLine) (reason : Skipped) (lines : Lines) → 
 unfolding arrivals_listed
 skipped-none x reason lines e = rw e refl
 
-module _ (x : Item NumberLine) (lines : Lines) (kind : FrameKind) (time : ℕ) (side : Side) (port : ℕ) (own : Bool)
-    (seal : Seal) (is : x.head ≡ line.Arrival kind time side port) (own-is : own ≡ has_own kind x.bytes)
+module _ (x : Item NumberLine) (lines : Lines) (kind : FrameKind) (time : ℕ) (side : Side)
+    (switch port : ℕ) (own : Bool) (seal : Seal) (is : x.head ≡ line.Arrival kind time side switch port) (own-is : own ≡ has_own kind x.bytes)
     (seal-is : seal ≡ seal_by kind own) where
   abbrev Arrives : Item Heading
   Arrives =
-      item_of x.number (record { time = time; side = side; switch = 0; port = port; seal = seal }) (without_own own x.bytes)
+      item_of x.number (record { time = time; side = side; switch = switch; port = port; seal = seal })
+      (without_own own x.bytes)
 
   -- an arrival stands in front
   pub arrival-first : Arrives ∷ arrivals_listed lines ≡ arrivals_listed (x ∷ lines)

@@ -53,7 +53,7 @@ module _ (options : Options) (p q : Ports) (a : Agree p q) where
   same-entrance : (place : Option Place) (bytes : List ℕ)
       → entrance_of options.network place p bytes ≡ entrance_of options.network place q bytes
   unfolding entrance_of
-  same-entrance place bytes = rw (a.claims, a.ports bytes) refl
+  same-entrance place bytes = rw (a.claims, a.entries bytes) refl
 
   same-bind : {X Y : Type 0} (r : Result X NoArrival) (f g : X → Result Y NoArrival) → ((x : X) → f x ≡ g x)
       → (r >>= f) ≡ (r >>= g)
@@ -63,7 +63,7 @@ module _ (options : Options) (p q : Ports) (a : Agree p q) where
   -- what a frame becomes, once it is known where it came in
   abbrev behind : Ports → (n : ℕ) → RecordedFrame → List ℕ → (stamp : ℕ) → Entrance → Result Found NoArrival
   behind ports n frame bytes stamp entrance =
-      moment_by options.from_start n stamp (line_time ports entrance.port
+      moment_by options.from_start n stamp (line_time ports entrance.entry
       (ends_with_sequence options.fcs frame.check_sequence) bytes)
       >>= (λ moment. check (not (is_before options.origin moment)) (no.Skipped why.BeforeOrigin)
       >> (or_else (kind_with (ends_with_sequence options.fcs frame.check_sequence) frame.found_wrong bytes)
@@ -71,7 +71,7 @@ module _ (options : Options) (p q : Ports) (a : Agree p q) where
 
   same-behind : (n : ℕ) (frame : RecordedFrame) (bytes : List ℕ) (stamp : ℕ) (entrance : Entrance)
       → behind p n frame bytes stamp entrance ≡ behind q n frame bytes stamp entrance
-  same-behind n frame bytes stamp entrance = rw (a.byte_times entrance.port) refl
+  same-behind n frame bytes stamp entrance = rw (a.byte_times entrance.entry.switch entrance.entry.port) refl
 
   same-frame : (n : ℕ) (frame : RecordedFrame) (bytes : List ℕ)
       → frame_becomes options p n frame bytes ≡ frame_becomes options q n frame bytes

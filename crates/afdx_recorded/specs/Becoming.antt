@@ -29,7 +29,8 @@ use Rattle.afdx_recorded.specs.declared.places.Place.{Place}
 use Rattle.afdx_recorded.specs.declared.skipped.Skipped.TheVariants.{NoFrame, LeftOut, NotAfdx}
 use Rattle.afdx_recorded.specs.declared.skipped.Skipped.TheVariants.{UnknownSender, NoNetwork}
 use Rattle.afdx_recorded.specs.declared.skipped.Skipped.TheVariants.{BeforeOrigin}
-use Rattle.afdx_recorded.specs.Places.{place_of, is_left_out, side_of, port_said}
+use Rattle.afdx_recorded.specs.declared.places.Entry.{Entry}
+use Rattle.afdx_recorded.specs.Places.{place_of, is_left_out, side_of, entry_said, allows}
 use Rattle.afdx_recorded.specs.Claims.{Ports, side_claimed}
 
 -- what the options say: the place of each interface, whether frames end with their check sequence,
@@ -118,11 +119,23 @@ said_or None claimed = claimed
 abbrev pub side_said : (network : Option Side) → Option Place → Option Side
 side_said network place = said_or network (side_of place)
 
--- the side or the port is taken from the frame's bytes
+-- where the frame's bytes claim that it came in, if the place allows for it
+abbrev pub only_if : {X : Type 0} → (X → Bool) → Option X → Option X
+only_if holds (Some x) = if holds x then Some x else None
+only_if holds None = None
+
+abbrev pub entry_claimed : Option Place → Ports → List ℕ → Option Entry
+entry_claimed place ports bytes = only_if (allows place) (ports.entry bytes)
+
+-- where it came in: what the place says, else what its bytes claim
+abbrev pub entry_of : Option Place → Ports → List ℕ → Option Entry
+entry_of place ports bytes = said_or (entry_said place) (entry_claimed place ports bytes)
+
+-- the side, the switch or the port is taken from the frame's bytes
 abbrev pub is_claimed : (network : Option Side) → Option Place → Ports → Bool
 is_claimed network place ports =
     not (is_some (side_said network place))
-    || (ports.are_claimed && not (is_some (port_said place)))
+    || (ports.are_claimed && not (is_some (entry_said place)))
 
 -- the source address names the other network than that by which the frame came
 abbrev pub is_other : (side : Side) → (named : Option Side) → Bool
@@ -133,10 +146,10 @@ is_other side named = false
 abbrev pub is_contradicted : Side → List ℕ → Bool
 is_contradicted side bytes = is_other side (side_claimed bytes)
 
-abbrev pub entrance_with : Side → ℕ → (claimed contradicted : Bool) → Entrance
-entrance_with side port claimed contradicted = record {
+abbrev pub entrance_with : Side → Entry → (claimed contradicted : Bool) → Entrance
+entrance_with side entry claimed contradicted = record {
   side = side;
-  port = port;
+  entry = entry;
   is_claimed = claimed;
   is_contradicted = contradicted;
 }
@@ -145,9 +158,9 @@ unfoldable pub entrance_of : (network : Option Side) → Option Place → Ports 
     Result Entrance NoArrival
 entrance_of network place ports bytes = do
   check (is_some (link_named_by bytes)) (Skipped NotAfdx)
-  port ← or_else (said_or (port_said place) (ports.port bytes)) (Skipped UnknownSender)
+  entry ← or_else (entry_of place ports bytes) (Skipped UnknownSender)
   side ← or_else (said_or (side_said network place) (side_claimed bytes)) (Skipped NoNetwork)
-  Ok (entrance_with side port (is_claimed network place ports) (is_contradicted side bytes))
+  Ok (entrance_with side entry (is_claimed network place ports) (is_contradicted side bytes))
 
 -- ---- its check sequence
 
@@ -195,10 +208,10 @@ abbrev pub whole_length : Option Bool → List ℕ → ℕ
 whole_length (Some true) bytes = length bytes
 whole_length _ bytes = length bytes + 4
 
--- how long it lasts at this port, in ns
-abbrev pub line_time : Ports → ℕ → Option Bool → List ℕ → ℕ
-line_time ports port has_sequence bytes =
-    whole_length has_sequence bytes * unwrap_or (ports.byte_ns port) 0
+-- how long it lasts where it came in, in ns
+abbrev pub line_time : Ports → Entry → Option Bool → List ℕ → ℕ
+line_time ports entry has_sequence bytes =
+    whole_length has_sequence bytes * unwrap_or (ports.byte_ns entry.switch entry.port) 0
 
 -- the greatest moment that is told; far behind all that a stamp can say
 abbrev pub latest_moment : ℕ
@@ -235,7 +248,8 @@ abbrev pub found_with : ℕ → Entrance → FrameKind → Found
 found_with moment entrance kind = record {
   moment = moment;
   side = entrance.side;
-  port = entrance.port;
+  switch = entrance.entry.switch;
+  port = entrance.entry.port;
   is_claimed = entrance.is_claimed;
   is_contradicted = entrance.is_contradicted;
   kind = kind;
@@ -248,7 +262,7 @@ frame_becomes options ports n frame bytes = do
   check (not (is_left_out (options.place frame.interface))) (Skipped LeftOut)
   stamp ← whole_moment options.fcs n frame (length bytes)
   entrance ← entrance_of options.network (options.place frame.interface) ports bytes
-  moment ← moment_by options.from_start n stamp (line_time ports entrance.port
+  moment ← moment_by options.from_start n stamp (line_time ports entrance.entry
       (ends_with_sequence options.fcs frame.check_sequence) bytes)
   check (not (is_before options.origin moment)) (Skipped BeforeOrigin)
   kind ← or_else (kind_with (ends_with_sequence options.fcs frame.check_sequence)

@@ -9,6 +9,7 @@ pub mod Sequences
 pub mod Ordering
 pub mod Holding
 pub mod NumberLines
+pub mod Entering
 pub mod Timing
 pub mod Merging
 pub mod Taking

@@ -6,6 +6,8 @@ pub use Rattle.afdx_recordings.specs.Limits.{most_interfaces}
 use Rattle.afdx_recorded.specs.Tables.{known}
 use Rattle.afdx_recorded.specs.declared.places.Place.{Place}
 use Rattle.afdx_recorded.specs.declared.places.Place.TheVariants.{LeftOut, OnSide, AtPort}
+use Rattle.afdx_recorded.specs.declared.places.Place.TheVariants.{AtNamed, AtSwitch}
+use Rattle.afdx_recorded.specs.declared.places.Entry.{Entry}
 use Rattle.afdx_recorded.specs.declared.places.Interfaces.{Interfaces}
 
 -- the place of an interface
@@ -27,12 +29,26 @@ abbrev pub is_left_out : Option Place → Bool
 is_left_out (Some LeftOut) = true
 is_left_out _ = false
 
--- the side that it says, and the port
+-- the side that it says
 abbrev pub side_of : Option Place → Option Side
 side_of (Some (OnSide side)) = Some side
 side_of (Some (AtPort side port)) = Some side
+side_of (Some (AtNamed side name port)) = Some side
+side_of (Some (AtSwitch side switch port)) = Some side
 side_of _ = None
 
-abbrev pub port_said : Option Place → Option ℕ
-port_said (Some (AtPort side port)) = Some port
-port_said _ = None
+-- a port of a switch
+abbrev pub entry_at : (switch port : ℕ) → Entry
+entry_at switch port = record { switch = switch; port = port }
+
+-- the switch and the port, where it says both
+abbrev pub entry_said : Option Place → Option Entry
+entry_said (Some (AtPort side port)) = Some (entry_at 0 port)
+entry_said (Some (AtSwitch side switch (Some port))) = Some (entry_at switch port)
+entry_said _ = None
+
+-- a frame may have come in there: where it says a switch, at that one, if that is known
+abbrev pub allows : Option Place → Entry → Bool
+allows (Some (AtNamed side name port)) entry = false
+allows (Some (AtSwitch side switch port)) entry = entry.switch == switch
+allows _ entry = true

@@ -98,6 +98,7 @@ impl<I, S: Source<NumberLine, I>> Source<Heading, I> for Arriving<S> {
                 kind,
                 time,
                 side,
+                switch,
                 port,
             } = self.lines.head()
             {
@@ -106,7 +107,7 @@ impl<I, S: Source<NumberLine, I>> Source<Heading, I> for Arriving<S> {
                 self.head = Heading {
                     time,
                     side,
-                    switch: 0,
+                    switch,
                     port,
                     seal: seal_by(kind, own),
                 };

@@ -6,7 +6,7 @@ ghost use Rattle.afdx_recorded.specs.Becoming.{options_of};
 ghost use Rattle.afdx_recorded.specs.Claims.{ports_of};
 ghost use Rattle.afdx_recorded.specs.Places as places;
 
-use crate::places::{Interfaces, Place};
+use crate::places::{Entry, Interfaces, Place};
 use crate::senders::{SystemPorts, side_claimed};
 use crate::skipped::Skipped;
 use afdx_frame::{Side, fcs, vl_of};
@@ -70,9 +70,12 @@ pub struct Found {
     pub moment: u64,
     /// The network by which it came.
     pub side: Side,
+    /// The place of the switch at which it came in among those of its side, from 0; 0 where there is
+    /// one.
+    pub switch: u8,
     /// The port at which it came in.
     pub port: u8,
-    /// Whether its side or its port was taken from its bytes.
+    /// Whether its side, its switch or its port was taken from its bytes.
     pub is_claimed: bool,
     /// Whether its source address names the other network.
     pub is_contradicted: bool,
@@ -93,7 +96,7 @@ pub enum NoArrival {
 #[derive(Clone, Copy, Debug)]
 struct Entrance {
     side: Side,
-    port: u8,
+    entry: Entry,
     is_claimed: bool,
     is_contradicted: bool,
 }
@@ -163,25 +166,51 @@ fn side_said(network: Option<Side>, place: Option<Place>) -> Option<Side>
         (Some(side), _) => Some(side),
         (None, Some(Place::OnSide(side))) => Some(side),
         (None, Some(Place::AtPort(side, _))) => Some(side),
+        (None, Some(Place::AtNamed(side, _, _))) => Some(side),
+        (None, Some(Place::AtSwitch(side, _, _))) => Some(side),
         (None, _) => None,
     }
 }
 
-/// The port that a place says.
-fn port_said(place: Option<Place>) -> Option<u8>
-    ensures { result ≡ places.port_said place }
+/// The switch and the port, where a place says both.
+fn entry_said(place: Option<Place>) -> Option<Entry>
+    ensures { result ≡ places.entry_said place }
 {
     match place {
-        Some(Place::AtPort(_, port)) => Some(port),
+        Some(Place::AtPort(_, port)) => Some(Entry { switch: 0, port }),
+        Some(Place::AtSwitch(_, switch, Some(port))) => Some(Entry { switch, port }),
         _ => None,
     }
 }
 
-/// Whether the side or the port is taken from the frame's bytes.
+/// Whether a frame may have come in there by what a place says.
+fn allows(place: Option<Place>, entry: Entry) -> bool
+    ensures { result ≡ places.allows place entry }
+{
+    match place {
+        Some(Place::AtNamed(_, _, _)) => false,
+        Some(Place::AtSwitch(_, switch, _)) => entry.switch == switch,
+        _ => true,
+    }
+}
+
+/// Where a frame's bytes claim that it came in, if the place allows for it.
+fn entry_claimed(place: Option<Place>, ports: &SystemPorts, bytes: &[u8]) -> Option<Entry>
+    ensures { result ≡ spec.entry_claimed place (ports_of ports.now) bytes.now }
+{
+    let entry = ports.entry(bytes)?;
+    if allows(place, entry) {
+        Some(entry)
+    } else {
+        None
+    }
+}
+
+/// Whether the side, the switch or the port is taken from the frame's bytes.
 fn is_claimed(network: Option<Side>, place: Option<Place>, ports: &SystemPorts) -> bool
     ensures { result ≡ spec.is_claimed network place (ports_of ports.now) }
 {
-    side_said(network, place).is_none() || (ports.are_claimed() && port_said(place).is_none())
+    side_said(network, place).is_none() || (ports.are_claimed() && entry_said(place).is_none())
 }
 
 /// Whether the source address of a frame names the other network than that by which it came.
@@ -207,7 +236,7 @@ fn entrance_of(
     if vl_of(bytes).is_none() {
         return Err(NoArrival::Skipped(Skipped::NotAfdx));
     }
-    let Some(port) = port_said(place).or_else(|| ports.port(bytes)) else {
+    let Some(entry) = entry_said(place).or_else(|| entry_claimed(place, ports, bytes)) else {
         return Err(NoArrival::Skipped(Skipped::UnknownSender));
     };
     let Some(side) = side_said(network, place).or_else(|| side_claimed(bytes)) else {
@@ -216,7 +245,7 @@ fn entrance_of(
     let is_claimed = is_claimed(network, place, ports);
     Ok(Entrance {
         side,
-        port,
+        entry,
         is_claimed,
         is_contradicted: is_contradicted(side, bytes),
     })
@@ -256,12 +285,12 @@ fn whole_length(has_sequence: Option<bool>, bytes: &[u8]) -> u128
     }
 }
 
-/// How long a frame lasts at this port, in ns.
-fn line_time(ports: &SystemPorts, port: u8, has_sequence: Option<bool>, bytes: &[u8]) -> u128
-    ensures time { result ≡ spec.line_time (ports_of ports.now) port has_sequence bytes.now }
+/// How long a frame lasts where it came in, in ns.
+fn line_time(ports: &SystemPorts, entry: Entry, has_sequence: Option<bool>, bytes: &[u8]) -> u128
+    ensures time { result ≡ spec.line_time (ports_of ports.now) entry has_sequence bytes.now }
     ensures small { result < 0x20000000000000000000000000 }
 {
-    let byte_ns = ports.byte_ns(port).unwrap_or(0);
+    let byte_ns = ports.byte_ns(entry).unwrap_or(0);
     whole_length(has_sequence, bytes) * u128::from(byte_ns)
 }
 
@@ -323,14 +352,14 @@ fn frame_becomes(
         n frame.now bytes.now }
 {
     let place = options.interfaces.place(frame.interface);
-    if place == Some(Place::LeftOut) {
+    if let Some(Place::LeftOut) = place {
         return Err(NoArrival::Skipped(Skipped::LeftOut));
     }
     let stamp = whole_moment(options.fcs, n, frame, bytes.len())?;
     let entrance = entrance_of(options.network, place, ports, bytes)?;
     let has_sequence = ends_with_sequence(options.fcs, frame.check_sequence);
     let moment = if options.from_start {
-        let time = line_time(ports, entrance.port, has_sequence, bytes);
+        let time = line_time(ports, entrance.entry, has_sequence, bytes);
         last_bit(n, stamp, time)?
     } else {
         stamp
@@ -344,7 +373,8 @@ fn frame_becomes(
     Ok(Found {
         moment,
         side: entrance.side,
-        port: entrance.port,
+        switch: entrance.entry.switch,
+        port: entrance.entry.port,
         is_claimed: entrance.is_claimed,
         is_contradicted: entrance.is_contradicted,
         kind: kind_used(kind, bytes),

@@ -57,6 +57,7 @@ impl Clock {
                     kind: found.kind,
                     time,
                     side: found.side,
+                    switch: found.switch,
                     port: found.port,
                 })
             }

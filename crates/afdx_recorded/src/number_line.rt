@@ -17,6 +17,8 @@ pub enum NumberLine {
         time: u64,
         /// The network by which it comes.
         side: Side,
+        /// The place of its switch among those of its side, from 0; 0 where there is one.
+        switch: u8,
         /// The port at which it comes in, 1 to 24.
         port: u8,
     },

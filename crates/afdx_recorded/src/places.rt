@@ -8,15 +8,31 @@ use afdx_frame::Side;
 use afdx_recordings::MOST_INTERFACES;
 use std::alloc::{AllocError, Global};
 
+/// A port of a switch, at which frames come in.
+#[derive(Clone, Copy, Debug, PartialEq, Eq)]
+pub struct Entry {
+    /// The place of the switch among those of its side, from 0; 0 where there is one.
+    pub switch: u8,
+    /// 1 to 24.
+    pub port: u8,
+}
+
 /// Where the frames of an interface came in.
 #[derive(Clone, Copy, Debug, PartialEq, Eq)]
 pub enum Place {
     /// Nowhere: they are left out.
     LeftOut,
-    /// At this side's switch.
+    /// On this side.
     OnSide(Side),
-    /// At this side's switch, at this of its ports, 1 to 24.
+    /// At this port, 1 to 24, of this side's switch, where there is one.
     AtPort(Side, u8),
+    /// At that of several switches of this side whose name has this number among those that
+    /// `Interfaces::name` took and, if it is said, at this of its ports, 1 to 24. No frame came in
+    /// there until a configuration says which switch has the name.
+    AtNamed(Side, u16, Option<u8>),
+    /// At the switch of this side at this place of the configuration, from 0, and, if it is said,
+    /// at this of its ports.
+    AtSwitch(Side, u8, Option<u8>),
 }
 
 /// Where the frames of each interface came in, where that is said.
