@@ -18,4 +18,5 @@ pub mod PairLemmas
 pub mod TimedPairLemmas
 pub mod OrderLemmas
 pub mod LawLemmas
+mod PlacingLemmas
 pub mod UnusedLemmas
