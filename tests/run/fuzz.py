@@ -240,7 +240,7 @@ def try_recorded_list(runs, seed, number, stored):
     data = pcap_of(case.text, chance)
     runs.write("list", data)
     words = "replay", "--no-admission", "config"
-    command = wanted.Command(words, wanted.systems_of(case.tables))
+    command = wanted.Command(words, wanted.of_one_switch(case.tables))
     options = wanted.random_options(chance)._replace(fcs=False)
     recording = wanted.Case(data, options, command=command)
     program = Program(runs.program, runs.folder)
