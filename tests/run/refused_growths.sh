@@ -8,11 +8,11 @@
 # `--margins`, and with late links by `--all`, solves it with late links, explains a line, replays a
 # frame and its copy in base.toml, replays examples/gigabit.list, and sends five messages, of which
 # one is refused; it replays and sends over examples/two_switches.toml. It polices and replays
-# recordings, and replays and lists two at once, over two switches too, if it reads them
-# (tests/lib/reads.py). Each of these is run with the first request refused, then the second, and so on, until a run meets no
-# refusal; and again with all requests refused from the first on, from the second on, and so on.
-# Each run must write a beginning of what the undisturbed run writes, and end either with the line
-# `memory` and status 4, or as the undisturbed run does.
+# recordings, and replays and lists two at once, over the two switches too, if it reads them
+# (tests/lib/reads.py). Each of these is run with the first request refused, then the second, and so
+# on, until a run meets no refusal; and again with all requests refused from the first on, from the
+# second on, and so on. Each run must write a beginning of what the undisturbed run writes, and end
+# either with the line `memory` and status 4, or as the undisturbed run does.
 #
 # Of each RUNNER the tests whose names, with their modules', contain `refused` are run, with one
 # request refused at a time, and with all refused from one on. Such a test makes a call again where
