@@ -20,7 +20,7 @@ import os
 import random
 import sys
 from collections import Counter
-from collections.abc import Iterator
+from collections.abc import Callable, Iterator
 
 sys.dont_write_bytecode = True
 TESTS = os.path.join(os.path.dirname(os.path.abspath(__file__)), "..")
@@ -31,6 +31,7 @@ from cascade_run import refused  # noqa: E402
 from compared_recordings import AnyCase, as_computed, case_over, files_of  # noqa: E402
 from compared_recordings import inputs_in, listed_answer, replayed_answer  # noqa: E402
 from compared_runs import DROPS, FREE, SUMMARY  # noqa: E402
+from large_cascades import around_one, in_a_mesh, in_a_row  # noqa: E402
 from made_cascades import made_cascade, solved, three_of  # noqa: E402
 from made_lists import made_list  # noqa: E402
 from pair_reading import both_of_pair  # noqa: E402
@@ -173,6 +174,21 @@ def all_alike(program: Program, cases: Iterator[tuple[dict, AnyCase]]) -> None:
         read(program, case)
 
 
+def large_alike(program: Program, make: Callable[[], dict]) -> None:
+    """A large cascade, with a tap at each port that a list names, and with a mirror of each switch.
+    """
+    cascade, program = make(), program.apart()
+    chance = random.Random(len(cascade["switch"]))
+    text = made_list(chance, cascade, 200)
+    for grain in (TAPS, MIRRORS):
+        data, names = recorded(chance, cascade, frames_of(cascade, text), grain)
+        case = case_over(cascade, (data,), Options(dict(enumerate(names))))
+        as_computed(program, cascade, case, [(FREE, DROPS, SUMMARY)])
+        said = case.told()
+        found = program.run("list", *case.options.words(), *files_of(program, case))
+        answers(found, *listed_answer(said, ()))
+
+
 # ---- all -----------------------------------------------------------------------------------------
 
 
@@ -190,6 +206,11 @@ def computed_cases() -> list[tuple]:
 def program_cases(program: Program) -> list[tuple]:
     """What is tried with the program."""
     cases: list[tuple] = [(row.name, row_is_told, program, row) for row in ROWS]
+    cases += [
+        ("24 switches in a row", large_alike, program, lambda: in_a_row(24)),
+        ("23 switches around one", large_alike, program, lambda: around_one(23)),
+        ("24 switches each to each", large_alike, program, lambda: in_a_mesh(24, False)),
+    ]
     for seed in range(4):
         name = f"lists of 30 cascades as recordings, {seed}"
         cases.append((name, all_alike, program, of_lists(seed, 10)))
