@@ -10,7 +10,7 @@ from typing import NamedTuple
 
 from cascade import cascade_text, of_one
 from cascade_rows import TWO_TEXT, Changes
-from cascade_run_rows import told, two_with
+from cascade_run_rows import ODD_NAMES, told, two_with
 from edge_rows import CLOSED, low
 from recorded_arrivals import Options
 from recorded_pair import PairOptions
@@ -36,7 +36,7 @@ class TappedRow(NamedTuple):
 
 def shown(lines: str) -> bytes:
     """Lines of a stream, with the digits of the frames."""
-    frames = {"H1": H1, "H2": H2, "CLOSED": CLOSED, "ROGUE": ROGUE, "SECOND": SECOND}
+    frames = {"H1": H1, "H2": H2, "CLOSED": CLOSED, "ROGUE": ROGUE, "ZERO_SENDER": ZERO_SENDER}
     return told(re.sub("|".join(frames), lambda found: frames[found[0]], lines))
 
 
@@ -68,6 +68,8 @@ def pair_of(*words: str) -> PairOptions:
 
 ROGUE = from_sender("020000000920")  # of no system
 NOWHERE = from_sender("020000000160")  # of no network
+ZERO_SENDER = from_sender("020000000020")  # its sender has the number 0
+LONGEST = "ForwardAvionics1"  # a name of 16 letters and digits
 SECOND = H1[:-2] + "01"  # link 1's frame with the next number
 BOTH = each_ms(H1, H2)
 NO_OPTION = Options()
@@ -149,6 +151,27 @@ def place_rows() -> list[TappedRow]:
         listed("one switch alone", BOTH, "F 0 A only 1 H1 / F 1000000 A only 2 H2", text=only),
         listed("its port", BOTH, "F 0 A only 2 H1 / F 1000000 A only 2 H2",
                options=Options({0: "A only:2"}), text=only),
+    ]
+
+
+def name_rows() -> list[TappedRow]:
+    """Numbers of systems, and names of switches. A neighbour has no number."""
+    to_fwd, no_number = Options({0: "A fwd"}), each_ms(ZERO_SENDER)
+    long = TWO_TEXT.replace(b'"fwd"', b'"%s"' % LONGEST.encode())
+    skipped = "# unknown-sender 1", "recording NoArrival 1"
+    of_s1 = two_with({"fwd system 1 id": 0})
+    return [
+        listed("the number 0, of no system", no_number, *skipped),
+        listed("the number 0, of none of the switch", no_number, *skipped, to_fwd),
+        listed("the number 0, of s1", no_number, "F 0 A fwd 1 ZERO_SENDER", text=of_s1),
+        listed("a switch named as a port", BOTH, "# unknown-sender 2 / F 0 A 1 1 H1",
+               options=Options({0: "A 1"}), text=ODD_NAMES),
+        listed("a port of such a switch", F1, "F 0 B 1 2 H1", options=Options({0: "B 1:2"}),
+               text=ODD_NAMES),
+        listed("a switch named as a side", F1, "F 0 B A 1 H1", options=Options({0: "B A:1"}),
+               text=ODD_NAMES),
+        listed("a name of 16 letters", F1, f"F 0 A {LONGEST} 1 H1",
+               options=Options({0: f"A {LONGEST}:1"}), text=long),
     ]
 
 
@@ -261,4 +284,4 @@ def pair_rows() -> list[TappedRow]:
     ]
 
 
-ROWS = [*place_rows(), *run_rows(), *order_rows(), *fault_rows(), *pair_rows()]
+ROWS = [*place_rows(), *name_rows(), *run_rows(), *order_rows(), *fault_rows(), *pair_rows()]
