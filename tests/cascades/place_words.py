@@ -7,7 +7,7 @@ import random
 from cascade import loaded, of_one
 from cascade_rows import TWO_TEXT
 from cascade_run_rows import two_with
-from compared_recordings import as_computed, case_over
+from compared_recordings import as_computed, case_over, files_of, listed_answer
 from compared_runs import FREE
 from places import is_bad, is_unsuited
 from program import Program, answers, must, same_text
@@ -105,6 +105,8 @@ def own_places(program: Program) -> None:
     for place in OF_TWO:
         one = case_over(cascade, PAIR[:1], Options({0: place}))
         as_computed(program, cascade, one, [(), (FREE,)])
+        found = program.run("list", "--interface", f"0={place}", *files_of(program, one))
+        answers(found, *listed_answer(one.told(), ()))
         two = case_over(cascade, PAIR, PairOptions((f"0={place}",)))
         as_computed(program, cascade, two, [()])
 
