@@ -93,6 +93,14 @@ impl Run<'_> {
         }
     }
 
+    /// Whether it goes by a configuration, which may describe several switches on a side.
+    fn has_configuration(&self) -> bool {
+        match self {
+            Run::Police(_) => false,
+            Run::Replay(_) | Run::List { .. } => true,
+        }
+    }
+
     /// Whether lines come on standard error while it goes on.
     fn explains_drops(&self) -> bool {
         match self {
@@ -227,7 +235,7 @@ fn run_one(
     let Ok(mut output) = Output::new(rt.alloc(), output_room(rt, matches), device) else {
         return memory(rt);
     };
-    let options = match recording_options(rt.alloc(), matches) {
+    let options = match recording_options(rt.alloc(), matches, run.has_configuration()) {
         Ok(options) => options,
         Err(refused) => return refuse(rt, matches, refused),
     };

@@ -99,7 +99,7 @@ behind its word, A1 to B5. 'afdx replay --no-admission' replays a network that i
         "config BadProfile",
         "\
 A file with switch and without profile at its top describes several switches a side. 'check',
-'replay' and 'send' take it, 'solve' and 'list' don't yet.",
+'replay', 'list' and 'send' take it, 'solve' doesn't yet.",
     ),
     (
         "V n A|B * accept",

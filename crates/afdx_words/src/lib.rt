@@ -2,6 +2,7 @@
 #![tactic(auto)]
 
 mod list_words;
+mod place_words;
 mod recording_words;
 mod solve_words;
 mod words;

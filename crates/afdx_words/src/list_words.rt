@@ -1,7 +1,7 @@
 //! The words of `list`.
 
 use crate::recording_words::{
-    fcs_option, interface_option, origin_option, reorder_option, second_list, stamps_option,
+    fcs_option, origin_option, reorder_option, second_list, sited_interface_option, stamps_option,
 };
 use crate::words::{
     CONFIG_HELP, command, explain_option, line_buffered, progress_option, summary_option, word,
@@ -27,6 +27,9 @@ bytes were recorded stands as its first 2,000. Up to 1,000,000 lines 'replay' an
 'police' read the list as they do the recording. --summary prints how many are no
 arrivals, in the line 'skipped ..'.
 
+CONFIG may describe several switches a side. The name of one then stands behind each
+side, and --interface '0=A fwd' takes the frames of fwd's own systems alone.
+
 With a second LIST the first is the recording of network A, the second that of network
 B, and both are read at once: arrivals come as 'replay' takes them, remarks where their
 frames are read, each with the number in its own recording, and line n is no number.
@@ -41,7 +44,7 @@ const RECORDING_HELP: &str = "The path of a recording (pcap, pcapng), or - for s
 
 pub fn list_command<'a>(alloc: Global) -> Result<Command<'a>, AllocError> {
     let words = vec![in alloc;
-        interface_option(alloc),
+        sited_interface_option(alloc),
         fcs_option(alloc),
         origin_option(alloc),
         reorder_option(alloc),

@@ -1,10 +1,8 @@
 //! The options of a recording, and what their words say.
 
-ghost use Rattle.std.specs.Prelude.{◌<◌, IfSome};
-ghost use Rattle.afdx_recorded.specs.Places.{most_interfaces};
-
-use afdx_frame::{BySide, LAST_PORT, Side};
-use afdx_recorded::{Interfaces, PairOptions, Place, RecordingOptions};
+use crate::place_words::{interfaces_in, pair_interfaces_in};
+use afdx_frame::BySide;
+use afdx_recorded::{PairOptions, RecordingOptions};
 use clap::{Arg, ArgAction, ArgMatches, value_parser};
 use std::alloc::{AllocError, Global};
 
@@ -14,19 +12,25 @@ pub const STANDARD_INPUT: &str = "-";
 /// The greatest moment, in ns since 1970.
 const LATEST_MOMENT: u64 = 9_223_372_036_854_775_807;
 
-/// The greatest number of an interface.
-const LAST_INTERFACE: u16 = 4_095;
-
 const INTERFACE_HELP: &str = "Where the frames of interface K of the recording came in: A, B, \
 A:PORT or B:PORT; - leaves them out";
 
-/// The option that says where an interface's frames came in, which may be given again.
+const SITED_INTERFACE_HELP: &str = "Where the frames of interface K of the recording came in: A, \
+B, A:PORT or B:PORT, of several switches 'A SWITCH' or 'A SWITCH:PORT'; - leaves them out";
+
+/// The option that says where an interface's frames came in, which may be given again. Of one
+/// switch on a side.
 pub fn interface_option<'a>(alloc: Global) -> Arg<'a> {
     Arg::new(alloc, "interface")
         .long("interface")
         .value_name("K=PLACE")
         .help(INTERFACE_HELP)
         .action(ArgAction::Append)
+}
+
+/// The same where there may be several.
+pub fn sited_interface_option<'a>(alloc: Global) -> Arg<'a> {
+    interface_option(alloc).help(SITED_INTERFACE_HELP)
 }
 
 const FCS_HELP: &str = "Whether each frame of the recording ends with its check sequence, \
@@ -100,7 +104,8 @@ pub fn second_list<'a>(alloc: Global) -> Arg<'a> {
 /// Why words are not taken.
 #[derive(Clone, Copy, Debug, PartialEq, Eq)]
 pub enum Refused {
-    /// A word of `--interface` has another form, or its interface was named before.
+    /// A word of `--interface` has another form, its interface was named before, or a switch is
+    /// named where there can be none.
     BadInterface,
     /// The number of `--origin` is over 2^63 - 1, or that of `--reorder` over 100,000.
     BadNumber,
@@ -114,122 +119,6 @@ impl From<AllocError> for Refused {
     fn from(_error: AllocError) -> Refused {
         Refused::Memory
     }
-}
-
-/// The number that at most so many digits write, with nothing beside them.
-fn number_in(digits: &str, most: usize) -> Option<u16> {
-    let digits = digits.as_bytes();
-    if digits.is_empty() || digits.len() > most {
-        return None;
-    }
-    let mut number: u16 = 0;
-    for digit in digits {
-        if !digit.is_ascii_digit() {
-            return None;
-        }
-        number = number
-            .checked_mul(10)?
-            .checked_add(u16::from(*digit - b'0'))?;
-    }
-    Some(number)
-}
-
-/// The side that a word names.
-fn side_in(word: &str) -> Option<Side> {
-    match word {
-        "A" => Some(Side::A),
-        "B" => Some(Side::B),
-        _ => None,
-    }
-}
-
-/// The port that a word names: 1 to 24, in one or two digits.
-fn port_in(word: &str) -> Option<u8> {
-    let port = number_in(word, 2)?;
-    if port == 0 || port > u16::from(LAST_PORT) {
-        return None;
-    }
-    Some(port as u8)
-}
-
-/// The place that a word names: `-`, a side, or a side and a port.
-fn place_in(word: &str) -> Option<Place> {
-    if word == "-" {
-        return Some(Place::LeftOut);
-    }
-    match word.split_once(':') {
-        Some((side, port)) => Some(Place::AtPort(side_in(side)?, port_in(port)?)),
-        None => Some(Place::OnSide(side_in(word)?)),
-    }
-}
-
-/// The interface and the place that a word `K=PLACE` names.
-fn interface_in(word: &str) -> Option<(u16, Place)>
-    ensures { IfSome result (λ at. at.0 < most_interfaces) }
-{
-    let (interface, place) = word.split_once('=')?;
-    let interface = number_in(interface, 4)?;
-    if interface > LAST_INTERFACE {
-        return None;
-    }
-    Some((interface, place_in(place)?))
-}
-
-/// Says where the frames of an interface came in, unless that was said before.
-fn put_once(interfaces: &mut Interfaces, interface: u16, place: Place) -> Result<(), Refused>
-    requires { interface < most_interfaces }
-{
-    if interfaces.place(interface).is_some() {
-        return Err(Refused::BadInterface);
-    }
-    interfaces.put(interface, place);
-    Ok(())
-}
-
-/// Where the frames of each interface came in, by the words of `--interface`.
-fn interfaces_in(alloc: Global, words: &[&str]) -> Result<Interfaces, Refused> {
-    let mut interfaces = Interfaces::new(alloc)?;
-    for word in words {
-        let Some((interface, place)) = interface_in(word) else {
-            return Err(Refused::BadInterface);
-        };
-        put_once(&mut interfaces, interface, place)?;
-    }
-    Ok(interfaces)
-}
-
-/// Says where the frames of an interface came in, unless that was said before: in the recording of
-/// the place's side, or that they are left out of both.
-fn put_in_pair(pair: &mut BySide<Interfaces>, interface: u16, place: Place) -> Result<(), Refused>
-    requires { interface < most_interfaces }
-{
-    match place {
-        Place::LeftOut => {
-            put_once(&mut pair.a, interface, place)?;
-            put_once(&mut pair.b, interface, place)
-        }
-        Place::OnSide(Side::A) | Place::AtPort(Side::A, _) => {
-            put_once(&mut pair.a, interface, place)
-        }
-        Place::OnSide(Side::B) | Place::AtPort(Side::B, _) => {
-            put_once(&mut pair.b, interface, place)
-        }
-    }
-}
-
-/// Where the frames of each interface of two recordings came in, by the words of `--interface`.
-fn pair_interfaces_in(alloc: Global, words: &[&str]) -> Result<BySide<Interfaces>, Refused> {
-    let mut pair = BySide {
-        a: Interfaces::new(alloc)?,
-        b: Interfaces::new(alloc)?,
-    };
-    for word in words {
-        let Some((interface, place)) = interface_in(word) else {
-            return Err(Refused::BadInterface);
-        };
-        put_in_pair(&mut pair, interface, place)?;
-    }
-    Ok(pair)
 }
 
 /// Whether each frame ends with its check sequence, where that is said.
@@ -281,13 +170,15 @@ fn moments_in(matches: &ArgMatches<'_>) -> Result<Moments, Refused> {
     })
 }
 
-/// What the words say of a recording, if they are taken.
+/// What the words say of a recording, if they are taken; there may be several switches on a side,
+/// or there is one.
 pub fn recording_options(
     alloc: Global,
     matches: &ArgMatches<'_>,
+    several: bool,
 ) -> Result<RecordingOptions, Refused> {
     let words = matches.get_strs("interface").unwrap_or(&[]);
-    let interfaces = interfaces_in(alloc, words)?;
+    let interfaces = interfaces_in(alloc, words, several)?;
     let fcs = fcs_in(matches);
     let Moments {
         origin,

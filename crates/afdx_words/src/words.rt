@@ -2,7 +2,8 @@
 
 use crate::list_words::list_command;
 use crate::recording_words::{
-    fcs_option, interface_option, origin_option, reorder_option, second_list, stamps_option,
+    fcs_option, interface_option, origin_option, reorder_option, second_list,
+    sited_interface_option, stamps_option,
 };
 use crate::solve_words::solve_command;
 use clap::{Arg, ArgAction, Command, value_parser};
@@ -216,7 +217,8 @@ first, K=B.. of the second, K=- of both.
 CONFIG may describe several switches a side. The name of one then stands behind each
 side, in LIST and in all lines, as in 'V 1 A fwd accept': a place of two words. What
 leaves at a port with a cable arrives at its other end at that time, before the frames
-of LIST, with the same n. No recording is read then, and no second LIST.
+of LIST, with the same n. --interface '0=A fwd:1' says that interface 0 was at port 1 of
+fwd, '0=A fwd' that it was at fwd: what came there over a cable is left out.
 
 A closed pipe, as with '| head', is the fault 'device Write', status 4.
 
@@ -232,7 +234,7 @@ fn replay_command<'a>(alloc: Global) -> Result<Command<'a>, AllocError> {
     let words = vec![in alloc;
         flag(alloc, "no-admission", FREELY_HELP),
         flag(alloc, "explain-drops", EARLY_HELP),
-        interface_option(alloc),
+        sited_interface_option(alloc),
         fcs_option(alloc),
         origin_option(alloc),
         reorder_option(alloc),

@@ -1,0 +1,210 @@
+//! Where the frames of each interface of a recording came in, by the words of `--interface`.
+
+ghost use Rattle.std.specs.Prelude.{◌<◌, IfSome};
+ghost use Rattle.afdx_recorded.specs.Places.{most_interfaces};
+
+use crate::recording_words::Refused;
+use afdx_frame::{BySide, LAST_PORT, Side};
+use afdx_recorded::{Interfaces, Place};
+use std::alloc::Global;
+
+/// The greatest number of an interface.
+const LAST_INTERFACE: u16 = 4_095;
+
+/// The number that at most so many digits write, with nothing beside them.
+fn number_in(digits: &str, most: usize) -> Option<u16> {
+    let digits = digits.as_bytes();
+    if digits.is_empty() || digits.len() > most {
+        return None;
+    }
+    let mut number: u16 = 0;
+    for digit in digits {
+        if !digit.is_ascii_digit() {
+            return None;
+        }
+        number = number
+            .checked_mul(10)?
+            .checked_add(u16::from(*digit - b'0'))?;
+    }
+    Some(number)
+}
+
+/// The side that a word names.
+fn side_in(word: &str) -> Option<Side> {
+    match word {
+        "A" => Some(Side::A),
+        "B" => Some(Side::B),
+        _ => None,
+    }
+}
+
+/// The port that a word names: 1 to 24, in one or two digits.
+fn port_in(word: &str) -> Option<u8> {
+    let port = number_in(word, 2)?;
+    if port == 0 || port > u16::from(LAST_PORT) {
+        return None;
+    }
+    Some(port as u8)
+}
+
+/// A place as a word says it.
+#[derive(Clone, Copy, Debug)]
+enum Said<'a> {
+    /// Frames are left out.
+    LeftOut,
+    /// A side, the name of a switch of it, and a port.
+    At(Side, Option<&'a str>, Option<u8>),
+}
+
+/// The most bytes of a switch's name.
+const LONGEST_NAME: usize = 16;
+
+/// Whether a switch can have this name: 1 to 16 letters and digits of ASCII.
+fn is_name(word: &str) -> bool {
+    let bytes = word.as_bytes();
+    if bytes.is_empty() || bytes.len() > LONGEST_NAME {
+        return false;
+    }
+    for byte in bytes {
+        if !byte.is_ascii_alphanumeric() {
+            return false;
+        }
+    }
+    true
+}
+
+/// The side that a word names and, behind one space, the name of a switch.
+fn side_and_name_in(word: &str) -> Option<(Side, Option<&str>)> {
+    let Some((side, name)) = word.split_once(' ') else {
+        return Some((side_in(word)?, None));
+    };
+    if is_name(name) {
+        Some((side_in(side)?, Some(name)))
+    } else {
+        None
+    }
+}
+
+/// The place that a word names: `-`, or a side, which the name of a switch and a port may follow.
+fn place_in(word: &str) -> Option<Said<'_>> {
+    if word == "-" {
+        return Some(Said::LeftOut);
+    }
+    let (site, port) = match word.split_once(':') {
+        Some((site, port)) => (site, Some(port_in(port)?)),
+        None => (word, None),
+    };
+    let (side, name) = side_and_name_in(site)?;
+    Some(Said::At(side, name, port))
+}
+
+/// The interface and the place that a word `K=PLACE` names.
+fn interface_in(word: &str) -> Option<(u16, Said<'_>)>
+    ensures { IfSome result (λ at. at.0 < most_interfaces) }
+{
+    let (interface, place) = word.split_once('=')?;
+    let interface = number_in(interface, 4)?;
+    if interface > LAST_INTERFACE {
+        return None;
+    }
+    Some((interface, place_in(place)?))
+}
+
+/// The place that is said, with the number that a name of a switch gets.
+fn place_of(alloc: Global, interfaces: &mut Interfaces, said: Said<'_>) -> Result<Place, Refused> {
+    match said {
+        Said::LeftOut => Ok(Place::LeftOut),
+        Said::At(side, Some(name), port) => {
+            let name = String::from_str(alloc, name)?;
+            let Some(number) = interfaces.name(name)? else {
+                return Err(Refused::BadInterface);
+            };
+            Ok(Place::AtNamed(side, number, port))
+        }
+        Said::At(side, None, Some(port)) => Ok(Place::AtPort(side, port)),
+        Said::At(side, None, None) => Ok(Place::OnSide(side)),
+    }
+}
+
+/// Says where the frames of an interface came in, unless that was said before.
+fn put_once(
+    alloc: Global,
+    interfaces: &mut Interfaces,
+    interface: u16,
+    said: Said<'_>,
+) -> Result<(), Refused>
+    requires { interface < most_interfaces }
+{
+    if interfaces.place(interface).is_some() {
+        return Err(Refused::BadInterface);
+    }
+    let place = place_of(alloc, interfaces, said)?;
+    interfaces.put(interface, place);
+    Ok(())
+}
+
+/// Whether a switch is named.
+fn names_switch(said: Said<'_>) -> bool {
+    match said {
+        Said::At(_, Some(_), _) => true,
+        Said::At(_, None, _) | Said::LeftOut => false,
+    }
+}
+
+/// Where the frames of each interface came in, by the words of `--interface`; there may be several
+/// switches on a side, or there is one.
+pub(crate) fn interfaces_in(
+    alloc: Global,
+    words: &[&str],
+    several: bool,
+) -> Result<Interfaces, Refused> {
+    let mut interfaces = Interfaces::new(alloc)?;
+    for word in words {
+        let Some((interface, said)) = interface_in(word) else {
+            return Err(Refused::BadInterface);
+        };
+        if names_switch(said) && !several {
+            return Err(Refused::BadInterface);
+        }
+        put_once(alloc, &mut interfaces, interface, said)?;
+    }
+    Ok(interfaces)
+}
+
+/// Says where the frames of an interface came in, unless that was said before: in the recording of
+/// the place's side, or that they are left out of both.
+fn put_in_pair(
+    alloc: Global,
+    pair: &mut BySide<Interfaces>,
+    interface: u16,
+    said: Said<'_>,
+) -> Result<(), Refused>
+    requires { interface < most_interfaces }
+{
+    match said {
+        Said::LeftOut => {
+            put_once(alloc, &mut pair.a, interface, said)?;
+            put_once(alloc, &mut pair.b, interface, said)
+        }
+        Said::At(Side::A, _, _) => put_once(alloc, &mut pair.a, interface, said),
+        Said::At(Side::B, _, _) => put_once(alloc, &mut pair.b, interface, said),
+    }
+}
+
+/// Where the frames of each interface of two recordings came in, by the words of `--interface`.
+pub(crate) fn pair_interfaces_in(
+    alloc: Global,
+    words: &[&str],
+) -> Result<BySide<Interfaces>, Refused> {
+    let mut pair = BySide {
+        a: Interfaces::new(alloc)?,
+        b: Interfaces::new(alloc)?,
+    };
+    for word in words {
+        let Some((interface, said)) = interface_in(word) else {
+            return Err(Refused::BadInterface);
+        };
+        put_in_pair(alloc, &mut pair, interface, said)?;
+    }
+    Ok(pair)
+}
