@@ -19,3 +19,5 @@ pub mod TimedPairLemmas
 pub mod OrderLemmas
 pub mod LawLemmas
 pub mod UnusedLemmas
+pub mod EachLemmas
+pub mod EnteringLemmas
