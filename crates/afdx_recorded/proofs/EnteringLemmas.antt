@@ -291,7 +291,8 @@ module _ (Enters : Entry → Type 0) where
   line-comes origin (Skipped reason) h = tt
 
   lines-come : (late : Item Number → RunFault) (said : Option ℕ) (past : Numbers) (lines : Lines)
-      → timed late said past ≡ record { lines = lines; fault = None } → Each (ComesItem Enters) past → Each IsLineItem lines
+      → timed late said past ≡ record { lines = lines; fault = None } → Each (ComesItem Enters) past
+      → Each IsLineItem lines
   unfolding timed
   lines-come late said [] lines e h = subst (Each IsLineItem) (ap (λ (t : Timed). t.lines) e) tt
   lines-come late said (x ∷ past) lines e h =
@@ -328,7 +329,7 @@ given-entered remaining start input source past x g =
 
 -- ---- of two
 
-entry-agrees : EntriesAgree
+pub entry-agrees : EntriesAgree
 entry-agrees options p q entry a h = record {
   interface = h.interface;
   bytes = h.bytes;
