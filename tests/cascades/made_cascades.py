@@ -205,6 +205,13 @@ def flooded(chance: random.Random, cascade: dict) -> dict:
     return cascade
 
 
+def three_of(chance: random.Random, is_light: bool) -> list[dict]:
+    """A cascade with any values, with the least ones, and with these spoiled or flooded."""
+    cascade = made_cascade(chance, chance.randint(1, 5), chance.randint(1, 25), is_light)
+    least = solved(cascade)
+    return [cascade, least, chance.choice([spoiled, flooded])(chance, least)]
+
+
 # ---- files with faults ---------------------------------------------------------------------------
 
 VALUES = [

@@ -15,6 +15,7 @@ from cascade_check import cascade_false_lines
 from first_fault import MOST_LINES, field_faults, list_fault, list_lines
 from frames import sealed
 from one_switch import ACCEPTED, LEFT, Frame, Receiver, Switch, Turn
+from places import place_text
 from program import Answer
 from sender import Message, emissions
 
@@ -131,7 +132,7 @@ class Running:
     def __init__(self, switches: list[dict], is_named: bool) -> None:
         self.is_named, count = is_named, range(len(switches))
         names = [switch["name"] for switch in switches]
-        self.place = [[f"{side} {name}" if is_named else side for name in names] for side in SIDES]
+        self.place = [[place_text(side, name) for name in names] for side in SIDES]
         self.switches = [[Switch(tables) for tables in switches] for _ in SIDES]
         self.systems = [{row["port"]: row["name"] for row in sw["system"]} for sw in switches]
         self.receivers = {
@@ -272,7 +273,7 @@ def sent_lines(switch: dict, name: str, messages: list[Message]) -> Iterator[tup
     taken = [message for word, message in zip(refused, messages) if not word]
     for n, one in enumerate(emissions(switch, name, taken)):
         for side, frame in zip(SIDES, (one.a, one.b)):
-            place = f"{side} {switch['name']}"
+            place = place_text(side, switch["name"])
             yield one.end, 0, n, f"R {one.end} {place} {port} {frame.hex()}"
 
 

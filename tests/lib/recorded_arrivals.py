@@ -7,6 +7,7 @@ from bisect import bisect_right, insort
 from collections.abc import Iterator
 from typing import NamedTuple
 
+from places import LEFT_OUT, said
 from reads import HELD, ORDERS
 from recorded import Frame, is_packed, is_recording, recorded
 
@@ -23,7 +24,7 @@ class Options(NamedTuple):
     """The options of a run on a recording, the port that `police` gives its frames, and the side
     that they have as those of one of two recordings."""
 
-    places: dict[int, str] = {}  # of an interface: a side, a side and a port as `A:1`, or `-`
+    places: dict[int, str] = {}  # of an interface, as in `--interface K=PLACE`
     fcs: bool | None = None
     origin: int | None = None
     port: int | None = None
@@ -57,19 +58,22 @@ class Options(NamedTuple):
         return any(word != AT_ONCE for word in self.words())
 
 
+Port = tuple[str, int]  # of a switch, by its name and its number; one switch alone has no name
+
+
 class Systems(NamedTuple):
     """What a run knows of the systems: their ports by their numbers, and Mbit/s by port."""
 
-    ports: dict[int, int]
-    rates: dict[int, int]
+    ports: dict[int, Port]
+    rates: dict[Port, int]
 
 
 class Place(NamedTuple):
     """Where a frame came in: a side and a port, None where nothing says it."""
 
     side: str | None
-    port: int | None
-    is_claimed: bool  # the frame's own bytes say one of them
+    port: Port | None
+    is_claimed: bool  # the frame's own bytes say one of them, or the switch
     is_contradicted: bool  # its source address names another side than the options say
 
 
@@ -112,18 +116,31 @@ class Look(NamedTuple):
 # ---- what becomes of a number ----------------------------------------------------------------
 
 
+def systems_of(switches: list[dict]) -> Systems:
+    """The systems of a configuration."""
+    every = [(switch["name"], system) for switch in switches for system in switch["system"]]
+    ports = {system["id"]: (name, system["port"]) for name, system in every}
+    return Systems(ports, {(name, system["port"]): system["rate"] for name, system in every})
+
+
+def senders_port(systems: Systems, content: bytes, switch: str) -> Port | None:
+    """The port of the system whose number is in the source address: one of that switch, where it is
+    named."""
+    is_sender = len(content) >= 11 and content[6:9] == b"\x02\0\0"
+    port = systems.ports.get(int.from_bytes(content[9:11], "big")) if is_sender else None
+    return port if port is not None and switch in ("", port[0]) else None
+
+
 def place_of(options: Options, systems: Systems, frame: Frame) -> Place:
     """Where a frame came in."""
-    side, _, port = options.places.get(frame.interface, "").partition(":")
-    side, content = side or options.side or "", frame.bytes
+    place, content = said(options.places.get(frame.interface, "")), frame.bytes
+    side = place.side or options.side or ""
     claimed_side = SIDES.get(content[11]) if len(content) >= 12 else None
-    is_sender = len(content) >= 11 and content[6:9] == b"\x02\0\0"
-    sender = int.from_bytes(content[9:11], "big")
-    claimed_port = systems.ports.get(sender) if is_sender else None
-    known = int(port) if port else options.port
+    claimed_port = senders_port(systems, content, place.switch)
+    known = options.port if place.port is None else place.port
     return Place(
         side or claimed_side,
-        claimed_port if known is None else known,
+        claimed_port if known is None else (place.switch, known),
         side == "" or known is None,
         side != "" and claimed_side not in (None, side),
     )
@@ -169,7 +186,7 @@ def outcomes(
     if frame is None or place is None:
         yield "no-frame"
         return
-    if options.places.get(frame.interface) == "-":
+    if options.places.get(frame.interface) == LEFT_OUT:
         yield "left-out"
     if frame.link_type != 1:
         yield "NotEthernet"

@@ -4,6 +4,7 @@ from __future__ import annotations
 
 from typing import NamedTuple, NoReturn
 
+from places import place_text
 from recorded_arrivals import BROKEN, SKIPS, Arrival, Options, Systems
 from recorded_arrivals import is_closed, looks, standing_in
 
@@ -40,12 +41,13 @@ class Ends(Exception):
 
 def line_of(options: Options, arrival: Arrival, time: int) -> bytes:
     """An arrival's line of the list."""
-    frame, place = arrival.frame, arrival.place
+    frame, (side, at, *_) = arrival.frame, arrival.place
+    assert side is not None and at is not None
     kind = "B" if frame.found_wrong else "F"
     if is_closed(options, frame) or len(frame.bytes) > MOST_LISTED:
         kind = "R"
     digits = frame.bytes[:MOST_LISTED].hex()
-    return f"{kind} {time} {place.side} {place.port} {digits}\n".encode()
+    return f"{kind} {time} {place_text(side, at[0])} {at[1]} {digits}\n".encode()
 
 
 class Source:

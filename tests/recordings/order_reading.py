@@ -11,7 +11,7 @@ from program import Program, answers, must, same_text
 from reading import both
 from recording_rows import H1, H2
 from tables import long_tables, text_of
-from wanted import POLICE, Case, Command, path_of, random_options, renumbered, systems_of
+from wanted import POLICE, Case, Command, of_one_switch, path_of, random_options, renumbered
 
 FRAMES = bytes.fromhex(H1), bytes.fromhex(H2)
 REPLAY, LISTED = ["replay", "base.toml"], ["list", "base.toml"]
@@ -140,7 +140,7 @@ def other_rates(program: Program, rates: tuple[int, ...], number: int) -> None:
     systems = [system | {"rate": rate} for system, rate in zip(tables["system"], rates)]
     tables |= {"system": systems}
     program.write("rates.toml", text_of(tables))
-    command = Command(("replay", "--no-admission", "rates.toml"), systems_of(tables))
+    command = Command(("replay", "--no-admission", "rates.toml"), of_one_switch(tables))
     for place in range(number * EACH, (number + 1) * EACH):
         chance = random.Random(f"rates/{place}")
         options = random_options(chance)._replace(stamps="start")

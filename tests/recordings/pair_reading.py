@@ -67,16 +67,17 @@ def lists_pair(program: Program, case: PairCase) -> None:
 
 
 def by_its_list(program: Program, case: PairCase) -> None:
-    """The run and the list agree, whatever the reference says: arrivals and V lines one by one, and
-    the replay of the list."""
+    """The run and the list agree, whatever the reference says: arrivals and V lines one by one, of
+    a frame its first, and the replay of the list."""
     paths = paths_of(program, case.pair)
     run = program.run(*case.words(), *paths)
     listed = program.run(*list_words(case), *paths)
     must((run.status, run.err) == (listed.status, listed.err), f"{run.err!r}, {listed.err!r}")
     arrivals = [line.split(b" ") for line in listed.out.splitlines() if line[:1] != b"#"]
     verdicts = [line.split(b" ") for line in run.out.splitlines() if line[:1] == b"V"]
-    sides = [words[2] for words in arrivals]
-    same_text("the sides of V lines", b" ".join(sides), b" ".join(words[2] for words in verdicts))
+    wanted = b" ".join(words[2] for words in arrivals)
+    firsts = dict.fromkeys((words[1], words[2]) for words in verdicts)
+    same_text("the sides of V lines", wanted, b" ".join(side for _, side in firsts))
     if run.status == 0:
         again = program.run(*case.command.words, "-", given=listed.out)
         answers(again, 0, None, b"")

@@ -8,10 +8,11 @@ import threading
 from collections.abc import Callable
 from typing import NamedTuple
 
+from cascade import of_one
 from order_rows import orders
 from program import Answer, Program, answers, must
 from reads import ORDERS
-from recorded_arrivals import Options, Systems
+from recorded_arrivals import Options, Systems, systems_of
 from recorded_list import Told, told
 from recording_rows import FIRST_NS, Row, rows
 from tables import example, example_tables
@@ -46,12 +47,6 @@ def numbered(text: bytes, numbers: list[int]) -> bytes:
     return renumbered(text, lambda line: numbers[line - 1])
 
 
-def systems_of(tables: dict) -> Systems:
-    """The systems of a configuration."""
-    ports = {system["id"]: system["port"] for system in tables["system"]}
-    return Systems(ports, {system["port"]: system["rate"] for system in tables["system"]})
-
-
 class Command(NamedTuple):
     """A replay without the options and the list, and the systems of its configuration."""
 
@@ -59,7 +54,12 @@ class Command(NamedTuple):
     systems: Systems
 
 
-IN_BASE = Command(("replay", "base.toml"), systems_of(example_tables("base.toml")))
+def of_one_switch(tables: dict) -> Systems:
+    """The systems of a configuration of one switch."""
+    return systems_of(of_one(tables, "")["switch"])
+
+
+IN_BASE = Command(("replay", "base.toml"), of_one_switch(example_tables("base.toml")))
 KNOWN: dict[tuple, Answer] = {}  # answers to lists of a few bytes, which many recordings give
 FEW = 10_000
 CUT_ROWS = ("remarks, --reorder 1", "remarks, no option", "by number", "stamps of starts")
@@ -113,16 +113,25 @@ class Case(NamedTuple):
 
     def run_of(self, program: Program, said: Told, *more: str) -> Answer:
         """What the program must write of a recording, or of two, of which this is said."""
-        given = said.text() + (BEYOND if said.fault else b"")
-        found = self.run_on(program, given, *more)
-        out, err = numbered(found.out, said.numbers), found.err
-        if not said.fault:
-            must(found.status == 0, f"the list of it has a fault: {err!r}")
-            return Answer(0, out, numbered(err, said.numbers))
-        line = b"list BadLine %d\n" % (len(said.lines) + 1)
-        must(found.status == 3 and err.endswith(line), f"the list of it: {err!r}")
-        early = numbered(err.removesuffix(line), said.numbers)
-        return Answer(said.status(), out, early + said.fault)
+        return by_its_list(said, self.run_on(program, list_of(said), *more))
+
+
+def list_of(said: Told) -> bytes:
+    """The list that says the same as recordings. Behind it stands a line that is none where they
+    have a fault."""
+    return said.text() + (BEYOND if said.fault else b"")
+
+
+def by_its_list(said: Told, found: Answer) -> Answer:
+    """The answer to recordings of which this is said, by that to their list."""
+    out, err = numbered(found.out, said.numbers), found.err
+    if not said.fault:
+        must(found.status == 0, f"the list of it has a fault: {err!r}")
+        return Answer(0, out, numbered(err, said.numbers))
+    line = b"list BadLine %d\n" % (len(said.lines) + 1)
+    must(found.status == 3 and err.endswith(line), f"the list of it: {err!r}")
+    early = numbered(err.removesuffix(line), said.numbers)
+    return Answer(said.status(), out, early + said.fault)
 
 
 def case_of(row: Row) -> Case:
@@ -141,11 +150,17 @@ def path_of(program: Program, data: bytes) -> str:
     return program.write(f"recording-{threading.get_ident()}", data)
 
 
-def told_before(program: Program, words: list[str], options: Options, data: bytes) -> bytes:
+def told_before(
+    program: Program,
+    words: list[str],
+    options: Options,
+    data: bytes,
+    systems: Systems = IN_BASE.systems,
+) -> bytes:
     """What a command with these options writes of the whole frames in these bytes, where the run
     asks for more."""
     options = options._replace(port=1) if words == POLICE else options
-    said = told(options, IN_BASE.systems, data, is_open=True)
+    said = told(options, systems, data, is_open=True)
     if words[0] == "list":
         return said.text()
     found = program.run(*words, "-", given=said.text() + BEYOND)

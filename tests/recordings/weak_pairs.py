@@ -9,8 +9,8 @@ from program import Answer, Program
 from reads import ORDERS, READS
 from recorded_pair import NETWORKS, PairOptions
 from recording_rows import F1, G1, H1, H2, IL, PL, SL, US, ZERO, E, R
-from wanted import IN_BASE, Command
 from weak import Call, Weak, weak_devices
+from weak_recordings import commands_of
 
 FOREIGN = "ff" + H1[2:]  # a frame that is no AFDX frame
 STEADY = "steady"  # the file of the one that doesn't fail
@@ -99,19 +99,16 @@ def tries(command: str) -> Iterator[tuple[str, tuple[str, str], int | None]]:
         yield "out of order", out_of_order(), 1
 
 
-def weak_pairs(program: Program, config: str) -> Iterator[tuple]:
+def weak_pairs(program: Program, config: str, two: str) -> Iterator[tuple]:
     """Each command on two recordings, each of which is weak, by path and as standard input by
-    turns; the configuration is that of the base tables."""
-    commands = [["replay", config], ["replay", "--no-admission", config], ["list", config]]
+    turns; the configurations are that of the base tables and that of two switches."""
     by_path = False
-    for words in commands if "two" in READS else ():
-        for name, texts, reorder in tries(words[0]):
+    for named, command in commands_of(config, two).items() if "two" in READS else ():
+        for name, texts, reorder in tries(command.words[0]) if named != "police" else ():
             pair = bytes.fromhex(texts[0]), bytes.fromhex(texts[1])
-            options = PairOptions(reorder=reorder)
-            case = PairCase(pair, options, Command(tuple(words), IN_BASE.systems))
+            case = PairCase(pair, PairOptions(reorder=reorder), command)
             for place, side in enumerate(NETWORKS):
                 by_path = not by_path
                 given = program, case, place, by_path
-                named = f"{' '.join(words[:-1])}, {side} is weak: {name}, {reorder} held"
-                yield named, weak_half, *given
+                yield f"{named}, {side} is weak: {name}, {reorder} held", weak_half, *given
             by_path = not by_path

@@ -3,15 +3,18 @@ from __future__ import annotations
 
 from collections.abc import Iterator
 
+from cascade import loaded
 from made_recordings import of_each_length
 from program import Program
 from reads import HELD, ORDERS, READS, is_read
-from recorded_arrivals import Options
+from recorded_arrivals import Options, systems_of
 from recording_rows import F1, G1, H1, H2, IL, PL, SL, US, ZERO, E, R
-from wanted import POLICE, told_before
+from tables import example
+from wanted import IN_BASE, POLICE, Command, told_before
 from weak import FEW, Weak, weak_devices
 
 OTHER = "ff" + H1[2:]  # a frame that is no AFDX frame
+TWO_TEXT = example("two_switches.toml")
 
 
 class WeakRecording(Weak):
@@ -19,15 +22,16 @@ class WeakRecording(Weak):
     write the same, sooner."""
 
     def __init__(
-        self, program: Program, words: list[str], options: Options, data: bytes, by_path: bool
+        self, program: Program, command: Command, options: Options, data: bytes, by_path: bool
     ) -> None:
-        self.command, self.options = words, options
-        super().__init__(program, [*words, *options.words()], data, by_path)
+        self.command, self.options = command, options
+        super().__init__(program, [*command.words, *options.words()], data, by_path)
 
     def lines_before(self, count: int, at_once: bool = False) -> bytes:
         """What is reported of the whole frames of these bytes, if the run then asks for more."""
         options = self.options._replace(at_once=at_once)
-        return told_before(self.program, self.command, options, self.given[:count])
+        words, systems = self.command
+        return told_before(self.program, list(words), options, self.given[:count], systems)
 
 
 def in_order() -> dict[str, str]:
@@ -66,29 +70,41 @@ def tries(command: str) -> Iterator[tuple[str, str, int | None]]:
 
 
 def weak_run(
-    program: Program, words: list[str], options: Options, data: bytes, by_path: bool
+    program: Program, command: Command, options: Options, data: bytes, by_path: bool
 ) -> None:
     """All that weak devices do to one command on a recording."""
-    weak_devices(WeakRecording(program, words, options, data, by_path))
+    weak_devices(WeakRecording(program, command, options, data, by_path))
 
 
-def each_length(program: Program, words: list[str]) -> None:
+def each_length(program: Program) -> None:
     """Frames of each length, of which a read gives a few bytes: so for each there must be read."""
-    weak = WeakRecording(program, words, Options(reorder=0), of_each_length(), True)
+    command = Command(tuple(POLICE), IN_BASE.systems)
+    weak = WeakRecording(program, command, Options(reorder=0), of_each_length(), True)
     found, _ = weak.run(FEW)
     weak.ends(found, (0, b""), weak.whole.out)
 
 
-def weak_recordings(program: Program, config: str) -> Iterator[tuple]:
-    """Each command on recordings, read by path and as standard input by turns; the configuration
-    is that of the base tables."""
-    commands = [["replay", config], ["replay", "--no-admission", config], POLICE]
-    commands += [["list", config]] if "list" in READS else []
+def commands_of(config: str, two: str) -> dict[str, Command]:
+    """The commands on a recording, by their names."""
+    of_two = systems_of(loaded(TWO_TEXT)["switch"])
+    listed = {"list": Command(("list", config), IN_BASE.systems)} if "list" in READS else {}
+    return {
+        "replay": Command(("replay", config), IN_BASE.systems),
+        "replay --no-admission": Command(("replay", "--no-admission", config), IN_BASE.systems),
+        "police": Command(tuple(POLICE), IN_BASE.systems),
+        **listed,
+        "over two switches: replay": Command(("replay", two), of_two),
+    }
+
+
+def weak_recordings(program: Program, config: str, two: str) -> Iterator[tuple]:
+    """Each command on recordings, read by path and as standard input by turns; the configurations
+    are that of the base tables and that of two switches."""
     by_path = False
-    yield "police: a pcap with frames of each length", each_length, program, POLICE
-    for words in commands:
-        for name, text, reorder in tries(words[0]):
+    yield "police: a pcap with frames of each length", each_length, program
+    for named, command in commands_of(config, two).items():
+        for name, text, reorder in tries(command.words[0]):
             data, by_path = bytes.fromhex(text), not by_path
             if is_read(data):
-                given = program, words, Options(reorder=reorder), data, by_path
-                yield f"{' '.join(words[:-1])}: {name}, {reorder} held", weak_run, *given
+                given = program, command, Options(reorder=reorder), data, by_path
+                yield f"{named}: {name}, {reorder} held", weak_run, *given

@@ -34,7 +34,7 @@ from cascade_run_rows import REPLAYS, SENDS, RunRow, spelled  # noqa: E402
 from compared_runs import ALL, DROPS, FREE, SUMMARY, replay_by, run_alike  # noqa: E402
 from large_cascades import around_one, in_a_mesh, in_a_ring, in_a_row  # noqa: E402
 from large_cascades import overload, overloaded  # noqa: E402
-from made_cascades import flooded, made_cascade, solved, spoiled  # noqa: E402
+from made_cascades import three_of  # noqa: E402
 from made_lists import faulty_list, made_list  # noqa: E402
 from one_as_file import ones_alike, one_as_its_file  # noqa: E402
 from program import Answer, Program, answers, main_of_both, must  # noqa: E402
@@ -84,13 +84,6 @@ def over_two_is_computed() -> None:
     small = [line for line in replayed(loaded(text), given).lines if line[0] in "LT"]
     named = re.findall(r"small\.toml: (.*)\.\)", given.decode())
     must(small == named and len(named) == 2, f"the lines are {small}")
-
-
-def three_of(chance: random.Random, is_light: bool) -> list[dict]:
-    """A cascade with any values, with the least ones, and with these spoiled or flooded."""
-    cascade = made_cascade(chance, chance.randint(1, 5), chance.randint(1, 25), is_light)
-    least = solved(cascade)
-    return [cascade, least, chance.choice([spoiled, flooded])(chance, least)]
 
 
 def alone_computed(seed: int, count: int) -> None:

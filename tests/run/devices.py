@@ -6,16 +6,16 @@
 tests/lib/weak_devices.c, which `cc` compiles, makes the devices weak: at most 16 bytes a call, and
 the first call broken, then the second, and so on. A call is broken by an error that stays, by an
 error that is gone at the next call, by an interruption, or by moving no byte. `police`, `replay`,
-with admission and without, and `send` are run on lists of a few lines, over several switches a side
-too, read by path or as standard input, and `check` and `solve` on configurations; `police` and
-`replay` also on recordings, and on two at once, of which one is weak, if the program reads them
-(tests/lib/reads.py). Each run must write a beginning of the undisturbed text, exactly as far as it
-has to, and end with the status and the one line of the device that failed; and a device that
-failed, or has ended, must not be asked again, nor the other one be asked for more than what is
-held. With --line-buffered the text of each line, or recorded frame, must be handed over before more
-is read; frames that are held to be put in order are reported at the end and at a fault, and not
-after a failed read. The first bytes are also read one by one, and each of these reads is broken
-too.
+with admission and without, and `send` are run on lists of a few lines, read by path or as standard
+input, and `check` and `solve` on configurations; `police` and `replay` also on recordings, and on
+two at once, of which one is weak, if the program reads them (tests/lib/reads.py). `replay` and
+`send` are also run over several switches a side. Each run must write a beginning of the undisturbed
+text, exactly as far as it has to, and end with the status and the one line of the device that
+failed; and a device that failed, or has ended, must not be asked again, nor the other one be asked
+for more than what is held. With --line-buffered the text of each line, or recorded frame, must be
+handed over before more is read; frames that are held to be put in order are reported at the end and
+at a fault, and not after a failed read. The first bytes are also read one by one, and each of these
+reads is broken too.
 Prints `ok NAME` or `FAILED NAME` for each case, then `N passed, M failed`; ends with status 1 if a
 case failed.
 """
@@ -176,12 +176,11 @@ MESSAGES = {
 SENT_OVER_TWO = {"messages to two switches": b"0 2 1 2000 61\n0 1 1 2000 62\n9000 2 1 7 63\n"}
 
 
-def short_lists(program: Program, config: str) -> Iterator[tuple]:
+def short_lists(program: Program, config: str, two: str) -> Iterator[tuple]:
     """Each command on lists of a few lines, read by path and as standard input by turns."""
     old = made.base_tables(2)
     old["link"][1]["latency_us"] = 6
     too_old = program.write("old.toml", made.text_of(old))
-    two = program.write("two.toml", made.example("two_switches.toml"))
     unadmitted = ["replay", "--no-admission"]
     for words, lists in (
         (POLICE, FRAMES),
@@ -236,12 +235,13 @@ def try_all(cases: Cases, program: Program) -> None:
     """All cases."""
     compile_devices(program)
     config = program.write("base.toml", made.text_of(TABLES))
+    two = program.write("two.toml", made.example("two_switches.toml"))
     cases.try_at_once(
         [
-            *short_lists(program, config),
+            *short_lists(program, config, two),
             *long_lists(program, config),
-            *weak_recordings(program, config),
-            *weak_pairs(program, config),
+            *weak_recordings(program, config, two),
+            *weak_pairs(program, config, two),
             ("check", weak_config, program, ["check"], TABLES, 0),
             ("check, not admitted", weak_config, program, ["check"], SMALL, 1),
             ("solve", weak_config, program, ["solve"], SMALL, 0),

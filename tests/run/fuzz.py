@@ -19,8 +19,9 @@ holds what must be so of any output. Beside that
 Where the program reads recordings (tests/lib/reads.py), one is tried beside every second case, made
 and changed at random (tests/recordings/), or from the case's list: a run on it must write what it
 writes of the list that says the same, and `list` that list. Where it puts arrivals in order, frames
-stand out of order in some. Where it reads two at once, a pair is tried as well, whole and cut.
-`--recordings` tries these alone.
+stand out of order in some. Where it reads two at once, a pair is tried as well, whole and cut. Now
+and then a list over several switches is recorded (tests/cascades/): what is computed must be
+written. `--recordings` tries these alone.
 
 The first case that is wrong is written to DIR (a new folder where it isn't given), its seed and
 number are printed, and the status is 1. `--seed N --first K` begins with that case. Needs Python
@@ -36,14 +37,17 @@ import time
 
 sys.dont_write_bytecode = True
 TESTS = os.path.join(os.path.dirname(os.path.abspath(__file__)), "..")
-sys.path[:0] = [os.path.join(TESTS, name) for name in ("fuzzing", "recordings")]
+sys.path[:0] = [os.path.join(TESTS, name) for name in ("fuzzing", "recordings", "cascades")]
 import checks  # noqa: E402
 import made  # noqa: E402
 import sending  # noqa: E402
 import pair_reading  # noqa: E402
 import pair_wanted  # noqa: E402
+import random_taps  # noqa: E402
 import reading  # noqa: E402
 import wanted  # noqa: E402
+from compared_recordings import as_computed  # noqa: E402
+from made_cascades import three_of  # noqa: E402
 from made_recordings import made_data, pcap_of  # noqa: E402
 from program import Program, Wrong, must  # noqa: E402
 from reads import READS  # noqa: E402
@@ -240,7 +244,7 @@ def try_recorded_list(runs, seed, number, stored):
     data = pcap_of(case.text, chance)
     runs.write("list", data)
     words = "replay", "--no-admission", "config"
-    command = wanted.Command(words, wanted.systems_of(case.tables))
+    command = wanted.Command(words, wanted.of_one_switch(case.tables))
     options = wanted.random_options(chance)._replace(fcs=False)
     recording = wanted.Case(data, options, command=command)
     program = Program(runs.program, runs.folder)
@@ -251,11 +255,24 @@ def try_recorded_list(runs, seed, number, stored):
         pair_reading.both_of_pair(program, pair_wanted.PairCase(pair, given, command))
 
 
+def try_tapped(runs, seed, number):
+    """A list over a random cascade as recorders write it, one recording or two."""
+    chance = random.Random(f"{seed}/{number}/taps")
+    cascade = chance.choice(three_of(chance, chance.random() < 0.6))
+    program, case = Program(runs.program, runs.folder), random_taps.of_list(chance, cascade)
+    as_computed(program, cascade, case, [("--no-admission", "--explain-drops", "--summary")])
+    if isinstance(case, wanted.Case):
+        reading.both(program, case)
+    else:
+        pair_reading.both_of_pair(program, case)
+
+
 def keep(runs, folder):
     """Copies the case to where it stays."""
     target = folder or tempfile.mkdtemp(prefix="afdx-fuzz-kept-")
     os.makedirs(target, exist_ok=True)
-    for name in ("config", "list", "one.toml", "a.recording", "b.recording"):
+    taps = "cascade.toml", "tap-0", "tap-1"
+    for name in ("config", "list", "one.toml", "a.recording", "b.recording", *taps):
         if os.path.exists(runs.path(name)):
             with open(runs.path(name), "rb") as source, open(
                 os.path.join(target, name), "wb"
@@ -307,6 +324,8 @@ def main():
                         try_pair(runs, given.seed, number)
                 if READS and not given.recordings and number % 2 == 0:
                     try_recorded_list(runs, given.seed, number, stored)
+                if "reorder" in READS and number % 8 == 0:
+                    try_tapped(runs, given.seed, number)
             except Wrong as wrong:
                 kept = keep(runs, given.keep)
                 print(f"WRONG: {wrong}\nseed {given.seed}, case {number}, kept in {kept}")

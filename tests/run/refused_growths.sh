@@ -8,11 +8,11 @@
 # `--margins`, and with late links by `--all`, solves it with late links, explains a line, replays a
 # frame and its copy in base.toml, replays examples/gigabit.list, and sends five messages, of which
 # one is refused; it replays and sends over examples/two_switches.toml. It polices and replays
-# recordings, and replays and lists two at once, if it reads them (tests/lib/reads.py). Each of
-# these is run with the first request refused, then the second, and so on, until a run meets no
-# refusal; and again with all requests refused from the first on, from the second on, and so on.
-# Each run must write a beginning of what the undisturbed run writes, and end either with the line
-# `memory` and status 4, or as the undisturbed run does.
+# recordings, and replays and lists two at once, over the two switches too, if it reads them
+# (tests/lib/reads.py). Each of these is run with the first request refused, then the second, and so
+# on, until a run meets no refusal; and again with all requests refused from the first on, from the
+# second on, and so on. Each run must write a beginning of what the undisturbed run writes, and end
+# either with the line `memory` and status 4, or as the undisturbed run does.
 #
 # Of each RUNNER the tests whose names, with their modules', contain `refused` are run, with one
 # request refused at a time, and with all refused from one on. Such a test makes a call again where
@@ -127,10 +127,11 @@ refuse_program() { # NAME WORD..
 }
 
 # The recordings of tests/recordings/growing_recordings.py that the program reads, each by `police`
-# and by `replay` with its options, two at once by `replay` and `list`; what it can't read yet is
-# left out. Of one the frames stand out of order: all of them are held, or three.
+# and by `replay` with its options, two at once by `replay` and `list`, also over two switches; what
+# it can't read yet is left out. Of one the frames stand out of order: all of them are held, or
+# three.
 refuse_recordings() { # PROGRAM
-    local name path other base=$top/examples/base.toml
+    local name path other base=$top/examples/base.toml two=$top/examples/two_switches.toml
     local options=(--interface '0=A:1' --interface '4095=-' --origin 1699999999000000000)
     python3 "$top/tests/recordings/growing_recordings.py" "$work" >"$work/recordings"
     while IFS=$'\t' read -r name path other; do
@@ -138,6 +139,8 @@ refuse_recordings() { # PROGRAM
         if [[ -z $other ]]; then
             refuse_program "police $name" "$1" police 1 64 500 -
             refuse_program "replay $name" "$1" replay "${options[@]}" --summary "$base" -
+            refuse_program "replay $name over two switches" "$1" replay --interface '0=A fwd' \
+                "$two" -
             if [[ $name == *order ]]; then
                 refuse_program "list $name" "$1" list --stamps start "$base" -
                 refuse_program "list $name, three held" "$1" list --reorder 3 "$base" -
@@ -146,6 +149,8 @@ refuse_recordings() { # PROGRAM
             refuse_program "replay $name" "$1" replay "${options[@]}" --interface 0=B:2 \
                 --summary "$base" - "$other"
             refuse_program "list $name" "$1" list "$base" - "$other"
+            refuse_program "list $name over two switches" "$1" list --interface '0=B aft:2' \
+                "$two" - "$other"
         fi
     done <"$work/recordings"
 }

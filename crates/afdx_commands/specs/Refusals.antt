@@ -42,6 +42,10 @@ admit_line_at switches e =
 abbrev pub no_system_line : List ℕ
 no_system_line = codes "words NoSuchSystem\n"
 
+-- what is told where an option of a recording speaks of a place that the configuration hasn't
+abbrev pub no_place_line : List ℕ
+no_place_line = codes "words BadInterface\n"
+
 -- what an error output is told
 module _ {E : Type 0} (error_bytes : E → Option (List ℕ)) (old new : Watched E) where
   -- memory was refused: status 4, and its line

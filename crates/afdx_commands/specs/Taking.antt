@@ -42,6 +42,14 @@ module _ {E : Type 0} (error_bytes : E → Option (List ℕ)) (old new : Watched
     pub read : IsRead config described
     pub told : IsToldDenied described status
 
+-- what a file describes isn't read, and the error output is told why: the configuration has a
+-- fault, or memory was refused
+abbrev pub IsUnread : {E : Type 0} → (E → Option (List ℕ)) → (old_errors new_errors : Watched E) →
+    List ℕ → ℕ → Type 0
+IsUnread error_bytes old_errors new_errors config status =
+    RefusesFile error_bytes old_errors new_errors config status
+    ⊎ WantsMemory error_bytes old_errors new_errors status
+
 -- nothing is taken, and the error output is told why: the configuration has a fault, or what it
 -- describes is not admitted and that is asked for, or memory was refused
 abbrev pub IsNotTaken : {E : Type 0} → (E → Option (List ℕ)) → List ℕ → Bool →

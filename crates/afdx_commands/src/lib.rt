@@ -24,4 +24,4 @@ pub use ending::{Ended, end, finish};
 pub use sender::{SenderTaken, take_sender};
 pub use solve_command::solve_config;
 pub use summary::{NO_COUNTS, Summary};
-pub use taking::{Taken, take_file};
+pub use taking::{Taken, read_described, take_described, take_file};

@@ -8,7 +8,7 @@ ghost use Rattle.afdx_admit.specs.FaultText.{switch_fault_text};
 ghost use Rattle.afdx_admit.specs.Known.{IsKnown};
 ghost use Rattle.afdx_text.specs.Telling.{Tells};
 ghost use Rattle.afdx_commands.specs.Refusals.{admit_line, admit_line_at, config_line, file_line};
-ghost use Rattle.afdx_commands.specs.Refusals.{IsToldRefused, WantsMemory, no_system_line};
+ghost use Rattle.afdx_commands.specs.Refusals.{IsToldRefused, WantsMemory, no_place_line, no_system_line};
 
 use crate::status::{REFUSED, WRONG_WORDS};
 use afdx_admit::{AdmitFault, AdmitText, CascadeFault, CascadeText, SwitchFault};
@@ -246,6 +246,16 @@ pub fn refuse_switches<E: Write>(
     tell_switch_fault(errors, &text);
     tell(errors, b"\n");
     REFUSED
+}
+
+/// Tells that the configuration hasn't a place of which an option of a recording speaks, and gives
+/// the exit status.
+pub fn refuse_place<E: Write>(errors: &mut Watched<E>) -> u8
+    ensures status { result ≡ 2 }
+    ensures told { Tells E.contents errors.old errors.new no_place_line }
+{
+    tell(errors, b"words BadInterface\n");
+    WRONG_WORDS
 }
 
 /// Tells that no system has the name, and gives the exit status.

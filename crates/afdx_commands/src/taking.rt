@@ -5,7 +5,7 @@ ghost use Rattle.afdx_config.specs.Admission.{IsAdmitted};
 ghost use Rattle.afdx_config.specs.declared.describing.Described.TheVariants as described;
 ghost use Rattle.afdx_admit.specs.Cascade.{IsCascadeAdmitted};
 ghost use Rattle.afdx_commands.specs.Checking.{IsAdmittedFile, IsRead};
-ghost use Rattle.afdx_commands.specs.Taking.{described_of, IsNotTaken, IsToldDenied};
+ghost use Rattle.afdx_commands.specs.Taking.{described_of, IsNotTaken, IsToldDenied, IsUnread};
 
 use crate::refusing::{refuse_file, refuse_switches, refuse_tables};
 use afdx_admit::{Admitted, AdmittedSwitches, admit, admit_all};
@@ -92,6 +92,45 @@ fn take_unasked(described: Described) -> Taken
     }
 }
 
+/// What a configuration describes, admitted or not. Else the exit status, 1 or 4; `errors` is told
+/// why it isn't read.
+pub fn read_described<E: Write>(
+    alloc: Global,
+    config: &[u8],
+    errors: &mut Watched<E>,
+) -> Result<Described, u8>
+    ensures read { IfOk result (IsRead config.now) }
+    ensures silent { OnOk result (errors.new ≡ errors.old) }
+    ensures refused { IfErr result (λ status.
+        IsUnread E.contents errors.old errors.new config.now status) }
+    ensures statuses { IfErr result (λ status. (status ≡ 1) ⊎ (status ≡ 4)) }
+{
+    match read_file(alloc, config) {
+        Ok(described) => Ok(described),
+        Err(fault) => Err(refuse_file(fault, errors)),
+    }
+}
+
+/// Takes what a configuration describes, which with `admission` has to be admitted. Else the exit
+/// status, 1; `errors` is told why it isn't.
+pub fn take_described<E: Write>(
+    admission: bool,
+    described: Described,
+    errors: &mut Watched<E>,
+) -> Result<Taken, u8>
+    ensures same { IfOk result (λ taken. described_of taken ≡ described) }
+    ensures admitted { OnOk result (admission ≡ true → IsAdmittedFile described) }
+    ensures silent { OnOk result (errors.new ≡ errors.old) }
+    ensures denied { IfErr result (λ status. (admission ≡ true)
+        × IsToldDenied E.contents errors.old errors.new described status) }
+{
+    if admission {
+        take_admitted(described, errors)
+    } else {
+        Ok(take_unasked(described))
+    }
+}
+
 /// What a configuration describes, which with `admission` has to be admitted. Else the exit status,
 /// 1 or 4; `errors` is told why it isn't taken.
 pub fn take_file<E: Write>(
@@ -108,13 +147,6 @@ pub fn take_file<E: Write>(
         IsNotTaken E.contents config.now admission errors.old errors.new status) }
     ensures statuses { IfErr result (λ status. (status ≡ 1) ⊎ (status ≡ 4)) }
 {
-    let described = match read_file(alloc, config) {
-        Ok(described) => described,
-        Err(fault) => return Err(refuse_file(fault, errors)),
-    };
-    if admission {
-        take_admitted(described, errors)
-    } else {
-        Ok(take_unasked(described))
-    }
+    let described = read_described(alloc, config, errors)?;
+    take_described(admission, described, errors)
 }

@@ -18,6 +18,7 @@ pub mod PairLemmas
 pub mod TimedPairLemmas
 pub mod OrderLemmas
 pub mod LawLemmas
+mod PlacingLemmas
 pub mod UnusedLemmas
 pub mod EachLemmas
 pub mod EnteringLemmas

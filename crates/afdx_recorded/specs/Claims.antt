@@ -9,6 +9,8 @@ use Rattle.afdx_frame.specs.declared.link.Side.TheVariants.{A, B}
 use Rattle.afdx_config.specs.Admission.{byte_ns}
 use Rattle.afdx_config.specs.Rows.{Rows, SystemRow}
 use Rattle.afdx_config.specs.Switches.{NamedRows}
+use Rattle.afdx_config.specs.declared.describing.Described.{Described}
+use Rattle.afdx_config.specs.declared.describing.Described.TheVariants as described
 use Rattle.afdx_recorded.specs.Places.{entry_at}
 use Rattle.afdx_recorded.specs.declared.places.Entry.{Entry}
 use Rattle.afdx_recorded.specs.Tables.{known}
@@ -112,6 +114,10 @@ ports_of_one t = ports_among (t ∷ [])
 
 abbrev pub ports_of_several : List NamedRows → Ports
 ports_of_several switches = ports_among (map (λ s. s.rows) switches)
+
+abbrev pub ports_in : Described → Ports
+ports_in (described.One t) = ports_of_one t
+ports_in (described.Several switches) = ports_of_several switches
 
 -- the ports that are meant where no option says it
 abbrev pub ports_unsaid : UnsaidPort → Ports

@@ -10,6 +10,7 @@ pub mod Ordering
 pub mod Holding
 pub mod NumberLines
 pub mod Entering
+pub mod Placing
 pub mod Timing
 pub mod Merging
 pub mod Taking

@@ -1,4 +1,5 @@
 -- Where the frames of each interface came in, where that is said.
+use Rattle.std.specs.Prelude.{List, map, string_bytes}
 use Rattle.std.specs.Prelude.{ℕ, ◌-◌, Bool, true, false, ◌==◌, count_by, Option, Some, None, is_some, slice_get, if◌then◌else◌}
 use Rattle.std.specs.List.{range_with_len}
 use Rattle.afdx_frame.specs.declared.link.Side.{Side}
@@ -13,6 +14,10 @@ use Rattle.afdx_recorded.specs.declared.places.Interfaces.{Interfaces}
 -- the place of an interface
 unfoldable pub place_of : Interfaces → ℕ → Option Place
 place_of interfaces interface = known (slice_get interfaces.places.items interface)
+
+-- the names that places mean by their numbers
+abbrev pub names_of : Interfaces → List (List ℕ)
+names_of interfaces = map string_bytes interfaces.names.items
 
 -- these places, but of one interface this one
 abbrev pub places_but : (ℕ → Option Place) → ℕ → Place → ℕ → Option Place

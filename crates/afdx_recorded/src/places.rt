@@ -1,9 +1,11 @@
 //! Where the frames of each interface came in.
 
-ghost use Rattle.std.specs.Prelude.{◌≡◌, ◌<◌, ℕ, IfOk, OnOk, OnErr, Ok, Some, None, true, false};
-ghost use Rattle.std.specs.Prelude.{vec_len};
+ghost use Rattle.std.specs.Prelude.{◌≡◌, ◌<◌, ℕ, IfOk, IfSome, OnOk, OnErr, Ok, Some, None, true, false};
+ghost use Rattle.std.specs.Prelude.{length, vec_len};
 ghost use Rattle.afdx_recordings.specs.Limits.{most_interfaces};
 
+use crate::placing::place_in;
+use afdx_config::Described;
 use afdx_frame::Side;
 use afdx_recordings::MOST_INTERFACES;
 use std::alloc::{AllocError, Global};
@@ -26,9 +28,9 @@ pub enum Place {
     OnSide(Side),
     /// At this port, 1 to 24, of this side's switch, where there is one.
     AtPort(Side, u8),
-    /// At that of several switches of this side whose name has this number among those that
-    /// `Interfaces::name` took and, if it is said, at this of its ports, 1 to 24. No frame came in
-    /// there until a configuration says which switch has the name.
+    /// At that of several switches of this side whose name `Interfaces::name` gave this number and,
+    /// if it is said, at this of its ports, 1 to 24. No frame came in there until a configuration
+    /// says which switch it is.
     AtNamed(Side, u16, Option<u8>),
     /// At the switch of this side at this place of the configuration, from 0, and, if it is said,
     /// at this of its ports.
@@ -39,11 +41,15 @@ pub enum Place {
 #[derive(Debug, Drop)]
 pub struct Interfaces {
     places: Vec<Option<Place>>,
+    /// The names of switches that places mean by their numbers.
+    names: Vec<String>,
     ghost room: { vec_len places ≡ most_interfaces },
 }
 
 impl Interfaces {
-    ghost use Rattle.afdx_recorded.specs.Places.{place_of, places_but, unused_behind};
+    ghost use Rattle.std.specs.Prelude.{◌++◌, ◌∷◌, [], string_bytes, List};
+    ghost use Rattle.afdx_recorded.specs.Places.{names_of, place_of, places_but, unused_behind};
+    ghost use Rattle.afdx_recorded.specs.Placing.{AreMisplaced, ArePlaced};
 
     /// Nothing is said of any interface.
     #[tactic(auto, unfolding(crate::specs::Places::place_of))]
@@ -52,6 +58,7 @@ impl Interfaces {
     {
         Ok(Interfaces {
             places: vec![in alloc; None; MOST_INTERFACES]?,
+            names: Vec::new(alloc),
         })
     }
 
@@ -84,9 +91,44 @@ impl Interfaces {
     #[tactic(auto, unfolding(crate::specs::Places::place_of))]
     pub fn put(&mut self, interface: u16, place: Place)
         requires { interface < most_interfaces }
-        ensures { (k : ℕ) →
+        ensures place { (k : ℕ) →
             place_of self.new k ≡ places_but (place_of self.old) interface place k }
+        ensures names { self.new.names ≡ self.old.names }
     {
         self.places[usize::from(interface)] = Some(place);
+    }
+
+    /// Takes the name of a switch, of which a place may speak then. Gives its number, from 0; None
+    /// if so many were taken that there is none. The error says that memory was refused.
+    pub fn name(&mut self, name: String) -> Result<Option<u16>, AllocError>
+        ensures number { IfOk result (λ given. IfSome given (λ n. n ≡ length (names_of self.old))) }
+        ensures names { IfOk result (λ given. IfSome given (λ n.
+            names_of self.new ≡ names_of self.old ++ string_bytes name ∷ [])) }
+        ensures places { self.new.places ≡ self.old.places }
+    {
+        let Ok(number) = u16::try_from(self.names.len()) else {
+            return Ok(None);
+        };
+        self.names.push(name)?;
+        Ok(Some(number))
+    }
+
+    /// Puts each place where it is in a configuration: a name is that of a switch. False: one is
+    /// none there. Where there is one switch on a side, that is one with a name; where there are
+    /// several, a port without a name, a name that no switch has, or a port with a cable.
+    pub fn place_in(&mut self, described: &Described) -> bool
+        ensures placed { result ≡ true → ArePlaced described.now self.old self.new }
+        ensures misplaced { result ≡ false → AreMisplaced described.now self.old }
+    {
+        for k in 0..MOST_INTERFACES {
+            let interface = k as u16;
+            if let Some(place) = self.place(interface) {
+                let Some(there) = place_in(described, self.names.as_slice(), place) else {
+                    return false;
+                };
+                self.put(interface, there);
+            }
+        }
+        true
     }
 }

@@ -7,7 +7,7 @@ ghost use Rattle.afdx_recorded.specs.Claims.{Agree, HaveTimes, entry_among, own_
 ghost use Rattle.afdx_recorded.specs.declared.places.Entry.{Entry as At};
 
 use crate::places::Entry;
-use afdx_config::{SwitchId, Switches, SystemId, Tables};
+use afdx_config::{Described, SwitchId, Switches, SystemId, Tables};
 use afdx_frame::Side;
 use std::alloc::{AllocError, Global};
 
@@ -41,6 +41,18 @@ pub enum UnsaidPort<'a> {
     OfSender(&'a Tables),
     /// That of the system of any of these switches that it names.
     OfSenders(&'a Switches),
+}
+
+impl UnsaidPort<'_> {
+    /// That of the system of a configuration that the frame's source address names.
+    pub fn of_sender_in(described: &Described) -> UnsaidPort<'_>
+        ensures { ports_unsaid result ≡ claims.ports_in described.entry.now }
+    {
+        match described {
+            Described::One(tables) => UnsaidPort::OfSender(tables),
+            Described::Several(switches) => UnsaidPort::OfSenders(switches),
+        }
+    }
 }
 
 /// The number of a system in these bytes, with which a source address begins (ARINC 664 Part 7):

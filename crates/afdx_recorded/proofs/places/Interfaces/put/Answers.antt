@@ -3,6 +3,6 @@ use Rattle.afdx_recorded.specs.Places.{place_of}
 use Rattle.afdx_recorded.proofs.TableLemmas.{place-set}
 use Rattle.afdx_recorded.proofs.places.Interfaces.put.Goals as goal
 
-pub returns : goal.returns
+pub returns-clause-place : goal.returns-clause-place
 unfolding place_of
-returns c k = rw (c.from.ensures) (place-set c.args.self.now.places.items c.args.interface k c.args.place (search rules))
+returns-clause-place c k = rw (c.from.ensures) (place-set c.args.self.now.places.items c.args.interface k c.args.place (search rules))
