@@ -9,3 +9,4 @@ pub mod InputLemmas
 pub mod LookLemmas
 pub mod ArrivalsLemmas
 pub mod TookLemmas
+pub mod EnteringLemmas

@@ -17,7 +17,7 @@ use Rattle.afdx_recorded.specs.Words.{skipped_word}
 
 -- the line of number n of a recording, with its recorded bytes; one that is skipped is named
 abbrev pub number_text : (n : ℕ) → NumberLine → List ℕ → List ℕ
-number_text n (Arrival kind time side port) bytes =
+number_text n (Arrival kind time side switch port) bytes =
     frame_line kind (side_text side) port time bytes
 number_text n (Skipped reason) bytes = remark_line (skipped_word reason) n
 

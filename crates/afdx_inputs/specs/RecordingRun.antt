@@ -10,6 +10,7 @@ use Rattle.afdx_recorded.specs.declared.pair_options.PairOptions.{PairOptions}
 use Rattle.afdx_recorded.specs.declared.counts.Tally.{Tally}
 use Rattle.afdx_recorded.specs.Becoming.{Options}
 use Rattle.afdx_recorded.specs.Claims.{Ports}
+use Rattle.afdx_recorded.specs.Entering.{IsEnteredInPair}
 use Rattle.afdx_recorded.specs.NumberLines.{Lines, arrivals_listed}
 use Rattle.afdx_recorded.specs.PairOptions.{options_of_a, options_of_b}
 use Rattle.afdx_recorded.specs.Ordering.{Sequence}
@@ -40,6 +41,10 @@ IfBothKnown remaining inputs holds =
     IfBoth (remaining (device_of inputs.a)) (remaining (device_of inputs.b)) holds
 
 module _ (options : PairOptions) (ports : Ports) where
+  -- an arrival came in as the options of one of the two say, and these ports
+  abbrev pub IsEnteredBy : Item Heading → Type 0
+  IsEnteredBy = IsEnteredInPair (options_of_a options) (options_of_b options) ports
+
   -- the sequences of the recordings of A and of B
   abbrev pub of_a : List ℕ → Sequence
   of_a bytes = sequence_of_bytes (options_of_a options) ports bytes

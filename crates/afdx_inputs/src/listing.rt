@@ -43,6 +43,7 @@ fn put_number<O: Sink>(
             time,
             side,
             port,
+            ..
         } => {
             let line = OutLine::Listed {
                 kind: *kind,

@@ -5,7 +5,7 @@ ghost use Rattle.std.specs.Prelude.{◌≡◌, ◌||◌, ℕ, List, [], Bool, Op
 ghost use Rattle.afdx_lists.specs.Calls.{is_read, is_failed_read, is_failed_write};
 ghost use Rattle.afdx_lists.specs.Watching.{device_of, has_ended, has_failed};
 ghost use Rattle.afdx_lists.specs.declared.fault.RunFault.{RunFault as Fault};
-ghost use Rattle.afdx_engine.specs.Engine.{CanAll, Item};
+ghost use Rattle.afdx_engine.specs.Engine.{CanTell, Item};
 ghost use Rattle.afdx_inputs.specs.ListText.{lines_themselves};
 ghost use Rattle.afdx_recorded.specs.NumberLines.{CanBePeeled, Lines, arrivals_listed};
 ghost use Rattle.afdx_inputs.specs.Over.{IsAsked, Takes};
@@ -244,7 +244,8 @@ impl<I: Input, S: Reads<NumberLine, I>> Reads<Heading, I> for Arriving<S> {
 
 /// Lets a machine tell what a source gives, and counts what is no arrival.
 ///
-/// Each item is told before the next one is read. The first fault ends the run.
+/// The machine can tell each item that the source gives. Each is told before the next one is read.
+/// The first fault ends the run.
 pub(crate) fn run_over<H: OfLines, I: Input, S: Reads<H, I>, M: Machine<H>, O: Sink>(
     source: &mut S,
     machine: &mut M,
@@ -255,13 +256,15 @@ pub(crate) fn run_over<H: OfLines, I: Input, S: Reads<H, I>, M: Machine<H>, O: S
     requires set { S.IsSet (S.way source.old) }
     requires sound_output { O.failed output.old ≡ false }
     requires told { (rules : M.Rules) × M.Told rules machine.old
-        (O.written output.old) (O.written output.old) [] × CanAll (M.Can rules) }
+        (O.written output.old) (O.written output.old) []
+        × CanTell (S.Gives (S.settings source.old)) (M.Can rules) }
     ensures ended { OnOk result (I.ended input.new) }
     ensures read { I.failed input.new ≡ is_failed_read result }
     ensures write { O.failed output.new ≡ is_failed_write result }
     ensures calls { I.asked input.old input.new }
     ensures answer { (rules : M.Rules) → M.Told rules machine.old
-        (O.written output.old) (O.written output.old) [] → CanAll (M.Can rules) →
+        (O.written output.old) (O.written output.old) [] →
+        CanTell (S.Gives (S.settings source.old)) (M.Can rules) →
         IfSome (S.known input.old) (λ bytes.
         TakenAnswers (S.whole (S.way source.old) bytes)
         (S.AreCut (S.way source.old) bytes input.new) H.items_of

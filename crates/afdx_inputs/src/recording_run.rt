@@ -3,11 +3,12 @@
 ghost use Rattle.std.specs.Prelude.{◌≡◌, ◌||◌, [], IfSome, OnOk, true, false};
 ghost use Rattle.afdx_lists.specs.Calls.{is_failed_read, is_failed_write};
 ghost use Rattle.afdx_lists.specs.Watching.{calls_of, device_of, has_ended, has_failed};
-ghost use Rattle.afdx_engine.specs.Engine.{CanAll};
+ghost use Rattle.afdx_engine.specs.Engine.{CanTell};
 ghost use Rattle.afdx_recorded.specs.Becoming.{options_of};
 ghost use Rattle.afdx_recorded.specs.Claims.{ports_of, ports_unsaid};
+ghost use Rattle.afdx_recorded.specs.Entering.{IsEntered};
 ghost use Rattle.afdx_inputs.specs.RecordingRun.{AreCutOffInPair, IfBothKnown, IsAskedOnce};
-ghost use Rattle.afdx_inputs.specs.RecordingRun.{RecordingAnswers, taken_of_pair};
+ghost use Rattle.afdx_inputs.specs.RecordingRun.{IsEnteredBy, RecordingAnswers, taken_of_pair};
 ghost use Rattle.afdx_inputs.specs.TakenRun.{TakenAnswers};
 ghost use Rattle.afdx_recorded.specs.NumberLines.{arrivals_listed};
 
@@ -22,6 +23,8 @@ use std::alloc::Global;
 use std::io::Read;
 
 /// Lets a machine tell the arrivals of a recording, and counts what is no arrival.
+///
+/// The machine can tell each arrival that came in where the options say, or the bytes of a frame.
 ///
 /// Arrivals are told by their moments. One is told once `reorder` others were read that come behind
 /// it, or the end or a fault was; its whole text is handed to `output` before the next frame is
@@ -41,7 +44,8 @@ pub fn run_recording<R: Read, M: Machine<Heading>, O: Sink>(
     requires unended { has_ended input.old ≡ false }
     requires sound_output { O.failed output.old ≡ false }
     requires told { (rules : M.Rules) × M.Told rules machine.old
-        (O.written output.old) (O.written output.old) [] × CanAll (M.Can rules) }
+        (O.written output.old) (O.written output.old) []
+        × CanTell (IsEntered (options_of options) (ports_of ports)) (M.Can rules) }
     ensures ended { OnOk result (has_ended input.new ≡ true) }
     ensures read { has_failed input.new ≡ is_failed_read result }
     ensures write { O.failed output.new ≡ is_failed_write result }
@@ -51,7 +55,8 @@ pub fn run_recording<R: Read, M: Machine<Heading>, O: Sink>(
     // Where the input's bytes are known: what is answered and written for the recording that they
     // are.
     ensures answer { (rules : M.Rules) → M.Told rules machine.old
-        (O.written output.old) (O.written output.old) [] → CanAll (M.Can rules) →
+        (O.written output.old) (O.written output.old) [] →
+        CanTell (IsEntered (options_of options) (ports_of ports)) (M.Can rules) →
         IfSome (R.remaining (device_of input.old)) (λ bytes.
         RecordingAnswers (options_of options) (ports_of ports)
         (M.Done rules machine.new (O.written output.old) (O.written output.new))
@@ -65,6 +70,9 @@ pub fn run_recording<R: Read, M: Machine<Heading>, O: Sink>(
 
 /// Lets a machine tell the arrivals of two recordings that are read at once, of network A and of
 /// network B, and counts what is no arrival.
+///
+/// The machine can tell each arrival that came in where the options of one of them say, or the
+/// bytes of a frame.
 ///
 /// The heads of both are looked for, that of A first: the earlier arrival is told, that of A where
 /// both have the same moment. The whole text of an arrival is handed to `output` before the next
@@ -85,7 +93,8 @@ pub fn run_pair<R: Read, M: Machine<Heading>, O: Sink>(
     requires unended_b { has_ended inputs.old.b ≡ false }
     requires sound_output { O.failed output.old ≡ false }
     requires told { (rules : M.Rules) × M.Told rules machine.old
-        (O.written output.old) (O.written output.old) [] × CanAll (M.Can rules) }
+        (O.written output.old) (O.written output.old) []
+        × CanTell (IsEnteredBy options (ports_unsaid unsaid)) (M.Can rules) }
     ensures ended { OnOk result (has_ended inputs.new.a ≡ true × has_ended inputs.new.b ≡ true) }
     ensures read { (has_failed inputs.new.a || has_failed inputs.new.b) ≡ is_failed_read result }
     ensures write { O.failed output.new ≡ is_failed_write result }
@@ -97,7 +106,8 @@ pub fn run_pair<R: Read, M: Machine<Heading>, O: Sink>(
     // Where the bytes of both are known: what is answered and written for the recordings that they
     // are.
     ensures answer { (rules : M.Rules) → M.Told rules machine.old
-        (O.written output.old) (O.written output.old) [] → CanAll (M.Can rules) →
+        (O.written output.old) (O.written output.old) [] →
+        CanTell (IsEnteredBy options (ports_unsaid unsaid.entry)) (M.Can rules) →
         IfBothKnown R.remaining inputs.old (λ a b.
         TakenAnswers (taken_of_pair options (ports_unsaid unsaid.entry) a b)
         (AreCutOffInPair options (ports_unsaid unsaid.entry) R.remaining a b inputs.new)

@@ -20,3 +20,5 @@ pub mod OrderLemmas
 pub mod LawLemmas
 mod PlacingLemmas
 pub mod UnusedLemmas
+pub mod EachLemmas
+pub mod EnteringLemmas

@@ -1,5 +1,5 @@
 -- Where the arrivals of recordings came in: as options and frames' bytes say.
-use Rattle.std.specs.Prelude.{ℕ, ◌≡◌, ◌⊎◌, List, Option, Some}
+use Rattle.std.specs.Prelude.{ℕ, ◌≡◌, ◌⊎◌, List, Some}
 use Rattle.afdx_engine.specs.Engine.{Item}
 use Rattle.afdx_lists.specs.declared.frame_line.Heading.{Heading}
 use Rattle.afdx_recorded.specs.declared.places.Entry.{Entry}

@@ -1,18 +1,30 @@
 -- Laws of what recorded frames become.
-use Rattle.std.specs.Prelude.{ℕ, ◌≡◌, ◌≤◌, List, [], ◌∷◌}
+use Rattle.std.specs.Prelude.{ℕ, ◌≡◌, ◌≤◌, List, [], ◌∷◌, Option}
+use Rattle.afdx_frame.specs.declared.by_side.BySide.{BySide}
 use Rattle.afdx_frame.specs.Seals.{whole}
 use Rattle.afdx_frame.specs.Times.{latest_listed}
+use Rattle.afdx_lists.specs.declared.frame_line.Heading.{Heading}
+use Rattle.afdx_lists.specs.declared.watched.Watched.{Watched}
 use Rattle.afdx_police.specs.Arrival.{Arrival}
 use Rattle.afdx_recordings.specs.Recordings.{Recording}
+use Rattle.afdx_engine.specs.Engine.{Item}
 use Rattle.afdx_engine.specs.Lists.{latest_in}
 use Rattle.afdx_engine.specs.Listed.{frames}
 use Rattle.afdx_lists.specs.FrameLines.{frame_bytes}
 use Rattle.afdx_lists.specs.declared.frame_line.FrameKind.{FrameKind}
-use Rattle.afdx_recorded.specs.Becoming.{Options, message_with, seal_with}
-use Rattle.afdx_recorded.specs.Claims.{Ports, Agree}
+use Rattle.afdx_recorded.specs.declared.places.Entry.{Entry}
+use Rattle.afdx_recorded.specs.declared.timed_numbers.TimedNumbers.{TimedNumbers}
+use Rattle.afdx_recorded.specs.declared.timed_pair.TimedPair.{TimedPair}
+use Rattle.afdx_recorded.specs.Becoming.{Options, message_with, options_of, seal_with}
+use Rattle.afdx_recorded.specs.Claims.{Ports, Agree, ports_of}
+use Rattle.afdx_recorded.specs.Entering.{IsEntered, IsEnteredInPair, IsEntry}
+use Rattle.afdx_recorded.specs.NumberLines.{AreItems, arrivals_listed}
+use Rattle.afdx_recorded.specs.OrderedRecording.{HasTaken, HasTakenAll, OrderedRecording, number_taken}
 use Rattle.afdx_recorded.specs.Ordering.{arrivals_only, forward, in_order, sequence}
 use Rattle.afdx_recorded.specs.Sequences.{as_read}
 use Rattle.afdx_recorded.specs.Taking.{arrivals_in, taken_of, taken_of_both}
+use Rattle.afdx_recorded.specs.TimedPairSource.{HasPaired}
+use Rattle.afdx_recorded.specs.TimedSource.{HasTimed}
 
 -- where two ways to know a port agree, what is taken of a recording is the same
 abbrev pub SequencesAgree : Type 0
@@ -46,3 +58,31 @@ abbrev pub ArrivalsOfBothAreInOrder : Type 0
 ArrivalsOfBothAreInOrder = (of_a of_b : Options) (ports : Ports) (a b : Recording) →
     AreInOrder (arrivals_in (taken_of_both of_a.origin (sequence of_a ports a)
     (sequence of_b ports b)))
+
+-- ---- where they came in
+
+-- where two ways to know a port agree, arrivals came in at the same ports
+abbrev pub EntriesAgree : Type 0
+EntriesAgree = (options : Options) (p q : Ports) (entry : Entry) → Agree p q →
+    IsEntry options p entry → IsEntry options q entry
+
+module _ {R : Type 0} (remaining : R → Option (List ℕ)) where
+  -- the arrivals that one recording gives came in as its options and its ports say
+  abbrev pub GivenAreEntered : Type 0
+  GivenAreEntered = (start input : Watched R) (source : TimedNumbers OrderedRecording)
+      (past : List (Item Heading)) (x : Item Heading) →
+      AreItems arrivals_listed
+      (HasTimed (HasTaken remaining) (HasTakenAll remaining) start source input) (x ∷ past) →
+      IsEntered (options_of source.numbers.source.options) (ports_of source.numbers.source.ports) x
+
+  -- those that two give, as the options of one of them say, and these ports
+  abbrev pub GivenOfPairAreEntered : Type 0
+  GivenOfPairAreEntered = (start inputs : BySide (Watched R)) (source : TimedPair OrderedRecording)
+      (ports : Ports) (past : List (Item Heading)) (x : Item Heading) →
+      Agree (ports_of source.pair.a.source.source.ports) ports →
+      Agree (ports_of source.pair.b.source.source.ports) ports →
+      AreItems arrivals_listed
+      (HasPaired number_taken (HasTaken remaining) (HasTakenAll remaining) start source inputs)
+      (x ∷ past) →
+      IsEnteredInPair (options_of source.pair.a.source.source.options)
+      (options_of source.pair.b.source.source.options) ports x

@@ -69,7 +69,7 @@ impl<S> Arriving<S> {
 }
 
 impl<I, S: Source<NumberLine, I>> Source<Heading, I> for Arriving<S> {
-    ghost use Rattle.afdx_recorded.specs.ArrivingSource.{arrival_given};
+    ghost use Rattle.afdx_recorded.specs.ArrivingSource.{arrival_given, IsGivenBy};
     ghost use Rattle.afdx_recorded.specs.NumberLines.{arrivals_listed, AreItems};
 
     ghost current = { arrival_given S.current };
@@ -80,7 +80,7 @@ impl<I, S: Source<NumberLine, I>> Source<Heading, I> for Arriving<S> {
 
     ghost settings = { λ source. S.settings source.lines };
 
-    ghost Gives = { λ settings item. Unit {0} };
+    ghost Gives = { IsGivenBy S.settings S.Gave };
 
     ghost Gave = { λ start source input past.
         AreItems arrivals_listed (S.Gave start source.lines input) past };

@@ -3,6 +3,8 @@
 ghost use Rattle.afdx_recorded.specs.Laws as laws;
 ghost use Rattle.afdx_recorded.specs.Words.{TheWords};
 
+use std::io::Read;
+
 /// Where two ways to know a port agree, what is taken of a recording is the same.
 pub fn sequences_agree()
     ensures { laws.SequencesAgree }
@@ -28,6 +30,22 @@ pub fn arrivals_are_in_order()
 /// And so it is with those of two recordings that are read at once.
 pub fn arrivals_of_both_are_in_order()
     ensures { laws.ArrivalsOfBothAreInOrder }
+{}
+
+/// Where two ways to know a port agree, arrivals came in at the same ports.
+pub fn entries_agree()
+    ensures { laws.EntriesAgree }
+{}
+
+/// The arrivals that one recording gives came in at ports of switches that its options say, or the
+/// bytes of frames do.
+pub fn given_are_entered<R: Read>()
+    ensures { laws.GivenAreEntered R.remaining }
+{}
+
+/// And so did those of two recordings that are read at once.
+pub fn given_of_pair_are_entered<R: Read>()
+    ensures { laws.GivenOfPairAreEntered R.remaining }
 {}
 
 /// The words of the reasons to skip a number are those of the formats.

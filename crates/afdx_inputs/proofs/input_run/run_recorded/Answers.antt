@@ -16,6 +16,10 @@ returns-in_err-ports-clause-answer g c law start can =
     (g.R.Read.remaining c.args.input.now.inner) (g.R.Read.remaining c.args.input.now.inner) listed-none start in
     search rules
 
+pub run_recording-requires-clause-told : goal.run_recording-requires-clause-told
+run_recording-requires-clause-told g c =
+    let told = c.requires.told in (told.0, told.1, λ item entered. told.2 item)
+
 pub returns-clause-answer : goal.returns-clause-answer
 returns-clause-answer g c law start can =
     let old = g.O.Sink.written c.args.output.now in
@@ -25,4 +29,4 @@ returns-clause-answer g c law start can =
     c.in_ok-ports.ensures (g.M.Machine.Done law machine old new) (g.M.Machine.Told law machine old new)
     (g.M.Machine.Begins law machine old new) (g.R.Read.remaining c.args.input.now.inner)
     (g.R.Read.remaining c.run_recording.new.input.inner) c.run_recording.result
-    (c.run_recording.ensures.answer law start can)
+    (c.run_recording.ensures.answer law start (λ item entered. can item))

@@ -35,7 +35,7 @@ run_over-requires-clause-set g c =
     record { order_a = c.in_ok-lines.ensures.order_a; order_b = c.in_ok-lines.ensures.order_b }
 
 pub run_over-requires-clause-told : goal.run_over-requires-clause-told
-run_over-requires-clause-told g c = (tt, lines-start (g.O.Sink.written c.args.output.now), λ item. tt)
+run_over-requires-clause-told g c = (tt, lines-start (g.O.Sink.written c.args.output.now), λ item gives. tt)
 
 pub returns-clause-calls_a : goal.returns-clause-calls_a
 returns-clause-calls_a g c = c.run_over.ensures.calls.0 (rw (c.requires.sound_a, c.requires.unended_a) refl)
@@ -49,4 +49,5 @@ returns-clause-answer g c =
     let new = g.O.Sink.written c.run_over.new.output in
     two-by c.args.options (ports_unsaid c.args.unsaid) c.in_ok-lines.lines c.in_ok-lines.ensures lines_themselves
     (WritesLines old new) (WritesLines old new) (WritesSomeLines old new) c.run_over.result
-    g.R.Read.remaining c.args.inputs.now c.run_over.new.input (c.run_over.ensures.answer tt (lines-start old) (λ item. tt))
+    g.R.Read.remaining c.args.inputs.now c.run_over.new.input
+    (c.run_over.ensures.answer tt (lines-start old) (λ item gives. tt))

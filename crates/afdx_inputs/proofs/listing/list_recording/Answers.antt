@@ -28,7 +28,7 @@ pub run_over-requires-clause-set : goal.run_over-requires-clause-set
 run_over-requires-clause-set g c = one-set c.args.options c.args.ports c.in_ok-lines.lines c.in_ok-lines.ensures
 
 pub run_over-requires-clause-told : goal.run_over-requires-clause-told
-run_over-requires-clause-told g c = (tt, lines-start (g.O.Sink.written c.args.output.now), λ item. tt)
+run_over-requires-clause-told g c = (tt, lines-start (g.O.Sink.written c.args.output.now), λ item gives. tt)
 
 pub returns-clause-calls : goal.returns-clause-calls
 returns-clause-calls g c = c.run_over.ensures.calls (rw (c.requires.sound_input, c.requires.unended) refl)
@@ -40,4 +40,4 @@ returns-clause-answer g c =
     one-by c.args.options c.args.ports c.in_ok-lines.lines c.in_ok-lines.ensures lines_themselves
     (WritesLines old new) (WritesLines old new) (WritesSomeLines old new) c.run_over.result
     (g.R.Read.remaining c.args.input.now.inner)
-    (g.R.Read.remaining c.run_over.new.input.inner) (c.run_over.ensures.answer tt (lines-start old) (λ item. tt))
+    (g.R.Read.remaining c.run_over.new.input.inner) (c.run_over.ensures.answer tt (lines-start old) (λ item gives. tt))

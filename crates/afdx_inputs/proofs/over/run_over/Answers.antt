@@ -18,7 +18,7 @@ returns-in_err-drive-clause-read g c =
     (λ past k. reads.stopped start input source past fault k)
     (λ is past k. reads.gave start input source past k ∙ sym (not_read fault is))
     (λ is past k. (reads.ended start input source past k).0 ∙ sym (not_read fault is))
-    (c.in_err-drive.ensures.answer told.0 told.1 (λ item gives. told.2 item)))
+    (c.in_err-drive.ensures.answer told.0 told.1 told.2))
 
 pub returns-in_err-drive-clause-calls : goal.returns-in_err-drive-clause-calls
 returns-in_err-drive-clause-calls g c =
@@ -33,7 +33,7 @@ returns-in_err-drive-clause-calls g c =
     (λ past k. reads.stopped_asked start input source past fault k)
     (λ is past k. reads.gave_asked start input source past k)
     (λ is past k. reads.ended_asked start input source past k)
-    (c.in_err-drive.ensures.answer told.0 told.1 (λ item gives. told.2 item))
+    (c.in_err-drive.ensures.answer told.0 told.1 told.2)
 
 pub returns-in_err-drive-clause-answer : goal.returns-in_err-drive-clause-answer
 returns-in_err-drive-clause-answer g c law first can =
@@ -47,30 +47,30 @@ returns-in_err-drive-clause-answer g c law first can =
     g.S.Reads.IsSet (g.S.Reads.way c.args.source.now) (g.S.Reads.way source)
     (c.stays.ensures source c.args.source.now c.in_err-drive.ensures.settings) c.requires.set
     (g.S.Reads.counted source) (λ bytes e set. c.takes.ensures start input source bytes e set)
-    c.peels.ensures fault (c.in_err-drive.ensures.answer law first (λ item gives. can item)))
+    c.peels.ensures fault (c.in_err-drive.ensures.answer law first can))
 
 pub tally-requires : goal.tally-requires
 tally-requires g c =
     let h = c.in_ok-drive.ensures.answer c.requires.told.0 c.requires.told.1
-    (λ item gives. c.requires.told.2 item) in
+    c.requires.told.2 in
     (c.reads.ensures.ended c.args.input.now c.drive.new.input c.drive.new.source h.0 h.1).2
 
 pub returns-clause-ended : goal.returns-clause-ended
 returns-clause-ended g c =
     let h = c.in_ok-drive.ensures.answer c.requires.told.0 c.requires.told.1
-    (λ item gives. c.requires.told.2 item) in
+    c.requires.told.2 in
     (c.reads.ensures.ended c.args.input.now c.drive.new.input c.drive.new.source h.0 h.1).1
 
 pub returns-clause-read : goal.returns-clause-read
 returns-clause-read g c =
     let h = c.in_ok-drive.ensures.answer c.requires.told.0 c.requires.told.1
-    (λ item gives. c.requires.told.2 item) in
+    c.requires.told.2 in
     (c.reads.ensures.ended c.args.input.now c.drive.new.input c.drive.new.source h.0 h.1).0
 
 pub returns-clause-calls : goal.returns-clause-calls
 returns-clause-calls g c =
     let h = c.in_ok-drive.ensures.answer c.requires.told.0 c.requires.told.1
-    (λ item gives. c.requires.told.2 item) in
+    c.requires.told.2 in
     c.reads.ensures.ended_asked c.args.input.now c.drive.new.input c.drive.new.source h.0 h.1
 
 pub returns-clause-answer : goal.returns-clause-answer
@@ -83,4 +83,4 @@ returns-clause-answer g c law first can =
     g.S.Reads.IsSet (g.S.Reads.way c.args.source.now) (g.S.Reads.way source)
     (c.stays.ensures source c.args.source.now c.in_ok-drive.ensures.settings) c.requires.set
     (g.S.Reads.counted source) (λ bytes e set. c.takes.ensures start input source bytes e set)
-    c.tally.result c.tally.ensures (c.in_ok-drive.ensures.answer law first (λ item gives. can item))
+    c.tally.result c.tally.ensures (c.in_ok-drive.ensures.answer law first can)

@@ -3,6 +3,7 @@ use Rattle.afdx_lists.specs.declared.fault.RunFault.TheVariants as run
 use Rattle.afdx_recorded.specs.Claims.{ports_unsaid}
 use Rattle.afdx_recorded.specs.NumberLines.{arrivals_listed}
 use Rattle.afdx_inputs.specs.ReadPair.{IsNewPair}
+use Rattle.afdx_inputs.proofs.EnteringLemmas.{two-can}
 use Rattle.afdx_inputs.proofs.PairAnswerLemmas.{pair-start, pair-unread, two-by}
 use Rattle.afdx_inputs.proofs.RecordingRunLemmas.{listed-none, unasked}
 use Rattle.afdx_inputs.proofs.recording_run.run_pair.Goals as goal
@@ -43,6 +44,14 @@ run_over-requires-clause-set g c =
       order_b = c.in_ok-read_pair.ensures.order_b;
     })
 
+pub run_over-requires-clause-told : goal.run_over-requires-clause-told
+run_over-requires-clause-told g c =
+    let told = c.requires.told in
+    let ports = ports_unsaid c.args.unsaid in
+    let lines = c.new-arrivals.result.lines in
+    let is : IsNewPair c.args.options ports lines = rw c.new-arrivals.ensures c.in_ok-read_pair.ensures in
+    (told.0, told.1, two-can g.R.Read.remaining (g.M.Machine.Can told.0) c.args.options ports lines is told.2)
+
 pub returns-clause-calls_a : goal.returns-clause-calls_a
 returns-clause-calls_a g c = c.run_over.ensures.calls.0 (rw (c.requires.sound_a, c.requires.unended_a) refl)
 
@@ -55,4 +64,5 @@ returns-clause-answer g c law start can =
     let lines = c.new-arrivals.result.lines in
     let is : IsNewPair c.args.options ports lines = rw c.new-arrivals.ensures c.in_ok-read_pair.ensures in
     two-by c.args.options ports lines is arrivals_listed _ _ _ c.run_over.result
-    g.R.Read.remaining c.args.inputs.now c.run_over.new.input (c.run_over.ensures.answer law start can)
+    g.R.Read.remaining c.args.inputs.now c.run_over.new.input (c.run_over.ensures.answer law start
+    (two-can g.R.Read.remaining (g.M.Machine.Can law) c.args.options ports lines is can))

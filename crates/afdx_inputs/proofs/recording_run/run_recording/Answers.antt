@@ -3,6 +3,7 @@ use Rattle.afdx_recorded.specs.Becoming.{options_of}
 use Rattle.afdx_recorded.specs.Claims.{ports_of}
 use Rattle.afdx_recorded.specs.NumberLines.{arrivals_listed}
 use Rattle.afdx_inputs.specs.ReadPair.{IsNewOne}
+use Rattle.afdx_inputs.proofs.EnteringLemmas.{one-can}
 use Rattle.afdx_inputs.proofs.RecordingRunLemmas.{answers-start, listed-none, one-by, one-set, timed-start, unasked}
 use Rattle.afdx_inputs.proofs.recording_run.run_recording.Goals as goal
 
@@ -33,6 +34,13 @@ pub run_over-requires-clause-set : goal.run_over-requires-clause-set
 run_over-requires-clause-set g c =
     rw c.new-arrivals.ensures (one-set c.args.options c.args.ports c.in_ok-read_one.field-0 c.in_ok-read_one.ensures)
 
+pub run_over-requires-clause-told : goal.run_over-requires-clause-told
+run_over-requires-clause-told g c =
+    let told = c.requires.told in
+    let lines = c.new-arrivals.result.lines in
+    let is : IsNewOne c.args.options c.args.ports lines = rw c.new-arrivals.ensures c.in_ok-read_one.ensures in
+    (told.0, told.1, one-can g.R.Read.remaining (g.M.Machine.Can told.0) c.args.options c.args.ports lines is told.2)
+
 pub returns-clause-calls : goal.returns-clause-calls
 returns-clause-calls g c = c.run_over.ensures.calls (rw (c.requires.sound_input, c.requires.unended) refl)
 
@@ -42,4 +50,5 @@ returns-clause-answer g c law start can =
     let is : IsNewOne c.args.options c.args.ports lines = rw c.new-arrivals.ensures c.in_ok-read_one.ensures in
     one-by c.args.options c.args.ports lines is arrivals_listed _ _ _ c.run_over.result
     (g.R.Read.remaining c.args.input.now.inner) (g.R.Read.remaining c.run_over.new.input.inner)
-    (c.run_over.ensures.answer law start can)
+    (c.run_over.ensures.answer law start
+    (one-can g.R.Read.remaining (g.M.Machine.Can law) c.args.options c.args.ports lines is can))

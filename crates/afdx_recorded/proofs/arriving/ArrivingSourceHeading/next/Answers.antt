@@ -1,4 +1,4 @@
-use Rattle.std.proofs.Common.{rules, ◌∙◌, sym, arith}
+use Rattle.std.proofs.Common.{rules, ◌∙◌, refl, sym, arith}
 use Rattle.afdx_recorded.proofs.ArrivingLemmas.{arrival-given, skipped-given}
 use Rattle.afdx_recorded.proofs.arriving.ArrivingSourceHeading.next.Goals as goal
 
@@ -15,8 +15,18 @@ returns-in-Arrival-clause-item g c start past h ok =
     let given = arrival-given x k.lines c.in-Arrival.kind c.in-Arrival.time c.in-Arrival.side
     c.in-Arrival.switch c.in-Arrival.port c.has_own-own.result c.seal_by.result (sym c.head.ensures ∙ c.in-Arrival.is)
     (rw c.bytes.ensures at c.has_own-own.ensures) c.seal_by.ensures
-    (g.S.Source.Gave start c.next.new.self c.next.new.input) past k.items_are item.0 item.1 in
-    (given.0, given.1, tt)
+    (g.S.Source.Gave start c.next.new.self c.next.new.input) past k.items_are item.0 item.1 in (
+      given.0,
+      given.1,
+      record {
+        source = c.next.new.self;
+        start = start;
+        input = c.next.new.input;
+        past = past;
+        works = refl;
+        given = given.0;
+      },
+    )
 
 pub loop-kind-preserved : goal.loop-kind-preserved
 loop-kind-preserved g c =
