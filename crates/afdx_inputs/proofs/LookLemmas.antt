@@ -4,17 +4,14 @@ use Rattle.std.proofs.Common.{◌≡◌, ◌≤◌, ◌+◌, ℕ, List, [], leng
 use Rattle.std.proofs.Common.{Option, Some, None, Err, IfSome, take}
 use Rattle.std.proofs.KnownBytes.{Consumes-nil}
 use Rattle.std.specs.Io.KnownBytes.{Keeps}
-use Rattle.afdx_lists.specs.FrameLines.{listed_frame}
 use Rattle.afdx_lists.specs.Lines.{GaveWhole, lines_of, whole_lines_of}
 use Rattle.afdx_lists.specs.Peeking.{looked_at}
 use Rattle.afdx_lists.specs.declared.frame_line.Heading.{Heading}
 use Rattle.afdx_lists.specs.declared.fault.RunFault.TheVariants as run
 use Rattle.afdx_recordings.specs.Reading.{opening, recorded_from}
 use Rattle.afdx_engine.specs.Engine.{Item}
-use Rattle.afdx_engine.specs.Items.{thing_of}
-use Rattle.afdx_engine.specs.Listed.{frames}
 use Rattle.afdx_engine.specs.ListRun.{ListAnswers}
-use Rattle.afdx_engine.specs.Lists.{items_of}
+use Rattle.afdx_engine.specs.Lists.{Kind, items_of}
 use Rattle.afdx_recorded.specs.declared.becoming.RecordingOptions.{RecordingOptions}
 use Rattle.afdx_recorded.specs.Becoming.{Options}
 use Rattle.afdx_recorded.specs.Claims.{Ports}
@@ -93,11 +90,12 @@ nothing-whole : (bytes : List ℕ) → GaveWhole (Some bytes) (Some bytes) 0
 unfolding whole_lines_of
 nothing-whole bytes = record { read = []; consumed = Consumes-nil (Some bytes); counted = refl }
 
-nothing-said : (lines : List (List ℕ)) → items_of frames lines 0 ≡ []
+nothing-said : {Said Thing : Type 0} (kind : Kind Said Thing) (lines : List (List ℕ)) → items_of kind lines 0 ≡ []
 unfolding items_of
-nothing-said lines = refl
+nothing-said kind lines = refl
 
-module _ (options : Options) (ports : Ports) (done told begins : List (Item Heading) → Type 0) (start : told []) where
+module _ {Said Thing : Type 0} (kind : Kind Said Thing) (thing : Item Heading → Thing) (options : Options)
+    (ports : Ports) (done told begins : List (Item Heading) → Type 0) (start : told []) where
   unread-recording : (bytes : List ℕ)
       → RecordingAnswers options ports done told begins bytes (Some bytes) (Err run.Read)
   unread-recording bytes = (
@@ -106,28 +104,28 @@ module _ (options : Options) (ports : Ports) (done told begins : List (Item Head
     rw no-lines start,
   )
 
-  unread-list : (bytes : List ℕ) → ListAnswers frames (thing_of frames listed_frame) done told begins bytes
-      (Some bytes) (Err run.Read)
+  unread-list : (bytes : List ℕ)
+      → ListAnswers kind thing done told begins bytes (Some bytes) (Err run.Read)
   unread-list bytes = (
     0,
     nothing-whole bytes,
     record {
       within = omega arith;
       sound = λ i lt. absurd (omega arith);
-      are_told = rw (nothing-said (lines_of bytes)) ([], refl, start);
+      are_told = rw (nothing-said kind (lines_of bytes)) ([], refl, start);
     },
   )
 
   unread-input : (b : Bool) (bytes : List ℕ)
-      → InputAnswers (options, ports) done told begins b bytes (Some bytes) (Err run.Read)
+      → InputAnswers kind thing (options, ports) done told begins b bytes (Some bytes) (Err run.Read)
   unread-input true bytes = unread-recording bytes
   unread-input false bytes = unread-list bytes
 
   -- what is answered then
   pub unread-answers : (b : Bool) (left rest : Option (List ℕ)) → Keeps left rest
-      → IfSome left (λ bytes. InputAnswers (options, ports) done told begins b bytes rest (Err run.Read))
+      → IfSome left (λ bytes. InputAnswers kind thing (options, ports) done told begins b bytes rest (Err run.Read))
   unread-answers b None rest k = tt
   unread-answers b (Some bytes) None k = absurd k
   unread-answers b (Some bytes) (Some same) k =
-      subst (λ (xs : List ℕ). InputAnswers (options, ports) done told begins b bytes (Some xs) (Err run.Read)) (sym k)
+      subst (λ (xs : List ℕ). InputAnswers kind thing (options, ports) done told begins b bytes (Some xs) (Err run.Read)) (sym k)
       (unread-input b bytes)

@@ -120,7 +120,7 @@ module _ (done told begins : List (Item Heading) → Type 0) where
 
   pub input-took : (options : Options) (ports : Ports) (is : Bool) (bytes : List ℕ)
       (rest : Option (List ℕ)) (r : Result InputCount RunFault)
-      → InputAnswers (options, ports) done told begins is bytes rest r
+      → InputAnswers frames (thing_of frames listed_frame) (options, ports) done told begins is bytes rest r
       → Took (TakesAs is options ports bytes rest) r
   input-took options ports true bytes rest (Ok (count.Recorded tally)) h =
       recorded-took (taken_of_bytes options ports bytes) (AreCutOff options ports bytes rest) (Ok tally) h
@@ -133,7 +133,7 @@ module _ (done told begins : List (Item Heading) → Type 0) where
 
   pub one-took : (options : Options) (ports : Ports) (is : Option (List ℕ) → Bool)
       (left rest : Option (List ℕ)) (r : Result InputCount RunFault)
-      → IfSome left (λ bytes. InputAnswers (options, ports) done told begins (is left) bytes rest r)
+      → IfSome left (λ bytes. InputAnswers frames (thing_of frames listed_frame) (options, ports) done told begins (is left) bytes rest r)
       → IfSome left (λ bytes. Took (TakesAs (is (Some bytes)) options ports bytes rest) r)
   one-took options ports is None rest r h = tt
   one-took options ports is (Some bytes) rest r h =

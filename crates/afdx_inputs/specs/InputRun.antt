@@ -5,12 +5,10 @@ use Rattle.afdx_lists.specs.Peeking.{looked_at}
 use Rattle.afdx_lists.specs.Lines.{most_reads}
 use Rattle.afdx_lists.specs.declared.frame_line.Heading.{Heading}
 use Rattle.afdx_lists.specs.declared.fault.RunFault.{RunFault}
-use Rattle.afdx_lists.specs.FrameLines.{listed_frame}
 use Rattle.afdx_recordings.specs.Beginning.{is_recording}
 use Rattle.afdx_engine.specs.Engine.{Item}
-use Rattle.afdx_engine.specs.Items.{thing_of}
-use Rattle.afdx_engine.specs.Listed.{frames}
 use Rattle.afdx_engine.specs.ListRun.{ListAnswers}
+use Rattle.afdx_engine.specs.Lists.{Kind}
 use Rattle.afdx_recorded.specs.declared.becoming.RecordingOptions.{RecordingOptions}
 use Rattle.afdx_inputs.specs.declared.input_run.InputCount.{InputCount}
 use Rattle.afdx_inputs.specs.declared.input_run.InputCount.TheVariants.{Lines, Recorded}
@@ -37,15 +35,17 @@ abbrev pub IsAskedFew : RecordingOptions → (left rest : Option (List ℕ)) →
 IsAskedFew options left rest old new =
     IsAskedBy (is_read_recorded options left) left rest (old + looked_at) new
 
-module _ (way : Options × Ports) (done told begins : List (Item Heading) → Type 0) where
-  -- what a run answers whose input has these bytes, and then has `rest`, as a recording or a list
+module _ {Said Thing : Type 0} (kind : Kind Said Thing) (thing : Item Heading → Thing)
+    (way : Options × Ports) (done told begins : List (Item Heading) → Type 0) where
+  -- what a run answers whose input has these bytes, and then has `rest`, as a recording, or as a
+  -- list of this kind
   abbrev pub InputAnswers : Bool → List ℕ → Option (List ℕ) → Result InputCount RunFault → Type 0
   InputAnswers true bytes rest (Ok (Recorded tally)) =
       RecordingAnswers way.0 way.1 done told begins bytes rest (Ok tally)
   InputAnswers true bytes rest (Err fault) =
       RecordingAnswers way.0 way.1 done told begins bytes rest (Err fault)
   InputAnswers false bytes rest (Ok (Lines n)) =
-      ListAnswers frames (thing_of frames listed_frame) done told begins bytes rest (Ok n)
+      ListAnswers kind thing done told begins bytes rest (Ok n)
   InputAnswers false bytes rest (Err fault) =
-      ListAnswers frames (thing_of frames listed_frame) done told begins bytes rest (Err fault)
+      ListAnswers kind thing done told begins bytes rest (Err fault)
   InputAnswers _ bytes rest (Ok _) = ⊥

@@ -17,7 +17,7 @@ ghost use Rattle.afdx_inputs.specs.declared.input_run.InputCount.{InputCount as 
 use crate::input_run::{InputCount, run_input};
 use crate::over::Input;
 use crate::recording_run::run_pair;
-use afdx_engine::Machine;
+use afdx_engine::{FrameLines, Machine};
 use afdx_frame::BySide;
 use afdx_lists::{Heading, Peeked, RunFault, Watched};
 use afdx_recorded::{PairOptions, RecordingOptions, UnsaidPort};
@@ -118,7 +118,7 @@ impl<R: Read> Arrivals<RecordingOptions> for Watched<Peeked<R>> {
         machine: &mut M,
         output: &mut O,
     ) -> Result<InputCount, RunFault> {
-        run_input(alloc, options, unsaid, machine, self, output)
+        run_input(alloc, options, unsaid, FrameLines, machine, self, output)
     }
 }
 

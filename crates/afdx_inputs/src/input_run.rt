@@ -4,15 +4,17 @@ ghost use Rattle.std.specs.Prelude.{◌≡◌, [], IfSome, OnOk, true, false};
 ghost use Rattle.afdx_lists.specs.Calls.{is_failed_read, is_failed_write};
 ghost use Rattle.afdx_lists.specs.Peeking.{held, is_untouched, left_in};
 ghost use Rattle.afdx_lists.specs.Watching.{calls_of, device_of, has_ended, has_failed};
-ghost use Rattle.afdx_engine.specs.Engine.{CanAll};
+ghost use Rattle.afdx_engine.specs.Engine.{CanTell};
+ghost use Rattle.afdx_engine.specs.Items.{thing_of};
 ghost use Rattle.afdx_recorded.specs.Becoming.{options_of};
 ghost use Rattle.afdx_recorded.specs.Claims.{ports_unsaid};
+ghost use Rattle.afdx_recorded.specs.Entering.{IsEntered};
 ghost use Rattle.afdx_inputs.specs.InputRun as spec;
 ghost use Rattle.afdx_inputs.specs.InputRun.{InputAnswers, IsAskedBy, IsAskedFew};
 ghost use Rattle.afdx_inputs.specs.RecordingRun.{IsAskedOnce, RecordingAnswers};
 
 use crate::recording_run::run_recording;
-use afdx_engine::{FrameLines, Machine, run_list};
+use afdx_engine::{LineForm, Machine, run_list};
 use afdx_lists::{Heading, Peeked, RunFault, Watched};
 use afdx_recorded::{RecordingOptions, SystemPorts, Tally, UnsaidPort};
 use afdx_recordings::is_recording;
@@ -50,14 +52,16 @@ fn run_recorded<R: Read, M: Machine<Heading>, O: Sink>(
     requires unended { has_ended input.old ≡ false }
     requires sound_output { O.failed output.old ≡ false }
     requires told { (rules : M.Rules) × M.Told rules machine.old
-        (O.written output.old) (O.written output.old) [] × CanAll (M.Can rules) }
+        (O.written output.old) (O.written output.old) []
+        × CanTell (IsEntered (options_of options) (ports_unsaid unsaid)) (M.Can rules) }
     ensures ended { OnOk result (has_ended input.new ≡ true) }
     ensures read { has_failed input.new ≡ is_failed_read result }
     ensures write { O.failed output.new ≡ is_failed_write result }
     ensures calls { IsAskedOnce (R.remaining (device_of input.old))
         (R.remaining (device_of input.new)) (calls_of input.old) (calls_of input.new) }
     ensures answer { (rules : M.Rules) → M.Told rules machine.old
-        (O.written output.old) (O.written output.old) [] → CanAll (M.Can rules) →
+        (O.written output.old) (O.written output.old) [] →
+        CanTell (IsEntered (options_of options) (ports_unsaid unsaid.entry)) (M.Can rules) →
         IfSome (R.remaining (device_of input.old)) (λ bytes.
         RecordingAnswers (options_of options) (ports_unsaid unsaid.entry)
         (M.Done rules machine.new (O.written output.old) (O.written output.new))
@@ -71,10 +75,11 @@ fn run_recorded<R: Read, M: Machine<Heading>, O: Sink>(
 
 /// Lets a machine tell what an input says, of which the first bytes were looked at, and counts its
 /// lines, or what is no arrival.
-fn run_looked<R: Read, M: Machine<Heading>, O: Sink>(
+fn run_looked<F: LineForm<Heading>, R: Read, M: Machine<Heading>, O: Sink>(
     alloc: Global,
     options: RecordingOptions,
     unsaid: UnsaidPort<'_>,
+    form: F,
     machine: &mut M,
     input: &mut Watched<Peeked<R>>,
     output: &mut O,
@@ -82,8 +87,11 @@ fn run_looked<R: Read, M: Machine<Heading>, O: Sink>(
     requires sound_input { has_failed input.old ≡ false }
     requires unended { has_ended input.old ≡ false }
     requires sound_output { O.failed output.old ≡ false }
+    requires form { F.IsForm form }
     requires told { (rules : M.Rules) × M.Told rules machine.old
-        (O.written output.old) (O.written output.old) [] × CanAll (M.Can rules) }
+        (O.written output.old) (O.written output.old) []
+        × CanTell (F.Gives form) (M.Can rules)
+        × CanTell (IsEntered (options_of options) (ports_unsaid unsaid)) (M.Can rules) }
     ensures ended { OnOk result (has_ended input.new ≡ true) }
     ensures read { has_failed input.new ≡ is_failed_read result }
     ensures write { O.failed output.new ≡ is_failed_write result }
@@ -91,9 +99,12 @@ fn run_looked<R: Read, M: Machine<Heading>, O: Sink>(
         (left_in R.remaining (device_of input.old)) (left_in R.remaining (device_of input.new))
         (calls_of input.old) (calls_of input.new) }
     ensures answer { (rules : M.Rules) → M.Told rules machine.old
-        (O.written output.old) (O.written output.old) [] → CanAll (M.Can rules) →
+        (O.written output.old) (O.written output.old) [] →
+        CanTell (F.Gives form) (M.Can rules) →
+        CanTell (IsEntered (options_of options) (ports_unsaid unsaid.entry)) (M.Can rules) →
         IfSome (left_in R.remaining (device_of input.old)) (λ bytes.
-        InputAnswers (options_of options, ports_unsaid unsaid.entry)
+        InputAnswers (F.kind form) (thing_of (F.kind form) F.says_of)
+        (options_of options, ports_unsaid unsaid.entry)
         (M.Done rules machine.new (O.written output.old) (O.written output.new))
         (M.Told rules machine.new (O.written output.old) (O.written output.new))
         (M.Begins rules machine.new (O.written output.old) (O.written output.new))
@@ -104,21 +115,24 @@ fn run_looked<R: Read, M: Machine<Heading>, O: Sink>(
         let tally = run_recorded(alloc, options, unsaid, machine, input, output)?;
         return Ok(InputCount::Recorded(tally));
     }
-    let lines = run_list(alloc, FrameLines, machine, input, output)?;
+    let lines = run_list(alloc, form, machine, input, output)?;
     Ok(InputCount::Lines(lines))
 }
 
 /// Lets a machine tell what an input says, and counts its lines, or what is no arrival.
 ///
 /// Its first four bytes are looked at. It is read as a recording if it begins as one, or if an
-/// option of recordings is given; else as a list of frames. The whole text of a line or an arrival
+/// option of recordings is given; else as a list of frames, whose lines have this form. The machine
+/// can tell what such lines say, and arrivals that came in where the options say, or the bytes of a
+/// frame. The whole text of a line or an arrival
 /// is handed to `output` before the next byte is read. The first fault ends the run; what was told
 /// before it stands written. `RunFault::Read` and `RunFault::Write` come exactly where the input's
 /// or the output's device failed, the input's also while it is looked at; neither is tried again.
-pub fn run_input<R: Read, M: Machine<Heading>, O: Sink>(
+pub fn run_input<F: LineForm<Heading>, R: Read, M: Machine<Heading>, O: Sink>(
     alloc: Global,
     options: RecordingOptions,
     unsaid: UnsaidPort<'_>,
+    form: F,
     machine: &mut M,
     input: &mut Watched<Peeked<R>>,
     output: &mut O,
@@ -127,8 +141,11 @@ pub fn run_input<R: Read, M: Machine<Heading>, O: Sink>(
     requires sound_input { has_failed input.old ≡ false }
     requires unended { has_ended input.old ≡ false }
     requires sound_output { O.failed output.old ≡ false }
+    requires form { F.IsForm form }
     requires told { (rules : M.Rules) × M.Told rules machine.old
-        (O.written output.old) (O.written output.old) [] × CanAll (M.Can rules) }
+        (O.written output.old) (O.written output.old) []
+        × CanTell (F.Gives form) (M.Can rules)
+        × CanTell (IsEntered (options_of options) (ports_unsaid unsaid)) (M.Can rules) }
     ensures ended { OnOk result (has_ended input.new ≡ true) }
     ensures read { has_failed input.new ≡ is_failed_read result }
     ensures write { O.failed output.new ≡ is_failed_write result }
@@ -139,9 +156,12 @@ pub fn run_input<R: Read, M: Machine<Heading>, O: Sink>(
     // Where all its bytes are known: what is answered and written for the list, or the recording,
     // that they are.
     ensures answer { (rules : M.Rules) → M.Told rules machine.old
-        (O.written output.old) (O.written output.old) [] → CanAll (M.Can rules) →
+        (O.written output.old) (O.written output.old) [] →
+        CanTell (F.Gives form) (M.Can rules) →
+        CanTell (IsEntered (options_of options) (ports_unsaid unsaid.entry)) (M.Can rules) →
         IfSome (left_in R.remaining (device_of input.old)) (λ bytes.
-        InputAnswers (options_of options, ports_unsaid unsaid.entry)
+        InputAnswers (F.kind form) (thing_of (F.kind form) F.says_of)
+        (options_of options, ports_unsaid unsaid.entry)
         (M.Done rules machine.new (O.written output.old) (O.written output.new))
         (M.Told rules machine.new (O.written output.old) (O.written output.new))
         (M.Begins rules machine.new (O.written output.old) (O.written output.new))
@@ -151,5 +171,5 @@ pub fn run_input<R: Read, M: Machine<Heading>, O: Sink>(
     if input.look() {
         return Err(RunFault::Read);
     }
-    run_looked(alloc, options, unsaid, machine, input, output)
+    run_looked(alloc, options, unsaid, form, machine, input, output)
 }

@@ -13,6 +13,7 @@ ghost use Rattle.afdx_inputs.specs.RecordingRun.{AreCutOffInPair, IfBothKnown, I
 
 use crate::over::run_over;
 use crate::read_pair::{read_one, read_pair};
+use afdx_config::{Described, SwitchId};
 use afdx_engine::Machine;
 use afdx_frame::BySide;
 use afdx_lists::{RunFault, Watched};
@@ -21,9 +22,22 @@ use afdx_text::{OutLine, Sink, Site};
 use std::alloc::Global;
 use std::io::Read;
 
-/// Puts the line of number n.
+/// The name of the switch at this place of a configuration; empty where there is one on a side.
+fn name_in(described: &Described, switch: u8) -> &str
+    ensures { result.now ≡ text.name_in described.entry.now switch }
+{
+    match described {
+        Described::Several(switches) if usize::from(switch) < switches.count() => {
+            switches.name(SwitchId(switch))
+        }
+        Described::Several(_) | Described::One(_) => "",
+    }
+}
+
+/// Puts the line of number n, with the name of a switch of this configuration.
 fn put_number<O: Sink>(
     output: &mut O,
+    described: &Described,
     n: u64,
     line: &NumberLine,
     bytes: &[u8],
@@ -33,22 +47,26 @@ fn put_number<O: Sink>(
     ensures fault { IfErr result IsOfOutput }
     ensures settings { O.settings output.new ≡ O.settings output.old }
     ensures whole { OnOk result (Appends (O.written output.old) (O.written output.new)
-        (text.number_text n line.now bytes.now)) }
+        (text.number_text described.now n line.now bytes.now)) }
     ensures front { OnErr result (AppendsFront (O.written output.old) (O.written output.new)
-        (text.number_text n line.now bytes.now)) }
+        (text.number_text described.now n line.now bytes.now)) }
 {
     match line {
         NumberLine::Arrival {
             kind,
             time,
             side,
+            switch,
             port,
-            ..
         } => {
+            let site = Site {
+                side: *side,
+                switch: name_in(described, *switch),
+            };
             let line = OutLine::Listed {
                 kind: *kind,
                 time: *time,
-                site: Site::on(*side),
+                site,
                 port: *port,
                 bytes,
             };
@@ -64,22 +82,24 @@ fn put_number<O: Sink>(
     }
 }
 
-/// Writes the line of each number.
+/// Writes the line of each number, with the names of switches of a configuration.
 #[derive(Drop)]
-pub(crate) struct Lister;
+pub(crate) struct Lister<'a> {
+    described: &'a Described,
+}
 
-impl Machine<NumberLine> for Lister {
+impl Machine<NumberLine> for Lister<'_> {
     ghost use Rattle.afdx_inputs.specs.ListText.{WritesLines, WritesSomeLines};
 
     ghost Rules = { Unit {0} };
 
     ghost Can = { λ rules item. Unit {0} };
 
-    ghost Told = { λ rules lister old new past. WritesLines old new past };
+    ghost Told = { λ rules lister old new past. WritesLines lister.described.now old new past };
 
-    ghost Begins = { λ rules lister old new past. WritesSomeLines old new past };
+    ghost Begins = { λ rules lister old new past. WritesSomeLines lister.described.now old new past };
 
-    ghost Done = { λ rules lister old new past. WritesLines old new past };
+    ghost Done = { λ rules lister old new past. WritesLines lister.described.now old new past };
 
     fn tell<O: Sink>(
         &mut self,
@@ -88,7 +108,7 @@ impl Machine<NumberLine> for Lister {
         bytes: &[u8],
         output: &mut O,
     ) -> Result<(), RunFault> {
-        put_number(output, n, head, bytes)?;
+        put_number(output, self.described, n, head, bytes)?;
         Ok(())
     }
 
@@ -99,7 +119,8 @@ impl Machine<NumberLine> for Lister {
 
 /// Writes a recording as the frame list that says the same: a line for each number, that of its
 /// arrival where it is taken, or a remark, `#` with the word of the reason and the number, where it
-/// is skipped as soon as it is read. Counts what is no arrival.
+/// is skipped as soon as it is read. Of a configuration of several switches each line of an arrival
+/// has the name of its switch. Counts what is no arrival.
 ///
 /// Each line is handed to `output` before the next frame is read. The first fault ends it; the
 /// lines of the numbers before it stand written, but for arrivals that are held where a device or
@@ -107,6 +128,7 @@ impl Machine<NumberLine> for Lister {
 /// exactly where the input's or the output's device failed; neither is tried again.
 pub fn list_recording<R: Read, O: Sink>(
     alloc: Global,
+    described: &Described,
     options: RecordingOptions,
     ports: SystemPorts,
     input: &mut Watched<R>,
@@ -124,11 +146,11 @@ pub fn list_recording<R: Read, O: Sink>(
     // Where the input's bytes are known: what is answered and written for the recording that they
     // are.
     ensures answer { IfSome (R.remaining (device_of input.old)) (λ bytes.
-        ListingAnswers (options_of options) (ports_of ports) bytes
+        ListingAnswers described.now (options_of options) (ports_of ports) bytes
         (R.remaining (device_of input.new)) (O.written output.old) (O.written output.new) result) }
 {
     let mut lines = read_one(alloc, options, ports)?;
-    run_over(&mut lines, &mut Lister, input, output)
+    run_over(&mut lines, &mut Lister { described }, input, output)
 }
 
 /// Writes two recordings that are read at once, of network A and of network B, as the frame list
@@ -141,6 +163,7 @@ pub fn list_recording<R: Read, O: Sink>(
 /// come exactly where the device of an input, or the output's, failed; none is tried again.
 pub fn list_pair<R: Read, O: Sink>(
     alloc: Global,
+    described: &Described,
     options: PairOptions,
     unsaid: UnsaidPort<'_>,
     inputs: &mut BySide<Watched<R>>,
@@ -162,10 +185,10 @@ pub fn list_pair<R: Read, O: Sink>(
     // Where the bytes of both are known: what is answered and written for the recordings that they
     // are.
     ensures answer { IfBothKnown R.remaining inputs.old (λ a b.
-        ListsTaken (taken_of_pair options (ports_unsaid unsaid.entry) a b)
+        ListsTaken described.now (taken_of_pair options (ports_unsaid unsaid.entry) a b)
         (AreCutOffInPair options (ports_unsaid unsaid.entry) R.remaining a b inputs.new)
         (O.written output.old) (O.written output.new) result) }
 {
     let mut lines = read_pair(alloc, options, unsaid)?;
-    run_over(&mut lines, &mut Lister, inputs, output)
+    run_over(&mut lines, &mut Lister { described }, inputs, output)
 }

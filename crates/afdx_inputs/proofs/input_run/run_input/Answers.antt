@@ -1,5 +1,6 @@
 use Rattle.std.proofs.Common.{Bool, List, ℕ}
 use Rattle.afdx_lists.specs.Peeking.{held, left_in}
+use Rattle.afdx_engine.specs.Items.{thing_of}
 use Rattle.afdx_recorded.specs.Becoming.{options_of}
 use Rattle.afdx_recorded.specs.Claims.{ports_unsaid}
 use Rattle.afdx_inputs.specs.InputRun.{InputAnswers, is_read_recorded}
@@ -14,10 +15,11 @@ returns-then-look-clause-calls g c =
     c.look.ensures.left c.look.ensures.calls
 
 pub returns-then-look-clause-answer : goal.returns-then-look-clause-answer
-returns-then-look-clause-answer g c law start can =
+returns-then-look-clause-answer g c law start can entered =
     let left = left_in g.R.Read.remaining c.args.input.now.inner in
     let old = g.O.Sink.written c.args.output.now in
-    unread-answers (options_of c.args.options) (ports_unsaid c.args.unsaid)
+    unread-answers (g.F.LineForm.kind c.args.form)
+    (thing_of (g.F.LineForm.kind c.args.form) g.F.LineForm.says_of) (options_of c.args.options) (ports_unsaid c.args.unsaid)
     (g.M.Machine.Done law c.args.machine.now old old) (g.M.Machine.Told law c.args.machine.now old old)
     (g.M.Machine.Begins law c.args.machine.now old old) start (is_read_recorded c.args.options left) left
     (left_in g.R.Read.remaining c.look.new.self.inner) c.look.ensures.left
@@ -31,14 +33,15 @@ returns-clause-calls g c =
     c.look.ensures.left (c.look.ensures.first c.if-look.false) c.look.ensures.calls c.run_looked.ensures.calls
 
 pub returns-clause-answer : goal.returns-clause-answer
-returns-clause-answer g c law start can =
+returns-clause-answer g c law start can entered =
     let old = g.O.Sink.written c.args.output.now in
     let new = g.O.Sink.written c.run_looked.new.output in
     let machine = c.run_looked.new.machine in
     let rest = left_in g.R.Read.remaining c.run_looked.new.input.inner in
     looked-kept c.args.options (left_in g.R.Read.remaining c.args.input.now.inner)
     (left_in g.R.Read.remaining c.look.new.self.inner) (held c.look.new.self.inner)
-    (λ (is : Bool) (bytes : List ℕ). InputAnswers (options_of c.args.options, ports_unsaid c.args.unsaid)
+    (λ (is : Bool) (bytes : List ℕ). InputAnswers (g.F.LineForm.kind c.args.form)
+    (thing_of (g.F.LineForm.kind c.args.form) g.F.LineForm.says_of) (options_of c.args.options, ports_unsaid c.args.unsaid)
     (g.M.Machine.Done law machine old new) (g.M.Machine.Told law machine old new)
     (g.M.Machine.Begins law machine old new) is bytes rest c.run_looked.result)
-    c.look.ensures.left (c.look.ensures.first c.if-look.false) (c.run_looked.ensures.answer law start can)
+    c.look.ensures.left (c.look.ensures.first c.if-look.false) (c.run_looked.ensures.answer law start can entered)

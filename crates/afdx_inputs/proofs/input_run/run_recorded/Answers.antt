@@ -1,7 +1,9 @@
 use Rattle.std.proofs.Common.{rules}
 use Rattle.afdx_recorded.specs.Becoming.{options_of}
 use Rattle.afdx_recorded.specs.Claims.{ports_of, ports_unsaid}
+use Rattle.afdx_recorded.specs.Entering.{entry_in}
 use Rattle.afdx_recorded.specs.NumberLines.{arrivals_listed}
+use Rattle.afdx_recorded.proofs.EnteringLemmas.{entry-agrees}
 use Rattle.afdx_inputs.proofs.InputLemmas.{if-agree}
 use Rattle.afdx_inputs.proofs.RecordingRunLemmas.{answers-start, listed-none}
 use Rattle.afdx_inputs.proofs.input_run.run_recorded.Goals as goal
@@ -18,7 +20,12 @@ returns-in_err-ports-clause-answer g c law start can =
 
 pub run_recording-requires-clause-told : goal.run_recording-requires-clause-told
 run_recording-requires-clause-told g c =
-    let told = c.requires.told in (told.0, told.1, λ item entered. told.2 item)
+    let told = c.requires.told in (
+      told.0,
+      told.1,
+      λ item entered. told.2 item (entry-agrees (options_of c.args.options) (ports_of c.in_ok-ports.ports)
+          (ports_unsaid c.args.unsaid) (entry_in item) c.in_ok-ports.ensures entered),
+    )
 
 pub returns-clause-answer : goal.returns-clause-answer
 returns-clause-answer g c law start can =
@@ -29,4 +36,6 @@ returns-clause-answer g c law start can =
     c.in_ok-ports.ensures (g.M.Machine.Done law machine old new) (g.M.Machine.Told law machine old new)
     (g.M.Machine.Begins law machine old new) (g.R.Read.remaining c.args.input.now.inner)
     (g.R.Read.remaining c.run_recording.new.input.inner) c.run_recording.result
-    (c.run_recording.ensures.answer law start (λ item entered. can item))
+    (c.run_recording.ensures.answer law start (λ item entered. can item
+    (entry-agrees (options_of c.args.options) (ports_of c.in_ok-ports.ports) (ports_unsaid c.args.unsaid)
+    (entry_in item) c.in_ok-ports.ensures entered)))

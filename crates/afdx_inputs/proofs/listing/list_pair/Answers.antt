@@ -18,9 +18,10 @@ returns-in_err-lines-clause-calls_b g c =
 -- there was no memory
 pub returns-in_err-lines-clause-answer : goal.returns-in_err-lines-clause-answer
 returns-in_err-lines-clause-answer g c =
+    let d = c.args.described.now in
     let old = g.O.Sink.written c.args.output.now in
     let stop = pair-unread g.R.Read.remaining c.args.inputs.now c.args.options (ports_unsaid c.args.unsaid)
-    lines_themselves (WritesLines old old) (WritesLines old old) (WritesSomeLines old old) refl (lines-start old) in
+    lines_themselves (WritesLines d old old) (WritesLines d old old) (WritesSomeLines d old old) refl (lines-start d old) in
     let e : c.from_residual.result ≡ Err run.Memory = search rules in
     rw e stop
 
@@ -35,7 +36,7 @@ run_over-requires-clause-set g c =
     record { order_a = c.in_ok-lines.ensures.order_a; order_b = c.in_ok-lines.ensures.order_b }
 
 pub run_over-requires-clause-told : goal.run_over-requires-clause-told
-run_over-requires-clause-told g c = (tt, lines-start (g.O.Sink.written c.args.output.now), λ item gives. tt)
+run_over-requires-clause-told g c = (tt, lines-start c.args.described.now (g.O.Sink.written c.args.output.now), λ item gives. tt)
 
 pub returns-clause-calls_a : goal.returns-clause-calls_a
 returns-clause-calls_a g c = c.run_over.ensures.calls.0 (rw (c.requires.sound_a, c.requires.unended_a) refl)
@@ -45,9 +46,10 @@ returns-clause-calls_b g c = c.run_over.ensures.calls.1 (rw (c.requires.sound_b,
 
 pub returns-clause-answer : goal.returns-clause-answer
 returns-clause-answer g c =
+    let d = c.args.described.now in
     let old = g.O.Sink.written c.args.output.now in
     let new = g.O.Sink.written c.run_over.new.output in
     two-by c.args.options (ports_unsaid c.args.unsaid) c.in_ok-lines.lines c.in_ok-lines.ensures lines_themselves
-    (WritesLines old new) (WritesLines old new) (WritesSomeLines old new) c.run_over.result
+    (WritesLines d old new) (WritesLines d old new) (WritesSomeLines d old new) c.run_over.result
     g.R.Read.remaining c.args.inputs.now c.run_over.new.input
-    (c.run_over.ensures.answer tt (lines-start old) (λ item gives. tt))
+    (c.run_over.ensures.answer tt (lines-start d old) (λ item gives. tt))

@@ -12,10 +12,11 @@ returns-in_err-lines-clause-calls g c =
 
 pub returns-in_err-lines-clause-answer : goal.returns-in_err-lines-clause-answer
 returns-in_err-lines-clause-answer g c =
+    let d = c.args.described.now in
     let old = g.O.Sink.written c.args.output.now in
     let stop = answers-start (options_of c.args.options) (ports_of c.args.ports) lines_themselves
-    (WritesLines old old) (WritesLines old old) (WritesSomeLines old old)
-    (g.R.Read.remaining c.args.input.now.inner) (g.R.Read.remaining c.args.input.now.inner) refl (lines-start old) in
+    (WritesLines d old old) (WritesLines d old old) (WritesSomeLines d old old)
+    (g.R.Read.remaining c.args.input.now.inner) (g.R.Read.remaining c.args.input.now.inner) refl (lines-start d old) in
     search rules
 
 pub run_over-requires-clause-gave : goal.run_over-requires-clause-gave
@@ -28,16 +29,17 @@ pub run_over-requires-clause-set : goal.run_over-requires-clause-set
 run_over-requires-clause-set g c = one-set c.args.options c.args.ports c.in_ok-lines.lines c.in_ok-lines.ensures
 
 pub run_over-requires-clause-told : goal.run_over-requires-clause-told
-run_over-requires-clause-told g c = (tt, lines-start (g.O.Sink.written c.args.output.now), λ item gives. tt)
+run_over-requires-clause-told g c = (tt, lines-start c.args.described.now (g.O.Sink.written c.args.output.now), λ item gives. tt)
 
 pub returns-clause-calls : goal.returns-clause-calls
 returns-clause-calls g c = c.run_over.ensures.calls (rw (c.requires.sound_input, c.requires.unended) refl)
 
 pub returns-clause-answer : goal.returns-clause-answer
 returns-clause-answer g c =
+    let d = c.args.described.now in
     let old = g.O.Sink.written c.args.output.now in
     let new = g.O.Sink.written c.run_over.new.output in
     one-by c.args.options c.args.ports c.in_ok-lines.lines c.in_ok-lines.ensures lines_themselves
-    (WritesLines old new) (WritesLines old new) (WritesSomeLines old new) c.run_over.result
+    (WritesLines d old new) (WritesLines d old new) (WritesSomeLines d old new) c.run_over.result
     (g.R.Read.remaining c.args.input.now.inner)
-    (g.R.Read.remaining c.run_over.new.input.inner) (c.run_over.ensures.answer tt (lines-start old) (λ item gives. tt))
+    (g.R.Read.remaining c.run_over.new.input.inner) (c.run_over.ensures.answer tt (lines-start d old) (λ item gives. tt))

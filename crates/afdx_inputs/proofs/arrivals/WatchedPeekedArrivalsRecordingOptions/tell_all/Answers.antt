@@ -14,4 +14,4 @@ returns-clause-answer g c rules start can =
     (g.M.Machine.Begins rules machine old new) (options_of c.args.options) (ports_unsaid c.args.unsaid)
     (is_read_recorded c.args.options) (left_in g.R.Read.remaining c.args.self.now.inner)
     (left_in g.R.Read.remaining c.run_input.new.input.inner) c.run_input.result
-    (c.run_input.ensures.answer rules start can)
+    (c.run_input.ensures.answer rules start (λ item said. can item) (λ item entered. can item))
