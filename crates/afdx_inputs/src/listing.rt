@@ -89,17 +89,19 @@ pub(crate) struct Lister<'a> {
 }
 
 impl Machine<NumberLine> for Lister<'_> {
+    ghost use Rattle.afdx_config.specs.declared.describing.Described.{Described as Configuration};
     ghost use Rattle.afdx_inputs.specs.ListText.{WritesLines, WritesSomeLines};
 
-    ghost Rules = { Unit {0} };
+    ghost Rules = { Configuration };
 
     ghost Can = { λ rules item. Unit {0} };
 
-    ghost Told = { λ rules lister old new past. WritesLines lister.described.now old new past };
+    ghost Told = { λ d lister old new past.
+        (lister.described.now ≡ d) × WritesLines d old new past };
 
-    ghost Begins = { λ rules lister old new past. WritesSomeLines lister.described.now old new past };
+    ghost Begins = { λ d lister old new past. WritesSomeLines d old new past };
 
-    ghost Done = { λ rules lister old new past. WritesLines lister.described.now old new past };
+    ghost Done = { λ d lister old new past. WritesLines d old new past };
 
     fn tell<O: Sink>(
         &mut self,

@@ -1,8 +1,9 @@
 use Rattle.std.proofs.Common.{rules, ◌≡◌, refl, Err}
 use Rattle.afdx_lists.specs.declared.fault.RunFault.TheVariants as run
 use Rattle.afdx_recorded.specs.Claims.{ports_unsaid}
+use Rattle.afdx_inputs.specs.RecordingRun.{AreCutOffInPair, taken_of_pair}
 use Rattle.afdx_inputs.specs.ListText.{WritesLines, WritesSomeLines, lines_themselves}
-use Rattle.afdx_inputs.proofs.ListingLemmas.{lines-start}
+use Rattle.afdx_inputs.proofs.ListingLemmas.{both-list, lines-start}
 use Rattle.afdx_inputs.proofs.PairAnswerLemmas.{pair-start, pair-unread, two-by}
 use Rattle.afdx_inputs.proofs.RecordingRunLemmas.{unasked}
 use Rattle.afdx_inputs.proofs.listing.list_pair.Goals as goal
@@ -36,7 +37,11 @@ run_over-requires-clause-set g c =
     record { order_a = c.in_ok-lines.ensures.order_a; order_b = c.in_ok-lines.ensures.order_b }
 
 pub run_over-requires-clause-told : goal.run_over-requires-clause-told
-run_over-requires-clause-told g c = (tt, lines-start c.args.described.now (g.O.Sink.written c.args.output.now), λ item gives. tt)
+run_over-requires-clause-told g c = (
+  c.args.described.now,
+  (refl, lines-start c.args.described.now (g.O.Sink.written c.args.output.now)),
+  λ item gives. tt,
+)
 
 pub returns-clause-calls_a : goal.returns-clause-calls_a
 returns-clause-calls_a g c = c.run_over.ensures.calls.0 (rw (c.requires.sound_a, c.requires.unended_a) refl)
@@ -47,9 +52,15 @@ returns-clause-calls_b g c = c.run_over.ensures.calls.1 (rw (c.requires.sound_b,
 pub returns-clause-answer : goal.returns-clause-answer
 returns-clause-answer g c =
     let d = c.args.described.now in
+    let options = c.args.options in
+    let ports = ports_unsaid c.args.unsaid in
     let old = g.O.Sink.written c.args.output.now in
     let new = g.O.Sink.written c.run_over.new.output in
-    two-by c.args.options (ports_unsaid c.args.unsaid) c.in_ok-lines.lines c.in_ok-lines.ensures lines_themselves
-    (WritesLines d old new) (WritesLines d old new) (WritesSomeLines d old new) c.run_over.result
-    g.R.Read.remaining c.args.inputs.now c.run_over.new.input
-    (c.run_over.ensures.answer tt (lines-start d old) (λ item gives. tt))
+    let start = c.args.inputs.now in
+    both-list d (c.run_over.new.machine.described.now ≡ d) (taken_of_pair options ports)
+    (λ a b. AreCutOffInPair options ports g.R.Read.remaining a b c.run_over.new.input)
+    (g.R.Read.remaining start.a.inner) (g.R.Read.remaining start.b.inner) old new c.run_over.result
+    (two-by options ports c.in_ok-lines.lines c.in_ok-lines.ensures lines_themselves (WritesLines d old new)
+    (λ past. (c.run_over.new.machine.described.now ≡ d) × WritesLines d old new past) (WritesSomeLines d old new)
+    c.run_over.result g.R.Read.remaining start c.run_over.new.input
+    (c.run_over.ensures.answer d (refl, lines-start d old) (λ item gives. tt)))

@@ -1,8 +1,8 @@
-use Rattle.std.proofs.Common.{rules, refl}
+use Rattle.std.proofs.Common.{rules, refl, ◌≡◌}
 use Rattle.afdx_recorded.specs.Becoming.{options_of}
 use Rattle.afdx_recorded.specs.Claims.{ports_of}
 use Rattle.afdx_inputs.specs.ListText.{WritesLines, WritesSomeLines, lines_themselves}
-use Rattle.afdx_inputs.proofs.ListingLemmas.{lines-start}
+use Rattle.afdx_inputs.proofs.ListingLemmas.{if-lists, lines-start}
 use Rattle.afdx_inputs.proofs.RecordingRunLemmas.{answers-start, one-by, one-set, timed-start, unasked}
 use Rattle.afdx_inputs.proofs.listing.list_recording.Goals as goal
 
@@ -29,7 +29,11 @@ pub run_over-requires-clause-set : goal.run_over-requires-clause-set
 run_over-requires-clause-set g c = one-set c.args.options c.args.ports c.in_ok-lines.lines c.in_ok-lines.ensures
 
 pub run_over-requires-clause-told : goal.run_over-requires-clause-told
-run_over-requires-clause-told g c = (tt, lines-start c.args.described.now (g.O.Sink.written c.args.output.now), λ item gives. tt)
+run_over-requires-clause-told g c = (
+  c.args.described.now,
+  (refl, lines-start c.args.described.now (g.O.Sink.written c.args.output.now)),
+  λ item gives. tt,
+)
 
 pub returns-clause-calls : goal.returns-clause-calls
 returns-clause-calls g c = c.run_over.ensures.calls (rw (c.requires.sound_input, c.requires.unended) refl)
@@ -39,7 +43,11 @@ returns-clause-answer g c =
     let d = c.args.described.now in
     let old = g.O.Sink.written c.args.output.now in
     let new = g.O.Sink.written c.run_over.new.output in
-    one-by c.args.options c.args.ports c.in_ok-lines.lines c.in_ok-lines.ensures lines_themselves
-    (WritesLines d old new) (WritesLines d old new) (WritesSomeLines d old new) c.run_over.result
-    (g.R.Read.remaining c.args.input.now.inner)
-    (g.R.Read.remaining c.run_over.new.input.inner) (c.run_over.ensures.answer tt (lines-start d old) (λ item gives. tt))
+    let left = g.R.Read.remaining c.args.input.now.inner in
+    let rest = g.R.Read.remaining c.run_over.new.input.inner in
+    if-lists d (c.run_over.new.machine.described.now ≡ d) (options_of c.args.options) (ports_of c.args.ports) left rest
+    old new c.run_over.result
+    (one-by c.args.options c.args.ports c.in_ok-lines.lines c.in_ok-lines.ensures lines_themselves
+    (WritesLines d old new) (λ past. (c.run_over.new.machine.described.now ≡ d) × WritesLines d old new past)
+    (WritesSomeLines d old new) c.run_over.result left rest
+    (c.run_over.ensures.answer d (refl, lines-start d old) (λ item gives. tt)))
