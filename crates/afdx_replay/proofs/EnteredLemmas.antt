@@ -24,8 +24,8 @@ use Rattle.afdx_recorded.specs.Claims.{entry_from, first_some, own_systems, port
 use Rattle.afdx_recorded.specs.Claims.{sender_of}
 use Rattle.afdx_recorded.specs.Entering.{IsEntered, entry_in}
 use Rattle.afdx_recorded.specs.Places.{allows, entry_at, names_of, place_of}
-use Rattle.afdx_recorded.specs.Placing.{ArePlaced, OptionsArePlaced, PairIsPlaced, at_known, at_switch, is_free, place_in}
-use Rattle.afdx_recorded.specs.Placing.{switch_by}
+use Rattle.afdx_recorded.specs.Placing.{ArePlaced, OptionsArePlaced, PairIsPlaced, at_known, at_switch, is_free}
+use Rattle.afdx_recorded.specs.Placing.{place_in, switch_by}
 use Rattle.afdx_recorded.specs.declared.becoming.RecordingOptions.{RecordingOptions}
 use Rattle.afdx_recorded.specs.declared.pair_options.PairOptions.{PairOptions}
 use Rattle.afdx_recorded.specs.declared.places.Entry.{Entry}
