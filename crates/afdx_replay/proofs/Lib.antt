@@ -16,3 +16,4 @@ mod CascadeRunLemmas
 mod CascadePromisedLemmas
 mod CascadeStepLemmas
 mod CascadeArriveLemmas
+mod EnteredLemmas
