@@ -1,5 +1,5 @@
 -- The places that options say, at the switches that a configuration describes.
-use Rattle.std.specs.Prelude.{ℕ, ◌≡◌, Bool, true, not, nat_lt, List, length, slice_get, if◌then◌else◌}
+use Rattle.std.specs.Prelude.{ℕ, ◌≡◌, ◌⊎◌, Bool, true, not, nat_lt, List, length, slice_get, if◌then◌else◌}
 use Rattle.std.specs.Prelude.{Option, Some, None, is_some, option_map, option_and_then}
 use Rattle.afdx_config.specs.Switches.{NamedRows, far_end, switch_named}
 use Rattle.afdx_config.specs.declared.describing.Described.{Described}
@@ -65,7 +65,13 @@ module _ (d : Described) where
     pub placed : ArePlaced old.interfaces new.interfaces
     pub rest : new ≡ record old { interfaces = new.interfaces }
 
+  abbrev pub OptionsAreMisplaced : RecordingOptions → Type 0
+  OptionsAreMisplaced options = AreMisplaced options.interfaces
+
   pub record PairIsPlaced (old new : PairOptions) : Type 0 where
     pub placed_a : ArePlaced old.interfaces.a new.interfaces.a
     pub placed_b : ArePlaced old.interfaces.b new.interfaces.b
     pub rest : new ≡ record old { interfaces = new.interfaces }
+
+  abbrev pub PairIsMisplaced : PairOptions → Type 0
+  PairIsMisplaced options = AreMisplaced options.interfaces.a ⊎ AreMisplaced options.interfaces.b

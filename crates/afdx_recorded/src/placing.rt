@@ -3,7 +3,8 @@
 ghost use Rattle.std.specs.Prelude.{◌≡◌, ◌<◌, IfSome, length, map, option_map, string_bytes, true, false};
 ghost use Rattle.afdx_config.specs.declared.describing.Described.{Described as Configuration};
 ghost use Rattle.afdx_recorded.specs.Placing as spec;
-ghost use Rattle.afdx_recorded.specs.Placing.{AreMisplaced, OptionsArePlaced, PairIsPlaced};
+ghost use Rattle.afdx_recorded.specs.Placing.{OptionsAreMisplaced, OptionsArePlaced};
+ghost use Rattle.afdx_recorded.specs.Placing.{PairIsMisplaced, PairIsPlaced};
 
 use crate::becoming::RecordingOptions;
 use crate::pair_options::PairOptions;
@@ -109,7 +110,7 @@ pub trait Placing {
 impl Placing for RecordingOptions {
     ghost ArePlaced = { OptionsArePlaced };
 
-    ghost AreNotPlaced = { λ d options. AreMisplaced d options.interfaces };
+    ghost AreNotPlaced = { OptionsAreMisplaced };
 
     fn place_in(&mut self, described: &Described) -> bool {
         self.interfaces.place_in(described)
@@ -117,12 +118,9 @@ impl Placing for RecordingOptions {
 }
 
 impl Placing for PairOptions {
-    ghost use Rattle.std.specs.Prelude.{◌⊎◌};
-
     ghost ArePlaced = { PairIsPlaced };
 
-    ghost AreNotPlaced = { λ d options.
-        AreMisplaced d options.interfaces.a ⊎ AreMisplaced d options.interfaces.b };
+    ghost AreNotPlaced = { PairIsMisplaced };
 
     fn place_in(&mut self, described: &Described) -> bool {
         self.interfaces.a.place_in(described) && self.interfaces.b.place_in(described)

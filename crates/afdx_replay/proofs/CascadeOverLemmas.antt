@@ -4,8 +4,7 @@ use Rattle.std.proofs.Common.{◌⊎◌, ◌||◌, Bool, true, false, true≢fal
 use Rattle.std.proofs.Common.{Result, Ok, Err, IfOk, IfSome, is_some, get_or}
 use Rattle.std.specs.Prelude.{slice_get}
 use Rattle.std.specs.Option.{option_map_or}
-use Rattle.std.specs.Io.KnownBytes.{Keeps}
-use Rattle.std.proofs.KnownBytes.{Appends-nil, Consumes-nil}
+use Rattle.std.proofs.KnownBytes.{Appends-nil}
 use Rattle.std.proofs.lemmas.List.FromFn.{length-map-range_with_len, get_or-map-range_with_len}
 use Rattle.std.proofs.lemmas.Option.{slice_get-get_or}
 use Rattle.afdx_config.proofs.AmongOthersLemmas.{among_others}
@@ -30,26 +29,32 @@ use Rattle.afdx_engine.specs.ListRun.{IsDone, ListAnswers, Of}
 use Rattle.afdx_engine.specs.Listed.{frames}
 use Rattle.afdx_engine.specs.Lists.{latest_in}
 use Rattle.afdx_engine.proofs.ListRunLemmas.{answers-err, answers-ok, start-answers}
-use Rattle.afdx_engine.proofs.RunLemmas.{items_of-none, stops-at-start, stops-more}
-use Rattle.afdx_inputs.specs.InputRun.{is_read_recorded, is_recorded}
+use Rattle.afdx_engine.proofs.RunLemmas.{stops-at-start, stops-more}
+use Rattle.afdx_inputs.specs.InputRun.{InputAnswers, is_read_recorded}
+use Rattle.afdx_inputs.specs.RecordingRun.{IfBoth}
+use Rattle.afdx_inputs.specs.TakenRun.{TakenAnswers}
+use Rattle.afdx_inputs.proofs.RecordingRunLemmas.{answers-start, listed-none}
+use Rattle.afdx_inputs.proofs.TakenLemmas.{answers-say}
+use Rattle.afdx_recorded.specs.Becoming.{options_of}
+use Rattle.afdx_recorded.specs.Claims.{ports_of_several}
+use Rattle.afdx_recorded.specs.NumberLines.{Lines as RecordedLines, arrivals_listed}
+use Rattle.afdx_recorded.specs.Taking.{Taken, AreCutOff, taken_of_bytes}
+use Rattle.afdx_recorded.specs.declared.counts.Tally.{Tally}
 use Rattle.afdx_inputs.specs.declared.input_run.InputCount.{InputCount}
 use Rattle.afdx_inputs.specs.declared.input_run.InputCount.TheVariants.{Lines, Recorded}
-use Rattle.afdx_inputs.proofs.LookLemmas.{looked-kept}
 use Rattle.afdx_lists.specs.FrameLines.{listed_frame}
-use Rattle.afdx_lists.specs.Lines.{GaveWhole, lines_of, most_lines, whole_lines_of}
-use Rattle.afdx_lists.specs.Peeking.{looked_at}
+use Rattle.afdx_lists.specs.Lines.{lines_of, most_lines}
 use Rattle.afdx_lists.specs.SitedLines.{NamedCables, is_cable_at, sited_frame}
 use Rattle.afdx_lists.specs.declared.fault.RunFault.{RunFault}
 use Rattle.afdx_lists.specs.declared.fault.RunFault.TheVariants as run
 use Rattle.afdx_lists.specs.declared.frame_line.Heading.{Heading}
 use Rattle.afdx_lists.specs.declared.watched.Watched.{Watched}
-use Rattle.afdx_recordings.specs.Beginning.{is_recording}
 use Rattle.afdx_recorded.specs.declared.becoming.RecordingOptions.{RecordingOptions}
 use Rattle.afdx_text.proofs.OutputLemmas.{whole_front}
 use Rattle.afdx_text.proofs.TellingLemmas.{Tells-none}
 use Rattle.afdx_replay.specs.Inputs.{answer_of}
 use Rattle.afdx_replay.specs.cascading.Early.{HearsEarly}
-use Rattle.afdx_replay.specs.cascading.Input.{Answering, IsToldAs, ListIsTold, Replays, TellsReplay}
+use Rattle.afdx_replay.specs.cascading.Input.{Answering, PairAnswers, Replays, TellsReplay}
 use Rattle.afdx_replay.specs.cascading.Items.{BeginsItems, TellsAll, TellsItems}
 use Rattle.afdx_replay.specs.cascading.Ran.{Answers, HearsSoFar, WritesAll, WritesList, WritesSoFar, WritesSome, lists}
 use Rattle.afdx_replay.specs.cascading.Sited.{IsAtPlace, IsAtSite, cables_of, has_cable, lines_in, site_of, sited_frames}
@@ -235,81 +240,34 @@ file-promised (One t) list rest old new answer lawful admitted h =
 file-promised (Several ss) None rest old new answer lawful admitted h = tt
 file-promised (Several ss) (Some bytes) rest old new answer lawful admitted h = tt
 
--- ---- an input that is looked at
+-- ---- an input of which the first bytes decide
 
--- it needn't be a recording, and is none
-pub not-recorded : (options : RecordingOptions) (seen held : List ℕ) (is : Bool) → options.are_given ≡ false
-    → seen ≡ held → is ≡ is_recording seen → is ≡ false → is_recorded options held ≡ false
-not-recorded options seen held is given same e none =
-    ap₂ (λ a b. a || b) given (ap is_recording (sym same) ∙ sym e ∙ none)
+-- so they are known
+pub by-first : (P : Bool → List ℕ → Type 0) (is : Option (List ℕ) → Bool) (left : Known)
+    → IfSome left (λ bytes. P (is left) bytes) → IfSome left (λ bytes. P (is (Some bytes)) bytes)
+by-first P is None h = tt
+by-first P is (Some bytes) h = h
 
-module _ (options : RecordingOptions) (sites : List NamedCables) (done told begins : List (Item Heading) → Type 0)
-  where
-    -- by the first bytes of an input that gives this, of which `rest` is left
-    abbrev pub LeftIsTold : (left rest : Known) → Result InputCount RunFault → Type 0
-    LeftIsTold left rest answer = IfSome left (λ bytes.
-        IsToldAs done told begins (is_read_recorded options (Some bytes)) sites bytes rest answer)
+module _ (ss : List NamedRows) (options : RecordingOptions) (done told begins : List (Item Heading) → Type 0)
+    where
+  abbrev pub OneAnswers : (is : Bool) → List ℕ → (rest : Known) → Result InputCount RunFault → Type 0
+  OneAnswers is bytes rest answer =
+      InputAnswers (sited_frames (sites_of ss)) (thing_of (sited_frames (sites_of ss)) sited_frame)
+      (options_of options, ports_of_several ss) done told begins is bytes rest answer
 
-    memory-told : (is : Bool) (bytes : List ℕ) → told []
-        → IsToldAs done told begins is sites bytes (Some bytes) (Err run.Memory)
-    memory-told true bytes start = (inr (inr (inr refl)), start)
-    memory-told false bytes start =
-        start-answers (sited_frames sites) (thing_of (sited_frames sites) sited_frame) done told begins (Some bytes)
-        start
-
-    -- there was no memory
-    pub memory-left : (left : Known) → told [] → LeftIsTold left left (Err run.Memory)
-    memory-left None start = tt
-    memory-left (Some bytes) start = memory-told (is_read_recorded options (Some bytes)) bytes start
-
-    nothing-whole : (bytes : List ℕ) → GaveWhole (Some bytes) (Some bytes) 0
-    unfolding whole_lines_of
-    nothing-whole bytes = record { read = []; consumed = Consumes-nil (Some bytes); counted = refl }
-
-    unread-told : (is : Bool) (bytes : List ℕ) → told []
-        → IsToldAs done told begins is sites bytes (Some bytes) (Err run.Read)
-    unread-told true bytes start = (inr (inr (inl refl)), start)
-    unread-told false bytes start = (
-      0,
-      nothing-whole bytes,
-      record {
-        within = omega arith;
-        sound = λ i lt. absurd (omega arith);
-        are_told = rw (items_of-none (sited_frames sites) (lines_of bytes)) ([], refl, start);
-      },
-    )
-
-    -- the look failed
-    pub unread-left : (left rest : Known) → Keeps left rest → told [] → LeftIsTold left rest (Err run.Read)
-    unread-left None rest k start = tt
-    unread-left (Some bytes) None k start = absurd k
-    unread-left (Some bytes) (Some same) k start =
-        subst (λ (xs : List ℕ). LeftIsTold (Some bytes) (Some xs) (Err run.Read)) (sym k)
-        (unread-told (is_read_recorded options (Some bytes)) bytes start)
-
-    list-told : (is : Bool) (looked rest : Known) (fault : RunFault) → is ≡ false
-        → IfSome looked (λ bytes. ListIsTold done told begins sites bytes rest (Err fault))
-        → IfSome looked (λ bytes. IsToldAs done told begins is sites bytes rest (Err fault))
-    list-told is looked rest fault e h =
-        subst (λ (b : Bool). IfSome looked (λ bytes. IsToldAs done told begins b sites bytes rest (Err fault)))
-        (sym e) h
-
-    by-first : (left rest : Known) (answer : Result InputCount RunFault)
-        → IfSome left (λ bytes. IsToldAs done told begins (is_read_recorded options left) sites bytes rest answer)
-        → LeftIsTold left rest answer
-    by-first None rest answer h = tt
-    by-first (Some bytes) rest answer h = h
-
-    -- it was looked at, and no recording: a fault of its lines
-    pub listed-left : (left looked rest : Known) (seen : List ℕ) (fault : RunFault) → Keeps left looked
-        → IfSome left (λ bytes. seen ≡ take looked_at bytes) → is_recorded options seen ≡ false
-        → IfSome looked (λ bytes. ListIsTold done told begins sites bytes rest (Err fault))
-        → LeftIsTold left rest (Err fault)
-    listed-left left looked rest seen fault k e none h =
-        by-first left rest (Err fault)
-        (looked-kept options left looked seen
-        (λ is bytes. IsToldAs done told begins is sites bytes rest (Err fault)) k e
-        (list-told (is_recorded options seen) looked rest fault none h))
+  -- there was no memory
+  pub memory-one : (left : Known) → told []
+      → IfSome left (λ bytes. OneAnswers (is_read_recorded options (Some bytes)) bytes left (Err run.Memory))
+  memory-one None start = tt
+  memory-one (Some bytes) start = by (is_read_recorded options (Some bytes))
+    where
+      by : (is : Bool) → OneAnswers is bytes (Some bytes) (Err run.Memory)
+      by true =
+          answers-start (options_of options) (ports_of_several ss) arrivals_listed done told begins (Some bytes)
+          (Some bytes) listed-none start
+      by false =
+          start-answers (sited_frames (sites_of ss)) (thing_of (sited_frames (sites_of ss)) sited_frame) done told
+          begins (Some bytes) start
 
 -- ---- a replay that is handed nothing
 
@@ -354,7 +312,7 @@ module _ {D : Type 0} (contents : D → Option (List ℕ)) (ss : List NamedRows)
       (told-anew w t u early output has switches systems counts is) until
       (subst (λ (c : Summary). AreSteady c) (sym counts) steady)
 
-  module _ (input : List NamedCables → Answering) (early now : Option (Watched D)) (old new : Known) where
+  module _ (input : Answering) (early now : Option (Watched D)) (old new : Known) where
     pub replays-so : (counts : Summary) (count : Result InputCount RunFault)
         → TellsReplay contents ss input early now old new counts count
         → Replays contents ss input early now old new (answer_of counts count)
@@ -362,32 +320,69 @@ module _ {D : Type 0} (contents : D → Option (List ℕ)) (ss : List NamedRows)
 
 -- ---- of which more is told
 
-module _ (done more told begins : List (Item Heading) → Type 0)
+module _ (ss : List NamedRows) (options : RecordingOptions) (done more told begins : List (Item Heading) → Type 0)
     (f : (items : List (Item Heading)) → more items → told items) where
   either : (items : List (Item Heading)) → more items ⊎ begins items → told items ⊎ begins items
   either items (inl m) = inl (f items m)
   either items (inr b) = inr b
 
-  told-list : (sites : List NamedCables) (bytes : List ℕ) (rest : Known) (count : Result InputCount RunFault)
-      → ListIsTold done more begins sites bytes rest count → ListIsTold done told begins sites bytes rest count
-  told-list sites bytes rest (Ok (Lines n)) h = h
-  told-list sites bytes rest (Ok (Recorded tally)) h = h
-  told-list sites bytes rest (Err fault) h =
-      let k = sited_frames sites in
+  more-told : (is : Bool) (bytes : List ℕ) (rest : Known) (count : Result InputCount RunFault)
+      → OneAnswers ss options done more begins is bytes rest count
+      → OneAnswers ss options done told begins is bytes rest count
+  more-told true bytes rest (Ok (Recorded tally)) h =
+      answers-say (taken_of_bytes (options_of options) (ports_of_several ss) bytes)
+      (AreCutOff (options_of options) (ports_of_several ss) bytes rest) arrivals_listed done more told begins f
+      (Ok tally) h
+  more-told true bytes rest (Ok (Lines n)) h = absurd h
+  more-told true bytes rest (Err fault) h =
+      answers-say (taken_of_bytes (options_of options) (ports_of_several ss) bytes)
+      (AreCutOff (options_of options) (ports_of_several ss) bytes rest) arrivals_listed done more told begins f
+      (Err fault) h
+  more-told false bytes rest (Ok (Recorded tally)) h = absurd h
+  more-told false bytes rest (Ok (Lines n)) h = h
+  more-told false bytes rest (Err fault) h =
+      let k = sited_frames (sites_of ss) in
       let said = thing_of k sited_frame in
       stops-more k (Of said more) (Of said (λ past. more past ⊎ begins past)) (Of said told)
       (Of said (λ past. told past ⊎ begins past)) bytes rest (λ n t. (t.0, t.1, f t.0 t.2))
       (λ n b. (b.0, b.1, either b.0 b.2)) fault h
 
-  told-as : (is : Bool) (sites : List NamedCables) (bytes : List ℕ) (rest : Known)
-      (count : Result InputCount RunFault)
-      → IsToldAs done more begins is sites bytes rest count → IsToldAs done told begins is sites bytes rest count
-  told-as true sites bytes rest count h = (h.0, f [] h.1)
-  told-as false sites bytes rest count h = told-list sites bytes rest count h
+  pub more-left : (left rest : Known) (count : Result InputCount RunFault)
+      → IfSome left (λ bytes.
+      OneAnswers ss options done more begins (is_read_recorded options (Some bytes)) bytes rest count)
+      → IfSome left (λ bytes.
+      OneAnswers ss options done told begins (is_read_recorded options (Some bytes)) bytes rest count)
+  more-left None rest count h = tt
+  more-left (Some bytes) rest count h = more-told (is_read_recorded options (Some bytes)) bytes rest count h
 
-  pub told-left : (options : RecordingOptions) (sites : List NamedCables) (left rest : Known)
-      (count : Result InputCount RunFault) → LeftIsTold options sites done more begins left rest count
-      → LeftIsTold options sites done told begins left rest count
-  told-left options sites None rest count h = tt
-  told-left options sites (Some bytes) rest count h =
-      told-as (is_read_recorded options (Some bytes)) sites bytes rest count h
+-- of two recordings
+module _ (ss : List NamedRows) (done more told begins : List (Item Heading) → Type 0)
+    (f : (items : List (Item Heading)) → more items → told items) where
+  pub more-pair : (whole : List ℕ → List ℕ → Taken) (cut : List ℕ → List ℕ → RecordedLines → Type 0) (a b : Known)
+      (count : Result InputCount RunFault)
+      → IfBoth a b (λ a b. PairAnswers ss done more begins (whole a b) (cut a b) count)
+      → IfBoth a b (λ a b. PairAnswers ss done told begins (whole a b) (cut a b) count)
+  more-pair whole cut None b count h = tt
+  more-pair whole cut (Some a) None count h = tt
+  more-pair whole cut (Some a) (Some b) (Ok (Recorded tally)) h =
+      answers-say (whole a b) (cut a b) arrivals_listed done more told begins f (Ok tally) h
+  more-pair whole cut (Some a) (Some b) (Ok (Lines n)) h = absurd h
+  more-pair whole cut (Some a) (Some b) (Err fault) h =
+      answers-say (whole a b) (cut a b) arrivals_listed done more told begins f (Err fault) h
+
+-- what two recordings are answered with
+module _ (ss : List NamedRows) (done told begins : List (Item Heading) → Type 0)
+    (whole : List ℕ → List ℕ → Taken) (cut : List ℕ → List ℕ → RecordedLines → Type 0) where
+  pub pair-ok : (a b : Known) (tally : Tally)
+      → IfBoth a b (λ a b. TakenAnswers (whole a b) (cut a b) arrivals_listed done told begins (Ok tally))
+      → IfBoth a b (λ a b. PairAnswers ss done told begins (whole a b) (cut a b) (Ok (Recorded tally)))
+  pair-ok None b tally h = tt
+  pair-ok (Some a) None tally h = tt
+  pair-ok (Some a) (Some b) tally h = h
+
+  pub pair-err : (a b : Known) (fault : RunFault)
+      → IfBoth a b (λ a b. TakenAnswers (whole a b) (cut a b) arrivals_listed done told begins (Err fault))
+      → IfBoth a b (λ a b. PairAnswers ss done told begins (whole a b) (cut a b) (Err fault))
+  pair-err None b fault h = tt
+  pair-err (Some a) None fault h = tt
+  pair-err (Some a) (Some b) fault h = h

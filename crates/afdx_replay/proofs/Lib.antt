@@ -17,3 +17,4 @@ mod CascadePromisedLemmas
 mod CascadeStepLemmas
 mod CascadeArriveLemmas
 mod EnteredLemmas
+mod PlacedLemmas

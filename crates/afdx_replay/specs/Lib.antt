@@ -1,5 +1,6 @@
 pub mod cascading
 pub mod Inputs
+pub mod Placed
 pub mod Listing
 pub mod policing
 pub mod replaying

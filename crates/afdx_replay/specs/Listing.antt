@@ -2,8 +2,7 @@
 -- list that says the same.
 use Rattle.std.specs.Prelude.{ℕ, ◌≡◌, ◌⊎◌, Bool, List, Option, Result, Ok, Err, OnErr, OnOk}
 use Rattle.std.specs.Result.{result_ok}
-use Rattle.afdx_config.specs.Reading.{Spells}
-use Rattle.afdx_config.specs.Rows.{Rows}
+use Rattle.afdx_config.specs.declared.describing.Described.{Described}
 use Rattle.afdx_lists.specs.Calls.{is_failed_read, is_failed_write}
 use Rattle.afdx_lists.specs.Faults.{status_of}
 use Rattle.afdx_lists.specs.Watching.{calls_of, device_of}
@@ -12,7 +11,7 @@ use Rattle.afdx_lists.specs.declared.watched.Watched.{Watched}
 use Rattle.afdx_inputs.specs.RecordingRun.{IsAskedOnce}
 use Rattle.afdx_recorded.specs.declared.counts.Tally.{Tally}
 use Rattle.afdx_text.specs.Telling.{TellsLine}
-use Rattle.afdx_commands.specs.Refusals.{RefusesConfig, WantsMemory}
+use Rattle.afdx_commands.specs.Checking.{IsRead}
 use Rattle.afdx_replay.specs.declared.listing.ListEnded.{ListEnded}
 
 -- an input that becomes `rest` is asked at most once for each byte that it gives, and once more
@@ -39,16 +38,8 @@ pub record EndsListed {E : Type 0} (error_bytes : E → Option (List ℕ)) (all_
   pub read : input_failed ≡ is_failed_read answer
   pub write : output_failed ≡ is_failed_write answer
 
--- in the tables that the configuration spells
-pub record ListsIn (config : List ℕ) (answers : Rows → Type 0) : Type 0 where
-  pub tables : Rows
-  pub spelled : Spells config tables
-  pub answered : answers tables
-
--- nothing is listed, and the error output is told why: the configuration has a fault, or memory was
--- refused
-abbrev pub IsNotListed : {E : Type 0} → (E → Option (List ℕ)) → List ℕ →
-    (old_errors new_errors : Watched E) → ℕ → Type 0
-IsNotListed error_bytes config old_errors new_errors status =
-    RefusesConfig error_bytes old_errors new_errors config status
-    ⊎ WantsMemory error_bytes old_errors new_errors status
+-- by what the configuration describes
+pub record ListsIn (config : List ℕ) (so : Described → Type 0) : Type 0 where
+  pub described : Described
+  pub read : IsRead config described
+  pub so_is : so described

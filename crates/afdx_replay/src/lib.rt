@@ -7,6 +7,7 @@ mod cascading;
 mod input_ending;
 pub mod laws;
 mod listing;
+mod placed;
 mod policing;
 mod replaying;
 

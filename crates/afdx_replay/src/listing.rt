@@ -5,19 +5,22 @@ ghost use Rattle.std.specs.Result.{result_ok};
 ghost use Rattle.afdx_lists.specs.Calls.{is_failed_read, is_failed_write};
 ghost use Rattle.afdx_lists.specs.Watching.{device_of, has_ended, has_failed};
 ghost use Rattle.afdx_recorded.specs.Becoming.{options_of};
-ghost use Rattle.afdx_recorded.specs.Claims.{ports_of_senders};
+ghost use Rattle.afdx_recorded.specs.Claims.{ports_in};
+ghost use Rattle.afdx_recorded.specs.Placing.{OptionsAreMisplaced, OptionsArePlaced};
+ghost use Rattle.afdx_recorded.specs.Placing.{PairIsMisplaced, PairIsPlaced};
 ghost use Rattle.afdx_inputs.specs.ListText.{ListingAnswers, ListsTaken};
 ghost use Rattle.afdx_inputs.specs.RecordingRun.{AreCutOffInPair, IfBothKnown, taken_of_pair};
 ghost use Rattle.afdx_lists.specs.declared.fault.RunFault.{RunFault as Fault};
 ghost use Rattle.afdx_recorded.specs.declared.counts.Tally.{Tally as Counted};
 ghost use Rattle.afdx_text.specs.Telling.{TellsLine};
-ghost use Rattle.afdx_commands.specs.Commands.{IsFourIfFailed, IsInputStatus, IsWholeIfDone};
+ghost use Rattle.afdx_commands.specs.Commands.{IsFourIfFailed, IsWholeIfDone};
 ghost use Rattle.afdx_commands.specs.Commands.{have_ended, one_has_failed};
-ghost use Rattle.afdx_replay.specs.Listing.{EndsListed, IsAskedOnceFor, IsNotListed, ListsIn, status_of_listing};
+ghost use Rattle.afdx_replay.specs.Listing.{EndsListed, IsAskedOnceFor, ListsIn, status_of_listing};
+ghost use Rattle.afdx_replay.specs.Placed.{ArePlacedIn, IsPlacedStatus, IsUnplaced};
 
-use afdx_commands::refusing::refuse_config;
+use crate::placed::read_placed;
 use afdx_commands::status::DONE;
-use afdx_config::{Tables, read_tables};
+use afdx_config::Described;
 use afdx_frame::BySide;
 use afdx_inputs::{list_pair, list_recording};
 use afdx_lists::{RunFault, Watched};
@@ -46,11 +49,11 @@ impl ListEnded {
     }
 }
 
-/// Writes a recording as the frame list that says the same, in these tables.
+/// Writes a recording as the frame list that says the same, by what a configuration describes.
 fn list_in<R: Read, O: Sink>(
     alloc: Global,
     options: RecordingOptions,
-    tables: &Tables,
+    described: &Described,
     input: &mut Watched<R>,
     output: &mut O,
 ) -> Result<Tally, RunFault>
@@ -62,11 +65,11 @@ fn list_in<R: Read, O: Sink>(
     ensures write { O.failed output.new ≡ is_failed_write result }
     ensures calls { IsAskedOnceFor R.remaining input.old input.new }
     ensures answer { IfSome (R.remaining (device_of input.old)) (λ bytes.
-        ListingAnswers (options_of options) (ports_of_senders tables.now.systems) bytes
+        ListingAnswers described.now (options_of options) (ports_in described.now) bytes
         (R.remaining (device_of input.new)) (O.written output.old) (O.written output.new) result) }
 {
-    let ports = SystemPorts::by_sender(alloc, tables)?;
-    list_recording(alloc, options, ports, input, output)
+    let ports = SystemPorts::unsaid(alloc, UnsaidPort::of_sender_in(described))?;
+    list_recording(alloc, described, options, ports, input, output)
 }
 
 /// Tells `errors` the fault of a listing in one line, if it has one.
@@ -94,12 +97,14 @@ fn end_listing<E: Write>(answer: Result<Tally, RunFault>, errors: &mut Watched<E
 /// of which over 2,000 bytes were recorded stands as its first 2,000. The lines go to `output`, a
 /// fault's one line to `errors`. It also gives what it counted.
 ///
-/// Where no option says at which port a frame came in, it is that of the system of the tables that
-/// the frame's source address names. The tables need not be admitted. The exit status is 0 done, 1
-/// a fault of the configuration, 3 a fault of the recording, 4 a device or memory.
+/// Where no option says at which port a frame came in, it is that of the system of the configuration
+/// that the frame's source address names. Of several switches on a side each arrival's line names
+/// one. What the configuration describes need not be admitted. The exit status is 0 done, 1 a fault
+/// of the configuration, 2 a place of the options that it hasn't, 3 a fault of the recording, 4 a
+/// device or memory.
 pub fn list_and_count<R: Read, O: Sink, E: Write>(
     alloc: Global,
-    options: RecordingOptions,
+    mut options: RecordingOptions,
     config: &[u8],
     input: &mut Watched<R>,
     output: &mut O,
@@ -111,7 +116,7 @@ pub fn list_and_count<R: Read, O: Sink, E: Write>(
 
     // 0 comes only where the recording came to its end, 4 wherever a device failed; counts come
     // with 0.
-    ensures statuses { IsInputStatus result.status }
+    ensures statuses { IsPlacedStatus result.status }
     ensures counts { IsSome result.tally ↔ (result.status ≡ 0) }
     ensures done { IsWholeIfDone result.status input.new (O.failed output.new) }
     ensures device { IsFourIfFailed result.status input.new (O.failed output.new) }
@@ -121,17 +126,20 @@ pub fn list_and_count<R: Read, O: Sink, E: Write>(
     ensures lists { ((answer : Result Counted Fault)
         × EndsListed E.contents (has_ended input.new ≡ true) (has_failed input.new)
         (O.failed output.new) errors.old errors.new result answer
-        × ListsIn config.now (λ t. IfSome (R.remaining (device_of input.old)) (λ bytes.
-        ListingAnswers (options_of options) (ports_of_senders t.systems) bytes
-        (R.remaining (device_of input.new)) (O.written output.old) (O.written output.new) answer)))
-        ⊎ (IsNotListed E.contents config.now errors.old errors.new result.status
+        × ListsIn config.now (λ d. ArePlacedIn OptionsArePlaced options d (λ placed.
+        IfSome (R.remaining (device_of input.old)) (λ bytes.
+        ListingAnswers d (options_of placed) (ports_in d) bytes
+        (R.remaining (device_of input.new)) (O.written output.old) (O.written output.new)
+        answer))))
+        ⊎ (IsUnplaced OptionsArePlaced options OptionsAreMisplaced E.contents errors.old errors.new
+        config.now result.status
         × (result.tally ≡ None) × (input.new ≡ input.old) × (output.new ≡ output.old)) }
 {
-    let tables = match read_tables(alloc, config) {
-        Ok(tables) => tables,
-        Err(fault) => return ListEnded::without_counts(refuse_config(fault, errors)),
+    let described = match read_placed(alloc, config, &mut options, errors) {
+        Ok(described) => described,
+        Err(status) => return ListEnded::without_counts(status),
     };
-    let answer = list_in(alloc, options, &tables, input, output);
+    let answer = list_in(alloc, options, &described, input, output);
     end_listing(answer, errors)
 }
 
@@ -143,11 +151,13 @@ pub fn list_and_count<R: Read, O: Sink, E: Write>(
 ///
 /// No first bytes are looked at: both have to be recordings. Each frame came in on the side of the
 /// network whose recording it is of. Where no option says at which port, it is that of the system
-/// of the tables that its source address names. The tables need not be admitted. The exit status is
-/// 0 done, 1 a fault of the configuration, 3 a fault of a recording, 4 a device or memory.
+/// of the configuration that its source address names. Of several switches on a side each arrival's
+/// line names one. What the configuration describes need not be admitted. The exit status is 0 done,
+/// 1 a fault of the configuration, 2 a place of the options that it hasn't, 3 a fault of a
+/// recording, 4 a device or memory.
 pub fn list_pair_and_count<R: Read, O: Sink, E: Write>(
     alloc: Global,
-    options: PairOptions,
+    mut options: PairOptions,
     config: &[u8],
     inputs: &mut BySide<Watched<R>>,
     output: &mut O,
@@ -160,7 +170,7 @@ pub fn list_pair_and_count<R: Read, O: Sink, E: Write>(
     requires sound_output { O.failed output.old ≡ false }
 
     // 0 comes only where both came to their ends, 4 wherever a device failed; counts come with 0.
-    ensures statuses { IsInputStatus result.status }
+    ensures statuses { IsPlacedStatus result.status }
     ensures counts { IsSome result.tally ↔ (result.status ≡ 0) }
     ensures done { result.status ≡ 0 →
         (has_ended inputs.new.a ≡ true) × (has_ended inputs.new.b ≡ true)
@@ -175,18 +185,20 @@ pub fn list_pair_and_count<R: Read, O: Sink, E: Write>(
     ensures lists { ((answer : Result Counted Fault)
         × EndsListed E.contents (have_ended inputs.new) (one_has_failed inputs.new)
         (O.failed output.new) errors.old errors.new result answer
-        × ListsIn config.now (λ t. IfBothKnown R.remaining inputs.old (λ a b.
-        ListsTaken (taken_of_pair options (ports_of_senders t.systems) a b)
-        (AreCutOffInPair options (ports_of_senders t.systems) R.remaining a b inputs.new)
-        (O.written output.old) (O.written output.new) answer)))
-        ⊎ (IsNotListed E.contents config.now errors.old errors.new result.status
+        × ListsIn config.now (λ d. ArePlacedIn PairIsPlaced options d (λ placed.
+        IfBothKnown R.remaining inputs.old (λ a b.
+        ListsTaken d (taken_of_pair placed (ports_in d) a b)
+        (AreCutOffInPair placed (ports_in d) R.remaining a b inputs.new)
+        (O.written output.old) (O.written output.new) answer))))
+        ⊎ (IsUnplaced PairIsPlaced options PairIsMisplaced E.contents errors.old errors.new
+        config.now result.status
         × (result.tally ≡ None) × (inputs.new ≡ inputs.old) × (output.new ≡ output.old)) }
 {
-    let tables = match read_tables(alloc, config) {
-        Ok(tables) => tables,
-        Err(fault) => return ListEnded::without_counts(refuse_config(fault, errors)),
+    let described = match read_placed(alloc, config, &mut options, errors) {
+        Ok(described) => described,
+        Err(status) => return ListEnded::without_counts(status),
     };
-    let ports = UnsaidPort::OfSender(&tables);
-    let answer = list_pair(alloc, options, ports, inputs, output);
+    let ports = UnsaidPort::of_sender_in(&described);
+    let answer = list_pair(alloc, &described, options, ports, inputs, output);
     end_listing(answer, errors)
 }

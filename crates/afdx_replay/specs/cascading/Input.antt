@@ -1,23 +1,28 @@
 -- What a replay of several switches a side does, whatever gives it its frames.
-use Rattle.std.specs.Prelude.{ℕ, ◌≡◌, ◌⊎◌, Bool, true, false, List, [], Option, Some, Result, Ok, Err, IfSome}
+use Rattle.std.specs.Prelude.{ℕ, ◌≡◌, List, Option, Some, Result, Ok, Err, IfSome}
 use Rattle.afdx_commands.specs.declared.summary.Summary.{Summary}
 use Rattle.afdx_config.specs.Switches.{NamedRows}
 use Rattle.afdx_engine.specs.Engine.{Item}
 use Rattle.afdx_engine.specs.Items.{thing_of}
-use Rattle.afdx_engine.specs.ListRun.{ListAnswers}
-use Rattle.afdx_inputs.specs.InputRun.{is_read_recorded}
+use Rattle.afdx_frame.specs.declared.by_side.BySide.{BySide}
+use Rattle.afdx_inputs.specs.InputRun.{InputAnswers, is_read_recorded}
+use Rattle.afdx_inputs.specs.RecordingRun.{AreCutOffInPair, IfBothKnown, taken_of_pair}
+use Rattle.afdx_inputs.specs.TakenRun.{TakenAnswers}
 use Rattle.afdx_inputs.specs.declared.input_run.InputCount.{InputCount}
-use Rattle.afdx_inputs.specs.declared.input_run.InputCount.TheVariants.{Lines, Recorded}
+use Rattle.afdx_inputs.specs.declared.input_run.InputCount.TheVariants.{Lines as Counted, Recorded}
 use Rattle.afdx_lists.specs.Peeking.{left_in}
-use Rattle.afdx_lists.specs.SitedLines.{NamedCables, sited_frame}
+use Rattle.afdx_lists.specs.SitedLines.{sited_frame}
 use Rattle.afdx_lists.specs.Watching.{device_of}
 use Rattle.afdx_lists.specs.declared.fault.RunFault.{RunFault}
-use Rattle.afdx_lists.specs.declared.fault.RunFault.TheVariants as run
 use Rattle.afdx_lists.specs.declared.frame_line.Heading.{Heading}
 use Rattle.afdx_lists.specs.declared.peeked.Peeked.{Peeked}
-use Rattle.afdx_lists.specs.declared.recording_fault.RecordingFault.TheVariants.{NotRecording}
 use Rattle.afdx_lists.specs.declared.watched.Watched.{Watched}
+use Rattle.afdx_recorded.specs.Becoming.{options_of}
+use Rattle.afdx_recorded.specs.Claims.{ports_of_several}
+use Rattle.afdx_recorded.specs.NumberLines.{Lines, arrivals_listed}
+use Rattle.afdx_recorded.specs.Taking.{Taken}
 use Rattle.afdx_recorded.specs.declared.becoming.RecordingOptions.{RecordingOptions}
+use Rattle.afdx_recorded.specs.declared.pair_options.PairOptions.{PairOptions}
 use Rattle.afdx_replay.specs.Inputs.{answer_of}
 use Rattle.afdx_replay.specs.cascading.Ran.{WritesAll, WritesSome, WritesSoFar, HearsAll, HearsSome, HearsSoFar}
 use Rattle.afdx_replay.specs.cascading.Sited.{lines_in, sited_frames, sites_of}
@@ -26,42 +31,31 @@ use Rattle.afdx_replay.specs.replaying.Replayed.{Known}
 
 -- ---- what a machine is handed of an input
 
--- a recording isn't read so: it is no list, or it was asked for; or nothing was read
-abbrev pub IsNotList : Result InputCount RunFault → Type 0
-IsNotList answer =
-    (answer ≡ Err (run.BadLine 1)) ⊎ ((answer ≡ Err (run.Recording (NotRecording 0)))
-    ⊎ ((answer ≡ Err run.Read) ⊎ (answer ≡ Err run.Memory)))
+module _ (ss : List NamedRows) (done told begins : List (Item Heading) → Type 0) where
+  -- of a list whose lines name these switches, or of a recording of what came to them: the first
+  -- bytes decide
+  abbrev pub OneIsTold : {R : Type 0} → (R → Option (List ℕ)) → RecordingOptions →
+      (first last : Watched (Peeked R)) → Result InputCount RunFault → Type 0
+  OneIsTold remaining options first last answer =
+      IfSome (left_in remaining (device_of first)) (λ bytes.
+      InputAnswers (sited_frames (sites_of ss)) (thing_of (sited_frames (sites_of ss)) sited_frame)
+      (options_of options, ports_of_several ss) done told begins
+      (is_read_recorded options (Some bytes)) bytes (left_in remaining (device_of last)) answer)
 
-module _ (done told begins : List (Item Heading) → Type 0) where
-  -- the lines of a list that name these switches
-  abbrev pub ListIsTold : List NamedCables → List ℕ → (rest : Option (List ℕ)) →
-      Result InputCount RunFault → Type 0
-  ListIsTold sites bytes rest (Ok (Lines n)) =
-      ListAnswers (sited_frames sites) (thing_of (sited_frames sites) sited_frame) done told begins
-      bytes rest (Ok n)
-  ListIsTold sites bytes rest (Ok (Recorded tally)) = ⊥
-  ListIsTold sites bytes rest (Err fault) =
-      ListAnswers (sited_frames sites) (thing_of (sited_frames sites) sited_frame) done told begins
-      bytes rest (Err fault)
+  -- of two recordings
+  abbrev pub PairAnswers : Taken → (AreCut : Lines → Type 0) → Result InputCount RunFault → Type 0
+  PairAnswers whole AreCut (Ok (Recorded tally)) =
+      TakenAnswers whole AreCut arrivals_listed done told begins (Ok tally)
+  PairAnswers whole AreCut (Ok (Counted n)) = ⊥
+  PairAnswers whole AreCut (Err fault) =
+      TakenAnswers whole AreCut arrivals_listed done told begins (Err fault)
 
-  -- of an input of these bytes, which is a recording (true), or a list
-  abbrev pub IsToldAs : Bool → List NamedCables → List ℕ → (rest : Option (List ℕ)) →
-      Result InputCount RunFault → Type 0
-  IsToldAs true sites bytes rest answer = IsNotList answer × told []
-  IsToldAs false sites bytes rest answer = ListIsTold sites bytes rest answer
-
--- so its first bytes decide
-abbrev pub OneIsTold : {R : Type 0} → (R → Option (List ℕ)) → RecordingOptions →
-    List NamedCables → (done told begins : List (Item Heading) → Type 0) →
-    (first last : Watched (Peeked R)) → Result InputCount RunFault → Type 0
-OneIsTold remaining options sites done told begins first last answer =
-    IfSome (left_in remaining (device_of first)) (λ bytes.
-    IsToldAs done told begins (is_read_recorded options (Some bytes)) sites bytes
-    (left_in remaining (device_of last)) answer)
-
--- two recordings are not read so
-abbrev pub NoneIsTold : (told : List (Item Heading) → Type 0) → Result InputCount RunFault → Type 0
-NoneIsTold told answer = IsNotList answer × told []
+  abbrev pub TwoAreTold : {R : Type 0} → (R → Option (List ℕ)) → PairOptions →
+      (first last : BySide (Watched R)) → Result InputCount RunFault → Type 0
+  TwoAreTold remaining options first last answer =
+      IfBothKnown remaining first (λ a b.
+      PairAnswers (taken_of_pair options (ports_of_several ss) a b)
+      (AreCutOffInPair options (ports_of_several ss) remaining a b last) answer)
 
 -- ---- a replay
 
@@ -70,11 +64,10 @@ abbrev pub Answering : Type 1
 Answering = (done told begins : List (Item Heading) → Type 0) → Result InputCount RunFault → Type 0
 
 module _ {D : Type 0} (contents : D → Option (List ℕ)) (switches : List NamedRows)
-    (input : List NamedCables → Answering) (start early : Option (Watched D)) (old new : Known)
-  where
+    (input : Answering) (start early : Option (Watched D)) (old new : Known) where
     -- what it answers where a replay of these switches tells the items, and counts so
     abbrev pub TellsReplay : Summary → Result InputCount RunFault → Type 0
-    TellsReplay counts count = input (sites_of switches)
+    TellsReplay counts count = input
         (λ items. WritesAll switches (lines_in items) old new counts
         × HearsAll contents switches (lines_in items) start early)
         (λ items. WritesSoFar switches (lines_in items) old new

@@ -4,7 +4,6 @@ use Rattle.std.specs.Io.KnownBytes.{Appends}
 use Rattle.afdx_config.specs.Admission.{IsAdmitted}
 use Rattle.afdx_config.specs.Lawful.{IsLawfulSwitch}
 use Rattle.afdx_config.specs.Rows.{Rows}
-use Rattle.afdx_config.specs.Switches.{NamedRows}
 use Rattle.afdx_config.specs.declared.describing.Described.{Described}
 use Rattle.afdx_commands.specs.Checking.{IsAdmittedFile, IsRead}
 use Rattle.afdx_police.specs.Arrival.{Arrival}
@@ -15,7 +14,6 @@ use Rattle.afdx_inputs.specs.Arrivals.{By}
 use Rattle.afdx_inputs.specs.declared.input_run.InputCount.{InputCount}
 use Rattle.afdx_commands.specs.declared.summary.Summary.{Summary}
 use Rattle.afdx_replay.specs.Inputs.{answer_of}
-use Rattle.afdx_replay.specs.replaying.Command.{OfOneOr}
 use Rattle.afdx_replay.specs.replaying.Early.{HearsEarly, HearsMost}
 use Rattle.afdx_replay.specs.replaying.PromisedRun.{IsAsPromised, WritesPromisedSoFar, WritesPromisedSome}
 use Rattle.afdx_replay.specs.replaying.Replayed.{Known, WritesSoFar, WritesSome}
@@ -65,11 +63,9 @@ pub record Replays (t : Rows) (takes hears : Taking) (old new : Known)
   pub promised : IsLawfulSwitch t → IsAdmitted t → WritesPromised t past count old new
   pub heard : hears past count
 
--- a run by what the configuration describes, which is admitted if that is asked for: one switch on
--- a side, or several
-pub record RunsIn (config : List ℕ) (admission : Bool) (one : Rows → Type 0)
-    (several : List NamedRows → Type 0) : Type 0 where
+-- a run by what the configuration describes, which is admitted if that is asked for
+pub record RunsIn (config : List ℕ) (admission : Bool) (so : Described → Type 0) : Type 0 where
   pub described : Described
   pub read : IsRead config described
   pub admitted : admission ≡ true → IsAdmittedFile described
-  pub so : OfOneOr one several described
+  pub so_is : so described

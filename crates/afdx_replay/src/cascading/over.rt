@@ -7,13 +7,14 @@ ghost use Rattle.afdx_lists.specs.Calls.{is_failed_read, is_failed_write};
 ghost use Rattle.afdx_lists.specs.declared.fault.RunFault.{RunFault as Fault};
 ghost use Rattle.afdx_lists.specs.declared.frame_line.Heading.{Heading as Head};
 ghost use Rattle.afdx_inputs.specs.declared.input_run.InputCount.{InputCount as Counted};
-ghost use Rattle.afdx_lists.specs.SitedLines.{NamedCables};
 ghost use Rattle.afdx_lists.specs.declared.watched.Watched.{Watched as Device};
 ghost use Rattle.afdx_commands.specs.declared.summary.Summary.{Summary};
-ghost use Rattle.afdx_config.specs.Switches.{NamedRows};
+ghost use Rattle.afdx_config.specs.Switches.{AreSwitches, NamedRows};
+ghost use Rattle.afdx_config.specs.declared.describing.Described.{Described as Configuration};
+ghost use Rattle.afdx_config.specs.declared.describing.Described.TheVariants as described;
 ghost use Rattle.afdx_replay.specs.cascading.Input.{Replays, TellsReplay};
 ghost use Rattle.afdx_replay.specs.cascading.Items.{BeginsItems, TellsAll, TellsItems};
-ghost use Rattle.afdx_replay.specs.cascading.Sited.{IsAtSite, sites_of};
+ghost use Rattle.afdx_replay.specs.cascading.Sited.{IsAtPlace, sites_of};
 ghost use Rattle.afdx_replay.specs.declared.cascading.run.Cascading.{Cascading as Machinery};
 ghost use Rattle.afdx_replay.specs.replaying.Replayed.{Known};
 
@@ -21,23 +22,35 @@ use crate::cascading::run::Cascading;
 use crate::cascading::sites::{SitedLines, sites_of};
 use crate::input_ending::InputSummary;
 use afdx_config::Switches;
-use afdx_engine::{Machine, run_list};
+use afdx_engine::Machine;
 use afdx_frame::BySide;
-use afdx_inputs::{Arrivals, InputCount};
-use afdx_lists::{Heading, ListedSwitch, Peeked, RecordingFault, RunFault, Watched};
-use afdx_recorded::{PairOptions, RecordingOptions};
-use afdx_recordings::is_recording;
+use afdx_inputs::{Arrivals, InputCount, run_input, run_pair};
+use afdx_lists::{Heading, ListedSwitch, Peeked, RunFault, Watched};
+use afdx_recorded::{PairOptions, Placing, RecordingOptions, UnsaidPort};
 use afdx_text::Sink;
 use std::alloc::Global;
 use std::io::{Read, Write};
 
-/// What gives a replay of several switches its frames: an input that is a list of frames.
-/// Recordings are not read so yet.
-pub trait SitedInput<P>: Arrivals<P> {
-    /// What a run answers over the first input, which is then the second, whose lines name these
-    /// switches: of some items all is done, all is told, or a beginning.
-    ghost Answers: { P → List NamedCables → (done told begins : List (Item Head) → Type 0) →
+/// What gives a replay of several switches its frames: an input that is a list of frames or a
+/// recording, or two recordings that are read at once.
+pub trait SitedInput<P: Placing>: Arrivals<P> {
+    /// Each frame of recordings that comes in as these options say is at one of these switches, at
+    /// a port without a cable.
+    ghost AreThere: { List NamedRows → P → Type 0 };
+
+    /// What a run answers over the first input, which is then the second, of frames that come to
+    /// these switches: of some items all is done, all is told, or a beginning.
+    ghost Answers: { P → List NamedRows → (done told begins : List (Item Head) → Type 0) →
         Self → Self → Result Counted Fault → Type 0 };
+
+    /// Options whose places are some of a configuration: how often the input is asked stays the
+    /// same; and of several switches each frame is there.
+    fn places()
+        ensures calls { (d : Configuration) (options placed : P) (first last : Self) →
+            P.ArePlaced d options placed → Self.IsAskedFew placed first last →
+            Self.IsAskedFew options first last }
+        ensures there { (switches : List NamedRows) (options placed : P) → AreSwitches switches →
+            P.ArePlaced (described.Several switches) options placed → AreThere switches placed };
 
     /// What a replay tells of the frames that it is handed. One that wants memory at once is handed
     /// none.
@@ -45,43 +58,46 @@ pub trait SitedInput<P>: Arrivals<P> {
         ensures none { (options : P) (switches : List NamedRows) (input : Self)
             (early : Option (Device D)) (output : Known) (counts : Summary) →
             Self.IsNew input → TellsReplay D.contents switches
-            (λ sites done told begins answer.
-            Answers options sites done told begins input input answer)
+            (λ done told begins answer.
+            Answers options switches done told begins input input answer)
             early early output output counts (Err Memory) }
         ensures told { (options : P) (switches : List NamedRows) (first last : Self)
             (early : Option (Device D)) (m : Machinery D) (old new : Known)
             (count : Result Counted Fault) →
-            Answers options (sites_of switches) (TellsAll D.contents (switches, early) m old new)
+            Answers options switches (TellsAll D.contents (switches, early) m old new)
             (TellsItems D.contents (switches, early) m old new)
             (BeginsItems D.contents (switches, early) m old new) first last count →
-            TellsReplay D.contents switches (λ sites done told begins answer.
-            Answers options sites done told begins first last answer)
+            TellsReplay D.contents switches (λ done told begins answer.
+            Answers options switches done told begins first last answer)
             early m.teller.early old new m.teller.counts count };
 
-    /// Lets a machine tell the frames of a list whose lines name these switches, and counts its
-    /// lines. A recording is `list BadLine 1`; where recordings are asked for it is
-    /// `recording NotRecording 0`.
+    /// Lets a machine tell the frames of an input, and counts its lines, or what is no arrival. The
+    /// lines of a list name these switches, as `sites` has them; where no option says it, a frame
+    /// of a recording came in where its sender is.
     fn tell_sited<M: Machine<Heading>, O: Sink>(
         &mut self,
         alloc: Global,
         options: P,
-        switches: &[ListedSwitch],
+        switches: &Switches,
+        sites: &[ListedSwitch],
         machine: &mut M,
         output: &mut O,
     ) -> Result<InputCount, RunFault>
         requires new { Self.IsNew self.old }
-        requires few { length switches.now ≤ 24 }
+        requires sites { sites.now ≡ sites_of switches.now }
+        requires few { length sites.now ≤ 24 }
+        requires there { AreThere switches.now options }
         requires sound_output { O.failed output.old ≡ false }
         requires told { (rules : M.Rules) × M.Told rules machine.old
             (O.written output.old) (O.written output.old) []
-            × CanTell (IsAtSite switches.now) (M.Can rules) }
+            × CanTell (IsAtPlace switches.now) (M.Can rules) }
         ensures ended { OnOk result (Self.ended self.new) }
         ensures read { Self.failed self.new ≡ is_failed_read result }
         ensures write { O.failed output.new ≡ is_failed_write result }
         ensures calls { Self.IsAskedFew options self.old self.new }
         ensures answer { (rules : M.Rules) → M.Told rules machine.old
             (O.written output.old) (O.written output.old) [] →
-            CanTell (IsAtSite switches.now) (M.Can rules) →
+            CanTell (IsAtPlace switches.now) (M.Can rules) →
             Answers options switches.now
             (M.Done rules machine.new (O.written output.old) (O.written output.new))
             (M.Told rules machine.new (O.written output.old) (O.written output.new))
@@ -90,9 +106,18 @@ pub trait SitedInput<P>: Arrivals<P> {
 }
 
 impl<R: Read> SitedInput<RecordingOptions> for Watched<Peeked<R>> {
+    ghost use Rattle.afdx_recorded.specs.Becoming.{options_of};
+    ghost use Rattle.afdx_recorded.specs.Claims.{ports_of_several};
+    ghost use Rattle.afdx_recorded.specs.Entering.{IsEntered};
     ghost use Rattle.afdx_replay.specs.cascading.Input.{OneIsTold};
 
-    ghost Answers = { OneIsTold R.remaining };
+    ghost AreThere = { λ switches options.
+        CanTell (IsEntered (options_of options) (ports_of_several switches)) (IsAtPlace switches) };
+
+    ghost Answers = { λ options switches done told begins.
+        OneIsTold switches done told begins R.remaining options };
+
+    fn places() {}
 
     fn hands<D: Write>() {}
 
@@ -100,29 +125,29 @@ impl<R: Read> SitedInput<RecordingOptions> for Watched<Peeked<R>> {
         &mut self,
         alloc: Global,
         options: RecordingOptions,
-        switches: &[ListedSwitch],
+        switches: &Switches,
+        sites: &[ListedSwitch],
         machine: &mut M,
         output: &mut O,
     ) -> Result<InputCount, RunFault> {
-        if options.are_given {
-            return Err(RunFault::Recording(RecordingFault::NotRecording(0)));
-        }
-        if self.look() {
-            return Err(RunFault::Read);
-        }
-        if is_recording(self.seen()) {
-            return Err(RunFault::BadLine(1));
-        }
-        let form = SitedLines { switches };
-        let lines = run_list(alloc, form, machine, self, output)?;
-        Ok(InputCount::Lines(lines))
+        let form = SitedLines { switches: sites };
+        let unsaid = UnsaidPort::OfSenders(switches);
+        run_input(alloc, options, unsaid, form, machine, self, output)
     }
 }
 
 impl<R: Read> SitedInput<PairOptions> for BySide<Watched<R>> {
-    ghost use Rattle.afdx_replay.specs.cascading.Input.{NoneIsTold};
+    ghost use Rattle.afdx_inputs.specs.RecordingRun.{IsEnteredBy};
+    ghost use Rattle.afdx_recorded.specs.Claims.{ports_of_several};
+    ghost use Rattle.afdx_replay.specs.cascading.Input.{TwoAreTold};
 
-    ghost Answers = { λ options sites done told begins first last answer. NoneIsTold told answer };
+    ghost AreThere = { λ switches options.
+        CanTell (IsEnteredBy options (ports_of_several switches)) (IsAtPlace switches) };
+
+    ghost Answers = { λ options switches done told begins.
+        TwoAreTold switches done told begins R.remaining options };
+
+    fn places() {}
 
     fn hands<D: Write>() {}
 
@@ -130,18 +155,21 @@ impl<R: Read> SitedInput<PairOptions> for BySide<Watched<R>> {
         &mut self,
         alloc: Global,
         options: PairOptions,
-        switches: &[ListedSwitch],
+        switches: &Switches,
+        sites: &[ListedSwitch],
         machine: &mut M,
         output: &mut O,
     ) -> Result<InputCount, RunFault> {
-        Err(RunFault::Recording(RecordingFault::NotRecording(0)))
+        let unsaid = UnsaidPort::OfSenders(switches);
+        let tally = run_pair(alloc, options, unsaid, machine, self, output)?;
+        Ok(InputCount::Recorded(tally))
     }
 }
 
 /// Replays the frames of an input through several switches on each side and the systems behind
 /// them, and tells `early`, if there is such a device, by how much each frame came too early that
 /// was dropped for its link's rate. `early` is handed back.
-pub(crate) fn replay_sited<P: Drop, A: SitedInput<P>, O: Sink, D: Write + Drop>(
+pub(crate) fn replay_sited<P: Placing + Drop, A: SitedInput<P>, O: Sink, D: Write + Drop>(
     alloc: Global,
     options: P,
     switches: &Switches,
@@ -150,6 +178,7 @@ pub(crate) fn replay_sited<P: Drop, A: SitedInput<P>, O: Sink, D: Write + Drop>(
     early: Option<Watched<D>>,
 ) -> (Result<InputSummary, RunFault>, Option<Watched<D>>)
     requires new { A.IsNew input.old }
+    requires there { A.AreThere switches.now options }
     requires sound_output { O.failed output.old ≡ false }
     ensures ended { OnOk result.0 (A.ended input.new) }
     ensures read { A.failed input.new ≡ is_failed_read result.0 }
@@ -158,7 +187,7 @@ pub(crate) fn replay_sited<P: Drop, A: SitedInput<P>, O: Sink, D: Write + Drop>(
 
     // What is answered, written and told for the frames that it gives.
     ensures replays { Replays D.contents switches.now
-        (λ sites done told begins answer. A.Answers options sites done told begins input.old
+        (λ done told begins answer. A.Answers options switches.now done told begins input.old
         input.new answer) early result.1 (O.written output.old) (O.written output.new) result.0 }
 {
     // (laws of the input: before it is asked for anything it hasn't failed; what it was handed)
@@ -174,7 +203,8 @@ pub(crate) fn replay_sited<P: Drop, A: SitedInput<P>, O: Sink, D: Write + Drop>(
     };
     let teller = teller.with_early(early);
     let mut cascading = Cascading { cascade, teller };
-    let count = input.tell_sited(alloc, options, sites.as_slice(), &mut cascading, output);
+    let named = sites.as_slice();
+    let count = input.tell_sited(alloc, options, switches, named, &mut cascading, output);
     let teller = cascading.teller;
     match count {
         Ok(count) => (Ok(InputSummary::of(teller.counts, count)), teller.early),

@@ -2,10 +2,10 @@
 
 ghost use Rattle.std.specs.Prelude.{◌≡◌, ◌||◌, ◌⊎◌, ◌↔◌, Result, IsSome, IfSome, OnOk, None, false, true};
 ghost use Rattle.afdx_lists.specs.declared.fault.RunFault.{RunFault};
-ghost use Rattle.afdx_recorded.specs.Claims.{ports_of_senders};
-ghost use Rattle.afdx_commands.specs.Commands.{IsInputStatus};
+ghost use Rattle.afdx_recorded.specs.Claims.{ports_of_one};
 ghost use Rattle.afdx_replay.specs.Inputs.{EndsInputAs};
-ghost use Rattle.afdx_commands.specs.Taking.{described_of, IsNotTaken};
+ghost use Rattle.afdx_replay.specs.Placed.{ArePlacedIn, IsNotRun, IsPlacedStatus};
+ghost use Rattle.afdx_commands.specs.Taking.{described_of};
 ghost use Rattle.afdx_lists.specs.Calls.{is_failed_read, is_failed_write};
 ghost use Rattle.afdx_replay.specs.cascading.Input as cascade;
 ghost use Rattle.afdx_replay.specs.replaying.Command.{OfOneOr};
@@ -14,15 +14,17 @@ ghost use Rattle.afdx_replay.specs.declared.input_ending.InputSummary.{InputSumm
 
 use crate::cascading::over::{SitedInput, replay_sited};
 use crate::input_ending::{InputEnded, InputSummary, end_input};
+use crate::placed::read_placed;
 use crate::replaying::over::replay_over;
-use afdx_commands::{Taken, take_file};
+use afdx_commands::{Taken, take_described};
 use afdx_lists::{RunFault, Watched};
+use afdx_recorded::Placing;
 use afdx_text::Sink;
 use std::alloc::Global;
 use std::io::Write;
 
 /// Replays an input by what was taken of a configuration, and tells `early`.
-fn replay_taken<P: Drop, A: SitedInput<P>, O: Sink, D: Write + Drop>(
+fn replay_taken<P: Placing + Drop, A: SitedInput<P>, O: Sink, D: Write + Drop>(
     alloc: Global,
     options: P,
     taken: &Taken,
@@ -31,17 +33,19 @@ fn replay_taken<P: Drop, A: SitedInput<P>, O: Sink, D: Write + Drop>(
     early: Option<Watched<D>>,
 ) -> (Result<InputSummary, RunFault>, Option<Watched<D>>)
     requires new { A.IsNew input.old }
+    requires there { OfOneOr (λ t. Unit {0}) (λ switches. A.AreThere switches options)
+        (described_of taken.now) }
     requires sound_output { O.failed output.old ≡ false }
     ensures ended { OnOk result.0 (A.ended input.new) }
     ensures read { A.failed input.new ≡ is_failed_read result.0 }
     ensures write { O.failed output.new ≡ is_failed_write result.0 }
     ensures calls { A.IsAskedFew options input.old input.new }
     ensures replays { OfOneOr (λ t. IfSome (A.known input.old) (λ bytes.
-        Replays t (A.Takes options (ports_of_senders t.systems) bytes input.new)
+        Replays t (A.Takes options (ports_of_one t) bytes input.new)
         (λ past count. Hears t past count D.contents early result.1)
         (O.written output.old) (O.written output.new) result.0))
         (λ switches. cascade.Replays D.contents switches
-        (λ sites done told begins count. A.Answers options sites done told begins input.old
+        (λ done told begins count. A.Answers options switches done told begins input.old
         input.new count) early result.1 (O.written output.old) (O.written output.new) result.0)
         (described_of taken.now) }
 {
@@ -73,12 +77,14 @@ fn replay_taken<P: Drop, A: SitedInput<P>, O: Sink, D: Write + Drop>(
 /// Where `early` is a device it is told, in a line each, by how much frames came too early that
 /// were dropped for their link's rate. It is handed back.
 ///
-/// The exit status is 0 done, 1 a fault of the configuration or tables that are not admitted, 3 a
-/// fault of the list or a recording, 4 a device or memory.
-pub fn replay_input<P: Drop, A: SitedInput<P>, O: Sink, E: Write, D: Write + Drop>(
+/// The exit status is 0 done, 1 a fault of the configuration or tables that are not admitted, 2 a
+/// place of the options that the configuration hasn't, 3 a fault of the list or a recording, 4 a
+/// device or memory. Of several causes the first is answered: a fault of the configuration, a place,
+/// admission.
+pub fn replay_input<P: Placing + Drop, A: SitedInput<P>, O: Sink, E: Write, D: Write + Drop>(
     alloc: Global,
     admission: bool,
-    options: P,
+    mut options: P,
     config: &[u8],
     input: &mut A,
     output: &mut O,
@@ -89,7 +95,7 @@ pub fn replay_input<P: Drop, A: SitedInput<P>, O: Sink, E: Write, D: Write + Dro
     requires sound_output { O.failed output.old ≡ false }
 
     // 0 comes only where the input came to its end, 4 wherever a device failed; counts come with 0.
-    ensures statuses { IsInputStatus result.0.ended.status }
+    ensures statuses { IsPlacedStatus result.0.ended.status }
     ensures counts { IsSome result.0.ended.summary ↔ (result.0.ended.status ≡ 0) }
     ensures done { result.0.ended.status ≡ 0 →
         A.ended input.new × (A.failed input.new ≡ false) × (O.failed output.new ≡ false) }
@@ -97,25 +103,31 @@ pub fn replay_input<P: Drop, A: SitedInput<P>, O: Sink, E: Write, D: Write + Dro
         result.0.ended.status ≡ 4 }
     ensures calls { A.IsAskedFew options input.old input.new }
 
-    // The command ends as a run over the input answered, or nothing is read, nothing is written and
-    // nothing is told `early`.
+    // The command ends as a run over the input answered, by the options with their places in the
+    // configuration, or nothing is read, nothing is written and nothing is told `early`.
     ensures replays { ((answer : Result InputSummary RunFault)
         × EndsInputAs E.contents (A.ended input.new) (A.failed input.new) (O.failed output.new)
         errors.old errors.new result.0 answer
-        × RunsIn config.now admission (λ t. IfSome (A.known input.old) (λ bytes.
-        Replays t (A.Takes options (ports_of_senders t.systems) bytes input.new)
+        × RunsIn config.now admission (λ d. ArePlacedIn P.ArePlaced options d (λ placed.
+        OfOneOr (λ t. IfSome (A.known input.old) (λ bytes.
+        Replays t (A.Takes placed (ports_of_one t) bytes input.new)
         (λ past count. Hears t past count D.contents early result.1)
         (O.written output.old) (O.written output.new) answer))
         (λ switches. cascade.Replays D.contents switches
-        (λ sites done told begins count. A.Answers options sites done told begins input.old
-        input.new count) early result.1 (O.written output.old) (O.written output.new) answer))
-        ⊎ (IsNotTaken E.contents config.now admission errors.old errors.new
-        result.0.ended.status × (result.0.tally ≡ None) × (input.new ≡ input.old)
+        (λ done told begins count. A.Answers placed switches done told begins input.old
+        input.new count) early result.1 (O.written output.old) (O.written output.new) answer) d)))
+        ⊎ (IsNotRun P.ArePlaced options P.AreNotPlaced E.contents errors.old errors.new config.now
+        admission result.0.ended.status × (result.0.tally ≡ None) × (input.new ≡ input.old)
         × (output.new ≡ output.old) × (result.1 ≡ early)) }
 {
-    // (a law of the input: before it is asked for anything it hasn't failed)
+    // (laws of the input: before it is asked for anything it hasn't failed; what its options place)
     A::starts();
-    let taken = match take_file(alloc, admission, config, errors) {
+    A::places();
+    let described = match read_placed(alloc, config, &mut options, errors) {
+        Ok(described) => described,
+        Err(status) => return (InputEnded::without_counts(status), early),
+    };
+    let taken = match take_described(admission, described, errors) {
         Ok(taken) => taken,
         Err(status) => return (InputEnded::without_counts(status), early),
     };

@@ -2,7 +2,7 @@
 
 ghost use Rattle.std.specs.Prelude.{◌≡◌, IfSome, OnOk, false};
 ghost use Rattle.afdx_lists.specs.Calls.{is_failed_read, is_failed_write};
-ghost use Rattle.afdx_recorded.specs.Claims.{ports_of_senders};
+ghost use Rattle.afdx_recorded.specs.Claims.{ports_of_one};
 ghost use Rattle.afdx_replay.specs.replaying.Input.{Hears, Replays};
 
 use crate::input_ending::InputSummary;
@@ -36,7 +36,7 @@ pub(crate) fn replay_over<P: Drop, A: Arrivals<P>, O: Sink, D: Write + Drop>(
 
     // Where its bytes are known: what is answered, written and told for the arrivals that it takes.
     ensures replays { IfSome (A.known input.old) (λ bytes. Replays tables.now
-        (A.Takes options (ports_of_senders tables.now.systems) bytes input.new)
+        (A.Takes options (ports_of_one tables.now) bytes input.new)
         (λ past count. Hears tables.now past count D.contents early result.1)
         (O.written output.old) (O.written output.new) result.0) }
 {

@@ -1,12 +1,10 @@
 use Rattle.std.proofs.Common.{refl, inl, inr}
 use Rattle.afdx_inputs.proofs.RecordingRunLemmas.{unasked}
-use Rattle.afdx_commands.proofs.RefusalLemmas.{config-refused}
 use Rattle.afdx_replay.proofs.listing.list_and_count.Goals as goal
 
 pub returns-in-Err-clause-lists : goal.returns-in-Err-clause-lists
 returns-in-Err-clause-lists g c = inr (
-  rw c.without_counts.ensures.status (config-refused _ _ _ _ _ _ c.refuse_config.ensures.told
-      c.refuse_config.ensures.memory c.in-Err.ensures.fault),
+  rw c.without_counts.ensures.status c.in-Err.ensures.refused,
   c.without_counts.ensures.tally,
   refl,
   refl,
@@ -18,16 +16,20 @@ returns-clause-lists g c = inl (
   record {
     status_is = c.end_listing.ensures.status;
     tally_is = c.end_listing.ensures.tally;
-    told = c.end_listing.ensures.told;
-    silent = c.end_listing.ensures.silent;
+    told = rw c.in-Ok.ensures.silent at c.end_listing.ensures.told;
+    silent = rw c.in-Ok.ensures.silent at c.end_listing.ensures.silent;
     ended = c.list_in-answer.ensures.ended;
     read = c.list_in-answer.ensures.read;
     write = c.list_in-answer.ensures.write;
   },
   record {
-    tables = c.in-Ok.tables;
-    spelled = c.in-Ok.ensures.ok;
-    answered = c.list_in-answer.ensures.answer;
+    described = c.in-Ok.described;
+    read = c.in-Ok.ensures.read;
+    so_is = record {
+      placed = c.read_placed.new.options;
+      are_placed = c.in-Ok.ensures.placed;
+      so_is = c.list_in-answer.ensures.answer;
+    };
   },
 )
 

@@ -12,7 +12,7 @@ returns-in-Err-clause-replays g c =
     let early = c.args.early in
     let old = g.O.Sink.written c.args.output.now in
     rw c.from.ensures (replays-so g.D.Write.contents ss
-    (λ sites done told begins answer. g.A.SitedInput.Answers c.args.options sites done told begins
+    (λ done told begins answer. g.A.SitedInput.Answers c.args.options ss done told begins
     c.args.input.now c.args.input.now answer) early early old old no_counts (Err run.Memory)
     (c.hands.ensures.none c.args.options ss c.args.input.now early old no_counts c.requires.new))
 
@@ -22,7 +22,7 @@ returns-in-Err-new-clause-replays g c =
     let early = c.args.early in
     let old = g.O.Sink.written c.args.output.now in
     rw c.from-in-Err-new.ensures (replays-so g.D.Write.contents ss
-    (λ sites done told begins answer. g.A.SitedInput.Answers c.args.options sites done told begins
+    (λ done told begins answer. g.A.SitedInput.Answers c.args.options ss done told begins
     c.args.input.now c.args.input.now answer) early early old old no_counts (Err run.Memory)
     (c.hands.ensures.none c.args.options ss c.args.input.now early old no_counts c.requires.new))
 
@@ -31,7 +31,7 @@ tell_sited-count-requires-clause-few g c =
     let told = c.in-Ok-new.ensures.told None in
     let few = told.fits.few in
     let count = sites-count c.args.switches.now in
-    rw (c.as_slice.ensures.value, c.in-Ok.ensures) (omega (arith, few, count))
+    rw (c.as_slice-named.ensures.value, c.in-Ok.ensures) (omega (arith, few, count))
 
 pub tell_sited-count-requires-clause-told : goal.tell_sited-count-requires-clause-told
 tell_sited-count-requires-clause-told g c =
@@ -42,7 +42,7 @@ tell_sited-count-requires-clause-told g c =
           c.with_early-teller.result c.args.early (g.O.Sink.written c.args.output.now)
           (c.in-Ok-new.ensures.told (g.O.Sink.written c.args.output.now)) c.in-Ok-new.ensures.clock
           c.in-Ok-new.ensures.steady more.switches more.systems more.counts more.early,
-      can-tell ss c.as_slice.result.now (c.as_slice.ensures.value ∙ c.in-Ok.ensures),
+      λ item is. is,
     )
 
 -- the input came to its end
@@ -57,18 +57,15 @@ returns-in-Ok-count-clause-replays g c =
     let old = g.O.Sink.written c.args.output.now in
     let new = g.O.Sink.written ended.output in
     let more = c.with_early-teller.ensures in
-    let are = c.as_slice.ensures.value ∙ c.in-Ok.ensures in
     let start = first-told contents ss c.in-Ok-new.cascading.cascade c.in-Ok-new.cascading.teller
     c.with_early-teller.result early old (c.in-Ok-new.ensures.told old) c.in-Ok-new.ensures.clock
     c.in-Ok-new.ensures.steady more.switches more.systems more.counts more.early in
-    let answer = c.in-Ok-count.ensures.answer (ss, early) start (can-tell ss c.as_slice.result.now are) in
+    let answer = c.in-Ok-count.ensures.answer (ss, early) start (λ item is. is) in
     rw c.of.ensures (replays-so contents ss
-    (λ sites done told begins answer. g.A.SitedInput.Answers c.args.options sites done told begins first ended.self
+    (λ done told begins answer. g.A.SitedInput.Answers c.args.options ss done told begins first ended.self
     answer) early m.teller.early old new m.teller.counts (Ok c.in-Ok-count.count)
     (c.hands.ensures.told c.args.options ss first ended.self early m old new (Ok c.in-Ok-count.count)
-    (subst (λ sites. g.A.SitedInput.Answers c.args.options sites (TellsAll contents (ss, early) m old new)
-    (TellsItems contents (ss, early) m old new) (BeginsItems contents (ss, early) m old new) first ended.self
-    (Ok c.in-Ok-count.count)) are answer)))
+    answer))
 
 -- it ended with a fault
 pub returns-clause-replays : goal.returns-clause-replays
@@ -82,15 +79,12 @@ returns-clause-replays g c =
     let old = g.O.Sink.written c.args.output.now in
     let new = g.O.Sink.written ended.output in
     let more = c.with_early-teller.ensures in
-    let are = c.as_slice.ensures.value ∙ c.in-Ok.ensures in
     let start = first-told contents ss c.in-Ok-new.cascading.cascade c.in-Ok-new.cascading.teller
     c.with_early-teller.result early old (c.in-Ok-new.ensures.told old) c.in-Ok-new.ensures.clock
     c.in-Ok-new.ensures.steady more.switches more.systems more.counts more.early in
-    let answer = c.in-Err-count.ensures.answer (ss, early) start (can-tell ss c.as_slice.result.now are) in
+    let answer = c.in-Err-count.ensures.answer (ss, early) start (λ item is. is) in
     replays-so contents ss
-    (λ sites done told begins answer. g.A.SitedInput.Answers c.args.options sites done told begins first ended.self
+    (λ done told begins answer. g.A.SitedInput.Answers c.args.options ss done told begins first ended.self
     answer) early m.teller.early old new m.teller.counts (Err c.in-Err-count.fault)
     (c.hands.ensures.told c.args.options ss first ended.self early m old new (Err c.in-Err-count.fault)
-    (subst (λ sites. g.A.SitedInput.Answers c.args.options sites (TellsAll contents (ss, early) m old new)
-    (TellsItems contents (ss, early) m old new) (BeginsItems contents (ss, early) m old new) first ended.self
-    (Err c.in-Err-count.fault)) are answer))
+    answer)

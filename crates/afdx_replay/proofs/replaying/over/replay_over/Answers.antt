@@ -1,6 +1,6 @@
 use Rattle.std.proofs.Common.{Ok, Err}
 use Rattle.afdx_lists.specs.declared.fault.RunFault.TheVariants as run
-use Rattle.afdx_recorded.specs.Claims.{ports_of_senders}
+use Rattle.afdx_recorded.specs.Claims.{ports_of_one}
 use Rattle.afdx_inputs.proofs.ArrivalsLemmas.{if-known}
 use Rattle.afdx_replay.specs.replaying.Input.{Replays}
 use Rattle.afdx_replay.proofs.ReplaysLemmas.{HearsSo, hears-start, replays-known, replays-none}
@@ -10,7 +10,7 @@ use Rattle.afdx_replay.proofs.replaying.over.replay_over.Goals as goal
 pub returns-in-Err-clause-replays : goal.returns-in-Err-clause-replays
 returns-in-Err-clause-replays g c =
     let t = c.args.tables.now in
-    let ports = ports_of_senders t.systems in
+    let ports = ports_of_one t in
     let old = g.O.Sink.written c.args.output.now in
     let takes = λ (bytes : g.A.Arrivals.Bytes). g.A.Arrivals.Takes c.args.options ports bytes c.args.input.now in
     rw c.from.ensures (if-known (g.A.Arrivals.known c.args.input.now)
@@ -33,11 +33,11 @@ returns-in-Ok-count-clause-replays g c =
     let t = c.args.tables.now in
     let old = g.O.Sink.written c.args.output.now in
     let ended = c.tell_all-count.new in
-    let takes = λ (bytes : g.A.Arrivals.Bytes). g.A.Arrivals.Takes c.args.options (ports_of_senders t.systems)
+    let takes = λ (bytes : g.A.Arrivals.Bytes). g.A.Arrivals.Takes c.args.options (ports_of_one t)
     bytes ended.self in
     rw c.of.ensures (replays-known g.D.Write.contents t takes c.args.early ended.machine.early ended.machine.replay
     old (g.O.Sink.written ended.output) (g.A.Arrivals.known c.args.input.now) (Ok c.in-Ok-count.count)
-    (λ bytes past answer took. c.orders.ensures c.args.options (ports_of_senders t.systems) bytes ended.self past
+    (λ bytes past answer took. c.orders.ensures c.args.options (ports_of_one t) bytes ended.self past
     answer took)
     (c.in-Ok-count.ensures.answer (t, c.args.early)
     (c.in-Ok.ensures old, hears-start g.D.Write.contents t c.args.early) (λ item. tt)))
@@ -48,11 +48,11 @@ returns-clause-replays g c =
     let t = c.args.tables.now in
     let old = g.O.Sink.written c.args.output.now in
     let ended = c.tell_all-count.new in
-    let takes = λ (bytes : g.A.Arrivals.Bytes). g.A.Arrivals.Takes c.args.options (ports_of_senders t.systems)
+    let takes = λ (bytes : g.A.Arrivals.Bytes). g.A.Arrivals.Takes c.args.options (ports_of_one t)
     bytes ended.self in
     replays-known g.D.Write.contents t takes c.args.early ended.machine.early ended.machine.replay
     old (g.O.Sink.written ended.output) (g.A.Arrivals.known c.args.input.now) (Err c.in-Err-count.fault)
-    (λ bytes past answer took. c.orders.ensures c.args.options (ports_of_senders t.systems) bytes ended.self past
+    (λ bytes past answer took. c.orders.ensures c.args.options (ports_of_one t) bytes ended.self past
     answer took)
     (c.in-Err-count.ensures.answer (t, c.args.early)
     (c.in-Ok.ensures old, hears-start g.D.Write.contents t c.args.early) (λ item. tt))

@@ -1,28 +1,30 @@
-use Rattle.std.proofs.Common.{rules}
-use Rattle.afdx_lists.specs.Peeking.{held, left_in}
-use Rattle.afdx_replay.proofs.CascadeOverLemmas.{listed-left, not-recorded, unread-left}
+use Rattle.std.proofs.Common.{Bool, List, ℕ}
+use Rattle.afdx_inputs.specs.InputRun.{is_read_recorded}
+use Rattle.afdx_lists.specs.Peeking.{left_in}
+use Rattle.afdx_replay.proofs.CascadeOverLemmas.{OneAnswers, by-first, can-tell}
 use Rattle.afdx_replay.proofs.cascading.over.WatchedPeekedSitedInputRecordingOptions.tell_sited.Goals as goal
 
--- the look failed
-pub returns-then-look-clause-answer : goal.returns-then-look-clause-answer
-returns-then-look-clause-answer g c law start can =
-    let old = g.O.Sink.written c.args.output.now in
-    let machine = c.args.machine.now in
-    unread-left c.args.options c.args.switches.now (g.M.Machine.Done law machine old old)
-    (g.M.Machine.Told law machine old old) (g.M.Machine.Begins law machine old old)
-    (left_in g.R.Read.remaining c.args.self.now.inner) (left_in g.R.Read.remaining c.look.new.self.inner)
-    c.look.ensures.left start
+pub run_input-requires-clause-told : goal.run_input-requires-clause-told
+run_input-requires-clause-told g c =
+    let told = c.requires.told in
+    let tells = can-tell c.args.switches.now c.args.sites.now c.requires.sites in (
+      told.0,
+      told.1,
+      λ item is. told.2 item (tells item is),
+      λ item entered. told.2 item (c.requires.there item entered),
+    )
 
-pub returns-in_err-lines-clause-answer : goal.returns-in_err-lines-clause-answer
-returns-in_err-lines-clause-answer g c law start can =
+pub returns-clause-answer : goal.returns-clause-answer
+returns-clause-answer g c law start can =
+    let ss = c.args.switches.now in
     let old = g.O.Sink.written c.args.output.now in
-    let new = g.O.Sink.written c.run_list.new.output in
-    let machine = c.run_list.new.machine in
-    let none = not-recorded c.args.options c.seen.result.now (held c.look.new.self.inner) c.is_recording.result
-    c.if-options.false c.seen.ensures c.is_recording.ensures c.if-is_recording.false in
-    let h = listed-left c.args.options c.args.switches.now (g.M.Machine.Done law machine old new)
-    (g.M.Machine.Told law machine old new) (g.M.Machine.Begins law machine old new)
-    (left_in g.R.Read.remaining c.args.self.now.inner) (left_in g.R.Read.remaining c.look.new.self.inner)
-    (left_in g.R.Read.remaining c.run_list.new.input.inner) (held c.look.new.self.inner) c.in_err-lines.field-0.0
-    c.look.ensures.left (c.look.ensures.first c.if-look.false) none (c.in_err-lines.ensures.answer law start can) in
-    search rules
+    let new = g.O.Sink.written c.run_input.new.output in
+    let machine = c.run_input.new.machine in
+    let tells = can-tell ss c.args.sites.now c.requires.sites in
+    let left = left_in g.R.Read.remaining c.args.self.now.inner in
+    let answer = c.run_input.ensures.answer law start (λ item is. can item (tells item is))
+    (λ item entered. can item (c.requires.there item entered)) in
+    by-first (λ (is : Bool) (bytes : List ℕ). OneAnswers ss c.args.options (g.M.Machine.Done law machine old new)
+    (g.M.Machine.Told law machine old new) (g.M.Machine.Begins law machine old new) is bytes
+    (left_in g.R.Read.remaining c.run_input.new.input.inner) c.run_input.result) (is_read_recorded c.args.options) left
+    (rw c.requires.sites at answer)

@@ -1,0 +1,39 @@
+use Rattle.std.proofs.Common.{rules}
+use Rattle.afdx_inputs.specs.RecordingRun.{AreCutOffInPair, taken_of_pair}
+use Rattle.afdx_recorded.specs.Claims.{ports_of_several}
+use Rattle.afdx_replay.proofs.CascadeOverLemmas.{pair-err, pair-ok}
+use Rattle.afdx_replay.proofs.cascading.over.BySideWatchedSitedInputPairOptions.tell_sited.Goals as goal
+
+pub run_pair-requires-clause-told : goal.run_pair-requires-clause-told
+run_pair-requires-clause-told g c =
+    let told = c.requires.told in
+    (told.0, told.1, λ item entered. told.2 item (c.requires.there item entered))
+
+pub returns-in_err-tally-clause-answer : goal.returns-in_err-tally-clause-answer
+returns-in_err-tally-clause-answer g c law start can =
+    let ss = c.args.switches.now in
+    let ports = ports_of_several ss in
+    let inputs = c.args.self.now in
+    let old = g.O.Sink.written c.args.output.now in
+    let new = g.O.Sink.written c.run_pair.new.output in
+    let machine = c.run_pair.new.machine in
+    let h = pair-err ss (g.M.Machine.Done law machine old new) (g.M.Machine.Told law machine old new)
+    (g.M.Machine.Begins law machine old new) (taken_of_pair c.args.options ports)
+    (λ a b. AreCutOffInPair c.args.options ports g.R.Read.remaining a b c.run_pair.new.inputs)
+    (g.R.Read.remaining inputs.a.inner) (g.R.Read.remaining inputs.b.inner) c.in_err-tally.field-0.0
+    (c.in_err-tally.ensures.answer law start (λ item entered. can item (c.requires.there item entered))) in
+    search rules
+
+pub returns-clause-answer : goal.returns-clause-answer
+returns-clause-answer g c law start can =
+    let ss = c.args.switches.now in
+    let ports = ports_of_several ss in
+    let inputs = c.args.self.now in
+    let old = g.O.Sink.written c.args.output.now in
+    let new = g.O.Sink.written c.run_pair.new.output in
+    let machine = c.run_pair.new.machine in
+    pair-ok ss (g.M.Machine.Done law machine old new) (g.M.Machine.Told law machine old new)
+    (g.M.Machine.Begins law machine old new) (taken_of_pair c.args.options ports)
+    (λ a b. AreCutOffInPair c.args.options ports g.R.Read.remaining a b c.run_pair.new.inputs)
+    (g.R.Read.remaining inputs.a.inner) (g.R.Read.remaining inputs.b.inner) c.in_ok-tally.tally
+    (c.in_ok-tally.ensures.answer law start (λ item entered. can item (c.requires.there item entered)))
