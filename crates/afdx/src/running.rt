@@ -10,9 +10,9 @@ use crate::{explain_if_asked, no_file};
 use afdx_commands::status::{DONE, WRONG_WORDS};
 use afdx_frame::BySide;
 use afdx_replay::{
-    CommandedRule, Ended, InputEnded, ListEnded, Output, PairOptions, Peeked, RecordingOptions,
-    Sink, SitedInput, Watched, finish, list_and_count, list_pair_and_count, police_input,
-    replay_input, send_and_count,
+    CommandedRule, Ended, InputEnded, ListEnded, Output, PairOptions, Peeked, Placing,
+    RecordingOptions, Sink, SitedInput, Watched, finish, list_and_count, list_pair_and_count,
+    police_input, replay_input, send_and_count,
 };
 use afdx_text::WholeLines;
 use afdx_words::{Refused, pair_options, recording_options};
@@ -138,7 +138,7 @@ fn early_lines(rt: &HostRuntime, are_asked: bool) -> Option<Watched<WholeLines<S
 }
 
 /// What `list` takes: a recording, or two that are read at once.
-trait Recordings<P>: SitedInput<P> {
+trait Recordings<P: Placing>: SitedInput<P> {
     /// Writes what they say as a list.
     fn list<O: Sink, E: Write>(
         &mut self,
@@ -190,7 +190,7 @@ fn ended_of(listed: ListEnded) -> InputEnded {
 }
 
 /// Makes the run over what an input gives.
-fn run_over<P: Drop, A: Recordings<P>, O: Sink, E: Write>(
+fn run_over<P: Placing + Drop, A: Recordings<P>, O: Sink, E: Write>(
     rt: &HostRuntime,
     run: &Run<'_>,
     options: P,

@@ -46,7 +46,7 @@ fn options(alloc: Global, said: Said) -> Result<RecordingOptions, AllocError> {
 /// The ports of the base tables' systems.
 fn ports(alloc: Global) -> Result<SystemPorts, ConfigFault> {
     let tables = base_tables(alloc)?;
-    Ok(SystemPorts::by_sender(alloc, &tables)?)
+    Ok(SystemPorts::unsaid(alloc, UnsaidPort::OfSender(&tables))?)
 }
 
 /// What number 7 becomes.

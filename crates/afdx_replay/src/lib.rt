@@ -17,7 +17,7 @@ pub use afdx_commands::{
 };
 pub use afdx_frame::{BySide, Policing};
 pub use afdx_lists::{Peeked, RecordingFault, RunFault, Watched};
-pub use afdx_recorded::{Interfaces, PairOptions, Place, RecordingOptions, Tally};
+pub use afdx_recorded::{Interfaces, PairOptions, Place, Placing, RecordingOptions, Tally};
 pub use afdx_sending::{run_send, send, send_and_count};
 pub use afdx_text::{Output, Sink};
 pub use cascading::admitted::run_cascade;

@@ -1,6 +1,7 @@
 //! Runs over text: policing, by a run and by the command, here, the others in modules. Each verdict
 //! and each fault of a list is tried at the program (tests/program/police.sh).
 
+mod cascade_recordings;
 mod cascades;
 mod checks;
 mod commands;
