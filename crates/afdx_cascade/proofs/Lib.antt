@@ -12,6 +12,7 @@ pub mod RingLemmas
 pub mod NumberLemmas
 pub mod LeastLemmas
 pub mod ScanLemmas
+pub mod KeyLemmas
 pub mod MoreLemmas
 pub mod StandingLemmas
 pub mod CarriedLemmas

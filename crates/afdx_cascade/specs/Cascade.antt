@@ -11,6 +11,7 @@ use Rattle.afdx_network.specs.Order.{is_below}
 use Rattle.afdx_network.specs.declared.network.Network.{Network}
 use Rattle.afdx_cascade.specs.Due.{OnCable}
 use Rattle.afdx_cascade.specs.Keeping.{Keeps, IsNothingDue}
+use Rattle.afdx_cascade.specs.Keys.{AreKeys}
 use Rattle.afdx_cascade.specs.Runs.{Line, IsDue, IsFirstDue, IsNextLine, arriving, event_at}
 use Rattle.afdx_cascade.specs.Scan.{switches_most}
 use Rattle.afdx_cascade.specs.SwitchEvents.{Plan, SwitchEvent, IsInPlan, came_to}
@@ -24,7 +25,7 @@ use Rattle.afdx_cascade.specs.declared.told.Happened.TheVariants.{Over, Came}
 abbrev pub switch_count : Cascade → ℕ
 switch_count w = length w.networks.items
 
--- networks, table and ring are those that these events leave
+-- networks, keys, table and ring are those that these events leave
 pub record StandsFor (c : Plan) (w : Cascade) (so_far : List SwitchEvent) : Type 0 where
   pub count : switch_count w ≡ c.count
   pub some : 1 ≤ c.count
@@ -34,6 +35,8 @@ pub record StandsFor (c : Plan) (w : Cascade) (so_far : List SwitchEvent) : Type
   pub time : ℕ
   pub ring : List OnCable
   pub keeps : Keeps c w.networks.items time ring so_far
+  -- by these keys the first turn is found
+  pub keys : AreKeys w.networks.items w.keys.items
   pub ends : AreEnds c w.ends.items
   pub in_transit : AreInTransit c w.transit.items ring
 
@@ -55,9 +58,10 @@ pub record IsQuiet (w : Cascade) (time : ℕ) : Type 0 where
       network.IsQuiet n time
   pub transit : w.transit.items ≡ []
 
--- networks, table and ring are the same
+-- networks, keys, table and ring are the same
 pub record IsUnchanged (old new : Cascade) : Type 0 where
   pub networks : new.networks.items ≡ old.networks.items
+  pub keys : new.keys.items ≡ old.keys.items
   pub ends : new.ends.items ≡ old.ends.items
   pub transit : new.transit.items ≡ old.transit.items
 

@@ -6,6 +6,7 @@ pub mod Once
 pub mod Runs
 pub mod Again
 pub mod Scan
+pub mod Keys
 pub mod Due
 pub mod Found
 pub mod Standing

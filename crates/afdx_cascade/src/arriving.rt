@@ -16,6 +16,7 @@ ghost use Rattle.afdx_cascade.specs.Cables.{brought};
 ghost use Rattle.afdx_cascade.specs.SwitchEvents.{Plan, IsPlan, SwitchEvent, came_to, end_at};
 ghost use Rattle.afdx_cascade.specs.Runs.{arriving};
 ghost use Rattle.afdx_cascade.specs.Found.{AllStand};
+ghost use Rattle.afdx_cascade.specs.Keys.{AreOthersSame};
 ghost use Rattle.afdx_cascade.specs.Standing.{Stands};
 ghost use Rattle.afdx_switch.specs.Early.{IsEarlyBy};
 ghost use Rattle.afdx_switch.specs.Verdicts.{shape_fault};
@@ -49,6 +50,7 @@ pub fn arrive_at(
     ensures still { (n : At) → slice_get networks.new switch ≡ Some n →
         network.IsQuiet n time }
     ensures length { length networks.new ≡ length networks.old }
+    ensures others { AreOthersSame switch networks.old networks.new }
     ensures stands { (c : Plan) (at : ℕ) (ring : List OnCable) (so_far : List SwitchEvent) →
         Stands c networks.old at ring so_far → c.far_end switch port ≡ None →
         let x = arrival_with tag time side port (bytes_of frame.entry) in
@@ -91,6 +93,7 @@ pub(crate) fn take_at(networks: &mut [Network], switch: usize, until: u64) -> Op
     ensures clock { (k : ℕ) (n : At) → slice_get networks.new k ≡ Some n →
         network.IsUntil n until }
     ensures length { length networks.new ≡ length networks.old }
+    ensures others { AreOthersSame switch networks.old networks.new }
     ensures none { (n : At) → slice_get networks.old switch ≡ Some n →
         IfNone result (network.IsQuiet n until) }
     ensures gives { (c : Plan) (at : ℕ) (ring : List OnCable) (so_far : List SwitchEvent) →
@@ -119,6 +122,7 @@ pub(crate) fn bring_at(
     ensures still { (n : At) → slice_get networks.new switch ≡ Some n →
         network.IsQuiet n (as_given departed.now.departure).end }
     ensures length { length networks.new ≡ length networks.old }
+    ensures others { AreOthersSame switch networks.old networks.new }
     ensures stands { (c : Plan) (at : ℕ) (r : OnCable) (rest : List OnCable)
         (so_far : List SwitchEvent) → IsPlan c →
         Stands c networks.old at (r ∷ rest) so_far →

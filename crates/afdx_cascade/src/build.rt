@@ -1,13 +1,16 @@
 //! What a cascade starts with: new networks, and the table of the ends of its cables.
 
-ghost use Rattle.std.specs.Prelude.{◌≡◌, ℕ, [], IfOk, Some, length, slice_get};
+ghost use Rattle.std.specs.Prelude.{◌≡◌, ◌≤◌, ℕ, [], IfOk, Some, length, slice_get};
 ghost use Rattle.afdx_config.specs.Switches.{AreSwitches};
 ghost use Rattle.afdx_network.specs.declared.network.Network.{Network as At};
 ghost use Rattle.afdx_network.specs.Network as network;
 ghost use Rattle.afdx_cascade.specs.Plans.{plan_of, tables_of};
+ghost use Rattle.afdx_cascade.specs.Keys.{AreKeys};
+ghost use Rattle.afdx_cascade.specs.Scan.{switches_most};
 ghost use Rattle.afdx_cascade.specs.Turning.{AreEnds};
 
 use crate::cable::ENTRIES;
+use crate::scan::key_of;
 use afdx_config::{FarEnd, SwitchId, Switches};
 use afdx_network::Network;
 use std::alloc::{AllocError, Global};
@@ -27,6 +30,18 @@ pub(crate) fn new_networks(alloc: Global, switches: &Switches) -> Result<Vec<Net
         networks.push(Network::new(alloc, tables)?)?;
     }
     Ok(networks)
+}
+
+/// The keys of these networks.
+pub(crate) fn new_keys(alloc: Global, networks: &[Network]) -> Result<Vec<u64>, AllocError>
+    requires { length networks.now ≤ switches_most }
+    ensures { IfOk result (λ v. AreKeys networks.now v.items) }
+{
+    let mut keys = Vec::new(alloc);
+    for place in 0..networks.len() {
+        keys.push(key_of(networks, place))?;
+    }
+    Ok(keys)
 }
 
 /// The table of the ends of all cables: of each switch in turn, by the numbers of its ports.

@@ -5,9 +5,9 @@ ghost use Rattle.afdx_frame.specs.Parts.{bytes_of};
 ghost use Rattle.afdx_port.specs.Times.{latest_put};
 
 use crate::arriving::{arrive_at, early_at};
-use crate::build::{new_ends, new_networks};
+use crate::build::{new_ends, new_keys, new_networks};
 use crate::cable::InTransit;
-use crate::scan::first_from;
+use crate::scan::{first_of, renew};
 use crate::taking::{bring_next, turn_next};
 use crate::told::Happened;
 use afdx_config::{FarEnd, Switches};
@@ -22,6 +22,8 @@ use std::collections::VecDeque;
 #[derive(Drop)]
 pub struct Cascade {
     networks: Vec<Network>,
+    /// Of each switch the key by which its first turn is found among those of all.
+    keys: Vec<u64>,
     ends: Vec<Option<FarEnd>>,
     transit: VecDeque<InTransit>,
 }
@@ -43,9 +45,11 @@ impl Cascade {
         ensures clock { IfOk result (λ w. IsUntil w 0) }
     {
         let networks = new_networks(alloc, switches)?;
+        let keys = new_keys(alloc, &networks)?;
         let ends = new_ends(alloc, switches)?;
         Ok(Cascade {
             networks,
+            keys,
             ends,
             transit: VecDeque::new(alloc),
         })
@@ -77,7 +81,9 @@ impl Cascade {
             IfOk result (ArrivesNext c self.new so_far line) }
         ensures refused { OnErr result (IsUnchanged self.old self.new) }
     {
-        arrive_at(&mut self.networks, switch, side, time, port, tag, frame)
+        let verdict = arrive_at(&mut self.networks, switch, side, time, port, tag, frame)?;
+        renew(&mut self.keys, &self.networks, switch);
+        Ok(verdict)
     }
 
     /// By how many nanoseconds a frame comes too early that arrives at a side's switch of this
@@ -110,23 +116,18 @@ impl Cascade {
             IfOk result (λ o. IfNone o (GivesNone c self.new until so_far)) }
         ensures refused { OnErr result (IsUnchanged self.old self.new) }
     {
-        let Some(first) = first_from(&self.networks, 0) else {
-            unreachable!()
-        };
-        match bring_next(&mut self.networks, &mut self.transit, first)? {
-            Some(brought) => Ok(Some(Happened::Came(brought))),
-            None => {
-                match turn_next(
-                    &mut self.networks,
-                    &self.ends,
-                    &mut self.transit,
-                    first,
-                    until,
-                )? {
-                    Some(turned) => Ok(Some(Happened::Over(first.switch, turned))),
-                    None => Ok(None),
-                }
+        let first = first_of(&self.keys);
+        if let Some(brought) = bring_next(&mut self.networks, &mut self.transit, first)? {
+            renew(&mut self.keys, &self.networks, brought.switch);
+            return Ok(Some(Happened::Came(brought)));
+        }
+        let (ends, transit) = (&self.ends, &mut self.transit);
+        match turn_next(&mut self.networks, ends, transit, first, until)? {
+            Some(turned) => {
+                renew(&mut self.keys, &self.networks, first.switch);
+                Ok(Some(Happened::Over(first.switch, turned)))
             }
+            None => Ok(None),
         }
     }
 }

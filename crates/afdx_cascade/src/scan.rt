@@ -1,10 +1,18 @@
-//! Which of several switches has the first turn.
+//! Which of several switches has the first turn: each has a key, of which the least is that of the
+//! turn that goes first.
 
-ghost use Rattle.std.specs.Prelude.{◌≡◌, ◌+◌, ◌≤◌, length};
-ghost use Rattle.afdx_cascade.specs.Scan.{IsFirstFrom, earlier_of, switches_most};
+ghost use Rattle.std.specs.Prelude.{◌≡◌, ℕ, ◌<◌, ◌≤◌, List, Some, length, slice_get};
+ghost use Rattle.afdx_network.specs.Order.{side_number};
+ghost use Rattle.afdx_network.specs.declared.network.Network.{Network as At};
+ghost use Rattle.afdx_port.specs.Keys.{IsLeastIn};
+ghost use Rattle.afdx_cascade.specs.Keys.{AreKeys, AreOthersSame, IsKey};
+ghost use Rattle.afdx_cascade.specs.Scan.{IsFirstFrom, switches_most};
 
 use afdx_frame::Side;
 use afdx_network::Network;
+
+/// How many numbers a key has room for, more than a side has switches.
+const KEY_SWITCHES: u64 = 32;
 
 /// The first turn of several switches of both sides: where it stands in the order of turns, and the
 /// number and side of its switch.
@@ -15,45 +23,73 @@ pub struct First {
     pub side: Side,
 }
 
-/// The earlier of a turn and one of the switches behind, if they have one: by the order of turns,
-/// at one place by side, then by switch.
-fn earlier(first: First, behind: Option<First>) -> First
-    ensures { result ≡ earlier_of first behind }
+/// The number of a side in the order of turns.
+fn number_of(side: Side) -> u64
+    ensures { result ≡ side_number side }
 {
-    match behind {
-        None => first,
-        Some(other) => {
-            if other.order < first.order {
-                return other;
-            }
-            if first.order < other.order {
-                return first;
-            }
-            match (first.side, other.side) {
-                (Side::B, Side::A) => other,
-                _ => first,
-            }
-        }
+    match side {
+        Side::A => 0,
+        Side::B => 1,
     }
 }
 
-/// The first turn of these switches, which are numbered from `at` on; None if there are none. If no
-/// switch has a turn to come, its order is 2^52.
-pub fn first_from(networks: &[Network], at: usize) -> Option<First>
-    requires { at + length networks.now ≤ switches_most }
-    ensures { IsFirstFrom at networks.now result }
+/// The side of this number.
+fn side_of(number: u64) -> Side
+    requires { number < 2 }
+    ensures { side_number result ≡ number }
 {
-    match networks {
-        [] => None,
-        [network, rest @ ..] => {
-            let (order, side) = network.order();
-            let behind = first_from(rest, at + 1);
-            let first = First {
-                order: order.number(),
-                switch: at,
-                side,
-            };
-            Some(earlier(first, behind))
-        }
+    if number == 0 { Side::A } else { Side::B }
+}
+
+/// The key of the switch of this number: where its first turn stands in the order of turns, below
+/// that the turn's side, and below that the number. So the least key of several switches is that of
+/// the turn that goes first: at one place by side, then by switch.
+pub fn key_of(networks: &[Network], switch: usize) -> u64
+    requires { switch < length networks.now }
+    ensures { (n : At) → slice_get networks.now switch ≡ Some n → IsKey switch n result }
+{
+    let (order, side) = networks[switch].order();
+    2 * KEY_SWITCHES * order.number() + KEY_SWITCHES * number_of(side) + switch as u64
+}
+
+/// Finds the key of the switch of this number anew, which had an event; the others had none.
+pub fn renew(keys: &mut Vec<u64>, networks: &[Network], switch: usize)
+    requires { switch < length networks.now }
+    ensures { (old : List At) → AreKeys old keys.old.items →
+        AreOthersSame switch old networks.now → length networks.now ≡ length old →
+        AreKeys networks.now keys.new.items }
+{
+    if switch < keys.len() {
+        keys[switch] = key_of(networks, switch);
+    }
+}
+
+/// The least of some numbers.
+fn least_of(numbers: &[u64]) -> u64
+    requires { 1 ≤ length numbers.now }
+    ensures { IsLeastIn numbers.now 0 (length numbers.now) result }
+{
+    let mut least = numbers[0];
+    for place in 1..numbers.len() {
+        least = least.min(numbers[place]);
+    }
+    least
+}
+
+/// The first turn of the switches that have these keys. If no switch has a turn to come, its order
+/// is 2^52.
+pub fn first_of(keys: &[u64]) -> First
+    requires { 1 ≤ length keys.now }
+    ensures first { (networks : List At) → length networks ≤ switches_most →
+        AreKeys networks keys.now → IsFirstFrom 0 networks (Some result) }
+    ensures within { (networks : List At) → length networks ≤ switches_most →
+        AreKeys networks keys.now → result.switch < length networks }
+{
+    let least = least_of(keys);
+    let side = side_of(least / KEY_SWITCHES % 2);
+    First {
+        order: least / (2 * KEY_SWITCHES),
+        switch: (least % KEY_SWITCHES) as usize,
+        side,
     }
 }

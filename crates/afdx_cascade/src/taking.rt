@@ -8,6 +8,7 @@ ghost use Rattle.afdx_network.specs.Network as network;
 ghost use Rattle.afdx_cascade.specs.Due.{OnCable};
 ghost use Rattle.afdx_cascade.specs.SwitchEvents.{Plan, SwitchEvent};
 ghost use Rattle.afdx_cascade.specs.Keeping.{Keeps, TurnsNext, BringsNext, IsFrontNext, IsEarly, IsNothingDue};
+ghost use Rattle.afdx_cascade.specs.Keys.{AreOthersSame};
 ghost use Rattle.afdx_cascade.specs.Scan.{IsFirstFrom, switches_most};
 ghost use Rattle.afdx_cascade.specs.Turning.{AreEnds, AreInTransit};
 
@@ -65,6 +66,9 @@ pub fn bring_next(
     ensures same { IfOk result (λ o. IfNone o ((networks.new ≡ networks.old)
         × (transit.new.items ≡ transit.old.items))) }
     ensures length { length networks.new ≡ length networks.old }
+    ensures within { IfOk result (λ o. IfSome o (λ b. b.switch < length networks.old)) }
+    ensures others { IfOk result (λ o. IfSome o (λ b.
+        AreOthersSame b.switch networks.old networks.new)) }
     ensures refused { OnErr result ((networks.new ≡ networks.old)
         × (transit.new.items ≡ transit.old.items)) }
 {
@@ -104,6 +108,7 @@ pub fn turn_next(
     ensures same { IfOk result (λ o. IfNone o ((networks.new ≡ networks.old)
         × (transit.new.items ≡ transit.old.items))) }
     ensures length { length networks.new ≡ length networks.old }
+    ensures others { AreOthersSame first.switch networks.old networks.new }
     ensures refused { OnErr result ((networks.new ≡ networks.old)
         × (transit.new.items ≡ transit.old.items)) }
 {

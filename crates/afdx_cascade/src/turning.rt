@@ -8,6 +8,7 @@ ghost use Rattle.afdx_network.specs.declared.network.Network.{Network as At};
 ghost use Rattle.afdx_network.specs.Network as network;
 ghost use Rattle.afdx_cascade.specs.Due.{OnCable};
 ghost use Rattle.afdx_cascade.specs.SwitchEvents.{Plan, IsPlan, SwitchEvent};
+ghost use Rattle.afdx_cascade.specs.Keys.{AreOthersSame};
 ghost use Rattle.afdx_cascade.specs.Scan.{switches_most};
 ghost use Rattle.afdx_cascade.specs.Standing.{Stands};
 ghost use Rattle.afdx_cascade.specs.Turning.{AreEnds, AreInTransit, TurnsAt, ArrivesAt, CanArrive};
@@ -40,6 +41,7 @@ pub(crate) fn turn_at(
     ensures clock { (k : ℕ) (n : At) → slice_get networks.new k ≡ Some n →
         network.IsUntil n until }
     ensures length { length networks.new ≡ length networks.old }
+    ensures others { AreOthersSame switch networks.old networks.new }
     ensures none { (n : At) → slice_get networks.old switch ≡ Some n →
         IfNone result (network.IsQuiet n until) }
     ensures gives { (c : Plan) (at : ℕ) (ring : List OnCable) (so_far : List SwitchEvent) →
@@ -93,6 +95,8 @@ pub(crate) fn front_at(
         (n : At) → slice_get networks.new v.switch ≡ Some n →
         network.IsQuiet n (as_given v.departed.departure).end }
     ensures length { length networks.new ≡ length networks.old }
+    ensures within { IfOk result (λ b. b.switch < length networks.old) }
+    ensures others { IfOk result (λ b. AreOthersSame b.switch networks.old networks.new) }
     ensures arrives { (c : Plan) (at : ℕ) (r : OnCable) (rest : List OnCable)
         (so_far : List SwitchEvent) → IsPlan c →
         Stands c networks.old at (r ∷ rest) so_far →

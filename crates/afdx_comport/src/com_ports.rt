@@ -105,6 +105,7 @@ impl ComPorts {
 
     /// The place of the port of a link and a UDP port, or `None` if the system has no such port. It
     /// is a look-up, and takes no memory.
+    #[inline(always)]
     pub fn find(&self, link: VlId, udp: u16) -> Option<usize>
         ensures place { result ≡ position (is_for link.0 udp) self.now }
         ensures known { IfSome result (λ place. place < length self.now) }

@@ -36,6 +36,7 @@ impl Drop for EndSystem {
 
 /// Puts a message to the port at this place, and reads it there at once: a sample stays, and what
 /// is taken out of a queue is given back.
+#[inline(always)]
 fn pass_on(ports: &mut ComPorts, place: usize, time: u64, message: &[u8]) -> Result<(), AllocError>
     requires { place < length ports.old }
     ensures read { AreRead ports.old → AreRead ports.new }
@@ -87,6 +88,7 @@ impl EndSystem {
 
     /// Takes in a frame, and says what became of it: a message was put to its communication port
     /// and read there at once.
+    #[inline(always)]
     pub(crate) fn receive<'a>(
         &mut self,
         handover: Handover<'a>,

@@ -40,6 +40,7 @@ fn system_at(alloc: Global, tables: &Tables, port: u8) -> Result<Option<EndSyste
 }
 
 /// Takes in a frame at the system of a port, if one is there.
+#[inline(always)]
 fn receive_at<'a>(
     at: &mut Option<EndSystem>,
     handover: Handover<'a>,
@@ -108,6 +109,7 @@ impl Systems {
     /// before, and from nothing else. The error is want of memory for the message, the only memory
     /// that it takes: whether the port has the message is then open. The frame counts as handed
     /// over all the same: don't hand it over again.
+    #[inline(always)]
     pub fn receive<'a>(
         &mut self,
         handover: Handover<'a>,

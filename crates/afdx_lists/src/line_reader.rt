@@ -86,6 +86,7 @@ impl LineReader {
     /// byte after 1,000,000 lines, `Read` exactly where the input failed. The input isn't read
     /// again after its end, nor after a fault. A line of at most 4,200 bytes takes at most 4,201
     /// reads.
+    #[inline(always)]
     pub fn next_line<R: Read>(&mut self, input: &mut Watched<R>) -> Result<Next, RunFault>
         requires sound { has_failed input.old ≡ false }
         requires honest { IsHonest R.remaining input.old }

@@ -90,6 +90,7 @@ impl Network {
     /// would give nothing. `tag` is handed back with the frame's departures. The error says that
     /// memory was refused: then nothing has changed. A frame that is dropped for its shape needs
     /// none.
+    #[inline(always)]
     pub fn arrive(
         &mut self,
         side: Side,
@@ -146,6 +147,7 @@ impl Network {
     /// or a drop whose moment is before `until`. They go by time, at one time those that leave
     /// before those too old, then side A before side B, then by port. If `until` is 1.2e15 or
     /// later, None says that these were all events.
+    #[inline(always)]
     pub fn take(&mut self, until: u64) -> Option<Departed>
         requires clock { IsUntil self.old until }
         ensures given { (t : Rows) (events : List Event) → StandsFor t self.old events →

@@ -120,6 +120,7 @@ impl<T: HasLength> Port<T> {
     /// drop whose moment is before `until`. `until` isn't before the last time used. None leaves
     /// what is due as it was. If `until` is 1.2e15 or later, None says that each frame that was put
     /// and not lost has had its turn.
+    #[inline(always)]
     pub fn take(&mut self, until: u64) -> Option<Left<T>>
         requires clock { last_time self.old ≤ until }
         ensures { Takes T.facts self.old self.new until result }

@@ -246,7 +246,7 @@ impl<T: HasLength> PortState<T> {
         self.clock = time;
     }
 
-    #[inline]
+    #[inline(always)]
     pub(crate) fn take(&mut self, until: u64) -> Option<Left<T>>
         requires clock { self.old.clock ≤ until }
         requires sound { IsPortSound T.facts self.old }

@@ -50,6 +50,7 @@ fn links_of(alloc: Global, tables: &Tables, system: SystemId) -> Result<Links, A
 }
 
 /// The message of a frame that won, whatever UDP port it goes to.
+#[inline(always)]
 fn read(frame: MacView<'_>) -> Reception<'_>
     ensures answer { (tables : Rows) (system : ℕ) (bytes : List ℕ) →
         IsFrameOf bytes (parts_of frame.entry) →
@@ -86,6 +87,7 @@ impl LinkReceiver {
     /// Takes in what arrives at `time`, in ns, by one of the two networks, as
     /// `Receiver::receive_checked` does, but for the look at the system's UDP ports: a message to
     /// any of them is given.
+    #[inline(always)]
     pub fn receive<'a>(&mut self, time: u64, side: Side, frame: Checked<'a>) -> Reception<'a>
         ensures selected { (tables : Rows) (system : ℕ) (past : List Arrived) →
             HasReceived tables system past self.old →

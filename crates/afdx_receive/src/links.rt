@@ -57,6 +57,7 @@ impl Links {
     }
 
     /// Takes in a frame that comes now, and says what becomes of it, if its link is kept.
+    #[inline(always)]
     pub(crate) fn consider(
         &mut self,
         vl: VlId,

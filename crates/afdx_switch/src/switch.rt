@@ -173,6 +173,7 @@ impl Switch {
     }
 
     /// A frame arrives whose check sequence has been looked at: as `arrive`, which reads it.
+    #[inline(always)]
     pub fn arrive_checked(
         &mut self,
         time: u64,

@@ -35,6 +35,7 @@ pub(crate) fn reason_of(verdict: &Verdict) -> Option<Reason>
 }
 
 /// Puts the lines of the copies that were lost, port by port, and counts them.
+#[inline(always)]
 fn put_losses<O: Sink>(
     output: &mut O,
     n: u64,
@@ -68,6 +69,7 @@ fn put_losses<O: Sink>(
 }
 
 /// Puts the V line and the L lines of an arrival, and counts the copies that were lost.
+#[inline(always)]
 pub(crate) fn put_admission<O: Sink>(
     output: &mut O,
     n: u64,
@@ -138,6 +140,7 @@ pub(crate) enum Heard {
 }
 
 /// Hands a frame over to the system of its port, and puts the line of what that made of it.
+#[inline(always)]
 pub(crate) fn hear<O: Sink>(
     systems: &mut Systems,
     handover: Handover<'_>,

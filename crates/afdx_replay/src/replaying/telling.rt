@@ -40,6 +40,7 @@ fn count_admission(counts: &mut Summary, reason: Option<Reason>, lost: u64)
 }
 
 /// Tells what became of an arrival at a switch, and why it was dropped, if it was.
+#[inline(always)]
 pub(crate) fn tell_verdict<O: Sink>(
     counts: &mut Summary,
     n: u64,
@@ -71,7 +72,9 @@ pub(crate) fn tell_verdict<O: Sink>(
 }
 
 /// Tells a departure at the switch of this name: hands its frame over to the port's system if it
-/// left, and counts it.
+/// left, and counts it. (With the name known to the compiler, the lines of one switch ask nothing
+/// of it.)
+#[inline(always)]
 pub(crate) fn tell_departure<O: Sink>(
     systems: &mut Systems,
     counts: &mut Summary,

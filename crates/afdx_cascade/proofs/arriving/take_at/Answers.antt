@@ -8,6 +8,7 @@ use Rattle.afdx_cascade.specs.SwitchEvents.{at_switch}
 use Rattle.afdx_cascade.specs.Turning.{GivesAt}
 use Rattle.afdx_cascade.proofs.arriving.take_at.Goals as goal
 use Rattle.afdx_cascade.proofs.CarriedLemmas.{turn-ends, frame-is-carried}
+use Rattle.afdx_cascade.proofs.KeyLemmas.{others-set}
 
 if-some : {X : Type 0} (o : Option X) (P Q : X → Type 0) → ((x : X) → P x → Q x) → IfSome o P
     → IfSome o Q
@@ -25,6 +26,7 @@ if-none (Some x) P Q E f p e = tt
 pub returns : goal.returns
 returns c = record {
   length = length-set c.args.networks.now c.args.switch c.take.new.self;
+  others = others-set c.args.networks.now c.args.switch c.take.new.self c.requires.within;
   clock = λ k n at. elim (set-cases c.args.networks.now c.args.switch c.take.new.self k n c.requires.within at) [
     | inl here ↦ subst (λ m. network.IsUntil m c.args.until) (sym here.1) c.take.ensures.clock
     | inr there ↦ c.requires.clock k n there.1

@@ -14,6 +14,7 @@ pub returns-then-too_old : goal.returns-then-too_old
 returns-then-too_old c = record {
   clock = c.take_at.ensures.clock;
   length = c.take_at.ensures.length;
+  others = c.take_at.ensures.others;
   none = λ n at. tt;
   gives = λ p at ring so_far plan ends st transit.
       let g = c.in_ok-departed.ensures.gives p at ring so_far plan st in
@@ -27,6 +28,7 @@ pub returns-then-time-gt-LATEST_ARRIVAL : goal.returns-then-time-gt-LATEST_ARRIV
 returns-then-time-gt-LATEST_ARRIVAL c = record {
   clock = c.take_at.ensures.clock;
   length = c.take_at.ensures.length;
+  others = c.take_at.ensures.others;
   none = λ n at. tt;
   gives = λ p at ring so_far plan ends st transit.
       let g = c.in_ok-departed.ensures.gives p at ring so_far plan st in
@@ -40,6 +42,7 @@ pub returns-in-None : goal.returns-in-None
 returns-in-None c = record {
   clock = c.take_at.ensures.clock;
   length = c.take_at.ensures.length;
+  others = c.take_at.ensures.others;
   none = λ n at. tt;
   gives = λ p at ring so_far plan ends st transit.
       let g = c.in_ok-departed.ensures.gives p at ring so_far plan st in
@@ -56,6 +59,7 @@ pub returns-in-Some : goal.returns-in-Some
 returns-in-Some c = record {
   clock = c.take_at.ensures.clock;
   length = c.take_at.ensures.length;
+  others = c.take_at.ensures.others;
   none = λ n at. tt;
   gives = λ p at ring so_far plan ends st transit.
       let g = c.in_ok-departed.ensures.gives p at ring so_far plan st in

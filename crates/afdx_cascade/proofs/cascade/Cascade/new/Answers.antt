@@ -1,21 +1,34 @@
+use Rattle.std.proofs.Common.{arith, ap, length, subst}
+use Rattle.afdx_cascade.specs.Keys.{AreKeys}
 use Rattle.afdx_cascade.specs.declared.cascade.Cascade.{Cascade}
 use Rattle.afdx_cascade.proofs.CascadeLemmas.{new-stands, new-until}
 use Rattle.afdx_cascade.proofs.cascade.Cascade.new.Goals as goal
+
+pub new_keys-requires : goal.new_keys-requires
+new_keys-requires c =
+    let count = c.in_ok-networks.ensures.count in
+    let few = c.new_networks.ensures.switches.count.1 in
+    let same = ap length c.deref.ensures.value in
+    omega (arith, count, few, same)
 
 pub returns-clause-stands : goal.returns-clause-stands
 returns-clause-stands c =
     let w : Cascade = record {
       networks = c.in_ok-networks.networks;
+      keys = c.in_ok-keys.keys;
       ends = c.in_ok-ends.ends;
       transit = c.new.result;
     } in
     new-stands c.args.switches.now c.new_networks.ensures.switches w c.in_ok-networks.ensures.count
-    c.in_ok-networks.ensures.stands c.in_ok-networks.ensures.clock c.in_ok-ends.ensures c.new.ensures.items
+    c.in_ok-networks.ensures.stands c.in_ok-networks.ensures.clock
+    (subst (λ ns. AreKeys ns c.in_ok-keys.keys.items) c.deref.ensures.value c.in_ok-keys.ensures)
+    c.in_ok-ends.ensures c.new.ensures.items
 
 pub returns-clause-clock : goal.returns-clause-clock
 returns-clause-clock c =
     let w : Cascade = record {
       networks = c.in_ok-networks.networks;
+      keys = c.in_ok-keys.keys;
       ends = c.in_ok-ends.ends;
       transit = c.new.result;
     } in
