@@ -101,8 +101,7 @@ or port that isn't all digits.
 A line of a frame list is 'K time side port HEX' with K one of F, B and R, and the side A or
 B; of several switches it is 'K time side SWITCH port HEX', with the name of one. A line of a
 submission list is 'time vl sub udp HEX', with vl and udp at most 65535 and sub at most 255.
-Exactly one space stands between two fields. Of several switches no recording is read yet: it
-counts as a list.",
+Exactly one space stands between two fields.",
     ),
     (
         "list BadHex n",

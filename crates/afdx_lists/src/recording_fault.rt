@@ -58,7 +58,7 @@ pub const RECORDING_FAULTS: [(&str, &str); 13] = [
         "\
 The input isn't a recording: its first four bytes are those of no pcap and no pcapng. The
 option that was given, or the command, needs one; two LISTs both have to be recordings. Make
-one of another format by: editcap -F pcapng IN OUT. Of several switches no recording is read yet.",
+one of another format by: editcap -F pcapng IN OUT.",
     ),
     (
         "recording BadVersion n",
@@ -83,8 +83,8 @@ is cut short. n is how many numbers come before it. Keep the whole frames by: ed
         "recording NoArrival n",
         "\
 The recording has n numbers, and none is an arrival.
-'afdx list' says why each was skipped; --interface K=SIDE:PORT says where the frames of
-interface K came in.",
+'afdx list' says why each was skipped; --interface K=PLACE says where the frames of interface K
+came in: A:1, of several switches 'A fwd:1'.",
     ),
     (
         "recording NotEthernet n",

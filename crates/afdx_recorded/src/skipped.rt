@@ -43,9 +43,10 @@ not-afdx: the frame has under 6 bytes, or a destination address that doesn't beg
         Skipped::UnknownSender,
         "unknown-sender",
         "\
-unknown-sender: no option says the frame's port, and no system of the configuration has the
-number in its source address, 02 00 00, the number and the network.
-Say it: --interface K=SIDE:PORT.",
+unknown-sender: no option says the frame's port, and no system of the configuration, or of the
+switch that an option names, has the number in its source address, 02 00 00, the number and the
+network. Say it: --interface K=SIDE:PORT, of several switches 'K=SIDE SWITCH:PORT'. At a switch's
+mirror it came over a cable, which is computed.",
     ),
     (
         Skipped::NoNetwork,
