@@ -45,7 +45,8 @@ unfolding arrivals_listed
 skipped-none x reason lines e = rw e refl
 
 module _ (x : Item NumberLine) (lines : Lines) (kind : FrameKind) (time : ℕ) (side : Side)
-    (switch port : ℕ) (own : Bool) (seal : Seal) (is : x.head ≡ line.Arrival kind time side switch port) (own-is : own ≡ has_own kind x.bytes)
+    (switch port : ℕ) (own : Bool) (seal : Seal) (is : x.head ≡ line.Arrival kind time side switch port)
+    (own-is : own ≡ has_own kind x.bytes)
     (seal-is : seal ≡ seal_by kind own) where
   abbrev Arrives : Item Heading
   Arrives =

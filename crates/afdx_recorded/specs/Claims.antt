@@ -37,8 +37,8 @@ side_named last = if last == 0x20 then Some A else if last == 0x40 then Some B e
 unfoldable pub side_claimed : List ℕ → Option Side
 side_claimed bytes = option_and_then side_named (slice_get bytes 11)
 
--- where a frame came in that no option says it of, if that is known, and whether its bytes claim it;
--- and how long a byte lasts on the line of each port of a switch, in ns, if a system has it
+-- where a frame came in that no option says it of, if that is known, and whether its bytes claim
+-- it; and how long a byte lasts on the line of each port of a switch, in ns, if a system has it
 pub record Ports : Type 0 where
   pub are_claimed : Bool
   pub entry : List ℕ → Option Entry

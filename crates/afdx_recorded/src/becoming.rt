@@ -70,8 +70,8 @@ pub struct Found {
     pub moment: u64,
     /// The network by which it came.
     pub side: Side,
-    /// The place of the switch at which it came in among those of its side, from 0; 0 where there is
-    /// one.
+    /// The place of the switch at which it came in among those of its side, from 0; 0 where there
+    /// is one.
     pub switch: u8,
     /// The port at which it came in.
     pub port: u8,

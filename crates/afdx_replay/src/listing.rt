@@ -97,11 +97,11 @@ fn end_listing<E: Write>(answer: Result<Tally, RunFault>, errors: &mut Watched<E
 /// of which over 2,000 bytes were recorded stands as its first 2,000. The lines go to `output`, a
 /// fault's one line to `errors`. It also gives what it counted.
 ///
-/// Where no option says at which port a frame came in, it is that of the system of the configuration
-/// that the frame's source address names. Of several switches on a side each arrival's line names
-/// one. What the configuration describes need not be admitted. The exit status is 0 done, 1 a fault
-/// of the configuration, 2 a place of the options that it hasn't, 3 a fault of the recording, 4 a
-/// device or memory.
+/// Where no option says at which port a frame came in, it is that of the system of the
+/// configuration that the frame's source address names. Of several switches on a side each
+/// arrival's line names one. What the configuration describes need not be admitted. The exit status
+/// is 0 done, 1 a fault of the configuration, 2 a place of the options that it hasn't, 3 a fault of
+/// the recording, 4 a device or memory.
 pub fn list_and_count<R: Read, O: Sink, E: Write>(
     alloc: Global,
     mut options: RecordingOptions,
@@ -152,8 +152,8 @@ pub fn list_and_count<R: Read, O: Sink, E: Write>(
 /// No first bytes are looked at: both have to be recordings. Each frame came in on the side of the
 /// network whose recording it is of. Where no option says at which port, it is that of the system
 /// of the configuration that its source address names. Of several switches on a side each arrival's
-/// line names one. What the configuration describes need not be admitted. The exit status is 0 done,
-/// 1 a fault of the configuration, 2 a place of the options that it hasn't, 3 a fault of a
+/// line names one. What the configuration describes need not be admitted. The exit status is 0
+/// done, 1 a fault of the configuration, 2 a place of the options that it hasn't, 3 a fault of a
 /// recording, 4 a device or memory.
 pub fn list_pair_and_count<R: Read, O: Sink, E: Write>(
     alloc: Global,

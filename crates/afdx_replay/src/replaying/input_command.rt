@@ -79,8 +79,8 @@ fn replay_taken<P: Placing + Drop, A: SitedInput<P>, O: Sink, D: Write + Drop>(
 ///
 /// The exit status is 0 done, 1 a fault of the configuration or tables that are not admitted, 2 a
 /// place of the options that the configuration hasn't, 3 a fault of the list or a recording, 4 a
-/// device or memory. Of several causes the first is answered: a fault of the configuration, a place,
-/// admission.
+/// device or memory. Of several causes the first is answered: a fault of the configuration, a
+/// place, admission.
 pub fn replay_input<P: Placing + Drop, A: SitedInput<P>, O: Sink, E: Write, D: Write + Drop>(
     alloc: Global,
     admission: bool,
