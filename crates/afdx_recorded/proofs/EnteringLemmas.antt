@@ -20,7 +20,7 @@ use Rattle.afdx_recordings.specs.Recordings.{Ending, Numbered, Recording, Totals
 use Rattle.afdx_engine.specs.Engine.{Item}
 use Rattle.afdx_recorded.specs.declared.ahead.AtHead.{AtHead}
 use Rattle.afdx_recorded.specs.declared.ahead.AtHead.TheVariants as at
-use Rattle.afdx_recorded.specs.declared.becoming.Entrance.{Entrance}
+use Rattle.afdx_recorded.specs.declared.entering.Entrance.{Entrance}
 use Rattle.afdx_recorded.specs.declared.becoming.Found.{Found}
 use Rattle.afdx_recorded.specs.declared.becoming.NoArrival.{NoArrival}
 use Rattle.afdx_recorded.specs.declared.becoming.NoArrival.TheVariants as no

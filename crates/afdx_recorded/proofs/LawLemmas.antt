@@ -22,7 +22,7 @@ use Rattle.afdx_recordings.specs.Reading as reading
 use Rattle.afdx_recordings.specs.Recordings.{Numbered, Ending, Recording, Totals}
 use Rattle.afdx_engine.specs.Items.{arrivals}
 use Rattle.afdx_recorded.specs.declared.becoming.Found.{Found}
-use Rattle.afdx_recorded.specs.declared.becoming.Entrance.{Entrance}
+use Rattle.afdx_recorded.specs.declared.entering.Entrance.{Entrance}
 use Rattle.afdx_recorded.specs.declared.becoming.NoArrival.{NoArrival}
 use Rattle.afdx_recorded.specs.declared.becoming.NoArrival.TheVariants as no
 use Rattle.afdx_recorded.specs.declared.skipped.Skipped.TheVariants as why

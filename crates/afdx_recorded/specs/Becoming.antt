@@ -20,7 +20,7 @@ use Rattle.afdx_recordings.specs.declared.recorded.CheckSequence.TheVariants.{Un
 use Rattle.afdx_recordings.specs.declared.recorded.RecordedFrame.{RecordedFrame}
 use Rattle.afdx_recordings.specs.declared.recorded.Recorded.{Recorded}
 use Rattle.afdx_recordings.specs.declared.recorded.Recorded.TheVariants as recorded
-use Rattle.afdx_recorded.specs.declared.becoming.Entrance.{Entrance}
+use Rattle.afdx_recorded.specs.declared.entering.Entrance.{Entrance}
 use Rattle.afdx_recorded.specs.declared.becoming.Found.{Found}
 use Rattle.afdx_recorded.specs.declared.becoming.NoArrival.{NoArrival}
 use Rattle.afdx_recorded.specs.declared.becoming.NoArrival.TheVariants.{Skipped, Faulted}

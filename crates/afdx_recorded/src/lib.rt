@@ -9,6 +9,7 @@ mod arriving;
 mod becoming;
 mod clock;
 mod counts;
+mod entering;
 mod held;
 pub mod laws;
 mod number;

@@ -24,12 +24,7 @@ fn is_free(switches: &Switches, switch: SwitchId, port: Option<u8>) -> bool
 }
 
 /// A switch and, if it is said, a port of it, unless a cable is there.
-fn at_switch(
-    switches: &Switches,
-    side: Side,
-    port: Option<u8>,
-    switch: SwitchId,
-) -> Option<Place>
+fn at_switch(switches: &Switches, side: Side, port: Option<u8>, switch: SwitchId) -> Option<Place>
     requires { switch.0 < length switches.now }
     ensures { result ≡ spec.at_switch switches.now side port switch.0 }
 {
