@@ -1,6 +1,6 @@
 //! Where the frames of each interface came in.
 
-ghost use Rattle.std.specs.Prelude.{◌≡◌, ◌<◌, ℕ, IfOk, IfSome, OnOk, OnErr, Ok, Some, None, true, false};
+ghost use Rattle.std.specs.Prelude.{◌≡◌, ◌<◌, ◌≤◌, ℕ, IfOk, IfNone, IfSome, OnOk, OnErr, Ok, Some, None, true, false};
 ghost use Rattle.std.specs.Prelude.{length, vec_len};
 ghost use Rattle.afdx_recordings.specs.Limits.{most_interfaces};
 
@@ -99,9 +99,10 @@ impl Interfaces {
     }
 
     /// Takes the name of a switch, of which a place may speak then. Gives its number, from 0; None
-    /// if so many were taken that there is none. The error says that memory was refused.
+    /// if 65,536 were taken. The error says that memory was refused.
     pub fn name(&mut self, name: String) -> Result<Option<u16>, AllocError>
         ensures number { IfOk result (λ given. IfSome given (λ n. n ≡ length (names_of self.old))) }
+        ensures none { IfOk result (λ given. IfNone given (65536 ≤ length (names_of self.old))) }
         ensures names { IfOk result (λ given. IfSome given (λ n.
             names_of self.new ≡ names_of self.old ++ string_bytes name ∷ [])) }
         ensures places { self.new.places ≡ self.old.places }
