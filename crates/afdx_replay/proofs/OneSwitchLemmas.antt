@@ -1,16 +1,29 @@
 -- What a replay of several switches is where each side has one.
 use Rattle.std.proofs.Common.{◌≡◌, ℕ, zero, suc, ◌+◌, ◌-◌, ◌<◌, ◌≤◌, ◌==◌, ◌&&◌, Bool, true, false, not, nat_le}
-use Rattle.std.proofs.Common.{List, [], ◌∷◌, ◌++◌, length, map, reverse, slice_get, Option, Some, None, is_some, is_none}
+use Rattle.std.proofs.Common.{List, [], ◌∷◌, ◌++◌, length, map, reverse, slice_get, Option, Some, None}
 use Rattle.std.proofs.Common.{if◌then◌else◌, refl, sym, ap, ◌∙◌, subst, arith, inl, inr, option_map, option_and_then}
-use Rattle.std.proofs.Common.{append-nil}
+use Rattle.std.proofs.Common.{append-nil, is_some, is_none, Result, Ok, Err}
+use Rattle.std.specs.Prelude.{slice_index_or}
 use Rattle.std.specs.List.{AllByRecursion}
 use Rattle.std.specs.Str.{bytes_eq}
 use Rattle.std.proofs.lemmas.List.{reverse-reverse}
 use Rattle.std.proofs.lemmas.List.Quantifiers.{position-Some}
-use Rattle.std.proofs.lemmas.Option.{slice_get_within}
+use Rattle.std.proofs.lemmas.Option.{same_Some, slice_get_within}
 use Rattle.afdx_frame.specs.Lines.{first_false, each_from}
 use Rattle.afdx_frame.specs.declared.link.Side.{Side}
 use Rattle.afdx_frame.proofs.FirstFalseLemmas.{append_holds, cons_holds, each_holds, none_of, true-le}
+use Rattle.std.proofs.lemmas.List.FromFn.{length-map-range_with_len}
+use Rattle.afdx_lists.specs.FrameLines.{kind_of, side_of}
+use Rattle.afdx_lists.specs.Forms.{from_six, six_of}
+use Rattle.afdx_lists.specs.SitedLines.{NamedCables, SitedFields, SitedFrame, place_named, sited_fields}
+use Rattle.afdx_lists.specs.SitedLines.{sited_fields_from, sited_fields_with, sited_form, sited_line_says}
+use Rattle.afdx_lists.specs.Splitting.{between_spaces, number_of}
+use Rattle.afdx_lists.specs.declared.fault.LineFault.{LineFault}
+use Rattle.afdx_lists.specs.declared.frame_line.FrameKind.{FrameKind}
+use Rattle.afdx_lists.proofs.FormLemmas.{says-from}
+use Rattle.afdx_engine.specs.Lists.{items_of, item_after, latest_in, with_item}
+use Rattle.afdx_promises.proofs.ListLemmas.{reverse-cons}
+use Rattle.std.specs.Str.Lines.{strip_carriage_return}
 use Rattle.afdx_cascade.specs.Parts.{frames_of}
 use Rattle.afdx_cascade.specs.Plans.{plan_of, tables_of}
 use Rattle.afdx_cascade.specs.Runs.{Line, IsDue, IsNextEvent, Runs}
@@ -32,7 +45,10 @@ use Rattle.afdx_network.specs.Order.{events_of}
 use Rattle.afdx_port.specs.Schedule.{Turn}
 use Rattle.afdx_port.proofs.TurnLemmas.{eqb-same, eqb-other}
 use Rattle.afdx_switch.specs.HeldFrames.{HeldFrame}
-use Rattle.afdx_replay.specs.cascading.OneSwitch.{CascadeOfOneIsItsSwitch, AreAtSwitches, named_text}
+use Rattle.afdx_replay.specs.cascading.OneSwitch.{CascadeOfOneIsItsSwitch, ListsAreAtSwitches}
+use Rattle.afdx_replay.specs.cascading.OneSwitch.{AreAtSwitches, named_text}
+use Rattle.afdx_replay.specs.cascading.Ran.{lists}
+use Rattle.afdx_replay.specs.cascading.Sited.{site_of, sites_of}
 use Rattle.afdx_replay.specs.cascading.Text.{cascade_text, cascade_counts, name_of}
 use Rattle.afdx_replay.specs.replaying.Text.{lines_at, replay_text, replay_counts, with_event}
 
@@ -233,6 +249,95 @@ module _ (ss : List NamedRows) where
           (if k == 0 then h.event ∷ at_switch 0 before else at_switch 0 before)
       by zero here is = ap (with_event (tables_of ss 0) (at_switch 0 before) h.event) is
       by (suc k) here is = absurd (cc here)
+
+-- ---- lines of a list are at its switches
+
+six-parts : {F : Type 0} (P : F → Type 0) (read : List ℕ → List ℕ → List ℕ → List ℕ → List ℕ → List ℕ → Option F)
+    → ((a b c d e digits : List ℕ) (fields : F) → read a b c d e digits ≡ Some fields → P fields)
+    → (parts : List (List ℕ)) (fields : F) → six_of read parts ≡ Some fields → P fields
+six-parts P read each [] fields h = absurd (cc h)
+six-parts P read each (a ∷ []) fields h = absurd (cc h)
+six-parts P read each (a ∷ b ∷ []) fields h = absurd (cc h)
+six-parts P read each (a ∷ b ∷ c ∷ []) fields h = absurd (cc h)
+six-parts P read each (a ∷ b ∷ c ∷ d ∷ []) fields h = absurd (cc h)
+six-parts P read each (a ∷ b ∷ c ∷ d ∷ e ∷ []) fields h = absurd (cc h)
+six-parts P read each (a ∷ b ∷ c ∷ d ∷ e ∷ digits ∷ []) fields h = each a b c d e digits fields h
+six-parts P read each (a ∷ b ∷ c ∷ d ∷ e ∷ digits ∷ more ∷ parts) fields h = absurd (cc h)
+
+place-of : (a : Option FrameKind) (b : Option ℕ) (c : Option Side) (d e : Option ℕ) (digits : List ℕ)
+    (fields : SitedFields) → from_six sited_fields_with a b c d e digits ≡ Some fields → d ≡ Some fields.switch
+place-of None b c d e digits fields h = absurd (cc h)
+place-of (Some a) None c d e digits fields h = absurd (cc h)
+place-of (Some a) (Some b) None d e digits fields h = absurd (cc h)
+place-of (Some a) (Some b) (Some c) None e digits fields h = absurd (cc h)
+place-of (Some a) (Some b) (Some c) (Some d) None digits fields h = absurd (cc h)
+place-of (Some a) (Some b) (Some c) (Some d) (Some e) [] fields h = absurd (cc h)
+place-of (Some a) (Some b) (Some c) (Some d) (Some e) (digit ∷ digits) fields h =
+    ap (λ (f : SitedFields). Some f.switch)
+    (same_Some (sited_fields_with a b c d e (digit ∷ digits)) fields h)
+
+module _ (sites : List NamedCables) where
+  place-within : (name : List ℕ) (k : ℕ) (s : NamedCables) → place_named sites name ≡ Some k → k < length sites
+  unfolding place_named
+  place-within name k s found = (position-Some (λ (r : NamedCables). bytes_eq name r.name) sites k s found).0
+
+  fields-within : (text : List ℕ) (fields : SitedFields) → sited_fields sites text ≡ Some fields
+      → fields.switch < length sites
+  unfolding sited_fields
+  fields-within text = six-parts (λ (f : SitedFields). f.switch < length sites) (sited_fields_from sites)
+      (λ a b c d e digits fields h. place-within d fields.switch (record { name = []; cables = [] })
+      (place-of (kind_of a) (number_of b) (side_of c) (place_named sites d) (number_of e) digits fields h))
+      (between_spaces text)
+
+  said-within : (latest : ℕ) (line : List ℕ) (f : SitedFrame) → sited_line_says sites latest line ≡ Ok (Some f)
+      → f.switch < length sites
+  unfolding sited_line_says
+  said-within latest line f h =
+      let s = says-from (sited_form sites) latest line f h in
+      subst (λ (g : SitedFrame). g.switch < length sites) s.is
+      (fields-within (strip_carriage_return line) s.fields s.are)
+
+-- what holds of all holds of them in reverse
+all-append : {X : Type 0} (P : X → Type 0) (xs ys : List X) → AllByRecursion P xs → AllByRecursion P ys
+    → AllByRecursion P (xs ++ ys)
+all-append P [] ys all rest = rest
+all-append P (x ∷ xs) ys all rest = (all.0, all-append P xs ys all.1 rest)
+
+all-reverse : {X : Type 0} (P : X → Type 0) (xs : List X) → AllByRecursion P xs → AllByRecursion P (reverse xs)
+all-reverse P [] all = tt
+all-reverse P (x ∷ xs) all =
+    subst (λ ys. AllByRecursion P ys) (sym (reverse-cons x xs))
+    (all-append P (reverse xs) (x ∷ []) (all-reverse P xs all.1) (all.0, tt))
+
+module _ (ss : List NamedRows) where
+  sites-count : length (sites_of ss) ≡ length ss
+  unfolding sites_of
+  sites-count = length-map-range_with_len (site_of ss) 0 (length ss)
+
+  items-within : (list : List (List ℕ)) (n : ℕ) → AreAtSwitches ss (items_of (lists ss) list n)
+  unfolding items_of
+  items-within list zero = tt
+  items-within list (suc n) =
+      by (items_of (lists ss) list n) (slice_index_or list n []) (items-within list n)
+    where
+      with_said : (past : List Line) (r : Result (Option SitedFrame) LineFault) → AreAtSwitches ss past
+          → ((f : SitedFrame) → r ≡ Ok (Some f) → f.switch < length (sites_of ss))
+          → AreAtSwitches ss (with_item (lists ss) (suc n) r past)
+      with_said past (Ok (Some f)) at within =
+          ((let low = within f refl in omega (arith, low, sites-count)), at)
+      with_said past (Ok None) at within = at
+      with_said past (Err fault) at within = at
+
+      by : (past : List Line) (line : List ℕ) → AreAtSwitches ss past
+          → AreAtSwitches ss (with_item (lists ss) (suc n) (item_after (lists ss) past line) past)
+      by past line at = with_said past (item_after (lists ss) past line) at
+          (said-within (sites_of ss) (latest_in (lists ss) past) line)
+
+pub lists-at-switches : ListsAreAtSwitches
+lists-at-switches ss list n =
+    all-reverse (λ (line : Line). line.switch < length ss) (items_of (lists ss) list n) (items-within ss list n)
+
+-- ---- the law
 
 pub one-switch : CascadeOfOneIsItsSwitch
 one-switch ss lines events are one at all parts =

@@ -8,9 +8,10 @@ use Rattle.afdx_cascade.specs.Runs.{Line, AreAll}
 use Rattle.afdx_cascade.specs.SwitchEvents.{SwitchEvent, at_switch, came_to}
 use Rattle.afdx_config.specs.Rows.{Rows}
 use Rattle.afdx_config.specs.Switches.{NamedRows, AreSwitches}
+use Rattle.afdx_engine.specs.Lists.{items_of}
 use Rattle.afdx_network.specs.Events.{Event}
 use Rattle.afdx_network.specs.Order.{events_of}
-use Rattle.afdx_replay.specs.cascading.Ran.{AreInParts}
+use Rattle.afdx_replay.specs.cascading.Ran.{AreInParts, lists}
 use Rattle.afdx_replay.specs.cascading.Text.{cascade_text, cascade_counts, name_of, own_text}
 use Rattle.afdx_replay.specs.replaying.Text.{lines_at, replay_text, replay_counts}
 
@@ -38,6 +39,12 @@ pub record IsOfOne (switches : List NamedRows) (t : Rows) (lines : List Line)
       ≡ replay_text t (events_of t (frames_of (reverse lines)))
   -- the counts are those of its events
   pub counted : cascade_counts switches events ≡ replay_counts t (at_switch 0 events)
+
+-- Each line of a list is at one of the switches that it names.
+abbrev pub ListsAreAtSwitches : Type 0
+ListsAreAtSwitches =
+    (switches : List NamedRows) (list : List (List ℕ)) (n : ℕ) →
+    AreAtSwitches switches (reverse (items_of (lists switches) list n))
 
 -- A cascade of one switch a side has that switch's text.
 abbrev pub CascadeOfOneIsItsSwitch : Type 0
