@@ -1,6 +1,6 @@
 -- How a list of several switches is read: the switches that its lines name, and what is told of it.
 use Rattle.std.proofs.Common.{◌≡◌, ℕ, ◌+◌, ◌≤◌, ◌<◌, List, [], ◌∷◌, length, map, refl, ◌∙◌, ap, ap₂, sym, subst, arith}
-use Rattle.std.proofs.Common.{◌⊎◌, ◌||◌, Bool, true, false, true≢false, inl, inr, take, Vec, Global, Option, Some, None}
+use Rattle.std.proofs.Common.{◌⊎◌, Bool, true, false, true≢false, inl, inr, Vec, Global, Option, Some, None}
 use Rattle.std.proofs.Common.{Result, Ok, Err, IfOk, IfSome, is_some, get_or}
 use Rattle.std.specs.Prelude.{slice_get}
 use Rattle.std.specs.Option.{option_map_or}
