@@ -35,3 +35,4 @@ pub mod OneFrameLemmas
 pub mod TwoHopsLemmas
 pub mod TwoHopsRunLemmas
 pub mod TwoHopsAllLemmas
+pub mod FedLemmas

@@ -21,6 +21,7 @@ ghost use Rattle.afdx_cascade.specs.Plans.{SwitchesAreAPlan};
 ghost use Rattle.afdx_cascade.specs.Keeping.{StartKeeps, TurnKeeps};
 ghost use Rattle.afdx_cascade.specs.Keeping.{FrontCanArrive, FrontKeeps, LineKeeps};
 ghost use Rattle.afdx_cascade.specs.Standing.{SlotJoinsBehind, TurnStaysBehind, ArrivalStaysBehind};
+ghost use Rattle.afdx_cascade.specs.Admitted.{EachRowIsFed};
 
 use afdx_frame::laws::built_is_computed;
 
@@ -173,3 +174,8 @@ pub fn events_can_be_met()
 {
     built_is_computed()
 }
+
+/// Each row of a link of an admitted cascade is one of a way, back to the row that a system sends.
+pub fn rows_are_fed()
+    ensures { EachRowIsFed }
+{}

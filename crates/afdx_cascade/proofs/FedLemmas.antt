@@ -1,0 +1,200 @@
+-- The rows of a link's way, each at a switch that a cable joins to the next.
+use Rattle.std.proofs.Common.{◌≡◌, ℕ, zero, suc, ◌+◌, ◌<◌, ◌≤◌, Bool, true, false, ◌&&◌, List, [], ◌∷◌, length}
+use Rattle.std.proofs.Common.{refl, sym, ap, ◌∙◌, subst, arith, Option, Some, None, slice_get, nat_le, nat_lt, nat_eq}
+use Rattle.std.proofs.Common.{option_map, option_and_then}
+use Rattle.std.specs.Prelude.{if◌then◌else◌}
+use Rattle.std.specs.Option.{option_map_or}
+use Rattle.std.specs.Str.{bytes_eq}
+use Rattle.std.proofs.lemmas.Bool.{and_parts, eqb-true, leb-true, ltb-true, ltb-false, le-leb}
+use Rattle.std.proofs.lemmas.List.Quantifiers.{position-Some}
+use Rattle.std.proofs.lemmas.Option.{same_Some, slice_get_within}
+use Rattle.afdx_frame.specs.declared.link.Policing.{Policing}
+use Rattle.afdx_frame.specs.declared.link.Policing.TheVariants.{Byte, Frame}
+use Rattle.afdx_frame.proofs.ListLemmas.{slice_get-within}
+use Rattle.afdx_config.specs.Lawful.{IsLawfulSwitch}
+use Rattle.afdx_config.specs.Reading.{link_of, system_named, system_at_port}
+use Rattle.afdx_config.specs.Rows.{SystemRow, LinkRow, Rows, is_to}
+use Rattle.afdx_config.specs.Switches.{NamedRows, AreSwitches, switch_named, neighbour_named, if_neighbour}
+use Rattle.afdx_config.proofs.LookUpLemmas.{each_row-found}
+use Rattle.afdx_admit.specs.AtSwitch.{link_at}
+use Rattle.afdx_admit.specs.Cascade.{RowAt, row_at, row_of, row_towards, row_from, row_before, is_sent_here, same_policing}
+use Rattle.afdx_admit.specs.Cascade.{neighbour_of, goes_towards, latency_within, way_latency, IsCascadeAdmitted, same_contract}
+use Rattle.afdx_switch.specs.Tables.{rule_of, port_of, goes_to}
+use Rattle.afdx_cascade.specs.Admitted.{IsRow, AreRowsBefore, IsFed, EachRowIsFed}
+use Rattle.afdx_cascade.specs.Again.{IsNextThere}
+use Rattle.afdx_cascade.specs.Cables.{IsNextRow}
+use Rattle.afdx_cascade.specs.Plans.{plan_of, tables_of}
+use Rattle.afdx_cascade.specs.SwitchEvents.{end_at}
+use Rattle.afdx_cascade.specs.Turning.{end_of}
+use Rattle.afdx_cascade.proofs.PlanLemmas.{and-then, mapped, passes-there, same-place, IsFoundAt, at-found, name-by}
+use Rattle.afdx_cascade.proofs.PlanLemmas.{cable-is, lawful-at, tables-are, leads}
+
+-- ---- look-ups that found something
+
+pub if-there : {A : Type 0} (b : Bool) (o : Option A) (y : A) → (if b then o else None) ≡ Some y
+    → (b ≡ true) × (o ≡ Some y)
+if-there true o y h = (refl, h)
+if-there false o y h = absurd (cc h)
+
+pub mapped-or : {A : Type 0} (f : A → Bool) (o : Option A) → option_map_or f o false ≡ true
+    → (x : A) × (o ≡ Some x) × (f x ≡ true)
+mapped-or f None h = absurd (cc h)
+mapped-or f (Some x) h = (x, refl, h)
+
+-- the row of a link at a switch
+pub record IsRowOf (t : Rows) (vl : ℕ) (l : LinkRow) : Type 0 where
+  pub place : ℕ
+  pub stands : slice_get t.links place ≡ Some l
+  pub vl_is : l.vl ≡ vl
+
+pub row-of : (t : Rows) (vl : ℕ) (l : LinkRow) → row_of t vl ≡ Some l → IsRowOf t vl l
+unfolding link_of
+row-of t vl l h =
+    let at = and-then (slice_get t.links) (link_of t.links vl) l h in
+    record {
+      place = at.0;
+      stands = at.2;
+      vl_is = sym (eqb-true vl l.vl (passes-there (λ (r : LinkRow). nat_eq vl r.vl) t.links at.0 l at.1 at.2));
+    }
+
+-- the neighbour of a name, at its place
+pub neighbour-there : (t : Rows) (name : List ℕ) (place : ℕ) (dummy : SystemRow) → neighbour_named t name ≡ Some place
+    → (e : SystemRow) × (slice_get t.systems place ≡ Some e) × (system_named t.systems name ≡ Some place)
+    × (if_neighbour t place ≡ Some place)
+unfolding neighbour_named system_named
+neighbour-there t name place dummy h =
+    let at = and-then (if_neighbour t) (system_named t.systems name) place h in
+    let same : at.0 ≡ place = same-place (nat_le t.own at.0) at.0 place at.2 in
+    let found : system_named t.systems name ≡ Some place = at.1 ∙ ap Some same in
+    let is = position-Some (λ (s : SystemRow). bytes_eq name s.name) t.systems place dummy found in
+    let e = slice_get-within t.systems place is.0 in
+    (e.0, e.1, found, ap (if_neighbour t) (sym same) ∙ at.2)
+
+-- ---- the row before one
+
+module _ (ss : List NamedRows) where
+  -- the switch of a row, and the neighbour there from which it comes; the switch of the row before
+  -- it, and the place there of the neighbour to which that goes
+  pub record IsBefore (r b : RowAt) : Type 0 where
+    pub here : NamedRows
+    pub here_is : slice_get ss r.switch ≡ Some here
+    pub one : SystemRow
+    pub one_is : slice_get here.rows.systems r.row.from ≡ Some one
+    pub past : nat_le here.rows.own r.row.from ≡ true
+    pub named : switch_named ss one.name ≡ Some b.switch
+    pub there : NamedRows
+    pub there_is : slice_get ss b.switch ≡ Some there
+    pub row : IsRowOf there.rows r.row.vl b.row
+    pub back : ℕ
+    pub back_is : neighbour_named there.rows here.name ≡ Some back
+    pub goes : is_to back b.row ≡ true
+
+  pub before-is : (r b : RowAt) → row_before ss r ≡ Some b → IsBefore r b
+  unfolding row_before
+  before-is r b h =
+      let vl = r.row.vl in
+      let here = and-then (λ (s : NamedRows). option_and_then (row_from ss s.name vl) (neighbour_of s.rows r.row.from))
+      (slice_get ss r.switch) b h in
+      let from = and-then (row_from ss here.0.name vl) (neighbour_of here.0.rows r.row.from) b here.2 in
+      let one = if-there (nat_le here.0.rows.own r.row.from) (slice_get here.0.rows.systems r.row.from) from.0 from.1 in
+      let far = and-then (λ j. option_and_then (λ (s : NamedRows). option_map (row_at j) (row_towards s.rows here.0.name vl))
+      (slice_get ss j)) (switch_named ss from.0.name) b from.2 in
+      let there = and-then (λ (s : NamedRows). option_map (row_at far.0) (row_towards s.rows here.0.name vl))
+      (slice_get ss far.0) b far.2 in
+      let towards = mapped (row_at far.0) (row_towards there.0.rows here.0.name vl) b there.2 in
+      let row = and-then (λ (l : LinkRow). if goes_towards there.0.rows here.0.name l then Some l else None)
+      (row_of there.0.rows vl) towards.0 towards.1 in
+      let both = if-there (goes_towards there.0.rows here.0.name row.0) (Some row.0) towards.0 row.2 in
+      let same : row.0 ≡ towards.0 = same_Some row.0 towards.0 both.1 in
+      let back = mapped-or (λ place. is_to place row.0) (neighbour_named there.0.rows here.0.name) both.0 in
+      subst (IsBefore r) (ap (row_at far.0) same ∙ towards.2)
+      (let it : IsBefore r (row_at far.0 row.0) = record {
+        here = here.0;
+        here_is = here.1;
+        one = from.0;
+        one_is = one.1;
+        past = one.0;
+        named = far.1;
+        there = there.0;
+        there_is = there.1;
+        row = row-of there.0.rows vl row.0 row.1;
+        back = back.0;
+        back_is = back.1;
+        goes = back.2;
+      } in it)
+
+  -- a row at its switch
+  pub row-here : (r : RowAt) (s : NamedRows) → (is : IsRow ss r) → slice_get ss r.switch ≡ Some s
+      → slice_get s.rows.links is.place ≡ Some r.row
+  row-here r s is at =
+      sym (ap (option_and_then (λ (z : NamedRows). slice_get z.rows.links is.place)) at) ∙ is.stands
+
+  pub switch-of : (r : RowAt) → IsRow ss r → (s : NamedRows) × (slice_get ss r.switch ≡ Some s)
+  switch-of r is =
+      let s = and-then (λ (z : NamedRows). slice_get z.rows.links is.place) (slice_get ss r.switch) r.row is.stands in
+      (s.0, s.1)
+
+  pub tables-at : (k : ℕ) (s : NamedRows) → slice_get ss k ≡ Some s → tables_of ss k ≡ s.rows
+  tables-at k s at = tables-are ss k s.rows (ap (option_map (λ (z : NamedRows). z.rows)) at)
+
+  -- the row before is a row of its switch
+  pub before-row : (r b : RowAt) → row_before ss r ≡ Some b → IsRow ss b
+  before-row r b h =
+      let it = before-is r b h in
+      record {
+        place = it.row.place;
+        stands = ap (option_and_then (λ (z : NamedRows). slice_get z.rows.links it.row.place)) it.there_is
+            ∙ it.row.stands;
+      }
+
+  -- ---- each row is fed
+
+  sent-here : (r : RowAt) (s : NamedRows) → slice_get ss r.switch ≡ Some s
+      → is_sent_here ss r ≡ nat_lt r.row.from s.rows.own
+  unfolding is_sent_here
+  sent-here r s at = ap (λ o. option_map_or (λ (z : NamedRows). nat_lt r.row.from z.rows.own) o false) at
+
+  record IsFedWithin (n : ℕ) (r : RowAt) : Type 0 where
+    before : List RowAt
+    are : AreRowsBefore ss r before
+    few : length before < n
+
+  fed-within : (n : ℕ) (r : RowAt) (sum : ℕ) → latency_within n ss r ≡ Some sum → IsFedWithin n r
+  fed-within zero r sum h = absurd (cc h)
+  fed-within (suc n) r sum h = by (is_sent_here ss r) refl h (λ b. fed-within n b)
+    where
+      by : (sent : Bool) → is_sent_here ss r ≡ sent
+          → (if sent then Some r.row.latency_us
+          else option_and_then (λ (b : RowAt). option_map (λ m. m + r.row.latency_us) (latency_within n ss b))
+          (row_before ss r)) ≡ Some sum
+          → ((b : RowAt) (m : ℕ) → latency_within n ss b ≡ Some m → IsFedWithin n b) → IsFedWithin (suc n) r
+      by true e is later = record { before = []; are = e; few = omega arith }
+      by false e is later =
+          let b = and-then (λ (b : RowAt). option_map (λ m. m + r.row.latency_us) (latency_within n ss b))
+          (row_before ss r) sum is in
+          let m = mapped (λ m. m + r.row.latency_us) (latency_within n ss b.0) sum b.2 in
+          let rest = later b.0 m.0 m.1 in
+          record {
+            before = b.0 ∷ rest.before;
+            are = (b.1, rest.are);
+            few = (let few = rest.few in omega (arith, few));
+          }
+
+pub each-fed : EachRowIsFed
+unfolding way_latency
+each-fed ss r admitted is = by (switch-of ss r is).0 (switch-of ss r is).1
+  where
+    by : (s : NamedRows) → slice_get ss r.switch ≡ Some s → IsFed ss r
+    by s at = by-sent (nat_lt r.row.from s.rows.own) refl
+      where
+        by-sent : (b : Bool) → nat_lt r.row.from s.rows.own ≡ b → IsFed ss r
+        by-sent true own = record {
+          before = [];
+          are = sent-here ss r s at ∙ own;
+          few = (let within = slice_get_within ss r.switch s at in omega (arith, within));
+        }
+        by-sent false past =
+            let hop = admitted.hops r.switch s at is.place r.row (row-here ss r s is at)
+            (ltb-false r.row.from s.rows.own past) in
+            let fed = fed-within ss (length ss) r hop.sum hop.way in
+            record { before = fed.before; are = fed.are; few = fed.few }
