@@ -36,3 +36,4 @@ pub mod TwoHopsLemmas
 pub mod TwoHopsRunLemmas
 pub mod TwoHopsAllLemmas
 pub mod FedLemmas
+pub mod WayHopLemmas

@@ -21,7 +21,7 @@ ghost use Rattle.afdx_cascade.specs.Plans.{SwitchesAreAPlan};
 ghost use Rattle.afdx_cascade.specs.Keeping.{StartKeeps, TurnKeeps};
 ghost use Rattle.afdx_cascade.specs.Keeping.{FrontCanArrive, FrontKeeps, LineKeeps};
 ghost use Rattle.afdx_cascade.specs.Standing.{SlotJoinsBehind, TurnStaysBehind, ArrivalStaysBehind};
-ghost use Rattle.afdx_cascade.specs.Admitted.{EachRowIsFed};
+ghost use Rattle.afdx_cascade.specs.Admitted.{EachRowIsFed, CascadeIsAdmitted, RowsAreWays};
 
 use afdx_frame::laws::built_is_computed;
 
@@ -178,4 +178,11 @@ pub fn events_can_be_met()
 /// Each row of a link of an admitted cascade is one of a way, back to the row that a system sends.
 pub fn rows_are_fed()
     ensures { EachRowIsFed }
+{}
+
+/// The rows of a link of an admitted cascade are a way of its frames, over what came to each switch
+/// so far.
+pub fn rows_are_ways()
+    ensures cascade { CascadeIsAdmitted }
+    ensures rows { RowsAreWays }
 {}
