@@ -60,7 +60,7 @@ first-turns byte_ns entries [] kept are = are
 first-turns byte_ns entries (s ∷ dropped) kept are = first-turns byte_ns entries dropped kept are.1
 
 -- the turns that are over by then are the first of all
-no-late : (byte_ns : ℕ) (entries : List (Entry HeldFrame)) (turns : List (Turn HeldFrame))
+pub no-late : (byte_ns : ℕ) (entries : List (Entry HeldFrame)) (turns : List (Turn HeldFrame))
     → AreTurns byte_ns entries turns
     → end_of turns ≤ 1000032768000000 → in_clock turns ≡ turns
 no-late byte_ns entries [] are soon = refl

@@ -37,3 +37,4 @@ pub mod TwoHopsRunLemmas
 pub mod TwoHopsAllLemmas
 pub mod FedLemmas
 pub mod WayHopLemmas
+pub mod WholeLemmas

@@ -61,7 +61,7 @@ next-row b l vl same jitter =
       jitter = jitter;
     }
 
-rule-port : (t : Rows) (l : LinkRow) (s : SystemRow) → slice_get t.systems l.from ≡ Some s → (rule_of t l).port ≡ s.port
+pub rule-port : (t : Rows) (l : LinkRow) (s : SystemRow) → slice_get t.systems l.from ≡ Some s → (rule_of t l).port ≡ s.port
 unfolding rule_of port_of
 rule-port t l s at = ap (λ o. option_map_or (λ (z : SystemRow). z.port) o 0) at
 

@@ -22,6 +22,7 @@ ghost use Rattle.afdx_cascade.specs.Keeping.{StartKeeps, TurnKeeps};
 ghost use Rattle.afdx_cascade.specs.Keeping.{FrontCanArrive, FrontKeeps, LineKeeps};
 ghost use Rattle.afdx_cascade.specs.Standing.{SlotJoinsBehind, TurnStaysBehind, ArrivalStaysBehind};
 ghost use Rattle.afdx_cascade.specs.Admitted.{EachRowIsFed, CascadeIsAdmitted, RowsAreWays};
+ghost use Rattle.afdx_cascade.specs.Admitted.{RowsAreWholeWays};
 
 use afdx_frame::laws::built_is_computed;
 
@@ -185,4 +186,10 @@ pub fn rows_are_fed()
 pub fn rows_are_ways()
     ensures cascade { CascadeIsAdmitted }
     ensures rows { RowsAreWays }
+{}
+
+/// Where nothing is due any more, and the list's frames came by 10^15 ns, these ways are whole: each
+/// cable has brought all that its port gives.
+pub fn ways_are_whole()
+    ensures { RowsAreWholeWays }
 {}
