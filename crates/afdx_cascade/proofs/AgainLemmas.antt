@@ -53,7 +53,7 @@ cut-turns side port (s ∷ earlier) (w ∷ waiting) arrivals same =
     by true e same-waits fewer = with-one side port s earlier arrivals (same-waits e)
     by false e same-waits fewer = with-one side port s earlier arrivals (fewer (cc e))
 
-first-turns : (byte_ns : ℕ) (entries : List (Entry HeldFrame))
+pub first-turns : (byte_ns : ℕ) (entries : List (Entry HeldFrame))
     (dropped kept : List (Turn HeldFrame))
     → AreTurns byte_ns entries (dropped ++ kept) → AreTurns byte_ns entries kept
 first-turns byte_ns entries [] kept are = are
@@ -71,7 +71,7 @@ no-late byte_ns entries (s ∷ earlier) are soon =
     (nat_lt-false 1000032768000000 s.end soon)
     ∙ ap (λ ts. s ∷ ts) (no-late byte_ns entries earlier are.1 (omega (arith, lasts, after, soon)))
 
-clock-cut : (byte_ns : ℕ) (entries : List (Entry HeldFrame)) (turns : List (Turn HeldFrame))
+pub clock-cut : (byte_ns : ℕ) (entries : List (Entry HeldFrame)) (turns : List (Turn HeldFrame))
     → AreTurns byte_ns entries turns
     → (dropped : List (Turn HeldFrame)) × (turns ≡ dropped ++ in_clock turns)
 clock-cut byte_ns entries [] are = ([], refl)

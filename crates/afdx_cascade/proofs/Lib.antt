@@ -38,3 +38,4 @@ pub mod TwoHopsAllLemmas
 pub mod FedLemmas
 pub mod WayHopLemmas
 pub mod WholeLemmas
+pub mod ReadLemmas

@@ -240,7 +240,7 @@ module _ (ss : List NamedRows) (are : AreSwitches ss) where
 
 -- ---- the plan
 
-ends-there : (o : Option FarEnd) (e : End) → end_of o ≡ Some e
+pub ends-there : (o : Option FarEnd) (e : End) → end_of o ≡ Some e
     → (f : FarEnd) × (o ≡ Some f) × (end_at f.switch.0 f.port ≡ e)
 ends-there None e h = absurd (cc h)
 ends-there (Some f) e h = (f, refl, same_Some (end_at f.switch.0 f.port) e h)

@@ -22,7 +22,7 @@ ghost use Rattle.afdx_cascade.specs.Keeping.{StartKeeps, TurnKeeps};
 ghost use Rattle.afdx_cascade.specs.Keeping.{FrontCanArrive, FrontKeeps, LineKeeps};
 ghost use Rattle.afdx_cascade.specs.Standing.{SlotJoinsBehind, TurnStaysBehind, ArrivalStaysBehind};
 ghost use Rattle.afdx_cascade.specs.Admitted.{EachRowIsFed, CascadeIsAdmitted, RowsAreWays};
-ghost use Rattle.afdx_cascade.specs.Admitted.{RowsAreWholeWays};
+ghost use Rattle.afdx_cascade.specs.Admitted.{RowsAreWholeWays, CablesAreRead};
 
 use afdx_frame::laws::built_is_computed;
 
@@ -192,4 +192,10 @@ pub fn rows_are_ways()
 /// cable has brought all that its port gives.
 pub fn ways_are_whole()
     ensures { RowsAreWholeWays }
+{}
+
+/// What a cable brings to a switch of an admitted cascade is of a link that comes from there, and is
+/// accepted.
+pub fn cables_are_read()
+    ensures { CablesAreRead }
 {}
