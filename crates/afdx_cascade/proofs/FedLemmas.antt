@@ -1,33 +1,23 @@
 -- The rows of a link's way, each at a switch that a cable joins to the next.
-use Rattle.std.proofs.Common.{◌≡◌, ℕ, zero, suc, ◌+◌, ◌<◌, ◌≤◌, Bool, true, false, ◌&&◌, List, [], ◌∷◌, length}
+use Rattle.std.proofs.Common.{◌≡◌, ℕ, zero, suc, ◌+◌, ◌<◌, Bool, true, false, List, [], ◌∷◌, length}
 use Rattle.std.proofs.Common.{refl, sym, ap, ◌∙◌, subst, arith, Option, Some, None, slice_get, nat_le, nat_lt, nat_eq}
 use Rattle.std.proofs.Common.{option_map, option_and_then}
 use Rattle.std.specs.Prelude.{if◌then◌else◌}
 use Rattle.std.specs.Option.{option_map_or}
 use Rattle.std.specs.Str.{bytes_eq}
-use Rattle.std.proofs.lemmas.Bool.{and_parts, eqb-true, leb-true, ltb-true, ltb-false, le-leb}
+use Rattle.std.proofs.lemmas.Bool.{eqb-true, ltb-false}
 use Rattle.std.proofs.lemmas.List.Quantifiers.{position-Some}
 use Rattle.std.proofs.lemmas.Option.{same_Some, slice_get_within}
-use Rattle.afdx_frame.specs.declared.link.Policing.{Policing}
-use Rattle.afdx_frame.specs.declared.link.Policing.TheVariants.{Byte, Frame}
 use Rattle.afdx_frame.proofs.ListLemmas.{slice_get-within}
-use Rattle.afdx_config.specs.Lawful.{IsLawfulSwitch}
-use Rattle.afdx_config.specs.Reading.{link_of, system_named, system_at_port}
+use Rattle.afdx_config.specs.Reading.{link_of, system_named}
 use Rattle.afdx_config.specs.Rows.{SystemRow, LinkRow, Rows, is_to}
-use Rattle.afdx_config.specs.Switches.{NamedRows, AreSwitches, switch_named, neighbour_named, if_neighbour}
-use Rattle.afdx_config.proofs.LookUpLemmas.{each_row-found}
-use Rattle.afdx_admit.specs.AtSwitch.{link_at}
-use Rattle.afdx_admit.specs.Cascade.{RowAt, row_at, row_of, row_towards, row_from, row_before, is_sent_here, same_policing}
-use Rattle.afdx_admit.specs.Cascade.{neighbour_of, goes_towards, latency_within, way_latency, IsCascadeAdmitted, same_contract}
-use Rattle.afdx_switch.specs.Tables.{rule_of, port_of, goes_to}
+use Rattle.afdx_config.specs.Switches.{NamedRows, switch_named, neighbour_named, if_neighbour}
+use Rattle.afdx_admit.specs.Cascade.{RowAt, row_at, row_of, row_towards, row_from, row_before, is_sent_here}
+use Rattle.afdx_admit.specs.Cascade.{neighbour_of, goes_towards, latency_within, way_latency}
 use Rattle.afdx_cascade.specs.Admitted.{IsRow, AreRowsBefore, IsFed, EachRowIsFed}
-use Rattle.afdx_cascade.specs.Again.{IsNextThere}
-use Rattle.afdx_cascade.specs.Cables.{IsNextRow}
-use Rattle.afdx_cascade.specs.Plans.{plan_of, tables_of}
-use Rattle.afdx_cascade.specs.SwitchEvents.{end_at}
-use Rattle.afdx_cascade.specs.Turning.{end_of}
-use Rattle.afdx_cascade.proofs.PlanLemmas.{and-then, mapped, passes-there, same-place, IsFoundAt, at-found, name-by}
-use Rattle.afdx_cascade.proofs.PlanLemmas.{cable-is, lawful-at, tables-are, leads}
+use Rattle.afdx_cascade.specs.Plans.{tables_of}
+use Rattle.afdx_cascade.proofs.PlanLemmas.{and-then, mapped, passes-there, same-place}
+use Rattle.afdx_cascade.proofs.PlanLemmas.{tables-are}
 
 -- ---- look-ups that found something
 

@@ -1,6 +1,6 @@
 -- What cables bring in an admitted cascade is of links that go there, and is accepted.
-use Rattle.std.proofs.Common.{◌≡◌, ℕ, zero, suc, ◌<◌, ◌≤◌, ◌==◌, Bool, true, false, ◌&&◌, ◌||◌, not, List, [], ◌∷◌, ◌++◌, length}
-use Rattle.std.proofs.Common.{map, filter, refl, sym, ap, ◌∙◌, subst, arith, Option, Some, None, slice_get, nat_eq, nat_le}
+use Rattle.std.proofs.Common.{◌≡◌, ℕ, suc, ◌≤◌, ◌==◌, Bool, true, false, ◌&&◌, ◌||◌, not, List, [], ◌∷◌, ◌++◌}
+use Rattle.std.proofs.Common.{map, refl, sym, ap, ◌∙◌, subst, arith, Some, None, slice_get, nat_eq, nat_le}
 use Rattle.std.proofs.Common.{option_and_then}
 use Rattle.std.specs.Prelude.{if◌then◌else◌, Contains}
 use Rattle.std.specs.List.{list_any}
@@ -14,7 +14,7 @@ use Rattle.afdx_config.specs.declared.switches.FarEnd.{FarEnd}
 use Rattle.afdx_config.specs.Reading.{system_at_port, system_named}
 use Rattle.afdx_config.specs.Rows.{LinkRow, Rows, is_to}
 use Rattle.afdx_config.specs.Switches.{NamedRows, far_end, if_neighbour, neighbour_named}
-use Rattle.afdx_admit.specs.Cascade.{RowAt, row_at, row_of, row_before, comes_from, is_neighbour, reads_at}
+use Rattle.afdx_admit.specs.Cascade.{row_at, row_of, comes_from, is_neighbour, reads_at}
 use Rattle.afdx_police.specs.Arrival.{Arrival, is_side, names}
 use Rattle.afdx_port.specs.Schedule.{Entry, Turn, AreTurns}
 use Rattle.afdx_switch.specs.Admitted.{slots}
@@ -22,11 +22,10 @@ use Rattle.afdx_switch.specs.HeldFrames.{HeldFrame}
 use Rattle.afdx_switch.specs.Tables.{rule_of, goes_to, byte_ns_at, entries_at}
 use Rattle.afdx_switch.proofs.AdmittedLemmas.{turn-in-time}
 use Rattle.afdx_promises.specs.Sent.{arrivals_at}
-use Rattle.afdx_cascade.specs.Admitted.{IsRow, IsAdmittedCascade, IsRead, CablesAreRead, hop_at}
+use Rattle.afdx_cascade.specs.Admitted.{IsRow, IsAdmittedCascade, CablesAreRead, hop_at}
 use Rattle.afdx_cascade.specs.Cables.{brought, brought_by}
 use Rattle.afdx_cascade.specs.Plans.{plan_of, tables_of}
 use Rattle.afdx_cascade.specs.SwitchEvents.{End, SwitchEvent, came_to, end_at, in_clock, turns_of}
-use Rattle.afdx_cascade.specs.Turning.{end_of}
 use Rattle.afdx_cascade.proofs.AgainLemmas.{clock-cut, first-turns}
 use Rattle.afdx_cascade.proofs.CableLemmas.{again}
 use Rattle.afdx_cascade.proofs.FedLemmas.{before-row, mapped-or, row-here, row-of, tables-at}

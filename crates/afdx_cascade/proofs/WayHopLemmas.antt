@@ -1,6 +1,6 @@
 -- The rows of a link in an admitted cascade are a way of its frames.
-use Rattle.std.proofs.Common.{◌≡◌, ℕ, zero, suc, ◌+◌, ◌<◌, ◌≤◌, Bool, true, false, ◌&&◌, List, [], ◌∷◌, length, All}
-use Rattle.std.proofs.Common.{refl, sym, ap, ◌∙◌, subst, arith, Option, Some, None, slice_get, nat_le, nat_lt, nat_eq}
+use Rattle.std.proofs.Common.{◌≡◌, ℕ, zero, suc, ◌+◌, ◌≤◌, Bool, true, false, ◌&&◌, List, [], ◌∷◌, All}
+use Rattle.std.proofs.Common.{refl, sym, ap, ◌∙◌, subst, arith, Some, None, slice_get, nat_lt, nat_eq}
 use Rattle.std.specs.Prelude.{if◌then◌else◌, IsTrue}
 use Rattle.std.specs.List.{AllByRecursion}
 use Rattle.std.specs.Option.{option_map_or}
@@ -11,30 +11,29 @@ use Rattle.afdx_frame.specs.declared.link.Policing.TheVariants.{Byte, Frame}
 use Rattle.afdx_frame.specs.declared.link.Side.{Side}
 use Rattle.afdx_frame.proofs.ListLemmas.{slice_get-within}
 use Rattle.afdx_config.specs.Admission.{IsServing}
-use Rattle.afdx_config.specs.Lawful.{IsLawfulSwitch}
 use Rattle.afdx_config.specs.Reading.{system_at_port}
 use Rattle.afdx_config.specs.Rows.{SystemRow, LinkRow, Rows, is_to}
 use Rattle.afdx_config.specs.Switches.{NamedRows, AreSwitches, far_end}
 use Rattle.afdx_config.proofs.AmongOthersLemmas.{admitted-serving}
 use Rattle.afdx_config.proofs.LookUpLemmas.{each_row-found}
-use Rattle.afdx_admit.specs.Cascade.{RowAt, row_at, row_before, same_policing, same_contract, IsCascadeAdmitted}
+use Rattle.afdx_admit.specs.Cascade.{RowAt, row_before, same_policing, same_contract, IsCascadeAdmitted}
 use Rattle.afdx_bounds.specs.Outputs.{AreTimed}
 use Rattle.afdx_switch.specs.Admitted.{IsAdmittedRun}
 use Rattle.afdx_switch.specs.Tables.{rule_of, port_of, goes_to}
 use Rattle.afdx_network.specs.Events.{Event, Came, Left, Admission, arrivals_in}
 use Rattle.afdx_network.specs.Order.{AreInOrder, is_below, key}
-use Rattle.afdx_cascade.specs.Admitted.{IsRow, AreRowsBefore, IsAdmittedCascade, CascadeIsAdmitted, RowsAreWays, hop_at, hops_at}
+use Rattle.afdx_cascade.specs.Admitted.{IsRow, IsAdmittedCascade, CascadeIsAdmitted, RowsAreWays, hop_at}
 use Rattle.afdx_cascade.specs.Again.{IsNextThere}
 use Rattle.afdx_cascade.specs.Cables.{IsHop, GoesOn, IsNextRow, brought_by}
 use Rattle.afdx_cascade.specs.Plans.{plan_of, tables_of}
-use Rattle.afdx_cascade.specs.SwitchEvents.{Plan, IsPlan, SwitchEvent, KeepsRules, AlwaysKeepsRules}
-use Rattle.afdx_cascade.specs.SwitchEvents.{at_switch, came_to, end_at, in_clock}
+use Rattle.afdx_cascade.specs.SwitchEvents.{Plan, SwitchEvent, KeepsRules, AlwaysKeepsRules}
+use Rattle.afdx_cascade.specs.SwitchEvents.{at_switch, came_to, in_clock}
 use Rattle.afdx_cascade.specs.Turning.{end_of}
 use Rattle.afdx_cascade.proofs.AcceptedLemmas.{no-taken}
 use Rattle.afdx_cascade.proofs.AgainLemmas.{goes-on}
-use Rattle.afdx_cascade.proofs.FedLemmas.{IsBefore, before-is, before-row, row-here, switch-of, tables-at, neighbour-there}
+use Rattle.afdx_cascade.proofs.FedLemmas.{before-is, before-row, row-here, switch-of, tables-at, neighbour-there}
 use Rattle.afdx_cascade.proofs.OnceLemmas.{turns-there}
-use Rattle.afdx_cascade.proofs.PlanLemmas.{IsFoundAt, at-found, name-by, cable-is, lawful-at, switches-plan, leads}
+use Rattle.afdx_cascade.proofs.PlanLemmas.{at-found, name-by, cable-is, lawful-at, switches-plan}
 
 -- ---- one row after the other
 

@@ -1,17 +1,17 @@
 -- Where nothing is due any more, the rows of a link in an admitted cascade are a whole way.
 use Rattle.std.proofs.Common.{◌≡◌, ℕ, zero, suc, ◌+◌, ◌*◌, ◌<◌, ◌≤◌, ◌==◌, Bool, true, false, ◌&&◌, not, List, [], ◌∷◌, ◌++◌, length}
-use Rattle.std.proofs.Common.{map, filter, refl, sym, ap, ◌∙◌, subst, arith, inl, Option, Some, None, slice_get, nat_le, nat_lt}
+use Rattle.std.proofs.Common.{map, filter, refl, sym, ap, ◌∙◌, subst, arith, inl, Some, None, slice_get, nat_le, nat_lt}
 use Rattle.std.proofs.Common.{option_and_then}
 use Rattle.std.specs.Prelude.{if◌then◌else◌, is_none}
 use Rattle.std.specs.List.{AllByRecursion}
 use Rattle.std.specs.Option.{option_map_or}
 use Rattle.std.proofs.lemmas.Bool.{eqb-true, leb-true, ltb-true}
-use Rattle.std.proofs.lemmas.Option.{same_Some, slice_get_within}
+use Rattle.std.proofs.lemmas.Option.{same_Some}
 use Rattle.afdx_frame.specs.declared.link.Side.{Side}
 use Rattle.afdx_frame.proofs.ListLemmas.{slice_get-within, AllByRecursion-slice_get}
 use Rattle.afdx_config.specs.Lawful.{IsLinkUpTo, jitter_from_any}
 use Rattle.afdx_config.specs.Reading.{system_at_port}
-use Rattle.afdx_config.specs.Rows.{SystemRow, LinkRow, Rows}
+use Rattle.afdx_config.specs.Rows.{LinkRow, Rows}
 use Rattle.afdx_config.specs.Switches.{NamedRows, AreSwitches, far_end, if_neighbour, neighbour_at_port}
 use Rattle.afdx_config.specs.Switches as switches
 use Rattle.afdx_config.proofs.LookUpLemmas.{each_row-found}
@@ -19,11 +19,10 @@ use Rattle.afdx_admit.specs.Cascade.{RowAt, row_at, row_before, is_sent_here}
 use Rattle.afdx_police.specs.Arrival.{Arrival, is_side, names, own}
 use Rattle.afdx_police.specs.Rule.{Rule}
 use Rattle.afdx_police.specs.Verdicts.{reason_after}
-use Rattle.afdx_police.specs.declared.shape.Reason.{Reason}
 use Rattle.afdx_bounds.specs.Outputs.{AreTimed}
 use Rattle.afdx_port.specs.Schedule.{Entry, Turn, AreTurns, end_of}
 use Rattle.afdx_port.proofs.TurnLemmas.{next_of, schedule_begins}
-use Rattle.afdx_switch.specs.Admitted.{IsAdmittedRun, IsInTime, accepted_arrivals, accepted_frames, frames_among, passing_in, slots}
+use Rattle.afdx_switch.specs.Admitted.{IsAdmittedRun, accepted_arrivals, accepted_frames, frames_among, passing_in, slots}
 use Rattle.afdx_switch.specs.HeldFrames.{HeldFrame}
 use Rattle.afdx_switch.specs.Hops.{AreCopies, AreFirstCopies}
 use Rattle.afdx_switch.specs.Laws.{is_of}
@@ -33,7 +32,6 @@ use Rattle.afdx_switch.proofs.HopLemmas.{AllPass, accepted-pass}
 use Rattle.afdx_network.specs.Events.{Event, Came, Left, arrivals_in, turns_at}
 use Rattle.afdx_network.specs.Network.{departure_after}
 use Rattle.afdx_network.specs.Order.{side_number}
-use Rattle.afdx_promises.specs.Sent.{arrivals_at}
 use Rattle.afdx_promises.proofs.PortLemmas.{its-turns}
 use Rattle.afdx_cascade.specs.Admitted.{IsRow, AreRowsBefore, IsAdmittedCascade, IsListInTime, RowsAreWholeWays, hop_at, hops_at}
 use Rattle.afdx_cascade.specs.Cables.{Hop, GoesOn, accepted_at, all_turns, brought, brought_by, named}
@@ -41,11 +39,11 @@ use Rattle.afdx_cascade.specs.Keeping.{IsNothingDue}
 use Rattle.afdx_cascade.specs.Plans.{plan_of, tables_of}
 use Rattle.afdx_cascade.specs.Runs.{event_at, turn_phase}
 use Rattle.afdx_cascade.specs.SwitchEvents.{Plan, SwitchEvent, AlwaysKeepsRules}
-use Rattle.afdx_cascade.specs.SwitchEvents.{at_switch, came_to, end_at, in_clock, listed, turns_of, with_listed}
+use Rattle.afdx_cascade.specs.SwitchEvents.{at_switch, came_to, end_at, listed, turns_of, with_listed}
 use Rattle.afdx_cascade.specs.Turning.{end_of as far_of}
-use Rattle.afdx_cascade.specs.Ways.{IsWay, IsWhole, first_of, latency_of}
+use Rattle.afdx_cascade.specs.Ways.{first_of, latency_of}
 use Rattle.afdx_cascade.proofs.AgainLemmas.{no-late}
-use Rattle.afdx_cascade.proofs.FedLemmas.{before-is, before-row, each-fed, mapped-or, row-here, switch-of, tables-at}
+use Rattle.afdx_cascade.proofs.FedLemmas.{before-row, each-fed, row-here, switch-of, tables-at}
 use Rattle.afdx_cascade.proofs.OnceLemmas.{turns-there}
 use Rattle.afdx_cascade.proofs.PartLemmas.{cables-bring}
 use Rattle.afdx_cascade.proofs.PlanLemmas.{lawful-at, switches-plan}
