@@ -1,11 +1,11 @@
 -- The rows of a link's way, each at a switch that a cable joins to the next.
-use Rattle.std.proofs.Common.{◌≡◌, ℕ, zero, suc, ◌+◌, ◌<◌, Bool, true, false, List, [], ◌∷◌, length}
+use Rattle.std.proofs.Common.{◌≡◌, ℕ, zero, suc, ◌+◌, ◌*◌, ◌<◌, Bool, true, false, List, [], ◌∷◌, length}
 use Rattle.std.proofs.Common.{refl, sym, ap, ◌∙◌, subst, arith, Option, Some, None, slice_get, nat_le, nat_lt, nat_eq}
 use Rattle.std.proofs.Common.{option_map, option_and_then}
 use Rattle.std.specs.Prelude.{if◌then◌else◌}
 use Rattle.std.specs.Option.{option_map_or}
 use Rattle.std.specs.Str.{bytes_eq}
-use Rattle.std.proofs.lemmas.Bool.{eqb-true, ltb-false}
+use Rattle.std.proofs.lemmas.Bool.{eqb-true, leb-true, le-ltb, ltb-false}
 use Rattle.std.proofs.lemmas.List.Quantifiers.{position-Some}
 use Rattle.std.proofs.lemmas.Option.{same_Some, slice_get_within}
 use Rattle.afdx_frame.proofs.ListLemmas.{slice_get-within}
@@ -14,8 +14,11 @@ use Rattle.afdx_config.specs.Rows.{SystemRow, LinkRow, Rows, is_to}
 use Rattle.afdx_config.specs.Switches.{NamedRows, switch_named, neighbour_named, if_neighbour}
 use Rattle.afdx_admit.specs.Cascade.{RowAt, row_at, row_of, row_towards, row_from, row_before, is_sent_here}
 use Rattle.afdx_admit.specs.Cascade.{neighbour_of, goes_towards, latency_within, way_latency}
-use Rattle.afdx_cascade.specs.Admitted.{IsRow, AreRowsBefore, IsFed, EachRowIsFed}
+use Rattle.afdx_cascade.specs.Admitted.{IsRow, AreRowsBefore, IsFed, hops_at}
+use Rattle.afdx_cascade.specs.Admitted.{EachRowIsFed, RowsBeforeAreOne, WayTakesItsLatency}
 use Rattle.afdx_cascade.specs.Plans.{tables_of}
+use Rattle.afdx_cascade.specs.SwitchEvents.{SwitchEvent}
+use Rattle.afdx_cascade.specs.Ways.{latency_of}
 use Rattle.afdx_cascade.proofs.PlanLemmas.{and-then, mapped, passes-there, same-place}
 use Rattle.afdx_cascade.proofs.PlanLemmas.{tables-are}
 
@@ -60,6 +63,9 @@ neighbour-there t name place dummy h =
     let e = slice_get-within t.systems place is.0 in
     (e.0, e.1, found, ap (if_neighbour t) (sym same) ∙ at.2)
 
+same-row : (k : ℕ) (l m : LinkRow) (b : RowAt) → l ≡ m → row_at k m ≡ b → row_at k l ≡ b
+same-row k l m b same is = ap (row_at k) same ∙ is
+
 -- ---- the row before one
 
 module _ (ss : List NamedRows) where
@@ -97,7 +103,7 @@ module _ (ss : List NamedRows) where
       let both = if-there (goes_towards there.0.rows here.0.name row.0) (Some row.0) towards.0 row.2 in
       let same : row.0 ≡ towards.0 = same_Some row.0 towards.0 both.1 in
       let back = mapped-or (λ place. is_to place row.0) (neighbour_named there.0.rows here.0.name) both.0 in
-      subst (IsBefore r) (ap (row_at far.0) same ∙ towards.2)
+      subst (IsBefore r) (same-row far.0 row.0 towards.0 b same towards.2)
       (let it : IsBefore r (row_at far.0 row.0) = record {
         here = here.0;
         here_is = here.1;
@@ -169,6 +175,51 @@ module _ (ss : List NamedRows) where
             are = (b.1, rest.are);
             few = (let few = rest.few in omega (arith, few));
           }
+
+  -- ---- they are one way
+
+  -- what comes from a neighbour is sent by no system of its switch
+  not-sent : (r b : RowAt) → row_before ss r ≡ Some b → is_sent_here ss r ≡ false
+  not-sent r b h =
+      let it = before-is r b h in
+      sent-here r it.here it.here_is
+      ∙ le-ltb r.row.from it.here.rows.own (leb-true it.here.rows.own r.row.from it.past)
+
+  one-way : (r : RowAt) (before others : List RowAt) → AreRowsBefore ss r before → AreRowsBefore ss r others
+      → before ≡ others
+  one-way r [] [] are also = refl
+  one-way r [] (b ∷ others) are also = absurd (let off = not-sent r b also.0 in cc (are, off))
+  one-way r (b ∷ before) [] are also = absurd (let off = not-sent r b are.0 in cc (also, off))
+  one-way r (b ∷ before) (a ∷ others) are also =
+      let same : a ≡ b = same_Some a b (sym also.0 ∙ are.0) in
+      ap (λ xs. b ∷ xs) (one-way b before others are.1 (subst (λ z. AreRowsBefore ss z others) same also.1))
+      ∙ ap (λ z. z ∷ others) (sym same)
+
+  way-sum : (so_far : List SwitchEvent) (n : ℕ) (r : RowAt) (before : List RowAt) (sum : ℕ)
+      → AreRowsBefore ss r before → latency_within n ss r ≡ Some sum
+      → latency_of (hops_at ss so_far (r ∷ before)) ≡ 1000 * sum
+  way-sum so_far zero r before sum are h = absurd (cc h)
+  way-sum so_far (suc n) r [] sum are h =
+      let one : r.row.latency_us ≡ sum = same_Some r.row.latency_us sum
+      (sym (ap (λ c. if c then Some r.row.latency_us
+      else option_and_then (λ (b : RowAt). option_map (λ m. m + r.row.latency_us) (latency_within n ss b))
+      (row_before ss r)) are) ∙ h) in
+      omega (arith, one)
+  way-sum so_far (suc n) r (b ∷ before) sum are h =
+      let rest = sym (ap (λ c. if c then Some r.row.latency_us
+      else option_and_then (λ (b : RowAt). option_map (λ m. m + r.row.latency_us) (latency_within n ss b))
+      (row_before ss r)) (not-sent r b are.0)
+      ∙ ap (option_and_then (λ (b : RowAt). option_map (λ m. m + r.row.latency_us) (latency_within n ss b))) are.0) ∙ h in
+      let m = mapped (λ m. m + r.row.latency_us) (latency_within n ss b) sum rest in
+      let before_sum = way-sum so_far n b before m.0 are.1 m.1 in
+      let more = m.2 in omega (arith, before_sum, more)
+
+pub rows-one : RowsBeforeAreOne
+rows-one = one-way
+
+pub way-takes : WayTakesItsLatency
+unfolding way_latency
+way-takes ss so_far r before sum are h = way-sum ss so_far (length ss) r before sum are h
 
 pub each-fed : EachRowIsFed
 unfolding way_latency

@@ -62,7 +62,7 @@ same-place true i m h = same_Some i m h
 same-place false i m h = absurd (cc h)
 
 module _ (t : Rows) where
-  pub found-at : (found : Option ℕ) (e : SystemRow)
+  found-at : (found : Option ℕ) (e : SystemRow)
       → option_and_then (slice_get t.systems) (option_and_then (if_neighbour t) found) ≡ Some e
       → IsFoundAt t found e
   found-at found e h =
@@ -82,7 +82,7 @@ module _ (t : Rows) where
       ap (λ o. option_and_then (slice_get t.systems) (option_and_then (if_neighbour t) o)) h.is
       ∙ ap (option_and_then (slice_get t.systems)) h.beside ∙ h.stands
 
-  pub by-name : (name : List ℕ) (e : SystemRow) → neighbour_row t name ≡ Some e
+  by-name : (name : List ℕ) (e : SystemRow) → neighbour_row t name ≡ Some e
       → IsFoundAt t (system_named t.systems name) e
   unfolding neighbour_named
   by-name name e h = found-at (system_named t.systems name) e h
@@ -92,13 +92,13 @@ module _ (t : Rows) where
   unfolding neighbour_named
   name-by name e h = at-found (system_named t.systems name) e h
 
-  pub name-is : (name : List ℕ) (e : SystemRow) → IsFoundAt t (system_named t.systems name) e → name ≡ e.name
+  name-is : (name : List ℕ) (e : SystemRow) → IsFoundAt t (system_named t.systems name) e → name ≡ e.name
   unfolding system_named
   name-is name e h =
       (bytes_eq-Decides name e.name).0
       (passes-there (λ (r : SystemRow). bytes_eq name r.name) t.systems h.i e h.is h.stands)
 
-  pub port-is : (port : ℕ) (e : SystemRow) → IsFoundAt t (system_at_port t.systems port) e → e.port ≡ port
+  port-is : (port : ℕ) (e : SystemRow) → IsFoundAt t (system_at_port t.systems port) e → e.port ≡ port
   unfolding system_at_port
   port-is port e h =
       eqb-true e.port port
@@ -152,7 +152,7 @@ module _ (ss : List NamedRows) where
         is = back.2;
       }
 
-  pub switch-name : (name : List ℕ) (j : ℕ) (s : NamedRows) → switch_named ss name ≡ Some j → slice_get ss j ≡ Some s
+  switch-name : (name : List ℕ) (j : ℕ) (s : NamedRows) → switch_named ss name ≡ Some j → slice_get ss j ≡ Some s
       → name ≡ s.name
   unfolding switch_named
   switch-name name j s found at =
@@ -185,7 +185,7 @@ module _ (ss : List NamedRows) (are : AreSwitches ss) where
       ++ (each_from (neighbours_lines ss) 0 (length ss)
       ++ each_from (starts_lines ss) 0 (length ss))) are.over).0 k (omega arith) (omega (arith, within))
 
-  pub own-place : (k : ℕ) (s : NamedRows) → slice_get ss k ≡ Some s → switch_named ss s.name ≡ Some k
+  own-place : (k : ℕ) (s : NamedRows) → slice_get ss k ≡ Some s → switch_named ss s.name ≡ Some k
   unfolding name_lines
   own-place k s at =
       let holds = sym (ap (λ o. first_false (option_map_or (λ (r : NamedRows).

@@ -162,7 +162,7 @@ rows-ways ss so_far side r (b ∷ before) all is rows = (
 
 -- ---- of all that a cascade stands for
 
-below-time : (m n : ℕ) (ms ns : List ℕ) → is_below (m ∷ ms) (n ∷ ns) ≡ true → m ≤ n
+pub below-time : (m n : ℕ) (ms ns : List ℕ) → is_below (m ∷ ms) (n ∷ ns) ≡ true → m ≤ n
 below-time m n ms ns h = by (nat_lt m n) refl (nat_lt n m) refl h
   where
     by : (a : Bool) → nat_lt m n ≡ a → (b : Bool) → nat_lt n m ≡ b
@@ -184,7 +184,7 @@ came-before a (Came e ∷ before) h zero d lt =
     true-is h = h
 came-before a (Came e ∷ before) h (suc k) d lt = came-before a before h.1 k d (omega (arith, lt))
 
-came-timed : (events : List Event) → AreInOrder events → AreTimed (arrivals_in events)
+pub came-timed : (events : List Event) → AreInOrder events → AreTimed (arrivals_in events)
 came-timed [] h = tt
 came-timed (Came a ∷ before) h = (came-before a before h.0, came-timed before h.1)
 came-timed (Left d ∷ before) h = came-timed before h.1

@@ -100,10 +100,10 @@ come-by : (c : Plan) (most k : ℕ) (so_far : List SwitchEvent)
 come-by c most k [] all = tt
 come-by c most k (h ∷ before) all = by h.event (h.switch == k) refl all (come-by c most k before)
   where
-    listed-one : (b : Bool) (x : Arrival) (P : Type 0) → b ≡ true
+    listed-one : (b : Bool) (x : Arrival) → b ≡ true
         → AllByRecursion (λ y. y.time ≤ most) (if b then x ∷ listed c before else listed c before) → x.time ≤ most
-    listed-one true x P is all = all.0
-    listed-one false x P is all = absurd (cc is)
+    listed-one true x is all = all.0
+    listed-one false x is all = absurd (cc is)
 
     listed-rest : (b : Bool) (x : Arrival)
         → AllByRecursion (λ y. y.time ≤ most) (if b then x ∷ listed c before else listed c before)
@@ -119,7 +119,7 @@ come-by c most k (h ∷ before) all = by h.event (h.switch == k) refl all (come-
     by (Left d) false is all later = later all
     by (Came a) false is all later = later (listed-rest (is_none (c.far_end h.switch a.arrival.port)) a.arrival all)
     by (Came a) true is all later = (
-      λ free. listed-one (is_none (c.far_end h.switch a.arrival.port)) a.arrival (Unit {0})
+      λ free. listed-one (is_none (c.far_end h.switch a.arrival.port)) a.arrival
           (ap (λ j. is_none (c.far_end j a.arrival.port)) (eqb-true h.switch k is) ∙ ap is_none free) all,
       later (listed-rest (is_none (c.far_end h.switch a.arrival.port)) a.arrival all),
     )

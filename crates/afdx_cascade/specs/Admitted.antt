@@ -1,12 +1,12 @@
 -- The way of a link through an admitted cascade, as a way over what came to each switch. Lists of
 -- events have the latest first, a way the last switch.
-use Rattle.std.specs.Prelude.{◌≡◌, ℕ, ◌<◌, ◌≤◌, true, None, Some, List, [], ◌∷◌, ◌++◌, length, map}
+use Rattle.std.specs.Prelude.{◌≡◌, ℕ, ◌*◌, ◌<◌, ◌≤◌, true, None, Some, List, [], ◌∷◌, ◌++◌, length, map}
 use Rattle.std.specs.List.{AllByRecursion}
 use Rattle.afdx_frame.specs.declared.link.Side.{Side}
 use Rattle.afdx_config.specs.Rows.{LinkRow}
 use Rattle.afdx_config.specs.Switches.{NamedRows, AreSwitches}
 use Rattle.afdx_admit.specs.AtSwitch.{link_at}
-use Rattle.afdx_admit.specs.Cascade.{RowAt, row_before, is_sent_here, IsCascadeAdmitted}
+use Rattle.afdx_admit.specs.Cascade.{RowAt, row_before, is_sent_here, way_latency, IsCascadeAdmitted}
 use Rattle.afdx_police.specs.Arrival.{Arrival, names}
 use Rattle.afdx_bounds.specs.Outputs.{AreTimed}
 use Rattle.afdx_switch.specs.Tables.{rule_of}
@@ -16,7 +16,7 @@ use Rattle.afdx_cascade.specs.Cascade.{StandsFor}
 use Rattle.afdx_cascade.specs.Keeping.{IsNothingDue}
 use Rattle.afdx_cascade.specs.Plans.{plan_of, tables_of}
 use Rattle.afdx_cascade.specs.SwitchEvents.{End, SwitchEvent, AlwaysKeepsRules, came_to, listed}
-use Rattle.afdx_cascade.specs.Ways.{IsWay, IsWhole}
+use Rattle.afdx_cascade.specs.Ways.{IsWay, IsWhole, latency_of}
 use Rattle.afdx_cascade.specs.declared.cascade.Cascade.{Cascade}
 
 -- ---- the rows of a way
@@ -45,6 +45,14 @@ EachRowIsFed =
     IsCascadeAdmitted switches →
     IsRow switches r →
     IsFed switches r
+
+-- They are its one way.
+abbrev pub RowsBeforeAreOne : Type 0
+RowsBeforeAreOne =
+    (switches : List NamedRows) (r : RowAt) (before others : List RowAt) →
+    AreRowsBefore switches r before →
+    AreRowsBefore switches r others →
+    before ≡ others
 
 -- ---- what came
 
@@ -77,6 +85,15 @@ hop_at switches so_far r = record {
 
 abbrev pub hops_at : List NamedRows → List SwitchEvent → List RowAt → List Hop
 hops_at switches so_far rows = map (hop_at switches so_far) rows
+
+-- The sum of a way's latencies is what its rows are admitted with: in ns, and in us.
+abbrev pub WayTakesItsLatency : Type 0
+WayTakesItsLatency =
+    (switches : List NamedRows) (so_far : List SwitchEvent) (r : RowAt) (before : List RowAt)
+    (sum : ℕ) →
+    AreRowsBefore switches r before →
+    way_latency switches r ≡ Some sum →
+    latency_of (hops_at switches so_far (r ∷ before)) ≡ 1000 * sum
 
 -- The rows of a link are a way of its frames.
 abbrev pub RowsAreWays : Type 0

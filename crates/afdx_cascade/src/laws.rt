@@ -21,8 +21,9 @@ ghost use Rattle.afdx_cascade.specs.Plans.{SwitchesAreAPlan};
 ghost use Rattle.afdx_cascade.specs.Keeping.{StartKeeps, TurnKeeps};
 ghost use Rattle.afdx_cascade.specs.Keeping.{FrontCanArrive, FrontKeeps, LineKeeps};
 ghost use Rattle.afdx_cascade.specs.Standing.{SlotJoinsBehind, TurnStaysBehind, ArrivalStaysBehind};
-ghost use Rattle.afdx_cascade.specs.Admitted.{EachRowIsFed, CascadeIsAdmitted, RowsAreWays};
-ghost use Rattle.afdx_cascade.specs.Admitted.{RowsAreWholeWays, CablesAreRead};
+ghost use Rattle.afdx_cascade.specs.Admitted.{EachRowIsFed, RowsBeforeAreOne, WayTakesItsLatency};
+ghost use Rattle.afdx_cascade.specs.Admitted.{CascadeIsAdmitted, RowsAreWays, RowsAreWholeWays};
+ghost use Rattle.afdx_cascade.specs.Admitted.{CablesAreRead};
 
 use afdx_frame::laws::built_is_computed;
 
@@ -176,26 +177,25 @@ pub fn events_can_be_met()
     built_is_computed()
 }
 
-/// Each row of a link of an admitted cascade is one of a way, back to the row that a system sends.
+/// Each row of a link of an admitted cascade ends one way, which begins at the row that a system
+/// sends. The sum of its latencies is that of admission.
 pub fn rows_are_fed()
-    ensures { EachRowIsFed }
+    ensures fed { EachRowIsFed }
+    ensures one { RowsBeforeAreOne }
+    ensures latency { WayTakesItsLatency }
 {}
 
-/// The rows of a link of an admitted cascade are a way of its frames, over what came to each switch
-/// so far.
+/// These rows are a way of the link's frames, over what came to each switch so far. Where nothing is
+/// due any more, and the list's frames came by 10^15 ns, the way is whole: each cable has brought all
+/// that its port gives.
 pub fn rows_are_ways()
     ensures cascade { CascadeIsAdmitted }
-    ensures rows { RowsAreWays }
+    ensures so_far { RowsAreWays }
+    ensures whole { RowsAreWholeWays }
 {}
 
-/// Where nothing is due any more, and the list's frames came by 10^15 ns, these ways are whole: each
-/// cable has brought all that its port gives.
-pub fn ways_are_whole()
-    ensures { RowsAreWholeWays }
-{}
-
-/// What a cable brings to a switch of an admitted cascade is of a link that comes from there, and is
-/// accepted.
+/// What a cable brings to a switch of an admitted cascade is of a link whose frames come in there,
+/// and is accepted.
 pub fn cables_are_read()
     ensures { CablesAreRead }
 {}
