@@ -63,9 +63,6 @@ neighbour-there t name place dummy h =
     let e = slice_get-within t.systems place is.0 in
     (e.0, e.1, found, ap (if_neighbour t) (sym same) ∙ at.2)
 
-same-row : (k : ℕ) (l m : LinkRow) (b : RowAt) → l ≡ m → row_at k m ≡ b → row_at k l ≡ b
-same-row k l m b same is = ap (row_at k) same ∙ is
-
 -- ---- the row before one
 
 module _ (ss : List NamedRows) where
@@ -85,6 +82,44 @@ module _ (ss : List NamedRows) where
     pub back_is : neighbour_named there.rows here.name ≡ Some back
     pub goes : is_to back b.row ≡ true
 
+  before-from : (r : RowAt) (here : NamedRows) (one : SystemRow) (k : ℕ) (there : NamedRows) (l : LinkRow)
+      → slice_get ss r.switch ≡ Some here → slice_get here.rows.systems r.row.from ≡ Some one
+      → nat_le here.rows.own r.row.from ≡ true → switch_named ss one.name ≡ Some k → slice_get ss k ≡ Some there
+      → row_towards there.rows here.name r.row.vl ≡ Some l → IsBefore r (row_at k l)
+  before-from r here one k there l here_is one_is past named there_is towards =
+      let row = and-then (λ (m : LinkRow). if goes_towards there.rows here.name m then Some m else None)
+      (row_of there.rows r.row.vl) l towards in
+      let both = if-there (goes_towards there.rows here.name row.0) (Some row.0) l row.2 in
+      let same : row.0 ≡ l = same_Some row.0 l both.1 in
+      let back = mapped-or (λ place. is_to place row.0) (neighbour_named there.rows here.name) both.0 in
+      record {
+        here = here;
+        here_is = here_is;
+        one = one;
+        one_is = one_is;
+        past = past;
+        named = named;
+        there = there;
+        there_is = there_is;
+        row = subst (IsRowOf there.rows r.row.vl) same (row-of there.rows r.row.vl row.0 row.1);
+        back = back.0;
+        back_is = back.1;
+        goes = subst (λ (m : LinkRow). is_to back.0 m ≡ true) same back.2;
+      }
+
+  before-one : (r b : RowAt) (here : NamedRows) (one : SystemRow) → slice_get ss r.switch ≡ Some here
+      → slice_get here.rows.systems r.row.from ≡ Some one → nat_le here.rows.own r.row.from ≡ true
+      → row_from ss here.name r.row.vl one ≡ Some b → IsBefore r b
+  before-one r b here one here_is one_is past h =
+      let vl = r.row.vl in
+      let far = and-then (λ k. option_and_then (λ (s : NamedRows). option_map (row_at k) (row_towards s.rows here.name vl))
+      (slice_get ss k)) (switch_named ss one.name) b h in
+      let there = and-then (λ (s : NamedRows). option_map (row_at far.0) (row_towards s.rows here.name vl))
+      (slice_get ss far.0) b far.2 in
+      let towards = mapped (row_at far.0) (row_towards there.0.rows here.name vl) b there.2 in
+      subst (IsBefore r) towards.2
+      (before-from r here one far.0 there.0 towards.0 here_is one_is past far.1 there.1 towards.1)
+
   pub before-is : (r b : RowAt) → row_before ss r ≡ Some b → IsBefore r b
   unfolding row_before
   before-is r b h =
@@ -93,31 +128,7 @@ module _ (ss : List NamedRows) where
       (slice_get ss r.switch) b h in
       let from = and-then (row_from ss here.0.name vl) (neighbour_of here.0.rows r.row.from) b here.2 in
       let one = if-there (nat_le here.0.rows.own r.row.from) (slice_get here.0.rows.systems r.row.from) from.0 from.1 in
-      let far = and-then (λ j. option_and_then (λ (s : NamedRows). option_map (row_at j) (row_towards s.rows here.0.name vl))
-      (slice_get ss j)) (switch_named ss from.0.name) b from.2 in
-      let there = and-then (λ (s : NamedRows). option_map (row_at far.0) (row_towards s.rows here.0.name vl))
-      (slice_get ss far.0) b far.2 in
-      let towards = mapped (row_at far.0) (row_towards there.0.rows here.0.name vl) b there.2 in
-      let row = and-then (λ (l : LinkRow). if goes_towards there.0.rows here.0.name l then Some l else None)
-      (row_of there.0.rows vl) towards.0 towards.1 in
-      let both = if-there (goes_towards there.0.rows here.0.name row.0) (Some row.0) towards.0 row.2 in
-      let same : row.0 ≡ towards.0 = same_Some row.0 towards.0 both.1 in
-      let back = mapped-or (λ place. is_to place row.0) (neighbour_named there.0.rows here.0.name) both.0 in
-      subst (IsBefore r) (same-row far.0 row.0 towards.0 b same towards.2)
-      (let it : IsBefore r (row_at far.0 row.0) = record {
-        here = here.0;
-        here_is = here.1;
-        one = from.0;
-        one_is = one.1;
-        past = one.0;
-        named = far.1;
-        there = there.0;
-        there_is = there.1;
-        row = row-of there.0.rows vl row.0 row.1;
-        back = back.0;
-        back_is = back.1;
-        goes = back.2;
-      } in it)
+      before-one r b here.0 from.0 here.1 one.1 one.0 from.2
 
   -- a row at its switch
   pub row-here : (r : RowAt) (s : NamedRows) → (is : IsRow ss r) → slice_get ss r.switch ≡ Some s

@@ -114,6 +114,10 @@ module _ (ss : List NamedRows) (so_far : List SwitchEvent) (all : IsAdmittedCasc
     past : there.rows.own ≤ link.from
     port_is : (rule_of (tables_of ss k) link).port ≡ port
 
+  reader-named : (k port vl : ℕ) (bytes : List ℕ) (reader : IsReader k port vl) → names vl bytes ≡ true
+      → names reader.link.vl bytes ≡ true
+  reader-named k port vl bytes reader h = ap (λ n. names n bytes) reader.vl_is ∙ h
+
   -- a link that goes to the port of a cable is read at the cable's other end
   reader-at : (j from k port : ℕ) (f : FarEnd) → (c : IsCable ss j from f) → f.switch.0 ≡ k → f.port ≡ port
       → (place : ℕ) (l : LinkRow) → slice_get (tables_of ss j).links place ≡ Some l
@@ -199,8 +203,8 @@ module _ (ss : List NamedRows) (so_far : List SwitchEvent) (all : IsAdmittedCasc
       record {
         reader_vl = it.link.vl;
         reader = reader;
-        named = ap (λ vl. names vl x.bytes) reader.vl_is
-            ∙ ap (λ (y : Arrival). names it.link.vl y.bytes) (sym left.is) ∙ it.named;
+        named = reader-named k x.port it.link.vl x.bytes reader
+            (ap (λ (y : Arrival). names it.link.vl y.bytes) (sym left.is) ∙ it.named);
       }
 
 pub cables-read : CablesAreRead
@@ -209,8 +213,7 @@ cables-read ss so_far k later past x other all came joined =
     let r = row_at k it.reader.link in
     let hop = all.admitted.hops k it.reader.there it.reader.there_is it.reader.row.place it.reader.link
     (row-here ss r it.reader.there it.reader.row it.reader.there_is) it.reader.past in
-    let b = hop.before in
-    (
+    let b = hop.before in (
       record { link = it.reader.link; row = it.reader.row; named = it.named; port = it.reader.port_is },
       (again x.side (hop_at ss so_far b) (hop_at ss so_far r) (hop-is ss so_far b all (before-row ss r b hop.stands))
           (hop-is ss so_far r all it.reader.row)
