@@ -99,7 +99,8 @@ goes-on c so_far side j k before next plan rules there =
     let entries = entries_at (c.tables j) side there.port (came_to j so_far) in
     let turns = turns_of j side there.port so_far in
     let carries = rules.cables k to side (end_at j there.port) there.cable in
-    let cut = cut-turns side to (in_clock turns) carries.waiting (arrivals_at side to (came_to k so_far)) carries.brings in
+    let cut = cut-turns side to (in_clock turns) carries.waiting (arrivals_at side to (came_to k so_far))
+    carries.brings in
     let ends = plan.ports k to (end_at j there.port) there.cable in
     let are = rules.turns j there.port side ends.0 ends.1 in
     let clock = clock-cut byte_ns entries turns are in

@@ -112,8 +112,8 @@ module _ (ss : List NamedRows) where
       → row_from ss here.name r.row.vl one ≡ Some b → IsBefore r b
   before-one r b here one here_is one_is past h =
       let vl = r.row.vl in
-      let far = and-then (λ k. option_and_then (λ (s : NamedRows). option_map (row_at k) (row_towards s.rows here.name vl))
-      (slice_get ss k)) (switch_named ss one.name) b h in
+      let far = and-then (λ k. option_and_then (λ (s : NamedRows). option_map (row_at k)
+      (row_towards s.rows here.name vl)) (slice_get ss k)) (switch_named ss one.name) b h in
       let there = and-then (λ (s : NamedRows). option_map (row_at far.0) (row_towards s.rows here.name vl))
       (slice_get ss far.0) b far.2 in
       let towards = mapped (row_at far.0) (row_towards there.0.rows here.name vl) b there.2 in
@@ -220,7 +220,8 @@ module _ (ss : List NamedRows) where
       let rest = sym (ap (λ c. if c then Some r.row.latency_us
       else option_and_then (λ (b : RowAt). option_map (λ m. m + r.row.latency_us) (latency_within n ss b))
       (row_before ss r)) (not-sent r b are.0)
-      ∙ ap (option_and_then (λ (b : RowAt). option_map (λ m. m + r.row.latency_us) (latency_within n ss b))) are.0) ∙ h in
+      ∙ ap (option_and_then (λ (b : RowAt). option_map (λ m. m + r.row.latency_us) (latency_within n ss b)))
+      are.0) ∙ h in
       let m = mapped (λ m. m + r.row.latency_us) (latency_within n ss b) sum rest in
       let before_sum = way-sum so_far n b before m.0 are.1 m.1 in
       let more = m.2 in omega (arith, before_sum, more)

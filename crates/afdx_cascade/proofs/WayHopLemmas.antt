@@ -60,12 +60,13 @@ next-row b l vl same jitter =
       jitter = jitter;
     }
 
-pub rule-port : (t : Rows) (l : LinkRow) (s : SystemRow) → slice_get t.systems l.from ≡ Some s → (rule_of t l).port ≡ s.port
+pub rule-port : (t : Rows) (l : LinkRow) (s : SystemRow) → slice_get t.systems l.from ≡ Some s
+    → (rule_of t l).port ≡ s.port
 unfolding rule_of port_of
 rule-port t l s at = ap (λ o. option_map_or (λ (z : SystemRow). z.port) o 0) at
 
-goes-there : (t : Rows) (l : LinkRow) (port place : ℕ) → system_at_port t.systems port ≡ Some place → is_to place l ≡ true
-    → goes_to t l port ≡ true
+goes-there : (t : Rows) (l : LinkRow) (port place : ℕ) → system_at_port t.systems port ≡ Some place
+    → is_to place l ≡ true → goes_to t l port ≡ true
 unfolding goes_to
 goes-there t l port place at to = ap (λ o. option_map_or (λ system. is_to system l) o false) at ∙ to
 
@@ -102,7 +103,8 @@ module _ (ss : List NamedRows) (are : AreSwitches ss) (admitted : IsCascadeAdmit
         stands = ap (λ (t : Rows). slice_get t.links it.row.place) (tables-at ss b.switch it.there it.there_is)
             ∙ it.row.stands;
         next_place = is.place;
-        next_stands = ap (λ (t : Rows). slice_get t.links is.place) (tables-at ss r.switch it.here it.here_is) ∙ own_row;
+        next_stands = ap (λ (t : Rows). slice_get t.links is.place) (tables-at ss r.switch it.here it.here_is)
+            ∙ own_row;
         port = back.0.port;
         cable = ap (λ p. end_of (far_end ss r.switch p)) port
             ∙ ap end_of (cable-is ss r.switch it.one.port it.here it.there it.one back.0 b.switch it.here_is

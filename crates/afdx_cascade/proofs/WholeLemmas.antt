@@ -1,5 +1,6 @@
 -- Where nothing is due any more, the rows of a link in an admitted cascade are a whole way.
-use Rattle.std.proofs.Common.{◌≡◌, ℕ, zero, suc, ◌+◌, ◌*◌, ◌<◌, ◌≤◌, ◌==◌, Bool, true, false, ◌&&◌, not, List, [], ◌∷◌, ◌++◌, length}
+use Rattle.std.proofs.Common.{◌≡◌, ℕ, zero, suc, ◌+◌, ◌*◌, ◌<◌, ◌≤◌, ◌==◌, Bool, true, false, ◌&&◌, not}
+use Rattle.std.proofs.Common.{List, [], ◌∷◌, ◌++◌, length}
 use Rattle.std.proofs.Common.{map, filter, refl, sym, ap, ◌∙◌, subst, arith, inl, Some, None, slice_get, nat_le, nat_lt}
 use Rattle.std.proofs.Common.{option_and_then}
 use Rattle.std.specs.Prelude.{if◌then◌else◌, is_none}
@@ -22,7 +23,8 @@ use Rattle.afdx_police.specs.Verdicts.{reason_after}
 use Rattle.afdx_bounds.specs.Outputs.{AreTimed}
 use Rattle.afdx_port.specs.Schedule.{Entry, Turn, AreTurns, end_of}
 use Rattle.afdx_port.proofs.TurnLemmas.{next_of, schedule_begins}
-use Rattle.afdx_switch.specs.Admitted.{IsAdmittedRun, accepted_arrivals, accepted_frames, frames_among, passing_in, slots}
+use Rattle.afdx_switch.specs.Admitted.{IsAdmittedRun, accepted_arrivals, accepted_frames, frames_among}
+use Rattle.afdx_switch.specs.Admitted.{passing_in, slots}
 use Rattle.afdx_switch.specs.HeldFrames.{HeldFrame}
 use Rattle.afdx_switch.specs.Hops.{AreCopies, AreFirstCopies}
 use Rattle.afdx_switch.specs.Laws.{is_of}
@@ -33,7 +35,8 @@ use Rattle.afdx_network.specs.Events.{Event, Came, Left, arrivals_in, turns_at}
 use Rattle.afdx_network.specs.Network.{departure_after}
 use Rattle.afdx_network.specs.Order.{side_number}
 use Rattle.afdx_promises.proofs.PortLemmas.{its-turns}
-use Rattle.afdx_cascade.specs.Admitted.{IsRow, AreRowsBefore, IsAdmittedCascade, IsListInTime, RowsAreWholeWays, hop_at, hops_at}
+use Rattle.afdx_cascade.specs.Admitted.{IsRow, AreRowsBefore, IsAdmittedCascade, IsListInTime, hop_at, hops_at}
+use Rattle.afdx_cascade.specs.Admitted.{RowsAreWholeWays}
 use Rattle.afdx_cascade.specs.Cables.{Hop, GoesOn, accepted_at, all_turns, brought, brought_by, named}
 use Rattle.afdx_cascade.specs.Keeping.{IsNothingDue}
 use Rattle.afdx_cascade.specs.Plans.{plan_of, tables_of}
@@ -299,7 +302,7 @@ module _ (ss : List NamedRows) (so_far : List SwitchEvent) (all : IsAdmittedCasc
       → AreTurns (byte_ns_at (tables_of ss q.switch) port)
       (entries_at (tables_of ss q.switch) side port (came_to q.switch so_far)) (s ∷ earlier)
       → s.too_old ≡ false → is_of q.row.vl s.entry ≡ true → s.end ≤ 1000032768000000
-  link-soon side port s earlier q is goes turns slot own =
+  link-soon side port s earlier q is goes turns slot of_link =
       let fed = each-fed ss q all.admitted is in
       let way = rows-ways ss so_far side q fed.before all is fed.are in
       let leave = way-leave side (hop_at ss so_far q) (hops_at ss so_far fed.before) port 0 (s ∷ earlier) way
@@ -314,7 +317,7 @@ module _ (ss : List NamedRows) (so_far : List SwitchEvent) (all : IsAdmittedCasc
       (named q.row.vl (brought_by side 0 earlier)) accepted
       (subst (AreFirstCopies delay
       (accepted_at (first_of (hop_at ss so_far q) (hops_at ss so_far fed.before)) side))
-      (first-named q.row.vl side 0 s earlier slot own) leave) in
+      (first-named q.row.vl side 0 s earlier slot of_link) leave) in
       let most = way-latency ss all.are so_far q fed.before is fed.are in
       let few = fed.few in
       let count = all.are.count.1 in
@@ -358,7 +361,8 @@ module _ (ss : List NamedRows) (so_far : List SwitchEvent) (all : IsAdmittedCasc
         let same = all-turned (plan_of ss) so_far b.switch port side all.rules run.timed none ends.0 ends.1 in
         let in_time = no-late (byte_ns_at t port) (entries_at t side port (came_to b.switch so_far)) turns turned
         (end-soon side b.switch port z.0 z.1 turns turned) in
-        let brings = cables-bring (plan_of ss) so_far r.switch to side (end_at b.switch port) all.rules none there.cable in
+        let brings = cables-bring (plan_of ss) so_far r.switch to side (end_at b.switch port) all.rules none
+        there.cable in
         record {
           on = record {
             port = port;

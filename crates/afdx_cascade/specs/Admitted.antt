@@ -1,12 +1,14 @@
 -- The way of a link through an admitted cascade, as a way over what came to each switch. Lists of
 -- events have the latest first, a way the last switch.
-use Rattle.std.specs.Prelude.{◌≡◌, ℕ, ◌*◌, ◌<◌, ◌≤◌, true, None, Some, List, [], ◌∷◌, ◌++◌, length, map}
+use Rattle.std.specs.Prelude.{◌≡◌, ℕ, ◌*◌, ◌<◌, ◌≤◌, true, None, Some}
+use Rattle.std.specs.Prelude.{List, [], ◌∷◌, ◌++◌, length, map}
 use Rattle.std.specs.List.{AllByRecursion}
 use Rattle.afdx_frame.specs.declared.link.Side.{Side}
 use Rattle.afdx_config.specs.Rows.{LinkRow}
 use Rattle.afdx_config.specs.Switches.{NamedRows, AreSwitches}
 use Rattle.afdx_admit.specs.AtSwitch.{link_at}
-use Rattle.afdx_admit.specs.Cascade.{RowAt, row_before, is_sent_here, way_latency, IsCascadeAdmitted}
+use Rattle.afdx_admit.specs.Cascade.{RowAt, row_before, is_sent_here, way_latency}
+use Rattle.afdx_admit.specs.Cascade.{IsCascadeAdmitted}
 use Rattle.afdx_police.specs.Arrival.{Arrival, names}
 use Rattle.afdx_bounds.specs.Outputs.{AreTimed}
 use Rattle.afdx_switch.specs.Tables.{rule_of}

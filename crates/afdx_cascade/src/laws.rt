@@ -185,9 +185,9 @@ pub fn rows_are_fed()
     ensures latency { WayTakesItsLatency }
 {}
 
-/// These rows are a way of the link's frames, over what came to each switch so far. Where nothing is
-/// due any more, and the list's frames came by 10^15 ns, the way is whole: each cable has brought all
-/// that its port gives.
+/// These rows are a way of the link's frames, over what came to each switch so far. Where nothing
+/// is due any more, and the list's frames came by 10^15 ns, the way is whole: each cable has
+/// brought all that its port gives.
 pub fn rows_are_ways()
     ensures cascade { CascadeIsAdmitted }
     ensures so_far { RowsAreWays }
