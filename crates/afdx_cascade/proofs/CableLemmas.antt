@@ -1,5 +1,5 @@
 -- What an admitted switch accepted of a link leaves it, comes over a cable, and is accepted again.
-use Rattle.std.proofs.Common.{◌≡◌, ℕ, suc, ◌+◌, ◌*◌, ◌≤◌, ◌==◌, ◌&&◌, Bool, true, false, not, List, [], ◌∷◌, ◌++◌}
+use Rattle.std.proofs.Common.{◌≡◌, ℕ, suc, ◌+◌, ◌*◌, ◌<◌, ◌≤◌, ◌==◌, ◌&&◌, Bool, true, false, not, List, [], ◌∷◌, ◌++◌}
 use Rattle.std.proofs.Common.{map, filter, refl, sym, ap, ◌∙◌, subst, arith}
 use Rattle.std.specs.Prelude.{if◌then◌else◌}
 use Rattle.std.proofs.lemmas.List.{map-append}
@@ -9,21 +9,24 @@ use Rattle.afdx_frame.specs.declared.link.Side.{Side}
 use Rattle.afdx_config.specs.Rows.{LinkRow}
 use Rattle.afdx_police.specs.Arrival.{Arrival, is_side, names, own}
 use Rattle.afdx_bounds.specs.Outputs.{AreTimed}
-use Rattle.afdx_port.specs.Schedule.{Entry, Turn, AreTurns, end_of}
+use Rattle.afdx_bounds.proofs.AdmittedLemmas.{product-positive}
+use Rattle.afdx_bounds.proofs.TableLemmas.{byte-time}
+use Rattle.afdx_port.specs.Schedule.{Entry, Turn, AreTurns, end_of, lasting}
 use Rattle.afdx_port.proofs.TurnLemmas.{schedule_begins, ends_after}
 use Rattle.afdx_switch.specs.Admitted.{Passing, passing, passing_in, frames_among, slots, AreInTime}
 use Rattle.afdx_switch.specs.HeldFrames.{HeldFrame}
-use Rattle.afdx_switch.specs.Hops.{IsNextRule, IsCopy, AreCopies, AreFirstCopies}
+use Rattle.afdx_switch.specs.Hops.{IsNextRule, AreCopies, AreFirstCopies}
 use Rattle.afdx_switch.specs.Laws.{is_of}
 use Rattle.afdx_switch.specs.Regular.{at_port}
-use Rattle.afdx_switch.specs.Tables.{rule_of, byte_ns_at, entries_at}
+use Rattle.afdx_switch.specs.Tables.{rule_of, goes_to, byte_ns_at, entries_at}
 use Rattle.afdx_switch.proofs.AdmittedLemmas.{turns-in-time}
 use Rattle.afdx_switch.proofs.HopLemmas.{copies-accepted, none-dropped}
 use Rattle.afdx_promises.specs.Sent.{arrivals_at}
 use Rattle.afdx_promises.proofs.PortLemmas.{its-turns, in-time, entries_back, left-back}
-use Rattle.afdx_cascade.specs.Cables.{Hop, GoesOn, IsNextRow, rule_at}
+use Rattle.afdx_cascade.specs.Cables.{Hop, IsHop, Gives, GoesOn, IsNextRow, rule_at}
 use Rattle.afdx_cascade.specs.Cables.{accepted_at, latency_at, all_turns, brought, brought_by, named}
 use Rattle.afdx_cascade.specs.Cables.{CablesBringInOrder, FirstFramesLeave, AllFramesLeave, AcceptedIsAcceptedAgain}
+use Rattle.afdx_cascade.specs.EndToEnd.{EachLeaves, FirstOfThemLeave, Leaves}
 
 -- ---- lists
 
@@ -54,47 +57,56 @@ either-way p q r (x ∷ xs) = by (p x) (q x) (r x) refl refl refl (either-way p 
 
 -- ---- what a port gives
 
-copy-of : (l : LinkRow) (side : Side) (to byte_ns : ℕ) (g : Arrival) (s : Turn HeldFrame)
-    → passing g ≡ passing_in s.entry → s.entry.time ≤ s.moment → s.moment ≤ s.end
-    → s.end ≤ s.entry.time + 1000 * l.latency_us → IsCopy (1000 * l.latency_us) g (brought side to s)
-copy-of l side to byte_ns g s same come ends soon =
+-- a slot ends later than its frame came
+slot-later : (byte_ns bytes came moment end : ℕ) (old : Bool) → 0 < byte_ns → old ≡ false → came ≤ moment
+    → end ≡ moment + lasting byte_ns old bytes → came < end
+slot-later byte_ns bytes came moment end true some slot come lasts = absurd (cc slot)
+slot-later byte_ns bytes came moment end false some slot come lasts =
+    let long = product-positive (bytes + 20) byte_ns (omega arith) some in omega (arith, come, lasts, long)
+
+leaves-by : (l : LinkRow) (side : Side) (to : ℕ) (g : Arrival) (s : Turn HeldFrame)
+    → passing g ≡ passing_in s.entry → s.entry.time < s.end
+    → s.end ≤ s.entry.time + 1000 * l.latency_us → Leaves (1000 * l.latency_us) g (brought side to s)
+leaves-by l side to g s same later soon =
     let time : g.time ≡ s.entry.time = ap (λ (f : Passing). f.time) same in
     record {
       tag = sym (ap (λ (f : Passing). f.tag) same);
       bytes = sym (ap (λ (f : Passing). f.bytes) same);
-      after = omega (arith, time, come, ends);
+      later = omega (arith, time, later);
       within = omega (arith, time, soon);
     }
 
-module _ (l : LinkRow) (side : Side) (to byte_ns : ℕ) (entries : List (Entry HeldFrame)) where
-  copies-of : (turns : List (Turn HeldFrame)) (gone : List Arrival) → AreTurns byte_ns entries turns
+module _ (l : LinkRow) (side : Side) (to byte_ns : ℕ) (some : 0 < byte_ns) (entries : List (Entry HeldFrame)) where
+  each-leaves : (turns : List (Turn HeldFrame)) (gone : List Arrival) → AreTurns byte_ns entries turns
       → AreInTime l turns → map passing gone ≡ frames_among l.vl (entries_back (slots turns))
-      → AreCopies (1000 * l.latency_us) gone (named l.vl (brought_by side to turns))
-  copies-of [] [] are soon same = tt
-  copies-of [] (g ∷ gone) are soon same = absurd (cc same)
-  copies-of (s ∷ earlier) gone are soon same =
+      → EachLeaves (1000 * l.latency_us) gone (named l.vl (brought_by side to turns))
+  each-leaves [] [] are soon same = tt
+  each-leaves [] (g ∷ gone) are soon same = absurd (cc same)
+  each-leaves (s ∷ earlier) gone are soon same =
       by s.too_old same
-      (λ gs rest. copies-of earlier gs are.1 (λ k d lt. soon (suc k) d (omega (arith, lt))) rest)
+      (λ gs rest. each-leaves earlier gs are.1 (λ k d lt. soon (suc k) d (omega (arith, lt))) rest)
     where
       named-one : (gs : List Arrival) → is_of l.vl s.entry ≡ true
           → map passing gs ≡ passing_in s.entry ∷ frames_among l.vl (entries_back (slots earlier))
           → ((hs : List Arrival) → map passing hs ≡ frames_among l.vl (entries_back (slots earlier))
-          → AreCopies (1000 * l.latency_us) hs (named l.vl (brought_by side to earlier)))
-          → AreCopies (1000 * l.latency_us) gs (brought side to s ∷ named l.vl (brought_by side to earlier))
+          → EachLeaves (1000 * l.latency_us) hs (named l.vl (brought_by side to earlier)))
+          → EachLeaves (1000 * l.latency_us) gs (brought side to s ∷ named l.vl (brought_by side to earlier))
       named-one [] own are-gs rest = absurd (cc are-gs)
-      named-one (g ∷ gs) own are-gs rest = (
-        copy-of l side to byte_ns g s (cc are-gs) are.0.come (ends_after byte_ns entries earlier s are.0)
-            (soon 0 s (omega arith) own).1,
-        rest gs (cc are-gs),
-      )
+      named-one (g ∷ gs) own are-gs rest =
+          let in_time = soon 0 s (omega arith) own in (
+            leaves-by l side to g s (cc are-gs)
+                (slot-later byte_ns s.entry.bytes s.entry.time s.moment s.end s.too_old some in_time.0 are.0.come
+                are.0.lasts) in_time.1,
+            rest gs (cc are-gs),
+          )
 
       slot : (c : Bool) → is_of l.vl s.entry ≡ c
           → map passing gone
           ≡ map passing_in (if c then s.entry ∷ filter (is_of l.vl) (entries_back (slots earlier))
           else filter (is_of l.vl) (entries_back (slots earlier)))
           → ((hs : List Arrival) → map passing hs ≡ frames_among l.vl (entries_back (slots earlier))
-          → AreCopies (1000 * l.latency_us) hs (named l.vl (brought_by side to earlier)))
-          → AreCopies (1000 * l.latency_us) gone
+          → EachLeaves (1000 * l.latency_us) hs (named l.vl (brought_by side to earlier)))
+          → EachLeaves (1000 * l.latency_us) gone
           (if c then brought side to s ∷ named l.vl (brought_by side to earlier)
           else named l.vl (brought_by side to earlier))
       slot true own are-gone rest = named-one gone own are-gone rest
@@ -104,11 +116,26 @@ module _ (l : LinkRow) (side : Side) (to byte_ns : ℕ) (entries : List (Entry H
           → map passing gone
           ≡ frames_among l.vl (entries_back (if not b then s ∷ slots earlier else slots earlier))
           → ((hs : List Arrival) → map passing hs ≡ frames_among l.vl (entries_back (slots earlier))
-          → AreCopies (1000 * l.latency_us) hs (named l.vl (brought_by side to earlier)))
-          → AreCopies (1000 * l.latency_us) gone
+          → EachLeaves (1000 * l.latency_us) hs (named l.vl (brought_by side to earlier)))
+          → EachLeaves (1000 * l.latency_us) gone
           (named l.vl (map (brought side to) (if not b then s ∷ slots earlier else slots earlier)))
       by true are-gone rest = rest gone are-gone
       by false are-gone rest = slot (is_of l.vl s.entry) refl are-gone rest
+
+-- what leaves is a copy of what came
+leave-copies : (delay : ℕ) (came left : List Arrival) → EachLeaves delay came left → AreCopies delay came left
+leave-copies delay [] [] each = tt
+leave-copies delay [] (y ∷ after) each = absurd each
+leave-copies delay (x ∷ before) [] each = absurd each
+leave-copies delay (x ∷ before) (y ∷ after) each = (
+  record {
+    tag = each.0.tag;
+    bytes = each.0.bytes;
+    after = (let later = each.0.later in omega (arith, later));
+    within = each.0.within;
+  },
+  leave-copies delay before after each.1,
+)
 
 -- they come by time: the turns of a port end in order
 brought-by : (side : Side) (to byte_ns : ℕ) (entries : List (Entry HeldFrame)) (turns : List (Turn HeldFrame)) (t : ℕ)
@@ -153,8 +180,10 @@ among-more vl later begun =
     ∙ map-append passing_in (filter (is_of vl) (entries_back (slots later)))
     (filter (is_of vl) (entries_back (slots begun)))
 
-pub first-leave : FirstFramesLeave
-first-leave h side port to turns is gives =
+pub first-leaves : (h : Hop) (side : Side) (port to : ℕ) (turns : List (Turn HeldFrame)) → IsHop h
+    → Gives h side port turns
+    → FirstOfThemLeave (latency_at h) (accepted_at h side) (named h.link.vl (brought_by side to turns))
+first-leaves h side port to turns is gives =
     let l = h.link in
     let byte_ns = byte_ns_at h.tables port in
     let entries = entries_at h.tables side port h.arrivals in
@@ -169,17 +198,33 @@ first-leave h side port to turns is gives =
       waiting = parts.0;
       gone = parts.1;
       all = parts.2;
-      copies = copies-of l side to byte_ns entries turns parts.1 gives.are
+      leave = each-leaves l side to byte_ns (byte-time h.tables port is.run.lawful) entries turns parts.1 gives.are
           (turns-in-time h.tables h.arrivals side port is.place l turns is.run is.stands gives.are) parts.3;
     }
 
-pub all-leave : AllFramesLeave
-all-leave h side port to is goes =
-    copies-of h.link side to (byte_ns_at h.tables port) (entries_at h.tables side port h.arrivals)
-    (all_turns h side port) (accepted_at h side)
+pub first-leave : FirstFramesLeave
+first-leave h side port to turns is gives =
+    let first = first-leaves h side port to turns is gives in
+    record {
+      waiting = first.waiting;
+      gone = first.gone;
+      all = first.all;
+      copies = leave-copies (latency_at h) first.gone (named h.link.vl (brought_by side to turns)) first.leave;
+    }
+
+pub all-leaves : (h : Hop) (side : Side) (port to : ℕ) → IsHop h → goes_to h.tables h.link port ≡ true
+    → EachLeaves (latency_at h) (accepted_at h side) (named h.link.vl (brought_by side to (all_turns h side port)))
+all-leaves h side port to is goes =
+    each-leaves h.link side to (byte_ns_at h.tables port) (byte-time h.tables port is.run.lawful)
+    (entries_at h.tables side port h.arrivals) (all_turns h side port) (accepted_at h side)
     (its-turns h.tables side port h.arrivals is.run.timed).each_next
     (in-time h.tables h.arrivals side port is.place h.link is.run is.stands)
     (sym (left-back h.tables h.arrivals side port is.place h.link is.run is.stands goes))
+
+pub all-leave : AllFramesLeave
+all-leave h side port to is goes =
+    leave-copies (latency_at h) (accepted_at h side) (named h.link.vl (brought_by side to (all_turns h side port)))
+    (all-leaves h side port to is goes)
 
 -- ---- what comes over a cable
 

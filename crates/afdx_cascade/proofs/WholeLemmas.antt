@@ -56,7 +56,7 @@ use Rattle.afdx_cascade.proofs.WayLemmas.{way-leave}
 -- ---- all turns
 
 -- where nothing is due, a port has given all its turns
-all-turned : (c : Plan) (so_far : List SwitchEvent) (k port : ℕ) (side : Side) → AlwaysKeepsRules c so_far
+pub all-turned : (c : Plan) (so_far : List SwitchEvent) (k port : ℕ) (side : Side) → AlwaysKeepsRules c so_far
     → AreTimed (came_to k so_far) → IsNothingDue c so_far → 1 ≤ port → port ≤ 24
     → turns_of k side port so_far ≡ turns_at (c.tables k) side port (came_to k so_far)
 all-turned c so_far k port side rules timed none low high =

@@ -17,3 +17,4 @@ pub mod Cascade
 pub mod TwoHops
 pub mod Parts
 pub mod Admitted
+pub mod EndToEnd
