@@ -39,3 +39,5 @@ pub mod FedLemmas
 pub mod WayHopLemmas
 pub mod WholeLemmas
 pub mod ReadLemmas
+pub mod EndToEndLemmas
+pub mod AloneLemmas

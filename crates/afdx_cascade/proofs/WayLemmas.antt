@@ -102,7 +102,7 @@ same-bytes d (x ∷ xs) (y ∷ ys) are =
     ap (λ b. b ∷ bytes_of xs) (sym are.0.bytes) ∙ ap (λ bs. y.bytes ∷ bs) (same-bytes d xs ys are.1)
 
 -- no verdict depends on a tag
-own-untagged : (rule : Rule) (xs : List Arrival) → accepted_own rule (map untagged xs) ≡ accepted_own rule xs
+pub own-untagged : (rule : Rule) (xs : List Arrival) → accepted_own rule (map untagged xs) ≡ accepted_own rule xs
 unfolding accepted_own
 own-untagged rule [] = refl
 own-untagged rule (x ∷ past) =

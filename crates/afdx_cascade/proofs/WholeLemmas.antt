@@ -258,7 +258,7 @@ module _ (ss : List NamedRows) where
         (lawful-at ss are r.switch s at).links.each (row-here ss r s is at)
 
     -- its frames come in where no cable is
-    free-port : (r : RowAt) → IsRow ss r → is_sent_here ss r ≡ true
+    pub free-port : (r : RowAt) → IsRow ss r → is_sent_here ss r ≡ true
         → (plan_of ss).far_end r.switch (rule_of (tables_of ss r.switch) r.row).port ≡ None
     free-port r is sent =
         let s = switch-of ss r is in

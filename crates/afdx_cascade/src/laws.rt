@@ -24,6 +24,8 @@ ghost use Rattle.afdx_cascade.specs.Standing.{SlotJoinsBehind, TurnStaysBehind, 
 ghost use Rattle.afdx_cascade.specs.Admitted.{EachRowIsFed, RowsBeforeAreOne, WayTakesItsLatency};
 ghost use Rattle.afdx_cascade.specs.Admitted.{CascadeIsAdmitted, RowsAreWays, RowsAreWholeWays};
 ghost use Rattle.afdx_cascade.specs.Admitted.{CablesAreRead};
+ghost use Rattle.afdx_cascade.specs.EndToEnd.{LinksLeave, FirstOfLinksLeave, NoOthersLeave};
+ghost use Rattle.afdx_cascade.specs.EndToEnd.{ReasonsAreAlone, LinksAreAlone, OwnAreOfList};
 
 use afdx_frame::laws::built_is_computed;
 
@@ -198,4 +200,23 @@ pub fn rows_are_ways()
 /// and is accepted.
 pub fn cables_are_read()
     ensures { CablesAreRead }
+{}
+
+/// End to end in an admitted cascade: by all events, from each port of a link's way leave just the
+/// frames of the link that its first switch accepted, byte for byte and in order, each later than
+/// it came there and at most the sum of the way's latencies after. Before all events are over these
+/// are the first of them. From all other ports leaves none.
+pub fn links_leave_end_to_end()
+    ensures all { LinksLeave }
+    ensures so_far { FirstOfLinksLeave }
+    ensures others { NoOthersLeave }
+{}
+
+/// Alone in an admitted cascade: two lists of events whose own arrivals of a link at its first
+/// switch on a side are equal but for tags have equal verdicts on these, and by all events equal
+/// frames in equal order at each port of the link's way. Those own arrivals are of the list.
+pub fn links_are_alone()
+    ensures reasons { ReasonsAreAlone }
+    ensures frames { LinksAreAlone }
+    ensures listed { OwnAreOfList }
 {}
