@@ -1,7 +1,7 @@
 -- What leaves the ports of a link's way in an admitted cascade.
-use Rattle.std.proofs.Common.{◌≡◌, ℕ, zero, suc, ◌+◌, ◌*◌, ◌<◌, ◌≤◌, Bool, true, false, ◌&&◌, not}
-use Rattle.std.proofs.Common.{List, [], ◌∷◌, ◌++◌, length, map, refl, sym, ap, ◌∙◌, subst, arith}
-use Rattle.std.proofs.Common.{◌==◌, Option, None, Some, option_and_then, slice_get}
+use Rattle.std.proofs.Common.{◌≡◌, ℕ, ◌+◌, ◌*◌, ◌≤◌, Bool, true, false, ◌&&◌, not}
+use Rattle.std.proofs.Common.{List, [], ◌∷◌, map, refl, sym, ap, ◌∙◌, subst, arith}
+use Rattle.std.proofs.Common.{Some, option_and_then, slice_get}
 use Rattle.std.specs.Prelude.{if◌then◌else◌, is_none}
 use Rattle.std.proofs.lemmas.Bool.{and_parts}
 use Rattle.afdx_frame.specs.declared.link.Side.{Side}
@@ -26,7 +26,7 @@ use Rattle.afdx_switch.proofs.AdmittedLemmas.{goes-at, link-reason, turn-in-time
 use Rattle.afdx_switch.proofs.HopLemmas.{first-from}
 use Rattle.afdx_cascade.specs.Admitted.{IsRow, AreRowsBefore, IsAdmittedCascade, hop_at, hops_at}
 use Rattle.afdx_cascade.specs.Cables.{Hop, accepted_at, all_turns, brought, brought_by, latency_at, named}
-use Rattle.afdx_cascade.specs.EndToEnd.{Leaves, EachLeaves, FirstOfThemLeave, IsWayTo, begins_at, accepted_of}
+use Rattle.afdx_cascade.specs.EndToEnd.{Leaves, EachLeaves, FirstOfThemLeave, begins_at, accepted_of}
 use Rattle.afdx_cascade.specs.EndToEnd.{left_from, LinksLeave, FirstOfLinksLeave, NoOthersLeave}
 use Rattle.afdx_cascade.specs.Plans.{plan_of, tables_of}
 use Rattle.afdx_cascade.specs.SwitchEvents.{SwitchEvent, accepted_by, came_to, turns_of}
@@ -88,7 +88,7 @@ side-is B B h = refl
 side-is A B h = absurd (cc h)
 side-is B A h = absurd (cc h)
 
-own-more : (vl : ℕ) (side : Side) (x : Arrival) (xs : List Arrival) (b c : Bool)
+pub own-more : (vl : ℕ) (side : Side) (x : Arrival) (xs : List Arrival) (b c : Bool)
     → (is_side side x.side && names vl x.bytes) ≡ b
     → own vl side (if c then x ∷ xs else xs) ≡ (if b && c then x ∷ own vl side xs else own vl side xs)
 own-more vl side x xs true true is = ap (λ d. if d then x ∷ own vl side xs else own vl side xs) is

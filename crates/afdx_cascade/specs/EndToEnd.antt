@@ -1,16 +1,17 @@
 -- A link in all events of an admitted cascade: from the frames that its first switch accepted to
 -- those that leave each port of its way. Lists have the latest first, a way the last switch.
-use Rattle.std.specs.Prelude.{◌≡◌, ℕ, ◌+◌, ◌*◌, ◌<◌, ◌≤◌, ◌&&◌, true, false, Option, None, Some}
-use Rattle.std.specs.Prelude.{List, [], ◌∷◌, ◌++◌, length, map, if◌then◌else◌}
+use Rattle.std.specs.Prelude.{◌≡◌, ℕ, ◌+◌, ◌*◌, ◌<◌, ◌≤◌, ◌&&◌, true, false, Option, Some}
+use Rattle.std.specs.Prelude.{is_none, List, [], ◌∷◌, ◌++◌, length, map, filter, if◌then◌else◌}
 use Rattle.afdx_frame.specs.Ports.{last_port}
 use Rattle.afdx_frame.specs.declared.link.Side.{Side}
 use Rattle.afdx_config.specs.Rows.{LinkRow, Rows}
 use Rattle.afdx_config.specs.Switches.{NamedRows}
-use Rattle.afdx_admit.specs.Cascade.{RowAt, row_at, is_sent_here, way_latency}
+use Rattle.afdx_admit.specs.Cascade.{RowAt, row_at, row_before, is_sent_here, way_latency}
 use Rattle.afdx_police.specs.Arrival.{Arrival, is_side, names, own}
 use Rattle.afdx_police.specs.declared.shape.Reason.{Reason}
-use Rattle.afdx_switch.specs.Tables.{goes_to}
+use Rattle.afdx_switch.specs.Tables.{rule_of, goes_to}
 use Rattle.afdx_switch.specs.Verdicts.{reason_of}
+use Rattle.afdx_promises.specs.Sent.{arrivals_at}
 use Rattle.afdx_cascade.specs.Admitted.{IsRow, AreRowsBefore, IsAdmittedCascade, IsListInTime}
 use Rattle.afdx_cascade.specs.Cables.{brought_by, named}
 use Rattle.afdx_cascade.specs.Keeping.{IsNothingDue}
@@ -117,11 +118,28 @@ reasons_on t vl side (x ∷ past) =
     then reason_of t past x ∷ reasons_on t vl side past
     else reasons_on t vl side past
 
--- the own arrivals of a row's link at the row's switch are equal but for their tags
-abbrev pub AreAlike : List SwitchEvent → List SwitchEvent → Side → RowAt → Type 0
-AreAlike so_far others side r =
-    map untagged (own r.row.vl side (came_to r.switch so_far))
-    ≡ map untagged (own r.row.vl side (came_to r.switch others))
+-- the frames of the list that came to a switch: those at its ports where no cable is
+abbrev pub listed_at : List NamedRows → ℕ → List SwitchEvent → List Arrival
+listed_at switches k so_far =
+    filter (λ x. is_none ((plan_of switches).far_end k x.port)) (came_to k so_far)
+
+-- A link's own arrivals at its first switch are of the list: no cable brings such frames there.
+abbrev pub OwnAreOfList : Type 0
+OwnAreOfList =
+    (switches : List NamedRows) (so_far : List SwitchEvent) (side : Side) (r : RowAt) →
+    IsAdmittedCascade switches so_far →
+    IsRow switches r →
+    is_sent_here switches r ≡ true →
+    own r.row.vl side (came_to r.switch so_far)
+    ≡ own r.row.vl side (listed_at switches r.switch so_far)
+
+-- in both the list has at a link's first switch equal own arrivals of the link, but for their tags
+pub record AreAlike (switches : List NamedRows) (so_far others : List SwitchEvent) (side : Side)
+    (r : RowAt) : Type 0 where
+  pub row : IsRow switches r
+  pub sent : is_sent_here switches r ≡ true
+  pub same : map untagged (own r.row.vl side (listed_at switches r.switch so_far))
+      ≡ map untagged (own r.row.vl side (listed_at switches r.switch others))
 
 -- Then they are accepted, or dropped, for the same reasons, whatever else arrives.
 abbrev pub ReasonsAreAlone : Type 0
@@ -129,8 +147,7 @@ ReasonsAreAlone =
     (switches : List NamedRows) (so_far others : List SwitchEvent) (side : Side) (r : RowAt) →
     IsAdmittedCascade switches so_far →
     IsAdmittedCascade switches others →
-    IsRow switches r →
-    AreAlike so_far others side r →
+    AreAlike switches so_far others side r →
     reasons_on (tables_of switches r.switch) r.row.vl side (came_to r.switch so_far)
     ≡ reasons_on (tables_of switches r.switch) r.row.vl side (came_to r.switch others)
 
@@ -145,8 +162,7 @@ pub record IsSameLink (switches : List NamedRows) (so_far others : List SwitchEv
       bytes_of (left_from so_far side r.switch port r.row.vl)
       ≡ bytes_of (left_from others side r.switch port r.row.vl)
 
--- Where a link's own arrivals at its first switch are alike, each switch of its way has the same
--- frames of it, whatever else arrives anywhere.
+-- And each switch of its way has the same frames of the link, whatever else arrives anywhere.
 abbrev pub LinksAreAlone : Type 0
 LinksAreAlone =
     (switches : List NamedRows) (so_far others : List SwitchEvent) (side : Side) (r : RowAt)
@@ -155,17 +171,17 @@ LinksAreAlone =
     AreAllEvents switches others →
     IsRow switches r →
     AreRowsBefore switches r before →
-    AreAlike so_far others side (begins_at r before) →
+    AreAlike switches so_far others side (begins_at r before) →
     IsSameLink switches so_far others side r
 
--- Those own arrivals are of the list: no cable brings a link's frames to its first switch.
-abbrev pub OwnAreOfList : Type 0
-OwnAreOfList =
-    (switches : List NamedRows) (so_far : List SwitchEvent) (r : RowAt)
-    (later past : List Arrival) (x : Arrival) →
+-- A later switch accepts of the link just what comes at the port of the cable from the switch
+-- before.
+abbrev pub OnlyItsWayIsAccepted : Type 0
+OnlyItsWayIsAccepted =
+    (switches : List NamedRows) (so_far : List SwitchEvent) (side : Side) (r b : RowAt) →
     IsAdmittedCascade switches so_far →
     IsRow switches r →
-    is_sent_here switches r ≡ true →
-    came_to r.switch so_far ≡ later ++ x ∷ past →
-    names r.row.vl x.bytes ≡ true →
-    (plan_of switches).far_end r.switch x.port ≡ None
+    row_before switches r ≡ Some b →
+    accepted_of switches so_far side r
+    ≡ named r.row.vl (arrivals_at side (rule_of (tables_of switches r.switch) r.row).port
+    (came_to r.switch so_far))

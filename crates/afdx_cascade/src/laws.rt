@@ -25,7 +25,8 @@ ghost use Rattle.afdx_cascade.specs.Admitted.{EachRowIsFed, RowsBeforeAreOne, Wa
 ghost use Rattle.afdx_cascade.specs.Admitted.{CascadeIsAdmitted, RowsAreWays, RowsAreWholeWays};
 ghost use Rattle.afdx_cascade.specs.Admitted.{CablesAreRead};
 ghost use Rattle.afdx_cascade.specs.EndToEnd.{LinksLeave, FirstOfLinksLeave, NoOthersLeave};
-ghost use Rattle.afdx_cascade.specs.EndToEnd.{ReasonsAreAlone, LinksAreAlone, OwnAreOfList};
+ghost use Rattle.afdx_cascade.specs.EndToEnd.{OwnAreOfList, ReasonsAreAlone, LinksAreAlone};
+ghost use Rattle.afdx_cascade.specs.EndToEnd.{OnlyItsWayIsAccepted};
 
 use afdx_frame::laws::built_is_computed;
 
@@ -212,11 +213,13 @@ pub fn links_leave_end_to_end()
     ensures others { NoOthersLeave }
 {}
 
-/// Alone in an admitted cascade: two lists of events whose own arrivals of a link at its first
-/// switch on a side are equal but for tags have equal verdicts on these, and by all events equal
-/// frames in equal order at each port of the link's way. Those own arrivals are of the list.
+/// Alone in an admitted cascade: two lists that have at a link's first switch on a side equal own
+/// arrivals of it, but for their tags, give equal verdicts there, and by all events equal frames in
+/// equal order at each port of the link's way. Whatever else comes under its name to a later switch
+/// is dropped.
 pub fn links_are_alone()
+    ensures listed { OwnAreOfList }
     ensures reasons { ReasonsAreAlone }
     ensures frames { LinksAreAlone }
-    ensures listed { OwnAreOfList }
+    ensures way { OnlyItsWayIsAccepted }
 {}

@@ -1,5 +1,6 @@
-use Rattle.afdx_cascade.proofs.AloneLemmas.{links-alone, own-of-list, reasons-alone}
+use Rattle.afdx_cascade.proofs.AloneLemmas.{links-alone, only-its-way, own-of-list, reasons-alone}
 use Rattle.afdx_cascade.proofs.laws.links_are_alone.Goals as goal
 
 pub returns : goal.returns
-returns c = record { reasons = reasons-alone; frames = links-alone; listed = own-of-list }
+returns c =
+    record { listed = own-of-list; reasons = reasons-alone; frames = links-alone; way = only-its-way }
