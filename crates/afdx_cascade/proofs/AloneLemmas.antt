@@ -159,7 +159,8 @@ reasons-alone ss so_far others side r all also alike =
     let ours = own r.row.vl side (came_to r.switch so_far) in
     let theirs = own r.row.vl side (came_to r.switch others) in
     sym (reasons-are t hop.place r.row side hop.run.lawful hop.stands (came_to r.switch so_far))
-    ∙ sym (reasons-untagged rule ours) ∙ ap (reasons rule) (came-alike ss so_far others side r all also alike) ∙ reasons-untagged rule theirs
+    ∙ sym (reasons-untagged rule ours) ∙ ap (reasons rule) (came-alike ss so_far others side r all also alike)
+    ∙ reasons-untagged rule theirs
     ∙ reasons-are t hop.place r.row side hop.run.lawful hop.stands (came_to r.switch others)
 
 -- ---- at each switch of its way

@@ -1,16 +1,18 @@
 -- What leaves the ports of a link's way in an admitted cascade.
-use Rattle.std.proofs.Common.{◌≡◌, ℕ, ◌+◌, ◌*◌, ◌≤◌, Bool, true, false, ◌&&◌, not}
-use Rattle.std.proofs.Common.{List, [], ◌∷◌, map, refl, sym, ap, ◌∙◌, subst, arith}
-use Rattle.std.proofs.Common.{Some, option_and_then, slice_get}
+use Rattle.std.proofs.Common.{◌≡◌, ℕ, zero, suc, ◌+◌, ◌*◌, ◌<◌, ◌≤◌, nat_lt, Bool, true, false, ◌&&◌, not}
+use Rattle.std.proofs.Common.{List, [], ◌∷◌, length, map, refl, sym, ap, ◌∙◌, subst, arith}
+use Rattle.std.proofs.Common.{Some, option_map, option_and_then, slice_get}
 use Rattle.std.specs.Prelude.{if◌then◌else◌, is_none}
-use Rattle.std.proofs.lemmas.Bool.{and_parts}
+use Rattle.std.proofs.lemmas.Bool.{and_parts, ltb-false}
+use Rattle.std.proofs.lemmas.Option.{slice_get_within}
 use Rattle.afdx_frame.specs.declared.link.Side.{Side}
 use Rattle.afdx_frame.specs.declared.link.Side.TheVariants.{A, B}
 use Rattle.afdx_frame.proofs.ListLemmas.{slice_get-within, AllByRecursion-slice_get}
 use Rattle.afdx_config.specs.Lawful.{IsLawfulSwitch, IsSystem}
 use Rattle.afdx_config.specs.Rows.{LinkRow, Rows}
 use Rattle.afdx_config.specs.Switches.{NamedRows}
-use Rattle.afdx_admit.specs.Cascade.{RowAt, row_at}
+use Rattle.afdx_admit.specs.Cascade.{RowAt, row_at, row_before, is_sent_here, latency_within, way_latency}
+use Rattle.afdx_admit.specs.Cascade.{IsCascadeAdmitted}
 use Rattle.afdx_police.specs.Arrival.{Arrival, is_side, names, own}
 use Rattle.afdx_police.specs.Rule.{Rule}
 use Rattle.afdx_police.specs.Verdicts.{reason_after}
@@ -27,12 +29,12 @@ use Rattle.afdx_switch.proofs.HopLemmas.{first-from}
 use Rattle.afdx_cascade.specs.Admitted.{IsRow, AreRowsBefore, IsAdmittedCascade, hop_at, hops_at}
 use Rattle.afdx_cascade.specs.Cables.{Hop, accepted_at, all_turns, brought, brought_by, latency_at, named}
 use Rattle.afdx_cascade.specs.EndToEnd.{Leaves, EachLeaves, FirstOfThemLeave, begins_at, accepted_of}
-use Rattle.afdx_cascade.specs.EndToEnd.{left_from, LinksLeave, FirstOfLinksLeave, NoOthersLeave}
+use Rattle.afdx_cascade.specs.EndToEnd.{left_from, EachPortHasAWay, LinksLeave, FirstOfLinksLeave, NoOthersLeave}
 use Rattle.afdx_cascade.specs.Plans.{plan_of, tables_of}
 use Rattle.afdx_cascade.specs.SwitchEvents.{SwitchEvent, accepted_by, came_to, turns_of}
 use Rattle.afdx_cascade.specs.Ways.{first_of, latency_of}
 use Rattle.afdx_cascade.proofs.CableLemmas.{all-leaves, first-leaves}
-use Rattle.afdx_cascade.proofs.FedLemmas.{before-row, tables-at, way-takes}
+use Rattle.afdx_cascade.proofs.FedLemmas.{before-row, each-fed, row-here, sent-here, switch-of, tables-at, way-takes}
 use Rattle.afdx_cascade.proofs.OnceLemmas.{turns-there}
 use Rattle.afdx_cascade.proofs.PlanLemmas.{switches-plan}
 use Rattle.afdx_cascade.proofs.WayHopLemmas.{hop-is, rows-ways, run-at}
@@ -178,6 +180,42 @@ pub row-port : (ss : List NamedRows) (so_far : List SwitchEvent) (r : RowAt) (po
     → goes_to (tables_of ss r.switch) r.row port ≡ true → (1 ≤ port) × (port ≤ 24)
 row-port ss so_far r port all goes =
     port-within (tables_of ss r.switch) r.row port ((switches-plan ss all.are).0.lawful r.switch) goes
+
+-- ---- each row has a way
+
+sent-within : (ss : List NamedRows) (r : RowAt) (n : ℕ) → r.switch < n → is_sent_here ss r ≡ true
+    → latency_within n ss r ≡ Some r.row.latency_us
+sent-within ss r zero within sent = absurd (omega (arith, within))
+sent-within ss r (suc n) within sent =
+    ap (λ b. if b then Some r.row.latency_us
+    else option_and_then (λ (b : RowAt). option_map (λ m. m + r.row.latency_us) (latency_within n ss b))
+    (row_before ss r)) sent
+
+sent-latency : (ss : List NamedRows) (r : RowAt) → r.switch < length ss → is_sent_here ss r ≡ true
+    → way_latency ss r ≡ Some r.row.latency_us
+unfolding way_latency
+sent-latency ss r within sent = sent-within ss r (length ss) within sent
+
+row-latency : (ss : List NamedRows) (r : RowAt) → IsCascadeAdmitted ss → IsRow ss r
+    → (sum : ℕ) × (way_latency ss r ≡ Some sum)
+row-latency ss r admitted is = by (nat_lt r.row.from s.0.rows.own) refl
+  where
+    s : (z : NamedRows) × (slice_get ss r.switch ≡ Some z)
+    s = switch-of ss r is
+
+    by : (b : Bool) → nat_lt r.row.from s.0.rows.own ≡ b → (sum : ℕ) × (way_latency ss r ≡ Some sum)
+    by true ours =
+        (r.row.latency_us, sent-latency ss r (slice_get_within ss r.switch s.0 s.1) (sent-here ss r s.0 s.1 ∙ ours))
+    by false past =
+        let hop = admitted.hops r.switch s.0 s.1 is.place r.row (row-here ss r s.0 is s.1)
+        (ltb-false r.row.from s.0.rows.own past) in
+        (hop.sum, hop.way)
+
+pub each-way : EachPortHasAWay
+each-way ss r port admitted is goes =
+    let fed = each-fed ss r admitted is in
+    let sum = row-latency ss r admitted is in
+    (fed.before, sum.0, record { row = is; are = fed.are; latency = sum.1; goes = goes })
 
 -- ---- end to end
 

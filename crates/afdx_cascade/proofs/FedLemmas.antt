@@ -156,7 +156,7 @@ module _ (ss : List NamedRows) where
 
   -- ---- each row is fed
 
-  sent-here : (r : RowAt) (s : NamedRows) → slice_get ss r.switch ≡ Some s
+  pub sent-here : (r : RowAt) (s : NamedRows) → slice_get ss r.switch ≡ Some s
       → is_sent_here ss r ≡ nat_lt r.row.from s.rows.own
   unfolding is_sent_here
   sent-here r s at = ap (λ o. option_map_or (λ (z : NamedRows). nat_lt r.row.from z.rows.own) o false) at

@@ -7,6 +7,7 @@ use Rattle.afdx_frame.specs.declared.link.Side.{Side}
 use Rattle.afdx_config.specs.Rows.{LinkRow, Rows}
 use Rattle.afdx_config.specs.Switches.{NamedRows}
 use Rattle.afdx_admit.specs.Cascade.{RowAt, row_at, row_before, is_sent_here, way_latency}
+use Rattle.afdx_admit.specs.Cascade.{IsCascadeAdmitted}
 use Rattle.afdx_police.specs.Arrival.{Arrival, is_side, names, own}
 use Rattle.afdx_police.specs.declared.shape.Reason.{Reason}
 use Rattle.afdx_switch.specs.Tables.{rule_of, goes_to}
@@ -74,6 +75,15 @@ pub record IsWayTo (switches : List NamedRows) (r : RowAt) (before : List RowAt)
   pub are : AreRowsBefore switches r before
   pub latency : way_latency switches r ≡ Some sum
   pub goes : goes_to (tables_of switches r.switch) r.row port ≡ true
+
+-- Each port to which a row of an admitted cascade goes has such a way.
+abbrev pub EachPortHasAWay : Type 0
+EachPortHasAWay =
+    (switches : List NamedRows) (r : RowAt) (port : ℕ) →
+    IsCascadeAdmitted switches →
+    IsRow switches r →
+    goes_to (tables_of switches r.switch) r.row port ≡ true →
+    (before : List RowAt) × (sum : ℕ) × IsWayTo switches r before sum port
 
 -- From each port of a link's way leave just the frames that its first switch accepted, in order,
 -- each within the sum of the latencies.

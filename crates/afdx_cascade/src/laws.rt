@@ -24,7 +24,8 @@ ghost use Rattle.afdx_cascade.specs.Standing.{SlotJoinsBehind, TurnStaysBehind, 
 ghost use Rattle.afdx_cascade.specs.Admitted.{EachRowIsFed, RowsBeforeAreOne, WayTakesItsLatency};
 ghost use Rattle.afdx_cascade.specs.Admitted.{CascadeIsAdmitted, RowsAreWays, RowsAreWholeWays};
 ghost use Rattle.afdx_cascade.specs.Admitted.{CablesAreRead};
-ghost use Rattle.afdx_cascade.specs.EndToEnd.{LinksLeave, FirstOfLinksLeave, NoOthersLeave};
+ghost use Rattle.afdx_cascade.specs.EndToEnd.{EachPortHasAWay, LinksLeave, FirstOfLinksLeave};
+ghost use Rattle.afdx_cascade.specs.EndToEnd.{NoOthersLeave};
 ghost use Rattle.afdx_cascade.specs.EndToEnd.{OwnAreOfList, ReasonsAreAlone, LinksAreAlone};
 ghost use Rattle.afdx_cascade.specs.EndToEnd.{OnlyItsWayIsAccepted};
 
@@ -208,6 +209,7 @@ pub fn cables_are_read()
 /// it came there and at most the sum of the way's latencies after. Before all events are over these
 /// are the first of them. From all other ports leaves none.
 pub fn links_leave_end_to_end()
+    ensures ways { EachPortHasAWay }
     ensures all { LinksLeave }
     ensures so_far { FirstOfLinksLeave }
     ensures others { NoOthersLeave }
