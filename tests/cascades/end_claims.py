@@ -73,10 +73,13 @@ class Network:
 
 
 class Told:
-    """What a run wrote, by frame, by port and by system."""
+    """What a run wrote, by frame, by port and by system. One that stopped at a fault of its list
+    took these arrivals, and wrote what happened up to the last one."""
 
-    def __init__(self, cascade: dict, arrivals: list[Arrival], out: bytes) -> None:
-        self.network = Network(cascade)
+    def __init__(
+        self, cascade: dict, arrivals: list[Arrival], out: bytes, is_stopped: bool = False
+    ) -> None:
+        self.network, self.is_stopped = Network(cascade), is_stopped
         self.names = [switch["name"] for switch in cascade["switch"]]
         self.listed = {(SIDES[one.side], one.frame.number): one for one in arrivals}
         self.verdicts: dict[Key, list[tuple[str, str]]] = {key: [] for key in self.listed}
@@ -100,6 +103,10 @@ class Told:
             self.read.setdefault((words[1], int(words[2])), []).append(bytes.fromhex(words[3]))
         elif kind in "LT":
             self.missing.append(line)
+
+    def as_far(self, wanted: list, count: int) -> list:
+        """All that is to be told; so many of it where the run stopped."""
+        return wanted[:count] if self.is_stopped else wanted
 
     def named(self, side: str, vl: int) -> list[Key]:
         """The listed frames of a side that name a link, in order."""
@@ -148,8 +155,10 @@ def ends_are_sums(network: Network, lines: list[str]) -> None:
 
 
 def leaves_in_time(told: Told, place: Place, vl: int, wanted: list[Key], most: int) -> None:
-    """Just these frames of a link left a port, in order, each in so many ns."""
+    """Just these frames of a link left a port, in order, each in so many ns; of a run that stopped
+    the first of them."""
     found = told.left_of(place, vl)
+    wanted = told.as_far(wanted, len(found))
     must([key for key, _ in found] == wanted,
          f"of link {vl} {len(found)} frames leave {place} in place of {len(wanted)}, or others")
     for key, time in found:
@@ -169,9 +178,9 @@ def from_end_to_end(told: Told) -> None:
             ]
             for switch, row, most in hops:
                 for name in row["to"]:
-                    port = told.network.port_of[switch, name]
-                    leaves_in_time(told, (side, switch, port), vl, passed, most)
-                    count += len(passed)
+                    place = side, switch, told.network.port_of[switch, name]
+                    leaves_in_time(told, place, vl, passed, most)
+                    count += len(told.left_of(place, vl))
     others = sum(map(len, told.left.values())) - count
     must(not others, f"{others} frames leave ports to which their link doesn't go")
 
@@ -232,12 +241,13 @@ def receivers_named(network: Network) -> Iterator[tuple[str, int]]:
 
 def exactly_once(told: Told, sent: dict[int, list[tuple[int, bytes]]]) -> None:
     """Each receiver reads of each link the messages that were sent to UDP ports that it has, each
-    once and in order; nobody reads anything else."""
+    once and in order; nobody reads anything else. Of a run that stopped it is the first of them."""
     read = dict(told.read)
     for name, vl in receivers_named(told.network):
         of_link = sent.get(vl, [])
         wanted = [payload for udp, payload in of_link if (name, vl, udp) in told.network.open]
         found = read.pop((name, vl), [])
+        wanted = told.as_far(wanted, len(found))
         what = f"{len(found)} messages of link {vl} in place of {len(wanted)}"
         must(found == wanted, f"{name} reads {what}, or others")
     must(not read, f"messages are read where none are sent: {sorted(read)[:5]}")

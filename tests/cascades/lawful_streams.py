@@ -1,5 +1,6 @@
 """Lists over cascades of which is known what must be read: lawful streams of the systems' links, of
-which a side may end at any frame, and frames of strangers between them."""
+which a side may end at any frame, and frames of strangers between them. And lists of frames that
+come as early as their first switch takes them."""
 from __future__ import annotations
 
 import random
@@ -11,6 +12,7 @@ from cascade import own_names
 from cascade_run import refusal
 from frames import Sent, frame_of, number_of
 from made_lists import made_list
+from one_switch import Policing
 from sender import Message, emissions
 from sent_over import messages_of
 from tables import system_named
@@ -94,6 +96,42 @@ def late_streams(chance: random.Random, switches: list[dict]) -> list[Stream]:
                 count = chance.choice([1, 5, 20, 300 if chance.random() < 0.1 else 20])
                 streams.append(late_stream(chance, switch, link, count))
     return streams
+
+
+# ---- greedy lists --------------------------------------------------------------------------------
+
+
+def greedy_stream(
+    chance: random.Random, switch: dict, link: dict, side: str, time: int
+) -> list[tuple[int, str]]:
+    """Frames of a link from a time on, each as early as its switch accepts it; some come a ns too
+    early before that, and are dropped."""
+    system, policing = system_named(switch, link["from"]), Policing(link)
+    place, lines = f"{side} {switch['name']} {system['port']}", []
+    for number in range(chance.choice([5, 20, 60])):
+        payload = bytes(chance.choice([1, link["lmax"] - MOST_READ]))
+        frame = frame_of(system, link["vl"], 1000, payload, number_of(number), side, link["lmin"])
+        digits = frame.hex()
+        early = policing.early(time, len(frame))
+        if early:
+            time += early
+            policing.early(time, len(frame))
+            if chance.random() < 0.2:
+                lines.append((time - 1, f"R {time - 1} {place} {digits}"))
+        lines.append((time, f"R {time} {place} {digits}"))
+    return lines
+
+
+def greedy_lines(chance: random.Random, switches: list[dict]) -> list[str]:
+    """Such frames of all links, which begin at once or nearly so."""
+    lines: list[tuple[int, str]] = []
+    for switch in switches:
+        for link in switch["link"]:
+            if link["from"] in own_names(switch):
+                for side in chance.choice(["A", "B", "AB"]):
+                    begin = chance.choice([0, 0, 1, 6_720, chance.randrange(MS)])
+                    lines += greedy_stream(chance, switch, link, side, begin)
+    return [line for _, line in sorted(lines, key=lambda each: each[0])]
 
 
 # ---- sides that end ------------------------------------------------------------------------------

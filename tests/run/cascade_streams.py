@@ -6,8 +6,9 @@
 Cascades of 2 to 5 switches are made at random: chains, stars, trees and rings of cables, of both
 profiles, with jitters behind cables of more than a BAG. All systems send at once, or their frames
 are late by up to a jitter. Strangers' frames come in at each port, and a side is dead from the
-begin, dies at any frame, or links' streams end anywhere. What is written of such a list, and of
-two recordings of it, is read for what is promised, by tests/cascades/end_claims.py:
+begin, dies at any frame, or links' streams end anywhere. So it is in cascades of 24 switches. What
+is written of such a list, up to its end or to a fault, and of two recordings of it, is read for
+what is promised, by tests/cascades/end_claims.py:
 
 - what a cable brings is accepted, and no copy is lost or too old;
 - from each port of a link's way leave just the frames that its first switch accepted, in order, and
@@ -15,7 +16,8 @@ two recordings of it, is read for what is promised, by tests/cascades/end_claims
 - a link's frames are judged and passed on alike, whatever else comes;
 - each receiver reads each message once and in order.
 
-All but the last is read of any lists too. Each of the lines B1 to B5 of admission is needed: where
+All but the last is read of any lists too, and of frames that come as early as the first switch
+accepts them, of all links at once. Each of the lines B1 to B5 of admission is needed: where
 it alone is false something of this isn't so of a list that is spelled out. Where no PROGRAM is
 given only what is computed here is tried. Prints `ok NAME` or `FAILED NAME` for each case, then
 `N passed, M failed`; ends with status 1 if a case failed. Needs Python 3.11.
@@ -40,6 +42,7 @@ from claimed_runs import Called, Computed, any_list_runs, sound  # noqa: E402
 from claimed_runs import streams_arrive, streams_of, taps_arrive  # noqa: E402
 from compared_runs import FREE, replay_by  # noqa: E402
 from end_claims import Told, accepted_everywhere, from_end_to_end  # noqa: E402
+from large_cascades import around_one, in_a_mesh, in_a_ring, in_a_row  # noqa: E402
 from lawful_streams import lines_of, messages_in, ways_to_end, with_strangers  # noqa: E402
 from needed_lines import NEEDED, Needed, read_once  # noqa: E402
 from program import Program, Wrong, answers, main_of_both, must, same_text  # noqa: E402
@@ -162,6 +165,13 @@ def called(program: Program, case: Case, seed: int, count: int) -> None:
     so_many(Called(program), case, seed, count)
 
 
+def large(program: Program, make: Callable[[], dict]) -> None:
+    """Streams and any lists over a large cascade."""
+    runs, chance, cascade = Called(program), random.Random(0), make()
+    streams_arrive(runs, chance, cascade)
+    any_list_runs(runs, chance, cascade)
+
+
 def computed_cases() -> list[tuple]:
     """What is tried without the program."""
     return [
@@ -176,11 +186,17 @@ def computed_cases() -> list[tuple]:
 def program_cases(program: Program) -> list[tuple]:
     """What is tried with the program."""
     cases: list[tuple] = [(f"needed: {row.name}", needed_is_told, program, row) for row in NEEDED]
+    cases += [
+        ("23 switches around one", large, program, lambda: around_one(23)),
+        ("24 switches in a ring", large, program, lambda: in_a_ring(24)),
+        ("24 switches each to each", large, program, lambda: in_a_mesh(24, False)),
+        ("24 switches in a row", large, program, lambda: in_a_row(24)),
+    ]
     for seed in range(4):
         cases += [
-            (f"streams over 15 cascades, {seed}", called, program, streams_arrive, seed, 15),
+            (f"streams over 12 cascades, {seed}", called, program, streams_arrive, seed, 12),
             (f"any lists over 15 cascades, {seed}", called, program, any_list_runs, seed, 15),
-            (f"streams over 6 cascades, recorded, {seed}", called, program, taps_arrive, seed, 6),
+            (f"streams over 5 cascades, recorded, {seed}", called, program, taps_arrive, seed, 5),
         ]
     return cases
 
