@@ -76,6 +76,17 @@ file_case 'replay gigabit.list' 0 examples/gigabit.out '' \
     replay --no-admission examples/gigabit.toml examples/gigabit.list
 file_case 'replay two_switches.list' 0 examples/two_switches.out '' \
     replay examples/two_switches.toml examples/two_switches.list
+
+# the same before a person, who waits once; on the terminal a return is shown as <
+tell 'a person who waits for several switches is told how much was read' "$(
+    { head -1 examples/two_switches.list && sleep 3 && tail -n +2 examples/two_switches.list; } |
+        python3 tests/lib/on_terminal.py "$program" replay --progress examples/two_switches.toml - |
+        tr '\r\033' '<e' >"$work/person"
+    told='<e[K0 MiB read' # once or, on a busy machine, more often
+    if [[ $(<"$work/person") != "$told"*'<e[K' ]]; then
+        echo "told: $(<"$work/person")"
+    fi
+)"
 case_of 'gigabit.toml is not admitted' 1 '' $'admit A2 4 1430\n' \
     replay examples/gigabit.toml examples/gigabit.list
 case_of 'refused.toml is not admitted' 1 '' $'admit A3 7 104 267995\n' \

@@ -282,7 +282,8 @@ fn unsaid_ports(alloc: Global) -> Result<(Option<u8>, Option<u8>), ConfigFault> 
     let tables = base_tables(alloc)?;
     let one = SystemPorts::unsaid(alloc, UnsaidPort::One(5))?;
     let sender = SystemPorts::unsaid(alloc, UnsaidPort::OfSender(&tables))?;
-    Ok((one.port(HELLO.as_slice()), sender.port(HELLO.as_slice())))
+    let port = |ports: &SystemPorts| ports.entry(HELLO.as_slice()).map(|entry| entry.port);
+    Ok((port(&one), port(&sender)))
 }
 
 #[test]

@@ -18,3 +18,4 @@ mod CascadeStepLemmas
 mod CascadeArriveLemmas
 mod EnteredLemmas
 mod PlacedLemmas
+mod OneSwitchLemmas

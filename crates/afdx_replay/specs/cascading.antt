@@ -6,3 +6,4 @@ pub mod Ran
 pub mod Sited
 pub mod Items
 pub mod Input
+pub mod OneSwitch

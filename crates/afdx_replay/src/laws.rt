@@ -1,5 +1,7 @@
 //! What is true of the definitions of a replay.
 
+ghost use Rattle.afdx_replay.specs.cascading.OneSwitch.{CascadeOfOneIsItsSwitch};
+ghost use Rattle.afdx_replay.specs.cascading.OneSwitch.{ListsAreAtSwitches};
 ghost use Rattle.afdx_replay.specs.replaying.DefinedRun.{RunsAreByDefinition};
 ghost use Rattle.afdx_replay.specs.replaying.Promises.{ArrivalsAreListed, NoneIsCounted};
 ghost use Rattle.afdx_replay.specs.replaying.Promises.{ReplayIsAsPromised, ReplaySoFarIsAsPromised};
@@ -31,4 +33,14 @@ pub fn runs_are_by_definition()
 /// Each arrival of a list is the frame of one of its lines, under the line's number.
 pub fn arrivals_are_listed()
     ensures { ArrivalsAreListed }
+{}
+
+/// A cascade of one switch a side has that switch's text. All events are at the switch, and what
+/// came to it are the frames of the lines. Without its name the lines that are written are those of
+/// a run of its own tables on these frames, and they are counted alike.
+///
+/// This holds of lines that are at one of the switches. Those of a list are.
+pub fn a_cascade_of_one_is_its_switch()
+    ensures one { CascadeOfOneIsItsSwitch }
+    ensures lists { ListsAreAtSwitches }
 {}

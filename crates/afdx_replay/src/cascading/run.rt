@@ -87,7 +87,7 @@ impl<'a, D: Write> Cascading<'a, D> {
             × HearsAll D.contents s past start self.new.teller.early) }
     {
         while let Some(happened) = self.cascade.take(until)? {
-            self.teller.tell_event(&happened, output)?;
+            self.teller.tell_event(happened, output)?;
         }
         Ok(())
     }

@@ -121,7 +121,7 @@ impl<'a, D: Write> Teller<'a, D> {
     fn tell_turn<O: Sink>(
         &mut self,
         switch: usize,
-        turned: &Turned,
+        turned: Turned,
         output: &mut O,
     ) -> Result<(), RunFault>
         requires within { switch < length self.old.systems.items }
@@ -136,13 +136,13 @@ impl<'a, D: Write> Teller<'a, D> {
         ensures early { self.new.early ≡ self.old.early }
         ensures told { (before : List SwitchEvent) (d : Departure) →
             SystemsAre self.old.switches.now self.old.systems.items before →
-            TellsTurn (plan_of self.old.switches.now) switch turned.now d →
+            TellsTurn (plan_of self.old.switches.now) switch turned d →
             OnOk result (TellsOne self.old.switches.now self.new.systems.items
             self.old.counts self.new.counts (O.written output.old) (O.written output.new)
             before (event_at switch (Left d))) }
         ensures begun { (before : List SwitchEvent) (d : Departure) →
             SystemsAre self.old.switches.now self.old.systems.items before →
-            TellsTurn (plan_of self.old.switches.now) switch turned.now d →
+            TellsTurn (plan_of self.old.switches.now) switch turned d →
             OnErr result (AppendsFront (O.written output.old) (O.written output.new)
             (event_lines self.old.switches.now before (event_at switch (Left d)))) }
     {
@@ -150,13 +150,15 @@ impl<'a, D: Write> Teller<'a, D> {
         match turned {
             Turned::Ended(departed) => {
                 let systems = &mut self.systems[switch];
-                tell_departure(systems, &mut self.counts, name, departed, output)
+                let counts = &mut self.counts;
+                tell_departure::<Teller<'a, D>, O>(systems, counts, name, &departed, output)
             }
-            Turned::Carried(sent) => self.tell_sent(name, sent, output),
+            Turned::Carried(sent) => self.tell_sent(name, &sent, output),
         }
     }
 
     /// Tells a frame that came to a switch, of the list or over a cable.
+    #[inline(always)]
     pub(crate) fn tell_arrival<O: Sink>(
         &mut self,
         brought: &Brought,
@@ -205,10 +207,10 @@ impl<'a, D: Write> Teller<'a, D> {
     /// Tells what happened.
     pub(crate) fn tell_event<O: Sink>(
         &mut self,
-        happened: &Happened,
+        happened: Happened,
         output: &mut O,
     ) -> Result<(), RunFault>
-        requires within { place_of happened.now < length self.old.systems.items }
+        requires within { place_of happened < length self.old.systems.items }
         requires fits { IsFor self.old.switches.now self.old }
         requires low { AreLow self.old.counts }
         requires sound { O.failed output.old ≡ false }
@@ -219,25 +221,25 @@ impl<'a, D: Write> Teller<'a, D> {
         ensures steady { AreSteady self.old.counts → OnOk result (AreSteady self.new.counts) }
         ensures told { (before : List SwitchEvent) (h : SwitchEvent) →
             SystemsAre self.old.switches.now self.old.systems.items before →
-            TellsEvent (plan_of self.old.switches.now) before happened.now h →
+            TellsEvent (plan_of self.old.switches.now) before happened h →
             OnOk result (TellsOne self.old.switches.now self.new.systems.items
             self.old.counts self.new.counts (O.written output.old) (O.written output.new)
             before h) }
         ensures heard { (before : List SwitchEvent) (h : SwitchEvent) (start : Option (Device D)) →
-            TellsEvent (plan_of self.old.switches.now) before happened.now h →
+            TellsEvent (plan_of self.old.switches.now) before happened h →
             HearsEarly D.contents self.old.switches.now start self.old.early before →
             OnOk result
             (HearsEarly D.contents self.old.switches.now start self.new.early (h ∷ before)) }
         ensures kept { OnErr result (self.new.early ≡ self.old.early) }
         ensures begun { (before : List SwitchEvent) (h : SwitchEvent) →
             SystemsAre self.old.switches.now self.old.systems.items before →
-            TellsEvent (plan_of self.old.switches.now) before happened.now h →
+            TellsEvent (plan_of self.old.switches.now) before happened h →
             OnErr result (AppendsFront (O.written output.old) (O.written output.new)
             (event_lines self.old.switches.now before h)) }
     {
         match happened {
-            Happened::Over(switch, turned) => self.tell_turn(*switch, turned, output),
-            Happened::Came(brought) => self.tell_arrival(brought, output),
+            Happened::Over(switch, turned) => self.tell_turn(switch, turned, output),
+            Happened::Came(brought) => self.tell_arrival(&brought, output),
         }
     }
 }

@@ -100,7 +100,8 @@ impl Replay {
             (O.written output.new) (arrivals_in events)) }
     {
         while let Some(departed) = self.network.take(until) {
-            tell_departure(&mut self.systems, &mut self.counts, "", &departed, output)?;
+            let (systems, counts) = (&mut self.systems, &mut self.counts);
+            tell_departure::<Replay, O>(systems, counts, "", &departed, output)?;
         }
         Ok(())
     }

@@ -72,10 +72,9 @@ pub(crate) fn tell_verdict<O: Sink>(
 }
 
 /// Tells a departure at the switch of this name: hands its frame over to the port's system if it
-/// left, and counts it. (With the name known to the compiler, the lines of one switch ask nothing
-/// of it.)
-#[inline(always)]
-pub(crate) fn tell_departure<O: Sink>(
+/// left, and counts it. Each machine `M` that tells by it has a copy of its own, which the compiler
+/// puts in its place there: so the lines of one switch ask nothing of a name.
+pub(crate) fn tell_departure<M, O: Sink>(
     systems: &mut Systems,
     counts: &mut Summary,
     switch: &str,
