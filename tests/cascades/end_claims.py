@@ -82,8 +82,12 @@ class Told:
         self.network, self.is_stopped = Network(cascade), is_stopped
         self.names = [switch["name"] for switch in cascade["switch"]]
         self.listed = {(SIDES[one.side], one.frame.number): one for one in arrivals}
+        self.link = {key: one.frame.link() for key, one in self.listed.items()}
+        self.of_link: dict[tuple[str, int | None], list[Key]] = {}  # by side too
+        for key, vl in self.link.items():
+            self.of_link.setdefault((key[0], vl), []).append(key)
         self.verdicts: dict[Key, list[tuple[str, str]]] = {key: [] for key in self.listed}
-        self.left: dict[Place, list[tuple[Key, int]]] = {}
+        self.left: dict[tuple[Place, int | None], list[tuple[Key, int]]] = {}  # by link too
         self.read: dict[tuple[str, int], list[bytes]] = {}
         self.missing: list[str] = []  # lines of frames that are lost or too old
         for line in out.decode().splitlines():
@@ -92,13 +96,17 @@ class Told:
     def take(self, line: str) -> None:
         """A line."""
         kind, *words = line.split(" ")
+        must(kind in ("V", "L", "D", "T", "M", "X"), f"a line is {line!r}")
         if kind == "V":
             number, side, name, verdict = words[0], words[1], words[2], " ".join(words[3:])
+            must((side, int(number)) in self.listed, f"{line!r} is of no frame that came")
             self.verdicts[side, int(number)].append((name, verdict))
         elif kind == "D":
             number, time, side, name, port = words
-            place = side, name, int(port)
-            self.left.setdefault(place, []).append(((side, int(number)), int(time)))
+            key = side, int(number)
+            must(key in self.listed, f"{line!r} is of no frame that came")
+            place = (side, name, int(port)), self.link[key]
+            self.left.setdefault(place, []).append((key, int(time)))
         elif kind == "M":
             self.read.setdefault((words[1], int(words[2])), []).append(bytes.fromhex(words[3]))
         elif kind in "LT":
@@ -110,9 +118,7 @@ class Told:
 
     def named(self, side: str, vl: int) -> list[Key]:
         """The listed frames of a side that name a link, in order."""
-        return [
-            key for key, one in self.listed.items() if key[0] == side and one.frame.link() == vl
-        ]
+        return self.of_link.get((side, vl), [])
 
     def is_own(self, key: Key, vl: int) -> bool:
         """A frame that names the link comes from its sender's port."""
@@ -121,10 +127,7 @@ class Told:
 
     def left_of(self, place: Place, vl: int) -> list[tuple[Key, int]]:
         """The link's frames that left a port, in order."""
-        return [
-            (key, time) for key, time in self.left.get(place, [])
-            if self.listed[key].frame.link() == vl
-        ]
+        return self.left.get((place, vl), [])
 
 
 # ---- accepted once is accepted everywhere --------------------------------------------------------
@@ -208,14 +211,14 @@ def own_text(told: Told, side: str, vl: int) -> OwnText:
         must(told.is_own(key, vl) or is_dropped, f"a stranger's frame {key}: {verdicts}")
     place_of = {key: place for place, key in enumerate(own)}
     left = {
-        place: [place_of.get(key, -1) for key, _ in told.left_of(place, vl)]
-        for place in told.left if place[0] == side
+        place: [place_of.get(key, -1) for key, _ in found]
+        for (place, link), found in told.left.items() if place[0] == side and link == vl
     }
     return OwnText(
         [(told.listed[key].time, told.listed[key].frame.content) for key in own],
         [told.verdicts[key][0][1] for key in own],
         [[" ".join(each) for each in sorted(told.verdicts[key][1:])] for key in own],
-        {place: found for place, found in left.items() if found},
+        left,
     )
 
 

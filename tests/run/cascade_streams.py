@@ -17,10 +17,10 @@ what is promised, by tests/cascades/end_claims.py:
 - each receiver reads each message once and in order.
 
 All but the last is read of any lists too, and of frames that come as early as the first switch
-accepts them, of all links at once. Each of the lines B1 to B5 of admission is needed: where
-it alone is false something of this isn't so of a list that is spelled out. Where no PROGRAM is
-given only what is computed here is tried. Prints `ok NAME` or `FAILED NAME` for each case, then
-`N passed, M failed`; ends with status 1 if a case failed. Needs Python 3.11.
+accepts them, of all links at once. Each of the lines B1 to B5 of admission is needed: where it
+alone is false something of this isn't so of a list that is spelled out. Where no PROGRAM is given
+only what is computed here is tried. Prints `ok NAME` or `FAILED NAME` for each case, then `N
+passed, M failed`; ends with status 1 if a case failed. Needs Python 3.11.
 """
 from __future__ import annotations
 
