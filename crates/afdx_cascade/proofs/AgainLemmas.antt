@@ -4,6 +4,7 @@ use Rattle.std.proofs.Common.{inl, inr, map, refl, sym, ap, ◌∙◌, subst, ar
 use Rattle.std.specs.Prelude.{if◌then◌else◌}
 use Rattle.std.proofs.lemmas.Bool.{cases_lt}
 use Rattle.afdx_frame.specs.declared.link.Side.{Side}
+use Rattle.afdx_config.specs.Rows.{LinkRow}
 use Rattle.afdx_police.specs.Arrival.{Arrival}
 use Rattle.afdx_port.specs.Schedule.{Entry, Turn, AreTurns, end_of}
 use Rattle.afdx_port.proofs.TurnLemmas.{nat_lt-true, nat_lt-false}
@@ -11,9 +12,9 @@ use Rattle.afdx_switch.specs.Admitted.{slots}
 use Rattle.afdx_switch.specs.HeldFrames.{HeldFrame}
 use Rattle.afdx_switch.specs.Tables.{rule_of, byte_ns_at, entries_at}
 use Rattle.afdx_promises.specs.Sent.{arrivals_at}
-use Rattle.afdx_cascade.specs.Cables.{Hop, brought, brought_by}
-use Rattle.afdx_cascade.specs.SwitchEvents.{came_to, in_clock, turns_of, end_at}
-use Rattle.afdx_cascade.specs.Again.{BroughtIsAccepted}
+use Rattle.afdx_cascade.specs.Cables.{Hop, GoesOn, brought, brought_by}
+use Rattle.afdx_cascade.specs.SwitchEvents.{Plan, IsPlan, SwitchEvent, KeepsRules, came_to, in_clock, turns_of, end_at}
+use Rattle.afdx_cascade.specs.Again.{IsNextThere, BroughtIsAccepted}
 use Rattle.afdx_cascade.proofs.CableLemmas.{again}
 
 record IsCut (side : Side) (port : ℕ) (turns : List (Turn HeldFrame))
@@ -52,14 +53,14 @@ cut-turns side port (s ∷ earlier) (w ∷ waiting) arrivals same =
     by true e same-waits fewer = with-one side port s earlier arrivals (same-waits e)
     by false e same-waits fewer = with-one side port s earlier arrivals (fewer (cc e))
 
-first-turns : (byte_ns : ℕ) (entries : List (Entry HeldFrame))
+pub first-turns : (byte_ns : ℕ) (entries : List (Entry HeldFrame))
     (dropped kept : List (Turn HeldFrame))
     → AreTurns byte_ns entries (dropped ++ kept) → AreTurns byte_ns entries kept
 first-turns byte_ns entries [] kept are = are
 first-turns byte_ns entries (s ∷ dropped) kept are = first-turns byte_ns entries dropped kept are.1
 
 -- the turns that are over by then are the first of all
-no-late : (byte_ns : ℕ) (entries : List (Entry HeldFrame)) (turns : List (Turn HeldFrame))
+pub no-late : (byte_ns : ℕ) (entries : List (Entry HeldFrame)) (turns : List (Turn HeldFrame))
     → AreTurns byte_ns entries turns
     → end_of turns ≤ 1000032768000000 → in_clock turns ≡ turns
 no-late byte_ns entries [] are soon = refl
@@ -70,7 +71,7 @@ no-late byte_ns entries (s ∷ earlier) are soon =
     (nat_lt-false 1000032768000000 s.end soon)
     ∙ ap (λ ts. s ∷ ts) (no-late byte_ns entries earlier are.1 (omega (arith, lasts, after, soon)))
 
-clock-cut : (byte_ns : ℕ) (entries : List (Entry HeldFrame)) (turns : List (Turn HeldFrame))
+pub clock-cut : (byte_ns : ℕ) (entries : List (Entry HeldFrame)) (turns : List (Turn HeldFrame))
     → AreTurns byte_ns entries turns
     → (dropped : List (Turn HeldFrame)) × (turns ≡ dropped ++ in_clock turns)
 clock-cut byte_ns entries [] are = ([], refl)
@@ -84,43 +85,42 @@ clock-cut byte_ns entries (s ∷ earlier) are = elim (cases_lt 1000032768000000 
   | inr soon ↦ ([], sym (no-late byte_ns entries (s ∷ earlier) are soon))
 ]
 
-pub brought-accepted : BroughtIsAccepted
-brought-accepted c so_far side j k before next later past x plan rules there run_j run_k came
-    on-side at-port named =
-    let before_hop : Hop = record {
-      tables = c.tables j;
-      link = before;
-      arrivals = came_to j so_far;
-    } in
-    let next_hop : Hop = record { tables = c.tables k; link = next; arrivals = came_to k so_far } in
-    let carries = rules.cables k (rule_of (c.tables k) next).port side
-    (end_at j there.port) there.cable in
-    let cut = cut-turns side (rule_of (c.tables k) next).port
-    (in_clock (turns_of j side there.port so_far)) carries.waiting
-    (arrivals_at side (rule_of (c.tables k) next).port (came_to k so_far)) carries.brings in
-    let ends = plan.ports k (rule_of (c.tables k) next).port (end_at j there.port) there.cable in
+-- what is known of a link at a switch, over what came there
+abbrev pub hop : Plan → List SwitchEvent → ℕ → LinkRow → Hop
+hop c so_far k l = record { tables = c.tables k; link = l; arrivals = came_to k so_far }
+
+-- the cable brings the first of what left
+pub goes-on : (c : Plan) (so_far : List SwitchEvent) (side : Side) (j k : ℕ) (before next : LinkRow)
+    → IsPlan c → KeepsRules c so_far → IsNextThere c j k before next
+    → GoesOn side (hop c so_far j before) (hop c so_far k next)
+goes-on c so_far side j k before next plan rules there =
+    let to = (rule_of (c.tables k) next).port in
+    let byte_ns = byte_ns_at (c.tables j) there.port in
+    let entries = entries_at (c.tables j) side there.port (came_to j so_far) in
+    let turns = turns_of j side there.port so_far in
+    let carries = rules.cables k to side (end_at j there.port) there.cable in
+    let cut = cut-turns side to (in_clock turns) carries.waiting (arrivals_at side to (came_to k so_far))
+    carries.brings in
+    let ends = plan.ports k to (end_at j there.port) there.cable in
     let are = rules.turns j there.port side ends.0 ends.1 in
-    let clock = clock-cut (byte_ns_at (c.tables j) there.port)
-    (entries_at (c.tables j) side there.port (came_to j so_far))
-    (turns_of j side there.port so_far) are in
-    (again side before_hop next_hop
-    (record { place = there.place; stands = there.stands; run = run_j })
-    (record { place = there.next_place; stands = there.next_stands; run = run_k })
-    (record {
+    let clock = clock-cut byte_ns entries turns are in
+    record {
       port = there.port;
       turns = cut.kept;
       gives = record {
         goes = there.goes;
-        are = first-turns (byte_ns_at (c.tables j) there.port)
-            (entries_at (c.tables j) side there.port (came_to j so_far)) cut.dropped cut.kept
-            (subst (AreTurns (byte_ns_at (c.tables j) there.port)
-            (entries_at (c.tables j) side there.port (came_to j so_far))) cut.all
-            (first-turns (byte_ns_at (c.tables j) there.port)
-            (entries_at (c.tables j) side there.port (came_to j so_far)) clock.0
-            (in_clock (turns_of j side there.port so_far))
-            (subst (AreTurns (byte_ns_at (c.tables j) there.port)
-            (entries_at (c.tables j) side there.port (came_to j so_far))) clock.1 are)));
+        are = first-turns byte_ns entries cut.dropped cut.kept
+            (subst (AreTurns byte_ns entries) cut.all
+            (first-turns byte_ns entries clock.0 (in_clock turns) (subst (AreTurns byte_ns entries) clock.1 are)));
       };
       brings = sym cut.brings;
       row = there.row;
-    })).none_dropped later past x came on-side at-port named
+    }
+
+pub brought-accepted : BroughtIsAccepted
+brought-accepted c so_far side j k before next later past x plan rules there run_j run_k came
+    on-side at-port named =
+    (again side (hop c so_far j before) (hop c so_far k next)
+    (record { place = there.place; stands = there.stands; run = run_j })
+    (record { place = there.next_place; stands = there.next_stands; run = run_k })
+    (goes-on c so_far side j k before next plan rules there)).none_dropped later past x came on-side at-port named

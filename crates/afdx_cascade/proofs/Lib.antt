@@ -35,3 +35,7 @@ pub mod OneFrameLemmas
 pub mod TwoHopsLemmas
 pub mod TwoHopsRunLemmas
 pub mod TwoHopsAllLemmas
+pub mod FedLemmas
+pub mod WayHopLemmas
+pub mod WholeLemmas
+pub mod ReadLemmas

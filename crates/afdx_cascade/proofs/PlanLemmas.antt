@@ -30,18 +30,18 @@ use Rattle.afdx_cascade.specs.Plans.{SwitchesAreAPlan, tables_of, first_tables}
 
 -- ---- look-ups that found something
 
-and-then : {A B : Type 0} (f : A → Option B) (o : Option A) (y : B) → option_and_then f o ≡ Some y
+pub and-then : {A B : Type 0} (f : A → Option B) (o : Option A) (y : B) → option_and_then f o ≡ Some y
     → (x : A) × (o ≡ Some x) × (f x ≡ Some y)
 and-then f None y h = absurd (cc h)
 and-then f (Some x) y h = (x, refl, h)
 
-mapped : {A B : Type 0} (f : A → B) (o : Option A) (y : B) → option_map f o ≡ Some y
+pub mapped : {A B : Type 0} (f : A → B) (o : Option A) (y : B) → option_map f o ≡ Some y
     → (x : A) × (o ≡ Some x) × (f x ≡ y)
 mapped f None y h = absurd (cc h)
 mapped f (Some x) y h = (x, refl, same_Some (f x) y h)
 
 -- what stands at a place that a search found passes
-passes-there : {R : Type 0} (p : R → Bool) (rows : List R) (i : ℕ) (a : R) → position p rows ≡ Some i
+pub passes-there : {R : Type 0} (p : R → Bool) (rows : List R) (i : ℕ) (a : R) → position p rows ≡ Some i
     → slice_get rows i ≡ Some a → p a ≡ true
 passes-there p rows i a found at =
     let is = position-Some p rows i a found in
@@ -51,13 +51,13 @@ passes-there p rows i a found at =
 -- ---- the neighbours of a switch
 
 -- a neighbour, and the place that a look-up gives for it
-record IsFoundAt (t : Rows) (found : Option ℕ) (e : SystemRow) : Type 0 where
-  i : ℕ
-  is : found ≡ Some i
-  beside : if_neighbour t i ≡ Some i
-  stands : slice_get t.systems i ≡ Some e
+pub record IsFoundAt (t : Rows) (found : Option ℕ) (e : SystemRow) : Type 0 where
+  pub i : ℕ
+  pub is : found ≡ Some i
+  pub beside : if_neighbour t i ≡ Some i
+  pub stands : slice_get t.systems i ≡ Some e
 
-same-place : (b : Bool) (i m : ℕ) → (if b then Some i else None) ≡ Some m → i ≡ m
+pub same-place : (b : Bool) (i m : ℕ) → (if b then Some i else None) ≡ Some m → i ≡ m
 same-place true i m h = same_Some i m h
 same-place false i m h = absurd (cc h)
 
@@ -76,7 +76,7 @@ module _ (t : Rows) where
         stands = ap (slice_get t.systems) same ∙ there.2;
       }
 
-  at-found : (found : Option ℕ) (e : SystemRow) → IsFoundAt t found e
+  pub at-found : (found : Option ℕ) (e : SystemRow) → IsFoundAt t found e
       → option_and_then (slice_get t.systems) (option_and_then (if_neighbour t) found) ≡ Some e
   at-found found e h =
       ap (λ o. option_and_then (slice_get t.systems) (option_and_then (if_neighbour t) o)) h.is
@@ -87,7 +87,7 @@ module _ (t : Rows) where
   unfolding neighbour_named
   by-name name e h = found-at (system_named t.systems name) e h
 
-  name-by : (name : List ℕ) (e : SystemRow) → IsFoundAt t (system_named t.systems name) e
+  pub name-by : (name : List ℕ) (e : SystemRow) → IsFoundAt t (system_named t.systems name) e
       → neighbour_row t name ≡ Some e
   unfolding neighbour_named
   name-by name e h = at-found (system_named t.systems name) e h
@@ -106,28 +106,28 @@ module _ (t : Rows) where
 
 -- ---- the cables
 
-abbrev far_at : ℕ → ℕ → FarEnd
+abbrev pub far_at : ℕ → ℕ → FarEnd
 far_at j port = record { switch = record { 0 = j }; port = port }
 
-abbrev leads : ℕ → SystemRow → FarEnd
+abbrev pub leads : ℕ → SystemRow → FarEnd
 leads j e = far_at j e.port
 
 -- a cable, from the port at which this switch lists the other one
-record IsCable (ss : List NamedRows) (k port : ℕ) (f : FarEnd) : Type 0 where
-  here : NamedRows
-  here_is : slice_get ss k ≡ Some here
-  one : SystemRow
-  listed : IsFoundAt here.rows (system_at_port here.rows.systems port) one
-  j : ℕ
-  named : switch_named ss one.name ≡ Some j
-  there : NamedRows
-  there_is : slice_get ss j ≡ Some there
-  back : SystemRow
-  lists : IsFoundAt there.rows (system_named there.rows.systems here.name) back
-  is : leads j back ≡ f
+pub record IsCable (ss : List NamedRows) (k port : ℕ) (f : FarEnd) : Type 0 where
+  pub here : NamedRows
+  pub here_is : slice_get ss k ≡ Some here
+  pub one : SystemRow
+  pub listed : IsFoundAt here.rows (system_at_port here.rows.systems port) one
+  pub j : ℕ
+  pub named : switch_named ss one.name ≡ Some j
+  pub there : NamedRows
+  pub there_is : slice_get ss j ≡ Some there
+  pub back : SystemRow
+  pub lists : IsFoundAt there.rows (system_named there.rows.systems here.name) back
+  pub is : leads j back ≡ f
 
 module _ (ss : List NamedRows) where
-  cable : (k port : ℕ) (f : FarEnd) → far_end ss k port ≡ Some f → IsCable ss k port f
+  pub cable : (k port : ℕ) (f : FarEnd) → far_end ss k port ≡ Some f → IsCable ss k port f
   unfolding far_end
   cable k port f h =
       let here = and-then (λ (s : NamedRows). option_and_then (switches.end_at ss s.name)
@@ -159,7 +159,7 @@ module _ (ss : List NamedRows) where
       (bytes_eq-Decides name s.name).0
       (passes-there (λ (r : NamedRows). bytes_eq name r.name) ss j s found at)
 
-  cable-is : (k port : ℕ) (s t : NamedRows) (e back : SystemRow) (j : ℕ) → slice_get ss k ≡ Some s
+  pub cable-is : (k port : ℕ) (s t : NamedRows) (e back : SystemRow) (j : ℕ) → slice_get ss k ≡ Some s
       → neighbour_at_port s.rows port ≡ Some e → switch_named ss e.name ≡ Some j → slice_get ss j ≡ Some t
       → neighbour_row t.rows s.name ≡ Some back → far_end ss k port ≡ Some (leads j back)
   unfolding far_end
@@ -172,7 +172,7 @@ module _ (ss : List NamedRows) where
       ∙ ap (option_map (leads j)) lists
 
 module _ (ss : List NamedRows) (are : AreSwitches ss) where
-  lawful-at : (k : ℕ) (s : NamedRows) → slice_get ss k ≡ Some s → IsLawfulSwitch s.rows
+  pub lawful-at : (k : ℕ) (s : NamedRows) → slice_get ss k ≡ Some s → IsLawfulSwitch s.rows
   lawful-at k s at = AllByRecursion-slice_get (λ (r : NamedRows). IsLawfulSwitch r.rows) ss k s are.each at
 
   -- a switch's name is its own
@@ -240,7 +240,7 @@ module _ (ss : List NamedRows) (are : AreSwitches ss) where
 
 -- ---- the plan
 
-ends-there : (o : Option FarEnd) (e : End) → end_of o ≡ Some e
+pub ends-there : (o : Option FarEnd) (e : End) → end_of o ≡ Some e
     → (f : FarEnd) × (o ≡ Some f) × (end_at f.switch.0 f.port ≡ e)
 ends-there None e h = absurd (cc h)
 ends-there (Some f) e h = (f, refl, same_Some (end_at f.switch.0 f.port) e h)

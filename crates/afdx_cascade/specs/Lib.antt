@@ -16,3 +16,4 @@ pub mod Plans
 pub mod Cascade
 pub mod TwoHops
 pub mod Parts
+pub mod Admitted

@@ -21,6 +21,9 @@ ghost use Rattle.afdx_cascade.specs.Plans.{SwitchesAreAPlan};
 ghost use Rattle.afdx_cascade.specs.Keeping.{StartKeeps, TurnKeeps};
 ghost use Rattle.afdx_cascade.specs.Keeping.{FrontCanArrive, FrontKeeps, LineKeeps};
 ghost use Rattle.afdx_cascade.specs.Standing.{SlotJoinsBehind, TurnStaysBehind, ArrivalStaysBehind};
+ghost use Rattle.afdx_cascade.specs.Admitted.{EachRowIsFed, RowsBeforeAreOne, WayTakesItsLatency};
+ghost use Rattle.afdx_cascade.specs.Admitted.{CascadeIsAdmitted, RowsAreWays, RowsAreWholeWays};
+ghost use Rattle.afdx_cascade.specs.Admitted.{CablesAreRead};
 
 use afdx_frame::laws::built_is_computed;
 
@@ -173,3 +176,26 @@ pub fn events_can_be_met()
 {
     built_is_computed()
 }
+
+/// Each row of a link of an admitted cascade ends one way, which begins at the row that a system
+/// sends. The sum of its latencies is that of admission.
+pub fn rows_are_fed()
+    ensures fed { EachRowIsFed }
+    ensures one { RowsBeforeAreOne }
+    ensures latency { WayTakesItsLatency }
+{}
+
+/// These rows are a way of the link's frames, over what came to each switch so far. Where nothing
+/// is due any more, and the list's frames came by 10^15 ns, the way is whole: each cable has
+/// brought all that its port gives.
+pub fn rows_are_ways()
+    ensures cascade { CascadeIsAdmitted }
+    ensures so_far { RowsAreWays }
+    ensures whole { RowsAreWholeWays }
+{}
+
+/// What a cable brings to a switch of an admitted cascade is of a link whose frames come in there,
+/// and is accepted.
+pub fn cables_are_read()
+    ensures { CablesAreRead }
+{}

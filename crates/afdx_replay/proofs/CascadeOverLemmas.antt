@@ -1,6 +1,6 @@
 -- How a list of several switches is read: the switches that its lines name, and what is told of it.
 use Rattle.std.proofs.Common.{◌≡◌, ℕ, ◌+◌, ◌≤◌, ◌<◌, List, [], ◌∷◌, length, map, refl, ◌∙◌, ap, ap₂, sym, subst, arith}
-use Rattle.std.proofs.Common.{◌⊎◌, ◌||◌, Bool, true, false, true≢false, inl, inr, take, Vec, Global, Option, Some, None}
+use Rattle.std.proofs.Common.{◌⊎◌, Bool, true, false, true≢false, inl, inr, Vec, Global, Option, Some, None}
 use Rattle.std.proofs.Common.{Result, Ok, Err, IfOk, IfSome, is_some, get_or}
 use Rattle.std.specs.Prelude.{slice_get}
 use Rattle.std.specs.Option.{option_map_or}
@@ -249,25 +249,25 @@ by-first P is None h = tt
 by-first P is (Some bytes) h = h
 
 module _ (ss : List NamedRows) (options : RecordingOptions) (done told begins : List (Item Heading) → Type 0)
-    where
-  abbrev pub OneAnswers : (is : Bool) → List ℕ → (rest : Known) → Result InputCount RunFault → Type 0
-  OneAnswers is bytes rest answer =
-      InputAnswers (sited_frames (sites_of ss)) (thing_of (sited_frames (sites_of ss)) sited_frame)
-      (options_of options, ports_of_several ss) done told begins is bytes rest answer
+  where
+    abbrev pub OneAnswers : (is : Bool) → List ℕ → (rest : Known) → Result InputCount RunFault → Type 0
+    OneAnswers is bytes rest answer =
+        InputAnswers (sited_frames (sites_of ss)) (thing_of (sited_frames (sites_of ss)) sited_frame)
+        (options_of options, ports_of_several ss) done told begins is bytes rest answer
 
-  -- there was no memory
-  pub memory-one : (left : Known) → told []
-      → IfSome left (λ bytes. OneAnswers (is_read_recorded options (Some bytes)) bytes left (Err run.Memory))
-  memory-one None start = tt
-  memory-one (Some bytes) start = by (is_read_recorded options (Some bytes))
-    where
-      by : (is : Bool) → OneAnswers is bytes (Some bytes) (Err run.Memory)
-      by true =
-          answers-start (options_of options) (ports_of_several ss) arrivals_listed done told begins (Some bytes)
-          (Some bytes) listed-none start
-      by false =
-          start-answers (sited_frames (sites_of ss)) (thing_of (sited_frames (sites_of ss)) sited_frame) done told
-          begins (Some bytes) start
+    -- there was no memory
+    pub memory-one : (left : Known) → told []
+        → IfSome left (λ bytes. OneAnswers (is_read_recorded options (Some bytes)) bytes left (Err run.Memory))
+    memory-one None start = tt
+    memory-one (Some bytes) start = by (is_read_recorded options (Some bytes))
+      where
+        by : (is : Bool) → OneAnswers is bytes (Some bytes) (Err run.Memory)
+        by true =
+            answers-start (options_of options) (ports_of_several ss) arrivals_listed done told begins (Some bytes)
+            (Some bytes) listed-none start
+        by false =
+            start-answers (sited_frames (sites_of ss)) (thing_of (sited_frames (sites_of ss)) sited_frame) done told
+            begins (Some bytes) start
 
 -- ---- a replay that is handed nothing
 

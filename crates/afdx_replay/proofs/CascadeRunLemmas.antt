@@ -219,6 +219,7 @@ own-is s k (h ∷ before) = own-more s k h.event before (own_text s k before) (h
 pub in-parts : (s : List NamedRows) (lines : List Line) (w : Cascade) (events : List SwitchEvent)
     → StandsFor (plan_of s) w events → AreAll (plan_of s) lines events → AreInParts s lines events
 in-parts s lines w events stands all = record {
+  own = own;
   alone = alone;
   promised = λ admitted k within.
       promised-at s w events stands k within (own_text s k events) (alone k within) admitted;
@@ -227,10 +228,12 @@ in-parts s lines w events stands all = record {
   listed = are-of-list (plan_of s) w lines events stands all;
 }
   where
+    own : (k : ℕ) → k < length s → at_switch k events ≡ events_of (tables_of s k) (came_to k events)
+    own k within = runs-alone (plan_of s) w events k stands all.none within
+
     alone : (k : ℕ) → k < length s → own_text s k events
         ≡ replay_text (tables_of s k) (events_of (tables_of s k) (came_to k events))
-    alone k within = own-is s k events
-        ∙ ap (replay_text (tables_of s k)) (runs-alone (plan_of s) w events k stands all.none within)
+    alone k within = own-is s k events ∙ ap (replay_text (tables_of s k)) (own k within)
 
 -- ---- what is written then
 

@@ -344,11 +344,15 @@ one-switch ss lines events are one at all parts =
     let none = no-cable ss are one in
     let here = (runs-here (plan_of ss) none lines [] events (come-here ss lines one at) all.runs).0 in
     let came = came-listed (plan_of ss) none lines events here all.runs in
+    let first : 0 < length ss = omega (arith, one) in
+    let own : at_switch 0 events ≡ events_of (tables_of ss 0) (frames_of (reverse lines)) =
+    parts.own 0 first ∙ ap (events_of (tables_of ss 0)) came in
     record {
       here = all-here events here;
       came = came;
-      named = named-here ss events here;
-      alone = parts.alone 0 (omega (arith, one))
+      own = sym (all-here events here) ∙ own;
+      named = named-here ss events here ∙ ap (named_text (name_of ss 0) (tables_of ss 0)) own;
+      alone = parts.alone 0 first
           ∙ ap (λ xs. replay_text (tables_of ss 0) (events_of (tables_of ss 0) xs)) came;
-      counted = counted-here ss events here;
+      counted = counted-here ss events here ∙ ap (replay_counts (tables_of ss 0)) own;
     }

@@ -1,6 +1,6 @@
 -- What the command `list` does: it writes a recording, or two that are read at once, as the frame
 -- list that says the same.
-use Rattle.std.specs.Prelude.{ℕ, ◌≡◌, ◌⊎◌, Bool, List, Option, Result, Ok, Err, OnErr, OnOk}
+use Rattle.std.specs.Prelude.{ℕ, ◌≡◌, Bool, List, Option, Result, Ok, Err, OnErr, OnOk}
 use Rattle.std.specs.Result.{result_ok}
 use Rattle.afdx_config.specs.declared.describing.Described.{Described}
 use Rattle.afdx_lists.specs.Calls.{is_failed_read, is_failed_write}

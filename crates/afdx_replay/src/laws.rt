@@ -36,8 +36,8 @@ pub fn arrivals_are_listed()
 {}
 
 /// A cascade of one switch a side has that switch's text. All events are at the switch, and what
-/// came to it are the frames of the lines. Without its name the lines that are written are those of
-/// a run of its own tables on these frames, and they are counted alike.
+/// came to it are the frames of the lines. The lines that are written are those of a run of its own
+/// tables on these frames, each with the switch's name, and the counts are that run's.
 ///
 /// This holds of lines that are at one of the switches. Those of a list are.
 pub fn a_cascade_of_one_is_its_switch()

@@ -65,22 +65,22 @@ Answering = (done told begins : List (Item Heading) → Type 0) → Result Input
 
 module _ {D : Type 0} (contents : D → Option (List ℕ)) (switches : List NamedRows)
     (input : Answering) (start early : Option (Watched D)) (old new : Known) where
-    -- what it answers where a replay of these switches tells the items, and counts so
-    abbrev pub TellsReplay : Summary → Result InputCount RunFault → Type 0
-    TellsReplay counts count = input
-        (λ items. WritesAll switches (lines_in items) old new counts
-        × HearsAll contents switches (lines_in items) start early)
-        (λ items. WritesSoFar switches (lines_in items) old new
-        × HearsSoFar contents switches (lines_in items) start early)
-        (λ items. WritesSome switches (lines_in items) old new
-        × HearsSome contents switches (lines_in items) start early) count
+  -- what it answers where a replay of these switches tells the items, and counts so
+  abbrev pub TellsReplay : Summary → Result InputCount RunFault → Type 0
+  TellsReplay counts count = input
+      (λ items. WritesAll switches (lines_in items) old new counts
+      × HearsAll contents switches (lines_in items) start early)
+      (λ items. WritesSoFar switches (lines_in items) old new
+      × HearsSoFar contents switches (lines_in items) start early)
+      (λ items. WritesSome switches (lines_in items) old new
+      × HearsSome contents switches (lines_in items) start early) count
 
-    -- What a replay of these switches does that answers so: the text of all events of the frames that
-    -- it was handed is written, and they are counted; after a fault of the input, up to the last
-    -- frame; where a device fails, or memory is refused, a beginning of the text. A device, if there
-    -- is one, was told of the frames that came too early.
-    pub record Replays (answer : Result InputSummary RunFault) : Type 0 where
-      pub counts : Summary
-      pub count : Result InputCount RunFault
-      pub answered : answer ≡ answer_of counts count
-      pub told : TellsReplay counts count
+  -- What a replay of these switches does that answers so: the text of all events of the frames that
+  -- it was handed is written, and they are counted; after a fault of the input, up to the last
+  -- frame; where a device fails, or memory is refused, a beginning of the text. A device, if there
+  -- is one, was told of the frames that came too early.
+  pub record Replays (answer : Result InputSummary RunFault) : Type 0 where
+    pub counts : Summary
+    pub count : Result InputCount RunFault
+    pub answered : answer ≡ answer_of counts count
+    pub told : TellsReplay counts count

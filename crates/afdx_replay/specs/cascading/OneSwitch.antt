@@ -24,21 +24,24 @@ unfoldable pub named_text : (name : List ℕ) → Rows → List Event → List �
 named_text name t [] = []
 named_text name t (e ∷ before) = named_text name t before ++ lines_at name t before e
 
--- what all events of some lines are at the one switch, of which these are the tables
+-- what all events of some lines are where these are the tables of the one switch
 pub record IsOfOne (switches : List NamedRows) (t : Rows) (lines : List Line)
     (events : List SwitchEvent) : Type 0 where
   -- all events are at it
   pub here : at_switch 0 events ≡ map (λ h. h.event) events
   -- what came to it are the frames of the lines
   pub came : came_to 0 events ≡ frames_of (reverse lines)
-  -- the text is that of its events, with its name; without it the lines are those of a run of its
-  -- own tables on these frames
+  -- they are all events of its own tables and of these frames
+  pub own : map (λ h. h.event) events ≡ events_of t (frames_of (reverse lines))
+  -- the text is that of a run of its own tables on these frames, with its name
   pub named : cascade_text switches events
-      ≡ named_text (name_of switches 0) t (at_switch 0 events)
+      ≡ named_text (name_of switches 0) t (events_of t (frames_of (reverse lines)))
+  -- and without it
   pub alone : own_text switches 0 events
       ≡ replay_text t (events_of t (frames_of (reverse lines)))
-  -- the counts are those of its events
-  pub counted : cascade_counts switches events ≡ replay_counts t (at_switch 0 events)
+  -- and so are the counts
+  pub counted : cascade_counts switches events
+      ≡ replay_counts t (events_of t (frames_of (reverse lines)))
 
 -- Each line of a list is at one of the switches that it names.
 abbrev pub ListsAreAtSwitches : Type 0

@@ -14,7 +14,8 @@ use Rattle.afdx_cascade.specs.Cables.{brought_by}
 use Rattle.afdx_cascade.specs.Parts.{AreOfList}
 use Rattle.afdx_cascade.specs.Plans.{plan_of, tables_of}
 use Rattle.afdx_cascade.specs.Runs.{Line, Runs, AreAll}
-use Rattle.afdx_cascade.specs.SwitchEvents.{End, SwitchEvent, came_to, in_clock, turns_of}
+use Rattle.afdx_cascade.specs.SwitchEvents.{End, SwitchEvent, at_switch, came_to}
+use Rattle.afdx_cascade.specs.SwitchEvents.{in_clock, turns_of}
 use Rattle.afdx_network.specs.Order.{events_of}
 use Rattle.afdx_promises.specs.Sent.{arrivals_at}
 use Rattle.afdx_commands.specs.declared.summary.Summary.{Summary}
@@ -32,7 +33,10 @@ use Rattle.afdx_replay.specs.replaying.Text.{replay_text}
 -- what all events of some lines are at each part
 pub record AreInParts (switches : List NamedRows) (lines : List Line) (events : List SwitchEvent) :
     Type 0 where
-  -- the lines of a switch, without its name, are the text of its own tables on what came to it
+  -- the events at a switch are all events of its own tables and of what came to it
+  pub own : (k : ℕ) → k < length switches →
+      at_switch k events ≡ events_of (tables_of switches k) (came_to k events)
+  -- so its lines, without its name, are the text of its own tables on what came to it
   pub alone : (k : ℕ) → k < length switches →
       own_text switches k events
       ≡ replay_text (tables_of switches k)

@@ -1,8 +1,7 @@
-use Rattle.std.proofs.Common.{Ok, Err, None, ◌∙◌, arith, subst}
+use Rattle.std.proofs.Common.{Ok, Err, None, arith}
 use Rattle.afdx_commands.specs.Counts.{no_counts}
 use Rattle.afdx_lists.specs.declared.fault.RunFault.TheVariants as run
-use Rattle.afdx_replay.specs.cascading.Items.{BeginsItems, TellsAll, TellsItems}
-use Rattle.afdx_replay.proofs.CascadeOverLemmas.{can-tell, first-told, replays-so, sites-count}
+use Rattle.afdx_replay.proofs.CascadeOverLemmas.{first-told, replays-so, sites-count}
 use Rattle.afdx_replay.proofs.cascading.over.replay_sited.Goals as goal
 
 -- there was no memory
