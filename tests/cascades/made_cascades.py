@@ -3,6 +3,7 @@ from __future__ import annotations
 
 import copy
 import random
+from collections.abc import Callable
 
 from cascade import cascade_text, is_tables, own_names
 from cascade_least import solved_cascade
@@ -10,6 +11,9 @@ from first_fault import BAGS, ROWS
 
 KEYS_OF_LINK = ("jitter_us", "latency_us", "skew_us")  # of which one less makes a line false
 RATES = {1: (10, 100, 100, 100), 2: (10, 100, 100, 1000, 1000)}
+
+# the cables of so many switches, each by its two ends
+Join = Callable[[random.Random, list[str]], list[tuple[str, str]]]
 
 
 # ---- a cascade -----------------------------------------------------------------------------------
@@ -48,7 +52,7 @@ def switch_of(chance: random.Random, name: str, systems: int, first: int) -> dic
     return {"name": name, **tables, "system": rows, "neighbour": [], "link": [], "port": []}
 
 
-def switches_of(chance: random.Random, count: int) -> list[dict]:
+def switches_of(chance: random.Random, count: int, join: Join = joined) -> list[dict]:
     """So many switches that cables join, without links."""
     counts = [chance.randint(0, 4) for _ in range(count)]
     counts[chance.randrange(count)] += 2
@@ -58,7 +62,7 @@ def switches_of(chance: random.Random, count: int) -> list[dict]:
         for place, name in enumerate(names)
     ]
     of_name = {switch["name"]: switch for switch in switches}
-    for one, other in joined(chance, names):
+    for one, other in join(chance, names):
         profile = min(of_name[one]["profile"], of_name[other]["profile"])
         rate = chance.choice(RATES[profile])
         for here, there in ((one, other), (other, one)):

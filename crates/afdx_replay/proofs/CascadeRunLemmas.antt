@@ -14,6 +14,8 @@ use Rattle.afdx_cascade.specs.Plans.{plan_of, tables_of}
 use Rattle.afdx_cascade.specs.Runs.{Line, Runs, IsFirstDue, IsNextLine, arriving}
 use Rattle.afdx_cascade.specs.SwitchEvents.{SwitchEvent, at_switch, came_to, listed}
 use Rattle.afdx_cascade.specs.declared.cascade.Cascade.{Cascade}
+use Rattle.afdx_cascade.proofs.ReadLemmas.{cables-read}
+use Rattle.afdx_cascade.proofs.WayHopLemmas.{cascade-admitted}
 use Rattle.afdx_cascade.proofs.CountedLemmas.{events-counted}
 use Rattle.afdx_cascade.proofs.PartLemmas.{are-taken, runs-alone, cables-bring, are-of-list}
 use Rattle.afdx_end_systems.specs.Receptions.{is_delivered}
@@ -223,6 +225,8 @@ in-parts s lines w events stands all = record {
   alone = alone;
   promised = λ admitted k within.
       promised-at s w events stands k within (own_text s k events) (alone k within) admitted;
+  accepted = λ are admitted k later past x other came joined.
+      (cables-read s events k later past x other (cascade-admitted s w events are admitted stands) came joined).1;
   cables = λ k port side other joined.
       cables-bring (plan_of s) events k port side other stands.keeps.stands.rules all.none joined;
   listed = are-of-list (plan_of s) w lines events stands all;

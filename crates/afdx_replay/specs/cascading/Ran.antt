@@ -1,6 +1,6 @@
 -- What a replay of several switches a side writes, tells and counts. A list of lines has the newest
 -- first.
-use Rattle.std.specs.Prelude.{ℕ, ◌≡◌, ◌<◌, ◌≤◌, List, [], length, reverse, Option, Some, Result, Ok, Err}
+use Rattle.std.specs.Prelude.{ℕ, ◌≡◌, ◌<◌, ◌≤◌, List, [], ◌∷◌, ◌++◌, length, reverse, Option, Some, None, Result, Ok, Err}
 use Rattle.std.specs.Io.KnownBytes.{Appends}
 use Rattle.afdx_frame.specs.declared.link.Side.{Side}
 use Rattle.afdx_lists.specs.Lines.{lines_of}
@@ -19,7 +19,9 @@ use Rattle.afdx_cascade.specs.SwitchEvents.{in_clock, turns_of}
 use Rattle.afdx_network.specs.Order.{events_of}
 use Rattle.afdx_promises.specs.Sent.{arrivals_at}
 use Rattle.afdx_commands.specs.declared.summary.Summary.{Summary}
-use Rattle.afdx_config.specs.Switches.{NamedRows}
+use Rattle.afdx_config.specs.Switches.{AreSwitches, NamedRows}
+use Rattle.afdx_police.specs.Arrival.{Arrival}
+use Rattle.afdx_switch.specs.Verdicts.{reason_of}
 use Rattle.afdx_lists.specs.Calls.{AppendsFront}
 use Rattle.afdx_lists.specs.declared.watched.Watched.{Watched}
 use Rattle.afdx_replay.specs.cascading.Early.{HearsEarly}
@@ -44,6 +46,12 @@ pub record AreInParts (switches : List NamedRows) (lines : List Line) (events : 
   -- so of admitted switches each keeps the promises of one
   pub promised : IsCascadeAdmitted switches → (k : ℕ) → k < length switches →
       TellsPromises (tables_of switches k) (came_to k events) (own_text switches k events)
+  -- and accepts each frame that a cable brings
+  pub accepted : AreSwitches switches → IsCascadeAdmitted switches →
+      (k : ℕ) (later past : List Arrival) (x : Arrival) (other : End) →
+      came_to k events ≡ later ++ x ∷ past →
+      (plan_of switches).far_end k x.port ≡ Some other →
+      reason_of (tables_of switches k) past x ≡ None
   -- a cable brought what left the port at its other end, but for what left too late to arrive
   pub cables : (k port : ℕ) (side : Side) (other : End) →
       (plan_of switches).far_end k port ≡ Some other →
