@@ -14,6 +14,9 @@ use afdx_network::Network;
 /// How many numbers a key has room for, more than a side has switches.
 const KEY_SWITCHES: u64 = 32;
 
+/// How many numbers are compared at a time.
+const GROUP: usize = 4;
+
 /// The first turn of several switches of both sides: where it stands in the order of turns, and the
 /// number and side of its switch.
 #[derive(Clone, Copy, Debug)]
@@ -64,13 +67,22 @@ pub fn renew(keys: &mut Vec<u64>, networks: &[Network], switch: usize)
     }
 }
 
-/// The least of some numbers.
+/// The least of some numbers, of which four are compared at a time: that takes fewer instructions
+/// than a loop over each.
 fn least_of(numbers: &[u64]) -> u64
     requires { 1 ≤ length numbers.now }
     ensures { IsLeastIn numbers.now 0 (length numbers.now) result }
 {
     let mut least = numbers[0];
-    for place in 1..numbers.len() {
+    let groups = numbers.len() / GROUP;
+    for group in 0..groups {
+        let at = GROUP * group;
+        let low = numbers[at].min(numbers[at + 1]);
+        let high = numbers[at + 2].min(numbers[at + 3]);
+        let both = low.min(high);
+        least = least.min(both);
+    }
+    for place in GROUP * groups..numbers.len() {
         least = least.min(numbers[place]);
     }
     least
