@@ -20,7 +20,7 @@ use Rattle.afdx_cascade.specs.Cascade.{GivesNext, GivesNone, ArrivesNext}
 use Rattle.afdx_cascade.specs.Due.{OnCable, IsRing}
 use Rattle.afdx_cascade.specs.Found.{AllStand}
 use Rattle.afdx_cascade.specs.Keeping.{Keeps, BringsNext, TurnsNext, IsNothingDue}
-use Rattle.afdx_cascade.specs.Keys.{AreKeys}
+use Rattle.afdx_cascade.specs.Keys.{AreKeys, IsLeast}
 use Rattle.afdx_cascade.specs.Plans.{plan_of, tables_of}
 use Rattle.afdx_cascade.specs.Runs.{Line, IsBeforeLine, arriving, event_at, turn_phase}
 use Rattle.afdx_cascade.specs.Standing.{Stands}
@@ -119,6 +119,8 @@ stands-same c so_far w new st same = record {
   keeps = subst (λ ns. Keeps c ns st.time st.ring so_far) (sym same.networks) st.keeps;
   keys = subst (λ ns. AreKeys ns new.keys.items) (sym same.networks)
       (subst (AreKeys w.networks.items) (sym same.keys) st.keys);
+  least = subst (IsLeast new.keys.items) (sym same.least)
+      (subst (λ ks. IsLeast ks w.least) (sym same.keys) st.least);
   ends = subst (AreEnds c) (sym same.ends) st.ends;
   in_transit = subst (λ vs. AreInTransit c vs st.ring) (sym same.transit) st.in_transit;
 }
@@ -135,7 +137,8 @@ until-same w new time is same = record {
 module _ (c : Plan) (so_far : List SwitchEvent) (w new : Cascade) (until : ℕ)
     (st : StandsFor c w so_far) (by : IsUntil w until) (ends : new.ends.items ≡ w.ends.items)
     (size : length new.networks.items ≡ length w.networks.items)
-    (keys : AreKeys new.networks.items new.keys.items) where
+    (keys : AreKeys new.networks.items new.keys.items)
+    (least : IsLeast new.keys.items new.least) where
   -- a cable brought a frame
   module _ (b : Brought)
       (next : BringsNext c new.networks.items new.transit.items st.time st.ring so_far b) where
@@ -179,6 +182,7 @@ module _ (c : Plan) (so_far : List SwitchEvent) (w new : Cascade) (until : ℕ)
         ring = next.rest;
         keeps = next.is.keeps;
         keys = keys;
+        least = least;
         ends = subst (AreEnds c) (sym ends) st.ends;
         in_transit = next.is.in_transit;
       };
@@ -210,6 +214,7 @@ module _ (c : Plan) (so_far : List SwitchEvent) (w new : Cascade) (until : ℕ)
         ring = next.is.ring;
         keeps = next.is.keeps;
         keys = keys;
+        least = least;
         ends = subst (AreEnds c) (sym ends) st.ends;
         in_transit = next.is.in_transit;
       };
@@ -256,14 +261,14 @@ pub line-next : (c : Plan) (so_far : List SwitchEvent) (w new : Cascade) (line :
     → c.far_end line.switch line.arrival.port ≡ None → new.ends.items ≡ w.ends.items
     → new.transit.items ≡ w.transit.items → (ns : List Network) → new.networks.items ≡ ns
     → length ns ≡ length w.networks.items
-    → AreKeys ns new.keys.items
+    → AreKeys ns new.keys.items → IsLeast new.keys.items new.least
     → ((k : ℕ) (n : Network) → slice_get ns k ≡ Some n → network.IsUntil n line.arrival.time)
     → ((n : Network) → slice_get ns line.switch ≡ Some n → network.IsQuiet n line.arrival.time)
     → (verdict : Verdict)
     → Stands c ns st.time st.ring (arriving c so_far line.switch line.arrival ∷ so_far)
     → network.Tells verdict (admission_after (c.tables line.switch) (came_to line.switch so_far) line.arrival)
     → ArrivesNext c new so_far line verdict
-line-next c so_far w new line st quiet by free ends transit ns is size keys clock still verdict stands tells =
+line-next c so_far w new line st quiet by free ends transit ns is size keys least clock still verdict stands tells =
     let empty = no-ring c w.transit.items st.ring quiet.transit st.in_transit in
     let next = line-keeps c so_far w.networks.items ns st.time line
     (subst (λ zs. Keeps c w.networks.items st.time zs so_far) empty st.keeps) quiet.networks free
@@ -284,6 +289,7 @@ line-next c so_far w new line st quiet by free ends transit ns is size keys cloc
         keeps = subst (λ zs. Keeps c zs line.arrival.time []
             (arriving c so_far line.switch line.arrival ∷ so_far)) (sym is) next.keeps;
         keys = subst (λ zs. AreKeys zs new.keys.items) (sym is) keys;
+        least = least;
         ends = subst (AreEnds c) (sym ends) st.ends;
         in_transit = subst (λ vs. AreInTransit c vs []) (sym (transit ∙ quiet.transit)) tt;
       };
@@ -300,10 +306,10 @@ pub new-stands : (ss : List NamedRows) → AreSwitches ss → (w : Cascade)
     → length w.networks.items ≡ length ss
     → ((k : ℕ) (n : Network) → slice_get w.networks.items k ≡ Some n → network.StandsFor (tables_of ss k) n [])
     → ((k : ℕ) (n : Network) → slice_get w.networks.items k ≡ Some n → network.IsUntil n 0)
-    → AreKeys w.networks.items w.keys.items
+    → AreKeys w.networks.items w.keys.items → IsLeast w.keys.items w.least
     → AreEnds (plan_of ss) w.ends.items → w.transit.items ≡ []
     → StandsFor (plan_of ss) w []
-new-stands ss are w size each clock keys ends none =
+new-stands ss are w size each clock keys least ends none =
     let plan = switches-plan ss are in
     record {
       count = size;
@@ -316,6 +322,7 @@ new-stands ss are w size each clock keys ends none =
           (λ k port e joined. (let within = plan.1.to k port e joined in omega (arith, within, size)))
           each clock;
       keys = keys;
+      least = least;
       ends = ends;
       in_transit = subst (λ vs. AreInTransit (plan_of ss) vs []) (sym none) tt;
     }

@@ -1,5 +1,5 @@
 -- The least key is that of the first turn.
-use Rattle.std.proofs.Common.{◌≡◌, ℕ, zero, suc, ◌+◌, ◌*◌, ◌/◌, ◌%◌, ◌<◌, ◌≤◌, List, [], ◌∷◌, length, slice_get}
+use Rattle.std.proofs.Common.{◌≡◌, ◌≢◌, ℕ, zero, suc, ◌+◌, ◌*◌, ◌/◌, ◌%◌, ◌<◌, ◌≤◌, List, [], ◌∷◌, length, slice_get}
 use Rattle.std.proofs.Common.{refl, sym, ap, ◌∙◌, subst, arith, inl, inr, set}
 use Rattle.std.specs.Prelude.{Some, None}
 use Rattle.std.proofs.lemmas.Bool.{cases_lt}
@@ -7,13 +7,13 @@ use Rattle.std.proofs.lemmas.List.{length-set}
 use Rattle.std.proofs.lemmas.Option.{slice_get_within}
 use Rattle.afdx_frame.specs.declared.link.Side.{Side}
 use Rattle.afdx_frame.specs.declared.link.Side.TheVariants.{A, B}
-use Rattle.afdx_port.specs.Keys.{IsLeastIn}
 use Rattle.afdx_port.proofs.TurnLemmas.{nat_lt-true, nat_lt-false}
 use Rattle.afdx_switch.proofs.ListLemmas.{set-cases}
+use Rattle.afdx_frame.proofs.ListLemmas.{slice_get-set_here, slice_get-set_there}
 use Rattle.afdx_network.specs.Network.{TellsOrder}
 use Rattle.afdx_network.specs.Order.{side_number}
 use Rattle.afdx_network.specs.declared.network.Network.{Network}
-use Rattle.afdx_cascade.specs.Keys.{AreKeys, AreOthersSame, IsKey, key_of}
+use Rattle.afdx_cascade.specs.Keys.{AreKeys, AreOthersSame, IsKey, IsLeast, key_of}
 use Rattle.afdx_cascade.specs.Scan.{IsFirstFrom, by_side, earlier_of, first_with}
 use Rattle.afdx_cascade.specs.declared.scan.First.{First}
 use Rattle.afdx_cascade.proofs.NumberLemmas.{number-small}
@@ -173,10 +173,10 @@ pub record LeastIs (ns : List Network) (least : ℕ) : Type 0 where
   pub side : least / 32 % 2 ≡ side_number first.side
   pub switch : least % 32 ≡ first.switch
 
-pub least-is : (ns : List Network) (keys : List ℕ) (least : ℕ) → 1 ≤ length keys → length ns ≤ 24
-    → AreKeys ns keys → IsLeastIn keys 0 (length keys) least → LeastIs ns least
-least-is [] keys least some few all is = absurd (let c = all.count in omega (arith, c, some))
-least-is (n ∷ ns) keys least some few all is =
+pub least-is : (ns : List Network) (keys : List ℕ) (least : ℕ) → length ns ≤ 24
+    → AreKeys ns keys → IsLeast keys least → LeastIs ns least
+least-is [] keys least few all is = absurd (let c = all.count in let h = is.high in omega (arith, c, h))
+least-is (n ∷ ns) keys least few all is =
     let f : Found 0 (n ∷ ns) keys = found 0 n ns keys (omega (arith, few)) (record {
       count = all.count;
       each = λ k key m here there. subst (λ i. IsKey i m key) (omega arith) (all.each k key m here there);
@@ -195,20 +195,6 @@ least-is (n ∷ ns) keys least some few all is =
       side = omega (arith, same, s, w, few);
       switch = omega (arith, same, s, w, few);
     }
-
--- the first number alone
-pub least-alone : (numbers : List ℕ) (n : ℕ) → slice_get numbers 0 ≡ Some n → IsLeastIn numbers 0 1 n
-least-alone numbers n at = record {
-  place = 0;
-  low = omega arith;
-  high = omega arith;
-  own = at;
-  lowest = λ i k low high there. first i k high there;
-}
-  where
-    first : (i k : ℕ) → i < 1 → slice_get numbers i ≡ Some k → n ≤ k
-    first zero k high there = let same : n ≡ k = cc (at, there) in omega (arith, same)
-    first (suc i) k high there = absurd (omega (arith, high))
 
 -- what is found of it is the first turn
 pub first-is : (ns : List Network) (least number : ℕ) (side : Side) → LeastIs ns least
@@ -246,6 +232,41 @@ keys-renewed old new keys switch key all others size within own = record {
     | inr other ↦ all.each k x n other.1 (others k n other.0 there)
   ];
 }
+
+-- the key that is set is not above the least: it is the least now
+pub least-set : (keys : List ℕ) (switch key least : ℕ) → IsLeast keys least → switch < length keys
+    → key ≤ least → IsLeast (set keys switch key) key
+least-set keys switch key least is within le = record {
+  place = switch;
+  low = omega arith;
+  high = (let size = length-set keys switch key in omega (arith, size, within));
+  own = slice_get-set_here keys switch key within;
+  lowest = λ i n low high there. elim (set-cases keys switch key i n within there) [
+    | inl same ↦ (let e = same.1 in omega (arith, e))
+    | inr other ↦ (let more = is.lowest i n low (slice_get_within keys i n other.1) other.1 in
+        omega (arith, more, le))
+  ];
+}
+
+-- the key that is set is above the least, and another was: that stays
+pub least-stays : (keys : List ℕ) (switch key before least : ℕ) → IsLeast keys least → switch < length keys
+    → least < key → slice_get keys switch ≡ Some before → before ≢ least
+    → IsLeast (set keys switch key) least
+least-stays keys switch key before least is within more here apart =
+    let away : is.place ≢ switch = λ same. apart (let at = is.own in
+    let there : slice_get keys switch ≡ Some least =
+    subst (λ k. slice_get keys k ≡ Some least) same at in
+    let e : before ≡ least = cc (here, there) in e) in
+    record {
+      place = is.place;
+      low = is.low;
+      high = (let size = length-set keys switch key in let h = is.high in omega (arith, size, h));
+      own = slice_get-set_there keys switch is.place key away ∙ is.own;
+      lowest = λ i n low high there. elim (set-cases keys switch key i n within there) [
+        | inl same ↦ (let e = same.1 in omega (arith, e, more))
+        | inr other ↦ is.lowest i n low (slice_get_within keys i n other.1) other.1
+      ];
+    }
 
 pub others-set : (ns : List Network) (switch : ℕ) (new : Network) → switch < length ns
     → AreOthersSame switch ns (set ns switch new)

@@ -13,6 +13,7 @@ pub mod NumberLemmas
 pub mod LeastLemmas
 pub mod ScanLemmas
 pub mod KeyLemmas
+pub mod GroupLemmas
 pub mod MoreLemmas
 pub mod StandingLemmas
 pub mod CarriedLemmas

@@ -11,7 +11,7 @@ use Rattle.afdx_network.specs.Order.{is_below}
 use Rattle.afdx_network.specs.declared.network.Network.{Network}
 use Rattle.afdx_cascade.specs.Due.{OnCable}
 use Rattle.afdx_cascade.specs.Keeping.{Keeps, IsNothingDue}
-use Rattle.afdx_cascade.specs.Keys.{AreKeys}
+use Rattle.afdx_cascade.specs.Keys.{AreKeys, IsLeast}
 use Rattle.afdx_cascade.specs.Runs.{Line, IsDue, IsFirstDue, IsNextLine, arriving, event_at}
 use Rattle.afdx_cascade.specs.Scan.{switches_most}
 use Rattle.afdx_cascade.specs.SwitchEvents.{Plan, SwitchEvent, IsInPlan, came_to}
@@ -35,8 +35,9 @@ pub record StandsFor (c : Plan) (w : Cascade) (so_far : List SwitchEvent) : Type
   pub time : ℕ
   pub ring : List OnCable
   pub keeps : Keeps c w.networks.items time ring so_far
-  -- by these keys the first turn is found
+  -- by these keys, and the least of them, the first turn is found
   pub keys : AreKeys w.networks.items w.keys.items
+  pub least : IsLeast w.keys.items w.least
   pub ends : AreEnds c w.ends.items
   pub in_transit : AreInTransit c w.transit.items ring
 
@@ -62,6 +63,7 @@ pub record IsQuiet (w : Cascade) (time : ℕ) : Type 0 where
 pub record IsUnchanged (old new : Cascade) : Type 0 where
   pub networks : new.networks.items ≡ old.networks.items
   pub keys : new.keys.items ≡ old.keys.items
+  pub least : new.least ≡ old.least
   pub ends : new.ends.items ≡ old.ends.items
   pub transit : new.transit.items ≡ old.transit.items
 

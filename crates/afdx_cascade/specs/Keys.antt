@@ -2,6 +2,7 @@
 use Rattle.std.specs.Prelude.{◌≡◌, ◌≢◌, ℕ, ◌+◌, ◌*◌, Some, List, length, slice_get}
 use Rattle.afdx_frame.specs.declared.link.Side.{Side}
 use Rattle.afdx_network.specs.Network.{TellsOrder}
+use Rattle.afdx_port.specs.Keys.{IsLeastIn}
 use Rattle.afdx_network.specs.Order.{side_number}
 use Rattle.afdx_network.specs.declared.network.Network.{Network}
 
@@ -22,6 +23,10 @@ pub record AreKeys (networks : List Network) (keys : List ℕ) : Type 0 where
       slice_get keys k ≡ Some key →
       slice_get networks k ≡ Some n →
       IsKey k n key
+
+-- this is the least of these keys
+abbrev pub IsLeast : List ℕ → ℕ → Type 0
+IsLeast keys least = IsLeastIn keys 0 (length keys) least
 
 -- all networks are what they were, but for that of this switch
 abbrev pub AreOthersSame : ℕ → List Network → List Network → Type 0

@@ -7,7 +7,7 @@ ghost use Rattle.afdx_port.specs.Times.{latest_put};
 use crate::arriving::{arrive_at, early_at};
 use crate::build::{new_ends, new_keys, new_networks};
 use crate::cable::InTransit;
-use crate::scan::{first_of, renew};
+use crate::scan::{first_of, least_of, renew};
 use crate::taking::{bring_next, turn_next};
 use crate::told::Happened;
 use afdx_config::{FarEnd, Switches};
@@ -24,6 +24,8 @@ pub struct Cascade {
     networks: Vec<Network>,
     /// Of each switch the key by which its first turn is found among those of all.
     keys: Vec<u64>,
+    /// The least key.
+    least: u64,
     ends: Vec<Option<FarEnd>>,
     transit: VecDeque<InTransit>,
 }
@@ -46,10 +48,12 @@ impl Cascade {
     {
         let networks = new_networks(alloc, switches)?;
         let keys = new_keys(alloc, &networks)?;
+        let least = least_of(&keys);
         let ends = new_ends(alloc, switches)?;
         Ok(Cascade {
             networks,
             keys,
+            least,
             ends,
             transit: VecDeque::new(alloc),
         })
@@ -82,7 +86,7 @@ impl Cascade {
         ensures refused { OnErr result (IsUnchanged self.old self.new) }
     {
         let verdict = arrive_at(&mut self.networks, switch, side, time, port, tag, frame)?;
-        renew(&mut self.keys, &self.networks, switch);
+        self.least = renew(&mut self.keys, self.least, &self.networks, switch);
         Ok(verdict)
     }
 
@@ -116,15 +120,17 @@ impl Cascade {
             IfOk result (λ o. IfNone o (GivesNone c self.new until so_far)) }
         ensures refused { OnErr result (IsUnchanged self.old self.new) }
     {
-        let first = first_of(&self.keys);
+        let first = first_of(self.least);
         if let Some(brought) = bring_next(&mut self.networks, &mut self.transit, first)? {
-            renew(&mut self.keys, &self.networks, brought.switch);
+            let switch = brought.switch;
+            self.least = renew(&mut self.keys, self.least, &self.networks, switch);
             return Ok(Some(Happened::Came(brought)));
         }
         let (ends, transit) = (&self.ends, &mut self.transit);
         match turn_next(&mut self.networks, ends, transit, first, until)? {
             Some(turned) => {
-                renew(&mut self.keys, &self.networks, first.switch);
+                let switch = first.switch;
+                self.least = renew(&mut self.keys, self.least, &self.networks, switch);
                 Ok(Some(Happened::Over(first.switch, turned)))
             }
             None => Ok(None),

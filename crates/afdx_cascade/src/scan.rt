@@ -4,8 +4,7 @@
 ghost use Rattle.std.specs.Prelude.{◌≡◌, ℕ, ◌<◌, ◌≤◌, List, Some, length, slice_get};
 ghost use Rattle.afdx_network.specs.Order.{side_number};
 ghost use Rattle.afdx_network.specs.declared.network.Network.{Network as At};
-ghost use Rattle.afdx_port.specs.Keys.{IsLeastIn};
-ghost use Rattle.afdx_cascade.specs.Keys.{AreKeys, AreOthersSame, IsKey};
+ghost use Rattle.afdx_cascade.specs.Keys.{AreKeys, AreOthersSame, IsKey, IsLeast};
 ghost use Rattle.afdx_cascade.specs.Scan.{IsFirstFrom, switches_most};
 
 use afdx_frame::Side;
@@ -13,6 +12,9 @@ use afdx_network::Network;
 
 /// How many numbers a key has room for, more than a side has switches.
 const KEY_SWITCHES: u64 = 32;
+
+/// How many numbers are compared at a time.
+const GROUP: usize = 4;
 
 /// The first turn of several switches of both sides: where it stands in the order of turns, and the
 /// number and side of its switch.
@@ -52,40 +54,60 @@ pub fn key_of(networks: &[Network], switch: usize) -> u64
     2 * KEY_SWITCHES * order.number() + KEY_SWITCHES * number_of(side) + switch as u64
 }
 
-/// Finds the key of the switch of this number anew, which had an event; the others had none.
-pub fn renew(keys: &mut Vec<u64>, networks: &[Network], switch: usize)
-    requires { switch < length networks.now }
-    ensures { (old : List At) → AreKeys old keys.old.items →
-        AreOthersSame switch old networks.now → length networks.now ≡ length old →
-        AreKeys networks.now keys.new.items }
-{
-    if switch < keys.len() {
-        keys[switch] = key_of(networks, switch);
-    }
-}
-
-/// The least of some numbers.
-fn least_of(numbers: &[u64]) -> u64
+/// The least of some numbers, of which four are compared at a time: that takes fewer instructions
+/// than a loop over each.
+pub(crate) fn least_of(numbers: &[u64]) -> u64
     requires { 1 ≤ length numbers.now }
-    ensures { IsLeastIn numbers.now 0 (length numbers.now) result }
+    ensures { IsLeast numbers.now result }
 {
     let mut least = numbers[0];
-    for place in 1..numbers.len() {
+    let groups = numbers.len() / GROUP;
+    for group in 0..groups {
+        let at = GROUP * group;
+        let low = numbers[at].min(numbers[at + 1]);
+        let high = numbers[at + 2].min(numbers[at + 3]);
+        let both = low.min(high);
+        least = least.min(both);
+    }
+    for place in GROUP * groups..numbers.len() {
         least = least.min(numbers[place]);
     }
     least
 }
 
-/// The first turn of the switches that have these keys. If no switch has a turn to come, its order
-/// is 2^52.
-pub fn first_of(keys: &[u64]) -> First
-    requires { 1 ≤ length keys.now }
-    ensures first { (networks : List At) → length networks ≤ switches_most →
-        AreKeys networks keys.now → IsFirstFrom 0 networks (Some result) }
-    ensures within { (networks : List At) → length networks ≤ switches_most →
-        AreKeys networks keys.now → result.switch < length networks }
+/// Finds the key of the switch of this number anew, which had an event; the others had none.
+/// `least` was the least of all keys, and the result is the least of them now. All are compared only
+/// if that was this switch's key, and it has grown.
+pub fn renew(keys: &mut Vec<u64>, least: u64, networks: &[Network], switch: usize) -> u64
+    requires { switch < length networks.now }
+    ensures keys { (old : List At) → AreKeys old keys.old.items →
+        AreOthersSame switch old networks.now → length networks.now ≡ length old →
+        AreKeys networks.now keys.new.items }
+    ensures least { IsLeast keys.old.items least → IsLeast keys.new.items result }
 {
-    let least = least_of(keys);
+    if switch >= keys.len() {
+        return least;
+    }
+    let before = keys[switch];
+    let key = key_of(networks, switch);
+    keys[switch] = key;
+    if key <= least {
+        return key;
+    }
+    if before == least {
+        return least_of(keys);
+    }
+    least
+}
+
+/// The first turn of the switches of whose keys this is the least. If no switch has a turn to come,
+/// its order is 2^52.
+pub fn first_of(least: u64) -> First
+    ensures first { (networks : List At) (keys : List ℕ) → length networks ≤ switches_most →
+        AreKeys networks keys → IsLeast keys least → IsFirstFrom 0 networks (Some result) }
+    ensures within { (networks : List At) (keys : List ℕ) → length networks ≤ switches_most →
+        AreKeys networks keys → IsLeast keys least → result.switch < length networks }
+{
     let side = side_of(least / KEY_SWITCHES % 2);
     First {
         order: least / (2 * KEY_SWITCHES),

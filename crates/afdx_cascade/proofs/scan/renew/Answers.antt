@@ -1,10 +1,35 @@
-use Rattle.std.proofs.Common.{◌<◌, arith, length}
-use Rattle.afdx_cascade.proofs.KeyLemmas.{keys-renewed}
+use Rattle.std.proofs.Common.{◌<◌, ◌∙◌, Some, ap, sym, arith, length}
+use Rattle.std.proofs.lemmas.Option.{slice_get-get_or}
+use Rattle.afdx_cascade.proofs.KeyLemmas.{keys-renewed, least-set, least-stays}
 use Rattle.afdx_cascade.proofs.scan.renew.Goals as goal
 
-pub returns-then-switch-len : goal.returns-then-switch-len
-returns-then-switch-len c old all others size =
-    let within : c.args.switch < length c.args.keys.now.items =
-    let count = all.count in let here = c.requires in omega (arith, count, here, size) in
-    keys-renewed old c.args.networks.now c.args.keys.now.items c.args.switch c.key_of.result all others size within
-    c.key_of.ensures
+pub returns-then-key-least-clause-keys : goal.returns-then-key-least-clause-keys
+returns-then-key-least-clause-keys c old all others size =
+    let within : c.args.switch < length c.args.keys.now.items = omega (arith, c.if-switch-len.false, c.len.ensures) in
+    keys-renewed old c.args.networks.now c.args.keys.now.items c.args.switch c.key_of-key.result all others size within
+    c.key_of-key.ensures
+
+pub returns-then-key-least-clause-least : goal.returns-then-key-least-clause-least
+returns-then-key-least-clause-least c is =
+    let within : c.args.switch < length c.args.keys.now.items = omega (arith, c.if-switch-len.false, c.len.ensures) in
+    least-set c.args.keys.now.items c.args.switch c.key_of-key.result c.args.least is within c.if-key-least.true
+
+pub returns-then-before-least-clause-keys : goal.returns-then-before-least-clause-keys
+returns-then-before-least-clause-keys c old all others size =
+    let within : c.args.switch < length c.args.keys.now.items = omega (arith, c.if-switch-len.false, c.len.ensures) in
+    keys-renewed old c.args.networks.now c.args.keys.now.items c.args.switch c.key_of-key.result all others size within
+    c.key_of-key.ensures
+
+pub returns-clause-keys : goal.returns-clause-keys
+returns-clause-keys c old all others size =
+    let within : c.args.switch < length c.args.keys.now.items = omega (arith, c.if-switch-len.false, c.len.ensures) in
+    keys-renewed old c.args.networks.now c.args.keys.now.items c.args.switch c.key_of-key.result all others size within
+    c.key_of-key.ensures
+
+pub returns-clause-least : goal.returns-clause-least
+returns-clause-least c is =
+    let within : c.args.switch < length c.args.keys.now.items = omega (arith, c.if-switch-len.false, c.len.ensures) in
+    least-stays c.args.keys.now.items c.args.switch c.key_of-key.result c.index-before.result.now c.args.least is within
+    c.if-key-least.false
+    (slice_get-get_or c.args.keys.now.items c.args.switch c.index-before.result.now within
+    ∙ ap Some (sym c.index-before.ensures)) c.if-before-least.false

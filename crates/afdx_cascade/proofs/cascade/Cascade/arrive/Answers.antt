@@ -10,8 +10,8 @@ use Rattle.afdx_cascade.specs.declared.cascade.Cascade.{Cascade}
 use Rattle.afdx_cascade.proofs.CascadeLemmas.{line-next}
 use Rattle.afdx_cascade.proofs.cascade.Cascade.arrive.Goals as goal
 
-pub renew-requires : goal.renew-requires
-renew-requires c =
+pub renew-self-requires : goal.renew-self-requires
+renew-self-requires c =
     let old = c.args.self.now in
     let ns = c.arrive_at.new.networks in
     let size = c.arrive_at.ensures.length ∙ ap length c.deref_mut.ensures.value in
@@ -28,7 +28,8 @@ returns-clause-next c p so_far st free =
     let ns = c.arrive_at.new.networks in
     let new : Cascade = record {
       networks = with_items old.networks ns;
-      keys = c.renew.new.keys;
+      keys = c.renew-self.new.keys;
+      least = c.renew-self.result;
       ends = old.ends;
       transit = old.transit;
     } in
@@ -37,13 +38,13 @@ returns-clause-next c p so_far st free =
     let is = with_items_is old.networks ns (size ∙ sym old.networks.ok.0) in
     let there = c.deref.ensures.value ∙ is in
     let stands = subst (λ zs. Stands p zs st.time st.ring so_far) (sym lent) st.keeps.stands in
-    let keys = subst (λ zs. AreKeys zs c.renew.new.keys.items) there
-    (c.renew.ensures old.networks.items st.keys
+    let keys = subst (λ zs. AreKeys zs c.renew-self.new.keys.items) there
+    (c.renew-self.ensures.keys old.networks.items st.keys
     (subst (λ zs. AreOthersSame k old.networks.items zs) (sym there)
     (subst (λ zs. AreOthersSame k zs ns) lent c.arrive_at.ensures.others))
     (ap length there ∙ size)) in
     line-next p so_far old new (line_at k x) st c.requires.quiet c.requires.clock free
-    refl refl ns is size keys
+    refl refl ns is size keys (c.renew-self.ensures.least st.least)
     c.arrive_at.ensures.clock c.arrive_at.ensures.still c.in_ok-verdict.verdict
     (c.in_ok-verdict.ensures.stands p st.time st.ring so_far stands free)
     (c.in_ok-verdict.ensures.verdict p st.time st.ring so_far stands)

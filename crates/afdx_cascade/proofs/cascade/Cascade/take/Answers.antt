@@ -13,15 +13,6 @@ use Rattle.afdx_cascade.specs.declared.cascade.Cascade.{Cascade}
 use Rattle.afdx_cascade.proofs.CascadeLemmas.{some-of, none-of, came-next, over-next, none-next}
 use Rattle.afdx_cascade.proofs.cascade.Cascade.take.Goals as goal
 
-pub first_of-first-requires : goal.first_of-first-requires
-first_of-first-requires c =
-    let s = c.requires.sound in
-    let count = s.2.count in
-    let some = s.2.some in
-    let keys = s.2.keys.count in
-    let same = ap length c.deref.ensures.value in
-    omega (arith, count, some, keys, same)
-
 -- the first turn of the networks as they were
 pub bring_next-requires-clause-first : goal.bring_next-requires-clause-first
 bring_next-requires-clause-first c =
@@ -30,12 +21,12 @@ bring_next-requires-clause-first c =
     let count = s.2.count in
     let few = s.2.few in
     subst (λ zs. IsFirstFrom 0 zs (Some c.first_of-first.result)) (sym c.deref_mut.ensures.value)
-    (c.first_of-first.ensures.first old.networks.items (omega (arith, count, few))
-    (subst (AreKeys old.networks.items) (sym c.deref.ensures.value) s.2.keys))
+    (c.first_of-first.ensures.first old.networks.items old.keys.items (omega (arith, count, few))
+    s.2.keys s.2.least)
 
 -- a cable brought a frame
-pub renew-requires : goal.renew-requires
-renew-requires c =
+pub renew-self-requires : goal.renew-self-requires
+renew-self-requires c =
     let old = c.args.self.now in
     let ns = c.bring_next.new.networks in
     let lent = c.deref_mut.ensures.value in
@@ -43,7 +34,7 @@ renew-requires c =
     let is = with_items_is old.networks ns (size ∙ sym old.networks.ok.0) in
     let within = some-of c.in_ok-brought.field-0 (λ b. b.switch < length c.deref_mut.result.now)
     c.in-Some.brought c.in-Some.is c.in_ok-brought.ensures.within in
-    let there = ap length (c.deref-in-Some.ensures.value ∙ is) ∙ c.bring_next.ensures.length in
+    let there = ap length (c.deref.ensures.value ∙ is) ∙ c.bring_next.ensures.length in
     omega (arith, within, there)
 
 pub returns-in-Some-clause-given : goal.returns-in-Some-clause-given
@@ -53,14 +44,15 @@ returns-in-Some-clause-given c p so_far st =
     let b = c.in-Some.brought in
     let new : Cascade = record {
       networks = with_items old.networks ns;
-      keys = c.renew.new.keys;
+      keys = c.renew-self.new.keys;
+      least = c.renew-self.result;
       ends = old.ends;
       transit = c.bring_next.new.transit;
     } in
     let lent = c.deref_mut.ensures.value in
     let size = c.bring_next.ensures.length ∙ ap length lent in
     let is = with_items_is old.networks ns (size ∙ sym old.networks.ok.0) in
-    let there = c.deref-in-Some.ensures.value in
+    let there = c.deref.ensures.value in
     let brings = some-of c.in_ok-brought.field-0
     (BringsNext p ns c.bring_next.new.transit.items st.time st.ring so_far)
     b c.in-Some.is
@@ -68,12 +60,12 @@ returns-in-Some-clause-given c p so_far st =
     (subst (λ zs. Keeps p zs st.time st.ring so_far) (sym lent) st.keeps) st.in_transit) in
     let others = some-of c.in_ok-brought.field-0 (λ z. AreOthersSame z.switch c.deref_mut.result.now ns)
     b c.in-Some.is c.in_ok-brought.ensures.others in
-    let keys = subst (λ zs. AreKeys zs c.renew.new.keys.items) there
-    (c.renew.ensures old.networks.items st.keys
+    let keys = subst (λ zs. AreKeys zs c.renew-self.new.keys.items) there
+    (c.renew-self.ensures.keys old.networks.items st.keys
     (subst (λ zs. AreOthersSame b.switch old.networks.items zs) (sym (there ∙ is))
     (subst (λ zs. AreOthersSame b.switch zs ns) lent others))
     (ap length (there ∙ is) ∙ size)) in
-    came-next p so_far old new c.args.until st c.requires.clock refl (ap length is ∙ size) keys b
+    came-next p so_far old new c.args.until st c.requires.clock refl (ap length is ∙ size) keys (c.renew-self.ensures.least st.least) b
     (subst (λ zs. BringsNext p zs c.bring_next.new.transit.items st.time st.ring so_far b) (sym is) brings)
 
 -- no cable brought a frame: nothing has changed, and the first turn comes before all that they carry
@@ -91,8 +83,8 @@ turn_next-requires-clause-first c =
     let count = s.2.count in
     let few = s.2.few in
     subst (λ zs. IsFirstFrom 0 zs (Some c.first_of-first.result)) (sym again)
-    (c.first_of-first.ensures.first old.networks.items (omega (arith, count, few))
-    (subst (AreKeys old.networks.items) (sym c.deref.ensures.value) s.2.keys))
+    (c.first_of-first.ensures.first old.networks.items old.keys.items (omega (arith, count, few))
+    s.2.keys s.2.least)
 
 pub turn_next-requires-clause-sound : goal.turn_next-requires-clause-sound
 turn_next-requires-clause-sound c =
@@ -127,8 +119,8 @@ turn_next-requires-clause-few c =
     omega (arith, count, few, again)
 
 -- a turn is over
-pub renew-requires-in-Some-2 : goal.renew-requires-in-Some-2
-renew-requires-in-Some-2 c =
+pub renew-self-requires-in-Some-2 : goal.renew-self-requires-in-Some-2
+renew-self-requires-in-Some-2 c =
     let s = c.requires.sound in
     let count = s.2.count in
     let few = s.2.few in
@@ -141,8 +133,8 @@ renew-requires-in-Some-2 c =
     let size = c.turn_next.ensures.length ∙ again in
     let now_is = with_items_is (with_items old.networks ns) ms (size ∙ sym old.networks.ok.0) in
     let there = ap length (c.deref-in-Some-2.ensures.value ∙ now_is) ∙ size in
-    let within = c.first_of-first.ensures.within old.networks.items (omega (arith, count, few))
-    (subst (AreKeys old.networks.items) (sym c.deref.ensures.value) s.2.keys) in
+    let within = c.first_of-first.ensures.within old.networks.items old.keys.items (omega (arith, count, few))
+    s.2.keys s.2.least in
     omega (arith, within, there)
 
 pub returns-in-Some-2-clause-given : goal.returns-in-Some-2-clause-given
@@ -162,7 +154,8 @@ returns-in-Some-2-clause-given c p so_far st =
     let ms = c.turn_next.new.networks in
     let new : Cascade = record {
       networks = with_items (with_items old.networks ns) ms;
-      keys = c.renew-in-Some-2.new.keys;
+      keys = c.renew-self-in-Some-2.new.keys;
+      least = c.renew-self-in-Some-2.result;
       ends = old.ends;
       transit = c.turn_next.new.transit;
     } in
@@ -176,12 +169,13 @@ returns-in-Some-2-clause-given c p so_far st =
     (subst (λ zs. Keeps p zs st.time st.ring so_far) (sym again) st.keeps) early
     (subst (AreEnds p) (sym c.deref-2.ensures.value) st.ends)
     (subst (λ vs. AreInTransit p vs st.ring) (sym same.1) st.in_transit)) in
-    let keys = subst (λ zs. AreKeys zs c.renew-in-Some-2.new.keys.items) there
-    (c.renew-in-Some-2.ensures old.networks.items st.keys
+    let keys = subst (λ zs. AreKeys zs c.renew-self-in-Some-2.new.keys.items) there
+    (c.renew-self-in-Some-2.ensures.keys old.networks.items st.keys
     (subst (λ zs. AreOthersSame f.switch old.networks.items zs) (sym (there ∙ now_is))
     (subst (λ zs. AreOthersSame f.switch zs ms) again c.turn_next.ensures.others))
     (ap length (there ∙ now_is) ∙ size)) in
     over-next p so_far old new c.args.until st c.requires.clock refl (ap length now_is ∙ size) keys
+    (c.renew-self-in-Some-2.ensures.least st.least)
     f.switch c.in-Some-2.turned
     (subst (λ zs. TurnsNext p zs c.turn_next.new.transit.items c.args.until so_far f.switch c.in-Some-2.turned)
     (sym now_is) turns)
@@ -205,6 +199,7 @@ returns-in-None-clause-none c p so_far st =
     let new : Cascade = record {
       networks = with_items (with_items old.networks ns) ms;
       keys = old.keys;
+      least = old.least;
       ends = old.ends;
       transit = c.turn_next.new.transit;
     } in
@@ -216,6 +211,7 @@ returns-in-None-clause-none c p so_far st =
     let unchanged : IsUnchanged old new = record {
       networks = now_is ∙ still.0 ∙ again;
       keys = refl;
+      least = refl;
       ends = refl;
       transit = still.1 ∙ same.1;
     } in

@@ -5,6 +5,13 @@ use Rattle.afdx_replay.proofs.CascadeArriveLemmas.{items-first, lines-few}
 use Rattle.afdx_replay.proofs.CascadeStepLemmas.{until-later}
 use Rattle.afdx_replay.proofs.cascading.run.CascadingMachineHeading.end.Goals as goal
 
+pub tell_events-requires-clause-clock : goal.tell_events-requires-clause-clock
+tell_events-requires-clause-clock g c =
+    let r = c.requires.told in
+    let early = r.3.early in
+    until-later c.args.self.now.cascade (latest_line (lines_in r.2)) 18446744073709551615
+    (omega (arith, early)) r.3.clock
+
 pub tell_events-requires-clause-room : goal.tell_events-requires-clause-room
 tell_events-requires-clause-room g c =
     let r = c.requires.told in
