@@ -76,8 +76,8 @@ pub(crate) fn least_of(numbers: &[u64]) -> u64
 }
 
 /// Finds the key of the switch of this number anew, which had an event; the others had none.
-/// `least` was the least of all keys, and the result is the least of them now. All are compared only
-/// if that was this switch's key, and it has grown.
+/// `least` was the least of all keys, and the result is the least of them now. All are compared
+/// only if that was this switch's key, and it has grown.
 pub fn renew(keys: &mut Vec<u64>, least: u64, networks: &[Network], switch: usize) -> u64
     requires { switch < length networks.now }
     ensures keys { (old : List At) → AreKeys old keys.old.items →
