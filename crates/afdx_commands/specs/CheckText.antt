@@ -1,29 +1,22 @@
 -- What the command `check` writes of some tables: the bounds of each output port that has a system,
 -- with the margins of the links that go there if they are asked for, and the answer.
-use Rattle.std.specs.Prelude.{ℕ, zero, suc, ◌*◌, ◌≡◌, ◌⊎◌, Bool, true, false, List, [], ◌∷◌, ◌++◌}
+use Rattle.std.specs.Prelude.{ℕ, zero, suc, ◌*◌, Bool, true, false, List, [], ◌∷◌, ◌++◌}
 use Rattle.std.specs.Prelude.{Option, Some, None, is_some, if◌then◌else◌}
 use Rattle.std.specs.List.{flat_map}
 use Rattle.std.specs.Option.{option_map_or}
-use Rattle.std.specs.Io.KnownBytes.{Appends}
 use Rattle.afdx_frame.specs.declared.link.Priority.{Priority}
 use Rattle.afdx_frame.specs.declared.link.Priority.TheVariants.{High, Low}
 use Rattle.afdx_frame.specs.Ports.{last_port}
 use Rattle.afdx_config.specs.Rows.{LinkRow, Rows}
-use Rattle.afdx_config.specs.Reading.{system_at_port, Spells}
-use Rattle.afdx_config.specs.Admission.{IsAdmitted, links_to}
-use Rattle.afdx_config.specs.Lawful.{IsLawful}
+use Rattle.afdx_config.specs.Reading.{system_at_port}
+use Rattle.afdx_config.specs.Admission.{links_to}
 use Rattle.afdx_admit.specs.declared.fault.AdmitFault.{AdmitFault}
 use Rattle.afdx_admit.specs.FaultText.{fault_text}
 use Rattle.afdx_admit.specs.Known.{name_of}
 use Rattle.afdx_admit.specs.Lines.{high_bound_at, low_bound_at, buffer_need_at, first_false}
 use Rattle.afdx_admit.specs.Lines.{false_lines, lines}
-use Rattle.afdx_lists.specs.Calls.{AppendsFront}
 use Rattle.afdx_text.specs.OutLines.{bounds_line, margin_line, admitted_line, denied_line}
-use Rattle.afdx_text.specs.Telling.{TellsLine}
-use Rattle.afdx_lists.specs.declared.watched.Watched.{Watched}
-use Rattle.afdx_lists.specs.Watching.{device_of, has_failed}
 use Rattle.afdx_commands.specs.declared.check_tables.CheckOptions.{CheckOptions}
-use Rattle.afdx_commands.specs.Refusals.{RefusesConfig, WantsMemory}
 
 -- the high and the low bound in ns, and the bytes of buffer that are needed, at a port of the
 -- switch

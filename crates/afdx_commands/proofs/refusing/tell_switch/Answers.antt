@@ -1,4 +1,4 @@
-use Rattle.std.proofs.Common.{◌≡◌, ◌++◌, Bool, [], codes, decimal, sym, subst, ne_eqb}
+use Rattle.std.proofs.Common.{◌++◌, Bool, [], codes, decimal, sym, subst, ne_eqb}
 use Rattle.std.specs.Prelude.{if◌then◌else◌}
 use Rattle.afdx_text.specs.Telling.{Tells}
 use Rattle.afdx_text.proofs.TellingLemmas.{Tells-more}

@@ -1,6 +1,5 @@
 use Rattle.std.proofs.Common.{rules, ap, ◌∙◌, sym, List, String, Global, map, string_bytes}
 use Rattle.afdx_recorded.specs.Placing.{place_in}
-use Rattle.afdx_recorded.specs.Places.{place_of}
 use Rattle.afdx_recorded.proofs.PlacingLemmas.{none-if, put-all, put-one, put-unsaid}
 use Rattle.afdx_recorded.proofs.places.Interfaces.place_in.Goals.{in-Some+in-Some-place_in, in_default}
 use Rattle.afdx_recorded.proofs.places.Interfaces.place_in.Goals as goal
