@@ -165,6 +165,7 @@ pub none-told : {D : Type 0} (contents : D → Option (List ℕ)) (ss : List Nam
 none-told contents ss start m output has until steady = record {
   told = record { events = []; first = λ later from. refl; at_line = refl; told = has };
   early = omega arith;
+  in_time = tt;
   clock = until;
   few = omega arith;
   steady = steady;

@@ -14,6 +14,8 @@ use Rattle.afdx_cascade.specs.Plans.{plan_of, tables_of}
 use Rattle.afdx_cascade.specs.Runs.{Line, Runs, IsFirstDue, IsNextLine, arriving}
 use Rattle.afdx_cascade.specs.SwitchEvents.{SwitchEvent, at_switch, came_to, listed}
 use Rattle.afdx_cascade.specs.declared.cascade.Cascade.{Cascade}
+use Rattle.afdx_cascade.proofs.AloneLemmas.{links-alone}
+use Rattle.afdx_cascade.proofs.EndToEndLemmas.{links-leave, no-others}
 use Rattle.afdx_cascade.proofs.ReadLemmas.{cables-read}
 use Rattle.afdx_cascade.proofs.WayHopLemmas.{cascade-admitted}
 use Rattle.afdx_cascade.proofs.CountedLemmas.{events-counted}
@@ -21,6 +23,7 @@ use Rattle.afdx_cascade.proofs.PartLemmas.{are-taken, runs-alone, cables-bring, 
 use Rattle.afdx_end_systems.specs.Receptions.{is_delivered}
 use Rattle.afdx_network.specs.Order.{events_of}
 use Rattle.afdx_replay.proofs.CascadePromisedLemmas.{promised-at}
+use Rattle.afdx_replay.proofs.CascadeWholeLemmas.{whole-events}
 use Rattle.afdx_engine.specs.Items.{most_frames}
 use Rattle.afdx_lists.specs.Calls.{AppendsFront}
 use Rattle.afdx_lists.specs.declared.watched.Watched.{Watched}
@@ -34,7 +37,7 @@ use Rattle.afdx_commands.specs.Counts.{no_counts}
 use Rattle.afdx_replay.specs.cascading.Early.{HearsEarly}
 use Rattle.afdx_replay.specs.cascading.Ran.{AreInParts, WritesSome, WritesSoFar, WritesAll, HearsSome, HearsSoFar, HearsAll}
 use Rattle.afdx_replay.specs.cascading.Text.{cascade_text, cascade_counts, event_lines, own_text}
-use Rattle.afdx_replay.specs.cascading.Told.{AreFirst, AreSteady, AreTold, HasTold, IsFor, TellsOne, latest_line, total}
+use Rattle.afdx_replay.specs.cascading.Told.{AreFirst, AreInTime, AreSteady, AreTold, HasTold, IsFor, TellsOne, latest_line, total}
 use Rattle.afdx_replay.specs.declared.cascading.teller.Teller.{Teller}
 use Rattle.afdx_replay.specs.replaying.Replayed.{AreLow}
 use Rattle.afdx_replay.specs.replaying.Text.{with_admission, with_departure, with_event, frames_left, handed_over, lines_at, replay_text}
@@ -218,18 +221,27 @@ unfolding own_text replay_text
 own-is s k [] = refl
 own-is s k (h ∷ before) = own-more s k h.event before (own_text s k before) (h.switch == k) (own-is s k before)
 
-pub in-parts : (s : List NamedRows) (lines : List Line) (w : Cascade) (events : List SwitchEvent)
-    → StandsFor (plan_of s) w events → AreAll (plan_of s) lines events → AreInParts s lines events
-in-parts s lines w events stands all = record {
+pub in-parts : (s : List NamedRows) (past : List Line) (w : Cascade) (events : List SwitchEvent)
+    → StandsFor (plan_of s) w events → AreAll (plan_of s) (reverse past) events → AreInTime past
+    → AreInParts s (reverse past) events
+in-parts s past w events stands all soon = record {
   own = own;
   alone = alone;
   promised = λ admitted k within.
       promised-at s w events stands k within (own_text s k events) (alone k within) admitted;
   accepted = λ are admitted k later past x other came joined.
       (cables-read s events k later past x other (cascade-admitted s w events are admitted stands) came joined).1;
+  whole = whole-events s past w events stands all soon;
+  ends = λ are admitted side r before sum port way.
+      links-leave s events side r before sum port (whole-events s past w events stands all soon are admitted) way;
+  others = λ are admitted side k port vl within low high none.
+      no-others s events side k port vl (cascade-admitted s w events are admitted stands) within low high none;
+  same = λ are admitted another side r before also row rows alike.
+      links-alone s events another side r before (whole-events s past w events stands all soon are admitted) also
+      row rows alike;
   cables = λ k port side other joined.
       cables-bring (plan_of s) events k port side other stands.keeps.stands.rules all.none joined;
-  listed = are-of-list (plan_of s) w lines events stands all;
+  listed = are-of-list (plan_of s) w (reverse past) events stands all;
 }
   where
     own : (k : ℕ) → k < length s → at_switch k events ≡ events_of (tables_of s k) (came_to k events)
@@ -288,15 +300,15 @@ module _ {D : Type 0} (contents : D → Option (List ℕ)) (s : List NamedRows) 
   -- where nothing is due any more
   pub told-all : (w : Cascade) (t : Teller D) (until : ℕ) (events : List SwitchEvent)
       → HasTold contents s w t start old new events → AreFirst s past until events
-      → IsNothingDue (plan_of s) events
+      → AreInTime past → IsNothingDue (plan_of s) events
       → WritesAll s past old new t.counts × HearsAll contents s past start t.early
-  told-all w t until events has first none =
+  told-all w t until events has first soon none =
       let all : AreAll (plan_of s) (reverse past) events =
       record { runs = first-taken s past until events first; none = none } in (
         record {
           events = events;
           all = all;
-          parts = in-parts s (reverse past) w events has.switches_are all;
+          parts = in-parts s past w events has.switches_are all soon;
           written = has.written;
           counted = has.counted;
         },

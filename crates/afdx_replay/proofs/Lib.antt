@@ -15,6 +15,7 @@ mod CascadeOverLemmas
 mod CascadeRunLemmas
 mod CascadePromisedLemmas
 mod CascadeStepLemmas
+mod CascadeWholeLemmas
 mod CascadeArriveLemmas
 mod EnteredLemmas
 mod PlacedLemmas

@@ -9,16 +9,18 @@ use Rattle.afdx_lists.specs.declared.frame_line.Heading.{Heading}
 use Rattle.afdx_lists.specs.declared.watched.Watched.{Watched}
 use Rattle.afdx_replay.specs.cascading.Ran.{WritesAll, WritesSome, HearsAll, HearsSome}
 use Rattle.afdx_replay.specs.cascading.Sited.{lines_in}
-use Rattle.afdx_replay.specs.cascading.Told.{AreSteady, AreTold, latest_line}
+use Rattle.afdx_replay.specs.cascading.Told.{AreInTime, AreSteady, AreTold, latest_line}
 use Rattle.afdx_replay.specs.declared.cascading.run.Cascading.{Cascading}
 use Rattle.afdx_replay.specs.replaying.Replayed.{Known}
 
 module _ {D : Type 0} (contents : D → Option (List ℕ)) where
-  -- they are told, no clock is past the latest of them, and there is room for more
+  -- they are told, each came in time, no clock is past the latest of them, and there is room for
+  -- more
   pub record TellsItems (rules : List NamedRows × Option (Watched D)) (m : Cascading D)
       (old new : Known) (past : List (Item Heading)) : Type 0 where
     pub told : AreTold contents rules.0 m.cascade m.teller rules.1 old new (lines_in past)
     pub early : latest_line (lines_in past) ≤ latest_listed
+    pub in_time : AreInTime (lines_in past)
     pub clock : cascade.IsUntil m.cascade (latest_line (lines_in past))
     pub few : length past ≤ most_frames
     pub steady : AreSteady m.teller.counts

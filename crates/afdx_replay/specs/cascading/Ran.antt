@@ -1,7 +1,9 @@
 -- What a replay of several switches a side writes, tells and counts. A list of lines has the newest
 -- first.
-use Rattle.std.specs.Prelude.{ℕ, ◌≡◌, ◌<◌, ◌≤◌, List, [], ◌∷◌, ◌++◌, length, reverse, Option, Some, None, Result, Ok, Err}
+use Rattle.std.specs.Prelude.{ℕ, ◌≡◌, ◌<◌, ◌≤◌, ◌*◌, List, [], ◌∷◌, ◌++◌, length, reverse, false}
+use Rattle.std.specs.Prelude.{Option, Some, None, Result, Ok, Err}
 use Rattle.std.specs.Io.KnownBytes.{Appends}
+use Rattle.afdx_frame.specs.Ports.{last_port}
 use Rattle.afdx_frame.specs.declared.link.Side.{Side}
 use Rattle.afdx_lists.specs.Lines.{lines_of}
 use Rattle.afdx_lists.specs.SitedLines.{SitedFrame}
@@ -10,7 +12,10 @@ use Rattle.afdx_engine.specs.Lists.{Kind, items_of, HaveNoFault}
 use Rattle.afdx_engine.specs.Stops.{StopsIn}
 use Rattle.afdx_commands.specs.Counts.{with_lines}
 use Rattle.afdx_replay.specs.cascading.Sited.{sited_frames, sites_of}
+use Rattle.afdx_cascade.specs.Admitted.{IsRow, AreRowsBefore}
 use Rattle.afdx_cascade.specs.Cables.{brought_by}
+use Rattle.afdx_cascade.specs.EndToEnd.{AreAllEvents, IsWayTo, EachLeaves, accepted_of, begins_at}
+use Rattle.afdx_cascade.specs.EndToEnd.{left_from, AreAlike, IsSameLink}
 use Rattle.afdx_cascade.specs.Parts.{AreOfList}
 use Rattle.afdx_cascade.specs.Plans.{plan_of, tables_of}
 use Rattle.afdx_cascade.specs.Runs.{Line, Runs, AreAll}
@@ -19,15 +24,17 @@ use Rattle.afdx_cascade.specs.SwitchEvents.{in_clock, turns_of}
 use Rattle.afdx_network.specs.Order.{events_of}
 use Rattle.afdx_promises.specs.Sent.{arrivals_at}
 use Rattle.afdx_commands.specs.declared.summary.Summary.{Summary}
+use Rattle.afdx_config.specs.Rows.{LinkRow}
 use Rattle.afdx_config.specs.Switches.{AreSwitches, NamedRows}
 use Rattle.afdx_police.specs.Arrival.{Arrival}
+use Rattle.afdx_switch.specs.Tables.{goes_to}
 use Rattle.afdx_switch.specs.Verdicts.{reason_of}
 use Rattle.afdx_lists.specs.Calls.{AppendsFront}
 use Rattle.afdx_lists.specs.declared.watched.Watched.{Watched}
 use Rattle.afdx_replay.specs.cascading.Early.{HearsEarly}
 use Rattle.afdx_replay.specs.cascading.Text.{cascade_text, cascade_counts, own_text}
 use Rattle.afdx_replay.specs.cascading.Told.{EndsAtLine}
-use Rattle.afdx_admit.specs.Cascade.{IsCascadeAdmitted}
+use Rattle.afdx_admit.specs.Cascade.{IsCascadeAdmitted, RowAt, row_at}
 use Rattle.afdx_replay.specs.replaying.Promises.{TellsPromises}
 use Rattle.afdx_replay.specs.replaying.Replayed.{Known}
 use Rattle.afdx_replay.specs.replaying.Text.{replay_text}
@@ -52,6 +59,33 @@ pub record AreInParts (switches : List NamedRows) (lines : List Line) (events : 
       came_to k events ≡ later ++ x ∷ past →
       (plan_of switches).far_end k x.port ≡ Some other →
       reason_of (tables_of switches k) past x ≡ None
+  -- these are all its events, and its lines came in time: so each law of its links holds of them
+  pub whole : AreSwitches switches → IsCascadeAdmitted switches → AreAllEvents switches events
+  -- from each port to which a link's row goes leave just the link's frames that the first switch of
+  -- its way accepted: in order, each later and within the sum of the latencies
+  pub ends : AreSwitches switches → IsCascadeAdmitted switches →
+      (side : Side) (r : RowAt) (before : List RowAt) (sum port : ℕ) →
+      IsWayTo switches r before sum port →
+      EachLeaves (1000 * sum) (accepted_of switches events side (begins_at r before))
+      (left_from events side r.switch port r.row.vl)
+  -- and from the others leaves none of the link's
+  pub others : AreSwitches switches → IsCascadeAdmitted switches →
+      (side : Side) (k port vl : ℕ) →
+      k < length switches →
+      1 ≤ port →
+      port ≤ last_port →
+      ((l : LinkRow) → IsRow switches (row_at k l) → l.vl ≡ vl
+      → goes_to (tables_of switches k) l port ≡ false) →
+      left_from events side k port vl ≡ []
+  -- a link with equal own arrivals at its first switch in another run has equal frames there and
+  -- here at each switch and port of its way, whatever else arrives
+  pub same : AreSwitches switches → IsCascadeAdmitted switches →
+      (another : List SwitchEvent) (side : Side) (r : RowAt) (before : List RowAt) →
+      AreAllEvents switches another →
+      IsRow switches r →
+      AreRowsBefore switches r before →
+      AreAlike switches events another side (begins_at r before) →
+      IsSameLink switches events another side r
   -- a cable brought what left the port at its other end, but for what left too late to arrive
   pub cables : (k port : ℕ) (side : Side) (other : End) →
       (plan_of switches).far_end k port ≡ Some other →

@@ -2,7 +2,9 @@
 use Rattle.std.specs.Prelude.{ℕ, ◌+◌, ◌*◌, ◌≡◌, ◌≤◌, List, [], ◌∷◌, ◌++◌, length, reverse, slice_get}
 use Rattle.std.specs.Prelude.{Option, Some}
 use Rattle.std.specs.Io.KnownBytes.{Appends}
+use Rattle.std.specs.List.{AllByRecursion}
 use Rattle.afdx_frame.specs.Ports.{last_port}
+use Rattle.afdx_frame.specs.Times.{latest_listed}
 use Rattle.afdx_cascade.specs.Cascade as cascade
 use Rattle.afdx_cascade.specs.Cascade.{AreFrom}
 use Rattle.afdx_cascade.specs.Plans.{plan_of, tables_of}
@@ -77,6 +79,10 @@ module _ (switches : List NamedRows) where
 abbrev pub latest_line : List Line → ℕ
 latest_line [] = 0
 latest_line (x ∷ past) = x.arrival.time
+
+-- each came by the latest time that a line of a list may have
+abbrev pub AreInTime : List Line → Type 0
+AreInTime past = AllByRecursion (λ line. line.arrival.time ≤ latest_listed) past
 
 module _ {D : Type 0} (contents : D → Option (List ℕ)) (switches : List NamedRows) where
   -- these events are told: the switches and the systems stand for them, they are counted, their

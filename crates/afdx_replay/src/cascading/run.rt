@@ -17,7 +17,7 @@ ghost use Rattle.afdx_lists.specs.declared.watched.Watched.{Watched as Device};
 ghost use Rattle.afdx_port.specs.Times.{drain_end};
 ghost use Rattle.afdx_text.specs.Sinks.{IsOfOutput};
 ghost use Rattle.afdx_replay.specs.cascading.Ran.{WritesAll, WritesSome, HearsAll, HearsSome};
-ghost use Rattle.afdx_replay.specs.cascading.Told.{AreFirst, AreSteady, HasTold, ToldUntil};
+ghost use Rattle.afdx_replay.specs.cascading.Told.{AreFirst, AreInTime, AreSteady, HasTold, ToldUntil};
 
 use crate::cascading::teller::Teller;
 use crate::replaying::explained::is_over_rate;
@@ -81,7 +81,8 @@ impl<'a, D: Write> Cascading<'a, D> {
         ensures all_done { (s : List NamedRows) (start : Option (Device D))
             (first : Option (List ℕ)) (past : List Line) (events : List SwitchEvent) →
             HasTold D.contents s self.old.cascade self.old.teller start first
-            (O.written output.old) events → AreFirst s past until events → drain_end ≤ until →
+            (O.written output.old) events → AreFirst s past until events → AreInTime past →
+            drain_end ≤ until →
             OnOk result
             (WritesAll s past first (O.written output.new) self.new.teller.counts
             × HearsAll D.contents s past start self.new.teller.early) }

@@ -131,8 +131,8 @@ returns-clause-told g c s start first past events has is =
     }
 
 pub returns-clause-all_done : goal.returns-clause-all_done
-returns-clause-all_done g c s start first past events has is late =
+returns-clause-all_done g c s start first past events has is soon late =
     let k = c.loop-happened.invariant.told s start first past events has is in
     let n = none-of _ _ c.in_default.is (c.in_ok-happened.ensures.none (plan_of s) k.events k.told.switches_are) in
     told-all g.D.Write.contents s past start first (g.O.Sink.written c.loop-happened.output)
-    c.loop-happened.self.cascade c.loop-happened.self.teller c.args.until k.events k.told k.first (n.all_done late)
+    c.loop-happened.self.cascade c.loop-happened.self.teller c.args.until k.events k.told k.first soon (n.all_done late)

@@ -35,7 +35,7 @@ returns-clause-done g c rules start past h =
     c.tell_events.ensures.all_done rules.0 rules.1 start (lines_in past) h.told.events h.told.told
     (items-first g.D.Write.contents rules c.args.self.now start (g.O.Sink.written c.args.output.now) past h
     18446744073709551615 (until-later c.args.self.now.cascade (latest_line (lines_in past)) 18446744073709551615
-    (omega (arith, early)) h.clock)) (omega arith)
+    (omega (arith, early)) h.clock)) h.in_time (omega arith)
 
 pub returns-clause-begins : goal.returns-clause-begins
 returns-clause-begins g c rules start past h =

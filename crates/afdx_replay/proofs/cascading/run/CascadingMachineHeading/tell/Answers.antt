@@ -132,6 +132,7 @@ returns-clause-told g c rules start past h follows can =
           (λ es e systems tells. ok-of _ is (c.tell_arrival.ensures.told es e systems tells))
           (λ es e first tells heard. ok-of _ is (c.tell_arrival.ensures.heard es e first tells heard));
       early = follows.in_order.early;
+      in_time = (follows.in_order.early, h.in_time);
       clock = c.in_ok-arrived.ensures.clock;
       few = omega (arith, few);
       steady = ok-of _ is (c.tell_arrival.ensures.steady
