@@ -2,6 +2,7 @@
 
 ghost use Rattle.std.specs.Prelude.{◌≡◌, ◌+◌, ◌≤◌, OnOk, IfSome, true, false};
 ghost use Rattle.afdx_admit.specs.Cascade.{IsCascadeAdmitted};
+ghost use Rattle.afdx_config.specs.Switches.{AreSwitches};
 ghost use Rattle.afdx_lists.specs.Calls.{is_failed_read, is_failed_write};
 ghost use Rattle.afdx_lists.specs.Lines.{most_reads};
 ghost use Rattle.afdx_lists.specs.Watching.{calls_of, device_of, has_ended, has_failed};
@@ -21,8 +22,14 @@ use std::io::{Read, Write};
 /// `admitted`), what the clause `answer` says of each switch (`promised`) holds: its lines keep the
 /// promises of a run of its own tables on what came to it. No frame is lost there or too old, each
 /// accepted one leaves each of its ports within the link's latency of that switch, and what its
-/// systems get is the integrity and redundancy rules' answer on what came to them. The errors are
-/// those of `run_cascade_unadmitted`.
+/// systems get is the integrity and redundancy rules' answer on what came to them.
+///
+/// And from end to end: a switch accepts each frame that a cable brings (`accepted`). From each
+/// port to which a link goes leave exactly the frames that the first switch of its way accepted,
+/// byte for byte, in order, each within the sum of the latencies on the way (`ends`), and of no
+/// link others (`others`). If at the first switch the link's own frames are the same but for their
+/// numbers, what is accepted and what leaves on its way is the same, whatever else comes (`same`).
+/// The errors are those of `run_cascade_unadmitted`.
 pub fn run_cascade<R: Read, W: Write>(
     alloc: Global,
     admitted: &AdmittedSwitches,
@@ -36,6 +43,7 @@ pub fn run_cascade<R: Read, W: Write>(
     ensures read { has_failed input.new ≡ is_failed_read result }
     ensures write { has_failed output.new ≡ is_failed_write result }
     ensures calls { calls_of input.new ≤ calls_of input.old + most_reads }
+    ensures lawful { AreSwitches admitted.now }
     ensures admitted { IsCascadeAdmitted admitted.now }
 
     // Where the input's bytes are known: what is answered and written for the list that they are.
