@@ -66,6 +66,7 @@ use Rattle.afdx_replay.specs.declared.cascading.teller.Teller.{Teller}
 use Rattle.afdx_replay.specs.replaying.Replayed.{Known}
 use Rattle.afdx_replay.specs.replaying.Command.{FileAnswers, FilePromises}
 use Rattle.afdx_replay.proofs.AdmittedRunLemmas.{if-known}
+use Rattle.afdx_replay.proofs.CascadePartLemmas.{no-parts}
 use Rattle.afdx_replay.proofs.CascadeRunLemmas.{told-some, told-so-far}
 
 -- ---- the lines of a list
@@ -281,7 +282,7 @@ module _ {D : Type 0} (contents : D → Option (List ℕ)) (ss : List NamedRows)
       → WritesSoFar ss [] output output × HearsSoFar contents ss [] early early
   unfolding cascade_text
   none-so-far early output = (
-    record { events = []; first = refl; at_line = refl; written = Appends-nil output },
+    record { events = []; first = refl; parts = no-parts ss; at_line = refl; written = Appends-nil output },
     record { events = []; first = refl; at_line = refl; heard = hears-none early },
   )
 

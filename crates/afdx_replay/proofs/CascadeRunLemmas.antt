@@ -15,13 +15,12 @@ use Rattle.afdx_cascade.specs.Runs.{Line, Runs, IsFirstDue, IsNextLine, arriving
 use Rattle.afdx_cascade.specs.SwitchEvents.{SwitchEvent, at_switch, came_to, listed}
 use Rattle.afdx_cascade.specs.declared.cascade.Cascade.{Cascade}
 use Rattle.afdx_cascade.proofs.AloneLemmas.{links-alone}
-use Rattle.afdx_cascade.proofs.EndToEndLemmas.{links-leave, no-others}
-use Rattle.afdx_cascade.proofs.ReadLemmas.{cables-read}
-use Rattle.afdx_cascade.proofs.WayHopLemmas.{cascade-admitted}
+use Rattle.afdx_cascade.proofs.EndToEndLemmas.{links-leave}
 use Rattle.afdx_cascade.proofs.CountedLemmas.{events-counted}
 use Rattle.afdx_cascade.proofs.PartLemmas.{are-taken, runs-alone, cables-bring, are-of-list}
 use Rattle.afdx_end_systems.specs.Receptions.{is_delivered}
 use Rattle.afdx_network.specs.Order.{events_of}
+use Rattle.afdx_replay.proofs.CascadePartLemmas.{parts-so-far}
 use Rattle.afdx_replay.proofs.CascadePromisedLemmas.{promised-at}
 use Rattle.afdx_replay.proofs.CascadeWholeLemmas.{whole-events}
 use Rattle.afdx_engine.specs.Items.{most_frames}
@@ -35,7 +34,8 @@ use Rattle.afdx_cascade.specs.Keeping.{IsNothingDue}
 use Rattle.afdx_cascade.specs.Runs.{AreAll}
 use Rattle.afdx_commands.specs.Counts.{no_counts}
 use Rattle.afdx_replay.specs.cascading.Early.{HearsEarly}
-use Rattle.afdx_replay.specs.cascading.Ran.{AreInParts, WritesSome, WritesSoFar, WritesAll, HearsSome, HearsSoFar, HearsAll}
+use Rattle.afdx_replay.specs.cascading.Ran.{AreInParts, AreInPartsSoFar, WritesSome, WritesSoFar, WritesAll}
+use Rattle.afdx_replay.specs.cascading.Ran.{HearsSome, HearsSoFar, HearsAll}
 use Rattle.afdx_replay.specs.cascading.Text.{cascade_text, cascade_counts, event_lines, own_text}
 use Rattle.afdx_replay.specs.cascading.Told.{AreFirst, AreInTime, AreSteady, AreTold, HasTold, IsFor, TellsOne, latest_line, total}
 use Rattle.afdx_replay.specs.declared.cascading.teller.Teller.{Teller}
@@ -229,13 +229,11 @@ in-parts s past w events stands all soon = record {
   alone = alone;
   promised = λ admitted k within.
       promised-at s w events stands k within (own_text s k events) (alone k within) admitted;
-  accepted = λ are admitted k later past x other came joined.
-      (cables-read s events k later past x other (cascade-admitted s w events are admitted stands) came joined).1;
+  accepted = so_far.accepted;
   whole = whole-events s past w events stands all soon;
   ends = λ are admitted side r before sum port way.
       links-leave s events side r before sum port (whole-events s past w events stands all soon are admitted) way;
-  others = λ are admitted side k port vl within low high none.
-      no-others s events side k port vl (cascade-admitted s w events are admitted stands) within low high none;
+  others = so_far.others;
   same = λ are admitted another side r before also row rows alike.
       links-alone s events another side r before (whole-events s past w events stands all soon are admitted) also
       row rows alike;
@@ -244,6 +242,9 @@ in-parts s past w events stands all soon = record {
   listed = are-of-list (plan_of s) w (reverse past) events stands all;
 }
   where
+    so_far : AreInPartsSoFar s past events
+    so_far = parts-so-far s past w events stands all.runs
+
     own : (k : ℕ) → k < length s → at_switch k events ≡ events_of (tables_of s k) (came_to k events)
     own k within = runs-alone (plan_of s) w events k stands all.none within
 
@@ -286,6 +287,8 @@ module _ {D : Type 0} (contents : D → Option (List ℕ)) (s : List NamedRows) 
     record {
       events = told.events;
       first = first-taken s past (latest_line past) told.events told.first;
+      parts = parts-so-far s past w told.events told.told.switches_are
+          (first-taken s past (latest_line past) told.events told.first);
       at_line = told.at_line;
       written = told.told.written;
     },

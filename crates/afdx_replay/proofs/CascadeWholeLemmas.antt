@@ -11,7 +11,7 @@ use Rattle.afdx_cascade.specs.EndToEnd.{AreAllEvents}
 use Rattle.afdx_cascade.specs.Parts.{frames_of}
 use Rattle.afdx_cascade.specs.Plans.{plan_of}
 use Rattle.afdx_cascade.specs.Runs.{Line, Runs, AreAll}
-use Rattle.afdx_cascade.specs.SwitchEvents.{SwitchEvent}
+use Rattle.afdx_cascade.specs.SwitchEvents.{SwitchEvent, listed}
 use Rattle.afdx_cascade.specs.declared.cascade.Cascade.{Cascade}
 use Rattle.afdx_cascade.proofs.PartLemmas.{are-taken}
 use Rattle.afdx_cascade.proofs.WayHopLemmas.{cascade-admitted}
@@ -24,14 +24,20 @@ frames-in-time : (past : List Line) → AreInTime past → FramesInTime (frames_
 frames-in-time [] all = tt
 frames-in-time (line ∷ past) all = ((let soon = all.0 in omega (arith, soon)), frames-in-time past all.1)
 
-list-in-time : (s : List NamedRows) (past : List Line) (events : List SwitchEvent)
-    → Runs (plan_of s) (reverse past) events [] → AreInTime past → IsListInTime s events
-list-in-time s past events runs soon =
+-- the frames of the list are those of its lines
+pub frames-listed : (s : List NamedRows) (past : List Line) (events : List SwitchEvent)
+    → Runs (plan_of s) (reverse past) events [] → listed (plan_of s) events ≡ frames_of past
+frames-listed s past events runs =
     let some = are-taken (plan_of s) (reverse past) [] events runs in
     let all : past ≡ some.taken =
     sym (reverse-reverse past) ∙ ap reverse (some.are ∙ append-nil (reverse some.taken))
     ∙ reverse-reverse some.taken in
-    subst FramesInTime (ap frames_of all ∙ sym some.listed_is) (frames-in-time past soon)
+    some.listed_is ∙ sym (ap frames_of all)
+
+list-in-time : (s : List NamedRows) (past : List Line) (events : List SwitchEvent)
+    → Runs (plan_of s) (reverse past) events [] → AreInTime past → IsListInTime s events
+list-in-time s past events runs soon =
+    subst FramesInTime (sym (frames-listed s past events runs)) (frames-in-time past soon)
 
 pub whole-events : (s : List NamedRows) (past : List Line) (w : Cascade) (events : List SwitchEvent)
     → StandsFor (plan_of s) w events → AreAll (plan_of s) (reverse past) events → AreInTime past

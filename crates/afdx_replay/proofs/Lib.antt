@@ -13,6 +13,7 @@ mod CascadeEventLemmas
 mod CascadeArrivalLemmas
 mod CascadeOverLemmas
 mod CascadeRunLemmas
+mod CascadePartLemmas
 mod CascadePromisedLemmas
 mod CascadeStepLemmas
 mod CascadeWholeLemmas

@@ -14,13 +14,14 @@ use Rattle.afdx_commands.specs.Counts.{with_lines}
 use Rattle.afdx_replay.specs.cascading.Sited.{sited_frames, sites_of}
 use Rattle.afdx_cascade.specs.Admitted.{IsRow, AreRowsBefore}
 use Rattle.afdx_cascade.specs.Cables.{brought_by}
-use Rattle.afdx_cascade.specs.EndToEnd.{AreAllEvents, IsWayTo, EachLeaves, accepted_of, begins_at}
-use Rattle.afdx_cascade.specs.EndToEnd.{left_from, AreAlike, IsSameLink}
-use Rattle.afdx_cascade.specs.Parts.{AreOfList}
+use Rattle.afdx_cascade.specs.EndToEnd.{AreAllEvents, IsWayTo, EachLeaves, FirstOfThemLeave}
+use Rattle.afdx_cascade.specs.EndToEnd.{accepted_of, begins_at, left_from, AreAlike, IsSameLink}
+use Rattle.afdx_cascade.specs.Parts.{AreOfList, frames_of}
 use Rattle.afdx_cascade.specs.Plans.{plan_of, tables_of}
 use Rattle.afdx_cascade.specs.Runs.{Line, Runs, AreAll}
-use Rattle.afdx_cascade.specs.SwitchEvents.{End, SwitchEvent, at_switch, came_to}
-use Rattle.afdx_cascade.specs.SwitchEvents.{in_clock, turns_of}
+use Rattle.afdx_cascade.specs.SwitchEvents.{End, SwitchEvent, FrameTest, accepted_by, at_switch}
+use Rattle.afdx_cascade.specs.SwitchEvents.{came_to, count_if, in_clock, passes, turns_of}
+use Rattle.afdx_network.specs.Events.{Event}
 use Rattle.afdx_network.specs.Order.{events_of}
 use Rattle.afdx_promises.specs.Sent.{arrivals_at}
 use Rattle.afdx_commands.specs.declared.summary.Summary.{Summary}
@@ -94,6 +95,42 @@ pub record AreInParts (switches : List NamedRows) (lines : List Line) (events : 
   -- a switch accepts no frame more often than the list has it, there are few events, and one list
   pub listed : AreOfList (plan_of switches) lines events
 
+-- what the first events of some lines, which were all taken, are at each part
+pub record AreInPartsSoFar (switches : List NamedRows) (past : List Line)
+    (events : List SwitchEvent) : Type 0 where
+  -- the events at a switch are the first of all events of its own tables and of what came to it
+  pub begun : (k : ℕ) → k < length switches →
+      (later : List Event)
+      × (events_of (tables_of switches k) (came_to k events) ≡ later ++ at_switch k events)
+  -- an admitted one accepts each frame that a cable brings
+  pub accepted : AreSwitches switches → IsCascadeAdmitted switches →
+      (k : ℕ) (later past : List Arrival) (x : Arrival) (other : End) →
+      came_to k events ≡ later ++ x ∷ past →
+      (plan_of switches).far_end k x.port ≡ Some other →
+      reason_of (tables_of switches k) past x ≡ None
+  -- what left a port to which a link's row goes is the first of the link's frames that the first
+  -- switch of its way accepted: in order, each later and within the sum of the latencies
+  pub ends : AreSwitches switches → IsCascadeAdmitted switches →
+      (side : Side) (r : RowAt) (before : List RowAt) (sum port : ℕ) →
+      IsWayTo switches r before sum port →
+      FirstOfThemLeave (1000 * sum) (accepted_of switches events side (begins_at r before))
+      (left_from events side r.switch port r.row.vl)
+  -- and from the others none of the link's has left
+  pub others : AreSwitches switches → IsCascadeAdmitted switches →
+      (side : Side) (k port vl : ℕ) →
+      k < length switches →
+      1 ≤ port →
+      port ≤ last_port →
+      ((l : LinkRow) → IsRow switches (row_at k l) → l.vl ≡ vl
+      → goes_to (tables_of switches k) l port ≡ false) →
+      left_from events side k port vl ≡ []
+  -- a switch accepts on a side, of any frames, at most as many as these lines have there
+  pub once : (side : Side) (k : ℕ) (test : FrameTest) →
+      count_if (passes side test) (accepted_by (tables_of switches k) (came_to k events))
+      ≤ count_if (passes side test) (frames_of past)
+  -- there are few events for each line
+  pub few : length events ≤ 1153 * length past
+
 module _ (switches : List NamedRows) (past : List Line) where
   -- these are all events of the lines
   abbrev pub AreAllOf : List SwitchEvent → Type 0
@@ -116,6 +153,7 @@ module _ (switches : List NamedRows) (past : List Line) where
   pub record WritesSoFar (old new : Known) : Type 0 where
     pub events : List SwitchEvent
     pub first : AreFirstOf events
+    pub parts : AreInPartsSoFar switches past events
     pub at_line : EndsAtLine switches past events
     pub written : Appends old new (cascade_text switches events)
 
