@@ -93,8 +93,8 @@ module _ {D : Type 0} (contents : D → Option (List ℕ)) (s : List NamedRows) 
       → AppendsFront middle out (event_lines t.switches.now before h))
       → WritesSome s (x ∷ past) old out × HearsSome contents s (x ∷ past) start early
   arrival-begun early same begun =
-      begun-line contents s w t start old middle past x.arrival.time k.events k.told k.first out x early (omega arith)
-      arrival-first same
+      begun-line contents s w t start old middle past x.arrival.time k.events k.told k.first out x early after
+      next.stands (omega arith) arrival-first same
       (own-lines contents s w t start old middle past x.arrival.time k.events k.told k.first out event
       (begun k.events event own))
 

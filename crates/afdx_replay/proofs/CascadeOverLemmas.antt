@@ -179,6 +179,7 @@ unfolding cascade_text
 start-some ss output = record {
   events = [];
   first = refl;
+  parts = no-parts ss;
   written = whole_front output output [] (Appends-nil output);
 }
 

@@ -275,6 +275,7 @@ module _ {D : Type 0} (contents : D → Option (List ℕ)) (s : List NamedRows) 
     record {
       events = events;
       first = first-taken s past until events first;
+      parts = parts-so-far s past w events has.switches_are (first-taken s past until events first);
       written = front-whole old new (cascade_text s events) has.written;
     },
     hears-some w t until new events has first,
@@ -319,15 +320,17 @@ module _ {D : Type 0} (contents : D → Option (List ℕ)) (s : List NamedRows) 
       )
 
   -- a beginning of the lines of the next event
-  pub begun-some : (middle : Option (List ℕ)) (w : Cascade) (t : Teller D) (until : ℕ) (events : List SwitchEvent)
-      (h : SwitchEvent) (early : Option (Watched D))
+  pub begun-some : (middle : Option (List ℕ)) (w after : Cascade) (t : Teller D) (until : ℕ)
+      (events : List SwitchEvent) (h : SwitchEvent) (early : Option (Watched D))
+      → StandsFor (plan_of s) after (h ∷ events)
       → HasTold contents s w t start old middle events → AreFirst s past until events
       → AreFirst s past until (h ∷ events) → early ≡ t.early → AppendsFront middle new (event_lines s events h)
       → WritesSome s past old new × HearsSome contents s past start early
-  begun-some middle w t until events h early has first next same front = (
+  begun-some middle w after t until events h early stands has first next same front = (
     record {
       events = h ∷ events;
       first = first-taken s past until (h ∷ events) next;
+      parts = parts-so-far s past after (h ∷ events) stands (first-taken s past until (h ∷ events) next);
       written = begun-event contents s w w t t start old middle new events h has front;
     },
     subst (λ e. HearsSome contents s past start e) (sym same) (hears-some w t until middle events has first),

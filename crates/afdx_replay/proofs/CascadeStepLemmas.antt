@@ -41,6 +41,7 @@ use Rattle.afdx_replay.specs.cascading.Told.{AreFirst, AreSteady, HasTold, IsFor
 use Rattle.afdx_replay.specs.cascading.Told.{ToldUntil, latest_line, place_of, total}
 use Rattle.afdx_replay.specs.declared.cascading.teller.Teller.{Teller}
 use Rattle.afdx_replay.specs.replaying.Replayed.{AreLow}
+use Rattle.afdx_replay.proofs.CascadePartLemmas.{parts-so-far}
 use Rattle.afdx_replay.proofs.CascadeRunLemmas.{begun-event, counts-start, few-events, first-due}
 use Rattle.afdx_replay.proofs.CascadeRunLemmas.{first-taken, low-counts, reverse-more, text-start, told-event}
 use Rattle.afdx_replay.proofs.CascadeRunLemmas.{total-is}
@@ -192,16 +193,20 @@ module _ {D : Type 0} (contents : D → Option (List ℕ)) (s : List NamedRows) 
       omega (arith, is, within, size)
 
   -- a beginning of the lines of a line's frame is written
-  pub begun-line : (out : Option (List ℕ)) (x : Line) (early : Option (Watched D)) → until ≤ x.arrival.time
+  pub begun-line : (out : Option (List ℕ)) (x : Line) (early : Option (Watched D)) (after : Cascade)
+      → StandsFor (plan_of s) after (arriving (plan_of s) events x.switch x.arrival ∷ events)
+      → until ≤ x.arrival.time
       → AreFirst s (x ∷ past) x.arrival.time (arriving (plan_of s) events x.switch x.arrival ∷ events)
       → early ≡ t.early
       → AppendsFront middle out (event_lines s events (arriving (plan_of s) events x.switch x.arrival))
       → WritesSome s (x ∷ past) old out × HearsSome contents s (x ∷ past) start early
-  begun-line out x early le next same front =
+  begun-line out x early after stands le next same front =
       let h : SwitchEvent = arriving (plan_of s) events x.switch x.arrival in (
         record {
           events = h ∷ events;
           first = first-taken s (x ∷ past) x.arrival.time (h ∷ events) next;
+          parts = parts-so-far s (x ∷ past) after (h ∷ events) stands
+              (first-taken s (x ∷ past) x.arrival.time (h ∷ events) next);
           written = begun-event contents s w w t t start old middle out events h has front;
         },
         record {

@@ -161,6 +161,7 @@ module _ (switches : List NamedRows) (past : List Line) where
   pub record WritesSome (old new : Known) : Type 0 where
     pub events : List SwitchEvent
     pub first : AreFirstOf events
+    pub parts : AreInPartsSoFar switches past events
     pub written : AppendsFront old new (cascade_text switches events)
 
 module _ {D : Type 0} (contents : D → Option (List ℕ)) (switches : List NamedRows)

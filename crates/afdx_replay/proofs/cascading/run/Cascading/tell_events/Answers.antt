@@ -61,8 +61,8 @@ returns-in_err-tell_event-clause-begun g c s start first past events has is =
     (own-event g.D.Write.contents s w t start first middle past c.args.until k.events k.told k.first
     c.in-Some.happened n.event n.tells) in
     on-err c.from_residual-in_err-tell_event.result _
-    (begun-some g.D.Write.contents s past start first (g.O.Sink.written c.tell_event.new.output) middle w t
-    c.args.until k.events n.event c.tell_event.new.self.early k.told k.first
+    (begun-some g.D.Write.contents s past start first (g.O.Sink.written c.tell_event.new.output) middle w
+    c.take.new.self t c.args.until k.events n.event c.tell_event.new.self.early n.stands k.told k.first
     (first-due s past c.args.until k.events k.first n.event n.next) c.in_err-tell_event.ensures.kept
     (own-lines g.D.Write.contents s w t start first middle past c.args.until k.events k.told k.first
     (g.O.Sink.written c.tell_event.new.output) n.event front))
