@@ -96,7 +96,7 @@ pub record AreInParts (switches : List NamedRows) (lines : List Line) (events : 
   pub listed : AreOfList (plan_of switches) lines events
 
 -- what the first events of some lines, which were all taken, are at each part
-pub record AreInPartsSoFar (switches : List NamedRows) (past : List Line)
+pub record AreInPartsSoFar (switches : List NamedRows) (taken : List Line)
     (events : List SwitchEvent) : Type 0 where
   -- the events at a switch are the first of all events of its own tables and of what came to it
   pub begun : (k : ℕ) → k < length switches →
@@ -127,9 +127,9 @@ pub record AreInPartsSoFar (switches : List NamedRows) (past : List Line)
   -- a switch accepts on a side, of any frames, at most as many as these lines have there
   pub once : (side : Side) (k : ℕ) (test : FrameTest) →
       count_if (passes side test) (accepted_by (tables_of switches k) (came_to k events))
-      ≤ count_if (passes side test) (frames_of past)
+      ≤ count_if (passes side test) (frames_of taken)
   -- there are few events for each line
-  pub few : length events ≤ 1153 * length past
+  pub few : length events ≤ 1153 * length taken
 
 module _ (switches : List NamedRows) (past : List Line) where
   -- these are all events of the lines
