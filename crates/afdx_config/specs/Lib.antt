@@ -12,6 +12,7 @@ pub mod New
 pub mod Lawful
 pub mod Switches
 pub mod Files
+pub mod ToSolve
 pub mod Flows
 pub mod Numbers
 pub mod SentList

@@ -3,7 +3,7 @@
 ghost use Rattle.std.specs.Prelude.{◌≡◌, ◌≤◌, length, take, None, IfOk, string_bytes};
 ghost use Rattle.toml.specs.View.{table_view};
 ghost use Rattle.afdx_frame.specs.Ports.{last_port};
-ghost use Rattle.afdx_config.specs.Lawful.{IsSystem, AreSystems, AreEnds, IsWithin};
+ghost use Rattle.afdx_config.specs.Lawful.{IsSystem, AreSystems, AreEnds, HasNoNumber, IsWithin};
 ghost use Rattle.afdx_config.specs.Rows.{system_row};
 ghost use Rattle.afdx_config.specs.Fault.{Gives};
 ghost use Rattle.afdx_config.specs.Trees.{trees};
@@ -47,6 +47,7 @@ fn neighbour_of(
     ensures name { IfOk result (λ e. system_named before.now (string_bytes e.name) ≡ None) }
     ensures port { IfOk result (λ e. system_at_port before.now e.port ≡ None) }
     ensures lawful { IfOk result (λ e. IsSystem profile (system_row e)) }
+    ensures number { IfOk result (λ e. HasNoNumber (system_row e)) }
 {
     let index = before.len() - own + 1;
     let name = new_name(table, neighbour_at(index, 1), before)?;

@@ -3,6 +3,7 @@
 //! Its tests are in `afdx_part_tests`.
 #![tactic(auto)]
 
+mod cascade_writing;
 mod delays;
 mod jitters;
 pub mod laws;
@@ -10,6 +11,7 @@ mod options;
 mod solving;
 mod writing;
 
+pub use cascade_writing::cascade_text;
 pub use options::SolveOptions;
 pub use solving::solve;
 pub use writing::config_text;

@@ -34,5 +34,5 @@ loop-table-preserved c =
       lawful = rw c.in_ok-push.ensures
           (ends_push c.args.profile c.len-own.result ends new c.loop-table.invariant.lawful
           c.loop-table.invariant.behind c.in_ok-neighbour.ensures.lawful c.in_ok-neighbour.ensures.name
-          c.in_ok-neighbour.ensures.port);
+          c.in_ok-neighbour.ensures.port c.in_ok-neighbour.ensures.number);
     }
