@@ -24,7 +24,7 @@ with_times_at k place times switches = changed_switch k (with_link_at place time
 
 -- without the jitter, the latency, the skew and the buffer
 abbrev pub bare_link : LinkRow → LinkRow
-bare_link l = record l { jitter_us = 0; latency_us = 0; skew_us = 0; }
+bare_link l = record l { jitter_us = 0; latency_us = 0; skew_us = 0 }
 
 abbrev pub bare : Rows → Rows
 bare t = record t { buffer = 0; links = map bare_link t.links }
