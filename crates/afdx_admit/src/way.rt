@@ -71,7 +71,7 @@ fn row_from<'a>(
 /// The row before this one of a switch: its switch, and what stands there. There is none where a
 /// system sends the link, nor where the neighbour that it comes from doesn't send it here.
 #[tactic(auto, unfolding(crate::specs::Cascade::row_before))]
-pub(crate) fn row_before<'a>(
+pub fn row_before<'a>(
     switches: &'a Switches,
     switch: SwitchId,
     link: &Link,

@@ -9,4 +9,6 @@ pub mod AnyLemmas
 pub mod LookUpLemmas
 pub mod NumberLemmas
 pub mod OverLemmas
+pub mod BareLemmas
+pub mod ChangedSwitchesLemmas
 pub mod TakenLemmas

@@ -1,4 +1,5 @@
 pub mod Solved
+pub mod SolvedCascade
 pub mod Delays
 pub mod Laws
 pub mod ConfigText

@@ -9,9 +9,11 @@ mod jitters;
 pub mod laws;
 mod options;
 mod solving;
+mod solving_cascade;
 mod writing;
 
 pub use cascade_writing::cascade_text;
 pub use options::SolveOptions;
 pub use solving::solve;
+pub use solving_cascade::solve_cascade;
 pub use writing::config_text;
