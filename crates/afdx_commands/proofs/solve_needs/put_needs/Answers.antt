@@ -1,7 +1,7 @@
 use Rattle.std.proofs.Common.{◌∙◌}
 use Rattle.std.specs.Prelude.{string_bytes}
 use Rattle.afdx_commands.proofs.SolveLemmas.{no_port, port-next}
-use Rattle.afdx_commands.proofs.solve_command.needs_of.Goals as goal
+use Rattle.afdx_commands.proofs.solve_needs.put_needs.Goals as goal
 
 pub loop-count-init : goal.loop-count-init
 loop-count-init c = c.new-text.ensures.bytes ∙ no_port c.args.tables.now c.args.asked.now

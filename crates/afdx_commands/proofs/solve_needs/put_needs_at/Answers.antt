@@ -1,7 +1,7 @@
 use Rattle.std.proofs.Common.{◌≡◌, ◌++◌, List, ℕ, subst}
 use Rattle.std.specs.Prelude.{OnOk, string_bytes}
 use Rattle.afdx_commands.proofs.SolveLemmas.{at_system, at_no_system, at_unused}
-use Rattle.afdx_commands.proofs.solve_command.put_needs_at.Goals as goal
+use Rattle.afdx_commands.proofs.solve_needs.put_needs_at.Goals as goal
 
 pub returns-in-Some-bounds_of : goal.returns-in-Some-bounds_of
 returns-in-Some-bounds_of c =

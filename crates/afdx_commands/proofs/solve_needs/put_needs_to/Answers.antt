@@ -1,7 +1,7 @@
 use Rattle.std.specs.Prelude.{string_bytes}
 use Rattle.afdx_config.specs.Rows.{link_row}
 use Rattle.afdx_commands.proofs.SolveLemmas.{no_link, link-next}
-use Rattle.afdx_commands.proofs.solve_command.put_needs_to.Goals as goal
+use Rattle.afdx_commands.proofs.solve_needs.put_needs_to.Goals as goal
 
 pub loop-i-init : goal.loop-i-init
 loop-i-init c =
