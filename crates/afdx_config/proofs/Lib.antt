@@ -7,6 +7,7 @@ pub mod GatheredLemmas
 pub mod GrownLemmas
 pub mod AnyLemmas
 pub mod LookUpLemmas
+pub mod InSwitchLemmas
 pub mod NumberLemmas
 pub mod OverLemmas
 pub mod BareLemmas
