@@ -1,5 +1,5 @@
 -- What is told of switches over all of them doesn't rest on jitters, latencies, skews and buffers.
-use Rattle.std.proofs.Common.{◌≡◌, ℕ, zero, suc, ◌+◌, ◌-◌, Bool, true, false, cond, List, [], ◌∷◌, ◌++◌, length, map, not, ◌||◌, ◌&&◌}
+use Rattle.std.proofs.Common.{◌≡◌, ℕ, zero, suc, ◌+◌, ◌-◌, Bool, false, cond, List, [], ◌∷◌, ◌++◌, length, map, not, ◌||◌, ◌&&◌}
 use Rattle.std.proofs.Common.{Option, Some, None, is_some, slice_get, position, nat_le, nat_lt, nat_eq, option_map, option_and_then}
 use Rattle.std.proofs.Common.{refl, sym, ap, ◌∙◌}
 use Rattle.std.specs.List.{position_or_len}

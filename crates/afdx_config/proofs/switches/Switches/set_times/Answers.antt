@@ -1,4 +1,4 @@
-use Rattle.std.proofs.Common.{IsSome, ◌≡◌, ◌<◌, length, slice_get, slice_set, List, Some, refl, sym, ap, ◌∙◌, subst}
+use Rattle.std.proofs.Common.{IsSome, ◌≡◌, length, slice_get, slice_set, List, Some, refl, sym, ap, ◌∙◌, subst}
 use Rattle.std.proofs.lemmas.Option.{slice_get_read, slice_get_within}
 use Rattle.afdx_config.specs.Changed.{with_times, with_link_at}
 use Rattle.afdx_config.specs.AtSwitch.{tables_at, link_at}
