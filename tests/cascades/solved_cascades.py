@@ -1,17 +1,19 @@
-"""Cascades whose keys are to be solved, and what `check` says of the values that were found."""
+"""Cascades whose keys are to be solved, what `solve` makes of them, what `check` says of that."""
 from __future__ import annotations
 
 import copy
+import itertools
 import random
-from collections.abc import Iterator
+from collections.abc import Collection, Iterator
 
 from cascade import cascade_text
+from cascade_least import solve_cascade_answer
 from cascade_rows import Changes, NO_LINK_1, NO_LINK_1_AFT, TWO, changed
 from first_fault import LATE_US, RANGES
-from large_cascades import cable, in_a_ring, switch_with
+from large_cascades import cable, switch_with
 from least import SOLVED
 from networks import unsolvable, with_any_keys
-from program import Program, answers, must
+from program import Answer, Program, answers, must
 import tables as made
 
 # the lines that a key's value less by one makes false, and where in them the link stands
@@ -21,6 +23,7 @@ LINES_OF = {
     "skew_us": {"A7": 3, "B4": 3},
 }
 PICKED = 12  # rows whose values are made less one at a time
+KEEPS = [keep for count in range(5) for keep in itertools.combinations(SOLVED, count)]
 
 Place = tuple[str, int]  # a switch and a link
 
@@ -79,6 +82,31 @@ def must_be_below(found: dict, others: dict, why: str) -> None:
     must(values.keys() == limits.keys(), "it has other links")
     above = [key for key, value in values.items() if value > limits[key]]
     must(not above, f"{why}: {above[:3]} are above")
+
+
+# ---- what the program makes of them --------------------------------------------------------------
+
+
+def run(program: Program, text: bytes, keep: Collection[str], raise_only: bool) -> Answer:
+    """What `solve` answers."""
+    options = ["--keep", ",".join(keep)] if keep else []
+    options += ["--raise-only"] if raise_only else []
+    return program.run("solve", *options, "/dev/stdin", given=text)
+
+
+def check_solve(
+    program: Program, text: bytes, keep: Collection[str] = (), raise_only: bool = False
+) -> bytes | None:
+    """`solve` answers what is computed here; the configuration that it writes, if it does, which
+    `check` admits, and which is the same when it is solved again."""
+    wanted = solve_cascade_answer(text, keep, raise_only)
+    answers(run(program, text, keep, raise_only), wanted.status, wanted.out, wanted.err)
+    if wanted.status != 0:
+        return None
+    judged = program.run("check", "/dev/stdin", given=wanted.out)
+    must(judged.status == 0 and judged.out.endswith(b"ok\n"), "check doesn't admit what is written")
+    answers(run(program, wanted.out, keep, raise_only), 0, wanted.out, b"")
+    return wanted.out
 
 
 # ---- less by one ---------------------------------------------------------------------------------
@@ -147,7 +175,7 @@ def busy_ring(count: int, links: int, bag_ms: int) -> dict:
         for n in range(count):
             far = (k - n) % count  # how far the links of w`n` have come
             to = [f"w{(k + 1) % count}"] if far + 1 < count else [f"s{k + 1}"]
-            row = {"from": f"w{(k - 1) % count}" if far else f"s{k + 1}", "to": to}
+            row: dict = {"from": f"w{(k - 1) % count}" if far else f"s{k + 1}", "to": to}
             row |= {"bag_ms": bag_ms, "lmin": 64, "policing": "byte", "subs": 1}
             for each in range(links):
                 kind = {"priority": ["high", "low"][each % 2], "lmax": 64 + 37 * each}

@@ -35,18 +35,15 @@ from cascade import cascade_text, loaded, of_one  # noqa: E402
 from cascade_check import at_switch  # noqa: E402
 from cascade_least import solve_cascade_answer, solve_file_fault  # noqa: E402
 from cascade_least import solved_cascade, solved_text  # noqa: E402
-from cascade_rows import LEAST, THREE_TEXT, TWO, TWO_TEXT, LeastRow, text_with  # noqa: E402
+from cascade_rows import LEAST, ROWS, THREE_TEXT, TWO, TWO_TEXT, LeastRow, text_with  # noqa: E402
 from large_cascades import around_one, in_a_mesh, in_a_ring, in_a_row  # noqa: E402
-from least import SOLVED  # noqa: E402
 from made_cascades import made_cascade, mutated, spoiled  # noqa: E402
 from networks import BEYOND, network  # noqa: E402
-from program import Answer, Program, Wrong, answers, main_of_both, must  # noqa: E402
-from program import same_text  # noqa: E402
-from solved_cascades import Vain, busy_ring, check_all_less, faulty, in_vain  # noqa: E402
-from solved_cascades import must_be_below, with_any, with_keys  # noqa: E402
+from program import Program, Wrong, answers, main_of_both, must, same_text  # noqa: E402
+from solved_cascades import KEEPS, Vain, busy_ring, check_all_less, check_solve  # noqa: E402
+from solved_cascades import faulty, in_vain, must_be_below, run, with_any, with_keys  # noqa: E402
 
 ONE = "only"  # the name of a switch that is alone
-KEEPS = [keep for count in range(5) for keep in itertools.combinations(SOLVED, count)]
 
 
 # ---- what is computed here -----------------------------------------------------------------------
@@ -74,28 +71,6 @@ def vain_is_computed(vain: Vain) -> None:
 
 
 # ---- what the program makes of them --------------------------------------------------------------
-
-
-def run(program: Program, text: bytes, keep: Collection[str], raise_only: bool) -> Answer:
-    """What `solve` answers."""
-    options = ["--keep", ",".join(keep)] if keep else []
-    options += ["--raise-only"] if raise_only else []
-    return program.run("solve", *options, "/dev/stdin", given=text)
-
-
-def check_solve(
-    program: Program, text: bytes, keep: Collection[str] = (), raise_only: bool = False
-) -> bytes | None:
-    """`solve` answers what is computed here; the configuration that it writes, if it does, which
-    `check` admits, and which is the same when it is solved again."""
-    wanted = solve_cascade_answer(text, keep, raise_only)
-    answers(run(program, text, keep, raise_only), wanted.status, wanted.out, wanted.err)
-    if wanted.status != 0:
-        return None
-    judged = program.run("check", "/dev/stdin", given=wanted.out)
-    must(judged.status == 0 and judged.out.endswith(b"ok\n"), "check doesn't admit what is written")
-    answers(run(program, wanted.out, keep, raise_only), 0, wanted.out, b"")
-    return wanted.out
 
 
 def solution_of(
@@ -290,6 +265,7 @@ def program_cases(program: Program) -> list[tuple]:
     """What is tried with the program."""
     cases: list[tuple] = [(row.name, row_is_solved, program, row) for row in LEAST]
     cases += [(vain.name, check_vain, program, vain) for vain in in_vain()]
+    cases += [(f"solved: {row.name}", check_solve, program, row.text) for row in ROWS]
     measured = bench.config_text(bench.ways_of(bench.LINKS)).encode()
     for name in ("aircraft", "two_switches"):
         cases.append((f"{name}.toml", check_example, program, made.example(f"{name}.toml")))
