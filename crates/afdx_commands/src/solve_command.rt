@@ -17,7 +17,7 @@ ghost use Rattle.afdx_lists.specs.Watching.{has_failed};
 use crate::refusing::{refuse_file, want_memory};
 use crate::solve_needs::{needs_of, needs_of_cascade};
 use crate::status::{DONE, REFUSED};
-use afdx_admit::laws::{cascade_lines_are_admission, lines_are_admission};
+use afdx_admit::laws::lines_are_admission;
 use afdx_admit::{AdmitFault, CascadeFault};
 use afdx_config::{Switches, Tables, ToSolve, read_file_to_solve};
 use afdx_lists::Watched;
@@ -123,8 +123,6 @@ fn answer_of_several(
             })
         }
         Err((switches, fault)) => {
-            // (a law: switches are admitted just where no line of admission is false)
-            cascade_lines_are_admission();
             let text = cascade_denial(alloc, &switches, fault)?;
             Ok(Answer {
                 text,

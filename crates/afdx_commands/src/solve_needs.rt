@@ -14,19 +14,11 @@ use afdx_frame::{LAST_PORT, Priority, VlId};
 use std::alloc::{AllocError, Global};
 use std::fmt::Write as _;
 
-/// An output port of a switch, which has a name where there are several.
-#[derive(Clone, Copy)]
-struct OutputPort<'a> {
-    switch: &'a str,
-    port: u8,
-}
-
 /// Adds the number of a port, behind the name of its switch where there are several.
-fn put_port(text: &mut String, at: OutputPort<'_>) -> Result<(), AllocError>
+fn put_port(text: &mut String, switch: &str, port: u8) -> Result<(), AllocError>
     ensures { OnOk result
-        (string_bytes text.new ≡ string_bytes text.old ++ spec.port_text at.switch.now at.port) }
+        (string_bytes text.new ≡ string_bytes text.old ++ spec.port_text switch.now port) }
 {
-    let (switch, port) = (at.switch, at.port);
     if switch.is_empty() {
         return write!(text, "{port}");
     }
@@ -34,53 +26,55 @@ fn put_port(text: &mut String, at: OutputPort<'_>) -> Result<(), AllocError>
 }
 
 /// Adds the line of a link that needs so many ns at an output port, and asked for so many us.
-#[tactic(auto, using(std::proofs::Common::append_assoc))]
 fn put_told(
     text: &mut String,
-    at: OutputPort<'_>,
+    switch: &str,
+    port: u8,
     vl: u16,
     bound: u64,
     asked: u64,
 ) -> Result<(), AllocError>
     ensures { OnOk result (string_bytes text.new ≡ string_bytes text.old
-        ++ spec.told_need at.switch.now at.port vl bound asked) }
+        ++ spec.told_need switch.now port vl bound asked) }
 {
     write!(text, "vl {vl} at ")?;
-    put_port(text, at)?;
+    put_port(text, switch, port)?;
     write!(text, ": {bound} ns needed, {asked} us asked\n")
 }
 
 /// Adds the line if the bound is more than what was asked for.
 fn put_over(
     text: &mut String,
-    at: OutputPort<'_>,
+    switch: &str,
+    port: u8,
     vl: u16,
     bound: u64,
     asked: u64,
 ) -> Result<(), AllocError>
     ensures { OnOk result (string_bytes text.new ≡ string_bytes text.old
-        ++ spec.need_over at.switch.now at.port vl bound asked) }
+        ++ spec.need_over switch.now port vl bound asked) }
 {
     if bound <= asked.saturating_mul(1000) {
         Ok(())
     } else {
-        put_told(text, at, vl, bound, asked)
+        put_told(text, switch, port, vl, bound, asked)
     }
 }
 
 /// Adds the line if there is a bound, and it is more than what was asked for.
 fn put_line(
     text: &mut String,
-    at: OutputPort<'_>,
+    switch: &str,
+    port: u8,
     vl: VlId,
     bound: Option<u64>,
     asked: Option<u64>,
 ) -> Result<(), AllocError>
     ensures { OnOk result (string_bytes text.new ≡ string_bytes text.old
-        ++ spec.need_line at.switch.now at.port vl.0 bound asked) }
+        ++ spec.need_line switch.now port vl.0 bound asked) }
 {
     match (bound, asked) {
-        (Some(bound), Some(asked)) => put_over(text, at, vl.0, bound, asked),
+        (Some(bound), Some(asked)) => put_over(text, switch, port, vl.0, bound, asked),
         (Some(_), None) => Ok(()),
         (None, _) => Ok(()),
     }
@@ -101,21 +95,22 @@ fn class_bound(class: Priority, bounds: &PortBounds) -> Option<u64>
 /// system or the neighbour there.
 fn put_need(
     text: &mut String,
-    at: OutputPort<'_>,
+    switch: &str,
+    port: u8,
     end: SystemId,
     bounds: &PortBounds,
     link: &Link,
     asked: Option<u64>,
 ) -> Result<(), AllocError>
-    ensures { (t : Rows) → IsBounds t at.port bounds.now → OnOk result (string_bytes text.new
+    ensures { (t : Rows) → IsBounds t port bounds.now → OnOk result (string_bytes text.new
         ≡ string_bytes text.old
-        ++ spec.need_at at.switch.now t at.port end.0 (link_row link.now) asked) }
+        ++ spec.need_at switch.now t port end.0 (link_row link.now) asked) }
 {
     if !link.goes_to(end) {
         return Ok(());
     }
     let bound = class_bound(link.priority, bounds);
-    put_line(text, at, link.vl, bound, asked)
+    put_line(text, switch, port, link.vl, bound, asked)
 }
 
 /// What the link at a place asked for, in us.
@@ -131,21 +126,22 @@ fn asked_by(asked: &[Option<u64>], index: usize) -> Option<u64>
 /// Adds the lines of the links that need more at an output port than they asked for.
 fn put_needs_to(
     text: &mut String,
-    at: OutputPort<'_>,
+    switch: &str,
+    port: u8,
     tables: &Tables,
     asked: &[Option<u64>],
     end: SystemId,
     bounds: &PortBounds,
 ) -> Result<(), AllocError>
-    requires { IsBounds tables.now at.port bounds.now }
+    requires { IsBounds tables.now port bounds.now }
     ensures { OnOk result (string_bytes text.new ≡ string_bytes text.old
-        ++ spec.needs_of_first at.switch.now tables.now asked.now at.port end.0
+        ++ spec.needs_of_first switch.now tables.now asked.now port end.0
         (length tables.now.links)) }
 {
     let count = tables.link_count();
     for i in 0..count {
         let latency = asked_by(asked, i);
-        put_need(text, at, end, bounds, tables.link(i), latency)?;
+        put_need(text, switch, port, end, bounds, tables.link(i), latency)?;
     }
     Ok(())
 }
@@ -153,16 +149,17 @@ fn put_needs_to(
 /// Adds the lines at a port of a switch, if it has a system or a neighbour.
 fn put_needs_at(
     text: &mut String,
-    at: OutputPort<'_>,
+    switch: &str,
+    port: u8,
     tables: &Tables,
     asked: &[Option<u64>],
 ) -> Result<(), AllocError>
     ensures { OnOk result (string_bytes text.new ≡ string_bytes text.old
-        ++ spec.needs_at at.switch.now tables.now asked.now at.port) }
+        ++ spec.needs_at switch.now tables.now asked.now port) }
 {
-    match tables.system_at(at.port) {
-        Some(end) => match bounds_of(tables, at.port) {
-            Some(bounds) => put_needs_to(text, at, tables, asked, end, &bounds),
+    match tables.system_at(port) {
+        Some(end) => match bounds_of(tables, port) {
+            Some(bounds) => put_needs_to(text, switch, port, tables, asked, end, &bounds),
             None => Ok(()),
         },
         None => Ok(()),
@@ -182,7 +179,7 @@ fn put_needs(
 {
     for count in 0..LAST_PORT {
         let port = count + 1;
-        put_needs_at(text, OutputPort { switch, port }, tables, asked)?;
+        put_needs_at(text, switch, port, tables, asked)?;
     }
     Ok(())
 }

@@ -5,4 +5,4 @@ use Rattle.afdx_commands.proofs.solve_needs.put_needs_to.Given as goal
 
 abbrev pub invariant-loop-i : goal.invariant-loop-i
 invariant-loop-i l = string_bytes l.text
-    ≡ string_bytes l.fn.text ++ needs_of_first l.tables l.asked l.port l.system.0 l.i
+    ≡ string_bytes l.fn.text ++ needs_of_first l.switch l.tables l.asked l.port l.end.0 l.i
