@@ -135,7 +135,7 @@ module _ (o : SolveOptions) (config : List ℕ) (file : ToSolve) (text needs : L
     }
 
     pub one-denial : IsDenialOfOne o t text → IsDenial o config text
-    one-denial denies = record { file = One t v; read = known; denial = denies; }
+    one-denial denies = record { file = One t v; read = known; denial = denies }
 
   module _ (switches : List NamedRows) (v : Vec (Vec (Option ℕ) Global) Global) (is : file ≡ Several switches v) where
     known-all : IsToSolve o.kept config (Several switches v)
@@ -151,4 +151,4 @@ module _ (o : SolveOptions) (config : List ℕ) (file : ToSolve) (text needs : L
     }
 
     pub several-denial : IsDenialOfSeveral o switches text → IsDenial o config text
-    several-denial denies = record { file = Several switches v; read = known-all; denial = denies; }
+    several-denial denies = record { file = Several switches v; read = known-all; denial = denies }
