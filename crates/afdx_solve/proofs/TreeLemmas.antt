@@ -1,17 +1,18 @@
 -- The tree of the text of tables: the lines of each row make a table whose keys ascend.
-use Rattle.std.proofs.Common.{◌++◌, ◌≡◌, ℕ, List, [], ◌∷◌, codes, map, pos, Option, Some, None, option_map, refl}
+use Rattle.std.proofs.Common.{◌++◌, ◌≡◌, ℕ, true, false, List, [], ◌∷◌, codes, map, pos, Option, Some, None, option_map}
+use Rattle.std.proofs.Common.{option_and_then, refl, ap, ◌∙◌}
 use Rattle.afdx_config.specs.Keys.{KeyRow, are_among}
 use Rattle.afdx_config.specs.Rows.{SystemRow, LinkRow, PortRow, Rows}
 use Rattle.afdx_config.specs.Switches.{NamedRows}
 use Rattle.std.specs.List.{list_any}
 use Rattle.std.specs.Str.{bytes_eq}
-use Rattle.toml.specs.Data.{Data, string, integer, array, Items, no_items, item, Members, get_member}
-use Rattle.toml.specs.Tables.{Expression, Node, Nodes, no_nodes, node, value, close, close_node, get_node, along_dots, at_key}
+use Rattle.toml.specs.Data.{Data, string, integer, array, Items, no_items, item, get_member, same_key}
+use Rattle.toml.specs.Tables.{Document, Expression, Node, Nodes, no_nodes, node, value, close, close_node, get_node, along_dots, at_key}
 use Rattle.toml.proofs.ReadLines.{run}
 use Rattle.toml.proofs.Fill.{run-append}
 use Rattle.afdx_solve.specs.ConfigText.{class_word, policing_word, kind_word, name_at}
 use Rattle.afdx_solve.proofs.NodeLemmas.{with_node-other, get_node-with, get_member-close, among-with}
-use Rattle.afdx_solve.proofs.RunLemmas.{Fields, field_lines, rows_lines, rows_node, rows-run, put_all, with_node}
+use Rattle.afdx_solve.proofs.RunLemmas.{Fields, field_lines, rows_lines, rows_node, run-fields, rows-run, put_all, with_node}
 
 abbrev pub number : ℕ → Data
 number n = integer (pos n)
@@ -182,13 +183,13 @@ abbrev pub ports_node : Parts → Option Node
 ports_node t = rows_node (port_nodes t.ends) t.ports
 
 -- a table with the arrays, if there are any
-abbrev with_systems : Parts → Nodes → Nodes
+abbrev pub with_systems : Parts → Nodes → Nodes
 with_systems t top = with_node (codes "system") (systems_node t) top
 
-abbrev with_neighbours : Parts → Nodes → Nodes
+abbrev pub with_neighbours : Parts → Nodes → Nodes
 with_neighbours t top = with_node (codes "neighbour") (neighbours_node t) (with_systems t top)
 
-abbrev with_links : Parts → Nodes → Nodes
+abbrev pub with_links : Parts → Nodes → Nodes
 with_links t top = with_node (codes "link") (links_node t) (with_neighbours t top)
 
 unfoldable pub with_parts : Parts → Nodes → Nodes
@@ -208,6 +209,9 @@ no-parts-top t = record { system = refl; neighbour = refl; link = refl; port = r
 pub no-parts-switch : (s : NamedRows) → HasNoParts (switch_top s)
 unfolding switch_top
 no-parts-switch s = record { system = refl; neighbour = refl; link = refl; port = refl }
+
+after : (doc next : Document) (es fs : List Expression) → run doc es ≡ Some next → run doc (es ++ fs) ≡ run next fs
+after doc next es fs ran = run-append doc es fs ∙ ap (option_and_then (λ d. run d fs)) ran
 
 -- the lines, after those of a top
 module _ (t : Parts) (top : Nodes) (none : HasNoParts top) where
@@ -293,6 +297,15 @@ module _ (t : Parts) (top : Nodes) (none : HasNoParts top) where
       get_member-close (codes "port") _
       ∙ ap (option_map close_node) (get_node-with (codes "port") (ports_node t) _ no-port)
 
--- their keys are among those that are known, where these are and the top's
+-- a table with these arrays has no keys but those that are known
 abbrev pub IsKnownKey : List KeyRow → List ℕ → Type 0
 IsKnownKey known k = list_any (λ key. bytes_eq key.name k) known ≡ true
+
+pub parts-known : (known : List KeyRow) (t : Parts) (top : Nodes)
+    → are_among known (close (with_neighbours t top)) ≡ true
+    → IsKnownKey known (codes "link") → IsKnownKey known (codes "port")
+    → are_among known (close (with_parts t top)) ≡ true
+unfolding with_parts
+parts-known known t top all link port =
+    among-with known (codes "port") (ports_node t) _ port
+    (among-with known (codes "link") (links_node t) (with_neighbours t top) link all)
