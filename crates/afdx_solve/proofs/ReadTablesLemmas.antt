@@ -1,5 +1,5 @@
 -- The tree of lawful tables reads as the tables.
-use Rattle.std.proofs.Common.{◌≡◌, ℕ, zero, suc, ◌+◌, ◌<◌, Bool, true, false, not, cond, ◌||◌, List, [], ◌∷◌, ◌++◌}
+use Rattle.std.proofs.Common.{◌≡◌, ℕ, suc, ◌+◌, ◌<◌, Bool, true, false, not, cond, ◌||◌, List, [], ◌∷◌, ◌++◌}
 use Rattle.std.proofs.Common.{length, map, take, drop, slice_get, position, Some, None, Result, Ok, refl, sym, ap, ◌∙◌, subst}
 use Rattle.std.proofs.Common.{option_and_then}
 use Rattle.std.proofs.Common.{arith, append_assoc, append-nil, nat_eq, ◌&&◌, ◌==◌}
@@ -19,6 +19,7 @@ use Rattle.afdx_config.specs.Rows.{SystemRow, LinkRow, PortRow, Rows}
 use Rattle.afdx_config.specs.Switches.{neighbour_at}
 use Rattle.afdx_config.proofs.LookUpLemmas.{each_row-found}
 use Rattle.afdx_config.proofs.TakenLemmas.{below as below_or_none, named_take}
+use Rattle.afdx_solve.proofs.FrontLemmas.{front}
 use Rattle.afdx_solve.specs.ConfigText.{name_at}
 use Rattle.afdx_solve.proofs.ReadRowLemmas.{IsNewSystem, AreNamed, system_tree, neighbour_tree, link_tree, port_tree}
 use Rattle.afdx_solve.proofs.ReadRowLemmas.{system-reads, neighbour-reads, link-reads, port-reads}
@@ -75,11 +76,6 @@ each-reads P row_at tree all reads before (r ∷ rest) e are =
 row-of : {R : Type 0} (P : R → Type 0) (all before after : List R) (r : R) → AllByRecursion P all
     → all ≡ before ++ r ∷ after → P r
 row-of P all before after r are e = AllByRecursion-slice_get P all (length before) r are (rw e (at-end before after r))
-
-front : {R : Type 0} (P : R → Type 0) (n : ℕ) (rows : List R) → AllByRecursion P rows → AllByRecursion P (take n rows)
-front P zero rows are = tt
-front P (suc n) [] are = tt
-front P (suc n) (r ∷ rows) are = (are.0, front P n rows are.1)
 
 -- a row among the first is one among all
 in-all : {R : Type 0} (n : ℕ) (all before after : List R) (r : R) → take n all ≡ before ++ r ∷ after

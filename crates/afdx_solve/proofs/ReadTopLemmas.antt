@@ -1,8 +1,8 @@
 -- The tree of lawful tables reads as the tables: that of the one switch, and that of a switch among
 -- others.
-use Rattle.std.proofs.Common.{◌≡◌, ℕ, ◌≤◌, true, List, [], length, map, take, drop, Some, Ok, refl, sym, ap, ◌∙◌, arith}
-use Rattle.std.proofs.Common.{option_map}
-use Rattle.std.proofs.lemmas.List.{length-map, drop_all}
+use Rattle.std.proofs.Common.{◌≡◌, ◌≤◌, true, List, [], length, map, take, drop, Ok, refl, sym, ap, ◌∙◌, arith}
+use Rattle.std.proofs.Common.{option_map, codes}
+use Rattle.std.proofs.lemmas.List.{length-map, length-drop}
 use Rattle.std.proofs.Math.Seq.{take-length}
 use Rattle.toml.specs.Data.{Members, get_member}
 use Rattle.toml.specs.Tables.{Nodes, close, close_node}
@@ -20,7 +20,7 @@ use Rattle.afdx_solve.proofs.ReadRowLemmas.{system_tree, neighbour_tree, link_tr
 use Rattle.afdx_solve.proofs.ReadTablesLemmas.{own_rows, neighbour_rows, own-count, systems-read, neighbours-read, links-read, ports-read}
 use Rattle.afdx_solve.proofs.RunLemmas.{rows_node, rows-read}
 use Rattle.afdx_solve.proofs.TreeLemmas.{system_nodes, neighbour_nodes, link_nodes, port_nodes, top_nodes, switch_top}
-use Rattle.afdx_solve.proofs.TreeLemmas.{Parts, with_parts, with_neighbours, with_systems, HasNoParts, no-parts-top, no-parts-switch}
+use Rattle.afdx_solve.proofs.TreeLemmas.{Parts, with_parts, HasNoParts, no-parts-top, no-parts-switch}
 use Rattle.afdx_solve.proofs.TreeLemmas.{at-other, at-system, at-neighbour, at-link, at-port, parts-known}
 use Rattle.afdx_solve.proofs.TreeLemmas.{systems_node, neighbours_node}
 
@@ -73,14 +73,14 @@ module _ (t : Rows) (lawful : IsLawful t) where
   port-tables = rows-tables (port_nodes t.systems) (keys.top_at 5) tree t.ports
       (at-port (alone t) (top_nodes t) no_parts) lawful.ports.count
 
+  top-known : are_among top_keys tree ≡ true
+  unfolding top_keys top_nodes are_among
+  top-known = parts-known top_keys (alone t) (top_nodes t)
+      (among-with top_keys (codes "system") (systems_node (alone t)) (top_nodes t) refl refl) refl refl
+
   only-top : only_top_keys tree ≡ Ok tt
   unfolding only_top_keys only
-  only-top = rw (known) refl
-    where
-      known : are_among top_keys tree ≡ true
-      unfolding top_keys top_nodes are_among
-      known = parts-known top_keys (alone t) (top_nodes t)
-          (among-with top_keys (codes "system") (systems_node (alone t)) (top_nodes t) refl refl) refl refl
+  only-top = rw top-known refl
 
   all-own : take t.own t.systems ≡ t.systems
   all-own = ap (λ n. take n t.systems) lawful.own ∙ take-length t.systems
@@ -88,9 +88,9 @@ module _ (t : Rows) (lawful : IsLawful t) where
   pub tree-reads : tables_at all_kept tree ≡ Ok t
   unfolding tables_at
   tree-reads =
-      let among = among_others t lawful in
-      let systems = rw all-own at systems-read t among in
-      let ports = rw all-own at ports-read t among in
+      let is = among_others t lawful in
+      let systems = rw all-own at (systems-read t is) in
+      let ports = rw all-own at (ports-read t is) in
       rw (
         profile-read,
         choice-kept (keys.top_at 2) tree,
@@ -100,7 +100,7 @@ module _ (t : Rows) (lawful : IsLawful t) where
         port-tables,
         only-top,
         systems,
-        links-read t among (length t.systems) (sym lawful.own),
+        links-read t is (length t.systems) (sym lawful.own),
         ports,
       ) (ap (λ n. Ok (record t { own = n })) (sym lawful.own))
 
@@ -163,17 +163,18 @@ module _ (s : NamedRows) (is : is_name s.name ≡ true) (lawful : IsLawfulSwitch
   switch-neighbours : tables (keys.switch_at 7) of_switch ≡ Ok (map neighbour_tree (neighbour_rows s.rows lawful))
   unfolding switch_keys
   switch-neighbours = rows-tables neighbour_nodes (keys.switch_at 7) of_switch (drop s.rows.own s.rows.systems)
-      (at-neighbour (among s.rows) (switch_top s) no_parts_there) {!!}
+      (at-neighbour (among s.rows) (switch_top s) no_parts_there)
+      (omega (arith, length-drop s.rows.own s.rows.systems, lawful.systems.few))
+
+  switch-known : are_among switch_keys of_switch ≡ true
+  unfolding switch_keys switch_top are_among
+  switch-known = parts-known switch_keys (among s.rows) (switch_top s)
+      (among-with switch_keys (codes "neighbour") (neighbours_node (among s.rows)) _ refl
+      (among-with switch_keys (codes "system") (systems_node (among s.rows)) (switch_top s) refl refl)) refl refl
 
   only-switch : only_switch_keys of_switch ≡ Ok tt
   unfolding only_switch_keys only
-  only-switch = rw known refl
-    where
-      known : are_among switch_keys of_switch ≡ true
-      unfolding switch_keys switch_top are_among
-      known = parts-known switch_keys (among s.rows) (switch_top s)
-          (among-with switch_keys (codes "neighbour") (neighbours_node (among s.rows)) _ refl
-          (among-with switch_keys (codes "system") (systems_node (among s.rows)) (switch_top s) refl refl)) refl refl
+  only-switch = rw switch-known refl
 
   pub switch-reads : switch_at all_kept of_switch ≡ Ok s
   unfolding switch_at

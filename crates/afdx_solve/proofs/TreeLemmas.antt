@@ -256,46 +256,50 @@ module _ (t : Parts) (top : Nodes) (none : HasNoParts top) where
       → get_member k (close (with_parts t top)) ≡ option_map close_node (get_node k top)
   unfolding with_parts
   at-other k system neighbour link port =
-      get_member-close k _
-      ∙ ap (option_map close_node) (
-      with_node-other k (codes "port") (ports_node t) _ port
-      ∙ with_node-other k (codes "link") (links_node t) _ link
-      ∙ with_node-other k (codes "neighbour") (neighbours_node t) _ neighbour
-      ∙ with_node-other k (codes "system") (systems_node t) top system)
+      let same : get_node k (with_parts t top) ≡ get_node k top =
+      with_node-other k (codes "port") (ports_node t) (with_links t top) port
+      ∙ with_node-other k (codes "link") (links_node t) (with_neighbours t top) link
+      ∙ with_node-other k (codes "neighbour") (neighbours_node t) (with_systems t top) neighbour
+      ∙ with_node-other k (codes "system") (systems_node t) top system in
+      get_member-close k (with_parts t top) ∙ ap (option_map close_node) same
 
   pub at-system : get_member (codes "system") (close (with_parts t top)) ≡ option_map close_node (systems_node t)
   unfolding with_parts
   at-system =
-      get_member-close (codes "system") _
-      ∙ ap (option_map close_node) (
-      with_node-other (codes "system") (codes "port") (ports_node t) _ refl
-      ∙ with_node-other (codes "system") (codes "link") (links_node t) _ refl
-      ∙ with_node-other (codes "system") (codes "neighbour") (neighbours_node t) _ refl
-      ∙ get_node-with (codes "system") (systems_node t) top none.system)
+      let k = codes "system" in
+      let same : get_node k (with_parts t top) ≡ systems_node t =
+      with_node-other k (codes "port") (ports_node t) (with_links t top) refl
+      ∙ with_node-other k (codes "link") (links_node t) (with_neighbours t top) refl
+      ∙ with_node-other k (codes "neighbour") (neighbours_node t) (with_systems t top) refl
+      ∙ get_node-with k (systems_node t) top none.system in
+      get_member-close k (with_parts t top) ∙ ap (option_map close_node) same
 
   pub at-neighbour :
       get_member (codes "neighbour") (close (with_parts t top)) ≡ option_map close_node (neighbours_node t)
   unfolding with_parts
   at-neighbour =
-      get_member-close (codes "neighbour") _
-      ∙ ap (option_map close_node) (
-      with_node-other (codes "neighbour") (codes "port") (ports_node t) _ refl
-      ∙ with_node-other (codes "neighbour") (codes "link") (links_node t) _ refl
-      ∙ get_node-with (codes "neighbour") (neighbours_node t) _ no-neighbour)
+      let k = codes "neighbour" in
+      let same : get_node k (with_parts t top) ≡ neighbours_node t =
+      with_node-other k (codes "port") (ports_node t) (with_links t top) refl
+      ∙ with_node-other k (codes "link") (links_node t) (with_neighbours t top) refl
+      ∙ get_node-with k (neighbours_node t) (with_systems t top) no-neighbour in
+      get_member-close k (with_parts t top) ∙ ap (option_map close_node) same
 
   pub at-link : get_member (codes "link") (close (with_parts t top)) ≡ option_map close_node (links_node t)
   unfolding with_parts
   at-link =
-      get_member-close (codes "link") _
-      ∙ ap (option_map close_node) (
-      with_node-other (codes "link") (codes "port") (ports_node t) _ refl
-      ∙ get_node-with (codes "link") (links_node t) _ no-link)
+      let k = codes "link" in
+      let same : get_node k (with_parts t top) ≡ links_node t =
+      with_node-other k (codes "port") (ports_node t) (with_links t top) refl
+      ∙ get_node-with k (links_node t) (with_neighbours t top) no-link in
+      get_member-close k (with_parts t top) ∙ ap (option_map close_node) same
 
   pub at-port : get_member (codes "port") (close (with_parts t top)) ≡ option_map close_node (ports_node t)
   unfolding with_parts
   at-port =
-      get_member-close (codes "port") _
-      ∙ ap (option_map close_node) (get_node-with (codes "port") (ports_node t) _ no-port)
+      let same : get_node (codes "port") (with_parts t top) ≡ ports_node t =
+      get_node-with (codes "port") (ports_node t) (with_links t top) no-port in
+      get_member-close (codes "port") (with_parts t top) ∙ ap (option_map close_node) same
 
 -- a table with these arrays has no keys but those that are known
 abbrev pub IsKnownKey : List KeyRow → List ℕ → Type 0
