@@ -41,6 +41,7 @@ ends_alone profile own systems alone are = record {
   names = are.names;
   ports = are.ports;
   ids = rw alone (rw (take-length systems) are.ids);
+  few = omega (arith, alone);
   neighbours = rw (drop_all own systems (omega (arith, alone))) tt;
 }
 

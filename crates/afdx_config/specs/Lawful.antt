@@ -1,6 +1,6 @@
 -- Every rule of the format, as a fact of the rows. A link's greatest jitter is a number of its own:
 -- it depends on who sends the link to this switch, a system or another switch.
-use Rattle.std.specs.Prelude.{◌≡◌, ℕ, ◌<◌, ◌≤◌, true, List, length, nat_eq, slice_get}
+use Rattle.std.specs.Prelude.{◌≡◌, ℕ, ◌+◌, ◌<◌, ◌≤◌, true, List, length, nat_eq, slice_get}
 use Rattle.std.specs.Prelude.{IsTrue, Some, take, drop}
 use Rattle.std.specs.List.{list_any, AllByRecursion}
 use Rattle.afdx_frame.specs.Lengths.{least_frame, greatest_frame, greatest_buffer}
@@ -9,7 +9,7 @@ pub use Rattle.afdx_frame.specs.Regulation.{jitter_from_system, jitter_from_any}
 use Rattle.afdx_frame.specs.Ports.{last_port}
 use Rattle.afdx_config.specs.Rows.{SystemRow, LinkRow, PortRow, Rows}
 use Rattle.afdx_config.specs.Reading.{is_name, are_apart, goes_to, deepest, rates}
-use Rattle.afdx_config.specs.Reading.{most_links, most_ports}
+use Rattle.afdx_config.specs.Reading.{most_links, most_ports, most_neighbours}
 
 abbrev pub IsWithin : ℕ → ℕ → ℕ → Type 0
 IsWithin low high n = (low ≤ n) × (n ≤ high)
@@ -84,6 +84,7 @@ pub record AreEnds (profile own : ℕ) (ends : List SystemRow) : Type 0 where
   pub names : AreDistinct (λ s. s.name) ends
   pub ports : AreDistinct (λ s. s.port) ends
   pub ids : AreDistinct (λ s. s.id) (take own ends)
+  pub few : length ends ≤ own + most_neighbours
   pub neighbours : AllByRecursion HasNoNumber (drop own ends)
 
 pub record AreLinksUpTo (greatest_jitter : ℕ → ℕ) (systems : ℕ) (links : List LinkRow) :

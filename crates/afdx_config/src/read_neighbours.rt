@@ -8,7 +8,7 @@ ghost use Rattle.afdx_config.specs.Rows.{system_row};
 ghost use Rattle.afdx_config.specs.Fault.{Gives};
 ghost use Rattle.afdx_config.specs.Trees.{trees};
 ghost use Rattle.afdx_config.specs.Keys as keys;
-ghost use Rattle.afdx_config.specs.Reading.{each, system_named, system_at_port};
+ghost use Rattle.afdx_config.specs.Reading.{each, system_named, system_at_port, most_neighbours};
 ghost use Rattle.afdx_config.specs.Switches as spec;
 
 use crate::fault::ConfigFault;
@@ -74,7 +74,8 @@ pub(crate) fn neighbours_of(
     profile: u64,
     systems: Systems,
 ) -> Result<Systems, ConfigFault>
-    requires { AreSystems profile systems }
+    requires systems { AreSystems profile systems }
+    requires few { length tables.now ≤ most_neighbours }
     ensures lawful { IfOk result (AreEnds profile (length systems)) }
     ensures systems { IfOk result (λ ends. take (length systems) ends ≡ systems) }
     ensures value { Gives (λ ends. ends) result

@@ -30,11 +30,7 @@ pub enum ToSolve {
 /// All other checks are those of `read_file`, in their order. The bytes may be any.
 ///
 /// Memory is answered as by `read_file`.
-pub fn read_file_to_solve(
-    alloc: Global,
-    text: &[u8],
-    kept: KeptKeys,
-) -> Result<ToSolve, FileFault>
+pub fn read_file_to_solve(alloc: Global, text: &[u8], kept: KeptKeys) -> Result<ToSolve, FileFault>
     ensures ok { IfOk result (IsToSolve kept text.now) }
     ensures fault { IfErr result (λ e. e.fault ≢ ConfigFault.Memory →
         IsFileFaultKeeping kept text.now e) }

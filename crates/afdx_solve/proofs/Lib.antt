@@ -9,6 +9,11 @@ pub mod TreeLemmas
 pub mod KeyLemmas
 pub mod ReadRowLemmas
 pub mod ReadTablesLemmas
+pub mod ReadTopLemmas
+pub mod FrontLemmas
+pub mod NodeLemmas
+pub mod SwitchLineLemmas
+pub mod CascadeTextLemmas
 pub mod NameLemmas
 pub mod LineLemmas
 pub mod ConfigTextLemmas

@@ -1,13 +1,12 @@
 -- What stands at the other keys of a table stays when a key is added, and so do the keys that are
 -- known.
-use Rattle.std.proofs.Common.{◌≡◌, ℕ, Less, Equal, Greater, nat_cmp, is_eq, Bool, true, false, ◌&&◌, List, Option, Some, None}
-use Rattle.std.proofs.Common.{if◌then◌else◌, option_map, refl, sym, ap, ◌∙◌, inl, inr, ◌⊎◌}
-use Rattle.std.proofs.lemmas.Bool.{cases_Bool, and_parts}
+use Rattle.std.proofs.Common.{◌≡◌, ℕ, Ordering, Less, Equal, Greater, nat_cmp, is_eq, true, false, List, Option, Some, None}
+use Rattle.std.proofs.Common.{option_map, refl, sym, ap, ◌∙◌, inl, inr, ◌⊎◌}
+use Rattle.std.proofs.lemmas.Bool.{and_parts}
 use Rattle.std.proofs.lemmas.Map.Text.{is_eq-slice_cmp}
 use Rattle.std.proofs.lemmas.Slice.Eq.{bytes_eq-Decides}
 use Rattle.std.specs.Cmp.Lexicographic.{slice_cmp}
 use Rattle.std.specs.List.{list_any}
-use Rattle.std.specs.Ordering.{Ordering}
 use Rattle.std.specs.Str.{bytes_eq}
 use Rattle.toml.specs.Data.{get_member, same_key}
 use Rattle.toml.specs.Tables.{Node, Nodes, no_nodes, node, close, close_node, get_node, insert}
@@ -47,9 +46,12 @@ with_node-other k j (Some x) ns other = get_node-other k j x ns other
 -- what stands at a key of the values
 pub get_member-close : (k : List ℕ) (ns : Nodes) → get_member k (close ns) ≡ option_map close_node (get_node k ns)
 get_member-close k no_nodes = refl
-get_member-close k (node l x ns) = elim (cases_Bool (same_key k l)) [
-  | inl same ↦ rw (same, same)
-  | inr other ↦ rw (other, other) (get_member-close k ns)
+get_member-close k (node l x ns) = elim (cases_ordering (slice_cmp nat_cmp k l)) [
+  | inl less ↦ rw less (get_member-close k ns)
+  | inr rest ↦ elim rest [
+    | inl tie ↦ rw tie refl
+    | inr more ↦ rw more (get_member-close k ns)
+  ]
 ]
 
 among-insert : (known : List KeyRow) (j : List ℕ) (x : Node) (ns : Nodes)

@@ -116,13 +116,14 @@ module _ (k : List ℕ) (done : Items) (root : Nodes) where
   run-inside : (es : List Expression) (doc : Document)
       → run (inside k done root doc) (under k es) ≡ option_map (inside k done root) (run doc es)
   run-inside [] doc = refl
-  run-inside (e ∷ es) doc = rw (define-inside doc e.0 e.1) (by (define doc e))
+  run-inside (e ∷ es) doc = rw (define-inside doc e.0 e.1) (by (define doc e) (λ next. run-inside es next))
     where
       by : (o : Option Document)
+          → ((next : Document) → run (inside k done root next) (under k es) ≡ option_map (inside k done root) (run next es))
           → option_and_then (λ next. run next (under k es)) (option_map (inside k done root) o)
           ≡ option_map (inside k done root) (option_and_then (λ next. run next es) o)
-      by None = refl
-      by (Some next) = run-inside es next
+      by None later = refl
+      by (Some next) later = later next
 
 -- the lines of a document, as those of a table of an array
 abbrev pub element_lines : List ℕ → List Expression → List Expression

@@ -1,17 +1,18 @@
 -- The tree of the text of tables: the lines of each row make a table whose keys ascend.
-use Rattle.std.proofs.Common.{◌++◌, ◌≡◌, ℕ, List, [], ◌∷◌, codes, map, pos, Option, Some, None, option_map, refl}
+use Rattle.std.proofs.Common.{◌++◌, ◌≡◌, ℕ, true, false, List, [], ◌∷◌, codes, map, pos, Option, Some, None, option_map}
+use Rattle.std.proofs.Common.{option_and_then, refl, ap, ◌∙◌}
 use Rattle.afdx_config.specs.Keys.{KeyRow, are_among}
 use Rattle.afdx_config.specs.Rows.{SystemRow, LinkRow, PortRow, Rows}
 use Rattle.afdx_config.specs.Switches.{NamedRows}
 use Rattle.std.specs.List.{list_any}
 use Rattle.std.specs.Str.{bytes_eq}
-use Rattle.toml.specs.Data.{Data, string, integer, array, Items, no_items, item, Members, get_member}
-use Rattle.toml.specs.Tables.{Expression, Node, Nodes, no_nodes, node, value, close, close_node, get_node, along_dots, at_key}
+use Rattle.toml.specs.Data.{Data, string, integer, array, Items, no_items, item, get_member, same_key}
+use Rattle.toml.specs.Tables.{Document, Expression, Node, Nodes, no_nodes, node, value, close, close_node, get_node, along_dots, at_key}
 use Rattle.toml.proofs.ReadLines.{run}
 use Rattle.toml.proofs.Fill.{run-append}
 use Rattle.afdx_solve.specs.ConfigText.{class_word, policing_word, kind_word, name_at}
 use Rattle.afdx_solve.proofs.NodeLemmas.{with_node-other, get_node-with, get_member-close, among-with}
-use Rattle.afdx_solve.proofs.RunLemmas.{Fields, field_lines, rows_lines, rows_node, rows-run, put_all, with_node}
+use Rattle.afdx_solve.proofs.RunLemmas.{Fields, field_lines, rows_lines, rows_node, run-fields, rows-run, put_all, with_node}
 
 abbrev pub number : ℕ → Data
 number n = integer (pos n)
@@ -182,13 +183,13 @@ abbrev pub ports_node : Parts → Option Node
 ports_node t = rows_node (port_nodes t.ends) t.ports
 
 -- a table with the arrays, if there are any
-abbrev with_systems : Parts → Nodes → Nodes
+abbrev pub with_systems : Parts → Nodes → Nodes
 with_systems t top = with_node (codes "system") (systems_node t) top
 
-abbrev with_neighbours : Parts → Nodes → Nodes
+abbrev pub with_neighbours : Parts → Nodes → Nodes
 with_neighbours t top = with_node (codes "neighbour") (neighbours_node t) (with_systems t top)
 
-abbrev with_links : Parts → Nodes → Nodes
+abbrev pub with_links : Parts → Nodes → Nodes
 with_links t top = with_node (codes "link") (links_node t) (with_neighbours t top)
 
 unfoldable pub with_parts : Parts → Nodes → Nodes
@@ -208,6 +209,9 @@ no-parts-top t = record { system = refl; neighbour = refl; link = refl; port = r
 pub no-parts-switch : (s : NamedRows) → HasNoParts (switch_top s)
 unfolding switch_top
 no-parts-switch s = record { system = refl; neighbour = refl; link = refl; port = refl }
+
+after : (doc next : Document) (es fs : List Expression) → run doc es ≡ Some next → run doc (es ++ fs) ≡ run next fs
+after doc next es fs ran = run-append doc es fs ∙ ap (option_and_then (λ d. run d fs)) ran
 
 -- the lines, after those of a top
 module _ (t : Parts) (top : Nodes) (none : HasNoParts top) where
@@ -252,47 +256,60 @@ module _ (t : Parts) (top : Nodes) (none : HasNoParts top) where
       → get_member k (close (with_parts t top)) ≡ option_map close_node (get_node k top)
   unfolding with_parts
   at-other k system neighbour link port =
-      get_member-close k _
-      ∙ ap (option_map close_node) (
-      with_node-other k (codes "port") (ports_node t) _ port
-      ∙ with_node-other k (codes "link") (links_node t) _ link
-      ∙ with_node-other k (codes "neighbour") (neighbours_node t) _ neighbour
-      ∙ with_node-other k (codes "system") (systems_node t) top system)
+      let same : get_node k (with_parts t top) ≡ get_node k top =
+      with_node-other k (codes "port") (ports_node t) (with_links t top) port
+      ∙ with_node-other k (codes "link") (links_node t) (with_neighbours t top) link
+      ∙ with_node-other k (codes "neighbour") (neighbours_node t) (with_systems t top) neighbour
+      ∙ with_node-other k (codes "system") (systems_node t) top system in
+      get_member-close k (with_parts t top) ∙ ap (option_map close_node) same
 
   pub at-system : get_member (codes "system") (close (with_parts t top)) ≡ option_map close_node (systems_node t)
   unfolding with_parts
   at-system =
-      get_member-close (codes "system") _
-      ∙ ap (option_map close_node) (
-      with_node-other (codes "system") (codes "port") (ports_node t) _ refl
-      ∙ with_node-other (codes "system") (codes "link") (links_node t) _ refl
-      ∙ with_node-other (codes "system") (codes "neighbour") (neighbours_node t) _ refl
-      ∙ get_node-with (codes "system") (systems_node t) top none.system)
+      let k = codes "system" in
+      let same : get_node k (with_parts t top) ≡ systems_node t =
+      with_node-other k (codes "port") (ports_node t) (with_links t top) refl
+      ∙ with_node-other k (codes "link") (links_node t) (with_neighbours t top) refl
+      ∙ with_node-other k (codes "neighbour") (neighbours_node t) (with_systems t top) refl
+      ∙ get_node-with k (systems_node t) top none.system in
+      get_member-close k (with_parts t top) ∙ ap (option_map close_node) same
 
   pub at-neighbour :
       get_member (codes "neighbour") (close (with_parts t top)) ≡ option_map close_node (neighbours_node t)
   unfolding with_parts
   at-neighbour =
-      get_member-close (codes "neighbour") _
-      ∙ ap (option_map close_node) (
-      with_node-other (codes "neighbour") (codes "port") (ports_node t) _ refl
-      ∙ with_node-other (codes "neighbour") (codes "link") (links_node t) _ refl
-      ∙ get_node-with (codes "neighbour") (neighbours_node t) _ no-neighbour)
+      let k = codes "neighbour" in
+      let same : get_node k (with_parts t top) ≡ neighbours_node t =
+      with_node-other k (codes "port") (ports_node t) (with_links t top) refl
+      ∙ with_node-other k (codes "link") (links_node t) (with_neighbours t top) refl
+      ∙ get_node-with k (neighbours_node t) (with_systems t top) no-neighbour in
+      get_member-close k (with_parts t top) ∙ ap (option_map close_node) same
 
   pub at-link : get_member (codes "link") (close (with_parts t top)) ≡ option_map close_node (links_node t)
   unfolding with_parts
   at-link =
-      get_member-close (codes "link") _
-      ∙ ap (option_map close_node) (
-      with_node-other (codes "link") (codes "port") (ports_node t) _ refl
-      ∙ get_node-with (codes "link") (links_node t) _ no-link)
+      let k = codes "link" in
+      let same : get_node k (with_parts t top) ≡ links_node t =
+      with_node-other k (codes "port") (ports_node t) (with_links t top) refl
+      ∙ get_node-with k (links_node t) (with_neighbours t top) no-link in
+      get_member-close k (with_parts t top) ∙ ap (option_map close_node) same
 
   pub at-port : get_member (codes "port") (close (with_parts t top)) ≡ option_map close_node (ports_node t)
   unfolding with_parts
   at-port =
-      get_member-close (codes "port") _
-      ∙ ap (option_map close_node) (get_node-with (codes "port") (ports_node t) _ no-port)
+      let same : get_node (codes "port") (with_parts t top) ≡ ports_node t =
+      get_node-with (codes "port") (ports_node t) (with_links t top) no-port in
+      get_member-close (codes "port") (with_parts t top) ∙ ap (option_map close_node) same
 
--- their keys are among those that are known, where these are and the top's
+-- a table with these arrays has no keys but those that are known
 abbrev pub IsKnownKey : List KeyRow → List ℕ → Type 0
 IsKnownKey known k = list_any (λ key. bytes_eq key.name k) known ≡ true
+
+pub parts-known : (known : List KeyRow) (t : Parts) (top : Nodes)
+    → are_among known (close (with_neighbours t top)) ≡ true
+    → IsKnownKey known (codes "link") → IsKnownKey known (codes "port")
+    → are_among known (close (with_parts t top)) ≡ true
+unfolding with_parts
+parts-known known t top all link port =
+    among-with known (codes "port") (ports_node t) _ port
+    (among-with known (codes "link") (links_node t) (with_neighbours t top) link all)

@@ -19,7 +19,7 @@ neighbour_text e =
     ++ number_line (codes "rate") e.rate
 
 -- the tables of a switch: each system, each neighbour, each link and each port entry
-abbrev pub parts_text : Rows → List ℕ
+unfoldable pub parts_text : Rows → List ℕ
 parts_text t =
     flat_map (system_text above) (take t.own t.systems)
     ++ flat_map neighbour_text (drop t.own t.systems)

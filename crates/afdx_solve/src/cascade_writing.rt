@@ -1,15 +1,16 @@
 //! The tables of several switches as the text of a configuration.
 
-ghost use Rattle.std.specs.Prelude.{◌≡◌, ◌++◌, ◌<◌, ◌+◌, length, drop, slice_get, Some, string_bytes};
-ghost use Rattle.std.specs.Prelude.{IfOk, OnOk, codes};
+ghost use Rattle.std.specs.Prelude.{◌≡◌, ◌++◌, drop, string_bytes, IfOk, OnOk, codes};
 ghost use Rattle.std.specs.List.{flat_map};
 ghost use Rattle.afdx_config.specs.declared.describing.Described.TheVariants.{Several};
 ghost use Rattle.afdx_config.specs.Files.{Describes};
 ghost use Rattle.afdx_config.specs.Rows.{system_row};
-ghost use Rattle.afdx_config.specs.Switches.{NamedRows};
+ghost use Rattle.afdx_config.specs.Switches.{named_rows};
 ghost use Rattle.afdx_solve.specs.CascadeText as spec;
 
-use crate::writing::{put_header, put_links, put_number, put_ports, put_systems, put_text, put_top};
+use crate::writing::{
+    put_header, put_links, put_number, put_ports, put_systems, put_text, put_top,
+};
 use afdx_config::{SwitchId, Switches, System, SystemId, Tables};
 use std::alloc::{AllocError, Global};
 
@@ -42,7 +43,7 @@ fn put_neighbours(text: &mut String, tables: &Tables) -> Result<(), AllocError>
 }
 
 /// Adds the tables of a switch.
-#[tactic(auto, using(std::proofs::Common::append_assoc))]
+#[tactic(auto, unfolding(crate::specs::CascadeText::parts_text), using(std::proofs::Common::append_assoc))]
 fn put_parts(text: &mut String, tables: &Tables) -> Result<(), AllocError>
     ensures { OnOk result
         (string_bytes text.new ≡ string_bytes text.old ++ spec.parts_text tables.now) }
@@ -53,55 +54,43 @@ fn put_parts(text: &mut String, tables: &Tables) -> Result<(), AllocError>
     put_ports(text, ABOVE, tables)
 }
 
-/// Adds the switch at a place.
+/// Adds a switch.
 #[tactic(auto, unfolding(crate::specs::CascadeText::switch_text), using(std::proofs::Common::append_assoc))]
-fn put_switch(text: &mut String, switches: &Switches, switch: SwitchId) -> Result<(), AllocError>
-    requires { switch.0 < length switches.now }
-    ensures { (s : NamedRows) → slice_get switches.now switch.0 ≡ Some s → OnOk result
-        (string_bytes text.new ≡ string_bytes text.old ++ spec.switch_text s) }
+fn put_switch(text: &mut String, name: &str, tables: &Tables) -> Result<(), AllocError>
+    ensures { OnOk result (string_bytes text.new
+        ≡ string_bytes text.old ++ spec.switch_text (named_rows name.now tables.now)) }
 {
-    let tables = switches.tables(switch);
     text.push_str("[[switch]]\n")?;
-    put_text(text, "name", switches.name(switch))?;
+    put_text(text, "name", name)?;
     put_top(text, tables)?;
     put_parts(text, tables)
 }
 
-/// Adds an empty line and the switch at a place.
+/// Adds an empty line and a switch.
 #[tactic(auto, using(std::proofs::Common::append_assoc))]
-fn put_next(text: &mut String, switches: &Switches, switch: SwitchId) -> Result<(), AllocError>
-    requires { switch.0 < length switches.now }
-    ensures { (s : NamedRows) → slice_get switches.now switch.0 ≡ Some s → OnOk result
-        (string_bytes text.new
-        ≡ string_bytes text.old ++ (codes "\n" ++ spec.switch_text s)) }
+fn put_next(text: &mut String, name: &str, tables: &Tables) -> Result<(), AllocError>
+    ensures { OnOk result (string_bytes text.new ≡ string_bytes text.old
+        ++ (codes "\n" ++ spec.switch_text (named_rows name.now tables.now))) }
 {
     text.push_str("\n")?;
-    put_switch(text, switches, switch)
-}
-
-/// Adds all switches but the first, with an empty line before each.
-fn put_others(text: &mut String, switches: &Switches) -> Result<(), AllocError>
-    ensures { OnOk result (string_bytes text.new ≡ string_bytes text.old
-        ++ flat_map (λ s. codes "\n" ++ spec.switch_text s) (drop 1 switches.now)) }
-{
-    let count = switches.count() - 1;
-    for i in 0..count {
-        put_next(text, switches, SwitchId(i as u8 + 1))?;
-    }
-    Ok(())
+    put_switch(text, name, tables)
 }
 
 /// The text of a configuration with the tables of these switches, in one layout: each switch as
 /// one switch is written, with its name first and its neighbours behind its systems. It reads back
 /// as these switches.
-#[tactic(auto, unfolding(crate::specs::CascadeText::cascade_text))]
 pub fn cascade_text(alloc: Global, switches: &Switches) -> Result<String, AllocError>
     ensures text { IfOk result (λ text. string_bytes text ≡ spec.cascade_text switches.now) }
     ensures spells { IfOk result
         (λ text. Describes (string_bytes text) (Several switches.now)) }
 {
+    let count = switches.count();
     let mut text = String::new(alloc);
-    put_switch(&mut text, switches, SwitchId(0))?;
-    put_others(&mut text, switches)?;
+    let first = SwitchId(0);
+    put_switch(&mut text, switches.name(first), switches.tables(first))?;
+    for i in 1..count {
+        let switch = SwitchId(i as u8);
+        put_next(&mut text, switches.name(switch), switches.tables(switch))?;
+    }
     Ok(text)
 }

@@ -4,6 +4,7 @@ ghost use Rattle.std.specs.Prelude.{◌≡◌, ◌++◌, ◌<◌, ◌≤◌, len
 ghost use Rattle.std.specs.Prelude.{codes};
 ghost use Rattle.std.specs.List.{AllByRecursion, flat_map};
 ghost use Rattle.afdx_config.specs.Rows.{AreKnown, system_row, link_row, port_row, system_places};
+ghost use Rattle.afdx_frame.specs.Ports.{last_port};
 ghost use Rattle.afdx_config.specs.Lawful.{IsLinkUpTo, IsPort, jitter_from_any};
 ghost use Rattle.afdx_config.specs.Reading.{Spells};
 ghost use Rattle.afdx_solve.specs.ConfigText.{number_line, text_line, texts_line, header, listed};
@@ -158,12 +159,7 @@ fn put_treatment(text: &mut String, link: &Link) -> Result<(), AllocError>
 
 /// Adds a link.
 #[tactic(auto, unfolding(crate::specs::ConfigText::link_text), using(std::proofs::Common::append_assoc))]
-fn put_link(
-    text: &mut String,
-    above: &str,
-    tables: &Tables,
-    link: &Link,
-) -> Result<(), AllocError>
+fn put_link(text: &mut String, above: &str, tables: &Tables, link: &Link) -> Result<(), AllocError>
     requires { IsLinkUpTo jitter_from_any (length tables.now.systems) (link_row link.now) }
     ensures { OnOk result (string_bytes text.new
         ≡ string_bytes text.old ++ link_text above.now tables.now.systems (link_row link.now)) }
@@ -211,7 +207,8 @@ pub(crate) fn put_systems(
     tables: &Tables,
     count: usize,
 ) -> Result<(), AllocError>
-    requires { count ≤ length tables.now.systems }
+    requires count { count ≤ length tables.now.systems }
+    requires few { count ≤ last_port }
     ensures { OnOk result (string_bytes text.new ≡ string_bytes text.old
         ++ flat_map (system_text above.now) (take count tables.now.systems)) }
 {

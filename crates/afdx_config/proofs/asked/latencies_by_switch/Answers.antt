@@ -1,7 +1,6 @@
 use Rattle.std.proofs.lemmas.List.{take_all}
 use Rattle.toml.specs.View.{table_view}
 use Rattle.afdx_config.specs.Asked.{lists}
-use Rattle.afdx_config.specs.Keys.{spot_of}
 use Rattle.afdx_config.specs.Trees.{trees}
 use Rattle.afdx_config.proofs.AskedLemmas.{each-asked}
 use Rattle.afdx_config.proofs.asked.latencies_by_switch.Goals as goal
