@@ -1,5 +1,6 @@
 pub mod Solved
 pub mod SolvedCascade
 pub mod Delays
+pub mod Raising
 pub mod Laws
 pub mod ConfigText

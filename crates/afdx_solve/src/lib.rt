@@ -3,10 +3,13 @@
 //! Its tests are in `afdx_part_tests`.
 #![tactic(auto)]
 
+mod beginning;
+mod cascade_needs;
 mod delays;
 mod jitters;
 pub mod laws;
 mod options;
+mod raising;
 mod solving;
 mod solving_cascade;
 mod writing;
