@@ -1,4 +1,7 @@
 pub mod DelayLemmas
+pub mod ZipLemmas
+pub mod RiseLemmas
+pub mod WayRiseLemmas
 pub mod LeastLemmas
 pub mod RowLemmas
 pub mod SameLemmas
