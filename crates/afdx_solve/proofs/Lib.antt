@@ -1,7 +1,9 @@
 pub mod DelayLemmas
 pub mod ZipLemmas
+pub mod AtLemmas
 pub mod RiseLemmas
 pub mod WayRiseLemmas
+pub mod RaisingLemmas
 pub mod LeastLemmas
 pub mod RowLemmas
 pub mod SameLemmas

@@ -156,7 +156,7 @@ module _ (a b : List NamedRows) (alike : AreAlike a b) (rise : AllZip SwitchRise
   within-rises (suc n) r q h =
       subst (λ sent. OptionZip AtMost (latency_within (suc n) a r) (if sent then Some q.row.latency_us else
       option_and_then (λ before. option_map (λ sum. sum + q.row.latency_us) (latency_within n b before)) (row_before b q)))
-      (sent-same r q h) (by (is_sent_here a r))
+      (sent-same r q h) (by (is_sent_here a r) (λ x y g. within-rises n x y g))
     where
       sums : (x y : RowAt) → OptionZip AtMost (latency_within n a x) (latency_within n b y)
           → OptionZip AtMost (option_map (λ sum. sum + r.row.latency_us) (latency_within n a x))
@@ -164,16 +164,18 @@ module _ (a b : List NamedRows) (alike : AreAlike a b) (rise : AllZip SwitchRise
       sums x y g = zip-map AtMost AtMost (λ sum. sum + r.row.latency_us) (λ sum. sum + q.row.latency_us)
           (λ c d le. omega (arith, le, h.row.times.latency)) (latency_within n a x) (latency_within n b y) g
 
-      by : (sent : Bool) → OptionZip AtMost
+      by : (sent : Bool)
+          → ((x y : RowAt) → RowAtRises x y → OptionZip AtMost (latency_within n a x) (latency_within n b y))
+          → OptionZip AtMost
           (if sent then Some r.row.latency_us else
           option_and_then (λ before. option_map (λ sum. sum + r.row.latency_us) (latency_within n a before)) (row_before a r))
           (if sent then Some q.row.latency_us else
           option_and_then (λ before. option_map (λ sum. sum + q.row.latency_us) (latency_within n b before)) (row_before b q))
-      by true = h.row.times.latency
-      by false = zip-then RowAtRises AtMost
+      by true later = h.row.times.latency
+      by false later = zip-then RowAtRises AtMost
           (λ before. option_map (λ sum. sum + r.row.latency_us) (latency_within n a before))
           (λ before. option_map (λ sum. sum + q.row.latency_us) (latency_within n b before))
-          (λ x y g. sums x y (within-rises n x y g)) (row_before a r) (row_before b q) (before-rises r q h)
+          (λ x y g. sums x y (later x y g)) (row_before a r) (row_before b q) (before-rises r q h)
 
   way-rises : (r q : RowAt) → RowAtRises r q → OptionZip AtMost (way_latency a r) (way_latency b q)
   unfolding way_latency

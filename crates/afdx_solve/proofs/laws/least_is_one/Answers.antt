@@ -1,5 +1,4 @@
-use Rattle.afdx_solve.proofs.ZipLemmas.{zip-unwrap}
-use Rattle.afdx_solve.proofs.RiseLemmas.{latency-rises}
+use Rattle.afdx_solve.proofs.RaisingLemmas.{raises-then}
 use Rattle.afdx_solve.proofs.laws.least_is_one.Goals as goal
 
 pub returns : goal.returns
