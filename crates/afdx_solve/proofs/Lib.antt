@@ -4,6 +4,7 @@ pub mod AtLemmas
 pub mod RiseLemmas
 pub mod WayRiseLemmas
 pub mod RaisingLemmas
+pub mod RaisedLemmas
 pub mod LeastLemmas
 pub mod RowLemmas
 pub mod SameLemmas

@@ -1,6 +1,6 @@
 -- The way to the least solution: the four keys begin at their least, and are raised to what they
 -- need until each has it. Times are in us.
-use Rattle.std.specs.Prelude.{◌≡◌, ℕ, ◌+◌, ◌-◌, ◌<◌, ◌≤◌, Bool, true, false, List, [], ◌∷◌, length, map, Some}
+use Rattle.std.specs.Prelude.{◌≡◌, ℕ, ◌+◌, ◌-◌, ◌<◌, ◌≤◌, ◌⊎◌, Bool, true, false, List, [], ◌∷◌, length, map, Some}
 use Rattle.std.specs.Prelude.{slice_get, slice_index}
 use Rattle.afdx_frame.specs.declared.link.Priority.{Priority}
 use Rattle.afdx_frame.specs.Lengths.{least_frame, greatest_buffer}
@@ -79,6 +79,20 @@ left_at (l ∷ ls) = left_of l + left_at ls
 unfoldable pub left : List NamedRows → ℕ
 left [] = 0
 left (s ∷ ss) = (greatest_buffer - s.rows.buffer) + left_at s.rows.links + left ss
+
+-- a row's times with what they need: those that aren't kept are raised to it
+abbrev pub raised_times : SolveOptions → (needed : Times) → LinkRow → Times
+raised_times o needed l = record {
+  jitter_us = chosen o.kept.jitter true l.jitter_us needed.jitter_us;
+  latency_us = chosen o.kept.latency true l.latency_us needed.latency_us;
+  skew_us = chosen o.kept.skew true l.skew_us needed.skew_us;
+}
+
+-- one of these times is more than the row's
+abbrev pub IsMoreIn : LinkRow → Times → Type 0
+IsMoreIn l times =
+    (l.jitter_us < times.jitter_us)
+    ⊎ ((l.latency_us < times.latency_us) ⊎ (l.skew_us < times.skew_us))
 
 -- some keys were raised, or none
 pub record Raises (o : SolveOptions) (old new : List NamedRows) (raised : Bool) : Type 0 where

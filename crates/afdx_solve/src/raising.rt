@@ -1,13 +1,14 @@
 //! The keys of several switches, raised to what they need.
 
 ghost use Rattle.std.specs.Prelude.{◌≡◌, ◌<◌, ◌≤◌, length, slice_get, Some, IsSome, true};
-ghost use Rattle.std.specs.Prelude.{◌↔◌, ℕ, false};
+ghost use Rattle.std.specs.Prelude.{ℕ, false};
 ghost use Rattle.afdx_config.specs.Rows.{Rows, LinkRow, link_row};
 ghost use Rattle.afdx_config.specs.Changed.{with_times};
 ghost use Rattle.afdx_config.specs.AtSwitch.{tables_at, link_at};
 ghost use Rattle.afdx_admit.specs.Sums.{AreJitters};
-ghost use Rattle.afdx_solve.specs.Solved as spec;
-ghost use Rattle.afdx_solve.specs.Raising.{Raises, IsSettledAt, AreTimesSettled, AreDelaysBy};
+ghost use Rattle.afdx_solve.specs.Raising as spec;
+ghost use Rattle.afdx_solve.specs.SolvedCascade.{AreTimesAtMost};
+ghost use Rattle.afdx_solve.specs.Raising.{IsMoreIn, Raises, IsSettledAt, AreTimesSettled, AreDelaysBy};
 ghost use Rattle.afdx_solve.specs.Raising.{IsBufferSettled};
 
 use crate::cascade_needs::needed_times;
@@ -20,12 +21,7 @@ use afdx_frame::Priority;
 
 /// The times of a row with what they need: those that aren't kept are raised to it.
 fn raised_times(link: &Link, needed: Times, options: SolveOptions) -> Times
-    ensures jitter { result.jitter_us
-        ≡ spec.chosen options.kept.jitter true link.now.jitter_us needed.jitter_us }
-    ensures latency { result.latency_us
-        ≡ spec.chosen options.kept.latency true link.now.latency_us needed.latency_us }
-    ensures skew { result.skew_us
-        ≡ spec.chosen options.kept.skew true link.now.skew_us needed.skew_us }
+    ensures { result ≡ spec.raised_times options needed (link_row link.now) }
 {
     let kept = options.kept;
     Times {
@@ -35,13 +31,15 @@ fn raised_times(link: &Link, needed: Times, options: SolveOptions) -> Times
     }
 }
 
-/// Whether these times differ from those of a row.
-fn differ(link: &Link, times: Times) -> bool
-    ensures { result ≡ false ↔ with_times times (link_row link.now) ≡ link_row link.now }
+/// Whether one of these times is more than the row's.
+fn is_more(link: &Link, times: Times) -> bool
+    ensures more { result ≡ true → IsMoreIn (link_row link.now) times }
+    ensures none { result ≡ false →
+        AreTimesAtMost (with_times times (link_row link.now)) (link_row link.now) }
 {
-    times.jitter_us != link.jitter_us
-        || times.latency_us != link.latency_us
-        || times.skew_us != link.skew_us
+    times.jitter_us > link.jitter_us
+        || times.latency_us > link.latency_us
+        || times.skew_us > link.skew_us
 }
 
 /// Raises the times of the row at a place of a switch to what they need, and answers whether it
@@ -69,7 +67,7 @@ fn raise_row(
     let link = switches.tables(switch).link(index);
     let needed = needed_times(switches, switch, link, jitters, delays);
     let times = raised_times(link, needed, options);
-    let raised = differ(link, times);
+    let raised = is_more(link, times);
     if raised {
         switches.set_times(switch, index, times);
     }
