@@ -1,5 +1,5 @@
 -- One row, or one buffer, that is raised to what it needs.
-use Rattle.std.proofs.Common.{◌≡◌, inl, inr, ◌⊎◌, ℕ, ◌+◌, ◌-◌, ◌<◌, ◌≤◌, min, max, Bool, true, false, List, length, Option, Some}
+use Rattle.std.proofs.Common.{◌≡◌, inl, inr, ◌⊎◌, ℕ, ◌+◌, ◌-◌, ◌<◌, ◌≤◌, min, max, Bool, true, false, List, [], ◌∷◌, length, Option, Some}
 use Rattle.std.proofs.Common.{slice_get, slice_index, nat_lt, if◌then◌else◌, refl, sym, ap, ◌∙◌, subst, arith}
 use Rattle.std.specs.List.{AllByRecursion}
 use Rattle.std.proofs.lemmas.Bool.{lt-ltb, ltb-true}
@@ -7,7 +7,7 @@ use Rattle.afdx_frame.specs.Lengths.{least_frame, greatest_buffer}
 use Rattle.afdx_config.specs.declared.rows.Times.{Times}
 use Rattle.afdx_config.specs.Rows.{LinkRow, Rows}
 use Rattle.afdx_config.specs.Changed.{with_times, with_link_at, with_buffer}
-use Rattle.afdx_config.specs.Lawful.{IsLinkAmong, IsWithin, jitter_from_any, jitter_from_system}
+use Rattle.afdx_config.specs.Lawful.{IsLinkAmong, IsLinkUpTo, IsLawfulSwitch, IsWithin, jitter_from_any, jitter_from_system}
 use Rattle.afdx_config.specs.Reading.{greatest_delay}
 use Rattle.afdx_config.specs.Switches.{NamedRows}
 use Rattle.afdx_config.specs.AtSwitch.{tables_at, link_at}
@@ -19,8 +19,10 @@ use Rattle.afdx_solve.specs.declared.options.SolveOptions.{SolveOptions}
 use Rattle.afdx_solve.specs.Solved.{chosen, least_buffer, latency_over, delay_to, least_jitter}
 use Rattle.afdx_solve.specs.SolvedCascade.{jitter_needed, latency_needed, skew_needed, late_before, way_to_system}
 use Rattle.afdx_solve.specs.SolvedCascade.{AreAtMost, AreTimesAtMost, TimesTake}
-use Rattle.afdx_solve.specs.Raising.{IsRising, left_of, left, Raises, raised_times, IsMoreIn, raising, AreTimesSettled}
-use Rattle.afdx_solve.proofs.DelayLemmas.{chosen-within, latency_over-some}
+use Rattle.afdx_solve.specs.Raising.{IsRising, left_of, left, Raises, raised_times, IsMoreIn, raising, AreTimesSettled, AreDelaysBy}
+use Rattle.afdx_solve.specs.declared.delays.Delays.{Delays}
+use Rattle.afdx_solve.specs.Delays.{of_class}
+use Rattle.afdx_solve.proofs.DelayLemmas.{chosen-within, latency_over-some, latency_over-same}
 use Rattle.afdx_solve.proofs.AtLemmas.{link-at, at-link, link-one, tables-one, IsRowOf, times-cases, times-buffer, buffer-cases}
 use Rattle.afdx_solve.proofs.AtLemmas.{buffer-links}
 use Rattle.afdx_solve.proofs.RaisingLemmas.{raised-more, raised-takes, TimesTaken, AreTaken, step, left-times, left-buffer}
@@ -306,3 +308,41 @@ module _ (o : SolveOptions) (ss : List NamedRows) (k : ℕ) (t : Rows) (at : tab
         less = λ e. omega (arith, strict, sum, may.1);
         same = λ e. absurd (cc e);
       }
+
+-- ---- by what is kept of the output ports
+
+latency_over-within : (f g : ℕ → ℕ) (count : ℕ) → ((place : ℕ) → place < count → f place ≤ g place) → (places : List ℕ)
+    → AllByRecursion (λ p. p < count) places → latency_over f places ≤ latency_over g places
+unfolding latency_over
+latency_over-within f g count each [] h = omega arith
+latency_over-within f g count each (p ∷ ps) h = omega (arith, each p h.0, latency_over-within f g count each ps h.1)
+
+module _ (ss : List NamedRows) (t : Rows) (k : ℕ) (l : LinkRow) (needed : Times) (d : Delays)
+    (lawful : IsLinkUpTo jitter_from_any (length t.systems) l)
+    (jitter : needed.jitter_us ≡ jitter_needed ss t (row_at k l))
+    (latency : needed.latency_us ≡ min greatest_delay (latency_over (slice_index (of_class l.priority d)) l.to))
+    (skew : needed.skew_us ≡ skew_needed ss t (row_at k l)) where
+  pub needed-are : AreDelaysBy (λ kept needs. kept ≤ needs) t d → AreNeeded ss t k l needed
+  unfolding latency_needed
+  needed-are below =
+      let over = latency_over-within (slice_index (of_class l.priority d)) (delay_to t l.priority) (length t.systems)
+      (below.each l.priority) l.to lawful.to in
+      record {
+        jitter = omega (arith, jitter);
+        latency = omega (arith, latency, over);
+        latency_some = omega (arith, latency, latency_over-some (slice_index (of_class l.priority d)) l.to);
+        skew = omega (arith, skew);
+        skew_some = omega (arith, skew, (skew-some ss t (row_at k l) lawful.latency_us.0).0);
+      }
+
+  pub row-settled : (o : SolveOptions) → AreTimesAtMost (with_times (raised_times o needed l) l) l
+      → AreDelaysBy (λ kept needs. kept ≡ needs) t d → AreTimesSettled o ss t k l
+  unfolding latency_needed
+  row-settled o h exact =
+      times-settled o ss t k l needed h jitter
+      (latency ∙ ap (min greatest_delay) (latency_over-same (slice_index (of_class l.priority d)) (delay_to t l.priority)
+      (length t.systems) (exact.each l.priority) l.to lawful.to)) skew
+
+pub among : (t : Rows) (i : ℕ) (l : LinkRow) → IsLawfulSwitch t → slice_get t.links i ≡ Some l
+    → IsLinkUpTo jitter_from_any (length t.systems) l → IsLinkAmong t.own (length t.systems) l
+among t i l lawful row link = record { link = link; sent = lawful.sent i l row }

@@ -107,10 +107,11 @@ pub(crate) fn needed_times(
     ensures skew { (t : Rows) → tables_at switches.now switch.0 ≡ Some t →
         result.skew_us ≡ spec.skew_needed switches.now t (row_at switch.0 (link_row link.now)) }
 {
+    let tables = switches.tables(switch);
     let way = latency_of(switches, switch, link);
     Times {
         jitter_us: jitter_needed(switches, switch, link, jitters, way),
         latency_us: latency_needed(link, delays),
-        skew_us: skew_needed(switches.tables(switch), link, way),
+        skew_us: skew_needed(tables, link, way),
     }
 }
