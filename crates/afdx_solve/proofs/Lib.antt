@@ -5,6 +5,7 @@ pub mod RiseLemmas
 pub mod WayRiseLemmas
 pub mod RaisingLemmas
 pub mod RaisedLemmas
+pub mod LoopLemmas
 pub mod LeastLemmas
 pub mod RowLemmas
 pub mod SameLemmas

@@ -65,7 +65,7 @@ pub record NeedsRise (a b : List NamedRows) (t u : Rows) (k : ℕ) (l m : LinkRo
 
 module _ (a b : List NamedRows) (alike : AreAlike a b) (more : AreAtMost a b) (k : ℕ) (t u : Rows)
     (at : tables_at a k ≡ Some t) (at' : tables_at b k ≡ Some u) where
-  rows-rise : RowsRise t u
+  pub rows-rise : RowsRise t u
   rows-rise =
       let s = with_tables (slice_get a k) t at in
       let v = with_tables (slice_get b k) u at' in
