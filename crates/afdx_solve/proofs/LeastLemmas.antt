@@ -41,7 +41,7 @@ chosen-least false true as_is least k e = absurd (cc e)
 chosen-least false false as_is least k e = refl
 
 -- a row of those that were mapped
-mapped : {X Y : Type 0} (h : X → Y) (xs : List X) (i : ℕ) (y : Y) → slice_get (map h xs) i ≡ Some y
+pub mapped : {X Y : Type 0} (h : X → Y) (xs : List X) (i : ℕ) (y : Y) → slice_get (map h xs) i ≡ Some y
     → (x : X) × (slice_get xs i ≡ Some x) × (h x ≡ y)
 mapped h [] i y at = absurd (cc at)
 mapped h (x ∷ xs) zero y at = (x, refl, same_of_some (h x) y at)

@@ -6,6 +6,7 @@ pub mod WayRiseLemmas
 pub mod RaisingLemmas
 pub mod RaisedLemmas
 pub mod LoopLemmas
+pub mod BeginLemmas
 pub mod LeastLemmas
 pub mod RowLemmas
 pub mod SameLemmas

@@ -1,4 +1,4 @@
-use Rattle.afdx_solve.proofs.RaisedLemmas.{row-raises}
+use Rattle.afdx_solve.proofs.BeginLemmas.{length-changed}
 use Rattle.afdx_solve.proofs.laws.least_is_one.Goals as goal
 
 pub returns : goal.returns
