@@ -52,7 +52,7 @@ mapped h (x ∷ xs) (suc i) y at = mapped h xs i y at
 
 -- ---- jitters
 
-jitter_at-stands : (t : Rows) (place : ℕ) (s : SystemRow) → slice_get t.systems place ≡ Some s
+pub jitter_at-stands : (t : Rows) (place : ℕ) (s : SystemRow) → slice_get t.systems place ≡ Some s
     → jitter_at t place ≡ sender_jitter (byte_ns s) (links_from t.links place)
 unfolding jitter_at
 jitter_at-stands t place s at =

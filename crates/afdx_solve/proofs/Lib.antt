@@ -7,6 +7,7 @@ pub mod RaisingLemmas
 pub mod RaisedLemmas
 pub mod LoopLemmas
 pub mod BeginLemmas
+pub mod CascadeLeastLemmas
 pub mod LeastLemmas
 pub mod RowLemmas
 pub mod SameLemmas
