@@ -1,6 +1,6 @@
 -- A row as it may stand at a switch of a cascade, and what a fault there speaks of.
-use Rattle.std.specs.Prelude.{◌≡◌, ℕ, ◌<◌, List, length, Option, Some, option_map, option_and_then}
-use Rattle.std.specs.Prelude.{slice_get, Bool, not, ◌&&◌, nat_le}
+use Rattle.std.specs.Prelude.{◌≡◌, ℕ, ◌<◌, List, length, Some}
+use Rattle.std.specs.Prelude.{Bool, not, ◌&&◌, nat_le}
 use Rattle.afdx_config.specs.Rows.{LinkRow, Rows}
 use Rattle.afdx_config.specs.Lawful.{IsLinkUpTo, jitter_from_any}
 use Rattle.afdx_config.specs.Switches.{NamedRows}

@@ -25,4 +25,4 @@ pub use cascade_fault::{CASCADE_ADMISSION, CascadeFault, CascadeText, SwitchFaul
 pub use cascade_lines::{goes_to_system, late_behind};
 pub use fault::{ADMISSION, AdmitFault, AdmitText};
 pub use lines::sender_jitters;
-pub use way::{row_before, way_latency};
+pub use way::{latency_of, row_before, way_latency};

@@ -3,11 +3,14 @@
 //! Its tests are in `afdx_part_tests`.
 #![tactic(auto)]
 
+mod beginning;
+mod cascade_needs;
 mod cascade_writing;
 mod delays;
 mod jitters;
 pub mod laws;
 mod options;
+mod raising;
 mod solving;
 mod solving_cascade;
 mod writing;
