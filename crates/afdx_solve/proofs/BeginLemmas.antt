@@ -22,7 +22,7 @@ use Rattle.afdx_solve.specs.Raising.{begun_times, begun, begun_buffer, begun_lin
 use Rattle.afdx_solve.specs.Raising.{IsNoLessThanBegun, IsRising}
 use Rattle.afdx_solve.proofs.DelayLemmas.{chosen-within}
 use Rattle.afdx_solve.proofs.LeastLemmas.{mapped}
-use Rattle.afdx_solve.proofs.StageLemmas.{with_links, changed_first, get-first, stage-next, stage-done}
+use Rattle.afdx_solve.proofs.StageLemmas.{with_links, changed_first, get-first, length-first, stage-next, stage-done}
 use Rattle.afdx_solve.proofs.AtLemmas.{link-at, at-link, link-one, tables-one}
 use Rattle.afdx_solve.proofs.RaisingLemmas.{chosen-rises}
 use Rattle.afdx_solve.proofs.RaisedLemmas.{latency-some, skew-some}
@@ -175,7 +175,7 @@ module _ (o : SolveOptions) where
 
   -- ---- one row, one switch after the other
 
-  abbrev first_rows : ℕ → Rows → Rows
+  abbrev pub first_rows : ℕ → Rows → Rows
   first_rows i t = with_links t (changed_first (begun o) i t.links)
 
   pub rows-first : (ss : List NamedRows) (k : ℕ) → ss ≡ changed_switch k (first_rows 0) ss
@@ -238,3 +238,20 @@ unfolding changed_switch
 length-changed change [] k = refl
 length-changed change (s ∷ ss) zero = refl
 length-changed change (s ∷ ss) (suc k) = ap suc (length-changed change ss k)
+
+pub buffer-begins : (o : SolveOptions) (ss : List NamedRows) (k : ℕ) (t : Rows) → tables_at ss k ≡ Some t → (buffer : ℕ)
+    → buffer ≡ begun_buffer o t.buffer
+    → changed_switch k (with_buffer buffer) ss ≡ changed_switch k (with_begun_buffer o) ss
+buffer-begins o ss k t at buffer is =
+    change-same (with_buffer buffer) (with_begun_buffer o) ss k t at (ap (λ n. with_buffer n t) is)
+
+-- of the rows that are changed so far: how many there are
+pub count-first : (o : SolveOptions) (ss : List NamedRows) (k i : ℕ) (t u : Rows) → tables_at ss k ≡ Some t
+    → tables_at (changed_switch k (first_rows o i) ss) k ≡ Some u → length u.links ≡ length t.links
+unfolding changed_switch
+count-first o [] k i t u at at' = absurd (cc at)
+count-first o (s ∷ ss) zero i t u at at' =
+    ap (λ (r : Rows). length r.links) (sym (same_Some (first_rows o i s.rows) u at'))
+    ∙ length-first (begun o) i s.rows.links
+    ∙ ap (λ (r : Rows). length r.links) (same_Some s.rows t at)
+count-first o (s ∷ ss) (suc k) i t u at at' = count-first o ss k i t u at at'
