@@ -38,11 +38,13 @@ pub lawful-link : (ss : List NamedRows) → AreSwitches ss → (k i : ℕ) (l : 
     → (t : Rows) × IsLinkAmong t.own (length t.systems) l
 lawful-link ss h k i l row =
     let t = at-link ss k i l row in
-    let lawful = lawful-at ss h k t.0 t.1 in
-    (t.0, record {
-      link = AllByRecursion-slice_get (IsLinkUpTo jitter_from_any (length t.0.systems)) t.0.links i l lawful.links.each t.2;
-      sent = lawful.sent i l t.2;
-    })
+    let lawful = lawful-at ss h k t.0 t.1 in (
+      t.0,
+      record {
+        link = AllByRecursion-slice_get (IsLinkUpTo jitter_from_any (length t.0.systems)) t.0.links i l lawful.links.each t.2;
+        sent = lawful.sent i l t.2;
+      },
+    )
 
 chosen-some : (keep raise : Bool) (file n : ℕ) → 1 ≤ file → 1 ≤ n → 1 ≤ chosen keep raise file n
 chosen-some true raise file n a b = a
@@ -161,12 +163,19 @@ module _ (o : SolveOptions) where
             let x = begun-link file k i l row in
             let v = at-link others k i n row' in
             let y = enough.times k i v.0 x.0 n v.1 x.1 v.2 in
-            let some : 1 ≤ n.latency_us = omega (arith, y.latency,
-            chosen-some o.kept.latency o.raise_only x.0.latency_us (latency_needed v.0 n) (latency-one k i x.0 x.1)
-            (latency-some v.0 n).0) in
+            let some : 1 ≤ n.latency_us = omega (
+              arith,
+              y.latency,
+              chosen-some o.kept.latency o.raise_only x.0.latency_us (latency_needed v.0 n) (latency-one k i x.0 x.1)
+                  (latency-some v.0 n).0,
+            ) in
             record {
-              jitter = omega (arith, ap (λ (r : LinkRow). r.jitter_us) x.2, y.jitter,
-                  jitter-below x.0 (jitter_needed others v.0 (row_at k n)));
+              jitter = omega (
+                arith,
+                ap (λ (r : LinkRow). r.jitter_us) x.2,
+                y.jitter,
+                jitter-below x.0 (jitter_needed others v.0 (row_at k n)),
+              );
               latency = omega (arith, ap (λ (r : LinkRow). r.latency_us) x.2, y.latency, latency-below x.0 v.0 n);
               skew = omega (arith, ap (λ (r : LinkRow). r.skew_us) x.2, y.skew, skew-below others x.0 v.0 k n some);
             };

@@ -41,7 +41,12 @@ fn begin_buffer(switches: &mut Switches, options: SolveOptions, switch: SwitchId
         ≡ changed_switch switch.0 (spec.with_begun_buffer options) switches.old }
 {
     let buffer = switches.tables(switch).buffer();
-    let least = chosen(options.kept.buffer, options.raise_only, buffer, LEAST_BUFFER);
+    let least = chosen(
+        options.kept.buffer,
+        options.raise_only,
+        buffer,
+        LEAST_BUFFER,
+    );
     switches.set_buffer(switch, least);
 }
 
