@@ -22,7 +22,7 @@ use Rattle.afdx_solve.specs.Raising.{begun_times, begun, begun_buffer, begun_lin
 use Rattle.afdx_solve.specs.Raising.{IsNoLessThanBegun, IsRising}
 use Rattle.afdx_solve.proofs.DelayLemmas.{chosen-within}
 use Rattle.afdx_solve.proofs.LeastLemmas.{mapped}
-use Rattle.afdx_solve.proofs.StageLemmas.{with_links, changed_first, get-first, stage-next, stage-done}
+use Rattle.afdx_solve.proofs.StageLemmas.{with_links, changed_first, get-first, length-first, stage-next, stage-done}
 use Rattle.afdx_solve.proofs.AtLemmas.{link-at, at-link, link-one, tables-one}
 use Rattle.afdx_solve.proofs.RaisingLemmas.{chosen-rises}
 use Rattle.afdx_solve.proofs.RaisedLemmas.{latency-some, skew-some}
@@ -38,11 +38,13 @@ pub lawful-link : (ss : List NamedRows) → AreSwitches ss → (k i : ℕ) (l : 
     → (t : Rows) × IsLinkAmong t.own (length t.systems) l
 lawful-link ss h k i l row =
     let t = at-link ss k i l row in
-    let lawful = lawful-at ss h k t.0 t.1 in
-    (t.0, record {
-      link = AllByRecursion-slice_get (IsLinkUpTo jitter_from_any (length t.0.systems)) t.0.links i l lawful.links.each t.2;
-      sent = lawful.sent i l t.2;
-    })
+    let lawful = lawful-at ss h k t.0 t.1 in (
+      t.0,
+      record {
+        link = AllByRecursion-slice_get (IsLinkUpTo jitter_from_any (length t.0.systems)) t.0.links i l lawful.links.each t.2;
+        sent = lawful.sent i l t.2;
+      },
+    )
 
 chosen-some : (keep raise : Bool) (file n : ℕ) → 1 ≤ file → 1 ≤ n → 1 ≤ chosen keep raise file n
 chosen-some true raise file n a b = a
@@ -161,12 +163,19 @@ module _ (o : SolveOptions) where
             let x = begun-link file k i l row in
             let v = at-link others k i n row' in
             let y = enough.times k i v.0 x.0 n v.1 x.1 v.2 in
-            let some : 1 ≤ n.latency_us = omega (arith, y.latency,
-            chosen-some o.kept.latency o.raise_only x.0.latency_us (latency_needed v.0 n) (latency-one k i x.0 x.1)
-            (latency-some v.0 n).0) in
+            let some : 1 ≤ n.latency_us = omega (
+              arith,
+              y.latency,
+              chosen-some o.kept.latency o.raise_only x.0.latency_us (latency_needed v.0 n) (latency-one k i x.0 x.1)
+                  (latency-some v.0 n).0,
+            ) in
             record {
-              jitter = omega (arith, ap (λ (r : LinkRow). r.jitter_us) x.2, y.jitter,
-                  jitter-below x.0 (jitter_needed others v.0 (row_at k n)));
+              jitter = omega (
+                arith,
+                ap (λ (r : LinkRow). r.jitter_us) x.2,
+                y.jitter,
+                jitter-below x.0 (jitter_needed others v.0 (row_at k n)),
+              );
               latency = omega (arith, ap (λ (r : LinkRow). r.latency_us) x.2, y.latency, latency-below x.0 v.0 n);
               skew = omega (arith, ap (λ (r : LinkRow). r.skew_us) x.2, y.skew, skew-below others x.0 v.0 k n some);
             };
@@ -175,7 +184,7 @@ module _ (o : SolveOptions) where
 
   -- ---- one row, one switch after the other
 
-  abbrev first_rows : ℕ → Rows → Rows
+  abbrev pub first_rows : ℕ → Rows → Rows
   first_rows i t = with_links t (changed_first (begun o) i t.links)
 
   pub rows-first : (ss : List NamedRows) (k : ℕ) → ss ≡ changed_switch k (first_rows 0) ss
@@ -238,3 +247,20 @@ unfolding changed_switch
 length-changed change [] k = refl
 length-changed change (s ∷ ss) zero = refl
 length-changed change (s ∷ ss) (suc k) = ap suc (length-changed change ss k)
+
+pub buffer-begins : (o : SolveOptions) (ss : List NamedRows) (k : ℕ) (t : Rows) → tables_at ss k ≡ Some t → (buffer : ℕ)
+    → buffer ≡ begun_buffer o t.buffer
+    → changed_switch k (with_buffer buffer) ss ≡ changed_switch k (with_begun_buffer o) ss
+buffer-begins o ss k t at buffer is =
+    change-same (with_buffer buffer) (with_begun_buffer o) ss k t at (ap (λ n. with_buffer n t) is)
+
+-- of the rows that are changed so far: how many there are
+pub count-first : (o : SolveOptions) (ss : List NamedRows) (k i : ℕ) (t u : Rows) → tables_at ss k ≡ Some t
+    → tables_at (changed_switch k (first_rows o i) ss) k ≡ Some u → length u.links ≡ length t.links
+unfolding changed_switch
+count-first o [] k i t u at at' = absurd (cc at)
+count-first o (s ∷ ss) zero i t u at at' =
+    ap (λ (r : Rows). length r.links) (sym (same_Some (first_rows o i s.rows) u at'))
+    ∙ length-first (begun o) i s.rows.links
+    ∙ ap (λ (r : Rows). length r.links) (same_Some s.rows t at)
+count-first o (s ∷ ss) (suc k) i t u at at' = count-first o ss k i t u at at'

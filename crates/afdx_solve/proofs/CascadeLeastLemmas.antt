@@ -256,10 +256,10 @@ link-same l m same d e =
     let jitter : m.jitter_us ≡ l.jitter_us = omega (arith, d.jitter, e.jitter) in
     let latency : m.latency_us ≡ l.latency_us = omega (arith, d.latency, e.latency) in
     let skew : m.skew_us ≡ l.skew_us = omega (arith, d.skew, e.skew) in
-    ap (λ (b : LinkRow). record b { jitter_us = m.jitter_us; latency_us = m.latency_us; skew_us = m.skew_us; }) (sym same)
-    ∙ ap (λ n. record l { jitter_us = n; latency_us = m.latency_us; skew_us = m.skew_us; }) jitter
-    ∙ ap (λ n. record l { latency_us = n; skew_us = m.skew_us; }) latency
-    ∙ ap (λ n. record l { skew_us = n; }) skew
+    ap (λ (b : LinkRow). record b { jitter_us = m.jitter_us; latency_us = m.latency_us; skew_us = m.skew_us }) (sym same)
+    ∙ ap (λ n. record l { jitter_us = n; latency_us = m.latency_us; skew_us = m.skew_us }) jitter
+    ∙ ap (λ n. record l { latency_us = n; skew_us = m.skew_us }) latency
+    ∙ ap (λ n. record l { skew_us = n }) skew
 
 one-solution : (a b : List NamedRows) → AreAlike a b → AreAtMost a b → AreAtMost b a → b ≡ a
 one-solution a b alike d e = same_from_all_zip Same a b (zip-from bare_switch Same a b alike switch) (λ s v h. h)
@@ -283,9 +283,9 @@ one-solution a b alike d e = same_from_all_zip Same a b (zip-from bare_switch Sa
         let row_a = link-at a k i s.rows l at_a row in
         let row_b = link-at b k i v.rows m at_b row' in
         link-same l m is (d.times k i l m row_a row_b) (e.times k i m l row_b row_a))) (λ l m h. h) in
-        ap (λ (r : NamedRows). named_rows r.name (record r.rows { buffer = v.rows.buffer; links = v.rows.links; })) (sym same)
-        ∙ ap (λ n. named_rows s.name (record s.rows { buffer = n; links = v.rows.links; })) buffer
-        ∙ ap (λ ls. named_rows s.name (record s.rows { links = ls; })) links
+        ap (λ (r : NamedRows). named_rows r.name (record r.rows { buffer = v.rows.buffer; links = v.rows.links })) (sym same)
+        ∙ ap (λ n. named_rows s.name (record s.rows { buffer = n; links = v.rows.links })) buffer
+        ∙ ap (λ ls. named_rows s.name (record s.rows { links = ls })) links
 
 pub least-one : LeastIsOne
 least-one o file a b d e =

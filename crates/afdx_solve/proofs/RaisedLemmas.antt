@@ -107,9 +107,9 @@ left-less : (l : LinkRow) (times : Times) → AreTimesAtMost l (with_times times
 left-less l times h j la s more = elim more [
   | inl a ↦ omega (arith, h.latency, h.skew, j, la, s, a)
   | inr rest ↦ elim rest [
-      | inl b ↦ omega (arith, h.jitter, h.skew, j, la, s, b)
-      | inr c ↦ omega (arith, h.jitter, h.latency, j, la, s, c)
-    ]
+    | inl b ↦ omega (arith, h.jitter, h.skew, j, la, s, b)
+    | inr c ↦ omega (arith, h.jitter, h.latency, j, la, s, c)
+  ]
 ]
 
 module _ (o : SolveOptions) (ss : List NamedRows) (k i : ℕ) (t : Rows) (l : LinkRow) (at : tables_at ss k ≡ Some t)
@@ -248,9 +248,12 @@ module _ (o : SolveOptions) (ss : List NamedRows) (k : ℕ) (t : Rows) (at : tab
         let same : x.0 ≡ s = tables-one ss j x.0 s x.1 d in
         elim x.2 [
           | inl is ↦ omega (arith, ap (λ (r : Rows). r.buffer) (is ∙ same))
-          | inr is ↦ omega (arith, ap (λ (r : Rows). r.buffer) is.1,
-              ap (λ (r : Rows). r.buffer) (here-tables j s is.0 d),
-              raised-more o.kept.buffer t.buffer (least_buffer t))
+          | inr is ↦ omega (
+            arith,
+            ap (λ (r : Rows). r.buffer) is.1,
+            ap (λ (r : Rows). r.buffer) (here-tables j s is.0 d),
+            raised-more o.kept.buffer t.buffer (least_buffer t),
+          )
         ];
     times = λ j i a b d e.
         let same = link-one ss j i a b d (sym (buffer-links buffer ss k j i) ∙ e) in record {
@@ -287,8 +290,12 @@ module _ (o : SolveOptions) (ss : List NamedRows) (k : ℕ) (t : Rows) (at : tab
           subst (λ (r : Rows). r.buffer ≤ chosen o.kept.buffer o.raise_only f.buffer (least_buffer r)) same
           (h.to.buffers j f s d at') in
           subst (λ (r : Rows). u.buffer ≤ chosen o.kept.buffer o.raise_only f.buffer (least_buffer r)) (sym same)
-          (omega (arith, is, raised-takes o.kept.buffer o.raise_only f.buffer t.buffer (least_buffer t) (least_buffer t)
-          b (omega arith)))
+          (omega (
+            arith,
+            is,
+            raised-takes o.kept.buffer o.raise_only f.buffer t.buffer (least_buffer t) (least_buffer t)
+                b (omega arith),
+          ))
 
   buffer-alike : AreAlike ss new_buffer
   buffer-alike = sym (alike-changed (with_buffer buffer) (λ r. refl) ss k)

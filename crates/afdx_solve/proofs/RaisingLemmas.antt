@@ -119,9 +119,12 @@ module _ (o : SolveOptions) (file old new : List NamedRows) (h : IsRising o file
         → u.buffer ≤ chosen o.kept.buffer o.raise_only f.buffer (least_buffer v)
     buffer-by k f u v at at' at'' =
         let s = alike-tables new old (sym alike) k u at' in
-        omega (arith, taken.buffers k f s.0 u at s.1 at',
-        chosen-rises o.kept.buffer o.raise_only f.buffer (least_buffer s.0) (least_buffer v)
-        (need-rises old others like above k s.0 v s.1 at''))
+        omega (
+          arith,
+          taken.buffers k f s.0 u at s.1 at',
+          chosen-rises o.kept.buffer o.raise_only f.buffer (least_buffer s.0) (least_buffer v)
+              (need-rises old others like above k s.0 v s.1 at''),
+        )
 
     times-by : (k i : ℕ) (v : Rows) (f m n : LinkRow) → tables_at others k ≡ Some v → link_at file k i ≡ Some f
         → link_at new k i ≡ Some m → slice_get v.links i ≡ Some n → TimesTaken o others v f k n m
@@ -131,12 +134,24 @@ module _ (o : SolveOptions) (file old new : List NamedRows) (h : IsRising o file
         let x = taken.times k i s.0 f l.0 m s.1 row s.2 row' in
         let y = times-rise old others like above k s.0 v s.1 at i l.0 n s.2 row'' in
         record {
-          jitter = omega (arith, x.jitter, chosen-rises o.kept.jitter o.raise_only f.jitter_us
-              (jitter_needed old s.0 (row_at k l.0)) (jitter_needed others v (row_at k n)) y.jitter);
-          latency = omega (arith, x.latency, chosen-rises o.kept.latency o.raise_only f.latency_us
-              (latency_needed s.0 l.0) (latency_needed v n) y.latency);
-          skew = omega (arith, x.skew, chosen-rises o.kept.skew o.raise_only f.skew_us
-              (skew_needed old s.0 (row_at k l.0)) (skew_needed others v (row_at k n)) y.skew);
+          jitter = omega (
+            arith,
+            x.jitter,
+            chosen-rises o.kept.jitter o.raise_only f.jitter_us
+                (jitter_needed old s.0 (row_at k l.0)) (jitter_needed others v (row_at k n)) y.jitter,
+          );
+          latency = omega (
+            arith,
+            x.latency,
+            chosen-rises o.kept.latency o.raise_only f.latency_us
+                (latency_needed s.0 l.0) (latency_needed v n) y.latency,
+          );
+          skew = omega (
+            arith,
+            x.skew,
+            chosen-rises o.kept.skew o.raise_only f.skew_us
+                (skew_needed old s.0 (row_at k l.0)) (skew_needed others v (row_at k n)) y.skew,
+          );
         }
 
   pub step : IsRising o file new

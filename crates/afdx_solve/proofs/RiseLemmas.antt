@@ -157,8 +157,11 @@ module _ (t u : Rows) (h : RowsRise t u) where
   needs-rise (suc count) = omega (arith, needs-rise count, need-rises count)
 
   pub buffer-rises : least_buffer t ≤ least_buffer u
-  buffer-rises = omega (arith, needs-rise (length t.systems),
-      ap (λ (ss : List SystemRow). greatest_need u (length ss)) systems-same)
+  buffer-rises = omega (
+    arith,
+    needs-rise (length t.systems),
+    ap (λ (ss : List SystemRow). greatest_need u (length ss)) systems-same,
+  )
 
   pub jitter_at-same : (place : ℕ) → jitter_at t place ≡ jitter_at u place
   unfolding jitter_at

@@ -2,6 +2,7 @@
 
 ghost use Rattle.std.specs.Prelude.{◌≡◌, ◌<◌, length, map};
 ghost use Rattle.afdx_config.specs.Rows.{link_row};
+ghost use Rattle.afdx_config.specs.Switches.{AreSwitches};
 ghost use Rattle.afdx_config.specs.ChangedSwitches.{changed_switch};
 ghost use Rattle.afdx_solve.specs.Raising as spec;
 
@@ -40,13 +41,19 @@ fn begin_buffer(switches: &mut Switches, options: SolveOptions, switch: SwitchId
         ≡ changed_switch switch.0 (spec.with_begun_buffer options) switches.old }
 {
     let buffer = switches.tables(switch).buffer();
-    let least = chosen(options.kept.buffer, options.raise_only, buffer, LEAST_BUFFER);
+    let least = chosen(
+        options.kept.buffer,
+        options.raise_only,
+        buffer,
+        LEAST_BUFFER,
+    );
     switches.set_buffer(switch, least);
 }
 
 /// Gives all switches the least values of the keys that aren't kept.
 pub(crate) fn begin(switches: &mut Switches, options: SolveOptions)
-    ensures { switches.new ≡ map (spec.begun_switch options) switches.old }
+    ensures begun { switches.new ≡ map (spec.begun_switch options) switches.old }
+    ensures switches { AreSwitches switches.old }
 {
     let count = switches.count();
     for k in 0..count {

@@ -7,7 +7,6 @@ ghost use Rattle.std.specs.List.{AllByRecursion};
 ghost use Rattle.afdx_frame.specs.Ports.{last_port};
 ghost use Rattle.afdx_frame.specs.Regulation.{greatest_delay};
 ghost use Rattle.afdx_config.specs.Rows.{Rows, link_row};
-
 ghost use Rattle.afdx_admit.specs.AtSwitch.{IsRowAt, tables_at};
 ghost use Rattle.afdx_admit.specs.Cascade.{row_at, way_latency, goes_to_system};
 ghost use Rattle.afdx_admit.specs.Sums.{AreJitters, CanSend};
