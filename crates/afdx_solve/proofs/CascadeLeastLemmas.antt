@@ -80,7 +80,7 @@ may-take true raise file value n may h = omega (arith, may)
 may-take false true file value n may h = omega (arith, may, h)
 may-take false false file value n may h = h
 
-flow_stands : (place : ℕ) (ls : List LinkRow) (i : ℕ) (l : LinkRow) → slice_get ls i ≡ Some l → is_to place l ≡ true
+pub flow_stands : (place : ℕ) (ls : List LinkRow) (i : ℕ) (l : LinkRow) → slice_get ls i ≡ Some l → is_to place l ≡ true
     → Contains (flows_to ls place) (flow_of_link l)
 flow_stands place [] i l at goes = absurd (cc at)
 flow_stands place (x ∷ ls) zero l at goes =

@@ -115,7 +115,7 @@ least_buffer-least o t keep raise = λ bytes some enough.
 
 -- ---- latencies
 
-low_bound-some : (ns : ℕ) (flows : List Flow) → 0 < byte_units - high_load ns flows
+pub low_bound-some : (ns : ℕ) (flows : List Flow) → 0 < byte_units - high_load ns flows
     → low_bound_of (record { byte_ns = ns; flows = flows })
     ≡ Some (div_ceil (low_wait ns flows) (byte_units - high_load ns flows))
 unfolding low_bound_of

@@ -34,7 +34,7 @@ div_ceil-rises a b n some h = div_ceil-least a n (div_ceil b n) some (omega (ari
 
 -- ---- a port
 
-record FlowRises (f g : Flow) : Type 0 where
+pub record FlowRises (f g : Flow) : Type 0 where
   smax : f.link.smax ≡ g.link.smax
   rate : fill_rate f.link ≡ fill_rate g.link
   cap : cap f.link ≤ cap g.link
@@ -61,21 +61,21 @@ flow-rises l m h =
 goes-same : (place : ℕ) (l m : LinkRow) → LinkRises l m → is_to place l ≡ is_to place m
 goes-same place l m h = ap (λ (r : LinkRow). is_to place r) h.bare
 
-flows-rise : (ls ms : List LinkRow) → AllZip LinkRises ls ms → (place : ℕ)
+pub flows-rise : (ls ms : List LinkRow) → AllZip LinkRises ls ms → (place : ℕ)
     → AllZip FlowRises (flows_to ls place) (flows_to ms place)
 flows-rise ls ms h place = zip-maps LinkRises FlowRises flow_of_link flow_of_link flow-rises
     (links_to ls place) (links_to ms place)
     (zip-filter LinkRises (is_to place) (is_to place) (goes-same place) ls ms h)
 
-class-rises : (class : Priority) (fs gs : List Flow) → AllZip FlowRises fs gs
+pub class-rises : (class : Priority) (fs gs : List Flow) → AllZip FlowRises fs gs
     → AllZip FlowRises (of_class class fs) (of_class class gs)
 class-rises class fs gs h = zip-filter FlowRises (λ f. is_class class f.priority) (λ f. is_class class f.priority)
     (λ f g r. ap (is_class class) r.priority) fs gs h
 
-burst-rises : (fs gs : List Flow) → AllZip FlowRises fs gs → burst fs ≤ burst gs
+pub burst-rises : (fs gs : List Flow) → AllZip FlowRises fs gs → burst fs ≤ burst gs
 burst-rises fs gs h = zip-sum FlowRises (λ f. cap f.link) (λ f. cap f.link) (λ f g r. r.cap) fs gs h
 
-load-same : (ns : ℕ) (fs gs : List Flow) → AllZip FlowRises fs gs → load ns fs ≡ load ns gs
+pub load-same : (ns : ℕ) (fs gs : List Flow) → AllZip FlowRises fs gs → load ns fs ≡ load ns gs
 load-same ns fs gs h = zip-sum_same FlowRises (λ f. fill_rate f.link * ns) (λ f. fill_rate f.link * ns)
     (λ f g r. ap (λ n. n * ns) r.rate) fs gs h
 
@@ -86,13 +86,13 @@ longest-same (f ∷ fs) [] h = absurd h
 longest-same (f ∷ fs) (g ∷ gs) h =
     ap (λ n. max n (longest fs)) h.0.smax ∙ ap (max g.link.smax) (longest-same fs gs h.1)
 
-high-rises : (ns : ℕ) (fs gs : List Flow) → AllZip FlowRises fs gs → high_wait ns fs ≤ high_wait ns gs
+pub high-rises : (ns : ℕ) (fs gs : List Flow) → AllZip FlowRises fs gs → high_wait ns fs ≤ high_wait ns gs
 high-rises ns fs gs h =
     let high = burst-rises (of_class High fs) (of_class High gs) (class-rises High fs gs h) in
     let low = longest-same (of_class Low fs) (of_class Low gs) (class-rises Low fs gs h) in
     mul-le-mul_right ns (omega (arith, high, low))
 
-low-rises : (ns : ℕ) (fs gs : List Flow) → AllZip FlowRises fs gs → low_wait ns fs ≤ low_wait ns gs
+pub low-rises : (ns : ℕ) (fs gs : List Flow) → AllZip FlowRises fs gs → low_wait ns fs ≤ low_wait ns gs
 low-rises ns fs gs h = mul-le-mul_right ns (burst-rises fs gs h)
 
 in_us-rises : (ns : ℕ) (fs gs : List Flow) → AllZip FlowRises fs gs → (class : Priority)

@@ -48,7 +48,7 @@ module _ (a b : List NamedRows) (alike : AreAlike a b) (more : AreAtMost a b) wh
 
 -- ---- the row before
 
-row_of-rises : (t u : Rows) → RowsRise t u → (vl : ℕ) → OptionZip LinkRises (row_of t vl) (row_of u vl)
+pub row_of-rises : (t u : Rows) → RowsRise t u → (vl : ℕ) → OptionZip LinkRises (row_of t vl) (row_of u vl)
 row_of-rises t u h vl =
     let same : link_of t.links vl ≡ link_of u.links vl =
     sym (link_of-bare t.links vl) ∙ ap (λ (r : Rows). link_of r.links vl) h.bare ∙ link_of-bare u.links vl in
@@ -80,7 +80,7 @@ towards-rises t u h name vl =
     by false l m r = tt
 
 module _ (a b : List NamedRows) (alike : AreAlike a b) (rise : AllZip SwitchRises a b) where
-  switch_named-same : (name : List ℕ) → switch_named a name ≡ switch_named b name
+  pub switch_named-same : (name : List ℕ) → switch_named a name ≡ switch_named b name
   switch_named-same name =
       sym (switch_named-bare a name) ∙ ap (λ ss. switch_named ss name) alike ∙ switch_named-bare b name
 
@@ -118,7 +118,7 @@ module _ (a b : List NamedRows) (alike : AreAlike a b) (rise : AllZip SwitchRise
       by None = tt
       by (Some e) = from-rises s.name vl e
 
-  before-rises : (r q : RowAt) → RowAtRises r q → OptionZip RowAtRises (row_before a r) (row_before b q)
+  pub before-rises : (r q : RowAt) → RowAtRises r q → OptionZip RowAtRises (row_before a r) (row_before b q)
   unfolding row_before
   before-rises r q h =
       let vl : r.row.vl ≡ q.row.vl = ap (λ (l : LinkRow). l.vl) h.row.bare in
@@ -177,7 +177,7 @@ module _ (a b : List NamedRows) (alike : AreAlike a b) (rise : AllZip SwitchRise
           (λ before. option_map (λ sum. sum + q.row.latency_us) (latency_within n b before))
           (λ x y g. sums x y (later x y g)) (row_before a r) (row_before b q) (before-rises r q h)
 
-  way-rises : (r q : RowAt) → RowAtRises r q → OptionZip AtMost (way_latency a r) (way_latency b q)
+  pub way-rises : (r q : RowAt) → RowAtRises r q → OptionZip AtMost (way_latency a r) (way_latency b q)
   unfolding way_latency
   way-rises r q h = subst (λ n. OptionZip AtMost (way_latency a r) (latency_within n b q))
       (length_zip a b rise) (within-rises (length a) r q h)

@@ -38,6 +38,20 @@ module _ {A B : Type 0} (R : A → B → Type 0) where
   zip-there (Some a) None x h e = absurd h
   zip-there (Some a) (Some b) x h e = (b, refl, subst (λ z. R z b) (same_Some a x e) h)
 
+  pub zip-back : (o : Option A) (p : Option B) (y : B) → OptionZip R o p → p ≡ Some y → (x : A) × (o ≡ Some x) × (R x y)
+  zip-back None None y h e = absurd (cc e)
+  zip-back None (Some b) y h e = absurd h
+  zip-back (Some a) None y h e = absurd h
+  zip-back (Some a) (Some b) y h e = (a, refl, subst (R a) (same_Some b y e) h)
+
+  -- a test that agrees
+  pub zip-test : (f : A → Bool) (g : B → Bool) → ((x : A) (y : B) → R x y → f x ≡ g y) → (o : Option A) (p : Option B)
+      → OptionZip R o p → option_map_or f o false ≡ option_map_or g p false
+  zip-test f g each None None h = refl
+  zip-test f g each None (Some y) h = absurd h
+  zip-test f g each (Some x) None h = absurd h
+  zip-test f g each (Some x) (Some y) h = each x y h
+
   module _ {C D : Type 0} (S : C → D → Type 0) where
     pub zip-then : (f : A → Option C) (g : B → Option D) → ((x : A) (y : B) → R x y → OptionZip S (f x) (g y))
         → (o : Option A) (p : Option B) → OptionZip R o p → OptionZip S (option_and_then f o) (option_and_then g p)

@@ -140,6 +140,17 @@ CascadeIsLeast =
     MayStandFor o file others →
     AreAtMost solved others
 
+-- and where one of these is admitted, the least solution is
+abbrev pub LeastIsAdmitted : Type 0
+LeastIsAdmitted =
+    (o : SolveOptions) (file solved others : List NamedRows) →
+    AreSwitches solved →
+    IsLeastSolution o file solved →
+    AreSwitches others →
+    IsCascadeAdmitted others →
+    MayStandFor o file others →
+    IsCascadeAdmitted solved
+
 -- there is one least solution
 abbrev pub LeastIsOne : Type 0
 LeastIsOne =

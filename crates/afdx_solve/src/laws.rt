@@ -1,7 +1,7 @@
 //! What is true of a solution.
 
 ghost use Rattle.afdx_solve.specs.Laws.{EachIsLeast};
-ghost use Rattle.afdx_solve.specs.SolvedCascade.{CascadeIsLeast, LeastIsOne};
+ghost use Rattle.afdx_solve.specs.SolvedCascade.{CascadeIsLeast, LeastIsAdmitted, LeastIsOne};
 
 /// Each key that is solved for is the least with which the tables, those before it as written, keep
 /// its lines of admission.
@@ -13,6 +13,11 @@ pub fn each_is_least()
 /// smaller value anywhere than the least solution.
 pub fn cascade_is_least()
     ensures { CascadeIsLeast }
+{}
+
+/// And where one of these is admitted, the least solution is: if it isn't, none is.
+pub fn least_is_admitted()
+    ensures { LeastIsAdmitted }
 {}
 
 /// There is one least solution.

@@ -1,4 +1,4 @@
-use Rattle.std.proofs.Common.{length, sym, ap, ◌∙◌, arith, refl}
+use Rattle.std.proofs.Common.{length, ap, ◌∙◌, arith, refl}
 use Rattle.afdx_config.specs.ChangedSwitches.{changed_switch}
 use Rattle.afdx_solve.specs.Raising.{begun_switch, begun_links, with_begun_buffer}
 use Rattle.afdx_solve.proofs.StageLemmas.{changed_first, length-first, past-first}

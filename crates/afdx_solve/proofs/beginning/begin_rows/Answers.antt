@@ -1,10 +1,10 @@
-use Rattle.std.proofs.Common.{◌≡◌, ◌<◌, length, slice_get, Some, is_some, sym, ap, ◌∙◌, subst, arith}
+use Rattle.std.proofs.Common.{◌≡◌, length, slice_get, Some, is_some, sym, ap, ◌∙◌, subst, arith}
 use Rattle.std.proofs.lemmas.Option.{same_Some}
 use Rattle.afdx_config.specs.Rows.{Rows, LinkRow, link_row}
 use Rattle.afdx_config.specs.Changed.{with_times}
 use Rattle.afdx_config.specs.Lawful.{IsLinkAmong}
 use Rattle.afdx_config.specs.AtSwitch.{tables_at, link_at}
-use Rattle.afdx_config.specs.ChangedSwitches.{changed_switch, with_times_at}
+use Rattle.afdx_config.specs.ChangedSwitches.{with_times_at}
 use Rattle.afdx_solve.proofs.AtLemmas.{link-at, tables-one}
 use Rattle.afdx_solve.proofs.RaisedLemmas.{among}
 use Rattle.afdx_solve.proofs.BeginLemmas.{first_rows, begun-lawful, rows-first, link-first, rows-next, rows-done, length-changed, count-first}

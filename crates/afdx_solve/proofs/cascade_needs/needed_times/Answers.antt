@@ -1,7 +1,7 @@
-use Rattle.std.proofs.Common.{◌≡◌, ap, ◌∙◌, sym, length, min, max, if◌then◌else◌}
+use Rattle.std.proofs.Common.{◌≡◌, ap, ◌∙◌, length, min, max, if◌then◌else◌}
 use Rattle.std.specs.Option.{unwrap_or}
 use Rattle.afdx_config.specs.Rows.{Rows, link_row}
-use Rattle.afdx_admit.specs.Cascade.{row_at, goes_to_system}
+use Rattle.afdx_admit.specs.Cascade.{goes_to_system}
 use Rattle.afdx_solve.specs.SolvedCascade.{skew_needed}
 use Rattle.afdx_solve.proofs.AtLemmas.{tables-one}
 use Rattle.afdx_solve.proofs.DelayLemmas.{all_within}

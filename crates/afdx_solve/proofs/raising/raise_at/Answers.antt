@@ -1,6 +1,4 @@
-use Rattle.std.proofs.Common.{◌≡◌, ◌∙◌, sym, ap, subst, ◌||◌, true, false, Some}
-use Rattle.afdx_frame.specs.declared.link.Priority.{Priority}
-use Rattle.afdx_frame.specs.declared.link.Priority.TheVariants.{High, Low}
+use Rattle.std.proofs.Common.{◌≡◌, sym, subst, ◌||◌, Some}
 use Rattle.afdx_config.specs.Rows.{Rows}
 use Rattle.afdx_solve.specs.declared.delays.Delays.{Delays}
 use Rattle.afdx_solve.specs.Raising.{Raises, AreDelaysBy, AreTimesSettled}

@@ -1,4 +1,4 @@
-use Rattle.std.proofs.Common.{◌≡◌, slice_get, Some, sym, ap, ◌∙◌, subst, length, true}
+use Rattle.std.proofs.Common.{◌≡◌, slice_get, sym, ap, ◌∙◌, subst, length, true}
 use Rattle.std.proofs.lemmas.Option.{same_Some}
 use Rattle.afdx_config.specs.Rows.{Rows, LinkRow, link_row}
 use Rattle.afdx_config.specs.Changed.{with_times}

@@ -1,7 +1,7 @@
-use Rattle.std.proofs.Common.{◌≡◌, ◌||◌, ◌∙◌, Some, sym, ap, subst, arith, refl, true, false}
+use Rattle.std.proofs.Common.{◌≡◌, ◌||◌, ◌∙◌, Some, sym, ap, subst, arith}
 use Rattle.afdx_config.specs.Rows.{Rows}
 use Rattle.afdx_config.specs.AtSwitch.{tables_at}
-use Rattle.afdx_solve.proofs.LoopLemmas.{RowSettled, raised-first, raised-next, rows-settled, row-there, jitters-stay}
+use Rattle.afdx_solve.proofs.LoopLemmas.{RowSettled, raised-next, rows-settled, row-there, jitters-stay}
 use Rattle.afdx_solve.proofs.LoopLemmas.{delays-below}
 use Rattle.afdx_solve.proofs.raising.raise_rows.Goals.{then-raised, else-raised}
 use Rattle.afdx_solve.proofs.raising.raise_rows.Goals as goal
