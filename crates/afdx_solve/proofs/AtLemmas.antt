@@ -1,16 +1,16 @@
 -- What stands at a switch and at a place there, in switches that are alike, and in changed ones.
-use Rattle.std.proofs.Common.{◌≡◌, inl, inr, ◌⊎◌, ℕ, zero, suc, ◌+◌, ◌≤◌, List, [], ◌∷◌, map, Option, Some, None, slice_get}
-use Rattle.std.proofs.Common.{option_map, option_and_then, refl, sym, ap, ◌∙◌, subst, arith, IsSome}
+use Rattle.std.proofs.Common.{◌≡◌, inl, inr, ◌⊎◌, ℕ, zero, suc, List, [], ◌∷◌, Option, Some, None, slice_get}
+use Rattle.std.proofs.Common.{option_map, option_and_then, refl, sym, ap, ◌∙◌}
 use Rattle.std.specs.List.{AllZip}
 use Rattle.std.proofs.lemmas.Option.{same_Some}
 use Rattle.afdx_config.specs.declared.rows.Times.{Times}
 use Rattle.afdx_config.specs.Rows.{LinkRow, Rows}
-use Rattle.afdx_config.specs.Changed.{with_times, changed_at, with_link_at, with_buffer}
+use Rattle.afdx_config.specs.Changed.{with_times, changed_at, with_buffer}
 use Rattle.afdx_config.specs.Switches.{NamedRows, named_rows}
 use Rattle.afdx_config.specs.AtSwitch.{tables_at, link_at}
 use Rattle.afdx_config.specs.ChangedSwitches.{changed_switch, with_times_at, with_buffer_at, bare_link, bare, bare_switch, AreAlike}
 use Rattle.afdx_admit.proofs.CascadeLemmas.{with_tables}
-use Rattle.afdx_solve.proofs.ZipLemmas.{OptionZip, zip-get, zip-there, zip-from}
+use Rattle.afdx_solve.proofs.ZipLemmas.{zip-get, zip-there, zip-from}
 
 -- the tables of a switch and the row at a place there
 pub link-at : (ss : List NamedRows) (k i : ℕ) (t : Rows) (l : LinkRow) → tables_at ss k ≡ Some t

@@ -1,25 +1,25 @@
 -- Switches whose keys begin at their least.
-use Rattle.std.proofs.Common.{◌≡◌, ℕ, zero, suc, ◌+◌, ◌<◌, ◌≤◌, min, max, Bool, true, false, List, [], ◌∷◌, length, map, Some, None, slice_get}
-use Rattle.std.proofs.Common.{is_some, IsSome, option_map, option_and_then, refl, sym, ap, ◌∙◌, subst, arith}
+use Rattle.std.proofs.Common.{◌≡◌, ℕ, zero, suc, ◌+◌, ◌≤◌, Bool, true, false, List, [], ◌∷◌, length, map, Some, slice_get}
+use Rattle.std.proofs.Common.{refl, sym, ap, ◌∙◌, subst, arith}
 use Rattle.std.proofs.lemmas.Option.{same_Some}
-use Rattle.afdx_frame.specs.Lengths.{least_frame, greatest_buffer}
+use Rattle.afdx_frame.specs.Lengths.{least_frame}
 use Rattle.afdx_frame.proofs.ListLemmas.{AllByRecursion-slice_get}
 use Rattle.afdx_config.specs.declared.rows.Times.{Times}
 use Rattle.afdx_config.specs.Rows.{LinkRow, Rows}
 use Rattle.afdx_config.specs.Changed.{with_times, with_link_at, with_buffer}
-use Rattle.afdx_config.specs.Lawful.{IsLinkAmong, IsLinkUpTo, IsLawfulSwitch, IsWithin, jitter_from_any, jitter_from_system}
+use Rattle.afdx_config.specs.Lawful.{IsLinkAmong, IsLinkUpTo, IsLawfulSwitch, jitter_from_any, jitter_from_system}
 use Rattle.afdx_config.specs.Reading.{greatest_delay}
 use Rattle.afdx_config.specs.Switches.{NamedRows, named_rows, AreSwitches}
 use Rattle.afdx_config.specs.AtSwitch.{tables_at, link_at}
-use Rattle.afdx_config.specs.ChangedSwitches.{changed_switch, bare_link, bare, bare_switch, AreAlike}
+use Rattle.afdx_config.specs.ChangedSwitches.{changed_switch, bare_link, bare_switch, AreAlike}
 use Rattle.afdx_admit.specs.Cascade.{row_at}
 use Rattle.afdx_admit.proofs.CascadeLemmas.{with_tables}
 use Rattle.afdx_solve.specs.declared.options.SolveOptions.{SolveOptions}
 use Rattle.afdx_solve.specs.Solved.{chosen, least_buffer}
-use Rattle.afdx_solve.specs.SolvedCascade.{jitter_needed, latency_needed, skew_needed, KeysTake, TimesTake, IsEnough, AreAtMost}
+use Rattle.afdx_solve.specs.SolvedCascade.{jitter_needed, latency_needed, skew_needed}
 use Rattle.afdx_solve.specs.SolvedCascade.{AreTimesAtMost}
-use Rattle.afdx_solve.specs.Raising.{begun_times, begun, begun_buffer, begun_links, with_begun_buffer, begun_switch}
-use Rattle.afdx_solve.specs.Raising.{IsNoLessThanBegun, IsRising}
+use Rattle.afdx_solve.specs.Raising.{begun, begun_buffer, begun_links, with_begun_buffer, begun_switch}
+use Rattle.afdx_solve.specs.Raising.{IsRising}
 use Rattle.afdx_solve.proofs.DelayLemmas.{chosen-within}
 use Rattle.afdx_solve.proofs.LeastLemmas.{mapped}
 use Rattle.afdx_solve.proofs.StageLemmas.{with_links, changed_first, get-first, length-first, stage-next, stage-done}

@@ -1,10 +1,8 @@
 -- Where nothing is raised any more is the least solution; no admitted cascade has less, and there is
 -- one least solution.
-use Rattle.std.proofs.Common.{◌≡◌, inl, inr, ℕ, zero, suc, ◌+◌, ◌*◌, ◌-◌, ◌<◌, ◌≤◌, min, max, Bool, true, false, cond, ◌||◌, List, [], ◌∷◌}
-use Rattle.std.proofs.Common.{length, map, Option, Some, None, slice_get, nat_eq, nat_lt, if◌then◌else◌, refl, sym, ap, ◌∙◌, subst, arith}
+use Rattle.std.proofs.Common.{◌≡◌, inl, inr, ℕ, zero, suc, ◌+◌, ◌*◌, ◌-◌, ◌<◌, ◌≤◌, min, Bool, true, false, cond, List, [], ◌∷◌}
+use Rattle.std.proofs.Common.{length, map, Option, Some, slice_get, nat_lt, if◌then◌else◌, refl, sym, ap, ◌∙◌, subst, arith}
 use Rattle.std.proofs.Common.{Contains, option_map, option_and_then}
-use Rattle.std.specs.Int.{div_ceil}
-use Rattle.std.specs.List.{AllByRecursion, AllZip, list_any}
 use Rattle.std.specs.Option.{option_map_or, unwrap_or}
 use Rattle.std.proofs.lemmas.Bool.{cases_lt, lt-ltb}
 use Rattle.std.proofs.lemmas.List.Elements.{All-contains, same_from_all_zip}
@@ -14,15 +12,15 @@ use Rattle.afdx_frame.specs.declared.link.Priority.{Priority}
 use Rattle.afdx_frame.specs.declared.link.Priority.TheVariants.{High, Low}
 use Rattle.afdx_frame.specs.Regulation.{byte_units}
 use Rattle.afdx_frame.specs.Lengths.{least_frame}
-use Rattle.afdx_frame.specs.Flows.{burst, high_load, high_wait, low_wait}
+use Rattle.afdx_frame.specs.Flows.{high_load, high_wait, low_wait}
 use Rattle.afdx_frame.proofs.ListLemmas.{AllByRecursion-slice_get, slice_get-within}
 use Rattle.afdx_config.specs.Rows.{SystemRow, LinkRow, Rows, is_to}
 use Rattle.afdx_config.specs.Flows.{flow_of_link}
 use Rattle.afdx_config.specs.Lawful.{IsSystem, IsLinkUpTo, IsLawfulSwitch, jitter_from_any}
-use Rattle.afdx_config.specs.Admission.{IsAdmitted, byte_ns, flows_to, links_to, links_from, sender_jitter}
+use Rattle.afdx_config.specs.Admission.{IsAdmitted, byte_ns, flows_to, links_to}
 use Rattle.afdx_config.specs.Switches.{NamedRows, named_rows, AreSwitches}
-use Rattle.afdx_config.specs.AtSwitch.{tables_at, link_at}
-use Rattle.afdx_config.specs.ChangedSwitches.{bare_link, bare, bare_switch, AreAlike}
+use Rattle.afdx_config.specs.AtSwitch.{tables_at}
+use Rattle.afdx_config.specs.ChangedSwitches.{bare_link, bare_switch, AreAlike}
 use Rattle.afdx_admit.specs.Lines.{jitter_at}
 use Rattle.afdx_admit.specs.Cascade.{RowAt, row_at, row_before, way_latency, is_sent_here, latency_within, late_behind}
 use Rattle.afdx_admit.specs.Cascade.{goes_to_system, IsHop, IsCascadeAdmitted}
@@ -30,15 +28,15 @@ use Rattle.afdx_admit.proofs.OutputLemmas.{left_some_at, rates_some}
 use Rattle.afdx_admit.proofs.SmallLemmas.{is_rate}
 use Rattle.afdx_admit.proofs.CascadeLemmas.{with_tables}
 use Rattle.afdx_solve.specs.declared.options.SolveOptions.{SolveOptions}
-use Rattle.afdx_solve.specs.Solved.{chosen, least_buffer, least_jitter, delay_to, latency_over, greatest_need}
+use Rattle.afdx_solve.specs.Solved.{chosen, least_buffer, least_jitter, delay_to}
 use Rattle.afdx_solve.specs.SolvedCascade.{late_before, jitter_needed, latency_needed, skew_needed, way_to_system}
-use Rattle.afdx_solve.specs.SolvedCascade.{TimesTake, KeysTake, IsSolution, IsEnough, AreTimesAtMost, AreAtMost}
-use Rattle.afdx_solve.specs.SolvedCascade.{IsLeastSolution, MayBecome, MayStandFor, CascadeIsLeast, LeastIsOne}
-use Rattle.afdx_solve.specs.Raising.{begun, begun_buffer, IsRising, IsSettledAt}
+use Rattle.afdx_solve.specs.SolvedCascade.{IsSolution, IsEnough, AreTimesAtMost, AreAtMost}
+use Rattle.afdx_solve.specs.SolvedCascade.{IsLeastSolution, MayBecome, CascadeIsLeast, LeastIsOne}
+use Rattle.afdx_solve.specs.Raising.{IsRising, IsSettledAt}
 use Rattle.afdx_solve.proofs.LeastLemmas.{div_ceil-least, jitter_at-stands, need-least, needs-least, delay-least}
 use Rattle.afdx_solve.proofs.LeastLemmas.{latency_over-least, low_stands}
 use Rattle.afdx_solve.proofs.ZipLemmas.{zip-from}
-use Rattle.afdx_solve.proofs.AtLemmas.{link-at, at-link, alike-tables, alike-link}
+use Rattle.afdx_solve.proofs.AtLemmas.{link-at}
 use Rattle.afdx_solve.proofs.RaisingLemmas.{settled-takes}
 use Rattle.afdx_solve.proofs.BeginLemmas.{lawful-at}
 

@@ -1,8 +1,8 @@
 -- One row, or one buffer, that is raised to what it needs.
-use Rattle.std.proofs.Common.{◌≡◌, inl, inr, ◌⊎◌, ℕ, ◌+◌, ◌-◌, ◌<◌, ◌≤◌, min, max, Bool, true, false, List, [], ◌∷◌, length, Option, Some}
+use Rattle.std.proofs.Common.{◌≡◌, inl, inr, ℕ, ◌<◌, ◌≤◌, min, Bool, true, false, List, [], ◌∷◌, length, Some}
 use Rattle.std.proofs.Common.{slice_get, slice_index, nat_lt, if◌then◌else◌, refl, sym, ap, ◌∙◌, subst, arith}
 use Rattle.std.specs.List.{AllByRecursion}
-use Rattle.std.proofs.lemmas.Bool.{lt-ltb, ltb-true}
+use Rattle.std.proofs.lemmas.Bool.{lt-ltb}
 use Rattle.afdx_frame.specs.Lengths.{least_frame, greatest_buffer}
 use Rattle.afdx_config.specs.declared.rows.Times.{Times}
 use Rattle.afdx_config.specs.Rows.{LinkRow, Rows}
@@ -17,13 +17,13 @@ use Rattle.afdx_admit.specs.Cascade.{RowAt, row_at}
 use Rattle.afdx_admit.specs.Lines.{jitter_at}
 use Rattle.afdx_solve.specs.declared.options.SolveOptions.{SolveOptions}
 use Rattle.afdx_solve.specs.Solved.{chosen, least_buffer, latency_over, delay_to, least_jitter}
-use Rattle.afdx_solve.specs.SolvedCascade.{jitter_needed, latency_needed, skew_needed, late_before, way_to_system}
+use Rattle.afdx_solve.specs.SolvedCascade.{jitter_needed, latency_needed, skew_needed, late_before}
 use Rattle.afdx_solve.specs.SolvedCascade.{AreAtMost, AreTimesAtMost, TimesTake}
-use Rattle.afdx_solve.specs.Raising.{IsRising, left_of, left, Raises, raised_times, IsMoreIn, raising, AreTimesSettled, AreDelaysBy}
+use Rattle.afdx_solve.specs.Raising.{IsRising, left_of, Raises, raised_times, IsMoreIn, AreTimesSettled, AreDelaysBy}
 use Rattle.afdx_solve.specs.declared.delays.Delays.{Delays}
 use Rattle.afdx_solve.specs.Delays.{of_class}
 use Rattle.afdx_solve.proofs.DelayLemmas.{chosen-within, latency_over-some, latency_over-same}
-use Rattle.afdx_solve.proofs.AtLemmas.{link-at, at-link, link-one, tables-one, IsRowOf, times-cases, times-buffer, buffer-cases}
+use Rattle.afdx_solve.proofs.AtLemmas.{link-at, link-one, tables-one, times-cases, times-buffer, buffer-cases}
 use Rattle.afdx_solve.proofs.AtLemmas.{buffer-links}
 use Rattle.afdx_solve.proofs.RaisingLemmas.{raised-more, raised-takes, TimesTaken, AreTaken, step, left-times, left-buffer}
 

@@ -1,28 +1,25 @@
 -- Values that were raised to what they need, or to less, are still at or below all that are enough.
-use Rattle.std.proofs.Common.{◌≡◌, inl, inr, ◌⊎◌, ℕ, zero, suc, ◌+◌, ◌-◌, ◌<◌, ◌≤◌, min, max, Bool, true, false, ◌||◌, List, [], ◌∷◌}
-use Rattle.std.proofs.Common.{Option, Some, None, slice_get, if◌then◌else◌, refl, sym, ap, ◌∙◌, subst, arith}
+use Rattle.std.proofs.Common.{◌≡◌, ℕ, zero, suc, ◌+◌, ◌-◌, ◌<◌, ◌≤◌, Bool, true, false, ◌||◌, List, [], ◌∷◌}
+use Rattle.std.proofs.Common.{Some, slice_get, refl, sym, ap, ◌∙◌, arith}
 use Rattle.std.proofs.lemmas.Option.{same_Some}
 use Rattle.afdx_frame.specs.Lengths.{greatest_buffer}
 use Rattle.afdx_config.specs.declared.rows.Times.{Times}
 use Rattle.afdx_config.specs.Rows.{LinkRow, Rows}
-use Rattle.afdx_config.specs.Changed.{with_times, changed_at, with_link_at, with_buffer}
-use Rattle.afdx_config.specs.Lawful.{jitter_from_any}
+use Rattle.afdx_config.specs.Changed.{with_times, changed_at}
 use Rattle.afdx_config.specs.Switches.{NamedRows, named_rows}
 use Rattle.afdx_config.specs.AtSwitch.{tables_at, link_at}
-use Rattle.afdx_config.specs.ChangedSwitches.{changed_switch, with_times_at, with_buffer_at, bare_link, bare, bare_switch, AreAlike}
-use Rattle.afdx_config.proofs.ChangedSwitchesLemmas.{alike-changed, bare-times}
+use Rattle.afdx_config.specs.ChangedSwitches.{changed_switch, with_times_at, with_buffer_at, AreAlike}
 use Rattle.afdx_admit.specs.Cascade.{row_at}
 use Rattle.afdx_admit.proofs.CascadeLemmas.{with_tables}
 use Rattle.afdx_solve.specs.declared.options.SolveOptions.{SolveOptions}
 use Rattle.afdx_solve.specs.Solved.{chosen, least_buffer}
-use Rattle.afdx_solve.specs.SolvedCascade.{jitter_needed, latency_needed, skew_needed, TimesTake, KeysTake, IsEnough}
+use Rattle.afdx_solve.specs.SolvedCascade.{jitter_needed, latency_needed, skew_needed}
 use Rattle.afdx_solve.specs.SolvedCascade.{AreAtMost, AreTimesAtMost}
-use Rattle.afdx_solve.specs.Raising.{begun, begun_buffer, IsNoLessThanBegun, IsRising, left_of, left_at, left, Raises}
+use Rattle.afdx_solve.specs.Raising.{begun, IsNoLessThanBegun, IsRising, left_of, left_at, left, Raises}
 use Rattle.afdx_solve.proofs.ZipLemmas.{zip-at}
 use Rattle.afdx_solve.proofs.RiseLemmas.{LinkRises, RowsRise, latency-rises, buffer-rises}
 use Rattle.afdx_solve.proofs.WayRiseLemmas.{SwitchRises, RowAtRises, all-rise, jitter-rises, skew-rises}
-use Rattle.afdx_solve.proofs.AtLemmas.{link-at, at-link, link-one, tables-one, alike-tables, alike-link, times-cases}
-use Rattle.afdx_solve.proofs.AtLemmas.{times-buffer, buffer-cases, buffer-links}
+use Rattle.afdx_solve.proofs.AtLemmas.{link-at, at-link, link-one, tables-one, alike-tables, alike-link}
 
 -- ---- what a key takes
 

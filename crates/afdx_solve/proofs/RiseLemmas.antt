@@ -1,8 +1,8 @@
 -- What tables need rises with their jitters and latencies: of a port, a sender and a switch.
-use Rattle.std.proofs.Common.{◌≡◌, ℕ, zero, suc, ◌+◌, ◌*◌, ◌-◌, ◌/◌, ◌<◌, ◌≤◌, min, max, Bool, true, false, List, [], ◌∷◌, length, map}
+use Rattle.std.proofs.Common.{◌≡◌, ℕ, zero, suc, ◌+◌, ◌*◌, ◌-◌, ◌/◌, ◌<◌, ◌≤◌, max, Bool, true, false, List, [], ◌∷◌, length}
 use Rattle.std.proofs.Common.{Option, Some, None, slice_get, nat_eq, nat_lt, if◌then◌else◌, refl, sym, ap, ◌∙◌, subst, arith}
 use Rattle.std.specs.Int.{div_ceil}
-use Rattle.std.specs.List.{AllZip, list_any}
+use Rattle.std.specs.List.{AllZip}
 use Rattle.std.specs.Option.{option_map_or}
 use Rattle.std.proofs.lemmas.Grind.{div_ceil_times}
 use Rattle.std.proofs.Math.Nat.{mul-le-mul_right, mul-le-mul_left}
@@ -14,7 +14,7 @@ use Rattle.afdx_config.specs.Rows.{SystemRow, LinkRow, Rows, is_to}
 use Rattle.afdx_config.specs.Flows.{flow_of_link, regulation_of_link}
 use Rattle.afdx_config.specs.Admission.{byte_ns, links_to, links_from, flows_to, sender_jitter}
 use Rattle.afdx_config.specs.ChangedSwitches.{bare_link, bare}
-use Rattle.afdx_admit.specs.Lines.{LoadedOutput, loaded_output_to, high_bound_of, low_bound_of, buffer_need_of, jitter_at}
+use Rattle.afdx_admit.specs.Lines.{loaded_output_to, high_bound_of, low_bound_of, buffer_need_of, jitter_at}
 use Rattle.afdx_solve.specs.Solved.{class_bound, in_us, delay_to, latency_over, need_to, greatest_need, least_buffer}
 use Rattle.afdx_solve.specs.SolvedCascade.{AreTimesAtMost, latency_needed}
 use Rattle.std.proofs.lemmas.Bool.{ltb-true}

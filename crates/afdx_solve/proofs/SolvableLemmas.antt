@@ -1,7 +1,7 @@
 -- Where any values that the keys may have are admitted, the least solution is.
-use Rattle.std.proofs.Common.{◌≡◌, inl, inr, ◌⊎◌, ℕ, zero, suc, ◌+◌, ◌*◌, ◌-◌, ◌<◌, ◌≤◌, min, max, Bool, true, false, cond, ◌||◌}
+use Rattle.std.proofs.Common.{◌≡◌, inl, inr, ◌⊎◌, ℕ, zero, suc, ◌*◌, ◌-◌, ◌<◌, ◌≤◌, min, max, Bool, true, false, cond, ◌||◌}
 use Rattle.std.proofs.Common.{List, [], ◌∷◌, length, map, Option, Some, None, slice_get, nat_eq, nat_lt, if◌then◌else◌}
-use Rattle.std.proofs.Common.{refl, sym, ap, ◌∙◌, subst, arith, Contains, All, option_map, option_and_then}
+use Rattle.std.proofs.Common.{refl, sym, ap, ◌∙◌, subst, arith, Contains, option_map, option_and_then}
 use Rattle.std.specs.Int.{div_ceil}
 use Rattle.std.specs.List.{AllByRecursion, AllZip, list_any}
 use Rattle.std.specs.Option.{option_map_or, unwrap_or}
@@ -9,21 +9,20 @@ use Rattle.std.proofs.lemmas.Bool.{cases_lt, lt-ltb, eqb-true}
 use Rattle.std.proofs.lemmas.Bool.Decides.{nat_tests}
 use Rattle.std.proofs.lemmas.Grind.{div_ceil_times}
 use Rattle.std.proofs.lemmas.List.Elements.{All-contains, All-from_recursion}
-use Rattle.std.proofs.lemmas.Option.{same_Some, slice_get_within}
+use Rattle.std.proofs.lemmas.Option.{slice_get_within}
 use Rattle.std.proofs.Math.Nat.{mul-le-mul_right}
-use Rattle.afdx_frame.specs.declared.link.Priority.{Priority}
 use Rattle.afdx_frame.specs.declared.link.Priority.TheVariants.{High, Low}
 use Rattle.afdx_frame.specs.Regulation.{byte_units}
 use Rattle.afdx_frame.specs.Flows.{Flow, IsPortAdmitted, burst, load, high_load, high_wait, low_wait}
-use Rattle.afdx_frame.proofs.ListLemmas.{AllByRecursion-slice_get, slice_get-within}
+use Rattle.afdx_frame.proofs.ListLemmas.{AllByRecursion-slice_get}
 use Rattle.afdx_config.specs.Rows.{SystemRow, LinkRow, Rows, is_to}
 use Rattle.afdx_config.specs.Flows.{flow_of_link}
 use Rattle.afdx_config.specs.Lawful.{IsLinkUpTo, IsLawfulSwitch, IsSystem, jitter_from_any}
 use Rattle.afdx_config.specs.Admission.{IsAdmitted, byte_ns, flows_to, links_to, links_from, sender_jitter}
 use Rattle.afdx_config.specs.Switches.{NamedRows, AreSwitches, switch_named, neighbour_named}
-use Rattle.afdx_config.specs.AtSwitch.{tables_at, link_at}
+use Rattle.afdx_config.specs.AtSwitch.{tables_at}
 use Rattle.afdx_config.specs.ChangedSwitches.{bare, AreAlike}
-use Rattle.afdx_admit.specs.Lines.{jitter_at, high_bound_of, loaded_output_to, buffer_need_of}
+use Rattle.afdx_admit.specs.Lines.{jitter_at, high_bound_of, buffer_need_of}
 use Rattle.afdx_solve.specs.declared.options.SolveOptions.{SolveOptions}
 use Rattle.afdx_solve.specs.Solved.{chosen, least_buffer, least_jitter, delay_to, latency_over, need_to, greatest_need, in_us}
 use Rattle.afdx_admit.specs.Cascade.{RowAt, row_at, row_of, row_before, way_latency, late_behind, same_contract}

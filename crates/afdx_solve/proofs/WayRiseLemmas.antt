@@ -1,23 +1,21 @@
 -- What a row needs rises with the jitters and latencies of all switches.
-use Rattle.std.proofs.Common.{◌≡◌, ℕ, zero, suc, ◌+◌, ◌≤◌, min, max, Bool, true, false, List, map, length, Option, Some, None}
-use Rattle.std.proofs.Common.{slice_get, option_map, option_and_then, nat_le, nat_lt, if◌then◌else◌, refl, sym, ap, ◌∙◌, subst, arith}
+use Rattle.std.proofs.Common.{◌≡◌, ℕ, zero, suc, ◌+◌, ◌≤◌, min, Bool, true, false, List, length, Option, Some, None}
+use Rattle.std.proofs.Common.{slice_get, option_map, option_and_then, nat_lt, if◌then◌else◌, refl, sym, ap, ◌∙◌, subst, arith}
 use Rattle.std.specs.List.{AllZip}
 use Rattle.std.specs.Option.{option_map_or, unwrap_or}
 use Rattle.std.proofs.lemmas.List.Elements.{length_all_zip}
 use Rattle.afdx_config.specs.Rows.{SystemRow, LinkRow, Rows, is_to}
 use Rattle.afdx_config.specs.Reading.{link_of}
 use Rattle.afdx_config.specs.Lawful.{jitter_from_any}
-use Rattle.afdx_config.specs.Switches.{NamedRows, named_rows, switch_named, neighbour_named}
-use Rattle.afdx_config.specs.AtSwitch.{tables_at, link_at}
-use Rattle.afdx_config.specs.ChangedSwitches.{bare_link, bare, bare_switch, AreAlike}
+use Rattle.afdx_config.specs.Switches.{NamedRows, switch_named, neighbour_named}
+use Rattle.afdx_config.specs.ChangedSwitches.{bare_link, bare_switch, AreAlike}
 use Rattle.afdx_config.proofs.BareLemmas.{link_of-bare, switch_named-bare}
 use Rattle.afdx_admit.specs.Cascade.{RowAt, row_at, row_of, neighbour_of, goes_towards, row_towards, row_from, row_before}
 use Rattle.afdx_admit.specs.Cascade.{is_sent_here, latency_within, way_latency, late_behind, goes_to_system}
 use Rattle.afdx_admit.specs.Lines.{jitter_at}
-use Rattle.afdx_admit.proofs.CascadeLemmas.{with_tables}
 use Rattle.afdx_solve.specs.Solved.{least_jitter}
-use Rattle.afdx_solve.specs.SolvedCascade.{AreAtMost, AreTimesAtMost, late_before, jitter_needed, skew_needed, way_to_system}
-use Rattle.afdx_solve.proofs.ZipLemmas.{OptionZip, zip-get, zip-at, zip-then, zip-map, zip-or, zip-from, zip-unwrap}
+use Rattle.afdx_solve.specs.SolvedCascade.{AreAtMost, late_before, jitter_needed, skew_needed, way_to_system}
+use Rattle.afdx_solve.proofs.ZipLemmas.{OptionZip, zip-get, zip-then, zip-map, zip-or, zip-from, zip-unwrap}
 use Rattle.afdx_solve.proofs.RiseLemmas.{LinkRises, RowsRise, jitter_at-same}
 
 pub record SwitchRises (s v : NamedRows) : Type 0 where

@@ -130,6 +130,15 @@ pub record MayStandFor (o : SolveOptions) (file others : List NamedRows) : Type 
       link_at others k i ≡ Some l →
       MayHaveTimes o f l
 
+-- none of these is admitted
+abbrev pub NoneIsAdmitted : SolveOptions → (file : List NamedRows) → Type 0
+NoneIsAdmitted o file =
+    (others : List NamedRows) →
+    AreSwitches others →
+    MayStandFor o file others →
+    IsCascadeAdmitted others →
+    ⊥
+
 -- no admitted cascade that differs in keys which may be changed alone has a smaller value anywhere
 abbrev pub CascadeIsLeast : Type 0
 CascadeIsLeast =

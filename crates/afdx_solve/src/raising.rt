@@ -5,6 +5,7 @@ ghost use Rattle.std.specs.Prelude.{ℕ, false};
 ghost use Rattle.afdx_config.specs.Rows.{Rows, LinkRow, link_row};
 ghost use Rattle.afdx_config.specs.Changed.{with_times};
 ghost use Rattle.afdx_config.specs.AtSwitch.{tables_at, link_at};
+ghost use Rattle.afdx_config.specs.Switches.{AreSwitches};
 ghost use Rattle.afdx_admit.specs.Sums.{AreJitters};
 ghost use Rattle.afdx_solve.specs.Raising as spec;
 ghost use Rattle.afdx_solve.specs.SolvedCascade.{AreTimesAtMost};
@@ -142,6 +143,7 @@ pub(crate) fn raise_all(switches: &mut Switches, options: SolveOptions) -> bool
     ensures raises { Raises options switches.old switches.new result }
     ensures settled { result ≡ false → (k : ℕ) → k < length switches.new →
         IsSettledAt options switches.new k }
+    ensures switches { AreSwitches switches.old }
 {
     let count = switches.count();
     let mut raised = false;
