@@ -1,5 +1,7 @@
 //! The least values of the base network.
 
+mod switches;
+
 use afdx_admit::{AdmitFault, Admitted};
 use afdx_config::{KeptKeys, Tables, Times, read_to_solve, read_to_solve_asking};
 use afdx_samples::{base, changed, equal, read};
