@@ -1,5 +1,7 @@
 //! The least values of the base network.
 
+mod switches;
+
 use afdx_admit::{AdmitFault, Admitted};
 use afdx_config::{KeptKeys, Tables, Times, ToSolve, read_file_to_solve, read_to_solve};
 use afdx_samples::{base, changed, equal, read};
