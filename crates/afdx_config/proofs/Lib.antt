@@ -10,4 +10,6 @@ pub mod LookUpLemmas
 pub mod InSwitchLemmas
 pub mod NumberLemmas
 pub mod OverLemmas
+pub mod BareLemmas
+pub mod ChangedSwitchesLemmas
 pub mod TakenLemmas

@@ -11,6 +11,8 @@ pub mod Asked
 pub mod New
 pub mod Lawful
 pub mod Switches
+pub mod AtSwitch
+pub mod ChangedSwitches
 pub mod Files
 pub mod ToSolve
 pub mod Flows

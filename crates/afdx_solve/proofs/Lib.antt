@@ -1,4 +1,14 @@
 pub mod DelayLemmas
+pub mod ZipLemmas
+pub mod AtLemmas
+pub mod RiseLemmas
+pub mod WayRiseLemmas
+pub mod RaisingLemmas
+pub mod RaisedLemmas
+pub mod LoopLemmas
+pub mod BeginLemmas
+pub mod CascadeLeastLemmas
+pub mod SolvableLemmas
 pub mod LeastLemmas
 pub mod RowLemmas
 pub mod SameLemmas
