@@ -59,7 +59,8 @@ use Rattle.afdx_replay.specs.cascading.Items.{BeginsItems, TellsAll, TellsItems}
 use Rattle.afdx_replay.specs.cascading.Ran.{Answers, HearsSoFar, WritesAll, WritesList, WritesSoFar, WritesSome, lists}
 use Rattle.afdx_replay.specs.cascading.Sited.{IsAtPlace, IsAtSite, cables_of, has_cable, lines_in, site_of, sited_frames}
 use Rattle.afdx_replay.specs.cascading.Sited.{sites_of}
-use Rattle.afdx_replay.specs.cascading.Text.{cascade_text, name_of}
+use Rattle.afdx_replay.specs.cascading.Text.{cascade_text}
+use Rattle.afdx_inputs.specs.ListText.{switch_name}
 use Rattle.afdx_replay.specs.cascading.Told.{AreSteady, HasTold, SystemsAre, latest_line}
 use Rattle.afdx_replay.specs.declared.cascading.run.Cascading.{Cascading}
 use Rattle.afdx_replay.specs.declared.cascading.teller.Teller.{Teller}
@@ -71,7 +72,7 @@ use Rattle.afdx_replay.proofs.CascadeRunLemmas.{told-some, told-so-far}
 
 -- ---- the lines of a list
 
-pub same-site : (site : NamedCables) (ss : List NamedRows) (k : ℕ) → site.name ≡ name_of ss k
+pub same-site : (site : NamedCables) (ss : List NamedRows) (k : ℕ) → site.name ≡ switch_name ss k
     → site.cables ≡ cables_of ss k → site ≡ site_of ss k
 same-site site ss k name cables =
     let named : List ℕ → List Bool → NamedCables = λ n c. record { name = n; cables = c } in
