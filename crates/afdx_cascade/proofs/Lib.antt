@@ -42,3 +42,5 @@ pub mod WholeLemmas
 pub mod ReadLemmas
 pub mod EndToEndLemmas
 pub mod AloneLemmas
+pub mod MessageLemmas
+pub mod KeptLemmas

@@ -18,3 +18,5 @@ pub mod TwoHops
 pub mod Parts
 pub mod Admitted
 pub mod EndToEnd
+pub mod Receivers
+pub mod Kept

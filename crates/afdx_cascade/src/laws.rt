@@ -28,6 +28,9 @@ ghost use Rattle.afdx_cascade.specs.EndToEnd.{EachPortHasAWay, LinksLeave, First
 ghost use Rattle.afdx_cascade.specs.EndToEnd.{NoOthersLeave};
 ghost use Rattle.afdx_cascade.specs.EndToEnd.{OwnAreOfList, ReasonsAreAlone, LinksAreAlone};
 ghost use Rattle.afdx_cascade.specs.EndToEnd.{OnlyItsWayIsAccepted};
+ghost use Rattle.afdx_cascade.specs.Receivers.{MessagesComeOnce, OneSideIsEnough};
+ghost use Rattle.afdx_cascade.specs.Receivers.{MessagesComeSoFar, FirstMessagesCome};
+ghost use Rattle.afdx_cascade.specs.Kept.{CascadeKeepsEndToEnd, CascadeKeepsSoFar};
 
 use afdx_frame::laws::built_is_computed;
 
@@ -225,3 +228,26 @@ pub fn links_are_alone()
     ensures frames { LinksAreAlone }
     ensures way { OnlyItsWayIsAccepted }
 {}
+
+/// Exactly once through an admitted cascade: where a link's lawful stream comes to its first switch
+/// at its sender's port, on both sides or on one, each system that the link goes to, at whichever
+/// switch, is told the messages to its UDP ports, each once and in order. Where only the first of
+/// it comes on each side, they are those as far as one of the sides has come. Before all events are
+/// over they are those as far as its frames have left for the system on one of the sides.
+pub fn messages_come_end_to_end()
+    ensures all { MessagesComeOnce }
+    ensures one_side { OneSideIsEnough }
+    ensures so_far { MessagesComeSoFar }
+    ensures first { FirstMessagesCome }
+{
+    built_is_computed()
+}
+
+/// All that an admitted cascade keeps from end to end, of all its events and of the first of them:
+/// accepted once is accepted everywhere; what leaves, and when; alone; exactly once.
+pub fn cascades_keep_end_to_end()
+    ensures all { CascadeKeepsEndToEnd }
+    ensures so_far { CascadeKeepsSoFar }
+{
+    built_is_computed()
+}
