@@ -282,6 +282,7 @@ module _ (ss : List NamedRows) (so_far : List SwitchEvent) (r : RowAt) (before :
       -- the lines of these events tell the messages of the frames that left
       told : messages_at system r (told_by t events)
           ≡ heard_by ss system r (take (max (length (xs A)) (length (xs B))) messages)
+      unfolding to
       told =
           let hop = hop-is ss so_far r all way.row in
           told-by-slots computed t (came_to r.switch so_far) run later events are system hop.place way.receiver

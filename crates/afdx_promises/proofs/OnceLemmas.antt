@@ -289,6 +289,7 @@ module _ (computed : BuiltIsComputed) (t : Rows) (arrivals : List Arrival) (syst
       ≡ filter (λ m. has_port t.ports system l.vl m.udp)
       (take (max (length (at_own_port t l A arrivals)) (length (at_own_port t l B arrivals)))
       messages)
+  unfolding stream-to
   come-so-far =
       from-slots computed t system place l messages stream run.lawful at goes stream-to came
       (λ side. at_own_port t l side arrivals) (λ side. turns_at t side s.port arrivals) are.in_order are.by_side
