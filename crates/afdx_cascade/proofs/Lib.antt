@@ -44,3 +44,5 @@ pub mod EndToEndLemmas
 pub mod AloneLemmas
 pub mod MessageLemmas
 pub mod KeptLemmas
+pub mod SamePlanLemmas
+pub mod TwoHopsMessageLemmas

@@ -1,5 +1,5 @@
 -- Exactly once through an admitted cascade.
-use Rattle.std.proofs.Common.{◌≡◌, ℕ, ◌+◌, ◌*◌, ◌<◌, ◌≤◌, ◌==◌, Bool, true, false, ◌||◌, List, [], ◌∷◌, ◌++◌}
+use Rattle.std.proofs.Common.{◌≡◌, ℕ, suc, ◌+◌, ◌*◌, ◌<◌, ◌≤◌, ◌==◌, Bool, true, false, ◌||◌, List, [], ◌∷◌, ◌++◌}
 use Rattle.std.proofs.Common.{length, map, filter, take, refl, sym, ap, ◌∙◌, subst, arith, nat_eq, nat_lt}
 use Rattle.std.proofs.Common.{Some, slice_get}
 use Rattle.std.specs.Prelude.{max, if◌then◌else◌}
@@ -88,7 +88,7 @@ as-many : (delay : ℕ) (came left : List Arrival) → EachLeaves delay came lef
 as-many delay [] [] each = refl
 as-many delay [] (y ∷ left) each = absurd each
 as-many delay (x ∷ came) [] each = absurd each
-as-many delay (x ∷ came) (y ∷ left) each = ap (λ n. n + 1) (as-many delay came left each.1)
+as-many delay (x ∷ came) (y ∷ left) each = ap suc (as-many delay came left each.1)
 
 first-gone : (side : Side) (stream : List Sending) (waiting gone : List Arrival)
     → AreFirstOf side stream (waiting ++ gone) → AreFirstOf side stream gone

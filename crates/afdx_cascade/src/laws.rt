@@ -16,7 +16,7 @@ ghost use Rattle.afdx_cascade.specs.Due.{TurnComesNext, FrameComesNext};
 ghost use Rattle.afdx_cascade.specs.Found.{ScanFindsLeast, NothingIsDue};
 ghost use Rattle.afdx_cascade.specs.Standing.{NothingHappened, LineArrives, FrameArrives};
 ghost use Rattle.afdx_cascade.specs.Standing.{TurnEnds, FrameIsCarried};
-ghost use Rattle.afdx_cascade.specs.TwoHops.{FramePassesBoth};
+ghost use Rattle.afdx_cascade.specs.TwoHops.{FramePassesBoth, MessagePassesBoth};
 ghost use Rattle.afdx_cascade.specs.Plans.{SwitchesAreAPlan};
 ghost use Rattle.afdx_cascade.specs.Keeping.{StartKeeps, TurnKeeps};
 ghost use Rattle.afdx_cascade.specs.Keeping.{FrontCanArrive, FrontKeeps, LineKeeps};
@@ -177,9 +177,11 @@ pub fn arrivals_go_on()
 {}
 
 /// The premises of the laws of events can be met: by a list whose one frame passes two switches, in
-/// four events.
+/// four events. These are all events of two switches that are admitted together; the frame came on
+/// one side, and the system at the second switch is told its message, once.
 pub fn events_can_be_met()
-    ensures { FramePassesBoth }
+    ensures frame { FramePassesBoth }
+    ensures message { MessagePassesBoth }
 {
     built_is_computed()
 }
