@@ -46,3 +46,5 @@ pub mod MessageLemmas
 pub mod KeptLemmas
 pub mod SamePlanLemmas
 pub mod TwoHopsMessageLemmas
+pub mod LinesLemmas
+pub mod ReleasedLemmas

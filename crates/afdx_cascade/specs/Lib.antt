@@ -20,3 +20,4 @@ pub mod Admitted
 pub mod EndToEnd
 pub mod Receivers
 pub mod Kept
+pub mod Released

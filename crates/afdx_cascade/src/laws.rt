@@ -9,7 +9,7 @@ ghost use Rattle.afdx_cascade.specs.Examples.{PremisesAreMet};
 ghost use Rattle.afdx_cascade.specs.Once.{AcceptsAtMostListed, AcceptsLineOnce, EventsAreFew};
 ghost use Rattle.afdx_cascade.specs.Once.{EventsAreCounted};
 ghost use Rattle.afdx_cascade.specs.Parts.{SwitchBeginsAlone, SwitchRunsAlone, CablesBringAll};
-ghost use Rattle.afdx_cascade.specs.Parts.{ListedIsListed, EventsAreOfList};
+ghost use Rattle.afdx_cascade.specs.Parts.{ListedIsListed, PortsGetTheirLines, EventsAreOfList};
 ghost use Rattle.afdx_cascade.specs.Runs.{EventsBegin, EventsAreOne};
 ghost use Rattle.afdx_cascade.specs.Again.{BroughtIsAccepted};
 ghost use Rattle.afdx_cascade.specs.Due.{TurnComesNext, FrameComesNext};
@@ -30,6 +30,8 @@ ghost use Rattle.afdx_cascade.specs.EndToEnd.{OwnAreOfList, ReasonsAreAlone, Lin
 ghost use Rattle.afdx_cascade.specs.EndToEnd.{OnlyItsWayIsAccepted};
 ghost use Rattle.afdx_cascade.specs.Receivers.{MessagesComeOnce, OneSideIsEnough};
 ghost use Rattle.afdx_cascade.specs.Receivers.{MessagesComeSoFar, FirstMessagesCome};
+ghost use Rattle.afdx_cascade.specs.Released.{ReleasedComeOnce, ReleasedComeSoFar};
+ghost use Rattle.afdx_cascade.specs.Released.{OneSideBringsAll};
 ghost use Rattle.afdx_cascade.specs.Kept.{CascadeKeepsEndToEnd, CascadeKeepsSoFar};
 
 use afdx_frame::laws::built_is_computed;
@@ -105,11 +107,13 @@ pub fn cables_bring_all()
     ensures { CablesBringAll }
 {}
 
-/// The arrivals at ports where no cable is are those of the lines that were taken. Of any frames
+/// The arrivals at ports where no cable is are those of the lines that were taken, and at each such
+/// port of a switch those of the lines that name the switch and the port. Of any frames
 /// each switch accepts at most as many as the list has; all events of the list are few, and no
 /// others are.
 pub fn events_are_of_list()
     ensures listed { ListedIsListed }
+    ensures ports { PortsGetTheirLines }
     ensures all { EventsAreOfList }
 {}
 
@@ -241,6 +245,18 @@ pub fn messages_come_end_to_end()
     ensures one_side { OneSideIsEnough }
     ensures so_far { MessagesComeSoFar }
     ensures first { FirstMessagesCome }
+{
+    built_is_computed()
+}
+
+/// Where all that comes at the port of a link's sender, on both sides, is what it sent, in its
+/// order, each receiver of the link, at whichever switch, is told the released messages to its UDP
+/// ports, each once and in order of their releases. Where only the first of it comes on each side,
+/// they are told as far as one side has come; so, where on one side all comes, all are.
+pub fn released_come_end_to_end()
+    ensures once { ReleasedComeOnce }
+    ensures so_far { ReleasedComeSoFar }
+    ensures one_side { OneSideBringsAll }
 {
     built_is_computed()
 }
