@@ -102,8 +102,9 @@ def solve(config: bytes, options: Sequence[str] = ("--raise-only",)) -> Solved:
     said = run(["solve", *options], config)
     if said.status == 1:
         line = shown([*said.out.splitlines(), *said.errors][0])
-        is_unread = line.startswith("config ") and is_of_several(config)
-        return Solved("", [], SEVERAL if is_unread else line)
+        return Solved("", [], SEVERAL if is_of_several(config) else line)
+    if said.out.startswith("[[switch]]"):
+        return Solved("", [], SEVERAL)
     found = map(NEED.fullmatch, said.errors)
     return Solved(said.out, [Need(*map(int, match.groups())) for match in found if match], "")
 

@@ -36,7 +36,7 @@ pub use key_tables::{
     CASCADE_KEYS, Key, LINK_KEYS, NEIGHBOUR_KEYS, PORT_KEYS, SWITCH_KEYS, SYSTEM_KEYS, TOP_KEYS,
 };
 pub use key_texts::{UNKNOWN_KEYS, WIDER_KEYS};
-pub use read::{read_tables, read_to_solve, read_to_solve_asking};
+pub use read::{read_tables, read_to_solve};
 pub use reading_to_solve::{ToSolve, read_file_to_solve};
 pub use rows::{ComRow, KeptKeys, Kind, Link, System, SystemId, Times};
 pub use switches::{FarEnd, SwitchId, Switches};
