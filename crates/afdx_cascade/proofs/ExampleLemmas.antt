@@ -138,7 +138,9 @@ lawful-after = lawful-with receiver (neighbour (codes "fwd") 1) link_after (list
     (base.one-at (λ i (p : PortRow). p.system < 1) listening (omega arith))
 
 pub are-switches : AreSwitches switches
-unfolding is_name over_all name_lines systems_lines system_lines neighbours_lines neighbour_lines starts_lines start_lines switch_named own_named neighbour_named own_has_id starts home_of home_of_id start_of system_named link_of first_false each_from
+unfolding is_name over_all name_lines systems_lines system_lines neighbours_lines neighbour_lines starts_lines
+    start_lines switch_named own_named neighbour_named own_has_id starts home_of home_of_id start_of system_named
+    link_of first_false each_from
 are-switches = record {
   count = (omega arith, omega arith);
   names = (refl, (refl, tt));

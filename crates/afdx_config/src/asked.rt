@@ -39,7 +39,8 @@ fn latency_of(table: &Table) -> Option<u64>
 /// The tables that stand at a key; none where it has no list of them.
 #[tactic(auto, unfolding(crate::specs::Asked::listed))]
 fn listed(alloc: Global, table: &Table, at: At) -> Result<Vec<&Table>, ConfigFault>
-    ensures tables { IfOk result (λ v. trees v.items ≡ spec.listed (spot_of at) (table_view table.now)) }
+    ensures tables { IfOk result
+        (λ v. trees v.items ≡ spec.listed (spot_of at) (table_view table.now)) }
     ensures fault { IfErr result (λ e. e ≡ ConfigFault.Memory) }
 {
     match tables(alloc, table, at) {
