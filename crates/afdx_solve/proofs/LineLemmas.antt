@@ -107,7 +107,8 @@ pub record AreLines (es : List Expression) (text : List ℕ) : Type 0 where
 pub no-lines : AreLines [] []
 no-lines = record { lines = refl; printed = tt }
 
-pub one : (e : Expression) (text : List ℕ) → IsLineText false true e.0 e.1 text → IsPrinted e.0 e.1 → AreLines (e ∷ []) text
+pub one : (e : Expression) (text : List ℕ) → IsLineText false true e.0 e.1 text → IsPrinted e.0 e.1
+    → AreLines (e ∷ []) text
 one e text line printed = record { lines = (text, [], sym (append-nil text), line, refl); printed = (printed, tt) }
 
 both-printed : (es fs : List Expression) → AllPrinted es → AllPrinted fs → AllPrinted (es ++ fs)
@@ -126,7 +127,8 @@ headed : (path : List (List ℕ)) (k : List ℕ) → IsBare k → length path < 
     → AreLines (((path, k), array_table) ∷ []) (header (path_text path) k)
 headed path k bare shallow = one ((path, k), array_table) (header (path_text path) k) (line-header path k bare) shallow
 
-pub numbered : (k : List ℕ) (n : ℕ) → IsBare k → IsSmall n → AreLines (field_lines ((k, number n) ∷ [])) (number_line k n)
+pub numbered : (k : List ℕ) (n : ℕ) → IsBare k → IsSmall n
+    → AreLines (field_lines ((k, number n) ∷ [])) (number_line k n)
 numbered k n bare small =
     one (([], k), key_value (number n)) (number_line k n) (line-number k n bare small) (refl, omega arith, refl)
 

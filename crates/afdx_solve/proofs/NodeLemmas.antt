@@ -65,7 +65,8 @@ among-insert known j x (node l y ns) is all =
       | inr rest ↦ elim rest [
         | inl tie ↦ rw tie all
         | inr more ↦
-            let (here, later) = and_parts (list_any (λ key. bytes_eq key.name l) known) (are_among known (close ns)) all in
+            let (here, later) = and_parts (list_any (λ key. bytes_eq key.name l) known)
+            (are_among known (close ns)) all in
             rw (more, here) (among-insert known j x ns is later)
       ]
     ]

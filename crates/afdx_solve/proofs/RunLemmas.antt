@@ -119,7 +119,8 @@ module _ (k : List ℕ) (done : Items) (root : Nodes) where
   run-inside (e ∷ es) doc = rw (define-inside doc e.0 e.1) (by (define doc e) (λ next. run-inside es next))
     where
       by : (o : Option Document)
-          → ((next : Document) → run (inside k done root next) (under k es) ≡ option_map (inside k done root) (run next es))
+          → ((next : Document)
+          → run (inside k done root next) (under k es) ≡ option_map (inside k done root) (run next es))
           → option_and_then (λ next. run next (under k es)) (option_map (inside k done root) o)
           ≡ option_map (inside k done root) (option_and_then (λ next. run next es) o)
       by None later = refl
@@ -237,7 +238,8 @@ module _ {R : Type 0} (k : List ℕ) (fields : R → Fields) (nodes : R → Node
   as-elements (r ∷ rs) = rw (under-fields k (fields r), as-elements rs)
 
   pub rows-run : (rs : List R) (root : Nodes) (p : List (List ℕ)) → get_node k root ≡ None
-      → (q : List (List ℕ)) × (run (root, p) (rows_lines [] k fields rs) ≡ Some (with_node k (rows_node nodes rs) root, q))
+      → (q : List (List ℕ))
+      × (run (root, p) (rows_lines [] k fields rs) ≡ Some (with_node k (rows_node nodes rs) root, q))
   rows-run rs root p none =
       rw (as-elements rs)
       (elements-run k (λ r. field_lines (fields r)) nodes (λ r. ([], fields-made r)) rs root p none)

@@ -10,7 +10,8 @@ use Rattle.afdx_config.specs.Reading.{is_name}
 use Rattle.afdx_config.specs.Switches.{NamedRows}
 use Rattle.afdx_solve.specs.ConfigText.{text_line, top_text, system_text, link_text, port_text}
 use Rattle.afdx_solve.specs.CascadeText.{above, neighbour_text, parts_text, switch_text, cascade_text}
-use Rattle.afdx_solve.proofs.LineLemmas.{AreLines, AreAllLines, all-from, and, one, numbered, worded, all-lines, parts-lines, neighbour-lines, no-lines}
+use Rattle.afdx_solve.proofs.LineLemmas.{AreLines, AreAllLines, all-from, and, one, numbered, worded, all-lines}
+use Rattle.afdx_solve.proofs.LineLemmas.{parts-lines, neighbour-lines, no-lines}
 use Rattle.afdx_solve.proofs.FrontLemmas.{front, back}
 use Rattle.afdx_solve.proofs.NameLemmas.{IsWord}
 use Rattle.afdx_solve.proofs.ReadTopLemmas.{among}
@@ -67,7 +68,8 @@ module _ (s : NamedRows) (is : IsSwitch s) where
       (and (numbered (codes "profile") s.rows.profile refl (omega (arith, is.lawful.profile.1)))
       (numbered (codes "buffer") s.rows.buffer refl (omega (arith, is.lawful.buffer.1))))
 
-  neighbours-lines : AreLines (rows_lines (switch_key ∷ []) (codes "neighbour") neighbour_fields (drop s.rows.own s.rows.systems))
+  neighbours-lines : AreLines
+      (rows_lines (switch_key ∷ []) (codes "neighbour") neighbour_fields (drop s.rows.own s.rows.systems))
       (flat_map neighbour_text (drop s.rows.own s.rows.systems))
   unfolding neighbour_text key_text
   neighbours-lines = all-lines (switch_key ∷ []) (codes "neighbour") neighbour_fields neighbour_text

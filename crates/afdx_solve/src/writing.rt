@@ -1,7 +1,7 @@
 //! Tables as the text of a configuration.
 
-ghost use Rattle.std.specs.Prelude.{◌≡◌, ◌++◌, ◌<◌, ◌≤◌, length, take, map, string_bytes, IfOk, OnOk};
-ghost use Rattle.std.specs.Prelude.{codes};
+ghost use Rattle.std.specs.Prelude.{◌≡◌, ◌++◌, ◌<◌, ◌≤◌, length, take, map, string_bytes};
+ghost use Rattle.std.specs.Prelude.{IfOk, OnOk, codes};
 ghost use Rattle.std.specs.List.{AllByRecursion, flat_map};
 ghost use Rattle.afdx_config.specs.Rows.{AreKnown, system_row, link_row, port_row, system_places};
 ghost use Rattle.afdx_frame.specs.Ports.{last_port};

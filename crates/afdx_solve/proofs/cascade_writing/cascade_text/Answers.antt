@@ -18,7 +18,7 @@ loop-i-preserved c =
     let ss = c.args.switches.now in
     let i = c.loop-i.i in
     let at = at-switch ss i c.name-in-loop-i.result.now c.tables-in-loop-i.result.now
-        c.name-in-loop-i.ensures.name c.tables-in-loop-i.ensures.tables in
+    c.name-in-loop-i.ensures.name c.tables-in-loop-i.ensures.tables in
     record {
       some = omega (arith, c.loop-i.invariant.some);
       so_far = rw (c.in_ok-put_next.ensures, c.loop-i.invariant.so_far)
