@@ -72,7 +72,7 @@ ListedIsListed =
 abbrev pub frames_to : ℕ → List Line → List Arrival
 frames_to k lines = frames_of (filter (λ line. line.switch == k) lines)
 
--- What comes to a port where no cable is are the frames of its switch's lines there, in their order.
+-- What comes to a port where no cable is are the frames of its switch's lines there, in order.
 abbrev pub PortsGetTheirLines : Type 0
 PortsGetTheirLines =
     (c : Plan) (lines : List Line) (events : List SwitchEvent) (side : Side) (k port : ℕ) →
