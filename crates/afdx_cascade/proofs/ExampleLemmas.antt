@@ -1,10 +1,11 @@
 -- The example's numbers.
-use Rattle.std.proofs.Common.{◌≡◌, ℕ, zero, suc, ◌+◌, ◌*◌, ◌-◌, ◌<◌, ◌≤◌, Bool, true, false, not, List, [], ◌∷◌, length}
-use Rattle.std.proofs.Common.{map, refl, sym, ap, ◌∙◌, subst, arith, Some, slice_get}
+use Rattle.std.proofs.Common.{◌≡◌, ℕ, zero, suc, ◌+◌, ◌*◌, ◌-◌, ◌<◌, ◌≤◌, Bool, true, false, not, List, [], ◌∷◌, ◌++◌, length}
+use Rattle.std.proofs.Common.{map, refl, sym, ap, ◌∙◌, subst, arith, Some, None, slice_get}
 use Rattle.std.specs.Prelude.{codes, Contains, if◌then◌else◌}
 use Rattle.afdx_frame.specs.Flows.{Flow, IsPortAdmitted, high_wait, low_wait, high_load}
 use Rattle.afdx_frame.specs.Lines.{first_false, each_from}
 use Rattle.afdx_frame.specs.Reading.{BuiltIsComputed}
+use Rattle.afdx_frame.proofs.FirstFalseLemmas.{holds_append}
 use Rattle.afdx_frame.specs.Regulation.{byte_units}
 use Rattle.afdx_frame.specs.declared.link.Priority.TheVariants.{High, Low}
 use Rattle.afdx_frame.specs.declared.link.Side.TheVariants.{A}
@@ -137,15 +138,40 @@ lawful-after = lawful-with receiver (neighbour (codes "fwd") 1) link_after (list
     })
     (base.one-at (λ i (p : PortRow). p.system < 1) listening (omega arith))
 
+names-hold : first_false (each_from (name_lines switches) 0 2) ≡ None
+unfolding name_lines switch_named first_false each_from
+names-hold = refl
+
+systems-hold : first_false (each_from (systems_lines switches) 0 2) ≡ None
+unfolding systems_lines system_lines switch_named own_named system_named own_has_id home_of home_of_id first_false each_from
+systems-hold = refl
+
+neighbours-hold : first_false (each_from (neighbours_lines switches) 0 2) ≡ None
+unfolding neighbours_lines neighbour_lines switch_named neighbour_named system_named first_false each_from
+neighbours-hold = refl
+
+starts-hold : first_false (each_from (starts_lines switches) 0 2) ≡ None
+unfolding starts_lines start_lines start_of starts link_of first_false each_from
+starts-hold = refl
+
+all-hold : first_false (over_all switches) ≡ None
+unfolding over_all
+all-hold =
+    holds_append (each_from (name_lines switches) 0 2)
+    (each_from (systems_lines switches) 0 2
+    ++ (each_from (neighbours_lines switches) 0 2 ++ each_from (starts_lines switches) 0 2)) names-hold
+    (holds_append (each_from (systems_lines switches) 0 2)
+    (each_from (neighbours_lines switches) 0 2 ++ each_from (starts_lines switches) 0 2) systems-hold
+    (holds_append (each_from (neighbours_lines switches) 0 2) (each_from (starts_lines switches) 0 2) neighbours-hold
+    starts-hold))
+
 pub are-switches : AreSwitches switches
-unfolding is_name over_all name_lines systems_lines system_lines neighbours_lines neighbour_lines starts_lines
-    start_lines switch_named own_named neighbour_named own_has_id starts home_of home_of_id start_of system_named
-    link_of first_false each_from
+unfolding is_name
 are-switches = record {
   count = (omega arith, omega arith);
   names = (refl, (refl, tt));
   each = (lawful-before, (lawful-after, tt));
-  over = refl;
+  over = all-hold;
 }
 
 -- ---- they are admitted

@@ -68,6 +68,7 @@ use Rattle.afdx_replay.specs.replaying.Replayed.{Known}
 use Rattle.afdx_replay.specs.replaying.Command.{FileAnswers, FilePromises}
 use Rattle.afdx_replay.proofs.AdmittedRunLemmas.{if-known}
 use Rattle.afdx_replay.proofs.CascadePartLemmas.{no-parts}
+use Rattle.afdx_replay.proofs.SiteLemmas.{cable-is, site-at, sites-count}
 use Rattle.afdx_replay.proofs.CascadeRunLemmas.{told-some, told-so-far}
 
 -- ---- the lines of a list
@@ -113,32 +114,14 @@ no-end None e = refl
 no-end (Some f) e = absurd (true≢false e)
 
 module _ (ss : List NamedRows) where
-  pub sites-count : length (sites_of ss) ≡ length ss
-  unfolding sites_of
-  sites-count = length-map-range_with_len (site_of ss) 0 (length ss)
-
-  site-at : (k : ℕ) → k < length ss → slice_get (sites_of ss) k ≡ Some (site_of ss k)
-  unfolding sites_of
-  site-at k within =
-      let d = site_of ss 0 in
-      slice_get-get_or (sites_of ss) k d (omega (arith, within, sites-count))
-      ∙ ap Some (get_or-map-range_with_len (site_of ss) 0 (length ss) k k d within (omega arith))
-
-  cable-is : (k port : ℕ) → k < length ss → port ≤ last_port
-      → is_cable_at (sites_of ss) k port ≡ has_cable ss k port
-  unfolding is_cable_at
-  cable-is k port within low =
-      ap (λ o. option_map_or (λ (s : NamedCables). get_or s.cables port false) o false) (site-at k within)
-      ∙ get_or-map-range_with_len (has_cable ss k) 0 (last_port + 1) port port false (omega (arith, low))
-      (omega arith)
-
   at-place : (x : Item Heading) → IsAtSite (sites_of ss) x → IsAtPlace ss x
   at-place x is =
-      let within : x.head.switch < length ss = omega (arith, is.within, sites-count) in
+      let count = sites-count ss in
+      let within : x.head.switch < length ss = omega (arith, is.within, count) in
       record {
         within = within;
         free = no-end (far_end ss x.head.switch x.head.port)
-            (sym (cable-is x.head.switch x.head.port within is.port) ∙ is.free);
+            (sym (cable-is ss x.head.switch x.head.port within is.port) ∙ is.free);
       }
 
   -- each frame that the lines of a list say can be told
