@@ -21,7 +21,7 @@ use Rattle.afdx_solve.specs.CascadeText.{cascade_text}
 use Rattle.afdx_solve.specs.ConfigText.{config_text}
 use Rattle.afdx_solve.specs.Laws.{IsLeast}
 use Rattle.afdx_solve.specs.Solved.{solved}
-use Rattle.afdx_solve.specs.SolvedCascade.{IsLeastSolution, MayStandFor, AreAtMost}
+use Rattle.afdx_solve.specs.SolvedCascade.{IsLeastSolution, MayStandFor, AreAtMost, NoneIsAdmitted}
 use Rattle.afdx_solve.specs.declared.options.SolveOptions.{SolveOptions}
 use Rattle.afdx_lists.specs.Calls.{AppendsFront}
 use Rattle.afdx_lists.specs.Watching.{device_of, has_failed}
@@ -69,12 +69,12 @@ pub record IsSolutionOfSeveral (o : SolveOptions) (file : List NamedRows)
   pub told : needs ≡ cascade_needs_text switches asked
 
 -- The switches, with their keys at what they take, aren't admitted: this text is the first line of
--- admission that is false.
+-- admission that is false. Nor are any that the file could describe in their place.
 pub record IsDenialOfSeveral (o : SolveOptions) (file : List NamedRows) (text : List ℕ) :
     Type 0 where
   pub switches : List NamedRows
   pub solution : IsLeastSolution o file switches
-  pub denied : IsCascadeAdmitted switches → ⊥
+  pub none : NoneIsAdmitted o file
   pub fault : CascadeFault
   pub first : first_false (cascade_lines switches) ≡ Some fault
   pub said : text ≡ cascade_fault_line switches fault

@@ -44,7 +44,6 @@ pub fn solve_cascade(
     ensures solved { IfOk result (IsLeastSolution options switches) }
     ensures admitted { IfOk result IsCascadeAdmitted }
     ensures handed_back { IfErr result (λ e. IsLeastSolution options switches e.0) }
-    ensures denied { IfErr result (λ e. IsCascadeAdmitted e.0 → ⊥) }
     ensures first { IfErr result (λ e. first_false (cascade_lines e.0) ≡ Some e.1) }
     ensures known { IfErr result (λ e. IsKnownAt e.0 e.1) }
     ensures none { IsErr result → NoneIsAdmitted options switches }
