@@ -8,6 +8,7 @@ pub mod RaisedLemmas
 pub mod LoopLemmas
 pub mod BeginLemmas
 pub mod CascadeLeastLemmas
+pub mod FitLemmas
 pub mod SolvableLemmas
 pub mod LeastLemmas
 pub mod RowLemmas

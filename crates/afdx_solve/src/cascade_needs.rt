@@ -20,8 +20,8 @@ use afdx_admit::{goes_to_system, late_behind, latency_of, row_before};
 use afdx_config::{Link, SwitchId, Switches, Tables, Times};
 use afdx_frame::GREATEST_DELAY_US;
 
-/// How late a frame may be behind the row before this one of a switch, in us; 0 where the way,
-/// whose latency is given, is broken.
+/// How late a frame may be behind the row before this one of a switch, in us; 0 where the way is
+/// broken, whose latency is given.
 #[tactic(auto, unfolding(crate::specs::SolvedCascade::late_before))]
 fn late_before(switches: &Switches, switch: SwitchId, link: &Link, way: Option<u64>) -> u64
     requires row { IsRowAt switches.now (row_at switch.0 (link_row link.now)) }
