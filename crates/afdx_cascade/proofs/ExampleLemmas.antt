@@ -9,7 +9,7 @@ use Rattle.afdx_frame.proofs.FirstFalseLemmas.{holds_append}
 use Rattle.afdx_frame.specs.Regulation.{byte_units}
 use Rattle.afdx_frame.specs.declared.link.Priority.TheVariants.{High, Low}
 use Rattle.afdx_frame.specs.declared.link.Side.TheVariants.{A}
-use Rattle.afdx_admit.specs.Cascade.{RowAt, row_at, row_before, is_sent_here, way_latency, reads}
+use Rattle.afdx_admit.specs.Cascade.{row_at, row_before, is_sent_here, way_latency, reads}
 use Rattle.afdx_admit.specs.Cascade.{IsHop as IsAdmittedHop, IsCascadeAdmitted}
 use Rattle.afdx_config.specs.Admission.{IsAdmitted, IsServing, byte_ns, flows_to, sender_jitter, links_from}
 use Rattle.afdx_config.specs.Flows.{flow_of_link}
@@ -42,7 +42,7 @@ use Rattle.afdx_promises.proofs.ExampleLemmas as base
 use Rattle.afdx_promises.proofs.PortLemmas.{its-turns}
 use Rattle.afdx_promises.proofs.PromiseLemmas.{goes-there}
 use Rattle.afdx_switch.proofs.StreamLemmas.{IsSendable, sendable-sound}
-use Rattle.afdx_cascade.specs.Cables.{IsHop, GoesOn, Gives, rule_at, accepted_at, all_turns, brought, brought_by}
+use Rattle.afdx_cascade.specs.Cables.{GoesOn, Gives, rule_at, accepted_at, all_turns, brought, brought_by}
 use Rattle.afdx_cascade.specs.Examples.{neighbour, switch_with, link_before, tables_before, link_after, listening}
 use Rattle.afdx_cascade.specs.Examples.{tables_after, switches, first_switch, second_switch, PremisesAreMet}
 use Rattle.afdx_cascade.specs.Ways.{IsWay}

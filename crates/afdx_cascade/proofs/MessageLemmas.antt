@@ -1,5 +1,5 @@
 -- Exactly once through an admitted cascade.
-use Rattle.std.proofs.Common.{◌≡◌, ℕ, suc, ◌+◌, ◌*◌, ◌<◌, ◌≤◌, ◌==◌, Bool, true, false, ◌||◌, List, [], ◌∷◌, ◌++◌}
+use Rattle.std.proofs.Common.{◌≡◌, ℕ, suc, ◌+◌, ◌*◌, ◌<◌, ◌≤◌, Bool, true, false, ◌||◌, List, [], ◌∷◌, ◌++◌}
 use Rattle.std.proofs.Common.{length, map, filter, take, refl, sym, ap, ◌∙◌, subst, arith, nat_eq, nat_lt}
 use Rattle.std.proofs.Common.{Some, slice_get}
 use Rattle.std.specs.Prelude.{max, if◌then◌else◌}
@@ -11,39 +11,38 @@ use Rattle.afdx_frame.specs.declared.link.Side.{Side}
 use Rattle.afdx_frame.specs.declared.link.Side.TheVariants.{A, B}
 use Rattle.afdx_frame.proofs.ListLemmas.{AllByRecursion-slice_get}
 use Rattle.afdx_config.specs.Lawful.{IsLink, IsLinkUpTo, jitter_from_any}
-use Rattle.afdx_config.specs.LawfulStream.{Sending, IsLawfulStream}
-use Rattle.afdx_config.specs.Rows.{SystemRow, LinkRow, Rows}
+use Rattle.afdx_config.specs.LawfulStream.{Sending}
+use Rattle.afdx_config.specs.Rows.{LinkRow, Rows}
 use Rattle.afdx_config.specs.SentList.{Message}
 use Rattle.afdx_config.specs.Switches.{NamedRows}
-use Rattle.afdx_admit.specs.Cascade.{RowAt, goes_to_system, is_sent_here, way_latency}
-use Rattle.afdx_police.specs.Arrival.{Arrival, names, own}
+use Rattle.afdx_admit.specs.Cascade.{RowAt, is_sent_here}
+use Rattle.afdx_police.specs.Arrival.{Arrival, own}
 use Rattle.afdx_port.specs.Schedule.{Turn}
-use Rattle.afdx_switch.specs.Admitted.{IsAdmittedRun, accepted_on, slots}
+use Rattle.afdx_switch.specs.Admitted.{IsAdmittedRun, slots}
 use Rattle.afdx_switch.specs.HeldFrames.{HeldFrame}
 use Rattle.afdx_switch.specs.Laws.{is_of}
-use Rattle.afdx_switch.specs.Streams.{at_own_port, AreFirstOf, IsStreamOf}
+use Rattle.afdx_switch.specs.Streams.{AreFirstOf}
 use Rattle.afdx_switch.specs.Switching.{taken_at}
-use Rattle.afdx_switch.specs.Tables.{goes_to}
 use Rattle.afdx_switch.proofs.StreamLemmas.{accepted-stream}
-use Rattle.afdx_network.specs.Events.{Event, turns_at, turns_on}
+use Rattle.afdx_network.specs.Events.{Event, turns_on}
 use Rattle.afdx_network.specs.Order.{events_of}
 use Rattle.afdx_network.proofs.OrderedLemmas.{are-events}
 use Rattle.afdx_promises.specs.Lines.{told_by}
-use Rattle.afdx_promises.proofs.BroughtLemmas.{AreLater, slots_of}
+use Rattle.afdx_promises.proofs.BroughtLemmas.{AreLater}
 use Rattle.afdx_promises.proofs.EventLemmas.{taken-at-port}
 use Rattle.afdx_promises.proofs.OnceLemmas.{IsStreamTo}
 use Rattle.afdx_promises.proofs.PromiseLemmas.{goes-there}
 use Rattle.afdx_promises.proofs.SentLemmas.{take-all}
 use Rattle.afdx_promises.proofs.ToldLemmas.{told-by-slots}
-use Rattle.afdx_cascade.specs.Admitted.{AreRowsBefore, IsAdmittedCascade, IsRow, hop_at, hops_at}
+use Rattle.afdx_cascade.specs.Admitted.{AreRowsBefore, IsAdmittedCascade, IsRow, hops_at}
 use Rattle.afdx_cascade.specs.Cables.{brought, brought_by, named}
-use Rattle.afdx_cascade.specs.EndToEnd.{AreAllEvents, EachLeaves, FirstOfThemLeave, IsWayTo, accepted_of, begins_at}
+use Rattle.afdx_cascade.specs.EndToEnd.{EachLeaves, FirstOfThemLeave, IsWayTo, accepted_of, begins_at}
 use Rattle.afdx_cascade.specs.EndToEnd.{left_from}
 use Rattle.afdx_cascade.specs.Plans.{plan_of, tables_of}
 use Rattle.afdx_cascade.specs.Receivers.{IsWayToSystem, IsStreamFrom, heard_by, messages_at}
 use Rattle.afdx_cascade.specs.Receivers.{most_left, most_sent, sent_on}
 use Rattle.afdx_cascade.specs.Receivers.{MessagesComeSoFar, MessagesComeOnce, OneSideIsEnough, FirstMessagesCome}
-use Rattle.afdx_cascade.specs.SwitchEvents.{SwitchEvent, at_switch, came_to, turns_of}
+use Rattle.afdx_cascade.specs.SwitchEvents.{SwitchEvent, at_switch, came_to}
 use Rattle.afdx_cascade.specs.Ways.{latency_of}
 use Rattle.afdx_cascade.proofs.EndToEndLemmas.{accepted-is, first-is, first-links-leave, links-leave, row-latency}
 use Rattle.afdx_cascade.proofs.EndToEndLemmas.{row-port, sent-latency}

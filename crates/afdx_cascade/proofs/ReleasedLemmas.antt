@@ -1,5 +1,5 @@
 -- What the systems of a cascade send.
-use Rattle.std.proofs.Common.{◌≡◌, ℕ, List, ap, ◌∙◌}
+use Rattle.std.proofs.Common.{ℕ, List, ap, ◌∙◌}
 use Rattle.afdx_frame.specs.Reading.{BuiltIsComputed}
 use Rattle.afdx_config.specs.Switches.{NamedRows}
 use Rattle.afdx_admit.specs.Cascade.{RowAt}

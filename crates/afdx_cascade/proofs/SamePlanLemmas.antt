@@ -1,13 +1,11 @@
 -- Two plans that have the same tables at each switch and the same cable at each port.
 use Rattle.std.proofs.Common.{◌≡◌, ℕ, List, [], ◌∷◌, sym, ap, ◌∙◌, subst, inl, inr}
-use Rattle.std.specs.Prelude.{◌⊎◌, true}
 use Rattle.afdx_config.specs.Rows.{Rows}
 use Rattle.afdx_network.specs.Events.{Came, admission_after}
 use Rattle.afdx_network.specs.Network.{IsNextOn}
-use Rattle.afdx_network.specs.Order.{is_below}
 use Rattle.afdx_port.specs.Schedule.{AreTurns}
 use Rattle.afdx_switch.specs.Tables.{byte_ns_at, entries_at}
-use Rattle.afdx_cascade.specs.Runs.{Line, AreAll, IsDue, IsFirstDue, IsFrameDue, IsNextEvent, IsNextLine, IsTurnDue}
+use Rattle.afdx_cascade.specs.Runs.{Line, AreAll, IsDue, IsNextEvent}
 use Rattle.afdx_cascade.specs.Runs.{Runs, event_at}
 use Rattle.afdx_cascade.specs.SwitchEvents.{AlwaysKeepsRules, KeepsRules, Plan, SwitchEvent, at_switch, came_to}
 use Rattle.afdx_cascade.specs.SwitchEvents.{turns_of}

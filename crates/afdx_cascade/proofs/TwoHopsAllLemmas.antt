@@ -12,7 +12,6 @@ use Rattle.afdx_port.specs.Due.{order_of}
 use Rattle.afdx_port.specs.History.{due_at}
 use Rattle.afdx_port.specs.Schedule.{Turn, IsNext}
 use Rattle.afdx_port.proofs.TurnLemmas.{eqb-other, eqb-same}
-use Rattle.afdx_switch.specs.Admitted.{IsAdmittedRun}
 use Rattle.afdx_switch.specs.HeldFrames.{HeldFrame}
 use Rattle.afdx_switch.specs.Switching.{taken_at}
 use Rattle.afdx_switch.specs.Tables.{byte_ns_at, entries_at}

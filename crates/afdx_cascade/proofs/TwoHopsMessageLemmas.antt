@@ -1,33 +1,29 @@
 -- The example's message comes to the system at the second switch, once.
-use Rattle.std.proofs.Common.{◌≡◌, ℕ, zero, suc, ◌+◌, ◌*◌, ◌<◌, ◌≤◌, ◌==◌, Bool, true, false, List, [], ◌∷◌}
-use Rattle.std.proofs.Common.{length, filter, refl, sym, ap, ◌∙◌, subst, arith, inl, inr}
-use Rattle.std.specs.Prelude.{Option, Some, None, slice_get}
+use Rattle.std.proofs.Common.{◌≡◌, ℕ, zero, suc, ◌+◌, ◌*◌, ◌<◌, ◌≤◌, ◌==◌, List, [], ◌∷◌}
+use Rattle.std.proofs.Common.{length, refl, sym, ap, ◌∙◌, subst, arith, inl, inr}
+use Rattle.std.specs.Prelude.{Some, slice_get}
 use Rattle.std.specs.List.{AllByRecursion}
 use Rattle.std.proofs.lemmas.Bool.{cases_Bool, cases_eq}
 use Rattle.afdx_frame.specs.Reading.{BuiltIsComputed}
 use Rattle.afdx_frame.specs.declared.link.Side.{Side}
 use Rattle.afdx_frame.specs.declared.link.Side.TheVariants.{A, B}
-use Rattle.afdx_admit.specs.Cascade.{RowAt, is_sent_here, row_before as row_that_feeds}
+use Rattle.afdx_admit.specs.Cascade.{is_sent_here, row_before as row_that_feeds}
 use Rattle.afdx_config.specs.LawfulStream.{Sending, IsSent}
 use Rattle.afdx_config.specs.Numbers.{after_steps}
 use Rattle.afdx_config.specs.Reading.{has_port, link_of, system_named, system_at_port}
-use Rattle.afdx_config.specs.Rows.{LinkRow, Rows}
 use Rattle.afdx_config.specs.SentList.{Message, Sent, sent_at, CanBeSent}
 use Rattle.afdx_config.specs.Switches.{far_end, neighbour_named, switch_named}
-use Rattle.afdx_police.specs.Arrival.{Arrival, names, own}
-use Rattle.afdx_port.proofs.TurnLemmas.{eqb-other, eqb-same}
+use Rattle.afdx_port.proofs.TurnLemmas.{eqb-other}
 use Rattle.afdx_bounds.specs.Outputs.{AreTimed}
 use Rattle.afdx_switch.specs.Streams.{AreFirstOf, IsStreamOf}
-use Rattle.afdx_switch.specs.Tables.{port_of, rule_of}
 use Rattle.afdx_promises.specs.Examples.{sender, receiver, heard, first_on}
 use Rattle.afdx_promises.proofs.ExampleLemmas as base
-use Rattle.afdx_cascade.specs.Admitted.{AreRowsBefore, IsAdmittedCascade}
 use Rattle.afdx_cascade.specs.Cables.{brought}
 use Rattle.afdx_cascade.specs.EndToEnd.{AreAllEvents}
-use Rattle.afdx_cascade.specs.Examples.{link_before, link_after, switches, tables_before, tables_after}
+use Rattle.afdx_cascade.specs.Examples.{link_before, switches, tables_before}
 use Rattle.afdx_cascade.specs.Plans.{plan_of, tables_of}
 use Rattle.afdx_cascade.specs.Receivers.{IsFedOn, IsStreamFrom, IsWayToSystem, heard_by, sent_on}
-use Rattle.afdx_cascade.specs.SwitchEvents.{End, SwitchEvent, came_to, listed}
+use Rattle.afdx_cascade.specs.SwitchEvents.{SwitchEvent, came_to, listed}
 use Rattle.afdx_cascade.specs.TwoHops as hops
 use Rattle.afdx_cascade.specs.TwoHops.{FramePassesBoth, MessagePassesBoth, left_both, line, row_after, row_before}
 use Rattle.afdx_cascade.specs.TwoHops.{stream, two_switches}

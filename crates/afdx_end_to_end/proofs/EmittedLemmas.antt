@@ -1,9 +1,7 @@
 -- What a system of a switch emits of what its links took, as lines can hold it.
 use Rattle.std.proofs.Common.{◌≡◌, ◌≢◌, ℕ, zero, suc, ◌+◌, ◌<◌, ◌≤◌, Bool, true, false}
-use Rattle.std.proofs.Common.{if◌then◌else◌, List, [], ◌∷◌, ◌++◌, length, take, filter, map, nat_eq}
-use Rattle.std.proofs.Common.{Some, refl, sym, ap, subst, ◌∙◌, arith, inl, inr, append_assoc}
-use Rattle.std.proofs.Common.{append-nil}
-use Rattle.std.specs.Prelude.{reverse}
+use Rattle.std.proofs.Common.{if◌then◌else◌, List, [], ◌∷◌, ◌++◌, length, map, nat_eq}
+use Rattle.std.proofs.Common.{Some, refl, sym, ap, subst, ◌∙◌, arith}
 use Rattle.std.specs.List.{slice_get, AllByRecursion}
 use Rattle.std.proofs.lemmas.Bool.{eqb-true}
 use Rattle.std.proofs.lemmas.Bool.Decides.{nat_tests}
@@ -14,8 +12,8 @@ use Rattle.afdx_config.proofs.AmongOthersLemmas.{link-alone}
 use Rattle.afdx_config.specs.Admission.{IsAdmitted, links_from}
 use Rattle.afdx_config.specs.Lawful.{IsSystem, IsLink, IsLinkUpTo, IsLawfulSwitch, AreDistinct, jitter_from_any}
 use Rattle.afdx_config.specs.Numbers.{next_number, after_steps}
-use Rattle.afdx_config.specs.Rows.{SystemRow, LinkRow, Rows, is_to}
-use Rattle.afdx_lists.specs.Lines.{lines_of, most_lines}
+use Rattle.afdx_config.specs.Rows.{SystemRow, LinkRow, Rows}
+use Rattle.afdx_lists.specs.Lines.{most_lines}
 use Rattle.afdx_frame.specs.Times.{latest_listed}
 use Rattle.afdx_frame.proofs.ListLemmas.{AllByRecursion-slice_get, slice_get-filter}
 use Rattle.afdx_port.specs.Schedule.{Turn}
@@ -29,7 +27,7 @@ use Rattle.afdx_send.specs.Sender.{SenderHistory}
 use Rattle.afdx_send.proofs.MessageLemmas.{can_be_sent}
 use Rattle.afdx_send.proofs.NewLemmas.{distinct_links}
 use Rattle.afdx_promises.specs.Sent.{frame_on, stream_of}
-use Rattle.afdx_promises.specs.Sent.{StreamIsOfSendings, ReleasedAreToldOnce, IsMergedSoFar}
+use Rattle.afdx_promises.specs.Sent.{StreamIsOfSendings, ReleasedAreToldOnce}
 use Rattle.afdx_promises.specs.Sent.{ReleasedAreToldSoFar, OneSideIsEnough}
 use Rattle.afdx_promises.proofs.ListLemmas.{all-imply}
 use Rattle.afdx_end_to_end.specs.EndToEnd.{HasSent}
@@ -254,4 +252,3 @@ module _ (laws : Laws) (t : Rows) (lawful : IsLawfulSwitch t) (admitted : IsAdmi
       let all : AreReleasesOfAll l (taken_by l.vl events) rs =
       subst (λ (z : List Submission). AreReleasesOfAll l z rs) (own-is i l among.1) k.all in
       (i, k, all)
-

@@ -1,59 +1,45 @@
 -- From what the senders took to what the receivers are told.
-use Rattle.std.proofs.Common.{◌≡◌, ◌≢◌, ℕ, zero, suc, ◌+◌, ◌<◌, ◌≤◌, Bool, true, false}
-use Rattle.std.proofs.Common.{if◌then◌else◌, List, [], ◌∷◌, ◌++◌, length, take, filter, map, nat_eq}
+use Rattle.std.proofs.Common.{◌≡◌, ◌≢◌, ℕ, zero, suc, ◌<◌, ◌≤◌, true}
+use Rattle.std.proofs.Common.{List, [], ◌∷◌, ◌++◌, length, take, filter, map}
 use Rattle.std.proofs.Common.{Some, refl, sym, ap, subst, ◌∙◌, arith, inl, inr, append_assoc}
 use Rattle.std.proofs.Common.{append-nil}
 use Rattle.std.specs.Prelude.{reverse}
 use Rattle.std.specs.List.{slice_get, AllByRecursion}
-use Rattle.std.proofs.lemmas.Bool.Decides.{nat_tests}
-use Rattle.std.proofs.lemmas.List.{map_push}
-use Rattle.afdx_frame.specs.Reading.{BuiltIsComputed}
 use Rattle.afdx_frame.specs.declared.link.Side.{Side}
 use Rattle.std.proofs.lemmas.Option.{slice_get_within}
 use Rattle.afdx_config.proofs.AmongOthersLemmas.{among_others, between-systems}
 use Rattle.afdx_config.specs.Admission.{IsAdmitted, links_from}
-use Rattle.afdx_config.specs.Lawful.{IsSystem, IsLink, IsLawful, AreDistinct}
-use Rattle.afdx_config.specs.Numbers.{next_number, after_steps}
+use Rattle.afdx_config.specs.Lawful.{IsSystem, IsLawful}
 use Rattle.afdx_config.specs.Reading.{has_port}
 use Rattle.afdx_config.specs.Rows.{SystemRow, LinkRow, Rows, is_to}
 use Rattle.afdx_lists.specs.FrameLines as frame
 use Rattle.afdx_lists.specs.FrameLines.{line_says}
 use Rattle.afdx_lists.specs.Lines.{lines_of, most_lines}
-use Rattle.afdx_frame.specs.Times.{latest_listed}
-use Rattle.afdx_frame.proofs.ListLemmas.{AllByRecursion-slice_get, slice_get-filter}
+use Rattle.afdx_frame.proofs.ListLemmas.{AllByRecursion-slice_get}
 use Rattle.afdx_police.specs.Arrival.{Arrival}
 use Rattle.afdx_port.specs.Schedule.{Turn}
-use Rattle.afdx_send.specs.Complete.{IsFor, HasSentAll, EmitsAll, IsOfTaken, AllIsSent}
-use Rattle.afdx_send.specs.Complete.{EmissionsAreOfTaken, submissions_of, AreReleasesOfAll}
-use Rattle.afdx_send.specs.Emissions.{own, own_submissions, sent_list}
-use Rattle.afdx_send.specs.Frames.{Frame, address_with}
+use Rattle.afdx_send.specs.Complete.{EmitsAll}
+use Rattle.afdx_send.specs.Complete.{submissions_of, AreReleasesOfAll}
+use Rattle.afdx_send.specs.Emissions.{own, sent_list}
+use Rattle.afdx_send.specs.Frames.{Frame}
 use Rattle.afdx_send.specs.Laws.{IsBuildable}
-use Rattle.afdx_send.specs.Releases.{Submission, Release, IsMessage}
 use Rattle.afdx_send.specs.Sender.{SenderHistory}
-use Rattle.afdx_send.proofs.MessageLemmas.{can_be_sent}
-use Rattle.afdx_send.proofs.NewLemmas.{distinct_links}
 use Rattle.afdx_send.proofs.NextLemmas.{split_last}
 use Rattle.afdx_promises.specs.Lines.{Line, messages_told}
 use Rattle.afdx_promises.specs.Promises.{EachIsToldOnce, EachIsToldOnceSoFar, most_come}
 use Rattle.afdx_promises.specs.Sent.{frame_on, stream_of, AreSentAs, arrivals_at}
-use Rattle.afdx_promises.specs.Sent.{StreamIsOfSendings, ReleasedAreToldOnce, IsMergedSoFar}
-use Rattle.afdx_promises.specs.Sent.{ReleasedAreToldSoFar, OneSideIsEnough}
-use Rattle.afdx_promises.proofs.ListLemmas.{all-imply}
+use Rattle.afdx_promises.specs.Sent.{IsMergedSoFar}
 use Rattle.afdx_promises.proofs.SentLemmas.{copy-is, all-earlier, take-all}
 use Rattle.afdx_end_to_end.specs.EndToEnd.{says_at, lines_at, HoldsText, HasSent, heard_of, EachIsToldAsTaken}
 use Rattle.afdx_end_to_end.specs.EndToEnd.{TakenIsToldOnce, WrittenIsSent, RunsTellTakenOnce}
 use Rattle.afdx_end_to_end.specs.EndToEnd.{TextsAreLists, AreToldAsTaken}
 use Rattle.afdx_engine.specs.Listed.{AreSound, arrivals_of}
 use Rattle.afdx_end_to_end.specs.OneSide.{HoldsFirst, AreToldSoFar, TakenIsToldSoFar, TakenIsToldByOneSide}
-use Rattle.afdx_engine.specs.Listed.{Handed}
-use Rattle.afdx_sending.specs.Events.{Event, Emitted, Submitted, submissions_in}
-use Rattle.afdx_sending.specs.Events.{turns_in, taken_by, calls_in, EachFollows}
+use Rattle.afdx_sending.specs.Events.{Event}
+use Rattle.afdx_sending.specs.Events.{turns_in, taken_by, calls_in}
 use Rattle.afdx_sending.specs.Text.{send_text}
 use Rattle.afdx_end_to_end.proofs.PortLineLemmas.{AreSaidBy, said-by}
-use Rattle.afdx_end_to_end.proofs.SaidLemmas.{IsSaid, all-said}
 use Rattle.afdx_end_to_end.proofs.TextListLemmas.{text-is-list}
-use Rattle.afdx_end_to_end.proofs.TakenLemmas.{taken-each, own-taken}
-use Rattle.afdx_end_to_end.proofs.SentLineLemmas.{AreOfFrame}
 use Rattle.afdx_end_to_end.proofs.EmittedLemmas as emitted
 use Rattle.afdx_end_to_end.proofs.EmittedLemmas.{Laws, sent-messages}
 use Rattle.afdx_end_to_end.proofs.SendLineLemmas.{line_on, lines_on, CanBeRead, IsFine, turn-says}

@@ -26,9 +26,9 @@ use Rattle.afdx_send.specs.declared.fault.SendFault.{SendFault}
 use Rattle.afdx_send.specs.declared.fault.SendFault.TheVariants.{NotMyLink, NoSuchSub, Empty}
 use Rattle.afdx_send.specs.declared.fault.SendFault.TheVariants.{TooLarge, QueueFull, Memory}
 use Rattle.afdx_promises.specs.Sent.{frame_on}
-use Rattle.afdx_end_to_end.specs.EndToEnd.{says_at, lines_at}
+use Rattle.afdx_end_to_end.specs.EndToEnd.{says_at}
 use Rattle.afdx_sending.specs.Events.{Event, Emitted, Submitted, turns_in}
-use Rattle.afdx_sending.specs.Text.{side_text, sent_line, refusal_line, event_lines, send_text, send_text_at}
+use Rattle.afdx_sending.specs.Text.{side_text, sent_line, refusal_line, event_lines, send_text_at}
 use Rattle.afdx_text.specs.OutLines.{place_text}
 use Rattle.afdx_sending.proofs.SendLemmas.{text-none, text-more}
 use Rattle.afdx_end_to_end.proofs.SentLineLemmas.{AtLeast, append-least, lower-least, none-below}

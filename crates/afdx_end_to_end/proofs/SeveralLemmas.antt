@@ -1,21 +1,21 @@
 -- From what the senders of several switches took to what the receivers are told.
-use Rattle.std.proofs.Common.{◌≡◌, ℕ, ◌<◌, ◌≤◌, ◌==◌, ◌&&◌, Bool, true, false, List, [], ◌∷◌, ◌++◌, length, take, map}
-use Rattle.std.proofs.Common.{filter, refl, sym, ap, subst, ◌∙◌, arith, Option, Some, None, slice_get}
+use Rattle.std.proofs.Common.{◌≡◌, ℕ, ◌<◌, ◌≤◌, ◌==◌, ◌&&◌, Bool, List, [], ◌∷◌, length, take}
+use Rattle.std.proofs.Common.{refl, sym, ap, subst, ◌∙◌, arith, Some, None, slice_get}
 use Rattle.std.specs.Prelude.{reverse, Ok}
 use Rattle.std.specs.List.{AllByRecursion}
 use Rattle.std.proofs.lemmas.List.{reverse-reverse}
 use Rattle.afdx_frame.proofs.ListLemmas.{AllByRecursion-slice_get, slice_get-within}
 use Rattle.afdx_frame.specs.Sides.{is_side}
 use Rattle.afdx_frame.specs.declared.link.Side.{Side}
-use Rattle.afdx_admit.specs.Cascade.{RowAt, IsCascadeAdmitted}
-use Rattle.afdx_config.specs.Admission.{IsAdmitted, links_from}
+use Rattle.afdx_admit.specs.Cascade.{RowAt}
+use Rattle.afdx_config.specs.Admission.{IsAdmitted}
 use Rattle.afdx_config.specs.Lawful.{IsLawfulSwitch, IsSystem}
-use Rattle.afdx_config.specs.Rows.{SystemRow, LinkRow, Rows}
+use Rattle.afdx_config.specs.Rows.{SystemRow, Rows}
 use Rattle.afdx_config.specs.Switches.{NamedRows, AreSwitches, far_end}
 use Rattle.afdx_police.specs.Arrival.{Arrival}
 use Rattle.afdx_port.specs.Schedule.{Turn}
-use Rattle.afdx_lists.specs.Lines.{lines_of, most_lines}
-use Rattle.afdx_lists.specs.SitedLines.{NamedCables, SitedFrame, is_cable_at, sited_line_says}
+use Rattle.afdx_lists.specs.Lines.{lines_of}
+use Rattle.afdx_lists.specs.SitedLines.{NamedCables, SitedFrame, sited_line_says}
 use Rattle.afdx_lists.proofs.SitedLemmas.{sited_line_says_nothing}
 use Rattle.afdx_cascade.specs.EndToEnd.{begins_at}
 use Rattle.afdx_cascade.specs.Parts.{frames_to}
@@ -37,10 +37,7 @@ use Rattle.afdx_replay.specs.cascading.Sited.{sites_of}
 use Rattle.afdx_replay.specs.cascading.Text.{name_of}
 use Rattle.afdx_send.specs.Emissions.{own, sent_list}
 use Rattle.afdx_send.specs.Frames.{Frame}
-use Rattle.afdx_send.specs.Complete.{submissions_of}
-use Rattle.afdx_send.specs.declared.fault.SendFault.{SendFault}
 use Rattle.afdx_sending.specs.Events.{Event, taken_by, turns_in}
-use Rattle.afdx_end_to_end.specs.EndToEnd.{HasSent}
 use Rattle.afdx_end_to_end.specs.Several.{AreHeardAsTaken, AreHeardSoFar, HasSentFrom, HoldsFirstOf, HoldsTextOf, IsReplayed}
 use Rattle.afdx_end_to_end.specs.Several.{RunsBringTaken, TakenComesByOneSide, TakenComesEndToEnd, TakenComesSoFar, lines_there, messages_of, says_there, text_of}
 use Rattle.afdx_end_to_end.proofs.EmittedLemmas as emitted
@@ -175,8 +172,7 @@ module _ (laws : Laws) (ss : List NamedRows) (list : List (List ℕ)) (events : 
       → IsMergedSoFar s (turns_in sends) (came_to k events)
   first-merged holds side =
       let first = lines-first (name_of ss k) s side (turns_in sends) (lines_there (sites_of ss) k side s.port list)
-      (holds side).0 (sym (of-text side) ∙ (holds side).1) in
-      (
+      (holds side).0 (sym (of-text side) ∙ (holds side).1) in (
         first.0,
         first.1,
         first.2,
@@ -196,9 +192,11 @@ module _ (laws : Laws) (ss : List NamedRows) (list : List (List ℕ)) (events : 
     place : (i : ℕ) × (slice_get t.links i ≡ Some first.row)
     place =
         let is = first-is ss r before way.row way.are in
-        let z = switch-of ss first is in
-        (is.place, ap (λ j. slice_get (tables_of ss j).links is.place) (sym at_k)
-        ∙ ap (λ (q : Rows). slice_get q.links is.place) (tables-at ss first.switch z.0 z.1) ∙ row-here ss first z.0 is z.1)
+        let z = switch-of ss first is in (
+          is.place,
+          ap (λ j. slice_get (tables_of ss j).links is.place) (sym at_k)
+              ∙ ap (λ (q : Rows). slice_get q.links is.place) (tables-at ss first.switch z.0 z.1) ∙ row-here ss first z.0 is z.1,
+        )
 
     ready : emitted.IsReady laws t lawful admitted sender from.own s given sends from.sent first.row
     ready = emitted.ready laws t lawful admitted sender from.own s given sends from.sent place.0 first.row place.1 by_it

@@ -1,20 +1,19 @@
 -- The line of a frame that is sent to one of several switches, read as a line of a list that names them.
-use Rattle.std.proofs.Common.{◌≡◌, ℕ, ◌-◌, ◌^◌, ◌<◌, ◌≤◌, ◌==◌, ◌&&◌, Bool, true, false, List, [], ◌∷◌, ◌++◌, length}
-use Rattle.std.proofs.Common.{Option, Some, None, Ok, refl, ap, sym, ◌∙◌, subst, arith, if◌then◌else◌}
+use Rattle.std.proofs.Common.{◌≡◌, ℕ, ◌-◌, ◌^◌, ◌<◌, ◌≤◌, ◌==◌, Bool, false, List, [], ◌∷◌, ◌++◌, length}
+use Rattle.std.proofs.Common.{Option, Some, None, Ok, refl, ap, ◌∙◌, arith, if◌then◌else◌}
 use Rattle.std.proofs.lemmas.List.Splits.{slice_split_at, slice_split_none}
 use Rattle.std.specs.Fmt.{decimal}
 use Rattle.std.specs.List.{slice_index}
 use Rattle.std.specs.Str.Lines.{strip_carriage_return}
 use Rattle.hex.specs.Hex.{encode_lower, lower_digits}
 use Rattle.hex.proofs.HexLemmas.{length-encode_with}
-use Rattle.afdx_frame.specs.Sides.{is_side}
 use Rattle.afdx_frame.specs.Times.{latest_listed}
 use Rattle.afdx_frame.specs.declared.link.Side.{Side}
 use Rattle.afdx_frame.specs.declared.link.Side.TheVariants.{A, B}
 use Rattle.afdx_lists.specs.Splitting.{between_spaces, number_of}
 use Rattle.afdx_lists.specs.Fields.{bytes_of_digits, fault_or}
 use Rattle.afdx_lists.specs.Forms.{from_six, six_of, said_with}
-use Rattle.afdx_lists.specs.FrameLines.{ListedFrame, kind_of, side_of, frame_bytes, numbers_fault}
+use Rattle.afdx_lists.specs.FrameLines.{kind_of, side_of, frame_bytes}
 use Rattle.afdx_lists.specs.SitedLines.{NamedCables, SitedFields, SitedFrame, cable_fault, is_cable_at, place_named}
 use Rattle.afdx_lists.specs.SitedLines.{sited_fault, sited_fields, sited_fields_from, sited_fields_with, sited_form}
 use Rattle.afdx_lists.specs.SitedLines.{sited_line_says}

@@ -1,5 +1,5 @@
 -- Exactly once: from the copies of a stream that come on both sides to the messages of a receiver, and at one switch.
-use Rattle.std.proofs.Common.{◌≡◌, ℕ, suc, ◌+◌, ◌*◌, ◌≤◌, Bool, true, false, not, eqb, List, [], ◌∷◌}
+use Rattle.std.proofs.Common.{◌≡◌, ℕ, suc, ◌*◌, ◌≤◌, Bool, true, false, not, eqb, List, [], ◌∷◌}
 use Rattle.std.proofs.Common.{length, map, filter, take, refl, sym, ap, ◌∙◌, subst, arith}
 use Rattle.std.specs.Prelude.{Result, Ok, Err, Some, IfSome, max, reverse, slice_get, if◌then◌else◌}
 use Rattle.std.specs.List.{AllByRecursion}

@@ -1,6 +1,6 @@
 -- How far a replay of several switches has come: which events these are, and how many.
 use Rattle.std.proofs.Common.{◌≡◌, ℕ, suc, ◌+◌, ◌*◌, ◌≤◌, ◌<◌, List, [], ◌∷◌, ◌++◌, length, reverse, refl, ap, sym, ◌∙◌}
-use Rattle.std.proofs.Common.{subst, Option, Some, None, Bool, true, false, is_none, arith, append_assoc, append-nil, ◌==◌, inl, inr}
+use Rattle.std.proofs.Common.{subst, Option, Some, None, Bool, true, false, is_none, arith, append_assoc, append-nil, inl, inr}
 use Rattle.std.proofs.Common.{if◌then◌else◌}
 use Rattle.std.proofs.lemmas.List.{length-append, length-map, length-reverse, reverse-append}
 use Rattle.std.specs.Io.KnownBytes.{Appends}

@@ -1,9 +1,8 @@
 -- The switches of several, as the lines of a list name them.
-use Rattle.std.proofs.Common.{◌≡◌, ℕ, zero, suc, ◌+◌, ◌<◌, ◌≤◌, Bool, true, false, ◌&&◌, ◌||◌, List, [], ◌∷◌, length}
-use Rattle.std.proofs.Common.{refl, sym, ap, ◌∙◌, arith, Option, Some, None, get_or, slice_get, nat_le, nat_lt, not, if◌then◌else◌}
+use Rattle.std.proofs.Common.{◌≡◌, ℕ, suc, ◌+◌, ◌<◌, ◌≤◌, Bool, true, false, ◌&&◌, List, [], ◌∷◌, length}
+use Rattle.std.proofs.Common.{refl, sym, ap, ◌∙◌, arith, Some, None, get_or, slice_get, nat_le, nat_lt, not, if◌then◌else◌}
 use Rattle.std.specs.Prelude.{is_some, position}
 use Rattle.std.specs.Char.{is_ascii_alphanumeric}
-use Rattle.std.specs.Int.{is_in_range}
 use Rattle.std.specs.List.{list_all, position_or_len, AllByRecursion}
 use Rattle.std.specs.Option.{option_map_or}
 use Rattle.std.specs.Str.{bytes_eq}
@@ -15,7 +14,6 @@ use Rattle.afdx_frame.specs.Ports.{last_port}
 use Rattle.afdx_frame.proofs.ListLemmas.{AllByRecursion-slice_get, slice_get-within}
 use Rattle.afdx_config.specs.Reading.{is_name}
 use Rattle.afdx_config.specs.Switches.{AreSwitches, NamedRows, far_end, switch_named}
-use Rattle.afdx_cascade.specs.Plans.{plan_of}
 use Rattle.afdx_cascade.proofs.PlanLemmas.{own-place}
 use Rattle.afdx_lists.specs.SitedLines.{NamedCables, is_cable_at, place_named}
 use Rattle.afdx_replay.specs.cascading.Sited.{has_cable, site_of, sites_of}
