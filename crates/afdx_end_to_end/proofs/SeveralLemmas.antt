@@ -39,7 +39,7 @@ use Rattle.afdx_send.specs.Emissions.{own, sent_list}
 use Rattle.afdx_send.specs.Frames.{Frame}
 use Rattle.afdx_sending.specs.Events.{Event, taken_by, turns_in}
 use Rattle.afdx_end_to_end.specs.Several.{AreHeardAsTaken, AreHeardSoFar, HasSentFrom, HoldsFirstOf, HoldsTextOf, IsReplayed}
-use Rattle.afdx_end_to_end.specs.Several.{RunsBringTaken, TakenComesByOneSide, TakenComesEndToEnd, TakenComesSoFar, lines_there, messages_of, says_there, text_of}
+use Rattle.afdx_end_to_end.specs.Several.{RunsBringTaken, WrittenIsSentFrom, TakenComesByOneSide, TakenComesEndToEnd, TakenComesSoFar, lines_there, messages_of, says_there, text_of}
 use Rattle.afdx_end_to_end.proofs.EmittedLemmas as emitted
 use Rattle.afdx_end_to_end.proofs.EmittedLemmas.{Laws, sent-messages}
 use Rattle.afdx_end_to_end.proofs.EndToEndLemmas.{lines-first, not-empty, snoc-same}
@@ -272,13 +272,33 @@ pub taken-so-far : Laws → TakenComesSoFar
 taken-so-far laws ss list events k sender s given sends run from holds r before system way at_k by_it =
     heard-so-far laws ss list events k sender s given sends run from r before system way at_k by_it holds
 
+-- ---- of the two runs
+
+pub written-from : WrittenIsSentFrom
+written-from ss k sender s given text sends within is_own stands sent early = (
+  record {
+    within = within;
+    own = is_own;
+    sent = record {
+      stands = stands;
+      sound = sent.sound;
+      are_events = sent.writes.are_events;
+      are_done = sent.writes.are_done;
+      early = early;
+    };
+  },
+  sent.writes.written,
+)
+
 pub runs-bring : Laws → RunsBringTaken
-runs-bring laws ss k sender s given sends bytes old new summary are admitted from holds ran =
-    taken-comes laws ss (lines_of bytes) ran.told.events k sender s given sends
+runs-bring laws ss k sender s given text bytes old new sends replays are admitted within is_own stands sent early holds
+    ran =
+    let w = written-from ss k sender s given text sends within is_own stands sent early in
+    taken-comes laws ss (lines_of bytes) ran.told.events k sender s (lines_of given) sent.writes.events
     (record {
       are = are;
       admitted = admitted;
       sound = ran.sound;
       all = ran.told.all;
       kept = ran.told.parts.end_to_end are admitted;
-    }) from holds
+    }) w.0 (subst (HoldsTextOf ss k s (lines_of bytes)) w.1 holds)
