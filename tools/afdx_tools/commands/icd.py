@@ -22,11 +22,14 @@ import tomllib
 from typing import NoReturn
 
 from afdx_tools.command_line import Parser, whole
-from afdx_tools.faults import Failed, shown
+from afdx_tools.faults import Failed, Refused, shown
 from afdx_tools.guard import guarded
+from afdx_tools.icd.aircraft import left_out, made_of
+from afdx_tools.icd.cascade import Cascade
 from afdx_tools.icd.changes import Comparison
-from afdx_tools.icd.document import Document, add_document_words, read_document
+from afdx_tools.icd.document import Document
 from afdx_tools.icd.layout import asked_text, config_text, with_solved
+from afdx_tools.icd.reading import add_document_words, read_document
 from afdx_tools.icd.room import room_of, roomy
 from afdx_tools.icd.untimely import late_lines, refusal
 from afdx_tools.outputs import finished
@@ -57,21 +60,33 @@ def solved_tables(document: Document, text: str) -> dict:
 def run() -> int:
     """Makes the configuration that the words ask for; the status."""
     args = words().parse_args()
+    if args.cables is not None and args.since is not None:
+        raise Refused("--since knows configurations of one switch a side alone")
     document, remarks = read_document(args)
     say(remarks)
     if document.faults:
         say(document.faults)
         return 2
+    if document.cabling is not None:
+        return make_several(args, Cascade(document, document.cabling))
     since = None if args.since is None else read_admitted(args.since)
     solved = solve(asked_text(document))
     if solved.line:
         say([refusal(document, solved.line)])
         return 1
-    return write(args, document, solved_tables(document, solved.text), since)
+    return make(args, document, solved_tables(document, solved.text), since)
 
 
-def write(args: argparse.Namespace, document: Document, tables: dict, since: dict | None) -> int:
-    """Writes the configuration with these tables and the room that is asked for, if no message is
+def make_several(args: argparse.Namespace, cascade: Cascade) -> int:
+    """Makes the configuration of several switches a side; the status."""
+    say(left_out(cascade))
+    made = made_of(cascade, args.reserve, args.raised)
+    say(made.late)
+    return write(args, made.config, []) if made.config else 1
+
+
+def make(args: argparse.Namespace, document: Document, tables: dict, since: dict | None) -> int:
+    """Makes the configuration with these tables and the room that is asked for, if no message is
     late; the status."""
     room, proved = room_of(args.reserve, since), bounds(config_text(document, tables))
     late = late_lines(document, proved.latencies, room.enough_us(proved), args.reserve)
@@ -79,11 +94,15 @@ def write(args: argparse.Namespace, document: Document, tables: dict, since: dic
     if late and not args.raised:
         return 1
     made = roomy(document, room, proved, tables)
-    config = config_text(document, made)
+    lines = [] if since is None else Comparison(document, since, made, proved).lines()
+    return write(args, config_text(document, made), lines)
+
+
+def write(args: argparse.Namespace, config: bytes, lines: list[str]) -> int:
+    """Writes a configuration that is admitted, and prints these lines and `ok`; the status."""
     answer = check(config)
     if answer != "ok":
         raise Failed(f"what it made isn't admitted: {answer}", 4)
-    lines = [] if since is None else Comparison(document, since, made, proved).lines()
     with finished(args.config) as file:
         file.write(config)
     for line in [*lines, answer]:

@@ -24,7 +24,7 @@ from typing import NoReturn
 from afdx_tools.command_line import Parser, whole
 from afdx_tools.faults import Failed, Refused, shown
 from afdx_tools.guard import guarded
-from afdx_tools.icd.document import add_document_words, read_document
+from afdx_tools.icd.reading import add_document_words, read_document
 from afdx_tools.icd.submissions import Stream, streams_of, submissions
 from afdx_tools.inputs import as_file
 from afdx_tools.lists import MOST_LINES
