@@ -31,7 +31,7 @@ TOOL = os.path.join(HERE, "..", "..", "tools", "afdx-icd")
 LATE = re.compile(r"afdx-icd: messages.csv line (\d+), m\d+: within_us \d+: to (\w+) it can take "
                   r"(\d+) us \(((?:\w+ \d+(?:, )?)+)\); (\d+) is enough")
 LEFT_OUT = "afdx-icd: cables.csv: cables that no message needs are left out: "
-RATES = (10, 100, 1000, 1000)
+RATES = (10, 100, 1000)
 
 Pair = tuple[int, int]
 
@@ -88,12 +88,13 @@ def tables_of(chance: random.Random) -> Tables:
     """Some switches with systems and messages."""
     count = chance.choice([2, 2, 3, 4, 5, 8, 24])
     ports = [chance.sample(range(1, 25), 24) for _ in range(count)]
+    rates = chance.choice([RATES, RATES[1:], RATES[2:]])
     cables = []
     for pair in pairs_of(chance, count):
         if min(len(ports[place]) for place in pair) > 2:
             one, two = chance.sample(pair, 2)
             cables.append([f"w{one}", ports[one].pop(), f"w{two}", ports[two].pop(),
-                           chance.choice(RATES)])
+                           chance.choice(rates)])
     named = sorted({cable[place] for cable in cables for place in (0, 2)})
     systems = []
     for number in range(chance.randint(2, 12)):
@@ -101,7 +102,7 @@ def tables_of(chance: random.Random) -> Tables:
         if ports[int(switch[1:])]:
             systems.append({"system": f"s{number}", "switch": switch, "id": number, "partition": 1,
                             "port": ports[int(switch[1:])].pop(),
-                            "rate": chance.choice(RATES[1:])})
+                            "rate": chance.choice(rates)})
     names = [row["system"] for row in systems]
     messages = []
     for vl in range(chance.randint(1, 25)):
@@ -112,7 +113,7 @@ def tables_of(chance: random.Random) -> Tables:
                 "priority": messages[-1]["priority"], "port": 2})
     tables = Tables(systems, messages, cables)
     for row in messages:
-        if chance.random() < 0.2:
+        if chance.random() < 0.4:
             row["via"] = via_of(chance, tables, row)
     return tables
 
@@ -123,7 +124,7 @@ def message_of(chance: random.Random, vl: int, source: str, to: list[str]) -> di
         "message": f"m{vl}", "vl": vl, "from": source, "to": " ".join(to),
         "every_ms": chance.choice([8, 16, 20, 50, 128, 1000]),
         "bytes": chance.choice([1, 40, 100, 300, chance.randint(1, 1471)]),
-        "within_us": chance.choice(["", 100, 500, 2000, 10_000, chance.randint(1, 20_000)]),
+        "within_us": chance.choice(["", 500, 2000, 10_000, 50_000, chance.randint(1, 100_000)]),
         "priority": chance.choice(["high", "low"]), "port": 1, "kind": "sampling", "depth": "",
         "skew_us": chance.choice(["", "", 30_000]), "via": "",
     }

@@ -1,16 +1,21 @@
-"""Makes the configuration of a network from two tables of its interface document.
+"""Makes the configuration of a network from the tables of its interface document.
 
     afdx-icd systems.csv messages.csv network.toml
+    afdx-icd --cables cables.csv systems.csv messages.csv aircraft.toml
 
 The tables are CSV as spreadsheets write it; their first rows name the columns:
 
     systems    system, port (of the switches), id, partition, rate (Mbit/s)
     messages   message, vl, from, to (names, spaces between), every_ms, bytes,
-               within_us (through the switch), priority (high or low),
+               within_us (from end to end), priority (high or low),
                port (UDP), kind (sampling or queuing), depth
+    cables     switch, port, switch, port (at both ends), rate (Mbit/s)
+
+With cables a side has several switches, and each system a column switch. Links
+take the shortest ways, or those that messages name in a column via.
 
 The messages of one vl share a virtual link. `afdx solve` finds the least
-jitters, buffer, latencies and skews with which the network is admitted. Prints
+jitters, buffers, latencies and skews with which the network is admitted. Prints
 `ok`; or names each message that can't be in time, and writes nothing then
 (status 1).
 """
