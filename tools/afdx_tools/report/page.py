@@ -89,7 +89,6 @@ def track_section(counting: Counting, vl: int, wrong: np.ndarray, begin: int) ->
         lines = tracks.shown_lines(counting, vl, wrong, begin)
     if link is None or not len(lines):
         return section(name, head, "It has no frames there.", "")
-    ports = {port: counting.by_port[port].name for port in link.ports}
     words = (
         f"From {link.source} to {', '.join(link.to)}; {link.priority} priority, "
         f"BAG {link.bag_ms} ms, Lmax {link.lmax} bytes. "
@@ -99,7 +98,7 @@ def track_section(counting: Counting, vl: int, wrong: np.ndarray, begin: int) ->
         where = ", where most went wrong" if not begin and wrong[lines].any() else ""
         words += f"{len(lines)} of {frames:,} arrivals{where}."
     shown = tracks.arrivals_of(counting, lines)
-    return section(name, head, words, tracks.track(name, shown, ports))
+    return section(name, head, words, tracks.track(name, shown, tracks.lane_names(counting, vl)))
 
 
 def foot() -> str:
