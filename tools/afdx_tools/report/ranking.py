@@ -18,11 +18,19 @@ def place_of(row: Row) -> tuple:
     return row["link"], row.get("switch", ""), row["port"]
 
 
+def port_of(row: Row) -> str:
+    """A row's port in words: `port 3`, of several switches `fwd port 3`."""
+    return f"{row.get('switch', '')} port {row['port']}".lstrip()
+
+
+def at_system(row: Row) -> str:
+    """Where a row is, and what is there."""
+    return f"at {port_of(row)} ({row['system']})"
+
+
 def at(row: Row) -> str:
-    """Where a row is, in words."""
-    if "switch" not in row:
-        return f"at port {row['port']}"
-    return f"at {row['switch']} port {row['port']} ({row['system']})"
+    """Where a row is; of one switch the port alone."""
+    return at_system(row) if "switch" in row else f"at {port_of(row)}"
 
 
 def ranked(latency: Sequence[Row]) -> list[Row]:

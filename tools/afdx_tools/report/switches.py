@@ -56,7 +56,7 @@ def switch_rows(counting: Counting) -> list[Row]:
 def share_of(links: list[Link], byte_ns: int) -> float:
     """The share of a line that these links take up by their contracts, as A1 has it."""
     times = ((link.lmax + WIRE_EXTRA) * byte_ns / (link.bag_ms * 1_000_000) for link in links)
-    return sum(times)
+    return float(sum(times))
 
 
 def line_rows(counting: Counting, queues: list[Queue]) -> list[Row]:
