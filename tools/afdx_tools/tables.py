@@ -47,7 +47,8 @@ COUNTED = (
 # Where a formula could begin: at a cell's begin, or after a semicolon, at which spreadsheets of
 # many countries cut a line.
 FORMULA = re.compile(r"(^|;)( *)(?=[=+\-@])")
-WRITTEN = {f"{name}.csv" for name in (*NAMES, *OF_SEVERAL)} | {"arrivals.csv", "early.csv", "compared.csv"}
+WRITTEN = {f"{name}.csv" for name in (*NAMES, *OF_SEVERAL)}
+WRITTEN |= {"arrivals.csv", "early.csv", "compared.csv"}
 WRITTEN |= {"troubles.csv", "where.csv"}
 WRITTEN |= {"report.json", "report.html"}  # what a folder may have of an earlier report
 

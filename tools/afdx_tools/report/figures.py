@@ -273,7 +273,7 @@ def loads(found: Row, rows: Sequence[Row]) -> str:
     for port in found["ports"]:
         of_switch.setdefault(port.get("switch", ""), []).append(port)
     most = max(max((max(port["loads"], default=0) for port in found["ports"]), default=0), 1e-6)
-    of_row = {(*place_of_port(row), row["side"]): row for row in rows}
+    of_row: dict[tuple, Row] = {(*place_of_port(row), row["side"]): row for row in rows}
     return "".join(
         loads_part(found, ports, of_row, most, f"loads{name and '-'}{name}", n)
         for n, (name, ports) in enumerate(of_switch.items())

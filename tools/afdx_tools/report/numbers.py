@@ -15,6 +15,7 @@ from afdx_tools.replay.traffic import Traffic, traffic_of
 from afdx_tools.tables import Row
 
 MOST_TROUBLES = 10_000
+AT_SWITCHES = ("dropped", "full_buffer", "late", "too_old")
 SUMS = (
     "frames",
     "accepted",
@@ -342,4 +343,15 @@ def totals(counting: Counting, report: Row) -> Row:
         "recorder_lost": lost,
         "claimed": claimed,
         "left_out": sum(left.values()),
+        **at_switches(report),
     }
+
+
+def at_switches(report: Row) -> Row:
+    """The counts of some of these at each of several switches that has some."""
+    found: dict[str, dict[str, int]] = {word: {} for word in AT_SWITCHES}
+    for row in report.get("switches", []):
+        for word, counts in found.items():
+            if row[word]:
+                counts[row["switch"]] = counts.get(row["switch"], 0) + row[word]
+    return {"at_switches": found} if "switches" in report else {}
