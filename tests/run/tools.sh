@@ -66,7 +66,7 @@ else
 fi
 
 parts="recordings report hardening several_switches criteria early page capture_faults wireshark"
-parts+=" icd explained icd_faults icd_documents icd_growth traffic taps fill completion"
+parts+=" icd explained icd_faults icd_documents icd_growth icd_cables traffic taps fill completion"
 parts+=" hostile_completion safe_outputs hostile_files around campaigns recorded_reports absence"
 parts+=" evidence annotated package"
 for part in $parts; do

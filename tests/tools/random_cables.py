@@ -78,7 +78,8 @@ def pairs_of(chance: random.Random, count: int) -> list[Pair]:
     if kind == "ring" and count > 2:
         return [(place, (place + 1) % count) for place in range(count)]
     if kind == "mesh":
-        others = [(one, two) for two in range(count) for one in range(two) if (one, two) not in tree]
+        pairs = ((one, two) for two in range(count) for one in range(two))
+        others = [pair for pair in pairs if pair not in tree]
         tree += chance.sample(others, min(len(others), chance.randint(1, count)))
     chance.shuffle(tree)
     return tree
@@ -198,7 +199,8 @@ def must_go(tables: Tables, made: dict) -> None:
             must(system in ways.rows[switch, vl]["to"], f"link {vl} doesn't go to {system}")
             way = switches_to(ways, switch, vl)
             passed.update(way)
-            given = [row["via"].split() for row in rows if row["via"] and system in row["to"].split()]
+            given = [row["via"].split() for row in rows if system in row["to"].split()]
+            given = list(filter(None, given))
             must(not given or way in given, f"link {vl} goes to {system} by {way}, not {given}")
             if not any(row["via"] for row in rows):
                 least = distances(tables, way[0])[switch]

@@ -19,7 +19,7 @@ def shortest(cabling: Cabling, first: str) -> Tree:
     whose slowest cable has the greatest rate; of these on that whose last cable stands first in the
     table."""
     before: Tree = {first: None}
-    slowest = {first: max(cable.rate or 0 for cable in cabling.cables)}
+    slowest = {first: max((cable.rate or 0 for cable in cabling.cables), default=0)}
     level = [first]
     while level:
         found: dict[str, tuple[int, int, str]] = {}
