@@ -95,8 +95,9 @@ svg text.small { font-size: 10px; fill: var(--muted); }
 svg text.lane-name { font-size: 10.5px; }
 .way { stroke: var(--axis); stroke-width: .6; opacity: .6; }
 .asked { fill: none; stroke: var(--configured); stroke-width: 1; }
+svg.map { max-width: var(--most); min-width: var(--least); }
 .switch { fill: var(--sheet); stroke: var(--axis); stroke-width: 1.2; }
-.cable { fill: none; stroke-linejoin: round; } .aside { opacity: .25; }
+.cable { fill: none; stroke-linejoin: round; } .aside { opacity: .38; }
 .idle { stroke: var(--grid); stroke-width: 1.2; }
 .tree { fill: none; stroke: var(--tree); stroke-width: 13; stroke-linecap: round; }
 .load-0 { stroke: var(--axis); stroke-width: 1.4; stroke-dasharray: 2 3; }
@@ -119,7 +120,8 @@ footer code { font-size: 12px; overflow-wrap: anywhere; }
     --load-6: #a3201b; --tree: #f1e3b4; color-scheme: light; }
   body { font-size: 11px; } main { max-width: none; padding: 0; }
   section { overflow: visible; padding: 8px 0; border-width: 1px 0 0; border-radius: 0; }
-  svg { min-width: 0; break-inside: avoid; } h2, section > p, caption { break-after: avoid; }
+  svg, svg.map { min-width: 0; break-inside: avoid; } svg.map { max-height: 235mm; }
+  h2, section > p, caption { break-after: avoid; }
   section > p, .findings li, .card { break-inside: avoid; }
   nav, .find, .screen { display: none; } .on-paper { display: inline; }
   #cover { break-after: page; } .box { max-height: none; overflow: visible; }
