@@ -79,6 +79,15 @@ afdx-icd: cables.csv: columns passed over: owner
     )"
 }
 
+aircraft_tests() {
+    launch env -C examples ../tools/afdx-icd --profile 2 --cables aircraft_cables.csv \
+        aircraft_systems.csv aircraft_messages.csv -
+    tell "an aircraft's tables make the example" "$(
+        is_status 0
+        same examples/aircraft.toml "$work/out"
+    )"
+}
+
 name_over_tests() {
     local at=$work/icd/called
     three_tables "$at" 's/nose/no_se/; s/,bay/,rec-1/; s/rec,/rec1,/' 's/rec/rec1/' \
@@ -262,8 +271,8 @@ via nose bay: messages.csv line 3 comes to bay from mid, on this link")"
 # ---- at random -----------------------------------------------------------------------------
 
 random_over_tests() {
-    launch "$python" tests/tools/random_cables.py 40 "$program"
-    tell '40 documents of trees, rings and meshes, by a second computation' "$(
+    launch "$python" tests/tools/random_cables.py 40 "$program" examples/light examples/aircraft
+    tell '40 documents of trees, rings and meshes, and the examples, by a second computation' "$(
         is_status 0
         head -n -1 "$work/out" | head -n 5
     )" "$(tail -n 1 "$work/out")"
@@ -276,6 +285,7 @@ random_over_tests() {
 
 if [[ -n $built ]] && "$program" solve examples/two_switches.toml >/dev/null 2>&1; then
     three_tests
+    aircraft_tests
     name_over_tests
     way_tests
     late_over_tests

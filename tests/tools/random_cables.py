@@ -1,13 +1,15 @@
 #!/usr/bin/python3
 """Makes interface documents of several switches a side at random: trees, rings and meshes.
 
-    tests/tools/random_cables.py COUNT PROGRAM
+    tests/tools/random_cables.py COUNT PROGRAM [PREFIX..]
 
-What afdx-icd makes of each must be admitted by formulas that are computed apart. Each link must go
-to its receivers, and to no switch for nothing, on ways of the fewest cables, or on those that the
-document gives; each message must be in time from end to end, and what the document allows be given
-out. Where messages can't be in time just these must be named, with what is enough for them. Prints
-what isn't so, then how many were made; ends with status 1 if something isn't.
+The tables that begin with each PREFIX are looked at, too: with examples/light these are
+examples/light_systems.csv and so on. What afdx-icd makes of each must be admitted by formulas that
+are computed apart. Each link must go to its receivers, and to no switch for nothing, on ways of the
+fewest cables, or on those that the document gives; each message must be in time from end to end,
+and what the document allows be given out. Where messages can't be in time just these must be named,
+with what is enough for them. Prints what isn't so, then how many were made; ends with status 1 if
+something isn't.
 """
 from __future__ import annotations
 
@@ -18,7 +20,7 @@ import re
 import subprocess
 import sys
 import tempfile
-from typing import NamedTuple
+from typing import Any, NamedTuple
 
 sys.dont_write_bytecode = True
 HERE = os.path.dirname(os.path.abspath(__file__))
@@ -28,7 +30,7 @@ from cascade_check import Ways, cascade_false_lines, latency_sum  # noqa: E402
 from cascade_least import solved_cascade  # noqa: E402
 
 TOOL = os.path.join(HERE, "..", "..", "tools", "afdx-icd")
-LATE = re.compile(r"afdx-icd: messages.csv line (\d+), m\d+: within_us \d+: to (\w+) it can take "
+LATE = re.compile(r"afdx-icd: messages.csv line (\d+), [^:]+: within_us \d+: to (\w+) it can take "
                   r"(\d+) us \(((?:\w+ \d+(?:, )?)+)\); (\d+) is enough")
 LEFT_OUT = "afdx-icd: cables.csv: cables that no message needs are left out: "
 RATES = (10, 100, 1000)
@@ -52,6 +54,23 @@ class Tables(NamedTuple):
     systems: list[dict]
     messages: list[dict]
     cables: list[list]
+
+    @staticmethod
+    def read(prefix: str) -> Tables:
+        """The tables that begin so."""
+        rows: dict[str, list[list]] = {}
+        for name in ("systems", "messages", "cables"):
+            with open(f"{prefix}_{name}.csv", encoding="utf-8", newline="") as file:
+                rows[name] = list(csv.reader(file))
+        systems, messages = (
+            [dict[str, Any](zip(rows[name][0], cells)) for cells in rows[name][1:]]
+            for name in ("systems", "messages")
+        )
+        for row in messages:
+            row |= {key: int(row[key]) for key in ("vl", "within_us", "skew_us") if row.get(key)}
+            for key in ("via", "within_us", "skew_us"):
+                row.setdefault(key, "")
+        return Tables(systems, messages, rows["cables"][1:])
 
     def switch_of(self, system: str) -> str:
         """The switch of a system."""
@@ -90,14 +109,14 @@ def tables_of(chance: random.Random) -> Tables:
     count = chance.choice([2, 2, 3, 4, 5, 8, 24])
     ports = [chance.sample(range(1, 25), 24) for _ in range(count)]
     rates = chance.choice([RATES, RATES[1:], RATES[2:]])
-    cables = []
+    cables: list[list] = []
     for pair in pairs_of(chance, count):
         if min(len(ports[place]) for place in pair) > 2:
             one, two = chance.sample(pair, 2)
             cables.append([f"w{one}", ports[one].pop(), f"w{two}", ports[two].pop(),
                            chance.choice(rates)])
     named = sorted({cable[place] for cable in cables for place in (0, 2)})
-    systems = []
+    systems: list[dict] = []
     for number in range(chance.randint(2, 12)):
         switch = chance.choice(named)
         if ports[int(switch[1:])]:
@@ -105,7 +124,7 @@ def tables_of(chance: random.Random) -> Tables:
                             "port": ports[int(switch[1:])].pop(),
                             "rate": chance.choice(rates)})
     names = [row["system"] for row in systems]
-    messages = []
+    messages: list[dict] = []
     for vl in range(chance.randint(1, 25)):
         source, *others = chance.sample(names, chance.randint(2, min(5, len(names))))
         messages.append(message_of(chance, vl, source, others))
@@ -209,11 +228,11 @@ def must_go(tables: Tables, made: dict) -> None:
         for switch in passed:
             others = set(ways.rows[switch, vl]["to"]) - ways.own[switch]
             must(others <= passed, f"link {vl} goes from {switch} to {others}")
-    named = {(switch["name"], end) for switch in made["switch"] for row in switch["link"]
-             for end in [row["from"], *row["to"]]}
-    for switch in made["switch"]:
-        for end in switch["neighbour"]:
-            must((switch["name"], end["name"]) in named, f"{switch['name']} names {end['name']}")
+    for tables_here in made["switch"]:
+        rows = tables_here["link"]
+        named = {end for row in rows for end in [row["from"], *row["to"]]}
+        for end in tables_here["neighbour"]:
+            must(end["name"] in named, f"{tables_here['name']} names {end['name']}")
 
 
 def sums_of(tables: Tables, switches: list[dict]) -> dict[tuple[int, str], int]:
@@ -289,9 +308,8 @@ def read(folder: str) -> dict:
         return loaded(file.read())
 
 
-def tried(folder: str, chance: random.Random) -> bool:
+def tried(folder: str, tables: Tables) -> bool:
     """Makes a network, if there can be one, and looks at it."""
-    tables = tables_of(chance)
     tables.write(folder)
     status, said = icd(folder, "--raise")
     if status == 2:
@@ -321,17 +339,20 @@ def tried(folder: str, chance: random.Random) -> bool:
 
 
 def main() -> None:
-    """Tries as many networks as are asked for."""
-    count, os.environ["AFDX"] = int(sys.argv[1]), os.path.abspath(sys.argv[2])
+    """Tries as many networks as are asked for, and those of tables."""
+    count, program, *prefixes = sys.argv[1:]
+    os.environ["AFDX"] = os.path.abspath(program)
+    cases = {prefix: Tables.read(prefix) for prefix in prefixes}
+    cases |= {str(seed): tables_of(random.Random(f"cables {seed}")) for seed in range(int(count))}
     made = wrong = 0
-    for number in range(count):
+    for name, tables in cases.items():
         with tempfile.TemporaryDirectory() as folder:
             try:
-                made += tried(folder, random.Random(f"cables {number}"))
+                made += tried(folder, tables)
             except Wrong as fault:
                 wrong += 1
-                print(f"{number}: {fault}")
-    print(f"{made} of {count} were made")
+                print(f"{name}: {fault}")
+    print(f"{made} of {len(cases)} were made")
     sys.exit(1 if wrong or not made else 0)
 
 
