@@ -14,14 +14,18 @@ PARTS_OF_SEVERAL = ("system", "neighbour", "link", "port")
 
 def value_text(value: object) -> str:
     """A value as TOML spells it."""
-    if isinstance(value, list):
-        return f"[{', '.join(map(value_text, value))}]"
-    return f'"{value}"' if isinstance(value, str) else str(value)
+    if isinstance(value, str):
+        return f'"{value}"'
+    return f"[{', '.join(map(value_text, value))}]" if isinstance(value, list) else str(value)
 
 
 def row_text(row: dict) -> str:
     """A table in a line; keys without a value are left out."""
-    pairs = (f"{key} = {value_text(value)}" for key, value in row.items() if value is not None)
+    pairs = [
+        f"{key} = {value if isinstance(value, int) else value_text(value)}"
+        for key, value in row.items()
+        if value is not None
+    ]
     return f"{{ {', '.join(pairs)} }},"
 
 

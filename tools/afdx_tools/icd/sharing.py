@@ -18,6 +18,8 @@ from afdx_tools.spreadsheets.cells import MOST_US
 
 MOST_BYTES = 4_194_304  # of a configuration
 NUMBER = re.compile(r"^(buffer|vl|jitter_us|latency_us|skew_us) = (\d+)$", re.M)
+ROW_KEYS = ("vl", "jitter_us", "latency_us", "skew_us")
+OTHER_TABLES = "solve wrote other tables than it was given"
 # parts of what is left over that are given to all switches of a way; the last one gets the rest
 PARTS = (1, 2, 4, 8)
 
@@ -40,23 +42,22 @@ def text_with(cascade: Cascade, values: Values) -> bytes:
 
 def values_in(cascade: Cascade, text: str) -> Values:
     """The values that stand in what `solve` wrote."""
-    values = Values()
-    numbers: Iterator[tuple[str, str]] = iter(NUMBER.findall(text))
-
-    def number(key: str) -> int:
-        found, digits = next(numbers, ("", "0"))
-        if found != key:
-            raise Failed("solve wrote other tables than it was given", 4)
-        return int(digits)
-
+    keys, numbers = [], []
+    for key, digits in NUMBER.findall(text):
+        keys.append(key)
+        numbers.append(int(digits))
+    wanted = [key for switch in cascade.switches
+              for key in ("buffer", *(ROW_KEYS * len(cascade.rows[switch])))]
+    values, left = Values(), iter(numbers)
+    if keys != wanted:
+        raise Failed(OTHER_TABLES, 4)
     for switch in cascade.switches:
-        values.buffers[switch] = number("buffer")
-        for vl in cascade.rows[switch]:
-            if number("vl") != vl:
-                raise Failed("solve wrote other tables than it was given", 4)
-            values.jitters[switch, vl] = number("jitter_us")
-            values.latencies[switch, vl] = number("latency_us")
-            values.skews[switch, vl] = number("skew_us")
+        values.buffers[switch] = next(left)
+        for vl, found, *others in zip(cascade.rows[switch], left, left, left, left):
+            if found != vl:
+                raise Failed(OTHER_TABLES, 4)
+            place = switch, vl
+            values.jitters[place], values.latencies[place], values.skews[place] = others
     return values
 
 
