@@ -198,9 +198,66 @@ room_over_tests() {
         says err 'line 3, attitude: within_us 300: to fcc it can take 192 us (nose 147, bay 45); 383'
         says err ' is enough with a reserve of 100 %'
     )"
-    icd_over "$at" --since examples/two_switches.toml
-    tell 'changes are told of one switch a side alone' "$(
-        is_refused "$at" 2 '--since knows configurations of one switch a side alone'
+}
+
+# ---- what changed ------------------------------------------------------------------------------
+
+since_over_tests() {
+    local at=$work/icd/since_over heading='heading,23,fcc,disp,20,50,300,high,1023,sampling,1'
+    three_tables "$at" '' '' ''
+    icd_over "$at"
+    cp "$at/made.toml" "$at/earlier.toml"
+    icd_over "$at" --since earlier.toml
+    tell 'nothing changed over two switches' "$(
+        is_status 0
+        text_is out $'nothing changed\nok\n'
+        same "$at/earlier.toml" "$at/made.toml"
+    )"
+    sed -i "\$s/\$/\n$heading/; 9s/,600,/,700,/" "$at/messages.csv"
+    icd_over "$at" --since earlier.toml
+    tell 'each number that changed, at each switch' "$(
+        is_status 0
+        text_is err ''
+        text_is out "nose: link 23, heading: new
+nose: link 21, flight plan: jitter_us 2421 to 2430 (jitter and latency at bay)
+nose: link 22, alerts: jitter_us 434 to 443 (jitter and latency at bay)
+nose: link 30, positions: latency_us 330 to 430 (its share of what the table allows)
+nose: link 30, positions: skew_us 600 to 700 (as the latencies on its way)
+nose: buffer 1853 to 1972 (1972 bytes can wait for disp; new to disp: link 23; other jitter_us: \
+links 21, 22)
+bay: link 23, heading: new
+bay: links 20, 21, 22: jitter_us 164 to 173 (new from fcc: link 23)
+bay: buffer 1505 to 1623 (1623 bytes can wait for nose; new to nose: link 23; other jitter_us: \
+links 21, 22)
+ok
+"
+    )"
+    icd_over "$at" --since earlier.toml --reserve 50
+    tell 'room for what has to rise' "$(
+        is_status 0
+        sed -n "s/^bay: buffer 1505 to \([0-9]*\).*/\1/p" "$work/out" | grep -vx 2435
+    )"
+    sed -i '2s/nose,24/nose,23/; $s/$/\nnose,22,mid,1,100/' "$at/cables.csv"
+    sed -i '4s/nose/mid/' "$at/systems.csv"
+    icd_over "$at" --raise --since earlier.toml
+    tell 'cables, switches and systems that are others' "$(
+        is_status 0
+        says out 'switch mid: new'
+        says out 'nose: cable to mid: new'
+        says out 'nose: cable to bay: port 24 to 23'
+        says out 'nose: system disp: gone'
+    )"
+    cp examples/base.toml "$at/one.toml"
+    icd_over "$at" --since one.toml
+    tell 'an earlier configuration of one switch a side' "$(
+        is_status 2
+        text_is err $'afdx-icd: one.toml: it has one switch a side, and the tables have several\n'
+    )"
+    tables "$at/one" '' ''
+    icd "$at/one" --since ../earlier.toml
+    tell 'an earlier configuration of several' "$(
+        is_status 2
+        says err 'earlier.toml: it has several switches a side, and the tables have one'
     )"
 }
 
@@ -290,6 +347,7 @@ if [[ -n $built ]] && "$program" solve examples/two_switches.toml >/dev/null 2>&
     way_tests
     late_over_tests
     room_over_tests
+    since_over_tests
     fault_over_tests
     via_tests
     random_over_tests

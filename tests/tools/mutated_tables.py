@@ -24,7 +24,7 @@ from afdx_tools.icd.cascade import Cascade, Values  # noqa: E402
 from afdx_tools.icd.document import Document  # noqa: E402
 from afdx_tools.icd.layout import asked_text  # noqa: E402
 from afdx_tools.icd.reading import read_document  # noqa: E402
-from afdx_tools.icd.sharing import text_with  # noqa: E402
+from afdx_tools.icd.making import text_with  # noqa: E402
 from least import solve_fault  # noqa: E402
 from switch_fault import file_fault  # noqa: E402
 

@@ -186,8 +186,7 @@ class Shares(unittest.TestCase):
 
     def test_the_last_switch_has_the_rest(self) -> None:
         limits = limits_of(self.cascade, self.least)
-        values = Values(latencies=shares(self.cascade, limits, self.least))
-        made = filled(self.cascade, limits, values)
+        made = filled(self.cascade, limits, shares(self.cascade, limits, self.least))
         self.assertEqual(made, {("a", 1): 25, ("b", 1): 51, ("c", 1): 14})
         self.assertEqual(needed(self.cascade, made), {self.receiver: 90})
         self.assertEqual(left_over(self.cascade, limits, made), {self.receiver: 0})
@@ -208,8 +207,8 @@ class Shares(unittest.TestCase):
         limits = limits_of(cascade, least)
         found = shares(cascade, limits, least)
         self.assertEqual(found, {("a", 1): 20, ("b", 1): 20, ("c", 1): 20, ("d", 1): 50})
-        values = filled(cascade, limits, Values(latencies=found))
-        self.assertEqual(values, {("a", 1): 20, ("b", 1): 20, ("c", 1): 20, ("d", 1): 80})
+        made_full = filled(cascade, limits, found)
+        self.assertEqual(made_full, {("a", 1): 20, ("b", 1): 20, ("c", 1): 20, ("d", 1): 80})
 
 
 class Faults(unittest.TestCase):

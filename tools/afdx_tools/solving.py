@@ -11,7 +11,6 @@ from afdx_tools.program import program, version
 
 AS_WRITTEN = "jitter,buffer,latency,skew"  # the keys that `solve` finds; kept, all stay
 NEED = re.compile(r"vl (\d+) at (?:([A-Za-z0-9]+) )?(\d+): (\d+) ns needed, (\d+) us asked")
-SEVERAL = "so far afdx-icd makes no change to a configuration of several switches a side"
 
 
 class Need(NamedTuple):
@@ -133,9 +132,6 @@ def read_admitted(path: str) -> dict:
     if written.line:
         raise Refused(f"{shown(path)}: {written.line}")
     try:
-        tables = tomllib.loads(written.text)
+        return tomllib.loads(written.text)
     except ValueError as error:
         raise Failed("solve wrote no configuration", 4) from error
-    if "switch" in tables:
-        raise Refused(SEVERAL)
-    return tables

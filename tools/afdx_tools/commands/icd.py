@@ -30,10 +30,12 @@ from afdx_tools.command_line import Parser, whole
 from afdx_tools.faults import Failed, Refused, shown
 from afdx_tools.guard import guarded
 from afdx_tools.icd.aircraft import left_out, made_of
-from afdx_tools.icd.cascade import Cascade
+from afdx_tools.icd.cascade import Cascade, Values
 from afdx_tools.icd.changes import Comparison
+from afdx_tools.icd.changes_over import change_lines
 from afdx_tools.icd.document import Document
 from afdx_tools.icd.layout import asked_text, config_text, with_solved
+from afdx_tools.icd.making import text_with
 from afdx_tools.icd.reading import add_document_words, read_document
 from afdx_tools.icd.room import room_of, roomy
 from afdx_tools.icd.untimely import late_lines, refusal
@@ -62,19 +64,28 @@ def solved_tables(document: Document, text: str) -> dict:
         raise Failed("solve wrote other tables than it was given", 4) from error
 
 
+def read_earlier(path: str, document: Document) -> dict:
+    """The tables of an earlier configuration; Refused if it isn't admitted, or of another kind than
+    the document."""
+    tables = read_admitted(path)
+    if "switch" in tables and document.cabling is None:
+        raise Refused(f"{shown(path)}: it has several switches a side, and the tables have one")
+    if "switch" not in tables and document.cabling is not None:
+        raise Refused(f"{shown(path)}: it has one switch a side, and the tables have several")
+    return tables
+
+
 def run() -> int:
     """Makes the configuration that the words ask for; the status."""
     args = words().parse_args()
-    if args.cables is not None and args.since is not None:
-        raise Refused("--since knows configurations of one switch a side alone")
     document, remarks = read_document(args)
     say(remarks)
     if document.faults:
         say(document.faults)
         return 2
+    since = None if args.since is None else read_earlier(args.since, document)
     if document.cabling is not None:
-        return make_several(args, Cascade(document, document.cabling))
-    since = None if args.since is None else read_admitted(args.since)
+        return make_several(args, Cascade(document, document.cabling), since)
     solved = solve(asked_text(document))
     if solved.line:
         say([refusal(document, solved.line)])
@@ -82,12 +93,16 @@ def run() -> int:
     return make(args, document, solved_tables(document, solved.text), since)
 
 
-def make_several(args: argparse.Namespace, cascade: Cascade) -> int:
+def make_several(args: argparse.Namespace, cascade: Cascade, since: dict | None) -> int:
     """Makes the configuration of several switches a side; the status."""
     say(left_out(cascade))
-    made = made_of(cascade, args.reserve, args.raised)
-    say(made.late)
-    return write(args, made.config, []) if made.config else 1
+    old = [] if since is None else since["switch"]
+    late, values = made_of(cascade, args.reserve, Values.of(old), args.raised)
+    say(late)
+    if values is None:
+        return 1
+    lines = [] if since is None else change_lines(cascade, old, values)
+    return write(args, text_with(cascade, values), lines)
 
 
 def make(args: argparse.Namespace, document: Document, tables: dict, since: dict | None) -> int:

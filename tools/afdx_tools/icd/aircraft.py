@@ -3,25 +3,19 @@ from __future__ import annotations
 
 from typing import NamedTuple
 
-from afdx_tools.icd.cascade import Cascade
+from afdx_tools.icd.cascade import Cascade, Values
 from afdx_tools.icd.late_ways import late_lines
+from afdx_tools.icd.making import Making, Unsolved
 from afdx_tools.icd.room import Room
-from afdx_tools.icd.sharing import (
-    Unsolved,
-    given_out,
-    needed,
-    solved,
-    solved_with_room,
-    text_with,
-    with_buffers,
-)
+from afdx_tools.icd.sharing import given_out, needed
 
 
 class Made(NamedTuple):
-    """A configuration, empty where there is none; and lines about what can't be as it is asked."""
+    """Lines about what can't be as it is asked; and values, which are none where there can be no
+    configuration."""
 
-    config: bytes
     late: list[str]
+    values: Values | None
 
 
 def left_out(cascade: Cascade) -> list[str]:
@@ -35,19 +29,18 @@ def left_out(cascade: Cascade) -> list[str]:
     return [text + ", ".join(pairs)] if pairs else []
 
 
-def made_of(cascade: Cascade, reserve: int, is_raised: bool) -> Made:
+def made_of(cascade: Cascade, reserve: int, old: Values, is_raised: bool) -> Made:
     """The configuration with the latencies that the document allows; where they aren't enough for a
     message there is none, unless it may be raised."""
-    room = Room(reserve)
+    new, again = (Making(cascade, Room(reserve), values) for values in (Values(), old))
     try:
-        least = roomy = solved(cascade, {})
+        least = roomy = new.solved({})
         if reserve:
-            roomy = solved_with_room(cascade, least.latencies, room)
+            roomy = new.with_room(least.latencies)
         enough = needed(cascade, roomy.latencies)
         late = late_lines(cascade, least.latencies, enough, reserve)
         if late and not is_raised:
-            return Made(b"", late)
-        values = with_buffers(cascade, given_out(cascade, roomy, room), room)
+            return Made(late, None)
+        return Made(late, again.with_buffers(given_out(again, roomy)))
     except Unsolved as fault:
-        return Made(b"", [str(fault)])
-    return Made(text_with(cascade, values), late)
+        return Made([str(fault)], None)

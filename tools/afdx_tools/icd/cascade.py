@@ -29,6 +29,18 @@ class Values:
     latencies: dict[Place, int] = field(default_factory=dict)
     skews: dict[Place, int] = field(default_factory=dict)
 
+    @staticmethod
+    def of(switches: list[dict]) -> Values:
+        """The values in the tables of switches."""
+        rows = {(tables["name"], row["vl"]): row
+                for tables in switches for row in tables.get("link", [])}
+        jitters, latencies, skews = (
+            {place: row[key] for place, row in rows.items()}
+            for key in ("jitter_us", "latency_us", "skew_us")
+        )
+        buffers = {tables["name"]: tables["buffer"] for tables in switches}
+        return Values(buffers, jitters, latencies, skews)
+
 
 class Cascade:
     """The rows of a document's links at the switches, and the switches on the way to each receiver,
