@@ -232,10 +232,11 @@ links 21, 22)
 ok
 "
     )"
-    icd_over "$at" --since earlier.toml --reserve 50
+    icd_over "$at" --since earlier.toml --reserve 2
     tell 'room for what has to rise' "$(
         is_status 0
-        sed -n "s/^bay: buffer 1505 to \([0-9]*\).*/\1/p" "$work/out" | grep -vx 2435
+        says out 'bay: buffer 1505 to 1656 (1623 bytes can wait for nose; '
+        row_says "$at" bay 12 'latency_us = 971'
     )"
     sed -i '2s/nose,24/nose,23/; $s/$/\nnose,22,mid,1,100/' "$at/cables.csv"
     sed -i '4s/nose/mid/' "$at/systems.csv"
