@@ -8,8 +8,8 @@ examples/light_systems.csv and so on. What afdx-icd makes of each must be admitt
 are computed apart. Each link must go to its receivers, and to no switch for nothing, on ways of the
 fewest cables, or on those that the document gives; each message must be in time from end to end,
 and what the document allows be given out. Where messages can't be in time just these must be named,
-with what is enough for them. Prints what isn't so, then how many were made; ends with status 1 if
-something isn't.
+with what is enough for them. What was made stays with --since where the tables stay. Prints what
+isn't so, then how many were made; ends with status 1 if something isn't.
 """
 from __future__ import annotations
 
@@ -333,8 +333,11 @@ def tried(folder: str, tables: Tables) -> bool:
             switch = next(sw for sw in made["switch"] if sw["name"] == tables.switch_of(system))
             link = next(link for link in switch["link"] if link["vl"] == row["vl"])
             must(link["skew_us"] >= row["skew_us"], f"the skew of link {row['vl']}")
-    status, again = icd(folder)
+    status, _ = icd(folder)
     must(status == (1 if said[:-1] else 0), f"without --raise {status}")
+    status, again = icd(folder, "--raise", "--since", "made.toml")
+    must(status == 0 and again == [*said[:-1], "nothing changed", "ok"], f"since {again}")
+    must(read(folder) == made, "what was kept is another")
     return True
 
 

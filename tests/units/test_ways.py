@@ -3,15 +3,18 @@ from __future__ import annotations
 
 import unittest
 
+from afdx_tools.faults import Failed
 from afdx_tools.icd.cabling import CABLES
 from afdx_tools.icd.cascade import Cascade, Receiver, Values
 from afdx_tools.icd.document import CABLED_MESSAGES, CABLED_SYSTEMS, Document
 from afdx_tools.icd.layout import several_text
+from afdx_tools.icd.making import Making, values_in
 from afdx_tools.icd.reading import document_of
-from afdx_tools.icd.sharing import filled, left_over, limits_of, needed, shares
+from afdx_tools.icd.room import Room
+from afdx_tools.icd.sharing import filled, left_over, limits_of, needed, shares, wishes
 from afdx_tools.icd.ways import shortest, way_to
-from afdx_tools.spreadsheets.sheets import Sheet, cells_of, row_of
 from afdx_tools.spreadsheets.heads import columns_of
+from afdx_tools.spreadsheets.sheets import Sheet, cells_of, row_of
 
 CABLE_HEAD = "switch,port,switch,port,rate\n"
 SYSTEM_HEAD = "system,switch,port,id,partition,rate\n"
@@ -209,6 +212,68 @@ class Shares(unittest.TestCase):
         self.assertEqual(found, {("a", 1): 20, ("b", 1): 20, ("c", 1): 20, ("d", 1): 50})
         made_full = filled(cascade, limits, found)
         self.assertEqual(made_full, {("a", 1): 20, ("b", 1): 20, ("c", 1): 20, ("d", 1): 80})
+
+
+class Wishes(unittest.TestCase):
+    """Which latencies are asked for one after the other."""
+
+    def setUp(self) -> None:
+        rows = ROW.format("m", 1, "q", 30, 1, "") + ROW.format("n", 2, "q", "", 1, "")
+        made = document(RING, PLACES, rows)
+        assert made.cabling is not None
+        self.cascade = Cascade(made, made.cabling)
+        self.least = {("a", 1): 5, ("b", 1): 10, ("a", 2): 7, ("b", 2): 8}
+
+    def asked(self, old: Values) -> list[list[int]]:
+        """The wishes, each as the latencies of link 1 at both switches and of link 2."""
+        making = Making(self.cascade, Room(0), old)
+        limits = limits_of(self.cascade, self.least)
+        return [list(each.values()) for each in wishes(making, self.least, limits)]
+
+    def test_parts_of_what_is_left_over(self) -> None:
+        self.assertEqual(
+            self.asked(Values()), [[10, 20, 7, 8], [7, 15, 7, 8], [6, 12, 7, 8], [5, 11, 7, 8]]
+        )
+
+    def test_what_an_earlier_configuration_has_comes_first(self) -> None:
+        old = Values(latencies={("a", 1): 9, ("b", 1): 21, ("b", 2): 11, ("c", 1): 4})
+        first, second, *others = self.asked(old)
+        self.assertEqual(first, [9, 21, 7, 11])
+        self.assertEqual(second, [10, 20, 7, 11])
+        self.assertEqual(others[3:], self.asked(Values()))
+
+    def test_none_where_the_document_says_nothing(self) -> None:
+        made = document(RING, PLACES, ROW.format("n", 2, "q", "", 1, ""))
+        assert made.cabling is not None
+        making = Making(Cascade(made, made.cabling), Room(0), Values())
+        self.assertEqual(list(wishes(making, {("a", 2): 7, ("b", 2): 8}, {})), [])
+
+
+class WrittenBySolve(unittest.TestCase):
+    """What `solve` writes of several switches."""
+
+    TEXT = "[[switch]]\nbuffer = 64\n\n[[switch.link]]\nvl = 1\njitter_us = 2\n"
+    TEXT += "latency_us = 3\nskew_us = 4\n\n"
+
+    def setUp(self) -> None:
+        systems = "p,a,20,1,1,100\nq,b,20,2,1,100\n"
+        made = document(cables_text("ab"), systems, ROW.format("m", 1, "q", "", 1, ""))
+        assert made.cabling is not None
+        self.cascade = Cascade(made, made.cabling)
+
+    def test_its_values(self) -> None:
+        other = self.TEXT.replace("= 3", "= 30").replace("64", "65")
+        values = values_in(self.cascade, self.TEXT + other)
+        self.assertEqual(values.buffers, {"a": 64, "b": 65})
+        self.assertEqual(values.latencies, {("a", 1): 3, ("b", 1): 30})
+        self.assertEqual((values.jitters["b", 1], values.skews["b", 1]), (2, 4))
+
+    def test_other_tables_are_refused(self) -> None:
+        for text in ("", self.TEXT, self.TEXT * 3, self.TEXT * 2 + "vl = 1\n",
+                     self.TEXT + self.TEXT.replace("vl = 1", "vl = 2"),
+                     self.TEXT + self.TEXT.replace("skew_us = 4\n", "")):
+            with self.assertRaises(Failed):
+                values_in(self.cascade, text)
 
 
 class Faults(unittest.TestCase):
