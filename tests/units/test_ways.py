@@ -213,6 +213,18 @@ class Shares(unittest.TestCase):
         made_full = filled(cascade, limits, found)
         self.assertEqual(made_full, {("a", 1): 20, ("b", 1): 20, ("c", 1): 20, ("d", 1): 80})
 
+    def test_of_two_receivers_at_a_switch_the_one_that_may_wait_less_counts(self) -> None:
+        made = document(
+            RING, PLACES + "u,c,21,5,1,100\n",
+            ROW.format("m", 1, "r", 60, 1, "") + ROW.format("n", 1, "u", 90, 2, ""),
+        )
+        assert made.cabling is not None
+        cascade = Cascade(made, made.cabling)
+        least = {("a", 1): 10, ("b", 1): 10, ("c", 1): 9}
+        limits = limits_of(cascade, least)
+        found = filled(cascade, limits, shares(cascade, limits, least))
+        self.assertEqual(found, {("a", 1): 20, ("b", 1): 20, ("c", 1): 20})
+
 
 class Wishes(unittest.TestCase):
     """Which latencies are asked for one after the other."""
