@@ -31,14 +31,15 @@ counted_ways_tests() {
         is_counted two "$two.toml" "$two.list"
         sums_are two
     )"
-    sed 's/^profile = 1/profile = 2/; s/^buffer = 254/buffer = 64/; s/^latency_us = 21/latency_us = 6/
+    sed 's/^profile = 1/profile = 2/; s/^buffer = 254/buffer = 64/
+        s/^latency_us = 21/latency_us = 6/
         s/^latency_us = 18/latency_us = 6/' "$two.toml" >"$flying/small.toml"
     tell 'and where copies are lost, late and too old' "$(
         is_counted small "$flying/small.toml" "$two.list" --no-admission
         sums_are small
         wants_number "$flying/small/report.json" 'r["totals"]["at_switches"]' \
-            "{'dropped': {'fwd': 2, 'aft': 1}, 'full_buffer': {'aft': 1}, 'late': {'aft': 8},\
- 'too_old': {'aft': 1}}"
+            "{'dropped': {'fwd': 2, 'aft': 1}, 'full_buffer': {'aft': 1}, 'late': {'fwd': 2,\
+ 'aft': 10}, 'too_old': {'aft': 1}}"
         says out 'full-buffer: 1 copy (1 at aft) lost to a full buffer'
     )"
     tests/tools/sample_list.py examples/aircraft.toml --ms 200 >"$flying/sample.list"
@@ -60,7 +61,10 @@ place_tests() { # of what was made before
         done
     )"
     launch tools/afdx-report "$two.toml" "$two.list" --compare "$flying/two/report.json" --json
-    tell 'compared with itself' "$(is_status 0; wants_number "$work/out" 'r["compared"]["rows"]' '[]')"
+    tell 'compared with itself' "$(
+        is_status 0
+        wants_number "$work/out" 'r["compared"]["rows"]' '[]'
+    )"
     launch tools/afdx-report --no-admission "$flying/small.toml" "$two.list" --json \
         --compare "$flying/two/report.json" --fail-on dropped,lost --junit "$flying/junit.xml"
     tell 'compared, judged and reported with places' "$(
@@ -78,7 +82,7 @@ place_tests() { # of what was made before
     launch tools/afdx-report "$two.toml" examples/one_link.list --json
     tell 'a list of one switch' "$(
         is_status 3
-        says err 'list BadLine 4'
+        says err 'list BadLine 1'
         wants_number "$work/out" 'r["totals"]["frames"]' 0
     )"
     launch tools/afdx-campaign "$two.toml" "$flying/sample.list" "$two.list" --out "$flying/many"
@@ -86,7 +90,8 @@ place_tests() { # of what was made before
     launch tools/afdx-campaign examples/aircraft.toml "$flying/sample.list" --out "$flying/many"
     tell 'a campaign names ports with their switches' "$(
         is_status 0
-        grep -qE ',[0-9]+ at [a-z]+ port [0-9]+' "$flying/many/campaign.csv" || echo 'it has none'
+        grep -qE '"[0-9]+ at [a-z]+ port [0-9]+, [AB]"' "$flying/many/campaign.csv" ||
+            echo 'it has none'
     )"
 }
 
@@ -129,9 +134,8 @@ no_graphviz_tests() {
         examples/two_switches.list --out "$flying/broken"
     tell 'without Graphviz the page says so' "$(
         is_status 0
-        grep -q 'Graphviz isn.t installed (apt-get install graphviz)' "$flying/broken/report.html" ||
-            grep -q 'Graphviz isn&#x27;t installed' "$flying/broken/report.html" ||
-            echo 'it is not said'
+        grep -qE 'Graphviz isn.{1,6}t installed \(apt-get install graphviz\)' \
+            "$flying/broken/report.html" || echo 'it is not said'
     )"
 }
 

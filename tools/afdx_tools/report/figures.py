@@ -293,7 +293,9 @@ def loads_part(
     pairs: dict[tuple[str, int], list[Row]] = {}
     for port in ports:
         pairs.setdefault(place_of_port(port), []).append(port)
-    left, right, bottom = NAME, WIDTH - 190, 12 + 40 * len(pairs)
+    names = [f"{port_of(pair[0])}, {pair[0]['system']}" for pair in pairs.values()]
+    longest = max(map(len, names)) if "switch" in ports[0] else 0
+    left, right, bottom = max(NAME, 20 + 7 * longest), WIDTH - 190, 12 + 40 * len(pairs)
     start, width = found["start_ns"], found["step_ns"]
 
     def place_x(step: float) -> float:
@@ -305,8 +307,7 @@ def loads_part(
     words: list[str] = []
     for place, pair in enumerate(pairs.values()):
         base = 26 + 40 * place
-        name_of = f"{port_of(pair[0])}, {pair[0]['system']}"
-        parts.append(text(left - 12, base + 4, name_of, "", "end"))
+        parts.append(text(left - 12, base + 4, names[place], "", "end"))
         for one in pair:
             row = rows[(*place_of_port(one), one["side"])]
             parts += port_load(one, row, most, base, place_x, right)

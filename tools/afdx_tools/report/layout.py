@@ -9,6 +9,7 @@ from typing import NamedTuple, Sequence
 ENGINE = "neato"
 INCH = 72  # points of Graphviz, and units of the picture
 PATIENCE = 60  # seconds
+NEAR = 0.01  # between points that are one
 STEPS = 10  # points on each curve of a cable
 HEAD = (
     "graph { graph [overlap=prism, splines=true, sep=\"+26\", esep=\"+9\", "
@@ -103,6 +104,12 @@ def halves(points: Sequence[Point]) -> tuple[list[Point], list[Point]]:
             share = left / length if length else 0.0
             (x1, y1), (x2, y2) = points[n], points[n + 1]
             middle = x1 + share * (x2 - x1), y1 + share * (y2 - y1)
-            return [*points[: n + 1], middle], [*reversed(points[n + 1 :]), middle]
+            return to(points[: n + 1], middle), to(points[:n:-1], middle)
         left -= length
     return list(points), [points[-1]]
+
+
+def to(points: Sequence[Point], end: Point) -> list[Point]:
+    """A line on to its end; a last point that is nearly there has no direction to it."""
+    near = len(points) > 1 and math.dist(points[-1], end) < NEAR
+    return [*(points[:-1] if near else points), end]

@@ -83,11 +83,11 @@ def hops(counting: Counting, pairs: Sequence[Sequence[Row]], most: int) -> str:
     parts = [
         box(LEFT, 4, 30, 8, "asked"),
         text(LEFT + 36, 13, "what each switch may take"),
-        box(LEFT + 206, 4, 14, 8, "replayed"),
-        box(LEFT + 220, 4, 14, 8, "median"),
-        text(LEFT + 240, 13, "what each took of the longest"),
-        box(LEFT + 436, 4, 24, 8, "late"),
-        text(LEFT + 466, 13, "over it"),
+        box(LEFT + 226, 4, 14, 8, "replayed"),
+        box(LEFT + 240, 4, 14, 8, "median"),
+        text(LEFT + 260, 13, "what each took of the longest"),
+        box(LEFT + 466, 4, 24, 8, "late"),
+        text(LEFT + 496, 13, "over it"),
     ]
     words = []
     for n, row in enumerate(shown):

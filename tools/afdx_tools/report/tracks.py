@@ -122,14 +122,15 @@ def arrivals_of(counting: Counting, lines: np.ndarray) -> list[Arrived]:
 
 
 def lane_names(counting: Counting, vl: int) -> dict[int, str]:
-    """The lanes of a link: of each switch on its ways the arrivals, then its output ports there."""
+    """The lanes of a link: of each switch on its ways the arrivals, which have the switch's name,
+    then its output ports there."""
     config, lanes = counting.config, {}
     ports = list(config.links[vl].ports)
     if config.several:
         ports = [port for each, port in config.several.ways if each == vl]
     for lane in dict.fromkeys(map(switch_lane, ports)):
         name = config.switch_of(lane)
-        lanes[lane] = f"{name}: arrivals" if name else "arrivals"
+        lanes[lane] = name
         for port in ports:
             if switch_lane(port) == lane:
                 lanes[port] = f"port {port % MOST_PORTS}, {counting.by_port[port].name}"
@@ -228,13 +229,19 @@ def one_arrival(
     return parts
 
 
+def left_of(names: dict[int, str]) -> float:
+    """Where the lanes begin: behind their names, which are longer where they name switches."""
+    is_of_several = any(lane == switch_lane(lane) and name for lane, name in names.items())
+    return max(150, 20 + 7.2 * max(map(len, names.values()))) if is_of_several else 150
+
+
 def track(name: str, arrivals: list[Arrived], names: dict[int, str]) -> str:
     """The time line of one link: arrivals, verdicts, departures. `names` are those of its lanes."""
     lanes = lanes_of(arrivals, names)
     begin = arrivals[0].time
     end = max([a.time for a in arrivals] + [copy.time for a in arrivals for copy in a.copies])
     pad = max((end - begin) * 0.02, 500)
-    left, right = 150, WIDTH - 20
+    left, right = left_of(names), WIDTH - 20
 
     def place(time: float) -> float:
         return left + (right - left) * (time - begin + pad) / (end - begin + 2 * pad)
@@ -244,7 +251,8 @@ def track(name: str, arrivals: list[Arrived], names: dict[int, str]) -> str:
     parts += time_axis(begin - pad, end + pad, place, 34, bottom)
     for (side, port), y in lanes.items():
         is_in = port == switch_lane(port)
-        lane = f"side {side}: {names[port]}" if is_in else names[port]
+        name = f"{side} {names[port]}" if names[port] else f"side {side}: arrivals"
+        lane = name if is_in else names[port]
         parts.append(text(left - 12, y + 4, lane, "strong" if is_in else "muted", "end"))
         parts.append(line(left, y, right, y, "rule"))
     for arrived in arrivals:
