@@ -1,13 +1,14 @@
 """The ways of links over cables, and how the time that a document allows is shared over them."""
 from __future__ import annotations
 
+import tomllib
 import unittest
 
 from afdx_tools.faults import Failed
 from afdx_tools.icd.cabling import CABLES
 from afdx_tools.icd.cascade import Cascade, Receiver, Values
 from afdx_tools.icd.document import CABLED_MESSAGES, CABLED_SYSTEMS, Document
-from afdx_tools.icd.layout import several_text
+from afdx_tools.icd.layout import several_text, shortened
 from afdx_tools.icd.making import Making, values_in
 from afdx_tools.icd.reading import document_of
 from afdx_tools.icd.room import Room
@@ -169,6 +170,18 @@ class Rows(unittest.TestCase):
         self.assertIn(b'[[switch]]\n# a_1\nname = "a1x2"\n', text)
         self.assertIn(b'  # a-1\n  { name = "a1x3", port = 1, rate = 100 },\n', text)
         self.assertIn(b'  # b_\n  { name = "b", port = 2, ', text)
+
+    def test_a_text_that_would_be_too_long(self) -> None:
+        made = document("a_1,1,b,1,100\n", "s,a_1,2,1,1,100\nt,b,2,2,1,100\nu,b,3,3,1,100\n",
+                        'a = { b },1,s,t u,9,9,,low,1,sampling,\n')
+        assert made.cabling is not None
+        cascade = Cascade(made, made.cabling)
+        text = several_text(made, [cascade.tables(name, Values()) for name in cascade.switches])
+        short = shortened(text)
+        self.assertEqual(tomllib.loads(short.decode()), tomllib.loads(text.decode()))
+        self.assertIn(b'[[switch]]\n# a_1\nname="a1"\nprofile=2\nsystem=[\n{name="s",port', short)
+        self.assertIn(b'{vl=1,from="a1",to=["t","u"],bag_ms=8,', short)
+        self.assertNotIn(b"a = { b }", short)
 
 
 class Shares(unittest.TestCase):

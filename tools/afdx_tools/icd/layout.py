@@ -9,6 +9,7 @@ from afdx_tools.icd.document import Document
 
 SOLVED = ("jitter_us", "latency_us", "skew_us")  # the keys of a link that `solve` finds
 PARTS = ("system", "link", "port")
+SHORTER = (("  {", "{"), (", ", ","), (" = ", "="), ("{ ", "{"), (" }", "}"))
 PARTS_OF_SEVERAL = ("system", "neighbour", "link", "port")
 
 
@@ -90,6 +91,18 @@ def several_text(document: Document, switches: list[dict]) -> bytes:
         for part in filter(tables.get, PARTS_OF_SEVERAL):
             lines += part_lines(document, part, tables[part], renamed | called)
     return text_of(document, lines)
+
+
+def shortened(config: bytes) -> bytes:
+    """The same configuration without the names of messages and most spaces. In quotes stand names
+    of the configuration alone, which have none of what is shortened."""
+    lines = []
+    for line in config.decode().splitlines():
+        if not line.startswith("  # "):
+            for long, short in SHORTER if not line.startswith("#") else ():
+                line = line.replace(long, short)
+            lines.append(line)
+    return "".join(f"{line}\n" for line in lines).encode()
 
 
 def with_solved(document: Document, solved: dict) -> dict:

@@ -8,7 +8,7 @@ from typing import Mapping
 from afdx_tools.faults import Failed, Refused
 from afdx_tools.icd.cascade import Cascade, Place, Values
 from afdx_tools.icd.late_ways import refusal, too_full, too_late
-from afdx_tools.icd.layout import several_text
+from afdx_tools.icd.layout import several_text, shortened
 from afdx_tools.icd.room import Room
 from afdx_tools.icd.untimely import MOST_BUFFER
 from afdx_tools.solving import Worst, run, solve
@@ -27,12 +27,14 @@ class Unsolved(Exception):
 
 
 def text_with(cascade: Cascade, values: Values) -> bytes:
-    """The configuration with these values; Refused where none may be so long."""
+    """The configuration with these values, without names of messages and most spaces where it would
+    be too long; Refused where it is even then."""
     tables = [cascade.tables(switch, values) for switch in cascade.switches]
     text = several_text(cascade.document, tables)
     if len(text) > MOST_BYTES:
-        size = f"the configuration has {len(text)} bytes; {MOST_BYTES} are the most"
-        raise Refused(size)
+        text = shortened(text)
+    if len(text) > MOST_BYTES:
+        raise Refused(f"the configuration has {len(text)} bytes; {MOST_BYTES} are the most")
     return text
 
 
