@@ -9,7 +9,8 @@ several=$work/several
 
 filled_tests() {
     local two=examples/two_switches.toml low=$several/low.toml
-    sed -E 's/^(latency_us =) [0-9]+/\1 1/; s/^(buffer =) [0-9]+/\1 64/' "$two" >"$low"
+    sed -E 's/^(latency_us =) [0-9]+/\1 1/; s/^(buffer =) [0-9]+/\1 64/
+        s/^(jitter_us =) 5(17|21)/\1 0/' "$two" >"$low"
     fill "$low"
     tell 'filled: a configuration of several switches' "$(
         is_status 0

@@ -36,6 +36,11 @@ PROVED = (
     "and each leaves its port within its link's configured latency; the bound of a port is the "
     "least latency in ns that admission takes there."
 )
+PROVED_OF_SEVERAL = (
+    " Of several switches the latencies from end to end (E) are such lines too. On admitted ones "
+    "each frame that a cable brings is accepted, and leaves each port of its link's way within the "
+    "configured latencies up to there together."
+)
 UNPROMISED = "This network is not admitted, so nothing promises its bounds."
 COUNTED = (
     "Counted by this report from those lines and the list, and not proved: all sums; latencies in "

@@ -329,7 +329,8 @@ def words() -> argparse.ArgumentParser:
         (
             "pcap",
             "a frame list to a recording",
-            "Writes a frame list, or what `afdx send` writes, as pcap with times in ns.",
+            "Writes a frame list, or what `afdx send` writes, as pcap with times in ns; of several "
+            "switches as pcapng, with an interface for each port.",
             pcap_words,
             to_recording,
         ),
@@ -337,8 +338,9 @@ def words() -> argparse.ArgumentParser:
             "annotate",
             "a list or recordings as a recording whose frames tell what became of them",
             "Replays a frame list or recordings, and writes the frames as pcapng; the lines of the "
-            "replay about a frame are its comments. Recorded frames stay as they were recorded; "
-            "those that were left out say why.",
+            "replay about a frame are its comments. Of a list of several switches a frame stands "
+            "there once for each switch to which it came. Recorded frames stay as they were "
+            "recorded; those that were left out say why.",
             annotate_words,
             to_annotated,
         ),

@@ -197,7 +197,7 @@ class Map:
         moved = f'<g transform="translate({MARGIN} {TOP})">{"".join(drawn)}</g>'
         return (
             f'<svg viewBox="0 0 {width:.0f} {height:.0f}" class="map" role="img" '
-            f'style="--most:{width:.0f}px;--least:{min(width, 1160) * 0.85:.0f}px" '
+            f'style="--most:{width:.0f}px;--least:{0.75 * width:.0f}px" '
             f'aria-labelledby="{name}-label {name}-numbers"><title id="{name}-label">'
             f'Load of the lines of the network</title><desc id="{name}-numbers">'
             f"{in_words(lines)}</desc>" + "".join(legend(shown)) + moved + "</svg>"

@@ -20,7 +20,7 @@ from afdx_tools.report.ranking import FEWEST, latencies_of, place_of, ranked
 from afdx_tools.report.several import hops_section, network_sections
 from afdx_tools.report.style import POLICY, SCRIPT, STYLE
 from afdx_tools.report.where import Where
-from afdx_tools.tables import COUNTED, EARLY, PROVED, TROUBLES, UNPROMISED, Row, in_us, names_of
+from afdx_tools.tables import COUNTED, EARLY, TROUBLES, UNPROMISED, Row, in_us, names_of
 
 EARLY_FRAMES = "Over-rate frames that came too early by most, in us"
 TAPS = "Taps: where the interfaces were plugged in, and frames that name another place"
@@ -106,9 +106,9 @@ def track_section(counting: Counting, vl: int, wrong: np.ndarray, begin: int) ->
     return section(name, head, words, tracks.track(name, shown, tracks.lane_names(counting, vl)))
 
 
-def foot() -> str:
+def foot(report: Row) -> str:
     """Which numbers are proved."""
-    return f"<footer><p>{escape(PROVED)}</p><p>{escape(COUNTED)}</p></footer>"
+    return f"<footer><p>{escape(report['proved'])}</p><p>{escape(COUNTED)}</p></footer>"
 
 
 def arrivals_section(report: Row) -> str:
@@ -239,7 +239,7 @@ def page(report: Row, counting: Counting, where: Where, args: argparse.Namespace
         pictures(report, counting, args),
         table_sections(report, where),
         "" if report["cover"] else made_section(report["run"]),
-        foot(),
+        foot(report),
         f"</main><script>{SCRIPT}</script></body></html>\n",
     ]
     return "".join(parts)

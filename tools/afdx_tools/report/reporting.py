@@ -46,6 +46,7 @@ from afdx_tools.tables import (
     COUNTED,
     EARLY,
     PROVED,
+    PROVED_OF_SEVERAL,
     UNPROMISED,
     WRITTEN,
     Row,
@@ -135,7 +136,7 @@ def report_of(
         "totals": {},
         "findings": [],
         **tables_of(counting, checked, args.worst),
-        "proved": PROVED,
+        "proved": PROVED + (PROVED_OF_SEVERAL if tables.several else ""),
         "counted": COUNTED,
     }
     if listed.skipped and not status:
@@ -181,7 +182,7 @@ def print_text(report: Row) -> None:
     if "compared" in report:
         print("\n" + "\n".join(words_of(report["compared"])))
         print(as_text(report["compared"]["rows"]), end="")
-    print(f"\n{PROVED}\n{COUNTED}")
+    print(f"\n{report['proved']}\n{COUNTED}")
 
 
 @contextlib.contextmanager

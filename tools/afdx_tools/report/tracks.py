@@ -251,8 +251,8 @@ def track(name: str, arrivals: list[Arrived], names: dict[int, str]) -> str:
     parts += time_axis(begin - pad, end + pad, place, 34, bottom)
     for (side, port), y in lanes.items():
         is_in = port == switch_lane(port)
-        name = f"{side} {names[port]}" if names[port] else f"side {side}: arrivals"
-        lane = name if is_in else names[port]
+        arrivals_at = f"{side} {names[port]}" if names[port] else f"side {side}: arrivals"
+        lane = arrivals_at if is_in else names[port]
         parts.append(text(left - 12, y + 4, lane, "strong" if is_in else "muted", "end"))
         parts.append(line(left, y, right, y, "rule"))
     for arrived in arrivals:

@@ -32,9 +32,11 @@ class Places:
 
 
 def way_rows(counting: Counting, checked: Checked) -> list[Row]:
-    """A row for each link, receiver and side where a frame left: from the list's arrival on."""
+    """A row for each link, receiver and side where a frame left, from the list's arrival on; by
+    share of the configured latency, so that late ones come first."""
     places = Places(counting)
-    return [way_row(counting, checked, path, places) for path in counting.paths(is_whole=True)]
+    rows = [way_row(counting, checked, path, places) for path in counting.paths(is_whole=True)]
+    return sorted(rows, key=lambda row: -row["share"])
 
 
 def way_row(counting: Counting, checked: Checked, path: Path, places: Places) -> Row:
