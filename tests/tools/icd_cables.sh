@@ -19,7 +19,9 @@ icd_over() { # FOLDER [OPTION..] : as `icd`, with cables
 
 # A file says of rows of links at a switch these words.
 row_says() { # FOLDER SWITCH VL WORDS
-    if ! sed -n "/^name = \"$2\"/,/^port = /p" "$1/made.toml" | grep "vl = $3," | grep -qF "$4"; then
+    local here
+    here=$(sed -n "/^name = \"$2\"/,/^port = /p" "$1/made.toml" | grep "vl = $3,")
+    if ! grep -qF "$4" <<<"$here"; then
         echo "at $2 link $3 hasn't $4"
     fi
 }
@@ -103,20 +105,20 @@ name_over_tests() {
 }
 
 way_tests() {
+    local left_out='afdx-icd: cables.csv: cables that no message needs are left out: '
     local at=$work/icd/way mid='2s/$/\nnose,23,mid,1,100\nmid,2,bay,23,100\nmid,3,end,1,100/'
     three_tables "$at" '' '' "$mid"
     icd_over "$at"
     tell 'cables that no message needs are left out' "$(
         is_status 0
-        text_is err 'afdx-icd: cables.csv: cables that no message needs are left out: nose to mid, '$(
-        )$'mid to bay, mid to end\n'
+        text_is err "${left_out}nose to mid, mid to bay, mid to end"$'\n'
         same <(sed 1d "$work/least.toml") <(sed 1d "$at/made.toml")
     )"
     three_tables "$at" '' '1s/$/,via/; 2,$s/$/,/; 3s/$/nose mid bay/' "$mid"
     icd_over "$at"
     tell 'the way that a message names' "$(
         is_status 0
-        text_is err $'afdx-icd: cables.csv: cables that no message needs are left out: mid to end\n'
+        text_is err "${left_out}mid to end"$'\n'
         row_says "$at" nose 10 'to = ["bay", "disp"]'
         row_says "$at" nose 11 'to = ["mid", "disp"]'
         row_says "$at" mid 11 'from = "nose", to = ["bay"]'
@@ -159,7 +161,7 @@ late_over_tests() {
     tell 'a cable that is too slow' "$(
         is_status 1
         wc -l <"$work/err" | grep -vx 4
-        says err 'line 9, positions: within_us 600: to disp it can take 1351 us (bay 1203, nose 148)'
+        says err 'line 9, positions: within_us 600: to disp it can take 1351 us (bay 1203, nose '
     )"
     three_tables "$at" '' '/^acc/s/,5,200,/,1,1400,/' 's/100$/10/'
     icd_over "$at"
@@ -169,7 +171,8 @@ rate 10: the messages from nose to bay are more than the line can carry (no A1 n
     sed -i -E '2s/(.*),(.*),(.*),(.*),(.*)/\3,\4,\1,\2,\5/' "$at/cables.csv"
     icd_over "$at"
     tell 'the same, where the cable is named from its other end' "$(is_refused "$at" 1 "cables.csv \
-line 2, bay: rate 10: the messages from bay to nose are more than the line can carry (no A1 bay 24)")"
+line 2, bay: rate 10: the messages from bay to nose are more than the line can carry \
+(no A1 bay 24)")"
     three_tables "$at" '/^rec/s/10$/10/' '/^acc/s/,5,200,/,1,1400,/' ''
     icd_over "$at"
     tell 'messages that are too much for a system' "$(is_refused "$at" 1 "systems.csv line 7, rec: \
@@ -195,8 +198,8 @@ room_over_tests() {
     icd_over "$at" --reserve 100
     tell 'a message for which there is no room over two switches' "$(
         is_status 1
-        says err 'line 3, attitude: within_us 300: to fcc it can take 192 us (nose 147, bay 45); 383'
-        says err ' is enough with a reserve of 100 %'
+        says err 'line 3, attitude: within_us 300: to fcc it can take 192 us (nose 147, bay 45); '
+        says err '; 383 is enough with a reserve of 100 %'
     )"
 }
 
@@ -265,7 +268,7 @@ ok
 # ---- tables with faults ------------------------------------------------------------------------
 
 fault_over_tests() {
-    local at=$work/icd/fault_over
+    local at=$work/icd/fault_over no_name='it has to be a name of 1 to 16 letters A to Z and digits'
     three_tables "$at" '2s/nose/wing/; 3s/nose//; 4s/disp/bay/' '3,$d' \
         '2s/$/\nnose,3,bay,23,10\nbay,25,bay,7,1000\ntail,1,no se,2,100/'
     icd_over "$at"
@@ -277,8 +280,7 @@ fault_over_tests() {
         'cables.csv line 4, bay: port 25: it has to be a whole number from 1 to 24' \
         'cables.csv line 4, bay: rate 1000: it has to be 10 or 100' \
         'cables.csv line 4, bay: second switch bay: a cable joins two switches' \
-        'cables.csv line 5, tail: second switch no se: it has to be a name of 1 to 16 letters A to Z '$(
-        )'and digits' \
+        "cables.csv line 5, tail: second switch no se: $no_name" \
         'cables.csv line 3, nose: port 3: systems.csv line 4 has it too, at nose' \
         'messages.csv line 2, air data: to fcc disp: no system is named disp')"
     three_tables "$at" '7s/bay/tail/' '' '2s/$/\ntail,1,cone,2,100/'
@@ -322,8 +324,8 @@ ROWS
         3s/$/\nheading,11,ahrs,fcc,10,20,,high,1111,sampling,1,nose bay/' \
         '2s/$/\nnose,23,mid,1,100\nmid,2,bay,23,100/'
     icd_over "$at"
-    tell "two ways of a link that don't agree" "$(is_refused "$at" 2 "messages.csv line 4, heading: \
-via nose bay: messages.csv line 3 comes to bay from mid, on this link")"
+    tell "two ways of a link that don't agree" "$(is_refused "$at" 2 "messages.csv line 4, \
+heading: via nose bay: messages.csv line 3 comes to bay from mid, on this link")"
 }
 
 # ---- at random -----------------------------------------------------------------------------
