@@ -1,6 +1,5 @@
 #!/usr/bin/env python3
-"""Measures `afdx check` and `afdx solve` on the largest tables, and on smaller ones, and `check` on
-cascades.
+"""Measures `afdx check` and `afdx solve` on the largest tables, on smaller ones, and on cascades.
 
     bench/check.py [PROGRAM] [--times T] [--cascades]
 
@@ -11,12 +10,13 @@ all links are of the first system: such a network isn't admitted, so `check` end
 for each of these sizes: the best of T times (3 where it isn't given), the memory, and the
 instructions; behind the larger ones, how many times those of the smaller ones they are.
 
-Then `check` is measured on cascades: 8 switches a side, that cables of 1 Gbit/s join to a ring,
-each with 22 systems, and links on ways of 1 to 4 switches, which have 1,000 to 9,000 rows in all. A
-row goes to two systems, and to the next switch or a third system. Such a cascade is admitted.
-Beside it stands one switch with 4,096 links, each to three systems. Of each the instructions and
-the bytes of memory a row are printed: those beyond the same tables without links. `--cascades`
-measures these alone.
+Then both are measured on cascades: 8 switches a side, that cables of 1 Gbit/s join to a ring, each
+with 22 systems, and links on ways of 1 to 4 switches, which have 1,000 to 9,000 rows in all. A row
+goes to two systems, and to the next switch or a third system. Such a cascade is admitted. Beside it
+stands one switch with 4,096 links, each to three systems. Of each the instructions and the bytes of
+memory a row are printed: those beyond the same tables without links. Last comes the cascade of
+bench/make_cascade.py, of a large aircraft's size: how many times the instructions of its `check`
+its `solve` takes. `--cascades` measures cascades alone.
 
 Needs Linux and Python 3, no packages; for instructions valgrind. It is a measurement and no test.
 """
@@ -26,6 +26,7 @@ import sys
 import tempfile
 
 sys.dont_write_bytecode = True
+from make_cascade import LINKS, config_text, ways_of  # noqa: E402
 from measure import PROGRAM, instructions, timed  # noqa: E402
 
 SYSTEMS = 24
@@ -166,7 +167,7 @@ def measure_tables(program, folder, times):
 def measure_cascades(program, folder, times):
     """Cascades of more and more rows beside one switch, with and without options."""
     path = os.path.join(folder, "cascade.toml")
-    for command in (["check"], ["check", "--all", "--margins"]):
+    for command in (["check"], ["check", "--all", "--margins"], ["solve"]):
         for name, make, sizes in (
             ("one switch", one_switch, SIZES[1:]),
             (f"{SWITCHES} switches", cascade, ROWS),
@@ -185,6 +186,21 @@ def measure_cascades(program, folder, times):
                 if count is not None:
                     told += f", {(count - empty[1]) / rows:,.0f} a row"
                 print(told + f"   {1024 * (memory - empty[0]) / rows:,.0f} bytes a row")
+
+
+def measure_aircraft(program, folder, times):
+    """`solve` of the large cascade beside its `check`."""
+    path, text, before = os.path.join(folder, "cascade.toml"), config_text(ways_of(LINKS)), None
+    write(path, text)
+    for command in ("check", "solve"):
+        seconds, memory, count = measured(program, [command], path, folder, times, 0)
+        what = f"{command}, {LINKS} links, {SWITCHES} switches"
+        rows = text.count("link]]")
+        told = told_of(what, f"{rows:5,} rows", text, seconds, memory, count)
+        if None not in (count, before):
+            told += f", {count / before:.1f} times"
+        print(told)
+        before = count
 
 
 def write(path, text):
@@ -210,6 +226,7 @@ def main():
         if not given.cascades:
             measure_tables(given.program, folder, given.times)
         measure_cascades(given.program, folder, given.times)
+        measure_aircraft(given.program, folder, given.times)
 
 
 if __name__ == "__main__":

@@ -317,26 +317,37 @@ SLOW: Changes = {"fwd neighbour 1 rate": 10, "aft neighbour 1 rate": 10}
 NO_JITTERS: Changes = {"mid link 1 jitter_us": 0, "aft link 1 jitter_us": 0}
 
 
+TOLD = """\
+vl 2 at fwd 1: 7137 ns needed, 1 us asked
+vl 1 at fwd 24: 7036 ns needed, 1 us asked
+vl 1 at aft 3: 13810 ns needed, 1 us asked
+vl 2 at aft 3: 14222 ns needed, 1 us asked
+vl 2 at aft 20: 7036 ns needed, 1 us asked
+"""
+
+
 class LeastRow(NamedTuple):
     """A cascade, the keys that are kept, and its least values: of each switch the buffer, and of
-    each of its links jitter, latency and skew; or the first line of admission that is false."""
+    each of its links jitter, latency and skew; or the first line of admission that is false. Then
+    what is told, where it is spelled out."""
 
     name: str
     cascade: dict
     keep: tuple[str, ...]
     values: dict[str, list]
     fault: str = ""
+    told: str | None = None
 
 
 LEAST = [
     LeastRow("two switches", changed(TWO, NOT_SOLVED), (), {
         "fwd": [90, (47, 8, 8), (62, 8, 23)], "aft": [177, (55, 14, 22), (47, 15, 15)],
-    }),
+    }, told=TOLD),
     LeastRow("jitters are kept", changed(TWO, NOT_SOLVED), ("jitter",), {}, "no B3 fwd 2 517"),
     LeastRow("a slow cable", changed(TWO, NOT_SOLVED | SLOW), (), {
         "fwd": [94, (47, 71, 71), (118, 8, 79)], "aft": [182, (118, 15, 86), (47, 71, 71)],
     }),
     LeastRow("latencies are kept", changed(THREE, NO_JITTERS), ("latency",), {
         "fwd": [88, (47, 11, 11)], "mid": [89, (58, 11, 22)], "aft": [90, (69, 11, 33)],
-    }),
+    }, told=""),
 ]

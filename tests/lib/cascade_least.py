@@ -4,9 +4,13 @@ from __future__ import annotations
 
 from typing import Collection, NamedTuple
 
+from cascade import TOP_ORDER, cascade_text, loaded
 from cascade_check import Ways, cascade_false_lines, latency_sum
-from first_fault import LATE_US
-from least import SOLVED, Choice, jitters_of, quotient_up, with_buffer, with_latencies
+from first_fault import ALL_KEYS, LATE_US, ROWS, config_fault
+from least import SOLVED, Choice, jitters_of, lawful_tables, needs, quotient_up, with_buffer
+from least import with_latencies
+from program import Answer
+from switch_fault import any_faults, is_cascade
 
 
 class SolvedCascade(NamedTuple):
@@ -82,3 +86,65 @@ def solved_cascade(
         switches = later
     switches = [with_buffer(sw, choice) for sw in with_way_skews(switches, choice)]
     return SolvedCascade(switches, next(iter(cascade_false_lines(switches)), ""))
+
+
+# ---- what `solve` answers ------------------------------------------------------------------------
+
+
+def lawful_file(tables: dict, keep: Collection[str]) -> dict:
+    """The file where keys that are solved have values in range, of one switch or of several."""
+    if not is_cascade(tables):
+        return lawful_tables(tables, "top", keep)
+    switches = tables["switch"]
+    if isinstance(switches, list):
+        switches = [
+            lawful_tables(row, "switch", keep) if isinstance(row, dict) else row
+            for row in switches
+        ]
+    return tables | {"switch": switches}
+
+
+def solve_file_fault(text: bytes, keep: Collection[str] = ()) -> bytes:
+    """The line on standard error for a file of one switch or of several; none where it has no
+    fault."""
+    kept = [SOLVED[word] for word in keep]
+    return config_fault(text, lambda tables: any_faults(lawful_file(tables, kept)))
+
+
+def laid_out(switch: dict) -> dict:
+    """The switch with the keys that a file has, in the order in which they are written."""
+    rows = {
+        part: [{key: row[key] for key in ALL_KEYS[part]} for row in switch[part]]
+        for part in ROWS
+        if switch[part]
+    }
+    return {key: switch[key] for key in TOP_ORDER} | rows
+
+
+def solved_text(switches: list[dict]) -> bytes:
+    """The text that `solve` writes of them."""
+    return cascade_text({"switch": [laid_out(switch) for switch in switches]})
+
+
+def cascade_needs(asked: list[dict], switches: list[dict]) -> bytes:
+    """What is told of each link and port where more is needed than the file asks, switch by
+    switch."""
+    lines = []
+    for before, after in zip(asked, switches):
+        place = f" at {after['name']} "
+        lines += [line.replace(" at ", place, 1) for line in needs(before, after)]
+    return "".join(f"{line}\n" for line in lines).encode()
+
+
+def solve_cascade_answer(
+    text: bytes, keep: Collection[str] = (), raise_only: bool = False
+) -> Answer:
+    """What `solve` answers to a file of several switches, or to one with a fault."""
+    fault = solve_file_fault(text, keep)
+    if fault:
+        return Answer(1, b"", fault)
+    asked = loaded(text)
+    found = solved_cascade(asked, keep, raise_only)
+    if found.fault:
+        return Answer(1, f"{found.fault}\n".encode(), b"")
+    return Answer(0, solved_text(found.switches), cascade_needs(asked["switch"], found.switches))

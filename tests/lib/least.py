@@ -6,7 +6,7 @@ from __future__ import annotations
 
 from typing import Collection, Iterator, NamedTuple
 
-from first_fault import RANGES, faults_of, is_whole
+from first_fault import RANGES, config_fault, faults_of, is_whole
 from frames import OVERHEAD, byte_ns
 from tables import tomllib
 
@@ -270,21 +270,22 @@ def lawful_in(part: str, row: dict, keep: Collection[str]) -> dict:
     }
 
 
-def solve_fault(text: bytes, keep: Collection[str] = ()) -> str:
-    """The fault of a configuration for `solve`; nothing where there is none."""
-    try:
-        tables = tomllib.loads(text.decode("utf-8"))
-    except ValueError:
-        return "config NotToml"
-    kept = [SOLVED[word] for word in keep]
-    tables = lawful_in("top", tables, kept)
+def lawful_tables(tables: dict, part: str, keep: Collection[str]) -> dict:
+    """The tables of a file of one switch (`top`), or of a switch (`switch`), likewise."""
+    tables = lawful_in(part, tables, keep)
     if isinstance(tables.get("link"), list):
         rows = tables["link"]
         tables["link"] = [
-            lawful_in("link", row, kept) if isinstance(row, dict) else row for row in rows
+            lawful_in("link", row, keep) if isinstance(row, dict) else row for row in rows
         ]
-    fault = next(faults_of(tables), None)
-    return "" if fault is None else f"config {fault}"
+    return tables
+
+
+def solve_fault(text: bytes, keep: Collection[str] = ()) -> str:
+    """The fault of a configuration for `solve`; nothing where there is none."""
+    kept = [SOLVED[word] for word in keep]
+    line = config_fault(text, lambda tables: faults_of(lawful_tables(tables, "top", kept)))
+    return line.decode().rstrip("\n")
 
 
 class Told(NamedTuple):

@@ -4,7 +4,10 @@ from __future__ import annotations
 import random
 
 from first_fault import BAGS
+from least import SOLVED
 from tables import base_tables, system_of
+
+BEYOND = (0, 1, 100_001, 4_194_305, 2**63 - 1)  # numbers for keys that are solved
 
 
 def link_between(chance: random.Random, vl: int, names: list[str], is_light: bool) -> dict:
@@ -46,6 +49,20 @@ def network(chance: random.Random, links: int, is_light: bool) -> dict:
         "link": [link_between(chance, vl, names, is_light) for vl in range(links)],
         "port": [],
     }
+
+
+def with_any_keys(chance: random.Random, tables: dict) -> dict:
+    """The tables with some of the four keys absent, or with any number in their place."""
+
+    def changed(row: dict) -> dict:
+        row = dict(row)
+        for key in SOLVED.values():
+            kind = chance.random()
+            if key in row and kind < 0.4:
+                row[key] = None if kind < 0.2 else chance.choice(BEYOND)
+        return row
+
+    return changed(tables) | {"link": [changed(link) for link in tables["link"]]}
 
 
 def one_port(profile: int, senders: int, links: int, lmax: int, rate: int) -> dict:

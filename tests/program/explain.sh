@@ -39,8 +39,9 @@ text_case 'a reason' 0 out 'over-rate: ' explain over-rate
 text_case 'a line of one of several switches' 0 out 'at the switch of this name' \
     explain V 1 A fwd drop over-rate
 text_case 'a line of a switch that is named as a word' 0 out 'accept: ' explain V 1 A drop accept
-text_case 'a configuration of several switches' 0 out "'solve' doesn't yet" \
-    explain config BadProfile
+text_case 'a configuration of several switches' 0 out 'each with a' explain config BadProfile
+text_case 'what a link needs at one of several switches' 0 out 'stands before PORT' \
+    explain 'vl 1 at aft 3: 13810 ns needed, 1 us asked'
 case_of 'no line of the program' 2 '' $'words UnknownText\n' explain nonsense
 case_of 'a key that is not there' 2 '' $'words UnknownText\n' explain config Missing link 1 key 13
 case_of 'a line feed is none of a line' 2 '' $'words UnknownText\n' explain $'memory\n'

@@ -122,3 +122,59 @@ tell 'solve explains a line of admission' "$(
     differs 'standard output' $'no A3 3 1 13756\n' "$work/out"
 )"
 text_case 'what is needed, explained' 0 out 'with the jitters that are written' explain "$need1"
+
+# Two switches whose latencies are 1.
+sed 's/^latency_us = .*/latency_us = 1/' examples/two_switches.toml >"$work/cables.toml"
+told='vl 2 at fwd 1: 7137 ns needed, 1 us asked
+vl 1 at fwd 24: 7036 ns needed, 1 us asked
+vl 1 at aft 3: 13810 ns needed, 1 us asked
+vl 2 at aft 3: 14222 ns needed, 1 us asked
+vl 2 at aft 20: 7036 ns needed, 1 us asked
+'
+switch='[[switch]]
+name = "fwd"
+profile = 1
+buffer = 90
+
+[[switch.system]]
+name = "s1"
+port = 1
+id = 1
+partition = 1
+rate = 100
+
+[[switch.neighbour]]
+name = "aft"
+port = 24
+rate = 100
+
+[[switch.link]]
+vl = 1
+from = "s1"
+to = ["aft"]
+bag_ms = 1
+lmin = 64
+lmax = 64
+jitter_us = 47
+priority = "high"
+policing = "frame"
+latency_us = 8
+skew_us = 8
+subs = 2
+
+'
+tell 'two switches' "$(
+    launch solve "$work/cables.toml"
+    has_status 0
+    differs 'standard error' "$told" "$work/err"
+    head -n 31 "$work/out" >"$work/head"
+    differs 'the beginning' "$switch" "$work/head"
+    if ! "$program" check "$work/out" | tail -n 1 | grep -qx ok; then echo 'not admitted'; fi
+)"
+case_of 'two switches, kept latencies that are too small' 1 $'no A4 fwd 1 2 7043\n' '' \
+    solve --keep latency "$work/cables.toml"
+sed '0,/^buffer/s/^buffer.*//' "$work/cables.toml" >"$work/changed.toml"
+case_of 'two switches, a kept key that is absent' 1 '' $'config Missing switch 1 top 0 key 2\n' \
+    solve --keep buffer "$work/changed.toml"
+text_case 'what is needed at one of two switches, explained' 0 out 'stands before PORT' \
+    explain "${told%%$'\n'*}"

@@ -24,9 +24,7 @@ sys.path[:0] = [os.path.join(TESTS, name) for name in ("lib", "cascades")]
 import tables as made  # noqa: E402
 from cascade import cascade_text, loaded, of_one  # noqa: E402
 from cascade_check import at_switch, check_lines  # noqa: E402
-from cascade_least import solved_cascade  # noqa: E402
-from cascade_rows import FAULTS, LEAST, ROWS, THREE_TEXT, TWO, TWO_TEXT  # noqa: E402
-from cascade_rows import FaultRow, LeastRow, Row  # noqa: E402
+from cascade_rows import FAULTS, ROWS, THREE_TEXT, TWO, TWO_TEXT, FaultRow, Row  # noqa: E402
 from large_cascades import around_one, in_a_mesh, in_a_ring, in_a_row  # noqa: E402
 from least import check_text, port_lines  # noqa: E402
 from made_cascades import made_cascade, mutated, solved, spoiled  # noqa: E402
@@ -59,16 +57,6 @@ def fault_is_computed(row: FaultRow) -> None:
     """The same of a fault."""
     found = file_fault(row.text).decode()
     must(found == f"config {row.fault}\n", f"it is {found!r}, wanted {row.fault!r}")
-
-
-def least_is_computed(row: LeastRow) -> None:
-    """The same of least values."""
-    found = solved_cascade(row.cascade, row.keep)
-    must(found.fault == row.fault, f"the first false line is {found.fault!r}")
-    for switch in found.switches if not row.fault else ():
-        links = [(one["jitter_us"], one["latency_us"], one["skew_us"]) for one in switch["link"]]
-        values = [switch["buffer"], *links]
-        must(values == row.values[switch["name"]], f"{switch['name']} has {values}")
 
 
 # ---- what the program says -----------------------------------------------------------------------
@@ -192,12 +180,6 @@ def ones_as_ever(program: Program, seed: int, count: int) -> None:
         one_as_ever(program, made.text_of(tables))
 
 
-def only_checked(program: Program) -> None:
-    """Another command doesn't know several switches yet."""
-    config, fault = program.write("config", TWO_TEXT), b"config BadProfile\n"
-    answers(program.run("solve", config), 1, b"", fault)
-
-
 # ---- all -----------------------------------------------------------------------------------------
 
 
@@ -206,7 +188,6 @@ def computed_cases() -> list[tuple]:
     return [
         *((f"computed: {row.name}", row_is_computed, row) for row in ROWS),
         *((f"computed: {row.name}", fault_is_computed, row) for row in FAULTS),
-        *((f"computed, least values: {row.name}", least_is_computed, row) for row in LEAST),
     ]
 
 
@@ -223,7 +204,6 @@ def program_cases(program: Program) -> list[tuple]:
         ("no beginning is whole", no_beginning_is_whole, program),
         ("beginnings of two switches", all_beginnings, program, TWO_TEXT),
         ("beginnings of three switches", all_beginnings, program, THREE_TEXT),
-        ("a command that knows one switch alone", only_checked, program.apart()),
     ]
     for seed in range(4):
         cases.append((f"25 generated cascades, {seed}", all_alike, program, seed, 25))

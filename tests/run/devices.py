@@ -23,6 +23,7 @@ from __future__ import annotations
 
 import itertools
 import os
+import re
 import subprocess
 import sys
 from collections.abc import Iterator
@@ -77,10 +78,10 @@ def large_texts(weak: Weak) -> None:
                 must(calls[-1].kind == "w", "more was read after a failed write")
 
 
-def weak_config(program: Program, words: list[str], tables: dict, status: int) -> None:
+def weak_config(program: Program, words: list[str], config: bytes, status: int) -> None:
     """`check` or `solve`: each write of its text, and each read of its configuration, in turn."""
     shim = os.path.join(program.folder, "devices.so")
-    program, config = program.apart(), made.text_of(tables)
+    program = program.apart()
     path = program.write("config", config)
     log = os.path.join(program.folder, "calls")
     env = {"LD_PRELOAD": shim, "DEVICE_LOG": log, "DEVICE_LIST": path}
@@ -215,6 +216,23 @@ def long_lists(program: Program, config: str) -> Iterator[tuple]:
         yield f"{named(words)}: more than a buffer", large_texts, weak
 
 
+def weak_configs(program: Program) -> Iterator[tuple]:
+    """Each command that reads a configuration alone, of one switch and of two."""
+    two = made.example("two_switches.toml")
+    small, hasty = made.text_of(SMALL), re.sub(rb"(?m)^latency_us = .*", b"latency_us = 1", two)
+    for name, words, config, status in (
+        ("check", ["check"], made.text_of(TABLES), 0),
+        ("check, not admitted", ["check"], small, 1),
+        ("solve", ["solve"], small, 0),
+        ("solve, with needs", ["solve"], made.text_of(HASTY), 0),
+        ("solve, in vain", ["solve", "--keep", "buffer"], small, 1),
+        ("solve of two switches", ["solve"], two, 0),
+        ("solve of two switches, with needs", ["solve"], hasty, 0),
+        ("solve of two switches, in vain", ["solve", "--keep", "latency"], hasty, 1),
+    ):
+        yield name, weak_config, program, words, config, status
+
+
 def untold_faults(program: Program, config: str) -> Iterator[tuple]:
     """A fault of each kind where the standard error is full."""
     for name, words, given, status in (
@@ -242,11 +260,7 @@ def try_all(cases: Cases, program: Program) -> None:
             *long_lists(program, config),
             *weak_recordings(program, config, two),
             *weak_pairs(program, config, two),
-            ("check", weak_config, program, ["check"], TABLES, 0),
-            ("check, not admitted", weak_config, program, ["check"], SMALL, 1),
-            ("solve", weak_config, program, ["solve"], SMALL, 0),
-            ("solve, with needs", weak_config, program, ["solve"], HASTY, 0),
-            ("solve, in vain", weak_config, program, ["solve", "--keep", "buffer"], SMALL, 1),
+            *weak_configs(program),
             *untold_faults(program, config),
         ]
     )

@@ -20,8 +20,8 @@ Where the program reads recordings (tests/lib/reads.py), one is tried beside eve
 and changed at random (tests/recordings/), or from the case's list: a run on it must write what it
 writes of the list that says the same, and `list` that list. Where it puts arrivals in order, frames
 stand out of order in some. Where it reads two at once, a pair is tried as well, whole and cut. Now
-and then a list over several switches is recorded (tests/cascades/): what is computed must be
-written. `--recordings` tries these alone.
+and then a list over several switches is recorded, and several switches are solved
+(tests/cascades/): what is computed must be written. `--recordings` tries recordings alone.
 
 The first case that is wrong is written to DIR (a new folder where it isn't given), its seed and
 number are printed, and the status is 1. `--seed N --first K` begins with that case. Needs Python
@@ -47,10 +47,11 @@ import random_taps  # noqa: E402
 import reading  # noqa: E402
 import wanted  # noqa: E402
 from compared_recordings import as_computed  # noqa: E402
-from made_cascades import three_of  # noqa: E402
+from made_cascades import made_cascade, mutated, three_of  # noqa: E402
 from made_recordings import made_data, pcap_of  # noqa: E402
 from program import Program, Wrong, must  # noqa: E402
 from reads import READS  # noqa: E402
+from solved_cascades import KEEPS, check_solve, with_any  # noqa: E402
 from tables import one_link_tables  # noqa: E402
 
 PROGRAM = os.path.join(made.TOP, "crates", "afdx", "out", "afdx")
@@ -267,6 +268,18 @@ def try_tapped(runs, seed, number):
         pair_reading.both_of_pair(program, case)
 
 
+def try_solved(runs, seed, number):
+    """A random cascade whose keys have any values, or a changed file of one, solved by any
+    options."""
+    chance = random.Random(f"{seed}/{number}/solved")
+    is_light = chance.random() < 0.8
+    cascade = made_cascade(chance, chance.randint(1, 5), chance.randint(0, 25), is_light)
+    text = chance.choice([with_any, with_any, mutated])(chance, cascade)
+    runs.write("cascade.toml", text)
+    program = Program(runs.program, runs.folder)
+    check_solve(program, text, chance.choice(KEEPS), chance.random() < 0.3)
+
+
 def keep(runs, folder):
     """Copies the case to where it stays."""
     target = folder or tempfile.mkdtemp(prefix="afdx-fuzz-kept-")
@@ -324,6 +337,8 @@ def main():
                         try_pair(runs, given.seed, number)
                 if READS and not given.recordings and number % 2 == 0:
                     try_recorded_list(runs, given.seed, number, stored)
+                if not given.recordings and number % 4 == 0:
+                    try_solved(runs, given.seed, number)
                 if "reorder" in READS and number % 8 == 0:
                     try_tapped(runs, given.seed, number)
             except Wrong as wrong:

@@ -7,8 +7,8 @@
 # PROGRAM polices examples/one_link.list on standard input, checks examples/base.toml, the same with
 # `--margins`, and with late links by `--all`, solves it with late links, explains a line, replays a
 # frame and its copy in base.toml, replays examples/gigabit.list, and sends five messages, of which
-# one is refused; it replays and sends over examples/two_switches.toml. It polices and replays
-# recordings, and replays and lists two at once, over the two switches too, if it reads them
+# one is refused; it solves, replays and sends over examples/two_switches.toml. It polices and
+# replays recordings, and replays and lists two at once, over the two switches too, if it reads them
 # (tests/lib/reads.py). Each of these is run with the first request refused, then the second, and so
 # on, until a run meets no refusal; and again with all requests refused from the first on, from the
 # second on, and so on. Each run must write a beginning of what the undisturbed run writes, and end
@@ -180,6 +180,9 @@ if [[ $tests == no ]]; then
     refuse_program 'check --margins' "$1" check --margins "$top/examples/base.toml"
     refuse_program 'solve late links' "$1" solve --keep jitter "$work/hasty.toml"
     refuse_program 'solve in vain' "$1" solve --keep latency "$work/hasty.toml"
+    sed 's/^latency_us = .*/latency_us = 1/' "$top/examples/two_switches.toml" >"$work/cables.toml"
+    refuse_program 'solve two switches' "$1" solve "$work/cables.toml"
+    refuse_program 'solve two switches in vain' "$1" solve --keep jitter "$work/cables.toml"
     input=$work/copies.list
     sed -n 's/^F 0 A/&/p; s/^F 0 A/F 0 B/p' "$top/examples/one_link.list" >"$input"
     refuse_program 'explain a line' "$1" explain config Missing link 1 key 7

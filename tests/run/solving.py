@@ -25,13 +25,12 @@ sys.path.insert(0, os.path.join(os.path.dirname(os.path.abspath(__file__)), ".."
 import tables as made  # noqa: E402
 from judged import check_all_less  # noqa: E402
 from least import SOLVED, solve_answer  # noqa: E402
-from networks import network, unsolvable  # noqa: E402
+from networks import BEYOND, network, unsolvable, with_any_keys  # noqa: E402
 from program import Answer, Cases, Program, Wrong, answers, main_of, must  # noqa: E402
 from program import same_text  # noqa: E402
 from tables import system_of, text_of, tomllib  # noqa: E402
 
 NO_TABLES: dict[str, list] = {"system": [], "link": [], "port": []}
-BEYOND = (0, 1, 100_001, 4_194_305, 2**63 - 1)  # numbers for keys that are solved
 
 
 # ---- what the program makes of them --------------------------------------------------------------
@@ -161,20 +160,6 @@ def check_guide(program: Program) -> None:
 
 
 # ---- generated networks, choices of keys ---------------------------------------------------------
-
-
-def with_any_keys(chance: random.Random, tables: dict) -> dict:
-    """The tables with some of the four keys absent, or with any number in their place."""
-
-    def changed(row: dict) -> dict:
-        row = dict(row)
-        for key in SOLVED.values():
-            kind = chance.random()
-            if key in row and kind < 0.4:
-                row[key] = None if kind < 0.2 else chance.choice(BEYOND)
-        return row
-
-    return changed(tables) | {"link": [changed(link) for link in tables["link"]]}
 
 
 def check_networks(program: Program, seed: int, count: int, links: int) -> None:

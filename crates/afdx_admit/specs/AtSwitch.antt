@@ -1,21 +1,15 @@
--- What stands at a switch of a cascade, and what a fault there speaks of.
-use Rattle.std.specs.Prelude.{◌≡◌, ℕ, ◌<◌, List, length, Option, Some, option_map, option_and_then}
-use Rattle.std.specs.Prelude.{slice_get, Bool, not, ◌&&◌, nat_le}
+-- A row as it may stand at a switch of a cascade, and what a fault there speaks of.
+use Rattle.std.specs.Prelude.{◌≡◌, ℕ, ◌<◌, List, length, Some}
+use Rattle.std.specs.Prelude.{Bool, not, ◌&&◌, nat_le}
 use Rattle.afdx_config.specs.Rows.{LinkRow, Rows}
 use Rattle.afdx_config.specs.Lawful.{IsLinkUpTo, jitter_from_any}
 use Rattle.afdx_config.specs.Switches.{NamedRows}
+pub use Rattle.afdx_config.specs.AtSwitch.{tables_at, link_at}
 use Rattle.afdx_admit.specs.declared.cascade_fault.CascadeFault.{CascadeFault}
 use Rattle.afdx_admit.specs.declared.cascade_fault.SwitchFault.{SwitchFault}
 use Rattle.afdx_admit.specs.declared.cascade_fault.SwitchFault.TheVariants.{Own, Unread}
 use Rattle.afdx_admit.specs.Cascade.{RowAt, reads}
 use Rattle.afdx_admit.specs.Known.{IsKnown}
-
--- the tables of a switch, and the row at a place there
-abbrev pub tables_at : List NamedRows → ℕ → Option Rows
-tables_at switches k = option_map (λ s. s.rows) (slice_get switches k)
-
-abbrev pub link_at : List NamedRows → (k i : ℕ) → Option LinkRow
-link_at switches k i = option_and_then (λ s. slice_get s.rows.links i) (slice_get switches k)
 
 -- a row as it may stand at its switch
 pub record IsRowAt (switches : List NamedRows) (r : RowAt) : Type 0 where

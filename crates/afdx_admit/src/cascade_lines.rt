@@ -55,14 +55,15 @@ pub(crate) fn same_contract(before: &Link, link: &Link) -> bool
 }
 
 /// How late a frame may be behind a row's switch, in us.
-pub(crate) fn late_behind(link: &Link) -> u64
+pub fn late_behind(link: &Link) -> u64
     requires { CanSend (link_row link.now) }
     ensures { result ≡ spec.late_behind (link_row link.now) }
 {
     link.jitter_us + link.latency_us
 }
 
-fn goes_to_system(tables: &Tables, link: &Link) -> bool
+/// Whether a row goes to a system of its switch.
+pub fn goes_to_system(tables: &Tables, link: &Link) -> bool
     ensures { result ≡ spec.goes_to_system tables.now (link_row link.now) }
 {
     link.to.iter().any(|place| tables.is_own(*place))

@@ -22,6 +22,7 @@ pub use all_cascade::all_cascade_faults;
 pub use bounds::{PortBounds, bounds_of, bounds_to, buffer_need, high_bound, low_bound};
 pub use cascade::{AdmittedSwitches, admit_all};
 pub use cascade_fault::{CASCADE_ADMISSION, CascadeFault, CascadeText, SwitchFault};
+pub use cascade_lines::{goes_to_system, late_behind};
 pub use fault::{ADMISSION, AdmitFault, AdmitText};
 pub use lines::sender_jitters;
-pub use way::way_latency;
+pub use way::{latency_of, row_before, way_latency};

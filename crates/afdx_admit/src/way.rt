@@ -71,7 +71,7 @@ fn row_from<'a>(
 /// The row before this one of a switch: its switch, and what stands there. There is none where a
 /// system sends the link, nor where the neighbour that it comes from doesn't send it here.
 #[tactic(auto, unfolding(crate::specs::Cascade::row_before))]
-pub(crate) fn row_before<'a>(
+pub fn row_before<'a>(
     switches: &'a Switches,
     switch: SwitchId,
     link: &Link,
@@ -109,7 +109,7 @@ fn latency_within(switches: &Switches, switch: SwitchId, link: &Link, count: usi
 
 /// The sum of the latencies on the way to this row of a switch.
 #[tactic(auto, unfolding(crate::specs::Cascade::way_latency))]
-pub(crate) fn latency_of(switches: &Switches, switch: SwitchId, link: &Link) -> Option<u64>
+pub fn latency_of(switches: &Switches, switch: SwitchId, link: &Link) -> Option<u64>
     requires { IsRowAt switches.now (spec.row_at switch.0 (link_row link.now)) }
     ensures sum { result
         ≡ spec.way_latency switches.now (spec.row_at switch.0 (link_row link.now)) }

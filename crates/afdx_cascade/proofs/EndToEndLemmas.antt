@@ -191,12 +191,12 @@ sent-within ss r (suc n) within sent =
     else option_and_then (λ (b : RowAt). option_map (λ m. m + r.row.latency_us) (latency_within n ss b))
     (row_before ss r)) sent
 
-sent-latency : (ss : List NamedRows) (r : RowAt) → r.switch < length ss → is_sent_here ss r ≡ true
+pub sent-latency : (ss : List NamedRows) (r : RowAt) → r.switch < length ss → is_sent_here ss r ≡ true
     → way_latency ss r ≡ Some r.row.latency_us
 unfolding way_latency
 sent-latency ss r within sent = sent-within ss r (length ss) within sent
 
-row-latency : (ss : List NamedRows) (r : RowAt) → IsCascadeAdmitted ss → IsRow ss r
+pub row-latency : (ss : List NamedRows) (r : RowAt) → IsCascadeAdmitted ss → IsRow ss r
     → (sum : ℕ) × (way_latency ss r ≡ Some sum)
 row-latency ss r admitted is = by (nat_lt r.row.from s.0.rows.own) refl
   where

@@ -42,3 +42,9 @@ pub mod WholeLemmas
 pub mod ReadLemmas
 pub mod EndToEndLemmas
 pub mod AloneLemmas
+pub mod MessageLemmas
+pub mod KeptLemmas
+pub mod SamePlanLemmas
+pub mod TwoHopsMessageLemmas
+pub mod LinesLemmas
+pub mod ReleasedLemmas

@@ -134,7 +134,7 @@ last-of (x ∷ xs) = elim (last-of xs) [
   | inr found ↦ inr (x ∷ found.0, found.1, ap (λ ys. x ∷ ys) found.2)
 ]
 
-split-end : {X : Type 0} (before : List X) (x : X) (ys : List X)
+pub split-end : {X : Type 0} (before : List X) (x : X) (ys : List X)
     → (before ++ x ∷ []) ++ ys ≡ before ++ x ∷ ys
 split-end [] x ys = refl
 split-end (b ∷ before) x ys = ap (λ zs. b ∷ zs) (split-end before x ys)
@@ -168,7 +168,7 @@ cables-bring c (h ∷ before) k port side other rules none joined =
 -- ---- the list
 
 -- what a cable brings arrives at its end
-at-port : (side : Side) (port : ℕ) (turns : List (Turn HeldFrame)) (later : List Arrival)
+pub at-port : (side : Side) (port : ℕ) (turns : List (Turn HeldFrame)) (later : List Arrival)
     (x : Arrival) (rest : List Arrival)
     → map (brought side port) turns ≡ later ++ x ∷ rest → x.port ≡ port
 at-port side port [] [] x rest is = absurd (cc is)

@@ -185,7 +185,7 @@ module _ (ss : List NamedRows) (are : AreSwitches ss) where
       ++ (each_from (neighbours_lines ss) 0 (length ss)
       ++ each_from (starts_lines ss) 0 (length ss))) are.over).0 k (omega arith) (omega (arith, within))
 
-  own-place : (k : ℕ) (s : NamedRows) → slice_get ss k ≡ Some s → switch_named ss s.name ≡ Some k
+  pub own-place : (k : ℕ) (s : NamedRows) → slice_get ss k ≡ Some s → switch_named ss s.name ≡ Some k
   unfolding name_lines
   own-place k s at =
       let holds = sym (ap (λ o. first_false (option_map_or (λ (r : NamedRows).

@@ -12,7 +12,6 @@ use Rattle.afdx_port.specs.Due.{order_of}
 use Rattle.afdx_port.specs.History.{due_at}
 use Rattle.afdx_port.specs.Schedule.{Turn, IsNext}
 use Rattle.afdx_port.proofs.TurnLemmas.{eqb-other, eqb-same}
-use Rattle.afdx_switch.specs.Admitted.{IsAdmittedRun}
 use Rattle.afdx_switch.specs.HeldFrames.{HeldFrame}
 use Rattle.afdx_switch.specs.Switching.{taken_at}
 use Rattle.afdx_switch.specs.Tables.{byte_ns_at, entries_at}
@@ -20,10 +19,7 @@ use Rattle.afdx_switch.specs.Verdicts.{reason_of}
 use Rattle.afdx_network.specs.Events.{Event, turns_on}
 use Rattle.afdx_network.specs.Network.{IsNextOn}
 use Rattle.afdx_network.specs.Order.{is_below, side_number}
-use Rattle.afdx_promises.specs.Examples.{tables}
-use Rattle.afdx_promises.specs.Examples as known
-use Rattle.afdx_promises.proofs.ExampleLemmas as base
-use Rattle.afdx_cascade.specs.Examples.{tables_before}
+use Rattle.afdx_cascade.specs.Examples.{tables_before, tables_after}
 use Rattle.afdx_cascade.specs.SwitchEvents.{IsPlan, SwitchEvent, at_switch, came_to, end_at}
 use Rattle.afdx_cascade.specs.SwitchEvents.{accepted_by}
 use Rattle.afdx_cascade.specs.Due.{IsRing, AreOrders, IsLeastOf, turn_event}
@@ -126,41 +122,41 @@ module _ (p : PassesOne tables_before first_row line.arrival) where
       → (k ≡ 0) × (side ≡ A) × (port ≡ 2) × (s ≡ first_slot)
   arrived-due zero side port s next =
       let same = at-first side port s next in (refl, same.0, same.1, same.2)
-  arrived-due (suc zero) side port s next = absurd (none-due tables [] side port s refl next)
-  arrived-due (suc (suc k)) side port s next = absurd (none-due tables
+  arrived-due (suc zero) side port s next = absurd (none-due tables_after [] side port s refl next)
+  arrived-due (suc (suc k)) side port s next = absurd (none-due tables_before
       (at_switch (suc (suc k)) arrived) side port s (after-arrived k) next)
 
   left-due : (k : ℕ) (side : Side) (port : ℕ) (s : Turn HeldFrame)
       → IsNextOn (tables_of k) (at_switch k (left first_slot)) side port s → ⊥
   left-due zero side port s next = after-first side port s next
-  left-due (suc zero) side port s next = none-due tables [] side port s refl next
-  left-due (suc (suc k)) side port s next = none-due tables
+  left-due (suc zero) side port s next = none-due tables_after [] side port s refl next
+  left-due (suc (suc k)) side port s next = none-due tables_before
       (at_switch (suc (suc k)) (left first_slot)) side port s (after-left k) next
 
-  module _ (q : PassesOne tables second_row next_arrival) where
+  module _ (q : PassesOne tables_after second_row next_arrival) where
     carried-due : (k : ℕ) (side : Side) (port : ℕ) (s : Turn HeldFrame)
         → IsNextOn (tables_of k) (at_switch k (carried_on first_slot)) side port s
         → (k ≡ 1) × (side ≡ A) × (port ≡ 2) × (s ≡ second_slot)
     carried-due zero side port s next = absurd (after-first side port s next)
     carried-due (suc zero) side port s next =
-        let same = next-one tables second_row next_arrival q side port s
-        (subst (λ ts. IsNext (byte_ns_at tables port)
-        (entries_at tables side port (next_arrival ∷ [])) ts s) (no-taken port) next) in
+        let same = next-one tables_after second_row next_arrival q side port s
+        (subst (λ ts. IsNext (byte_ns_at tables_after port)
+        (entries_at tables_after side port (next_arrival ∷ [])) ts s) (no-taken port) next) in
         (refl, same.0, same.1, same.2)
-    carried-due (suc (suc k)) side port s next = absurd (none-due tables
+    carried-due (suc (suc k)) side port s next = absurd (none-due tables_before
         (at_switch (suc (suc k)) (carried_on first_slot)) side port s (after-carried k) next)
 
     both-due : (k : ℕ) (side : Side) (port : ℕ) (s : Turn HeldFrame)
         → IsNextOn (tables_of k) (at_switch k (left_both first_slot second_slot)) side port s → ⊥
     both-due zero side port s next = after-first side port s next
-    both-due (suc zero) side port s next = no-more tables second_row next_arrival q side port
+    both-due (suc zero) side port s next = no-more tables_after second_row next_arrival q side port
         (taken_at port (turns_on side (at_switch 1 (left_both first_slot second_slot)))) s
         (λ same here. subst (λ z.
         taken_at port (turns_on z (at_switch 1 (left_both first_slot second_slot)))
         ≡ second_slot ∷ []) (sym same)
         (subst (λ n. taken_at n (one_gone second_slot) ≡ second_slot ∷ []) (sym here)
         (one-taken second_slot))) next
-    both-due (suc (suc k)) side port s next = none-due tables
+    both-due (suc (suc k)) side port s next = none-due tables_before
         (at_switch (suc (suc k)) (left_both first_slot second_slot)) side port s (after-both k) next
 
 -- ---- each event is the next one
@@ -180,7 +176,7 @@ line-next = record {
     nothing place g (inr frame) = no-frames two_switches [] 0 empty-ring place g frame
 
 module _ (plan : IsPlan two_switches) (p : PassesOne tables_before first_row line.arrival)
-    (q : PassesOne tables second_row next_arrival)
+    (q : PassesOne tables_after second_row next_arrival)
     (soon : first_slot.end ≤ 1000032768000000) (young : first_slot.too_old ≡ false) where
   first-leaves : IsFirstDue two_switches arrived []
       (turn_event arrived 0 A (record { port = 2; turn = first_slot }))
@@ -200,9 +196,9 @@ module _ (plan : IsPlan two_switches) (p : PassesOne tables_before first_row lin
       (turn_event (carried_on first_slot) 1 A (record { port = 2; turn = second_slot }))
   second-leaves = one-due (carried_on first_slot) first_slot.end 1 second_slot
       (carried-ring soon young)
-      (subst (λ ts. IsNext (byte_ns_at tables 2)
-      (entries_at tables A 2 (next_arrival ∷ [])) ts second_slot) (sym (no-taken 2))
-      (are-turns tables second_row next_arrival q).0) (carried-due p q)
+      (subst (λ ts. IsNext (byte_ns_at tables_after 2)
+      (entries_at tables_after A 2 (next_arrival ∷ [])) ts second_slot) (sym (no-taken 2))
+      (are-turns tables_after second_row next_arrival q).0) (carried-due p q)
 
   all-of-them : AreAll two_switches (line ∷ []) (left_both first_slot second_slot)
   all-of-them = record {
@@ -243,27 +239,24 @@ passes-both computed = record {
   accepted = accepted;
 }
   where
-    run : IsAdmittedRun tables known.arrivals
-    run = (base.premises-met computed).run
-
     plan : IsPlan two_switches
-    plan = the-plan run
+    plan = the-plan
 
     p : PassesOne tables_before first_row line.arrival
-    p = first-passes computed run
+    p = first-passes computed
 
     soon : first_slot.end ≤ 1000032768000000
-    soon = first-soon computed run
+    soon = first-soon computed
 
     young : first_slot.too_old ≡ false
     young = slot-young tables_before first_row line.arrival p
 
-    q : PassesOne tables second_row next_arrival
-    q = next-passes run (next-named computed) (accepted-again run p.run plan
+    q : PassesOne tables_after second_row next_arrival
+    q = next-passes (next-named computed) (accepted-again p.run plan
         (carried-rules p soon young) (next-named computed))
 
     accepted : (k : ℕ) → k < 2
         → length (accepted_by (tables_of k) (came_to k (left_both first_slot second_slot))) ≡ 1
     accepted zero lt = one-accepted tables_before line.arrival p.accepted
-    accepted (suc zero) lt = one-accepted tables next_arrival q.accepted
+    accepted (suc zero) lt = one-accepted tables_after next_arrival q.accepted
     accepted (suc (suc k)) lt = absurd (omega (arith, lt))

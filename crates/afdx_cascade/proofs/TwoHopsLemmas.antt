@@ -20,15 +20,15 @@ use Rattle.afdx_switch.specs.HeldFrames.{HeldFrame}
 use Rattle.afdx_switch.specs.Tables.{rows_of, row_of, row_named, rule_of, goes_to, carried}
 use Rattle.afdx_switch.specs.Tables.{byte_ns_at}
 use Rattle.afdx_switch.specs.Verdicts.{reason_of}
-use Rattle.afdx_promises.specs.Examples.{link, tables, one, first_on}
-use Rattle.afdx_promises.specs.Examples as known
+use Rattle.afdx_promises.specs.Examples.{one, first_on}
 use Rattle.afdx_promises.proofs.ExampleLemmas as base
-use Rattle.afdx_cascade.specs.Examples.{link_before, tables_before}
+use Rattle.afdx_cascade.specs.Examples.{link_before, tables_before, link_after, tables_after}
 use Rattle.afdx_cascade.specs.SwitchEvents.{IsPlan, End, end_at}
 use Rattle.afdx_cascade.specs.TwoHops.{tables_of, joined_to, two_switches, line}
 use Rattle.afdx_cascade.specs.Cables.{brought}
 use Rattle.afdx_cascade.proofs.OneFrameLemmas.{PassesOne, turn_of, slot-ends}
-use Rattle.afdx_cascade.proofs.ExampleLemmas.{lawful-before, admitted-before, accepted-first}
+use Rattle.afdx_cascade.proofs.ExampleLemmas.{lawful-before, lawful-after, admitted-before, admitted-after}
+use Rattle.afdx_cascade.proofs.ExampleLemmas.{accepted-first}
 
 -- ---- the plan
 
@@ -58,16 +58,16 @@ two-ends (suc zero) port e joined = by (port == 1) refl joined
         (omega arith, omega arith, ap (λ p. Some (end_at 1 p)) (sym here))
 two-ends (suc (suc k)) port e joined = absurd (cc joined)
 
--- ---- what the tables say of the link
+-- ---- what the tables_after say of the link_after
 
-pub only-two : (port : ℕ) → (port ≡ 2 → ⊥) → goes_to tables link port ≡ false
+pub only-two : (port : ℕ) → (port ≡ 2 → ⊥) → goes_to tables_after link_after port ≡ false
 unfolding goes_to system_at_port
 only-two port apart = elim (cases_Bool (1 == port)) [
-  | inl is ↦ rw is refl
-  | inr other ↦ rw (other, eqb-other 2 port (λ same. apart (sym same))) refl
+  | inl is ↦ rw (eqb-other 2 port (λ same. apart (sym same)), is) refl
+  | inr other ↦ rw (eqb-other 2 port (λ same. apart (sym same)), other) refl
 ]
 
-pub goes-two : goes_to tables link 2 ≡ true
+pub goes-two : goes_to tables_after link_after 2 ≡ true
 unfolding goes_to system_at_port
 goes-two = refl
 
@@ -83,7 +83,7 @@ unfolding goes_to system_at_port
 before-goes-two = refl
 
 pub named-in : (bytes : List ℕ) → names 1 bytes ≡ true
-    → row_named tables bytes ≡ Some (row_of tables link)
+    → row_named tables_after bytes ≡ Some (row_of tables_after link_after)
 unfolding row_named rows_of rule_of
 named-in bytes is = rw is refl
 
@@ -92,7 +92,7 @@ named-before : (bytes : List ℕ) → names 1 bytes ≡ true
 unfolding row_named rows_of rule_of
 named-before bytes is = rw is refl
 
-pub byte-time : byte_ns_at tables 2 ≡ 80
+pub byte-time : byte_ns_at tables_after 2 ≡ 80
 unfolding byte_ns_at system_at_port
 byte-time = refl
 
@@ -105,9 +105,9 @@ before-byte-time = refl
 pub timed-one : (x : Arrival) → AreTimed (x ∷ [])
 timed-one x = ((λ k d lt. absurd (omega (arith, lt))), tt)
 
-first-run : IsAdmittedRun tables known.arrivals → IsAdmittedRun tables_before one
-first-run run = record {
-  lawful = lawful-before run.lawful;
+first-run : IsAdmittedRun tables_before one
+first-run = record {
+  lawful = lawful-before;
   admitted = admitted-before;
   timed = timed-one line.arrival;
 }
@@ -137,7 +137,7 @@ abbrev pub first_row : Row
 first_row = row_of tables_before link_before
 
 abbrev pub second_row : Row
-second_row = row_of tables link
+second_row = row_of tables_after link_after
 
 -- the slot in which the frame leaves the first switch
 abbrev pub first_slot : Turn HeldFrame
@@ -148,22 +148,20 @@ abbrev pub next_arrival : Arrival
 next_arrival = brought A 1 first_slot
 
 abbrev pub second_slot : Turn HeldFrame
-second_slot = turn_of tables second_row next_arrival
+second_slot = turn_of tables_after second_row next_arrival
 
-pub first-passes : BuiltIsComputed → IsAdmittedRun tables known.arrivals
-    → PassesOne tables_before first_row line.arrival
-first-passes computed run = record {
-  run = first-run run;
+pub first-passes : BuiltIsComputed → PassesOne tables_before first_row line.arrival
+first-passes computed = record {
+  run = first-run;
   named = named-before (first_on A) (base.first-named computed A);
   accepted = first-kept computed;
   goes = before-goes-two;
   only = before-only-two;
 }
 
-pub first-soon : BuiltIsComputed → IsAdmittedRun tables known.arrivals
-    → first_slot.end ≤ 1000032768000000
-first-soon computed run =
-    let ends = slot-ends tables_before first_row line.arrival (first-passes computed run) in
+pub first-soon : BuiltIsComputed → first_slot.end ≤ 1000032768000000
+first-soon computed =
+    let ends = slot-ends tables_before first_row line.arrival (first-passes computed) in
     let byte = before-byte-time in
     let long = (base.first-is computed A).long in
     let short : length (first_on A) ≤ 1000 = omega (arith, long) in
@@ -175,26 +173,27 @@ pub next-named : BuiltIsComputed → names 1 next_arrival.bytes ≡ true
 unfolding carried
 next-named computed = base.first-named computed A
 
-pub next-run : IsAdmittedRun tables known.arrivals → IsAdmittedRun tables (next_arrival ∷ [])
-next-run run = record {
-  lawful = run.lawful;
-  admitted = run.admitted;
+pub next-run : IsAdmittedRun tables_after (next_arrival ∷ [])
+next-run = record {
+  lawful = lawful-after;
+  admitted = admitted-after;
   timed = timed-one next_arrival;
 }
 
-pub next-passes : IsAdmittedRun tables known.arrivals → names 1 next_arrival.bytes ≡ true
-    → reason_of tables [] next_arrival ≡ None → PassesOne tables second_row next_arrival
-next-passes run named accepted = record {
-  run = next-run run;
+pub next-passes : names 1 next_arrival.bytes ≡ true
+    → reason_of tables_after [] next_arrival ≡ None → PassesOne tables_after second_row next_arrival
+next-passes named accepted = record {
+  run = next-run;
   named = named-in next_arrival.bytes named;
   accepted = accepted;
   goes = goes-two;
   only = only-two;
 }
 
-pub the-plan : IsAdmittedRun tables known.arrivals → IsPlan two_switches
-the-plan run = record { lawful = lawful; ports = two-ends }
+pub the-plan : IsPlan two_switches
+the-plan = record { lawful = lawful; ports = two-ends }
   where
     lawful : (k : ℕ) → IsLawfulSwitch (tables_of k)
-    lawful zero = lawful-before run.lawful
-    lawful (suc k) = run.lawful
+    lawful zero = lawful-before
+    lawful (suc zero) = lawful-after
+    lawful (suc (suc k)) = lawful-before

@@ -16,11 +16,9 @@ use Rattle.afdx_switch.specs.HeldFrames.{HeldFrame}
 use Rattle.afdx_switch.specs.Switching.{PortTurn, taken_at}
 use Rattle.afdx_switch.specs.Tables.{byte_ns_at, entries_at, rule_of, port_of}
 use Rattle.afdx_switch.specs.Verdicts.{reason_of}
-use Rattle.afdx_promises.specs.Examples.{tables, link}
-use Rattle.afdx_promises.specs.Examples as known
 use Rattle.afdx_promises.specs.Sent.{arrivals_at}
 use Rattle.afdx_cascade.specs.Cables.{brought, brought_by}
-use Rattle.afdx_cascade.specs.Examples.{tables_before, link_before}
+use Rattle.afdx_cascade.specs.Examples.{tables_before, link_before, tables_after, link_after}
 use Rattle.afdx_cascade.specs.SwitchEvents.{IsPlan, End, SwitchEvent, KeepsRules, at_switch}
 use Rattle.afdx_cascade.specs.SwitchEvents.{came_to, in_clock, turns_of, end_at}
 use Rattle.afdx_cascade.specs.Due.{OnCable, IsRing, AreAscending, from_end}
@@ -260,12 +258,12 @@ module _ (p : PassesOne tables_before first_row line.arrival)
           (turns_of k side port (carried_on first_slot))
       turns zero port A = had-turn tables_before first_row line.arrival p refl port
       turns zero port B = none-had tables_before line.arrival B port
-      turns (suc zero) port side = none-had tables next_arrival side port
+      turns (suc zero) port side = none-had tables_after next_arrival side port
       turns (suc (suc k)) port side = no-turns two_switches
           (at_switch (suc (suc k)) (carried_on first_slot)) (suc (suc k)) port side
           (after-carried k)
 
-  pub both-rules : PassesOne tables second_row next_arrival
+  pub both-rules : PassesOne tables_after second_row next_arrival
       → KeepsRules two_switches (left_both first_slot second_slot)
   both-rules q =
       rules-of (left_both first_slot second_slot) first_slot.end [] (all-ring soon young) turns
@@ -275,27 +273,26 @@ module _ (p : PassesOne tables_before first_row line.arrival)
           (turns_of k side port (left_both first_slot second_slot))
       turns zero port A = had-turn tables_before first_row line.arrival p refl port
       turns zero port B = none-had tables_before line.arrival B port
-      turns (suc zero) port A = had-turn tables second_row next_arrival q refl port
-      turns (suc zero) port B = none-had tables next_arrival B port
+      turns (suc zero) port A = had-turn tables_after second_row next_arrival q refl port
+      turns (suc zero) port B = none-had tables_after next_arrival B port
       turns (suc (suc k)) port side = no-turns two_switches
           (at_switch (suc (suc k)) (left_both first_slot second_slot)) (suc (suc k)) port side
           (after-both k)
 
 -- ---- it is accepted at the second switch too
 
-comes-in : (rule_of tables link).port ≡ 1
+comes-in : (rule_of tables_after link_after).port ≡ 1
 unfolding rule_of port_of
 comes-in = refl
 
-pub accepted-again : (run : IsAdmittedRun tables known.arrivals)
-    → IsAdmittedRun tables_before (line.arrival ∷ []) → IsPlan two_switches
+pub accepted-again : IsAdmittedRun tables_before (line.arrival ∷ []) → IsPlan two_switches
     → KeepsRules two_switches (carried_on first_slot) → names 1 next_arrival.bytes ≡ true
-    → reason_of tables [] next_arrival ≡ None
-accepted-again run before plan rules named =
-    brought-accepted two_switches (carried_on first_slot) A 0 1 link_before link [] [] next_arrival
-    plan rules goes-on before (next-run run) refl refl comes-in named
+    → reason_of tables_after [] next_arrival ≡ None
+accepted-again before plan rules named =
+    brought-accepted two_switches (carried_on first_slot) A 0 1 link_before link_after [] [] next_arrival
+    plan rules goes-on before next-run refl refl comes-in named
   where
-    goes-on : IsNextThere two_switches 0 1 link_before link
+    goes-on : IsNextThere two_switches 0 1 link_before link_after
     goes-on = record {
       place = 0;
       stands = refl;

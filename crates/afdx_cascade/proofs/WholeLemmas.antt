@@ -12,7 +12,7 @@ use Rattle.afdx_frame.specs.declared.link.Side.{Side}
 use Rattle.afdx_frame.proofs.ListLemmas.{slice_get-within, AllByRecursion-slice_get}
 use Rattle.afdx_config.specs.Lawful.{IsLinkUpTo, jitter_from_any}
 use Rattle.afdx_config.specs.Reading.{system_at_port}
-use Rattle.afdx_config.specs.Rows.{LinkRow, Rows}
+use Rattle.afdx_config.specs.Rows.{SystemRow, LinkRow, Rows}
 use Rattle.afdx_config.specs.Switches.{NamedRows, AreSwitches, far_end, if_neighbour, neighbour_at_port}
 use Rattle.afdx_config.specs.Switches as switches
 use Rattle.afdx_config.proofs.LookUpLemmas.{each_row-found}
@@ -256,6 +256,17 @@ module _ (ss : List NamedRows) where
     link-is r s is at =
         AllByRecursion-slice_get (IsLinkUpTo jitter_from_any (length s.rows.systems)) s.rows.links is.place r.row
         (lawful-at ss are r.switch s at).links.each (row-here ss r s is at)
+
+    -- no cable is at the port of a system
+    pub system-free : (k place : ℕ) (e : SystemRow) → slice_get (tables_of ss k).systems place ≡ Some e
+        → place < (tables_of ss k).own → k < length ss → far_end ss k e.port ≡ None
+    system-free k place e stands own within =
+        let s = slice_get-within ss k within in
+        let same = tables-at ss k s.0 s.1 in
+        let here : (tables_of ss k).own ≡ s.0.rows.own = ap (λ (t : Rows). t.own) same in
+        no-cable k e.port place s.0 s.1
+        ((each_row-found s.0.rows (lawful-at ss are k s.0 s.1)).by_port place e
+        (ap (λ (t : Rows). slice_get t.systems place) (sym same) ∙ stands)) (omega (arith, own, here))
 
     -- its frames come in where no cable is
     pub free-port : (r : RowAt) → IsRow ss r → is_sent_here ss r ≡ true

@@ -18,3 +18,6 @@ pub mod TwoHops
 pub mod Parts
 pub mod Admitted
 pub mod EndToEnd
+pub mod Receivers
+pub mod Kept
+pub mod Released

@@ -1,6 +1,7 @@
 -- What the events of a cascade are at each of its parts: at a switch, on a cable, and of the list.
 -- Lists have the latest first, the list of frames its first line.
-use Rattle.std.specs.Prelude.{◌≡◌, ℕ, ◌*◌, ◌<◌, ◌≤◌, Some, List, ◌++◌, length, map, reverse}
+use Rattle.std.specs.Prelude.{◌≡◌, ℕ, ◌*◌, ◌<◌, ◌≤◌, ◌==◌, None, Some, List, ◌++◌, filter, length}
+use Rattle.std.specs.Prelude.{map, reverse}
 use Rattle.afdx_frame.specs.declared.link.Side.{Side}
 use Rattle.afdx_network.specs.Events.{Event}
 use Rattle.afdx_network.specs.Order.{events_of}
@@ -66,6 +67,19 @@ ListedIsListed =
     (c : Plan) (lines rest : List Line) (so_far : List SwitchEvent) →
     Runs c lines so_far rest →
     AreTaken c lines so_far rest
+
+-- the frames of the lines that name a switch
+abbrev pub frames_to : ℕ → List Line → List Arrival
+frames_to k lines = frames_of (filter (λ line. line.switch == k) lines)
+
+-- What comes to a port where no cable is are the frames of its switch's lines there, in order.
+abbrev pub PortsGetTheirLines : Type 0
+PortsGetTheirLines =
+    (c : Plan) (lines : List Line) (events : List SwitchEvent) (side : Side) (k port : ℕ) →
+    AreAll c lines events →
+    c.far_end k port ≡ None →
+    arrivals_at side port (came_to k events)
+    ≡ arrivals_at side port (frames_to k (reverse lines))
 
 -- each switch accepts on a side, of any frames, at most as many as the list has there; there are
 -- few events for each line, and no others are all events of the list

@@ -9,14 +9,14 @@ ghost use Rattle.afdx_cascade.specs.Examples.{PremisesAreMet};
 ghost use Rattle.afdx_cascade.specs.Once.{AcceptsAtMostListed, AcceptsLineOnce, EventsAreFew};
 ghost use Rattle.afdx_cascade.specs.Once.{EventsAreCounted};
 ghost use Rattle.afdx_cascade.specs.Parts.{SwitchBeginsAlone, SwitchRunsAlone, CablesBringAll};
-ghost use Rattle.afdx_cascade.specs.Parts.{ListedIsListed, EventsAreOfList};
+ghost use Rattle.afdx_cascade.specs.Parts.{ListedIsListed, PortsGetTheirLines, EventsAreOfList};
 ghost use Rattle.afdx_cascade.specs.Runs.{EventsBegin, EventsAreOne};
 ghost use Rattle.afdx_cascade.specs.Again.{BroughtIsAccepted};
 ghost use Rattle.afdx_cascade.specs.Due.{TurnComesNext, FrameComesNext};
 ghost use Rattle.afdx_cascade.specs.Found.{ScanFindsLeast, NothingIsDue};
 ghost use Rattle.afdx_cascade.specs.Standing.{NothingHappened, LineArrives, FrameArrives};
 ghost use Rattle.afdx_cascade.specs.Standing.{TurnEnds, FrameIsCarried};
-ghost use Rattle.afdx_cascade.specs.TwoHops.{FramePassesBoth};
+ghost use Rattle.afdx_cascade.specs.TwoHops.{FramePassesBoth, MessagePassesBoth};
 ghost use Rattle.afdx_cascade.specs.Plans.{SwitchesAreAPlan};
 ghost use Rattle.afdx_cascade.specs.Keeping.{StartKeeps, TurnKeeps};
 ghost use Rattle.afdx_cascade.specs.Keeping.{FrontCanArrive, FrontKeeps, LineKeeps};
@@ -28,6 +28,11 @@ ghost use Rattle.afdx_cascade.specs.EndToEnd.{EachPortHasAWay, LinksLeave, First
 ghost use Rattle.afdx_cascade.specs.EndToEnd.{NoOthersLeave};
 ghost use Rattle.afdx_cascade.specs.EndToEnd.{OwnAreOfList, ReasonsAreAlone, LinksAreAlone};
 ghost use Rattle.afdx_cascade.specs.EndToEnd.{OnlyItsWayIsAccepted};
+ghost use Rattle.afdx_cascade.specs.Receivers.{MessagesComeOnce, OneSideIsEnough};
+ghost use Rattle.afdx_cascade.specs.Receivers.{MessagesComeSoFar, FirstMessagesCome};
+ghost use Rattle.afdx_cascade.specs.Released.{ReleasedComeOnce, ReleasedComeSoFar};
+ghost use Rattle.afdx_cascade.specs.Released.{OneSideBringsAll};
+ghost use Rattle.afdx_cascade.specs.Kept.{CascadeKeepsEndToEnd, CascadeKeepsSoFar};
 
 use afdx_frame::laws::built_is_computed;
 
@@ -102,11 +107,13 @@ pub fn cables_bring_all()
     ensures { CablesBringAll }
 {}
 
-/// The arrivals at ports where no cable is are those of the lines that were taken. Of any frames
+/// The arrivals at ports where no cable is are those of the lines that were taken, and at each such
+/// port of a switch those of the lines that name the switch and the port. Of any frames
 /// each switch accepts at most as many as the list has; all events of the list are few, and no
 /// others are.
 pub fn events_are_of_list()
     ensures listed { ListedIsListed }
+    ensures ports { PortsGetTheirLines }
     ensures all { EventsAreOfList }
 {}
 
@@ -174,9 +181,11 @@ pub fn arrivals_go_on()
 {}
 
 /// The premises of the laws of events can be met: by a list whose one frame passes two switches, in
-/// four events.
+/// four events. These are all events of two switches that are admitted together; the frame came on
+/// one side, and the system at the second switch is told its message, once.
 pub fn events_can_be_met()
-    ensures { FramePassesBoth }
+    ensures frame { FramePassesBoth }
+    ensures message { MessagePassesBoth }
 {
     built_is_computed()
 }
@@ -225,3 +234,38 @@ pub fn links_are_alone()
     ensures frames { LinksAreAlone }
     ensures way { OnlyItsWayIsAccepted }
 {}
+
+/// Exactly once through an admitted cascade: where a link's lawful stream comes to its first switch
+/// at its sender's port, on both sides or on one, each system that the link goes to, at whichever
+/// switch, is told the messages to its UDP ports, each once and in order. Where only the first of
+/// it comes on each side, they are those as far as one of the sides has come. Before all events are
+/// over they are those as far as its frames have left for the system on one of the sides.
+pub fn messages_come_end_to_end()
+    ensures all { MessagesComeOnce }
+    ensures one_side { OneSideIsEnough }
+    ensures so_far { MessagesComeSoFar }
+    ensures first { FirstMessagesCome }
+{
+    built_is_computed()
+}
+
+/// Where all that comes at the port of a link's sender, on both sides, is what it sent, in its
+/// order, each receiver of the link, at whichever switch, is told the released messages to its UDP
+/// ports, each once and in order of their releases. Where only the first of it comes on each side,
+/// they are told as far as one side has come; so, where on one side all comes, all are.
+pub fn released_come_end_to_end()
+    ensures once { ReleasedComeOnce }
+    ensures so_far { ReleasedComeSoFar }
+    ensures one_side { OneSideBringsAll }
+{
+    built_is_computed()
+}
+
+/// All that an admitted cascade keeps from end to end, of all its events and of the first of them:
+/// accepted once is accepted everywhere; what leaves, and when; alone; exactly once.
+pub fn cascades_keep_end_to_end()
+    ensures all { CascadeKeepsEndToEnd }
+    ensures so_far { CascadeKeepsSoFar }
+{
+    built_is_computed()
+}

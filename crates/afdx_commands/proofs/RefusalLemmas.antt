@@ -1,7 +1,7 @@
 -- How a command refuses a configuration or its tables.
 use Rattle.std.proofs.Common.{◌≡◌, ◌≢◌, ℕ, List, Option, Some, ◌⊎◌, inl, inr, subst, refl, arith}
 use Rattle.afdx_config.specs.Admission.{IsAdmitted}
-use Rattle.afdx_config.specs.Reading.{Spells, IsFaultOf}
+use Rattle.afdx_config.specs.Reading.{Spells}
 use Rattle.afdx_config.specs.Rows.{Rows}
 use Rattle.afdx_config.specs.declared.fault.ConfigFault.{ConfigFault}
 use Rattle.afdx_config.specs.declared.fault.ConfigFault.TheVariants.{NotToml, BadProfile, Missing}
@@ -13,7 +13,7 @@ use Rattle.afdx_admit.specs.declared.fault.AdmitFault.{AdmitFault}
 use Rattle.afdx_lists.specs.declared.watched.Watched.{Watched}
 use Rattle.afdx_config.specs.Files.{IsFileFault}
 use Rattle.afdx_config.specs.declared.file_fault.FileFault.{FileFault}
-use Rattle.afdx_commands.specs.Refusals.{admit_line, config_line, file_line, RefusesConfig, RefusesFile}
+use Rattle.afdx_commands.specs.Refusals.{admit_line, file_line, RefusesFile}
 use Rattle.afdx_commands.specs.Refusals.{RefusesTables, IsToldRefused, WantsMemory}
 
 -- memory was refused, or there is another fault
@@ -31,16 +31,6 @@ memory_or Memory = inl refl
 -- a configuration was refused: it has the fault that is told, or memory was refused
 module _ {E : Type 0} (bytes : E → Option (List ℕ)) (old new : Watched E) (config : List ℕ)
     (status : ℕ) where
-  pub config-refused : (fault : ConfigFault)
-      → ((fault ≡ Memory → ⊥) → IsToldRefused bytes old new status (config_line fault))
-      → (fault ≡ Memory → WantsMemory bytes old new status)
-      → (fault ≢ Memory → IsFaultOf config fault) →
-      RefusesConfig bytes old new config status ⊎ WantsMemory bytes old new status
-  config-refused fault told memory faulty = elim (memory_or fault) [
-    | inl is ↦ inr (memory is)
-    | inr other ↦ inl (fault, faulty other, told other)
-  ]
-
   pub file-refused : (f : FileFault)
       → ((f.fault ≡ Memory → ⊥) → IsToldRefused bytes old new status (file_line f))
       → (f.fault ≡ Memory → WantsMemory bytes old new status)
@@ -52,14 +42,6 @@ module _ {E : Type 0} (bytes : E → Option (List ℕ)) (old new : Watched E) (c
   ]
 
 -- with status 1 it has that fault
-pub config-faulty : {E : Type 0} (bytes : E → Option (List ℕ)) (old new : Watched E) (config : List ℕ) (status : ℕ) →
-    RefusesConfig bytes old new config status ⊎ WantsMemory bytes old new status → status ≡ 1
-    → RefusesConfig bytes old new config 1
-config-faulty bytes old new config status (inl refuses) is = subst (RefusesConfig bytes old new config) is refuses
-config-faulty bytes old new config status (inr wants) is =
-    let four = wants.status_is in
-    absurd (omega (arith, four, is))
-
 pub file-faulty : {E : Type 0} (bytes : E → Option (List ℕ)) (old new : Watched E) (config : List ℕ) (status : ℕ) →
     RefusesFile bytes old new config status ⊎ WantsMemory bytes old new status → status ≡ 1
     → RefusesFile bytes old new config 1

@@ -4,6 +4,7 @@ pub mod CheckText
 pub mod CascadeText
 pub mod Checking
 pub mod SolveText
+pub mod Solving
 pub mod Refusals
 pub mod Taking
 pub mod Senders

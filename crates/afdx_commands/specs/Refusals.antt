@@ -3,11 +3,10 @@ use Rattle.std.specs.Prelude.{ℕ, ◌≡◌, List, [], ◌++◌, Option, Some, 
 use Rattle.std.specs.Option.{option_map_or}
 use Rattle.afdx_config.specs.Admission.{IsAdmitted}
 use Rattle.afdx_config.specs.FaultText as config_fault
-use Rattle.afdx_config.specs.Reading.{Spells, IsFaultOf}
+use Rattle.afdx_config.specs.Reading.{Spells}
 use Rattle.afdx_config.specs.Rows.{Rows}
 use Rattle.afdx_config.specs.Switches.{NamedRows}
 use Rattle.afdx_config.specs.Files.{IsFileFault}
-use Rattle.afdx_config.specs.declared.fault.ConfigFault.{ConfigFault}
 use Rattle.afdx_config.specs.declared.file_fault.FileFault.{FileFault}
 use Rattle.afdx_admit.specs.FaultText as admit_fault
 use Rattle.afdx_admit.specs.Known.{name_at, name_of}
@@ -17,10 +16,7 @@ use Rattle.afdx_admit.specs.declared.fault.AdmitFault.{AdmitFault}
 use Rattle.afdx_text.specs.Telling.{Tells, TellsLine}
 use Rattle.afdx_lists.specs.declared.watched.Watched.{Watched}
 
--- the line of a configuration's fault
-abbrev pub config_line : ConfigFault → List ℕ
-config_line fault = codes "config " ++ config_fault.fault_text fault ++ codes "\n"
-
+-- the line of a fault of a configuration, of one switch or of several
 abbrev pub file_line : FileFault → List ℕ
 file_line fault = codes "config " ++ config_fault.file_fault_text fault ++ codes "\n"
 
@@ -59,11 +55,6 @@ module _ {E : Type 0} (error_bytes : E → Option (List ℕ)) (old new : Watched
     pub told : Tells error_bytes old new line
 
   -- the configuration has this fault
-  abbrev pub RefusesConfig : List ℕ → ℕ → Type 0
-  RefusesConfig config status = (fault : ConfigFault) × IsFaultOf config fault
-      × IsToldRefused status (config_line fault)
-
-  -- the same of one that may describe several switches
   abbrev pub RefusesFile : List ℕ → ℕ → Type 0
   RefusesFile config status = (fault : FileFault) × IsFileFault config fault
       × IsToldRefused status (file_line fault)

@@ -12,6 +12,7 @@ mod ending;
 pub mod refusing;
 mod sender;
 mod solve_command;
+mod solve_needs;
 pub mod status;
 mod summary;
 mod taking;

@@ -1,13 +1,13 @@
 //! How a command refuses a configuration or its tables.
 
 ghost use Rattle.std.specs.Prelude.{◌≡◌, ◌++◌, Some, codes, decimal};
-ghost use Rattle.afdx_config.specs.FaultText.{behind, place_of, place_in, switch_text};
+ghost use Rattle.afdx_config.specs.FaultText.{behind, place_in, switch_text};
 ghost use Rattle.afdx_admit.specs.AtSwitch.{IsKnownAt};
 ghost use Rattle.afdx_admit.specs.FaultText.{low_bound_text, subject, switch_subject};
 ghost use Rattle.afdx_admit.specs.FaultText.{switch_fault_text};
 ghost use Rattle.afdx_admit.specs.Known.{IsKnown};
 ghost use Rattle.afdx_text.specs.Telling.{Tells};
-ghost use Rattle.afdx_commands.specs.Refusals.{admit_line, admit_line_at, config_line, file_line};
+ghost use Rattle.afdx_commands.specs.Refusals.{admit_line, admit_line_at, file_line};
 ghost use Rattle.afdx_commands.specs.Refusals.{IsToldRefused, WantsMemory, no_place_line, no_system_line};
 
 use crate::status::{REFUSED, WRONG_WORDS};
@@ -39,40 +39,6 @@ fn tell_place<E: Write>(errors: &mut Watched<E>, place: Place)
     tell_number(errors, u64::from(place.key));
 }
 
-/// Tells the place of the check that failed, if the fault has one.
-fn tell_place_of<E: Write>(errors: &mut Watched<E>, fault: ConfigFault)
-    ensures { Tells E.contents errors.old errors.new (behind (place_of fault)) }
-{
-    match fault.place() {
-        Some(place) => tell_place(errors, place),
-        None => tell(errors, b""),
-    }
-}
-
-/// Tells the line of a fault of a configuration.
-fn tell_config<E: Write>(errors: &mut Watched<E>, fault: ConfigFault)
-    ensures { Tells E.contents errors.old errors.new (config_line fault) }
-{
-    tell(errors, b"config ");
-    tell(errors, fault.word().as_bytes());
-    tell_place_of(errors, fault);
-    tell(errors, b"\n");
-}
-
-/// Tells why a configuration is refused, and gives the exit status.
-pub fn refuse_config<E: Write>(fault: ConfigFault, errors: &mut Watched<E>) -> u8
-    ensures told { (fault ≡ ConfigFault.Memory → ⊥) →
-        IsToldRefused E.contents errors.old errors.new result (config_line fault) }
-    ensures memory { fault ≡ ConfigFault.Memory →
-        WantsMemory E.contents errors.old errors.new result }
-{
-    if let ConfigFault::Memory = fault {
-        return want_memory(errors);
-    }
-    tell_config(errors, fault);
-    REFUSED
-}
-
 /// Tells the switch that a fault stands in, counted from 1; nothing where it is 0.
 fn tell_switch<E: Write>(errors: &mut Watched<E>, switch: u8)
     ensures { Tells E.contents errors.old errors.new (switch_text switch) }
@@ -96,7 +62,7 @@ fn tell_file_place<E: Write>(errors: &mut Watched<E>, fault: FileFault)
     }
 }
 
-/// Tells the line of a fault of a file that may describe several switches.
+/// Tells the line of a fault of a configuration, of one switch or of several.
 fn tell_file<E: Write>(errors: &mut Watched<E>, fault: FileFault)
     ensures { Tells E.contents errors.old errors.new (file_line fault) }
 {
@@ -107,7 +73,7 @@ fn tell_file<E: Write>(errors: &mut Watched<E>, fault: FileFault)
     tell(errors, b"\n");
 }
 
-/// Tells why such a file is refused, and gives the exit status.
+/// Tells why a configuration is refused, and gives the exit status.
 pub fn refuse_file<E: Write>(fault: FileFault, errors: &mut Watched<E>) -> u8
     ensures told { (fault.fault ≡ ConfigFault.Memory → ⊥) →
         IsToldRefused E.contents errors.old errors.new result (file_line fault) }

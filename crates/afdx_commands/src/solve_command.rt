@@ -1,167 +1,31 @@
 //! The command `solve`.
 
-ghost use Rattle.std.specs.Prelude.{◌≡◌, ◌⊎◌, ◌<◌, ◌++◌, OnOk, IfOk, true, false, length, string_bytes, ℕ, List};
-ghost use Rattle.afdx_config.specs.Asked.{Asks};
+ghost use Rattle.std.specs.Prelude.{◌≡◌, ◌⊎◌, ◌++◌, IfOk, true, false, string_bytes, ℕ, List};
+ghost use Rattle.afdx_config.specs.Asked.{lists};
 ghost use Rattle.afdx_config.specs.Lawful.{IsLawful};
-ghost use Rattle.afdx_config.specs.Reading.{SpellsKeeping};
-ghost use Rattle.afdx_config.specs.Rows.{Rows, link_row};
-ghost use Rattle.afdx_admit.specs.Bounds.{IsBounds};
+ghost use Rattle.afdx_config.specs.ToSolve.{IsToSolve};
+ghost use Rattle.afdx_admit.specs.AtSwitch.{IsKnownAt};
 ghost use Rattle.afdx_admit.specs.Known.{IsKnown};
-ghost use Rattle.afdx_commands.specs.CheckText.{fault_line, class_bound_at};
-ghost use Rattle.afdx_commands.specs.SolveText.{told_need, need_over, need_line, need_at, asked_by};
-ghost use Rattle.afdx_commands.specs.SolveText.{needs_of_first, needs_at, needs_text};
-ghost use Rattle.afdx_commands.specs.SolveText.{IsSolution, IsDenial};
-ghost use Rattle.afdx_commands.specs.SolveText.{IsSolved, IsUnsolved, IsFaulty, IsCut, IsUnmade};
+ghost use Rattle.afdx_commands.specs.CascadeText.{cascade_fault_line};
+ghost use Rattle.afdx_commands.specs.CheckText.{fault_line};
+ghost use Rattle.afdx_commands.specs.Solving.{IsSolutionOfOne, IsDenialOfOne};
+ghost use Rattle.afdx_commands.specs.Solving.{IsSolutionOfSeveral, IsDenialOfSeveral};
+ghost use Rattle.afdx_commands.specs.Solving.{IsSolution, IsDenial};
+ghost use Rattle.afdx_commands.specs.Solving.{IsSolved, IsUnsolved, IsFaulty, IsCut, IsUnmade};
 ghost use Rattle.afdx_lists.specs.Watching.{has_failed};
 
-use crate::refusing::{refuse_config, want_memory};
+use crate::refusing::{refuse_file, want_memory};
+use crate::solve_needs::{needs_of, needs_of_cascade};
 use crate::status::{DONE, REFUSED};
 use afdx_admit::laws::lines_are_admission;
-use afdx_admit::{AdmitFault, PortBounds, bounds_of};
-use afdx_config::{Link, SystemId, Tables, read_to_solve_asking};
-use afdx_frame::{LAST_PORT, Priority, VlId};
+use afdx_admit::{AdmitFault, CascadeFault};
+use afdx_config::{Switches, Tables, ToSolve, read_file_to_solve};
 use afdx_lists::Watched;
-use afdx_solve::laws::each_is_least;
-use afdx_solve::{SolveOptions, config_text, solve};
+use afdx_solve::laws::{cascade_is_least, each_is_least};
+use afdx_solve::{SolveOptions, cascade_text, config_text, solve, solve_cascade};
 use afdx_text::{tell, tell_fault, write_text};
 use std::alloc::{AllocError, Global};
-use std::fmt::Write as _;
 use std::io::Write;
-
-/// Adds the line of a link that needs so many ns at an output port, and asked for so many us.
-fn put_told(text: &mut String, port: u8, vl: u16, bound: u64, asked: u64) -> Result<(), AllocError>
-    ensures { OnOk result
-        (string_bytes text.new ≡ string_bytes text.old ++ told_need port vl bound asked) }
-{
-    write!(
-        text,
-        "vl {vl} at {port}: {bound} ns needed, {asked} us asked\n"
-    )
-}
-
-/// Adds the line if the bound is more than what was asked for.
-fn put_over(text: &mut String, port: u8, vl: u16, bound: u64, asked: u64) -> Result<(), AllocError>
-    ensures { OnOk result
-        (string_bytes text.new ≡ string_bytes text.old ++ need_over port vl bound asked) }
-{
-    if bound <= asked.saturating_mul(1000) {
-        Ok(())
-    } else {
-        put_told(text, port, vl, bound, asked)
-    }
-}
-
-/// Adds the line if there is a bound, and it is more than what was asked for.
-fn put_line(
-    text: &mut String,
-    port: u8,
-    vl: VlId,
-    bound: Option<u64>,
-    asked: Option<u64>,
-) -> Result<(), AllocError>
-    ensures { OnOk result (string_bytes text.new
-        ≡ string_bytes text.old ++ need_line port vl.0 bound asked) }
-{
-    match (bound, asked) {
-        (Some(bound), Some(asked)) => put_over(text, port, vl.0, bound, asked),
-        (Some(_), None) => Ok(()),
-        (None, _) => Ok(()),
-    }
-}
-
-/// The bound of a class at an output port, in ns.
-fn class_bound(class: Priority, bounds: &PortBounds) -> Option<u64>
-    ensures { (t : Rows) (port : ℕ) → IsBounds t port bounds.now →
-        result ≡ class_bound_at t port class }
-{
-    match class {
-        Priority::High => Some(bounds.high),
-        Priority::Low => bounds.low,
-    }
-}
-
-/// Adds the line of a link that needs more at an output port than it asked for, if it goes to the
-/// system there.
-fn put_need(
-    text: &mut String,
-    port: u8,
-    system: SystemId,
-    bounds: &PortBounds,
-    link: &Link,
-    asked: Option<u64>,
-) -> Result<(), AllocError>
-    ensures { (t : Rows) → IsBounds t port bounds.now → OnOk result (string_bytes text.new
-        ≡ string_bytes text.old ++ need_at t port system.0 (link_row link.now) asked) }
-{
-    if !link.goes_to(system) {
-        return Ok(());
-    }
-    let bound = class_bound(link.priority, bounds);
-    put_line(text, port, link.vl, bound, asked)
-}
-
-/// What the link at a place asked for, in us.
-fn asked_by(asked: &[Option<u64>], index: usize) -> Option<u64>
-    ensures { result ≡ asked_by asked.now index }
-{
-    match asked.get(index) {
-        Some(latency) => *latency,
-        None => None,
-    }
-}
-
-/// Adds the lines of the links that need more at an output port than they asked for.
-fn put_needs_to(
-    text: &mut String,
-    tables: &Tables,
-    asked: &[Option<u64>],
-    port: u8,
-    system: SystemId,
-    bounds: &PortBounds,
-) -> Result<(), AllocError>
-    requires { IsBounds tables.now port bounds.now }
-    ensures { OnOk result (string_bytes text.new ≡ string_bytes text.old
-        ++ needs_of_first tables.now asked.now port system.0 (length tables.now.links)) }
-{
-    let count = tables.link_count();
-    for i in 0..count {
-        let latency = asked_by(asked, i);
-        put_need(text, port, system, bounds, tables.link(i), latency)?;
-    }
-    Ok(())
-}
-
-/// Adds the lines at a port of the switch, if it has a system.
-fn put_needs_at(
-    text: &mut String,
-    tables: &Tables,
-    asked: &[Option<u64>],
-    port: u8,
-) -> Result<(), AllocError>
-    ensures { OnOk result (string_bytes text.new
-        ≡ string_bytes text.old ++ needs_at tables.now asked.now port) }
-{
-    match tables.system_at(port) {
-        Some(system) => match bounds_of(tables, port) {
-            Some(bounds) => put_needs_to(text, tables, asked, port, system, &bounds),
-            None => Ok(()),
-        },
-        None => Ok(()),
-    }
-}
-
-/// What is told of solved tables: each link and output port where more is needed than the link
-/// asked for.
-fn needs_of(alloc: Global, tables: &Tables, asked: &[Option<u64>]) -> Result<String, AllocError>
-    ensures { IfOk result (λ text. string_bytes text ≡ needs_text tables.now asked.now) }
-{
-    let mut text = String::new(alloc);
-    for count in 0..LAST_PORT {
-        let port = count + 1;
-        put_needs_at(&mut text, tables, asked, port)?;
-    }
-    Ok(text)
-}
 
 /// The line of tables that aren't admitted.
 fn denial(alloc: Global, tables: &Tables, fault: AdmitFault) -> Result<String, AllocError>
@@ -169,6 +33,19 @@ fn denial(alloc: Global, tables: &Tables, fault: AdmitFault) -> Result<String, A
     ensures { IfOk result (λ text. string_bytes text ≡ fault_line tables.now fault) }
 {
     let fault = fault.text(tables);
+    format!(in alloc; "no {fault}\n")
+}
+
+/// The line of switches that aren't.
+fn cascade_denial(
+    alloc: Global,
+    switches: &Switches,
+    fault: CascadeFault,
+) -> Result<String, AllocError>
+    requires { IsKnownAt switches.now fault }
+    ensures { IfOk result (λ text. string_bytes text ≡ cascade_fault_line switches.now fault) }
+{
+    let fault = fault.text(switches);
     format!(in alloc; "no {fault}\n")
 }
 
@@ -180,20 +57,18 @@ struct Answer {
     is_solution: bool,
 }
 
-/// The solution of tables, or the line that says that there is none.
-fn answer_of(
+/// The solution of the tables of one switch, or the line that says that there is none.
+fn answer_of_one(
     alloc: Global,
     options: SolveOptions,
     tables: Tables,
     asked: &[Option<u64>],
 ) -> Result<Answer, AllocError>
-    requires { IsLawful tables }
-    ensures solution { IfOk result (λ answer. answer.is_solution ≡ true → (config : List ℕ) →
-        SpellsKeeping options.kept config tables → Asks config asked.now →
-        IsSolution options config (string_bytes answer.text) (string_bytes answer.needs)) }
-    ensures denial { IfOk result (λ answer. answer.is_solution ≡ false → (config : List ℕ) →
-        SpellsKeeping options.kept config tables →
-        IsDenial options config (string_bytes answer.text)) }
+    ensures solution { IfOk result (λ answer. answer.is_solution ≡ true → IsLawful tables →
+        IsSolutionOfOne options tables asked.now
+        (string_bytes answer.text) (string_bytes answer.needs)) }
+    ensures denial { IfOk result (λ answer. answer.is_solution ≡ false →
+        IsDenialOfOne options tables (string_bytes answer.text)) }
 {
     match solve(tables, options) {
         Ok(admitted) => {
@@ -221,16 +96,71 @@ fn answer_of(
     }
 }
 
+/// The same of several switches.
+fn answer_of_several(
+    alloc: Global,
+    options: SolveOptions,
+    switches: Switches,
+    asked: &[Vec<Option<u64>>],
+) -> Result<Answer, AllocError>
+    ensures solution { IfOk result (λ answer. answer.is_solution ≡ true →
+        IsSolutionOfSeveral options switches (lists asked.now)
+        (string_bytes answer.text) (string_bytes answer.needs)) }
+    ensures denial { IfOk result (λ answer. answer.is_solution ≡ false →
+        IsDenialOfSeveral options switches (string_bytes answer.text)) }
+{
+    match solve_cascade(switches, options) {
+        Ok(admitted) => {
+            // (a law: no admitted switches that differ in these keys alone have a smaller value)
+            cascade_is_least();
+            let switches = admitted.switches();
+            let text = cascade_text(alloc, switches)?;
+            let needs = needs_of_cascade(alloc, switches, asked)?;
+            Ok(Answer {
+                text,
+                needs,
+                is_solution: true,
+            })
+        }
+        Err((switches, fault)) => {
+            let text = cascade_denial(alloc, &switches, fault)?;
+            Ok(Answer {
+                text,
+                needs: String::new(alloc),
+                is_solution: false,
+            })
+        }
+    }
+}
+
+/// The solution of what a file describes, or the line that says that there is none.
+fn answer_of(alloc: Global, options: SolveOptions, file: ToSolve) -> Result<Answer, AllocError>
+    ensures solution { IfOk result (λ answer. answer.is_solution ≡ true → (config : List ℕ) →
+        IsToSolve options.kept config file →
+        IsSolution options config (string_bytes answer.text) (string_bytes answer.needs)) }
+    ensures denial { IfOk result (λ answer. answer.is_solution ≡ false → (config : List ℕ) →
+        IsToSolve options.kept config file →
+        IsDenial options config (string_bytes answer.text)) }
+{
+    match file {
+        ToSolve::One(tables, asked) => answer_of_one(alloc, options, tables, asked.as_slice()),
+        ToSolve::Several(switches, asked) => {
+            answer_of_several(alloc, options, switches, asked.as_slice())
+        }
+    }
+}
+
 /// Reads a configuration, in which jitter, buffer, latency and skew may be absent or any whole
-/// number from 0 on, and writes it with the least of each with which its network is admitted: each
-/// from those before it, as written. Kept keys stay; keys that are only raised stay where they are
-/// more. The text has one layout, without the remarks of the file.
+/// number from 0 on, and writes it with the least of each with which its network is admitted: of
+/// one switch each from those before it, as written; of several the least that are enough for each
+/// other. Kept keys stay; keys that are only raised stay where they are more. The text has one
+/// layout, without the remarks of the file.
 ///
 /// A line `vl 20 at 3: 111111 ns needed, 100 us asked` is told on `errors` for each link and output
 /// port where the bound, with the written jitters, is more than the latency that stands in the
-/// configuration, ports ascending, and links in the order of the file. Where no such values are
-/// enough, `no` is written and the first line of admission that is false. A fault's one line goes
-/// to `errors`.
+/// configuration, ports ascending, and links in the order of the file. Of several switches it is
+/// `vl 20 at fwd 3: ..`, switches in the order of the file. Where no such values are enough, `no`
+/// is written and the first line of admission that is false. A fault's one line goes to `errors`.
 ///
 /// It gives the exit status: 0 where a configuration is written, 1 where there is none or the one
 /// that was read has a fault, 4 for a device, of which a beginning of the text is written, or
@@ -258,11 +188,11 @@ pub fn solve_config<O: Write, E: Write>(
         ⊎ IsUnmade options O.contents E.contents config.now
         (output.old, errors.old) (output.new, errors.new) }
 {
-    let (tables, asked) = match read_to_solve_asking(alloc, config, options.kept) {
-        Ok(read) => read,
-        Err(fault) => return refuse_config(fault, errors),
+    let file = match read_file_to_solve(alloc, config, options.kept) {
+        Ok(file) => file,
+        Err(fault) => return refuse_file(fault, errors),
     };
-    let Ok(answer) = answer_of(alloc, options, tables, asked.as_slice()) else {
+    let Ok(answer) = answer_of(alloc, options, file) else {
         return want_memory(errors);
     };
     match write_text(output, answer.text.as_bytes()) {

@@ -3,6 +3,7 @@ use Rattle.std.proofs.Common.{◌≡◌, ℕ, suc, ◌<◌, ◌≤◌, List, [],
 use Rattle.std.proofs.Common.{ap, ◌∙◌, subst, arith}
 use Rattle.std.specs.List.{AllByRecursion}
 use Rattle.std.proofs.Math.Seq.{take-length}
+use Rattle.std.proofs.lemmas.List.{drop_all}
 use Rattle.std.proofs.lemmas.Option.{slice_get_within}
 use Rattle.afdx_frame.proofs.ListLemmas.{AllByRecursion-slice_get}
 use Rattle.afdx_config.specs.Lawful.{IsLink, IsLinkUpTo, IsPort, jitter_from_system, jitter_from_any}
@@ -40,6 +41,8 @@ ends_alone profile own systems alone are = record {
   names = are.names;
   ports = are.ports;
   ids = rw alone (rw (take-length systems) are.ids);
+  few = omega (arith, alone);
+  neighbours = rw (drop_all own systems (omega (arith, alone))) tt;
 }
 
 -- the port entries are of systems

@@ -2,18 +2,18 @@
 use Rattle.std.proofs.lemmas.Bool.{eq-eqb}
 use Rattle.std.proofs.Common.{◌≡◌, ℕ, ◌<◌, Bool, true, false, ◌&&◌, ◌==◌, List, [], ◌∷◌, ◌++◌}
 use Rattle.std.proofs.Common.{length, None, Some, inl, inr, ◌≤◌, nat_eq, refl, sym, ap, subst, arith}
-use Rattle.std.proofs.Common.{length-append, slice_get, Option, ◌-◌}
+use Rattle.std.proofs.Common.{length-append, slice_get, Option, ◌+◌, ◌-◌, drop}
 use Rattle.std.specs.List.{AllByRecursion}
-use Rattle.std.proofs.lemmas.List.{take-append-le}
+use Rattle.std.proofs.lemmas.List.{take-append-le, drop-append-le}
 use Rattle.indexmap.proofs.IndexTableLemmas.Probe.{pigeonhole}
 use Rattle.std.specs.Str.{bytes_eq}
 use Rattle.std.proofs.lemmas.Slice.Eq.{bytes_eq-Decides}
 use Rattle.afdx_frame.proofs.ListLemmas.{AllByRecursion-push, slice_get-push_cases, slice_get-within}
 use Rattle.afdx_frame.proofs.ListLemmas.{AllByRecursion-slice_get}
 use Rattle.afdx_config.specs.Rows.{SystemRow, LinkRow, PortRow}
-use Rattle.afdx_config.specs.Reading.{system_named, system_at_port, has_id, link_of, has_port}
+use Rattle.afdx_config.specs.Reading.{system_named, system_at_port, has_id, link_of, has_port, most_neighbours}
 use Rattle.afdx_config.specs.New.{IsNewSystem}
-use Rattle.afdx_config.specs.Lawful.{IsSystem, AreSystems, AreEnds, AreDistinct, IsLinkUpTo, AreLinksUpTo, HaveSystemJitter}
+use Rattle.afdx_config.specs.Lawful.{IsSystem, AreSystems, AreEnds, AreDistinct, HasNoNumber, IsLinkUpTo, AreLinksUpTo, HaveSystemJitter}
 use Rattle.afdx_config.specs.Lawful.{IsPort, ArePorts, AreOfSystems, triple, jitter_from_system}
 use Rattle.afdx_config.proofs.DistinctLemmas.{distinct-nil, distinct-push, none_found}
 
@@ -90,13 +90,16 @@ module _ (profile own : ℕ) (rows : List SystemRow) (new : SystemRow) (old : Ar
   grown-count = at_most_ports profile (rows ++ new ∷ [])
       (AllByRecursion-push (IsSystem profile) rows new old.each lawful) (at_ports_push rows new old.ports port)
 
-  pub ends_push : AreEnds profile own (rows ++ new ∷ [])
-  ends_push = record {
+  pub ends_push : length rows < own + most_neighbours → HasNoNumber new → AreEnds profile own (rows ++ new ∷ [])
+  ends_push room none = record {
     count = grown-count;
     each = AllByRecursion-push (IsSystem profile) rows new old.each lawful;
     names = names_push rows new old.names name;
     ports = at_ports_push rows new old.ports port;
     ids = rw (take-append-le own rows (new ∷ []) behind) old.ids;
+    few = omega (arith, room, length-append rows (new ∷ []));
+    neighbours = rw (drop-append-le own rows (new ∷ []) behind)
+        (AllByRecursion-push HasNoNumber (drop own rows) new old.neighbours none);
   }
 
   -- so there is room for it

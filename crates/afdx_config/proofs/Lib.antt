@@ -7,6 +7,9 @@ pub mod GatheredLemmas
 pub mod GrownLemmas
 pub mod AnyLemmas
 pub mod LookUpLemmas
+pub mod InSwitchLemmas
 pub mod NumberLemmas
 pub mod OverLemmas
+pub mod BareLemmas
+pub mod ChangedSwitchesLemmas
 pub mod TakenLemmas

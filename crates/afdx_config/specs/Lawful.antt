@@ -1,7 +1,7 @@
 -- Every rule of the format, as a fact of the rows. A link's greatest jitter is a number of its own:
 -- it depends on who sends the link to this switch, a system or another switch.
-use Rattle.std.specs.Prelude.{◌≡◌, ℕ, ◌<◌, ◌≤◌, true, List, length, nat_eq, slice_get}
-use Rattle.std.specs.Prelude.{IsTrue, Some, take}
+use Rattle.std.specs.Prelude.{◌≡◌, ℕ, ◌+◌, ◌<◌, ◌≤◌, true, List, length, nat_eq, slice_get}
+use Rattle.std.specs.Prelude.{IsTrue, Some, take, drop}
 use Rattle.std.specs.List.{list_any, AllByRecursion}
 use Rattle.afdx_frame.specs.Lengths.{least_frame, greatest_frame, greatest_buffer}
 use Rattle.afdx_frame.specs.Regulation.{is_bag, greatest_delay}
@@ -9,7 +9,7 @@ pub use Rattle.afdx_frame.specs.Regulation.{jitter_from_system, jitter_from_any}
 use Rattle.afdx_frame.specs.Ports.{last_port}
 use Rattle.afdx_config.specs.Rows.{SystemRow, LinkRow, PortRow, Rows}
 use Rattle.afdx_config.specs.Reading.{is_name, are_apart, goes_to, deepest, rates}
-use Rattle.afdx_config.specs.Reading.{most_links, most_ports}
+use Rattle.afdx_config.specs.Reading.{most_links, most_ports, most_neighbours}
 
 abbrev pub IsWithin : ℕ → ℕ → ℕ → Type 0
 IsWithin low high n = (low ≤ n) × (n ≤ high)
@@ -73,13 +73,19 @@ pub record AreSystems (profile : ℕ) (systems : List SystemRow) : Type 0 where
   pub ports : AreDistinct (λ s. s.port) systems
   pub ids : AreDistinct (λ s. s.id) systems
 
--- and of ends, of which the first `own` are systems: a neighbour has no id
+-- a neighbour has neither number nor partition
+abbrev pub HasNoNumber : SystemRow → Type 0
+HasNoNumber e = (e.id ≡ 0) × (e.partition ≡ 0)
+
+-- and of ends, of which the first `own` are systems
 pub record AreEnds (profile own : ℕ) (ends : List SystemRow) : Type 0 where
   pub count : length ends ≤ last_port
   pub each : AllByRecursion (IsSystem profile) ends
   pub names : AreDistinct (λ s. s.name) ends
   pub ports : AreDistinct (λ s. s.port) ends
   pub ids : AreDistinct (λ s. s.id) (take own ends)
+  pub few : length ends ≤ own + most_neighbours
+  pub neighbours : AllByRecursion HasNoNumber (drop own ends)
 
 pub record AreLinksUpTo (greatest_jitter : ℕ → ℕ) (systems : ℕ) (links : List LinkRow) :
     Type 0 where

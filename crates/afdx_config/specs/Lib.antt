@@ -11,7 +11,10 @@ pub mod Asked
 pub mod New
 pub mod Lawful
 pub mod Switches
+pub mod AtSwitch
+pub mod ChangedSwitches
 pub mod Files
+pub mod ToSolve
 pub mod Flows
 pub mod Numbers
 pub mod SentList

@@ -237,6 +237,10 @@ most_links = 4096
 abbrev pub most_ports : ℕ
 most_ports = 4096
 
+-- and how many neighbours: all other switches
+abbrev pub most_neighbours : ℕ
+most_neighbours = 23
+
 -- the top, whose arrays of tables are counted before any table is read
 unfoldable pub tables_at : KeptKeys → Members → Result Rows ConfigFault
 tables_at kept t = do

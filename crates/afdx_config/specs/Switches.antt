@@ -17,7 +17,8 @@ use Rattle.afdx_config.specs.declared.fault.ConfigFault.TheVariants.{NoSuchSyste
 use Rattle.afdx_config.specs.declared.file_fault.FileFault.{FileFault}
 use Rattle.afdx_config.specs.declared.switches.FarEnd.{FarEnd}
 use Rattle.afdx_config.specs.Rows.{SystemRow, LinkRow, Rows}
-use Rattle.afdx_config.specs.Choices.{choice, all_kept}
+use Rattle.afdx_config.specs.declared.rows.KeptKeys.{KeptKeys}
+use Rattle.afdx_config.specs.Choices.{choice}
 use Rattle.afdx_config.specs.Keys as keys
 use Rattle.afdx_config.specs.Keys.{Spot, place, whole, one_of, text, tables}
 use Rattle.afdx_config.specs.Keys.{only_cascade_keys, only_switch_keys, only_neighbour_keys}
@@ -135,10 +136,10 @@ name_at at t = do
   Ok name
 
 -- its top, then each system, each neighbour, each link and each port entry
-unfoldable pub switch_at : Members → Result NamedRows ConfigFault
-switch_at t = do
+unfoldable pub switch_at : KeptKeys → Members → Result NamedRows ConfigFault
+switch_at kept t = do
   profile ← or_bad_profile (whole (keys.switch_at 1) t)
-  buffer ← choice all_kept.buffer (keys.switch_at 2) t
+  buffer ← choice kept.buffer (keys.switch_at 2) t
   systems ← tables (keys.switch_at 3) t
   links ← tables (keys.switch_at 4) t
   ports ← tables (keys.switch_at 5) t
@@ -147,7 +148,7 @@ switch_at t = do
   only_switch_keys t
   systems ← each (system_at profile) [] systems
   ends ← each (neighbour_at profile (length systems)) systems neighbours
-  links ← each (link_at all_kept (length systems) ends) [] links
+  links ← each (link_at kept (length systems) ends) [] links
   ports ← each (port_at systems links) [] ports
   Ok (record {
     name = name;
@@ -167,11 +168,12 @@ in_switch number (Ok x) = Ok x
 in_switch number (Err e) = Err (record { switch = number; fault = e })
 
 -- the switches of some tables, each by its own
-abbrev pub each_switch : List NamedRows → List Members → Result (List NamedRows) FileFault
-each_switch before [] = Ok before
-each_switch before (t ∷ ts) = do
-  switch ← in_switch (length before + 1) (switch_at t)
-  each_switch (before ++ switch ∷ []) ts
+abbrev pub each_switch : KeptKeys → List NamedRows → List Members →
+    Result (List NamedRows) FileFault
+each_switch kept before [] = Ok before
+each_switch kept before (t ∷ ts) = do
+  switch ← in_switch (length before + 1) (switch_at kept t)
+  each_switch kept (before ++ switch ∷ []) ts
 
 -- ---- over all switches
 
@@ -271,11 +273,11 @@ switch_tables t = do
   check (nat_le 1 (length switches)) (OutOfRange keys.switches_at.place)
   Ok switches
 
-unfoldable pub switches_at : Members → Result (List NamedRows) FileFault
-switches_at t = do
+unfoldable pub switches_at : KeptKeys → Members → Result (List NamedRows) FileFault
+switches_at kept t = do
   switches ← in_switch 0 (switch_tables t)
   in_switch 0 (only_cascade_keys t)
-  switches ← each_switch [] switches
+  switches ← each_switch kept [] switches
   no_fault (first_false (over_all switches))
   Ok switches
 

@@ -17,6 +17,7 @@ use crate::known_keys::only_cascade_keys;
 use crate::over_all::first_fault;
 use crate::read::{tables_of, tree_of};
 use crate::read_switch::switches_of;
+use crate::rows::KeptKeys;
 use crate::switches::Switches;
 use crate::tables::Tables;
 use std::alloc::Global;
@@ -52,33 +53,37 @@ fn switch_tables<'a>(alloc: Global, tree: &'a Table) -> Result<Vec<&'a Table>, C
     Ok(rows)
 }
 
-/// The switches that a tree states, or the first check that fails.
+/// The switches that a tree states, of which these keys are kept, or the first check that fails.
 #[tactic(auto, unfolding(crate::specs::Switches::switches_at))]
-fn switches_in(alloc: Global, tree: &Table) -> Result<Switches, FileFault>
+fn switches_in(alloc: Global, tree: &Table, kept: KeptKeys) -> Result<Switches, FileFault>
     ensures lawful { IfOk result AreSwitches }
-    ensures value { GivesIn (λ s. s) result (switches_at (table_view tree.now)) }
+    ensures value { GivesIn (λ s. s) result (switches_at kept (table_view tree.now)) }
 {
     let rows = in_switch(0, switch_tables(alloc, tree))?;
     in_switch(0, only_cascade_keys(tree))?;
-    let switches = switches_of(alloc, &rows)?;
+    let switches = switches_of(alloc, &rows, kept)?;
     match first_fault(&switches) {
         Some(fault) => Err(fault),
         None => Ok(Switches::new(switches)),
     }
 }
 
-/// What a tree describes, or the first check that fails.
+/// What a tree describes, of which these keys are kept, or the first check that fails.
 #[tactic(auto, unfolding(crate::specs::Files::file_at))]
-fn described_by(alloc: Global, tree: &Table) -> Result<Described, FileFault>
+pub(crate) fn described_by(
+    alloc: Global,
+    tree: &Table,
+    kept: KeptKeys,
+) -> Result<Described, FileFault>
     ensures lawful { IfOk result spec.IsLawfulFile }
-    ensures one { IfOk result (spec.IsOneStated (table_view tree.now)) }
-    ensures value { GivesIn (λ d. d) result (spec.file_at (table_view tree.now)) }
+    ensures one { IfOk result (spec.IsOneStated kept (table_view tree.now)) }
+    ensures value { GivesIn (λ d. d) result (spec.file_at kept (table_view tree.now)) }
 {
     if are_several(tree) {
-        let switches = switches_in(alloc, tree)?;
+        let switches = switches_in(alloc, tree, kept)?;
         Ok(Described::Several(switches))
     } else {
-        let tables = in_switch(0, tables_of(alloc, tree, ALL_KEPT))?;
+        let tables = in_switch(0, tables_of(alloc, tree, kept))?;
         Ok(Described::One(tables))
     }
 }
@@ -97,5 +102,5 @@ pub fn read_file(alloc: Global, text: &[u8]) -> Result<Described, FileFault>
         spec.IsFileFault text.now e) }
 {
     let tree = in_switch(0, tree_of(alloc, text))?;
-    described_by(alloc, &tree)
+    described_by(alloc, &tree, ALL_KEPT)
 }

@@ -23,6 +23,7 @@ mod read_neighbours;
 mod read_ports;
 mod read_switch;
 mod read_systems;
+mod reading_to_solve;
 mod rows;
 mod switches;
 mod systems;
@@ -35,7 +36,8 @@ pub use key_tables::{
     CASCADE_KEYS, Key, LINK_KEYS, NEIGHBOUR_KEYS, PORT_KEYS, SWITCH_KEYS, SYSTEM_KEYS, TOP_KEYS,
 };
 pub use key_texts::{UNKNOWN_KEYS, WIDER_KEYS};
-pub use read::{read_tables, read_to_solve, read_to_solve_asking};
+pub use read::{read_tables, read_to_solve};
+pub use reading_to_solve::{ToSolve, read_file_to_solve};
 pub use rows::{ComRow, KeptKeys, Kind, Link, System, SystemId, Times};
 pub use switches::{FarEnd, SwitchId, Switches};
 pub use tables::Tables;

@@ -4,7 +4,12 @@ ghost use Rattle.std.specs.Prelude.{◌≡◌, ◌<◌, length, string_bytes, sl
 ghost use Rattle.afdx_config.specs.Lawful.{IsLawfulSwitch};
 ghost use Rattle.afdx_config.specs.Reading.{is_name};
 ghost use Rattle.afdx_config.specs.Switches.{named_rows};
+ghost use Rattle.afdx_config.specs.Rows.{LinkRow};
+ghost use Rattle.afdx_config.specs.Changed.{with_buffer, with_link_at, with_times};
+ghost use Rattle.afdx_config.specs.Lawful.{IsLinkAmong, IsWithin};
+ghost use Rattle.afdx_frame.specs.Lengths.{least_frame, greatest_buffer};
 
+use crate::rows::Times;
 use crate::tables::Tables;
 use std::marker::Model;
 
@@ -57,6 +62,23 @@ impl NamedTables {
         ensures lawful { IsLawfulSwitch self.now.rows }
     {
         &self.tables
+    }
+
+    pub(crate) fn set_buffer(&mut self, buffer: u64)
+        requires { IsWithin least_frame greatest_buffer buffer }
+        ensures { self.new ≡ named_rows self.old.name (with_buffer buffer self.old.rows) }
+    {
+        self.tables.set_buffer(buffer);
+    }
+
+    /// Changes the times of the link at a place.
+    pub(crate) fn set_times(&mut self, index: usize, times: Times)
+        requires within { index < length self.old.rows.links }
+        requires lawful { (l : LinkRow) → slice_get self.old.rows.links index ≡ Some l →
+            IsLinkAmong self.old.rows.own (length self.old.rows.systems) (with_times times l) }
+        ensures { self.new ≡ named_rows self.old.name (with_link_at index times self.old.rows) }
+    {
+        self.tables.set_times(index, times);
     }
 
     pub(crate) fn into_tables(self) -> Tables

@@ -3,12 +3,10 @@
 ghost use Rattle.std.specs.Prelude.{◌≡◌, ◌≢◌, IfOk, IfErr, codes};
 ghost use Rattle.toml.specs.View.{table_view};
 ghost use Rattle.afdx_config.specs.Lawful.{IsLawful, IsWithin};
-ghost use Rattle.afdx_config.specs.Asked.{Asks};
 ghost use Rattle.afdx_config.specs.Fault.{Gives};
 ghost use Rattle.afdx_config.specs.Keys as keys;
 ghost use Rattle.afdx_config.specs.Reading as spec;
 
-use crate::asked::latencies_in;
 use crate::choices::{ALL_KEPT, choice};
 use crate::fault::ConfigFault;
 use crate::keys::{At, tables, top_at, whole};
@@ -92,23 +90,4 @@ pub fn read_to_solve(alloc: Global, text: &[u8], kept: KeptKeys) -> Result<Table
 {
     let tree = tree_of(alloc, text)?;
     tables_of(alloc, &tree, kept)
-}
-
-/// What `read_to_solve` gives, and the latency in us that each link asks for, in their order: what
-/// stands in the text, also where it is out of range; none where the key is absent.
-pub fn read_to_solve_asking(
-    alloc: Global,
-    text: &[u8],
-    kept: KeptKeys,
-) -> Result<(Tables, Vec<Option<u64>>), ConfigFault>
-    ensures ok { IfOk result (λ read. spec.SpellsKeeping kept text.now read.0) }
-    ensures lawful { IfOk result (λ read. IsLawful read.0) }
-    ensures asked { IfOk result (λ read. Asks text.now read.1.items) }
-    ensures fault { IfErr result (λ e. e ≢ ConfigFault.Memory →
-        spec.IsFaultKeeping kept text.now e) }
-{
-    let tree = tree_of(alloc, text)?;
-    let tables = tables_of(alloc, &tree, kept)?;
-    let asked = latencies_in(alloc, &tree)?;
-    Ok((tables, asked))
 }

@@ -3,12 +3,12 @@
 ghost use Rattle.std.specs.Prelude.{◌≡◌, ◌≤◌, length, take, None, IfOk, string_bytes};
 ghost use Rattle.toml.specs.View.{table_view};
 ghost use Rattle.afdx_frame.specs.Ports.{last_port};
-ghost use Rattle.afdx_config.specs.Lawful.{IsSystem, AreSystems, AreEnds, IsWithin};
+ghost use Rattle.afdx_config.specs.Lawful.{IsSystem, AreSystems, AreEnds, HasNoNumber, IsWithin};
 ghost use Rattle.afdx_config.specs.Rows.{system_row};
 ghost use Rattle.afdx_config.specs.Fault.{Gives};
 ghost use Rattle.afdx_config.specs.Trees.{trees};
 ghost use Rattle.afdx_config.specs.Keys as keys;
-ghost use Rattle.afdx_config.specs.Reading.{each, system_named, system_at_port};
+ghost use Rattle.afdx_config.specs.Reading.{each, system_named, system_at_port, most_neighbours};
 ghost use Rattle.afdx_config.specs.Switches as spec;
 
 use crate::fault::ConfigFault;
@@ -47,6 +47,7 @@ fn neighbour_of(
     ensures name { IfOk result (λ e. system_named before.now (string_bytes e.name) ≡ None) }
     ensures port { IfOk result (λ e. system_at_port before.now e.port ≡ None) }
     ensures lawful { IfOk result (λ e. IsSystem profile (system_row e)) }
+    ensures number { IfOk result (λ e. HasNoNumber (system_row e)) }
 {
     let index = before.len() - own + 1;
     let name = new_name(table, neighbour_at(index, 1), before)?;
@@ -73,7 +74,8 @@ pub(crate) fn neighbours_of(
     profile: u64,
     systems: Systems,
 ) -> Result<Systems, ConfigFault>
-    requires { AreSystems profile systems }
+    requires systems { AreSystems profile systems }
+    requires few { length tables.now ≤ most_neighbours }
     ensures lawful { IfOk result (AreEnds profile (length systems)) }
     ensures systems { IfOk result (λ ends. take (length systems) ends ≡ systems) }
     ensures value { Gives (λ ends. ends) result

@@ -6,7 +6,7 @@ ghost use Rattle.afdx_config.specs.Switches as spec;
 
 use crate::named_tables::NamedTables;
 use crate::over_all::{at, first_of, home_of, listed_at, switch_named};
-use crate::rows::{System, SystemId};
+use crate::rows::{System, SystemId, Times};
 use crate::tables::Tables;
 use afdx_frame::VlId;
 use std::marker::Model;
@@ -49,9 +49,16 @@ impl Model for Switches {
 
 impl Switches {
     ghost use Rattle.std.specs.Prelude.{◌≡◌, ◌<◌, length, option_map, slice_get, Some, IfSome};
+    ghost use Rattle.std.specs.Prelude.{IsSome};
     ghost use Rattle.afdx_config.specs.Lawful.{IsLawfulSwitch};
     ghost use Rattle.afdx_config.specs.Switches.{NamedRows, AreSwitches, switch_named};
     ghost use Rattle.afdx_config.specs.Switches.{system_of, far_end, first_of};
+    ghost use Rattle.afdx_config.specs.Rows.{LinkRow, Rows};
+    ghost use Rattle.afdx_config.specs.Changed.{with_times};
+    ghost use Rattle.afdx_config.specs.Lawful.{IsLinkAmong, IsWithin};
+    ghost use Rattle.afdx_config.specs.AtSwitch.{tables_at, link_at};
+    ghost use Rattle.afdx_config.specs.ChangedSwitches.{with_buffer_at, with_times_at};
+    ghost use Rattle.afdx_frame.specs.Lengths.{least_frame, greatest_buffer};
 
     pub(crate) fn new(switches: Vec<NamedTables>) -> Switches
         requires { AreSwitches switches.items }
@@ -94,6 +101,28 @@ impl Switches {
     {
         let Self { mut switches } = self;
         switches.swap_remove(switch.0 as usize).into_tables()
+    }
+
+    /// Changes the buffer of each output port of a switch, to so many bytes.
+    pub fn set_buffer(&mut self, switch: SwitchId, buffer: u64)
+        requires switch { switch.0 < length self.old }
+        requires buffer { IsWithin least_frame greatest_buffer buffer }
+        ensures changed { self.new ≡ with_buffer_at switch.0 buffer self.old }
+        ensures switches { AreSwitches self.new }
+    {
+        self.switches[switch.0 as usize].set_buffer(buffer);
+    }
+
+    /// Changes the times of the link at a place of a switch, to ones that the link may have.
+    pub fn set_times(&mut self, switch: SwitchId, index: usize, times: Times)
+        requires within { IsSome (link_at self.old switch.0 index) }
+        requires lawful { (t : Rows) (l : LinkRow) →
+            tables_at self.old switch.0 ≡ Some t → slice_get t.links index ≡ Some l →
+            IsLinkAmong t.own (length t.systems) (with_times times l) }
+        ensures changed { self.new ≡ with_times_at switch.0 index times self.old }
+        ensures switches { AreSwitches self.new }
+    {
+        self.switches[switch.0 as usize].set_times(index, times);
     }
 
     /// The switch of this name, if there is one. It tries each of them.

@@ -1,142 +1,53 @@
 -- From what the senders took to what the receivers are told.
-use Rattle.std.proofs.Common.{◌≡◌, ◌≢◌, ℕ, zero, suc, ◌+◌, ◌<◌, ◌≤◌, Bool, true, false}
-use Rattle.std.proofs.Common.{if◌then◌else◌, List, [], ◌∷◌, ◌++◌, length, take, filter, map, nat_eq}
+use Rattle.std.proofs.Common.{◌≡◌, ◌≢◌, ℕ, zero, suc, ◌<◌, ◌≤◌, true}
+use Rattle.std.proofs.Common.{List, [], ◌∷◌, ◌++◌, length, take, filter, map}
 use Rattle.std.proofs.Common.{Some, refl, sym, ap, subst, ◌∙◌, arith, inl, inr, append_assoc}
 use Rattle.std.proofs.Common.{append-nil}
 use Rattle.std.specs.Prelude.{reverse}
 use Rattle.std.specs.List.{slice_get, AllByRecursion}
-use Rattle.std.proofs.lemmas.Bool.Decides.{nat_tests}
-use Rattle.std.proofs.lemmas.List.{map_push}
-use Rattle.afdx_frame.specs.Reading.{BuiltIsComputed}
 use Rattle.afdx_frame.specs.declared.link.Side.{Side}
 use Rattle.std.proofs.lemmas.Option.{slice_get_within}
 use Rattle.afdx_config.proofs.AmongOthersLemmas.{among_others, between-systems}
 use Rattle.afdx_config.specs.Admission.{IsAdmitted, links_from}
-use Rattle.afdx_config.specs.Lawful.{IsSystem, IsLink, IsLawful, AreDistinct}
-use Rattle.afdx_config.specs.Numbers.{next_number, after_steps}
+use Rattle.afdx_config.specs.Lawful.{IsSystem, IsLawful}
 use Rattle.afdx_config.specs.Reading.{has_port}
 use Rattle.afdx_config.specs.Rows.{SystemRow, LinkRow, Rows, is_to}
 use Rattle.afdx_lists.specs.FrameLines as frame
 use Rattle.afdx_lists.specs.FrameLines.{line_says}
 use Rattle.afdx_lists.specs.Lines.{lines_of, most_lines}
-use Rattle.afdx_frame.specs.Times.{latest_listed}
-use Rattle.afdx_frame.proofs.ListLemmas.{AllByRecursion-slice_get, slice_get-filter}
+use Rattle.afdx_frame.proofs.ListLemmas.{AllByRecursion-slice_get}
 use Rattle.afdx_police.specs.Arrival.{Arrival}
 use Rattle.afdx_port.specs.Schedule.{Turn}
-use Rattle.afdx_send.specs.Complete.{IsFor, HasSentAll, EmitsAll, IsOfTaken, AllIsSent}
-use Rattle.afdx_send.specs.Complete.{EmissionsAreOfTaken, submissions_of, AreReleasesOfAll}
-use Rattle.afdx_send.specs.Emissions.{own, own_submissions, sent_list}
-use Rattle.afdx_send.specs.Frames.{Frame, address_with}
+use Rattle.afdx_send.specs.Complete.{EmitsAll}
+use Rattle.afdx_send.specs.Complete.{submissions_of, AreReleasesOfAll}
+use Rattle.afdx_send.specs.Emissions.{own, sent_list}
+use Rattle.afdx_send.specs.Frames.{Frame}
 use Rattle.afdx_send.specs.Laws.{IsBuildable}
-use Rattle.afdx_send.specs.Releases.{Submission, Release, IsMessage}
 use Rattle.afdx_send.specs.Sender.{SenderHistory}
-use Rattle.afdx_send.proofs.MessageLemmas.{can_be_sent}
-use Rattle.afdx_send.proofs.NewLemmas.{distinct_links}
 use Rattle.afdx_send.proofs.NextLemmas.{split_last}
 use Rattle.afdx_promises.specs.Lines.{Line, messages_told}
 use Rattle.afdx_promises.specs.Promises.{EachIsToldOnce, EachIsToldOnceSoFar, most_come}
 use Rattle.afdx_promises.specs.Sent.{frame_on, stream_of, AreSentAs, arrivals_at}
-use Rattle.afdx_promises.specs.Sent.{StreamIsOfSendings, ReleasedAreToldOnce, IsMergedSoFar}
-use Rattle.afdx_promises.specs.Sent.{ReleasedAreToldSoFar, OneSideIsEnough}
-use Rattle.afdx_promises.proofs.ListLemmas.{all-imply}
+use Rattle.afdx_promises.specs.Sent.{IsMergedSoFar}
 use Rattle.afdx_promises.proofs.SentLemmas.{copy-is, all-earlier, take-all}
-use Rattle.afdx_end_to_end.specs.EndToEnd.{lines_at, HoldsText, HasSent, heard_of, EachIsToldAsTaken}
+use Rattle.afdx_end_to_end.specs.EndToEnd.{says_at, lines_at, HoldsText, HasSent, heard_of, EachIsToldAsTaken}
 use Rattle.afdx_end_to_end.specs.EndToEnd.{TakenIsToldOnce, WrittenIsSent, RunsTellTakenOnce}
 use Rattle.afdx_end_to_end.specs.EndToEnd.{TextsAreLists, AreToldAsTaken}
 use Rattle.afdx_engine.specs.Listed.{AreSound, arrivals_of}
 use Rattle.afdx_end_to_end.specs.OneSide.{HoldsFirst, AreToldSoFar, TakenIsToldSoFar, TakenIsToldByOneSide}
-use Rattle.afdx_engine.specs.Listed.{Handed}
-use Rattle.afdx_sending.specs.Events.{Event, Emitted, Submitted, submissions_in}
-use Rattle.afdx_sending.specs.Events.{turns_in, taken_by, calls_in, EachFollows}
+use Rattle.afdx_sending.specs.Events.{Event}
+use Rattle.afdx_sending.specs.Events.{turns_in, taken_by, calls_in}
 use Rattle.afdx_sending.specs.Text.{send_text}
 use Rattle.afdx_end_to_end.proofs.PortLineLemmas.{AreSaidBy, said-by}
-use Rattle.afdx_end_to_end.proofs.SaidLemmas.{IsSaid, all-said}
 use Rattle.afdx_end_to_end.proofs.TextListLemmas.{text-is-list}
-use Rattle.afdx_end_to_end.proofs.TakenLemmas.{taken-each, own-taken}
-use Rattle.afdx_end_to_end.proofs.SentLineLemmas.{AreOfFrame}
+use Rattle.afdx_end_to_end.proofs.EmittedLemmas as emitted
+use Rattle.afdx_end_to_end.proofs.EmittedLemmas.{Laws, sent-messages}
 use Rattle.afdx_end_to_end.proofs.SendLineLemmas.{line_on, lines_on, CanBeRead, IsFine, turn-says}
-use Rattle.afdx_end_to_end.proofs.SendLineLemmas.{text-at-port, text-off-port}
-
--- ---- what was taken can be sent
-
--- a message of a list that a link took
-pub record IsGood (l : LinkRow) (m : Submission) : Type 0 where
-  pub for : IsFor l m
-  pub is_message : IsMessage m.message
-
-pub taken-good : (n : ℕ) (s : SystemRow) (links : List LinkRow) → AreDistinct (λ l. l.vl) links
-    → (events : List Event) → EachFollows s links events
-    → AllByRecursion (IsSaid n) (submissions_in events) →
-    (i : ℕ) (l : LinkRow) → slice_get links i ≡ Some l → AllByRecursion (IsGood l) (taken_by l.vl events)
-taken-good n s links distinct events follow said i l at =
-    taken-each (λ l m. IsGood l m) (IsSaid n)
-    (λ l x can q. record {
-      for = can;
-      is_message = record { some = can.some; udp = omega (arith, q.udp); bytes = q.bytes };
-    }) s links distinct events follow said i l at
-
--- ---- its frames can be built
-
-step-small : (n : ℕ) → n < 256 → next_number n < 256
-step-small n lt = by (nat_eq n 255) refl
-  where
-    by : (b : Bool) → nat_eq n 255 ≡ b → (if b then 1 else n + 1) < 256
-    by true e = omega arith
-    by false e = (let ne : n ≢ 255 = grind (arith, nat_tests, e) in omega (arith, ne, lt))
-
-number-small : (k : ℕ) → after_steps k 0 < 256
-unfolding after_steps
-number-small zero = omega arith
-number-small (suc k) = step-small (after_steps k 0) (number-small k)
-
-pub turn-buildable : (n profile : ℕ) (s : SystemRow) (h : SenderHistory) → IsSystem profile s
-    → ((i : ℕ) (l : LinkRow) → slice_get h.links i ≡ Some l → IsLink n l) →
-    ((i : ℕ) (l : LinkRow) → slice_get h.links i ≡ Some l
-    → AllByRecursion (IsGood l) (own_submissions h.taken i)) → (turn : Turn Frame)
-    → IsOfTaken h turn → IsBuildable s turn
-turn-buildable n profile s h system links good turn k =
-    let g = AllByRecursion-slice_get (IsGood k.row) (own_submissions h.taken k.link) k.place k.submission
-    (good k.link k.row k.stands) k.taken in
-    let m = k.submission.message in
-    let can = can_be_sent profile n s k.row m system (links k.link k.row k.stands) g.is_message g.for.fits in
-    subst (λ (f : Frame). IsBuildable s (record turn { entry = record turn.entry { item = f } }))
-    (sym k.frame) (record {
-      buildable = can.buildable;
-      bytes = can.bytes;
-      number = (let small = number-small k.steps in omega (arith, small));
-    })
-
--- ---- and read
-
-pub of-frame : BuiltIsComputed → (s : SystemRow) (turn : Turn Frame) → IsBuildable s turn
-    → (side : Side) → AreOfFrame (frame_on s side turn.entry.item)
-of-frame computed s turn is side =
-    let k = computed (address_with s.id s.partition turn.entry.item) turn.entry.item.number side
-    turn.entry.item.message.payload is.buildable is.bytes is.number in
-    let long = k.long in
-    let least = is.buildable.least in
-    let most = is.buildable.most in
-    let fits = is.buildable.fits in
-    record { are_bytes = k.bytes; least = omega (arith, long, least); most = omega (arith, long, most, fits) }
-
-can-be-read : BuiltIsComputed → (s : SystemRow) (turns : List (Turn Frame))
-    → AllByRecursion (IsBuildable s) turns → AllByRecursion (λ turn. turn.end ≤ latest_listed) turns
-    → AllByRecursion (CanBeRead s) turns
-can-be-read computed s [] build early = tt
-can-be-read computed s (turn ∷ turns) build early = (
-  record { early = early.0; frames = of-frame computed s turn build.0 },
-  can-be-read computed s turns build.1 early.1,
-)
-
-all-fine : (s : SystemRow) (events : List Event) → AllByRecursion (CanBeRead s) (turns_in events)
-    → AllByRecursion (IsSaid most_lines) (submissions_in events) → AllByRecursion (IsFine s) events
-all-fine s [] can said = tt
-all-fine s (Emitted turn ∷ before) can said = (can.0, all-fine s before can.1 said)
-all-fine s (Submitted x fault ∷ before) can said = (said.0.line, all-fine s before can said.1)
+use Rattle.afdx_end_to_end.proofs.SendLineLemmas.{says-tests, text-at-port, text-off-port}
 
 -- ---- what arrives is what was sent
 
-snoc-same : {Y : Type 0} (xs ys : List Y) (x y : Y) → xs ++ x ∷ [] ≡ ys ++ y ∷ [] → (xs ≡ ys) × (x ≡ y)
+pub snoc-same : {Y : Type 0} (xs ys : List Y) (x y : Y) → xs ++ x ∷ [] ≡ ys ++ y ∷ [] → (xs ≡ ys) × (x ≡ y)
 snoc-same [] [] x y h = (refl, cc h)
 snoc-same [] (z ∷ []) x y h = absurd (cc h)
 snoc-same [] (z ∷ w ∷ ys) x y h = absurd (cc h)
@@ -146,18 +57,18 @@ snoc-same (a ∷ xs) (b ∷ ys) x y h =
     (let head : a ≡ b = cc h in let tail : xs ++ x ∷ [] ≡ ys ++ y ∷ [] = cc h in let rest =
     snoc-same xs ys x y tail in (ap (λ z. z ∷ xs) head ∙ ap (λ z. b ∷ z) rest.0, rest.1))
 
-not-empty : {Y : Type 0} (xs : List Y) (x : Y) → xs ++ x ∷ [] ≡ [] → ⊥
+pub not-empty : {Y : Type 0} (xs : List Y) (x : Y) → xs ++ x ∷ [] ≡ [] → ⊥
 not-empty [] x h = cc h
 not-empty (y ∷ ys) x h = cc h
 
 sent-as : (s : SystemRow) (side : Side) → 1 ≤ s.port → s.port ≤ 24
     → (turns : List (Turn Frame)) (xs : List Arrival) → AllByRecursion (CanBeRead s) turns
-    → AreSaidBy xs (lines_on s side turns) → AreSentAs s side turns xs
+    → AreSaidBy xs (lines_on [] s side turns) → AreSentAs s side turns xs
 sent-as s side one most [] [] can said = tt
 sent-as s side one most [] (x ∷ past) can said = not-empty said.0 said.1 (sym said.2)
-sent-as s side one most (turn ∷ earlier) [] can said = not-empty (lines_on s side earlier) (line_on s side turn) said
+sent-as s side one most (turn ∷ earlier) [] can said = not-empty (lines_on [] s side earlier) (line_on [] s side turn) said
 sent-as s side one most (turn ∷ earlier) (x ∷ past) can said =
-    let same = snoc-same (lines_on s side earlier) said.0 (line_on s side turn) said.1 said.2 in
+    let same = snoc-same (lines_on [] s side earlier) said.0 (line_on [] s side turn) said.1 said.2 in
     let f : frame.ListedFrame = record {
       time = turn.end;
       side = side;
@@ -174,79 +85,33 @@ sent-as s side one most (turn ∷ earlier) (x ∷ past) can said =
       sent-as s side one most earlier past can.1 (subst (λ (z : List (List ℕ)). AreSaidBy past z) (sym same.0) said.4),
     )
 
-take-map : {Y Z : Type 0} (f : Y → Z) (n : ℕ) (xs : List Y) → take n (map f xs) ≡ map f (take n xs)
+pub take-map : {Y Z : Type 0} (f : Y → Z) (n : ℕ) (xs : List Y) → take n (map f xs) ≡ map f (take n xs)
 take-map f zero xs = refl
 take-map f (suc n) [] = refl
 take-map f (suc n) (x ∷ xs) = ap (λ z. f x ∷ z) (take-map f n xs)
 
 -- the first of the lines are those of the first emissions
-lines-first : (s : SystemRow) (side : Side) (turns : List (Turn Frame)) (xs later : List (List ℕ))
-    → lines_on s side turns ≡ xs ++ later →
+pub lines-first : (name : List ℕ) (s : SystemRow) (side : Side) (turns : List (Turn Frame)) (xs later : List (List ℕ))
+    → lines_on name s side turns ≡ xs ++ later →
     (newer : List (Turn Frame)) × (earlier : List (Turn Frame)) × (turns ≡ newer ++ earlier)
-    × (lines_on s side earlier ≡ xs)
-lines-first s side [] [] later h = ([], [], refl, refl)
-lines-first s side [] (x ∷ xs) later h = absurd (cc h)
-lines-first s side (turn ∷ turns) xs later h = elim (split_last later) [
+    × (lines_on name s side earlier ≡ xs)
+lines-first name s side [] [] later h = ([], [], refl, refl)
+lines-first name s side [] (x ∷ xs) later h = absurd (cc h)
+lines-first name s side (turn ∷ turns) xs later h = elim (split_last later) [
   | inl none ↦ ([], turn ∷ turns, refl, h ∙ ap (λ z. xs ++ z) none ∙ append-nil xs)
-  | inr some ↦ (let moved : lines_on s side turns ++ line_on s side turn ∷ [] ≡ (xs ++ some.0)
+  | inr some ↦ (let moved : lines_on name s side turns ++ line_on name s side turn ∷ [] ≡ (xs ++ some.0)
       ++ some.1 ∷ [] = h ∙ ap (λ z. xs ++ z) some.2 ∙ sym (append_assoc xs some.0 (some.1 ∷ [])) in
-      let same = snoc-same (lines_on s side turns) (xs ++ some.0) (line_on s side turn) some.1 moved in
-      let r = lines-first s side turns xs some.0 same.0 in
+      let same = snoc-same (lines_on name s side turns) (xs ++ some.0) (line_on name s side turn) some.1 moved in
+      let r = lines-first name s side turns xs some.0 same.0 in
       (turn ∷ r.0, r.1, ap (λ z. turn ∷ z) r.2, r.3))
 ]
-
--- ---- the link's place among those of its system
-
-place-among : (links : List LinkRow) (system i : ℕ) (l : LinkRow) → slice_get links i ≡ Some l
-    → l.from ≡ system → (place : ℕ) × (slice_get (links_from links system) place ≡ Some l)
-place-among [] system i l at from = absurd (cc at)
-place-among (x ∷ links) system zero l at from =
-    let here : x ≡ l = cc at in
-    let on : nat_eq x.from system ≡ true =
-    (let e : x.from ≡ system = ap (λ z. z.from) here ∙ from in grind (arith, nat_tests, e)) in
-    (0, rw on at)
-place-among (x ∷ links) system (suc i) l at from = by (nat_eq x.from system) (place-among links system i l at from)
-  where
-    by : (b : Bool) → (place : ℕ) × (slice_get (links_from links system) place ≡ Some l)
-        → (place : ℕ) × (slice_get (if b then x ∷ links_from links system else links_from links
-        system) place ≡ Some l)
-    by true rest = (suc rest.0, rest.1)
-    by false rest = rest
-
--- ---- messages
-
-sent-messages : (rs : List Release) → sent_list rs ≡ map (λ s. s.message) (submissions_of rs)
-sent-messages [] = refl
-sent-messages (r ∷ rs) = ap (λ z. z ++ r.submission.message ∷ []) (sent-messages rs)
-    ∙ sym (map_push (λ s. s.message) (submissions_of rs) r.submission)
-
--- ---- all of it
-
-pub record Laws : Type 0 where
-  pub sent : AllIsSent
-  pub frames : EmissionsAreOfTaken
-  pub stream : StreamIsOfSendings
-  pub once : ReleasedAreToldOnce
-  pub so_far : ReleasedAreToldSoFar
-  pub enough : OneSideIsEnough
-  pub computed : BuiltIsComputed
-
-pub laws-of : AllIsSent → EmissionsAreOfTaken → StreamIsOfSendings → ReleasedAreToldOnce
-    → ReleasedAreToldSoFar → OneSideIsEnough → BuiltIsComputed → Laws
-laws-of sent frames stream once so_far enough computed =
-    record {
-      sent = sent;
-      frames = frames;
-      stream = stream;
-      once = once;
-      so_far = so_far;
-      enough = enough;
-      computed = computed;
-    }
 
 module _ (laws : Laws) (t : Rows) (lawful : IsLawful t) (admitted : IsAdmitted t) (sender : ℕ)
     (s : SystemRow) (given : List (List ℕ)) (events : List Event)
     (sent : HasSent t sender s given events) where
+  own-place : sender < t.own
+  own-place = let within = slice_get_within t.systems sender s sent.stands in omega (arith, within, lawful.own)
+
   abbrev links : List LinkRow
   links = links_from t.links sender
 
@@ -256,51 +121,30 @@ module _ (laws : Laws) (t : Rows) (lawful : IsLawful t) (admitted : IsAdmitted t
   is_system : IsSystem t.profile s
   is_system = AllByRecursion-slice_get (IsSystem t.profile) t.systems sender s lawful.systems.each sent.stands
 
-  said : AllByRecursion (IsSaid most_lines) (submissions_in events)
-  said = subst (λ (z : List Handed). AllByRecursion (IsSaid most_lines) z)
-      (sym sent.are_events.submissions_are) (all-said given (length given) sent.sound)
-
-  is_link : (i : ℕ) (l : LinkRow) → slice_get links i ≡ Some l → IsLink (length t.systems) l
-  is_link i l at = (let r = slice_get-filter (λ x. nat_eq x.from sender) t.links i l at in
-      AllByRecursion-slice_get (IsLink (length t.systems)) t.links r.0 l lawful.links.each r.1)
-
-  good : (i : ℕ) (l : LinkRow) → slice_get links i ≡ Some l → AllByRecursion (IsGood l) (taken_by l.vl events)
-  good i l at = taken-good most_lines s links (distinct_links t.links sender lawful.links.identifiers)
-      events sent.are_events.follow said i l at
-
-  own-is : (i : ℕ) (l : LinkRow) → slice_get links i ≡ Some l → own_submissions h.taken i ≡ taken_by l.vl events
-  own-is i l at = own-taken (λ vl. taken_by vl events) links i l at
-
-  own-good : (i : ℕ) (l : LinkRow) → slice_get links i ≡ Some l → AllByRecursion (IsGood l) (own_submissions h.taken i)
-  own-good i l at = subst (λ (z : List Submission). AllByRecursion (IsGood l) z) (sym (own-is i l at)) (good i l at)
-
-  all-sent : HasSentAll t sender h
-  all-sent = record {
-    lawful = among_others t lawful;
-    admitted = admitted;
-    own = (let within = slice_get_within t.systems sender s sent.stands in omega (arith, within, lawful.own));
-    row = sent.stands;
-    links = refl;
-    fit = λ i l at. all-imply (IsGood l) (IsFor l) (own_submissions h.taken i) (λ m g. g.for) (own-good i l at);
-    messages = λ i l at. all-imply (IsGood l) (λ m. IsMessage m.message) (own_submissions h.taken i)
-        (λ m g. g.is_message) (own-good i l at);
-    done = sent.are_done;
-  }
-
   build : AllByRecursion (IsBuildable s) (turns_in events)
-  build = all-imply (IsOfTaken h) (IsBuildable s) (turns_in events)
-      (turn-buildable (length t.systems) t.profile s h is_system is_link own-good)
-      (laws.frames t sender h all-sent)
+  build = emitted.build laws t (among_others t lawful) admitted sender own-place s given events sent
 
   can : AllByRecursion (CanBeRead s) (turns_in events)
-  can = can-be-read laws.computed s (turns_in events) build sent.early
+  can = emitted.can laws t (among_others t lawful) admitted sender own-place s given events sent
 
   fine : AllByRecursion (IsFine s) events
-  fine = all-fine s events can said
+  fine = emitted.fine laws t (among_others t lawful) admitted sender own-place s given events sent
+
+  abbrev IsReady : LinkRow → Type 0
+  IsReady l = (i : ℕ) × (k : EmitsAll h i l (stream_of s l.vl (turns_in events)))
+      × AreReleasesOfAll l (taken_by l.vl events) (own i k.emits.released)
+
+  ready : (place : ℕ) (l : LinkRow) → slice_get t.links place ≡ Some l → l.from ≡ sender → IsReady l
+  ready = emitted.ready laws t (among_others t lawful) admitted sender own-place s given events sent
+
+  at-port : (side : Side) → lines_at side s.port (lines_of (send_text s events)) ≡ lines_on [] s side (turns_in events)
+  at-port side = text-at-port [] tt s is_system.port.1 (λ own at line. says_at own at (line_says 0 line))
+      (says-tests s is_system.port.0 is_system.port.1) side events fine
 
   pub text-elsewhere : (side : Side) (port : ℕ) → port ≢ s.port
       → lines_at side port (lines_of (send_text s events)) ≡ []
-  text-elsewhere side port ne = text-off-port s is_system.port.0 is_system.port.1 side port events ne fine
+  text-elsewhere side port ne = text-off-port [] tt s is_system.port.1 (λ own at line. says_at own at (line_says 0 line))
+      (says-tests s is_system.port.0 is_system.port.1) side port events ne fine
 
   text-sound : length (lines_of (send_text s events)) ≤ most_lines
       → AreSound (lines_of (send_text s events)) (length (lines_of (send_text s events)))
@@ -321,7 +165,7 @@ module _ (laws : Laws) (t : Rows) (lawful : IsLawful t) (admitted : IsAdmitted t
       let of_text =
       subst (λ (z : List (List ℕ)).
       AreSaidBy (arrivals_at side s.port (arrivals_of list (length list))) z)
-      (holds ∙ text-at-port s is_system.port.0 is_system.port.1 side events fine)
+      (holds ∙ at-port side)
       (by-lines list sound side) in
       sent-as s side is_system.port.0 is_system.port.1 (turns_in events)
       (arrivals_at side s.port (arrivals_of list (length list))) can of_text
@@ -330,23 +174,6 @@ module _ (laws : Laws) (t : Rows) (lawful : IsLawful t) (admitted : IsAdmitted t
       → HoldsText s list (send_text s events) → (side : Side)
       → AreSentAs s side (turns_in events) (arrivals_at side s.port (arrivals_of list (length list)))
   merged list sound holds side = side-merged list sound side (holds side)
-
-  -- what one link of the system sent is a lawful stream of what it took
-  abbrev IsReady : LinkRow → Type 0
-  IsReady l = (i : ℕ) × (k : EmitsAll h i l (stream_of s l.vl (turns_in events)))
-      × AreReleasesOfAll l (taken_by l.vl events) (own i k.emits.released)
-
-  ready : (place : ℕ) (l : LinkRow) → slice_get t.links place ≡ Some l → l.from ≡ sender → IsReady l
-  ready place l link from =
-      let among = place-among t.links sender place l link from in
-      let i = among.0 in
-      let stream = stream_of s l.vl (turns_in events) in
-      let k : EmitsAll h i l stream =
-      laws.sent t sender h i l stream all-sent among.1 (laws.stream s l.vl (turns_in events) build) in
-      let rs = own i k.emits.released in
-      let all : AreReleasesOfAll l (taken_by l.vl events) rs =
-      subst (λ (z : List Submission). AreReleasesOfAll l z rs) (own-is i l among.1) k.all in
-      (i, k, all)
 
   as-taken : (system : ℕ) (l : LinkRow) (lines : List Line) (k : IsReady l)
       → reverse (messages_told system l.vl lines) ≡ filter (λ m. has_port t.ports system l.vl m.udp)
@@ -384,8 +211,8 @@ module _ (laws : Laws) (t : Rows) (lawful : IsLawful t) (admitted : IsAdmitted t
       → ((side : Side) → HoldsFirst s side list (send_text s events))
       → IsMergedSoFar s (turns_in events) (arrivals_of list (length list))
   first-merged list sound holds side =
-      let first = lines-first s side (turns_in events) (lines_at side s.port list) (holds side).0
-      (sym (text-at-port s is_system.port.0 is_system.port.1 side events fine) ∙ (holds side).1) in
+      let first = lines-first [] s side (turns_in events) (lines_at side s.port list) (holds side).0
+      (sym (at-port side) ∙ (holds side).1) in
       let of_text = subst (λ (z : List (List ℕ)).
       AreSaidBy (arrivals_at side s.port (arrivals_of list (length list))) z) (sym first.3)
       (by-lines list sound side) in

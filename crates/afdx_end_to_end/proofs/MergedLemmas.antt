@@ -12,7 +12,8 @@ use Rattle.afdx_frame.specs.declared.link.Side.TheVariants.{A, B}
 use Rattle.afdx_sending.specs.Text.{send_text}
 use Rattle.afdx_end_to_end.specs.EndToEnd.{says_at, lines_at, HasSent}
 use Rattle.afdx_end_to_end.specs.Merged.{AreMerged, Sender, is_at, lines_sent, AreTextsMerged, MergedAreToldOnce}
-use Rattle.afdx_end_to_end.proofs.EndToEndLemmas.{Laws, taken-is-told, text-elsewhere}
+use Rattle.afdx_end_to_end.proofs.EmittedLemmas.{Laws}
+use Rattle.afdx_end_to_end.proofs.EndToEndLemmas.{taken-is-told, text-elsewhere}
 
 -- ---- two lists
 

@@ -1,6 +1,6 @@
 -- The lines of a sender's text, and those at its port.
-use Rattle.std.proofs.Common.{◌≡◌, ℕ, ◌-◌, ◌<◌, ◌≤◌, ◌&&◌, Bool, true, false}
-use Rattle.std.proofs.Common.{if◌then◌else◌, List, [], ◌∷◌, ◌++◌, length, Some, None, refl, sym, ap}
+use Rattle.std.proofs.Common.{◌≡◌, ℕ, ◌-◌, ◌<◌, ◌≤◌, ◌==◌, ◌&&◌, Bool, true, false}
+use Rattle.std.proofs.Common.{if◌then◌else◌, List, [], ◌∷◌, ◌++◌, length, filter, Some, None, refl, sym, ap}
 use Rattle.std.proofs.Common.{◌∙◌, arith, append_assoc, append-nil}
 use Rattle.std.specs.Prelude.{Ok}
 use Rattle.std.proofs.lemmas.Grind.{common_steps}
@@ -26,13 +26,14 @@ use Rattle.afdx_send.specs.declared.fault.SendFault.{SendFault}
 use Rattle.afdx_send.specs.declared.fault.SendFault.TheVariants.{NotMyLink, NoSuchSub, Empty}
 use Rattle.afdx_send.specs.declared.fault.SendFault.TheVariants.{TooLarge, QueueFull, Memory}
 use Rattle.afdx_promises.specs.Sent.{frame_on}
-use Rattle.afdx_end_to_end.specs.EndToEnd.{says_at, lines_at}
+use Rattle.afdx_end_to_end.specs.EndToEnd.{says_at}
 use Rattle.afdx_sending.specs.Events.{Event, Emitted, Submitted, turns_in}
-use Rattle.afdx_sending.specs.Text.{side_text, sent_line, refusal_line, event_lines, send_text}
+use Rattle.afdx_sending.specs.Text.{side_text, sent_line, refusal_line, event_lines, send_text_at}
+use Rattle.afdx_text.specs.OutLines.{place_text}
 use Rattle.afdx_sending.proofs.SendLemmas.{text-none, text-more}
 use Rattle.afdx_end_to_end.proofs.SentLineLemmas.{AtLeast, append-least, lower-least, none-below}
 use Rattle.afdx_end_to_end.proofs.SentLineLemmas.{index-least, decimal-least, line_of, line-feed}
-use Rattle.afdx_end_to_end.proofs.SentLineLemmas.{AreOfFrame, line-least, says}
+use Rattle.afdx_end_to_end.proofs.SentLineLemmas.{AreOfFrame, line-least, says, side-least}
 
 -- ---- texts of whole lines
 
@@ -99,43 +100,27 @@ refused-says n fault few =
 
 -- ---- the lines of events
 
--- the line of an emission on a side
-abbrev pub line_on : SystemRow → Side → Turn send.Frame → List ℕ
-line_on s side turn = line_of side s.port turn.end (encode_lower (frame_on s side turn.entry.item))
+-- the line of an emission on a side, to the switch of this name, if it has one
+abbrev pub line_on : (name : List ℕ) → SystemRow → Side → Turn send.Frame → List ℕ
+line_on name s side turn =
+    line_of (place_text side name) s.port turn.end (encode_lower (frame_on s side turn.entry.item))
 
-abbrev pub lines_in : SystemRow → Event → List (List ℕ)
-lines_in s (Emitted turn) = line_on s A turn ∷ line_on s B turn ∷ []
-lines_in s (Submitted x (Some fault)) = refused x.line fault ∷ []
-lines_in s (Submitted x None) = []
+abbrev pub lines_in : (name : List ℕ) → SystemRow → Event → List (List ℕ)
+lines_in name s (Emitted turn) = line_on name s A turn ∷ line_on name s B turn ∷ []
+lines_in name s (Submitted x (Some fault)) = refused x.line fault ∷ []
+lines_in name s (Submitted x None) = []
 
-abbrev pub all_lines : SystemRow → List Event → List (List ℕ)
-all_lines s [] = []
-all_lines s (e ∷ before) = all_lines s before ++ lines_in s e
+abbrev pub all_lines : (name : List ℕ) → SystemRow → List Event → List (List ℕ)
+all_lines name s [] = []
+all_lines name s (e ∷ before) = all_lines name s before ++ lines_in name s e
 
 -- the lines of the emissions on a side
-abbrev pub lines_on : SystemRow → Side → List (Turn send.Frame) → List (List ℕ)
-lines_on s side [] = []
-lines_on s side (turn ∷ earlier) = lines_on s side earlier ++ line_on s side turn ∷ []
+abbrev pub lines_on : (name : List ℕ) → SystemRow → Side → List (Turn send.Frame) → List (List ℕ)
+lines_on name s side [] = []
+lines_on name s side (turn ∷ earlier) = lines_on name s side earlier ++ line_on name s side turn ∷ []
 
 feed-more : (line : List ℕ) (rest : List ℕ) → line ++ 10 ∷ rest ≡ (line ++ 10 ∷ []) ++ rest
 feed-more line rest = sym (append_assoc line (10 ∷ []) rest)
-
-event-fed : (s : SystemRow) (e : Event) → fed (lines_in s e) ≡ event_lines [] s e
-event-fed s (Emitted turn) =
-    feed-more (line_on s A turn) (fed (line_on s B turn ∷ []))
-    ∙ ap (λ (z : List ℕ). z ++ fed (line_on s B turn ∷ []))
-    (line-feed A s.port turn.end (frame_on s A turn.entry.item))
-    ∙ ap (λ (z : List ℕ). sent_line (side_text A) s.port turn.end (frame_on s A turn.entry.item) ++ z)
-    (line-feed B s.port turn.end (frame_on s B turn.entry.item))
-event-fed s (Submitted x (Some fault)) = refused-feed x.line fault
-event-fed s (Submitted x None) = refl
-
-text-fed : (s : SystemRow) (events : List Event) → send_text s events ≡ fed (all_lines s events)
-text-fed s [] = text-none [] s
-text-fed s (e ∷ before) =
-    text-more [] s e before ∙ ap (λ (z : List ℕ). z ++ event_lines [] s e) (text-fed s before)
-    ∙ ap (λ (z : List ℕ). fed (all_lines s before) ++ z) (sym (event-fed s e))
-    ∙ sym (fed-append (all_lines s before) (lines_in s e))
 
 -- an emission whose frames a list can hold
 pub record CanBeRead (s : SystemRow) (turn : Turn send.Frame) : Type 0 where
@@ -146,32 +131,138 @@ abbrev pub IsFine : SystemRow → Event → Type 0
 IsFine s (Emitted turn) = CanBeRead s turn
 IsFine s (Submitted x fault) = x.line ≤ most_lines
 
-module _ (s : SystemRow) (one : 1 ≤ s.port) (most : s.port ≤ 24) where
-  turn-feed : (side : Side) (turn : Turn send.Frame) → CanBeRead s turn → HasNoFeed (line_on s side turn)
-  turn-feed side turn can =
-      none-below 32 10 (line_on s side turn) (omega arith)
-      (line-least side s.port turn.end (frame_on s side turn.entry.item) one most can.early
-      (can.frames side))
+pub place-least : (side : Side) (name : List ℕ) → AtLeast 32 name → AtLeast 32 (place_text side name)
+place-least side [] least = lower-least 32 48 (side_text side) (omega arith) (side-least side)
+place-least A (c ∷ name) least = (omega arith, (omega arith, least))
+place-least B (c ∷ name) least = (omega arith, (omega arith, least))
 
-  event-feed : (e : Event) → IsFine s e → AllByRecursion HasNoFeed (lines_in s e)
+module _ (name : List ℕ) (least : AtLeast 32 name) (s : SystemRow) (most : s.port ≤ 24) where
+  event-fed : (e : Event) → fed (lines_in name s e) ≡ event_lines name s e
+  event-fed (Emitted turn) =
+      feed-more (line_on name s A turn) (fed (line_on name s B turn ∷ []))
+      ∙ ap (λ (z : List ℕ). z ++ fed (line_on name s B turn ∷ []))
+      (line-feed (place_text A name) s.port turn.end (frame_on s A turn.entry.item))
+      ∙ ap (λ (z : List ℕ). sent_line (place_text A name) s.port turn.end (frame_on s A turn.entry.item) ++ z)
+      (line-feed (place_text B name) s.port turn.end (frame_on s B turn.entry.item))
+  event-fed (Submitted x (Some fault)) = refused-feed x.line fault
+  event-fed (Submitted x None) = refl
+
+  text-fed : (events : List Event) → send_text_at name s events ≡ fed (all_lines name s events)
+  text-fed [] = text-none name s
+  text-fed (e ∷ before) =
+      text-more name s e before ∙ ap (λ (z : List ℕ). z ++ event_lines name s e) (text-fed before)
+      ∙ ap (λ (z : List ℕ). fed (all_lines name s before) ++ z) (sym (event-fed e))
+      ∙ sym (fed-append (all_lines name s before) (lines_in name s e))
+
+  turn-feed : (side : Side) (turn : Turn send.Frame) → CanBeRead s turn → HasNoFeed (line_on name s side turn)
+  turn-feed side turn can =
+      none-below 32 10 (line_on name s side turn) (omega arith)
+      (line-least (place_text side name) s.port turn.end (frame_on s side turn.entry.item)
+      (place-least side name least) most can.early (can.frames side))
+
+  event-feed : (e : Event) → IsFine s e → AllByRecursion HasNoFeed (lines_in name s e)
   event-feed (Emitted turn) can = (turn-feed A turn can, (turn-feed B turn can, tt))
   event-feed (Submitted x (Some fault)) few =
       (none-below 32 10 (refused x.line fault) (omega arith) (refused-least x.line fault few), tt)
   event-feed (Submitted x None) few = tt
 
-  no-feed : (events : List Event) → AllByRecursion (IsFine s) events → AllByRecursion HasNoFeed (all_lines s events)
+  no-feed : (events : List Event) → AllByRecursion (IsFine s) events → AllByRecursion HasNoFeed (all_lines name s events)
   no-feed [] all = tt
   no-feed (e ∷ before) all =
-      all-join HasNoFeed (all_lines s before) (lines_in s e) (no-feed before all.1) (event-feed e all.0)
+      all-join HasNoFeed (all_lines name s before) (lines_in name s e) (no-feed before all.1) (event-feed e all.0)
 
   pub lines-of-text : (events : List Event) → AllByRecursion (IsFine s) events
-      → lines_of (send_text s events) ≡ all_lines s events
-  lines-of-text events all = ap lines_of (text-fed s events) ∙ lines-of-fed (all_lines s events) (no-feed events all)
+      → lines_of (send_text_at name s events) ≡ all_lines name s events
+  lines-of-text events all = ap lines_of (text-fed events) ∙ lines-of-fed (all_lines name s events) (no-feed events all)
 
-  -- ---- those at the system's port
+-- ---- those at the system's port, and at others
 
+-- a test whether a line is a frame at a port of a side: it is so of emissions, and not of refusals
+pub record Tests (name : List ℕ) (s : SystemRow) (at : Side → ℕ → List ℕ → Bool) : Type 0 where
+  pub turn : (side own : Side) (port : ℕ) (turn : Turn send.Frame) → CanBeRead s turn
+      → at side port (line_on name s own turn) ≡ (is_side side own && (port == s.port))
+  pub refusal : (side : Side) (port n : ℕ) (fault : SendFault) → n ≤ most_lines
+      → at side port (refused n fault) ≡ false
+
+and-true : (b : Bool) → (b && true) ≡ b
+and-true true = refl
+and-true false = refl
+
+and-false : (b : Bool) → (b && false) ≡ false
+and-false true = refl
+and-false false = refl
+
+module _ (name : List ℕ) (least : AtLeast 32 name) (s : SystemRow) (most : s.port ≤ 24)
+    (at : Side → ℕ → List ℕ → Bool) (tests : Tests name s at) where
+  turn-test : (side own : Side) (turn : Turn send.Frame) → CanBeRead s turn
+      → at side s.port (line_on name s own turn) ≡ is_side side own
+  turn-test side own turn can = tests.turn side own s.port turn can
+      ∙ ap (λ b. is_side side own && b) (eqb-same s.port s.port refl) ∙ and-true (is_side side own)
+
+  turn-lines : (side : Side) (turn : Turn send.Frame) → CanBeRead s turn
+      → filter (at side s.port) (lines_in name s (Emitted turn)) ≡ line_on name s side turn ∷ []
+  turn-lines side turn can = rw (turn-test side A turn can, turn-test side B turn can) (by side)
+    where
+      by : (own : Side) → (if is_side own A then line_on name s A turn
+          ∷ (if is_side own B then line_on name s B turn ∷ [] else []) else
+          (if is_side own B then line_on name s B turn ∷ [] else [])) ≡ line_on name s own turn ∷ []
+      by A = refl
+      by B = refl
+
+  event-lines : (side : Side) (e : Event) (before : List Event) → IsFine s e
+      → lines_on name s side (turns_in before) ++ filter (at side s.port) (lines_in name s e)
+      ≡ lines_on name s side (turns_in (e ∷ before))
+  event-lines side (Emitted turn) before can =
+      ap (λ (z : List (List ℕ)). lines_on name s side (turns_in before) ++ z) (turn-lines side turn can)
+  event-lines side (Submitted x (Some fault)) before few =
+      ap (λ b. lines_on name s side (turns_in before) ++ (if b then refused x.line fault ∷ [] else []))
+      (tests.refusal side s.port x.line fault few) ∙ append-nil (lines_on name s side (turns_in before))
+  event-lines side (Submitted x None) before few = append-nil (lines_on name s side (turns_in before))
+
+  lines-at-port : (side : Side) (events : List Event) → AllByRecursion (IsFine s) events
+      → filter (at side s.port) (all_lines name s events) ≡ lines_on name s side (turns_in events)
+  lines-at-port side [] all = refl
+  lines-at-port side (e ∷ before) all =
+      filter-append (at side s.port) (all_lines name s before) (lines_in name s e)
+      ∙ ap (λ (z : List (List ℕ)). z ++ filter (at side s.port) (lines_in name s e))
+      (lines-at-port side before all.1) ∙ event-lines side e before all.0
+
+  pub text-at-port : (side : Side) (events : List Event) → AllByRecursion (IsFine s) events
+      → filter (at side s.port) (lines_of (send_text_at name s events)) ≡ lines_on name s side (turns_in events)
+  text-at-port side events all = ap (filter (at side s.port)) (lines-of-text name least s most events all)
+      ∙ lines-at-port side events all
+
+  turn-off : (side own : Side) (port : ℕ) (turn : Turn send.Frame) → (port ≡ s.port → ⊥)
+      → CanBeRead s turn → at side port (line_on name s own turn) ≡ false
+  turn-off side own port turn ne can = tests.turn side own port turn can
+      ∙ ap (λ b. is_side side own && b) (eqb-other port s.port ne) ∙ and-false (is_side side own)
+
+  event-off : (side : Side) (port : ℕ) (e : Event) → (port ≡ s.port → ⊥) → IsFine s e
+      → filter (at side port) (lines_in name s e) ≡ []
+  event-off side port (Emitted turn) ne can =
+      rw (turn-off side A port turn ne can, turn-off side B port turn ne can) refl
+  event-off side port (Submitted x (Some fault)) ne few =
+      ap (λ b. if b then refused x.line fault ∷ [] else []) (tests.refusal side port x.line fault few)
+  event-off side port (Submitted x None) ne few = refl
+
+  lines-off : (side : Side) (port : ℕ) (events : List Event) → (port ≡ s.port → ⊥)
+      → AllByRecursion (IsFine s) events → filter (at side port) (all_lines name s events) ≡ []
+  lines-off side port [] ne all = refl
+  lines-off side port (e ∷ before) ne all =
+      filter-append (at side port) (all_lines name s before) (lines_in name s e)
+      ∙ ap (λ (z : List (List ℕ)). z ++ filter (at side port) (lines_in name s e))
+      (lines-off side port before ne all.1) ∙ event-off side port e ne all.0
+
+  pub text-off-port : (side : Side) (port : ℕ) (events : List Event) → (port ≡ s.port → ⊥)
+      → AllByRecursion (IsFine s) events → filter (at side port) (lines_of (send_text_at name s events)) ≡ []
+  text-off-port side port events ne all = ap (filter (at side port)) (lines-of-text name least s most events all)
+      ∙ lines-off side port events ne all
+
+-- ---- where each side has one switch
+
+module _ (s : SystemRow) (one : 1 ≤ s.port) (most : s.port ≤ 24) where
   pub turn-says : (side : Side) (turn : Turn send.Frame) → CanBeRead s turn
-      → line_says 0 (line_on s side turn)
+      → line_says 0 (line_on [] s side turn)
       ≡ Ok (Some (record {
         time = turn.end;
         side = side;
@@ -181,77 +272,8 @@ module _ (s : SystemRow) (one : 1 ≤ s.port) (most : s.port ≤ 24) where
   turn-says side turn can = says side s.port turn.end (frame_on s side turn.entry.item) one most
       can.early (can.frames side)
 
-  turn-test : (side own : Side) (turn : Turn send.Frame) → CanBeRead s turn
-      → says_at side s.port (line_says 0 (line_on s own turn)) ≡ is_side side own
-  turn-test side own turn can = ap (says_at side s.port) (turn-says own turn can)
-      ∙ ap (λ b. is_side side own && b) (eqb-same s.port s.port refl) ∙ and-true (is_side side own)
-    where
-      and-true : (b : Bool) → (b && true) ≡ b
-      and-true true = refl
-      and-true false = refl
-
-  turn-lines : (side : Side) (turn : Turn send.Frame) → CanBeRead s turn
-      → lines_at side s.port (lines_in s (Emitted turn)) ≡ line_on s side turn ∷ []
-  turn-lines side turn can = rw (turn-test side A turn can, turn-test side B turn can) (by side)
-    where
-      by : (own : Side) → (if is_side own A then line_on s A turn
-          ∷ (if is_side own B then line_on s B turn ∷ [] else []) else
-          (if is_side own B then line_on s B turn ∷ [] else [])) ≡ line_on s own turn ∷ []
-      by A = refl
-      by B = refl
-
-  event-lines : (side : Side) (e : Event) (before : List Event) → IsFine s e
-      → lines_on s side (turns_in before) ++ lines_at side s.port (lines_in s e)
-      ≡ lines_on s side (turns_in (e ∷ before))
-  event-lines side (Emitted turn) before can =
-      ap (λ (z : List (List ℕ)). lines_on s side (turns_in before) ++ z) (turn-lines side turn can)
-  event-lines side (Submitted x (Some fault)) before few =
-      ap (λ r. lines_on s side (turns_in before)
-      ++ (if says_at side s.port r then refused x.line fault ∷ [] else []))
-      (refused-says x.line fault few) ∙ append-nil (lines_on s side (turns_in before))
-  event-lines side (Submitted x None) before few = append-nil (lines_on s side (turns_in before))
-
-  lines-at-port : (side : Side) (events : List Event) → AllByRecursion (IsFine s) events
-      → lines_at side s.port (all_lines s events) ≡ lines_on s side (turns_in events)
-  lines-at-port side [] all = refl
-  lines-at-port side (e ∷ before) all =
-      filter-append (λ line. says_at side s.port (line_says 0 line)) (all_lines s before)
-      (lines_in s e) ∙ ap (λ (z : List (List ℕ)). z ++ lines_at side s.port (lines_in s e))
-      (lines-at-port side before all.1) ∙ event-lines side e before all.0
-
-  pub text-at-port : (side : Side) (events : List Event) → AllByRecursion (IsFine s) events
-      → lines_at side s.port (lines_of (send_text s events)) ≡ lines_on s side (turns_in events)
-  text-at-port side events all = ap (lines_at side s.port) (lines-of-text events all) ∙ lines-at-port side events all
-
-  -- ---- and at other ports
-
-  turn-off : (side own : Side) (port : ℕ) (turn : Turn send.Frame) → (port ≡ s.port → ⊥)
-      → CanBeRead s turn → says_at side port (line_says 0 (line_on s own turn)) ≡ false
-  turn-off side own port turn ne can = ap (says_at side port) (turn-says own turn can)
-      ∙ ap (λ b. is_side side own && b) (eqb-other port s.port ne) ∙ and-false (is_side side own)
-    where
-      and-false : (b : Bool) → (b && false) ≡ false
-      and-false true = refl
-      and-false false = refl
-
-  event-off : (side : Side) (port : ℕ) (e : Event) → (port ≡ s.port → ⊥) → IsFine s e
-      → lines_at side port (lines_in s e) ≡ []
-  event-off side port (Emitted turn) ne can =
-      rw (turn-off side A port turn ne can, turn-off side B port turn ne can) refl
-  event-off side port (Submitted x (Some fault)) ne few =
-      ap (λ r. if says_at side port r then refused x.line fault ∷ [] else [])
-      (refused-says x.line fault few)
-  event-off side port (Submitted x None) ne few = refl
-
-  lines-off : (side : Side) (port : ℕ) (events : List Event) → (port ≡ s.port → ⊥)
-      → AllByRecursion (IsFine s) events → lines_at side port (all_lines s events) ≡ []
-  lines-off side port [] ne all = refl
-  lines-off side port (e ∷ before) ne all =
-      filter-append (λ line. says_at side port (line_says 0 line)) (all_lines s before)
-      (lines_in s e) ∙ ap (λ (z : List (List ℕ)). z ++ lines_at side port (lines_in s e))
-      (lines-off side port before ne all.1) ∙ event-off side port e ne all.0
-
-  pub text-off-port : (side : Side) (port : ℕ) (events : List Event) → (port ≡ s.port → ⊥)
-      → AllByRecursion (IsFine s) events → lines_at side port (lines_of (send_text s events)) ≡ []
-  text-off-port side port events ne all = ap (lines_at side port) (lines-of-text events all)
-      ∙ lines-off side port events ne all
+  pub says-tests : Tests [] s (λ side port line. says_at side port (line_says 0 line))
+  says-tests = record {
+    turn = λ side own port turn can. ap (says_at side port) (turn-says own turn can);
+    refusal = λ side port n fault few. ap (says_at side port) (refused-says n fault few);
+  }

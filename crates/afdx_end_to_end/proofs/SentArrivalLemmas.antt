@@ -22,7 +22,7 @@ use Rattle.afdx_engine.specs.Listed.{Handed}
 use Rattle.afdx_sending.specs.Events.{Event, Emitted, Submitted, submissions_in}
 use Rattle.afdx_sending.specs.Events.{turns_in, taken_by, calls_in, EachFollows}
 use Rattle.afdx_end_to_end.specs.SentLaws.{IsTold, SentLinesAreArrivals}
-use Rattle.afdx_end_to_end.proofs.EndToEndLemmas.{IsGood, taken-good, turn-buildable, of-frame}
+use Rattle.afdx_end_to_end.proofs.EmittedLemmas.{IsGood, taken-good, turn-buildable, of-frame}
 use Rattle.afdx_end_to_end.proofs.SaidLemmas.{IsSaid, all-said}
 use Rattle.afdx_end_to_end.proofs.SentLineLemmas.{sent-line}
 use Rattle.afdx_end_to_end.proofs.TakenLemmas.{own-taken}

@@ -99,7 +99,7 @@ digits-test = record {
 numerals : IsNumeralModel AreDigits (number_after 0)
 numerals = numerals_by_fold AreDigits digits-test number_after (record { empty = λ n. refl; more = λ n c cs r. refl })
 
-number-decimal : (n : ℕ) → n < 2 ^ 64 → number_of (decimal n) ≡ Some n
+pub number-decimal : (n : ℕ) → n < 2 ^ 64 → number_of (decimal n) ≡ Some n
 number-decimal n h = number_of_digits (decimal n) (decimal_nonempty n h)
     (digits_decimal numerals n h) ∙ ap Some (digits_value-decimal numerals n h)
 
@@ -159,13 +159,13 @@ unfolding encode_with
 not_dash [] some = absurd (omega (arith, some))
 not_dash (b ∷ bytes) some = and_false (nat_eq (slice_index lower_digits (b / 16)) 45)
 
-bytes-back : (bytes : List ℕ) → AreBytes bytes → 1 ≤ length bytes → bytes_of_digits (encode_lower bytes) ≡ Some bytes
+pub bytes-back : (bytes : List ℕ) → AreBytes bytes → 1 ≤ length bytes → bytes_of_digits (encode_lower bytes) ≡ Some bytes
 unfolding bytes_of_digits
 bytes-back bytes are some = rw (not_dash bytes some, decode_of-encode_lower bytes are) refl
 
 -- ---- the line
 
-side-least : (side : Side) → AtLeast 48 (side_text side)
+pub side-least : (side : Side) → AtLeast 48 (side_text side)
 side-least A = (omega arith, tt)
 side-least B = (omega arith, tt)
 
@@ -207,30 +207,46 @@ reads B time port (d ∷ digits) bytes some = record {
   frame = refl;
 }
 
-no-fault : (time port latest : ℕ) → 1 ≤ port → port ≤ 24 → time ≤ latest_listed → latest ≤ time
+pub no-fault : (time port latest : ℕ) → 1 ≤ port → port ≤ 24 → time ≤ latest_listed → latest ≤ time
     → numbers_fault time port latest ≡ None
 no-fault time port latest one most early late = grind (arith, nat_tests, one, most, early, late)
 
-abbrev pub line_of : Side → ℕ → ℕ → List ℕ → List ℕ
-line_of side port time digits = 82 ∷ 32 ∷ (decimal time ++ 32 ∷ (side_text side ++ 32 ∷ (decimal port ++ 32 ∷ digits)))
+-- at a place: a side, and where each side has several switches the name of one
+abbrev pub line_of : (place : List ℕ) → ℕ → ℕ → List ℕ → List ℕ
+line_of place port time digits = 82 ∷ 32 ∷ (decimal time ++ 32 ∷ (place ++ 32 ∷ (decimal port ++ 32 ∷ digits)))
 
--- the letter of the side is one byte
-feed-at : (letter port time : ℕ) (bytes : List ℕ)
-    → (82 ∷ 32 ∷ (decimal time ++ 32 ∷ letter ∷ 32 ∷ (decimal port ++ 32 ∷ encode_lower bytes)))
-    ++ 10 ∷ [] ≡
-    82 ∷ 32 ∷ (decimal time ++ 32 ∷ letter ∷ 32 ∷ (decimal port ++ 32 ∷ (encode_lower bytes ++ 10 ∷ [])))
-feed-at letter port time bytes =
+pub line-feed : (place : List ℕ) (port time : ℕ) (bytes : List ℕ)
+    → line_of place port time (encode_lower bytes) ++ 10 ∷ [] ≡ sent_line place port time bytes
+line-feed place port time bytes =
     let d = encode_lower bytes in
-    let port_on : (decimal port ++ 32 ∷ d) ++ 10 ∷ [] ≡ decimal port ++ 32 ∷ (d ++ 10 ∷ []) =
-    append_assoc (decimal port) (32 ∷ d) (10 ∷ []) in
-    let time_on = append_assoc (decimal time) (32 ∷ letter ∷ 32 ∷ (decimal port ++ 32 ∷ d))
-    (10 ∷ []) ∙ ap (λ (z : List ℕ). decimal time ++ 32 ∷ letter ∷ 32 ∷ z) port_on in
-    ap (λ (z : List ℕ). 82 ∷ 32 ∷ z) time_on
+    let port_on = append_assoc (decimal port) (32 ∷ d) (10 ∷ []) in
+    let place_on = append_assoc place (32 ∷ (decimal port ++ 32 ∷ d)) (10 ∷ [])
+    ∙ ap (λ (z : List ℕ). place ++ 32 ∷ z) port_on in
+    let time_on = append_assoc (decimal time) (32 ∷ (place ++ 32 ∷ (decimal port ++ 32 ∷ d))) (10 ∷ [])
+    ∙ ap (λ (z : List ℕ). decimal time ++ 32 ∷ z) place_on in
+    ap (λ (z : List ℕ). 82 ∷ 32 ∷ z) time_on ∙ grind (arith, common_steps)
 
-pub line-feed : (side : Side) (port time : ℕ) (bytes : List ℕ)
-    → line_of side port time (encode_lower bytes) ++ 10 ∷ [] ≡ sent_line (side_text side) port time bytes
-line-feed A port time bytes = feed-at 65 port time bytes ∙ grind (arith, common_steps)
-line-feed B port time bytes = feed-at 66 port time bytes ∙ grind (arith, common_steps)
+pub digits-are : (bytes : List ℕ) → AreOfFrame bytes → AtLeast 48 (encode_lower bytes)
+digits-are bytes frame = hex-least bytes frame.are_bytes
+
+pub line-least : (place : List ℕ) (port time : ℕ) (bytes : List ℕ) → AtLeast 32 place → port ≤ 24
+    → time ≤ latest_listed → AreOfFrame bytes → AtLeast 32 (line_of place port time (encode_lower bytes))
+line-least place port time bytes least most early frame = (
+  omega arith,
+  (
+    omega arith,
+    append-least 32 (decimal time) (32 ∷ (place ++ 32 ∷ (decimal port ++ 32 ∷ encode_lower bytes)))
+        (lower-least 32 48 (decimal time) (omega arith) (decimal-least time (omega (arith, early)))) (
+          omega arith,
+          append-least 32 place (32 ∷ (decimal port ++ 32 ∷ encode_lower bytes)) least (
+            omega arith,
+            append-least 32 (decimal port) (32 ∷ encode_lower bytes)
+                (lower-least 32 48 (decimal port) (omega arith) (decimal-least port (omega (arith, most))))
+                (omega arith, lower-least 32 48 (encode_lower bytes) (omega arith) (digits-are bytes frame)),
+          ),
+        ),
+  ),
+)
 
 module _ (side : Side) (port time : ℕ) (bytes : List ℕ) (one : 1 ≤ port) (most : port ≤ 24)
     (early : time ≤ latest_listed) (frame : AreOfFrame bytes) where
@@ -238,7 +254,7 @@ module _ (side : Side) (port time : ℕ) (bytes : List ℕ) (one : 1 ≤ port) (
   digits = encode_lower bytes
 
   abbrev pub line : List ℕ
-  line = line_of side port time digits
+  line = line_of (side_text side) port time digits
 
   time_fits : time < 2 ^ 64
   time_fits = omega (arith, early)
@@ -249,34 +265,19 @@ module _ (side : Side) (port time : ℕ) (bytes : List ℕ) (one : 1 ≤ port) (
   digits_least : AtLeast 48 digits
   digits_least = hex-least bytes frame.are_bytes
 
-  pub line-least : AtLeast 32 line
-  line-least = (
-    omega arith,
-    (
-      omega arith,
-      append-least 32 (decimal time) (32 ∷ (side_text side ++ 32 ∷ (decimal port ++ 32 ∷ digits)))
-          (lower-least 32 48 (decimal time) (omega arith) (decimal-least time time_fits)) (
-            omega arith,
-            append-least 32 (side_text side) (32 ∷ (decimal port ++ 32 ∷ digits))
-                (lower-least 32 48 (side_text side) (omega arith) (side-least side)) (
-                  omega arith,
-                  append-least 32 (decimal port) (32 ∷ digits)
-                      (lower-least 32 48 (decimal port) (omega arith) (decimal-least port port_fits))
-                      (omega arith, lower-least 32 48 digits (omega arith) digits_least),
-                ),
-          ),
-    ),
-  )
+  line_least : AtLeast 32 line
+  line_least = line-least (side_text side) port time bytes (lower-least 32 48 (side_text side) (omega arith)
+      (side-least side)) most early frame
 
   one-line : lines_of (sent_line (side_text side) port time bytes) ≡ line ∷ []
   one-line =
-      ap lines_of (sym (line-feed side port time bytes))
-      ∙ lines_of_feed line [] (none-below 32 10 line (omega arith) line-least)
+      ap lines_of (sym (line-feed (side_text side) port time bytes))
+      ∙ lines_of_feed line [] (none-below 32 10 line (omega arith) line_least)
       ∙ ap (λ (z : List (List ℕ)). line ∷ z) lines_of_nothing
 
   no-return : line ≡ strip_carriage_return line
   no-return = rw (eqb-other (slice_index line (length line - 1)) 13
-      (λ e. (let k = index-least 32 (length line - 1) line (omega arith) line-least in
+      (λ e. (let k = index-least 32 (length line - 1) line (omega arith) line_least in
       absurd (omega (arith, e, k))))) refl
 
   parts : between_spaces line ≡ (82 ∷ []) ∷ decimal time ∷ side_text side ∷ decimal port ∷ digits ∷ []

@@ -143,9 +143,9 @@ refused-short n fault few =
 module _ (s : SystemRow) (links : List LinkRow) (one : 1 ≤ s.port) (most : s.port ≤ 24) where
   turn-more : (xs : List (List ℕ)) (latest : ℕ) (side : Side) (turn : Turn send.Frame)
       → IsList xs latest → length xs < most_lines → latest ≤ turn.end → CanBeRead s turn
-      → IsList (xs ++ line_on s side turn ∷ []) turn.end
+      → IsList (xs ++ line_on [] s side turn ∷ []) turn.end
   turn-more xs latest side turn k few late can =
-      one-more xs (line_on s side turn) latest
+      one-more xs (line_on [] s side turn) latest
       (Some (record {
         time = turn.end;
         side = side;
@@ -157,29 +157,29 @@ module _ (s : SystemRow) (links : List LinkRow) (one : 1 ≤ s.port) (most : s.p
       most can.early (can.frames side) latest late)
 
   is-list : (events : List Event) → EachFollows s links events → AllByRecursion (IsFine s) events
-      → length (all_lines s events) ≤ most_lines → IsList (all_lines s events) (end_of (turns_in events))
+      → length (all_lines [] s events) ≤ most_lines → IsList (all_lines [] s events) (end_of (turns_in events))
   is-list [] follow all few = none-yet
   is-list (Emitted turn ∷ before) follow all few =
-      let n = length-append (all_lines s before) (line_on s A turn ∷ line_on s B turn ∷ []) in
+      let n = length-append (all_lines [] s before) (line_on [] s A turn ∷ line_on [] s B turn ∷ []) in
       let rest = is-list before follow.1 all.1 (omega (arith, n, few)) in
       let after = follow.0.next.after in
       let lasts = follow.0.next.lasts in
-      let first = turn-more (all_lines s before) (end_of (turns_in before)) A turn rest
+      let first = turn-more (all_lines [] s before) (end_of (turns_in before)) A turn rest
       (omega (arith, n, few)) (omega (arith, after, lasts)) all.0 in
-      let m = more-length (all_lines s before) (line_on s A turn) in
-      let both = turn-more (all_lines s before ++ line_on s A turn ∷ []) turn.end B turn first
+      let m = more-length (all_lines [] s before) (line_on [] s A turn) in
+      let both = turn-more (all_lines [] s before ++ line_on [] s A turn ∷ []) turn.end B turn first
       (omega (arith, n, m, few)) (omega arith) all.0 in
       subst (λ (z : List (List ℕ)). IsList z turn.end)
-      (append_assoc (all_lines s before) (line_on s A turn ∷ []) (line_on s B turn ∷ [])) both
+      (append_assoc (all_lines [] s before) (line_on [] s A turn ∷ []) (line_on [] s B turn ∷ [])) both
   is-list (Submitted x (Some fault) ∷ before) follow all few =
-      let n = length-append (all_lines s before) (refused x.line fault ∷ []) in
+      let n = length-append (all_lines [] s before) (refused x.line fault ∷ []) in
       let rest = is-list before follow.1 all.1 (omega (arith, n, few)) in
-      one-more (all_lines s before) (refused x.line fault) (end_of (turns_in before)) None rest
+      one-more (all_lines [] s before) (refused x.line fault) (end_of (turns_in before)) None rest
       (omega (arith, n, few)) (refused-short x.line fault all.0)
       (line_says_nothing (end_of (turns_in before)) (refused x.line fault) (refused x.line fault)
       (no-return (refused x.line fault) (omega arith) (refused-least x.line fault all.0)) refl)
   is-list (Submitted x None ∷ before) follow all few =
-      let same = append-nil (all_lines s before) in
+      let same = append-nil (all_lines [] s before) in
       subst (λ (z : List (List ℕ)). IsList z (end_of (turns_in before))) (sym same)
       (is-list before follow.1 all.1 (subst (λ (z : List (List ℕ)). length z ≤ most_lines) same few))
 
@@ -187,6 +187,6 @@ module _ (s : SystemRow) (links : List LinkRow) (one : 1 ≤ s.port) (most : s.p
       → AllByRecursion (IsFine s) events → length (lines_of (send_text s events)) ≤ most_lines
       → AreSound (lines_of (send_text s events)) (length (lines_of (send_text s events)))
   text-is-list events follow all few =
-      let same = lines-of-text s one most events all in
+      let same = lines-of-text [] tt s most events all in
       subst (λ (z : List (List ℕ)). AreSound z (length z)) (sym same)
       (is-list events follow all (subst (λ (z : List (List ℕ)). length z ≤ most_lines) same few)).sound

@@ -3,3 +3,4 @@ pub mod Stops
 pub mod EndToEnd
 pub mod Merged
 pub mod OneSide
+pub mod Several

@@ -98,8 +98,8 @@ behind its word, A1 to B5. 'afdx replay --no-admission' replays a network that i
     (
         "config BadProfile",
         "\
-A file with switch and without profile at its top describes several switches a side. 'check',
-'replay', 'list' and 'send' take it, 'solve' doesn't yet.",
+A file with switch and without profile at its top describes several switches a side, each with a
+profile of its own.",
     ),
     (
         "V n A|B * accept",

@@ -103,13 +103,16 @@ On an admitted network no frame takes longer from its arrival at the first of th
 the end of its slot at the last.",
     ),
     (
-        "vl n at * n ns needed, n us asked",
+        "\
+vl n at * n ns needed, n us asked
+vl n at * * n ns needed, n us asked",
         "\
 vl VL at PORT: NEEDED ns needed, ASKED us asked: 'solve' on standard error: at this switch port
 the frames of this link can take so long, with the jitters that are written; the latency_us of
 CONFIG is less.
-Where so long is too long, send less to that port, or give its system a faster line; the lines m
-of 'check --margins' say what fills the port.",
+Of several switches the switch's name stands before PORT.
+Where so long is too long, send less to that port, or give its system or cable a faster line; the
+lines m of 'check --margins' say what fills the port.",
     ),
     (
         "ok",

@@ -19,13 +19,14 @@ use Rattle.afdx_recorded.specs.Taking.{Taken, AreCutOff, taken_of_bytes}
 use Rattle.afdx_inputs.specs.TakenRun.{TakenAnswers}
 use Rattle.afdx_recorded.specs.Words.{skipped_word}
 
--- the name of the switch at this place of a configuration; empty where there is one on a side
-abbrev pub name_at : List NamedRows → ℕ → List ℕ
-name_at switches k = option_map_or (λ s. s.name) (slice_get switches k) []
+-- the name of the switch of a number
+unfoldable pub switch_name : List NamedRows → ℕ → List ℕ
+switch_name switches k = option_map_or (λ s. s.name) (slice_get switches k) []
 
+-- the same in a configuration; empty where there is one on a side
 abbrev pub name_in : Described → ℕ → List ℕ
 name_in (One t) k = []
-name_in (Several switches) k = name_at switches k
+name_in (Several switches) k = switch_name switches k
 
 module _ (d : Described) where
   -- the line of number n of a recording, with its recorded bytes; one that is skipped is named

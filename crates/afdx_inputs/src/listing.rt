@@ -23,6 +23,7 @@ use std::alloc::Global;
 use std::io::Read;
 
 /// The name of the switch at this place of a configuration; empty where there is one on a side.
+#[tactic(auto, unfolding(crate::specs::ListText::switch_name))]
 fn name_in(described: &Described, switch: u8) -> &str
     ensures { result.now ≡ text.name_in described.entry.now switch }
 {

@@ -1,7 +1,9 @@
 //! The least values of the base network.
 
+mod switches;
+
 use afdx_admit::{AdmitFault, Admitted};
-use afdx_config::{KeptKeys, Tables, Times, read_to_solve, read_to_solve_asking};
+use afdx_config::{KeptKeys, Tables, Times, ToSolve, read_file_to_solve, read_to_solve};
 use afdx_samples::{base, changed, equal, read};
 use afdx_solve::{SolveOptions, config_text, solve};
 use std::alloc::Global;
@@ -116,7 +118,7 @@ fn a_text_of_tables(rt: HostRuntime) -> Result<(), Fail> {
 fn asked_latencies(alloc: Global) -> Result<(usize, Option<u64>, Option<u64>), Fail> {
     let text = changed(base(), "latency_us = 17", "")?;
     let text = changed(text.as_str(), "latency_us = 21", "latency_us = 100001")?;
-    let Ok((_, asked)) = read_to_solve_asking(alloc, text.as_bytes(), FREE.kept) else {
+    let Ok(ToSolve::One(_, asked)) = read_file_to_solve(alloc, text.as_bytes(), FREE.kept) else {
         return Err("the text is refused".into());
     };
     match asked.as_slice() {

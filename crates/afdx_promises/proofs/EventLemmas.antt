@@ -149,7 +149,7 @@ and-true : (a : Bool) → (a && true) ≡ a
 and-true true = refl
 and-true false = refl
 
-brought-by-side : (side : Side) (port : ℕ) (events : List Event)
+pub brought-by-side : (side : Side) (port : ℕ) (events : List Event)
     → filter (is_from side) (brought_by port events)
     ≡ map (brought side) (slots (turns_in (filter (is_at side port) events)))
 unfolding brought_by

@@ -50,7 +50,7 @@ use Rattle.afdx_promises.proofs.ReceiverLemmas.{names-frame}
 
 -- ---- the tables
 
-two-distinct : {R X : Type 0} (f : R → X) (a b : R) → (f a ≡ f b → ⊥) → AreDistinct f (a ∷ b ∷ [])
+pub two-distinct : {R X : Type 0} (f : R → X) (a b : R) → (f a ≡ f b → ⊥) → AreDistinct f (a ∷ b ∷ [])
 unfolding AreDistinct
 two-distinct f a b apart zero zero x y at there same = refl
 two-distinct f a b apart (suc zero) (suc zero) x y at there same = refl
@@ -170,7 +170,7 @@ LowLine : Flow → Type 0
 LowLine f = f.priority ≡ Low → low_wait 80 (flow_of_link link ∷ [])
     ≤ f.latency * (byte_units - high_load 80 (flow_of_link link ∷ []))
 
-one-there : IsPortAdmitted 80 126 (flow_of_link link ∷ [])
+pub one-there : IsPortAdmitted 80 126 (flow_of_link link ∷ [])
 unfolding HighLine LowLine
 one-there = record {
   no_overload = omega arith;
@@ -201,11 +201,11 @@ is-admitted = record {
 
 -- ---- the frames
 
-one-byte : (b : ℕ) → b < 2 ^ 8 → AreBytes (b ∷ [])
+pub one-byte : (b : ℕ) → b < 2 ^ 8 → AreBytes (b ∷ [])
 one-byte b small zero = small
 one-byte b small (suc i) = omega arith
 
-heard-buildable : Buildable (address_of sender link heard) heard.payload
+pub heard-buildable : Buildable (address_of sender link heard) heard.payload
 heard-buildable = record {
   least = omega arith;
   most = omega arith;
@@ -251,7 +251,7 @@ second-named computed side = names-frame 1 (second_on side) _ (second-is compute
 
 -- ---- the stream
 
-first-sent : BuiltIsComputed → (latency : ℕ)
+pub first-sent : BuiltIsComputed → (latency : ℕ)
     → IsSent sender (link_with latency) (record { message = heard; number = 0 })
     (record { time = 0; a = first_on A; b = first_on B })
 first-sent computed latency = record {

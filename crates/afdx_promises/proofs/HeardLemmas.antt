@@ -70,7 +70,7 @@ pub record AreSlots (events : List Event) : Type 0 where
   pub kept : (d : Departure) → IsAmong (Left d) events → d.turn.too_old ≡ false
   pub frame : (d : Departure) → IsAmong (Left d) events → (vl : ℕ) × IsFrameOn vl d.turn.entry.item.bytes
 
-slots-before : (e : Event) (before : List Event) → AreSlots (e ∷ before) → AreSlots before
+pub slots-before : (e : Event) (before : List Event) → AreSlots (e ∷ before) → AreSlots before
 slots-before e before are = record { kept = λ d h. are.kept d (inr h); frame = λ d h. are.frame d (inr h) }
 
 told-with : (vl link : ℕ) (answer : Answer) (rest : List sent.Message) → IsOfLink link answer

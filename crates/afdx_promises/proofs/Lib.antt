@@ -4,6 +4,7 @@ pub mod MergeLemmas
 pub mod ReceiverLemmas
 pub mod PromiseLemmas
 pub mod RuleLemmas
+pub mod BroughtLemmas
 pub mod OnceLemmas
 pub mod EventLemmas
 pub mod LineLemmas

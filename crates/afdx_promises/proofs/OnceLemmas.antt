@@ -1,7 +1,7 @@
--- Exactly once, end to end.
-use Rattle.std.proofs.Common.{◌≡◌, ℕ, suc, ◌+◌, ◌*◌, ◌≤◌, Bool, true, false, eqb, List, [], ◌∷◌}
-use Rattle.std.proofs.Common.{length, map, filter, take, refl, sym, ap, ◌∙◌, subst, arith, inl, inr}
-use Rattle.std.specs.Prelude.{Result, Ok, Err, Some, All, IfSome, not, max, reverse, slice_get, if◌then◌else◌, ◌⊎◌}
+-- Exactly once: from the copies of a stream that come on both sides to the messages of a receiver, and at one switch.
+use Rattle.std.proofs.Common.{◌≡◌, ℕ, suc, ◌*◌, ◌≤◌, Bool, true, false, not, eqb, List, [], ◌∷◌}
+use Rattle.std.proofs.Common.{length, map, filter, take, refl, sym, ap, ◌∙◌, subst, arith}
+use Rattle.std.specs.Prelude.{Result, Ok, Err, Some, IfSome, max, reverse, slice_get, if◌then◌else◌}
 use Rattle.std.specs.List.{AllByRecursion}
 use Rattle.std.proofs.Math.Seq.{take-length}
 use Rattle.afdx_frame.specs.Parts.{FrameParts, frame_of}
@@ -11,119 +11,40 @@ use Rattle.afdx_frame.specs.declared.link.Side.{Side}
 use Rattle.afdx_frame.specs.declared.link.Side.TheVariants.{A, B}
 use Rattle.afdx_frame.specs.Sides.{is_side}
 use Rattle.afdx_frame.proofs.ListLemmas.{AllByRecursion-slice_get}
-use Rattle.afdx_config.specs.Lawful.{IsLink, IsLinkUpTo, IsBetweenSystems, jitter_from_any}
+use Rattle.afdx_config.specs.Lawful.{IsLink, IsLinkUpTo, IsBetweenSystems, IsLawfulSwitch, jitter_from_any}
 use Rattle.afdx_config.proofs.AmongOthersLemmas.{link-alone}
-use Rattle.afdx_config.specs.LawfulStream.{Sending}
+use Rattle.afdx_config.specs.LawfulStream.{Sending, IsLawfulStream, copy_on}
 use Rattle.afdx_config.specs.Reading.{has_port}
 use Rattle.afdx_config.specs.Rows.{SystemRow, LinkRow, Rows, is_to}
 use Rattle.afdx_config.specs.SentList.{Message}
 use Rattle.afdx_police.specs.Arrival.{Arrival, own}
+use Rattle.afdx_police.proofs.FrameLemmas.{IsFrameOn}
 use Rattle.afdx_port.specs.Schedule.{Entry, Turn, AreTurns}
 use Rattle.afdx_receive.specs.Arrivals.{Arrived, incoming, with_frame, frames_of}
-use Rattle.afdx_config.specs.LawfulStream.{copy_on}
 use Rattle.afdx_receive.specs.Copies.{AreCopies}
+use Rattle.afdx_receive.specs.Delivery.{delivered}
 use Rattle.afdx_receive.specs.Integrity.{Incoming}
 use Rattle.afdx_receive.specs.Redundancy.{newest}
 use Rattle.afdx_receive.specs.TwoStreams.{count_of}
 use Rattle.afdx_receive.proofs.OnceLemmas.{stream_delivered_once}
 use Rattle.afdx_receive.proofs.StreamLemmas.{same_self}
-use Rattle.afdx_switch.specs.Admitted.{IsAdmittedRun, Passing, passing, passing_in, accepted_on, frames_among, slots}
+use Rattle.afdx_switch.specs.Admitted.{IsAdmittedRun, Passing, passing, passing_in, accepted_on, frames_among}
+use Rattle.afdx_switch.specs.Admitted.{slots, AreInTime}
 use Rattle.afdx_switch.specs.HeldFrames.{HeldFrame}
 use Rattle.afdx_switch.specs.Laws.{is_of}
+use Rattle.afdx_switch.specs.Streams.{at_own_port, AreFirstOf, IsStreamOf}
 use Rattle.afdx_switch.specs.Tables.{byte_ns_at, entries_at}
-use Rattle.afdx_switch.proofs.ListLemmas.{bool_cases}
+use Rattle.afdx_switch.proofs.StreamLemmas.{sending-is, accepted-stream}
 use Rattle.afdx_network.specs.Events.{turns_at}
 use Rattle.afdx_network.specs.Order.{side_number}
-use Rattle.afdx_promises.specs.Receptions.{brought, order_of, ComeInOrder, AreReceptions, answers_on, messages_in}
-use Rattle.afdx_switch.specs.Streams.{at_own_port, AreFirstOf}
-use Rattle.afdx_switch.specs.Streams.{IsStreamOf}
 use Rattle.afdx_promises.specs.NetworkPromises.{MessagesComeSoFar, MessagesComeOnce}
-use Rattle.afdx_promises.proofs.ListLemmas.{all-imply, all-filter}
+use Rattle.afdx_promises.specs.Receptions.{brought, is_from, order_of, ComeInOrder, AreReceptions}
+use Rattle.afdx_promises.specs.Receptions.{answers_on, messages_in}
+use Rattle.afdx_promises.proofs.BroughtLemmas.{AreCopiesOn, AreLater, Copies, copies-by-slots, slots_of}
+use Rattle.afdx_promises.proofs.ListLemmas.{all-imply}
 use Rattle.afdx_promises.proofs.PortLemmas.{its-turns, in-time, left-back, entries_back}
 use Rattle.afdx_promises.proofs.PromiseLemmas.{goes-there}
-use Rattle.afdx_police.proofs.FrameLemmas.{IsFrameOn}
-use Rattle.afdx_promises.proofs.ReceiverLemmas.{answers-own, messages-delivered}
-use Rattle.afdx_promises.proofs.ReceiverLemmas.{frames-by-side, own-slot, other-slot}
-use Rattle.afdx_switch.proofs.StreamLemmas.{sending-is, accepted-stream}
-
--- ---- the copies by one side
-
--- a frame is a copy of the sending at a place
-record IsCopy (latency : ℕ) (stream : List Sending) (place : ℕ) (frame : Incoming) : Type 0 where
-  sending : Sending
-  at_place : slice_get stream place ≡ Some sending
-  bytes : frame.bytes ≡ copy_on frame.side sending
-  parts : FrameParts
-  is_frame : frame_of frame.bytes ≡ Ok parts
-  number : frame.number ≡ parts.number
-  sent_before : sending.time ≤ frame.time
-  in_time : frame.time ≤ sending.time + latency
-
-abbrev AreCopiesOn : ℕ → List Sending → List Incoming → Type 0
-AreCopiesOn latency stream [] = Unit {0}
-AreCopiesOn latency stream (frame ∷ before) = IsCopy latency stream (length before) frame
-    × AreCopiesOn latency stream before
-
--- as many copies as arrivals
-record Copies (latency : ℕ) (stream : List Sending) (count : ℕ) (frames : List Incoming) : Type 0 where
-  counted : length frames ≡ count
-  are : AreCopiesOn latency stream frames
-
--- a slot of the link ends within the latency
-abbrev EndsInTime : ℕ → ℕ → List (Turn HeldFrame) → Type 0
-EndsInTime vl latency ss =
-    AllByRecursion (λ s. (s.entry.time ≤ s.end)
-    × (is_of vl s.entry ≡ true → s.end ≤ s.entry.time + latency)) ss
-
-module _ (vl latency : ℕ) (side : Side) (stream : List Sending)
-    (frames : (k : ℕ) (y : Sending) → slice_get stream k ≡ Some y → IsFrameOn vl (copy_on side y)) where
-  copies-by-slots : (ss : List (Turn HeldFrame)) (xs : List Arrival) → AreFirstOf side stream xs
-      → EndsInTime vl latency ss → frames_among vl (entries_back ss) ≡ map passing xs →
-      Copies latency stream (length xs) (frames_of vl (map (brought side) ss))
-  unfolding frames_of
-  copies-by-slots [] [] are ends same = record { counted = refl; are = tt }
-  copies-by-slots [] (x ∷ xs) are ends same = absurd (cc same)
-  copies-by-slots (s ∷ ss) xs are ends same =
-      by (bool_cases (is_of vl s.entry)) xs are same
-      (λ ys each equal. copies-by-slots ss ys each ends.1 equal)
-    where
-      by : (is_of vl s.entry ≡ true) ⊎ (is_of vl s.entry ≡ false) → (xs : List Arrival)
-          → AreFirstOf side stream xs → frames_among vl (entries_back (s ∷ ss)) ≡ map passing xs →
-          ((ys : List Arrival) → AreFirstOf side stream ys → frames_among vl (entries_back ss)
-          ≡ map passing ys → Copies latency stream (length ys)
-          (frames_of vl (map (brought side) ss))) →
-          Copies latency stream (length xs) (frames_of vl (map (brought side) (s ∷ ss)))
-      by (inr other) ys each equal rest =
-          subst (Copies latency stream (length ys)) (sym (other-slot vl side s ss other))
-          (rest ys each (rw other at equal))
-      by (inl own) [] each equal rest = absurd (let h = rw own at equal in cc h)
-      by (inl own) (y ∷ ys) each equal rest =
-          let both : passing_in s.entry ∷ frames_among vl (entries_back ss)
-          ≡ passing y ∷ map passing ys = rw own at equal in
-          let head : passing_in s.entry ≡ passing y = cc both in
-          let tail : frames_among vl (entries_back ss) ≡ map passing ys = cc both in
-          let time : s.entry.time ≡ y.time = ap (λ (p : Passing). p.time) head in
-          let bytes : s.entry.item.bytes ≡ copy_on side each.0.sending =
-          ap (λ (p : Passing). p.bytes) head ∙ each.0.bytes in
-          let is : IsFrameOn vl s.entry.item.bytes =
-          subst (IsFrameOn vl) (sym bytes) (frames (length ys) each.0.sending each.0.at_place) in
-          let so_far = rest ys each.1 tail in
-          subst (Copies latency stream (suc (length ys))) (sym (own-slot vl side s ss is)) (record {
-            counted = ap suc so_far.counted;
-            are = (
-              record {
-                sending = each.0.sending;
-                at_place = ap (slice_get stream) so_far.counted ∙ each.0.at_place;
-                bytes = bytes;
-                parts = is.parts;
-                is_frame = is.is_frame;
-                number = refl;
-                sent_before = omega (arith, time, each.0.time, ends.0.0);
-                in_time = omega (arith, time, each.0.time, ends.0.1 own);
-              },
-              so_far.are,
-            );
-          })
+use Rattle.afdx_promises.proofs.ReceiverLemmas.{answers-own, messages-delivered, frames-by-side}
 
 -- ---- both sides
 
@@ -224,28 +145,108 @@ frames-in-time vl (x ∷ past) order = joined (frame_of x.bytes) (frames-in-time
     joined (Err fault) rest = rest
     joined (Ok frame) rest = with_one (eqb frame.link.0 vl) frame rest
 
--- ---- turns end within the latency
+-- ---- from both sides to messages
 
-each-ends : (vl latency byte_ns : ℕ) (entries : List (Entry HeldFrame)) (turns : List (Turn HeldFrame))
-    → AreTurns byte_ns entries turns →
-    All (λ s. is_of vl s.entry ≡ true → (s.too_old ≡ false) × (s.end ≤ s.entry.time + latency))
-    turns → EndsInTime vl latency turns
-each-ends vl latency byte_ns entries [] are soon = tt
-each-ends vl latency byte_ns entries (s ∷ earlier) are soon = (
-  (omega (arith, are.0.come, are.0.lasts), λ own. (soon 0 s (omega arith) own).1),
-  each-ends vl latency byte_ns entries earlier are.1 (λ k d lt. soon (suc k) d (omega (arith, lt))),
-)
+-- a lawful stream of a link, whose copies come by a row like this one of the link, but within a latency of its own: it
+-- is at most the skew
+pub record IsStreamTo (l : LinkRow) (messages : List Message) (stream : List Sending) : Type 0 where
+  pub sender : SystemRow
+  pub row : LinkRow
+  pub ends : ℕ
+  pub link : IsLink ends row
+  pub vl : row.vl ≡ l.vl
+  pub skew : row.skew_us ≡ l.skew_us
+  pub fast : row.latency_us ≤ row.skew_us
+  pub lawful : IsLawfulStream sender row messages stream
 
-slots-end : (vl latency : ℕ) (turns : List (Turn HeldFrame)) → EndsInTime vl latency turns
-    → EndsInTime vl latency (slots turns)
-slots-end vl latency turns ends =
-    all-imply (λ s. ((s.entry.time ≤ s.end)
-    × (is_of vl s.entry ≡ true → s.end ≤ s.entry.time + latency)) × (not s.too_old ≡ true))
-    (λ s. (s.entry.time ≤ s.end) × (is_of vl s.entry ≡ true → s.end ≤ s.entry.time + latency))
-    (slots turns)
-    (λ s both. both.0) (all-filter
-    (λ s. (s.entry.time ≤ s.end) × (is_of vl s.entry ≡ true → s.end ≤ s.entry.time + latency))
-    (λ s. not s.too_old) turns ends)
+module _ (computed : BuiltIsComputed) (t : Rows) (system place : ℕ) (l : LinkRow)
+    (messages : List Message) (stream : List Sending) (lawful : IsLawfulSwitch t)
+    (at : slice_get t.links place ≡ Some l) (goes : is_to system l ≡ true)
+    (is : IsStreamTo l messages stream) where
+  sent-frame : (side : Side) (k : ℕ) (y : Sending) → slice_get stream k ≡ Some y → IsFrameOn l.vl (copy_on side y)
+  sent-frame side k y at_y = subst (λ vl. IsFrameOn vl (copy_on side y)) is.vl
+      (sending-is computed is.sender is.row messages stream is.lawful side k y at_y).frame
+
+  from-copies : (came : List Arrived) (counts : Side → ℕ) → ComeInOrder came
+      → ((side : Side) → Copies (1000 * is.row.latency_us) stream (counts side)
+      (filter (λ f. is_side f.side side) (frames_of l.vl came)))
+      → reverse (messages_in (answers_on t system l.vl came))
+      ≡ filter (λ m. has_port t.ports system l.vl m.udp) (take (max (counts A) (counts B)) messages)
+  from-copies came counts order copies =
+      let frames = frames_of l.vl came in
+      let all = both-sides (1000 * is.row.latency_us) stream frames (frames-in-time l.vl came order)
+      (λ side. (copies side).are) in
+      ap (λ answers. reverse (messages_in answers)) (answers-own t system place l lawful at goes came)
+      ∙ ap reverse (messages-delivered (1000 * l.skew_us) (has_port t.ports system l.vl) frames)
+      ∙ ap (λ skew. reverse (delivered (1000 * skew) (has_port t.ports system l.vl) frames)) (sym is.skew)
+      ∙ stream_delivered_once computed is.ends is.sender is.row messages stream
+      (has_port t.ports system l.vl) frames is.link is.fast is.lawful all
+      ∙ ap (λ n. filter (λ (m : Message). has_port t.ports system l.vl m.udp)
+      (take (max n (count_of B frames)) messages)) (copies A).counted
+      ∙ ap (λ n. filter (λ (m : Message). has_port t.ports system l.vl m.udp)
+      (take (max (counts A) n) messages)) (copies B).counted
+
+  -- where slots bring to the receiver, on each side, later copies of the stream's first frames
+  pub from-slots : (came : List Arrived) (xs : Side → List Arrival) (turns : Side → List (Turn HeldFrame))
+      → ComeInOrder came → ((side : Side) → filter (is_from side) came ≡ map (brought side) (slots (turns side)))
+      → ((side : Side) → AreFirstOf side stream (xs side))
+      → ((side : Side) → AreLater (1000 * is.row.latency_us) (xs side) (slots_of l.vl (turns side)))
+      → reverse (messages_in (answers_on t system l.vl came))
+      ≡ filter (λ m. has_port t.ports system l.vl m.udp) (take (max (length (xs A)) (length (xs B))) messages)
+  from-slots came xs turns order by_side sent later =
+      from-copies came (λ side. length (xs side)) order (λ side.
+      subst (Copies (1000 * is.row.latency_us) stream (length (xs side)))
+      (sym (frames-by-side l.vl side came ∙ ap (frames_of l.vl) (by_side side)))
+      (copies-by-slots l.vl (1000 * is.row.latency_us) side stream (sent-frame side) (slots (turns side))
+      (xs side) (sent side) (later side)))
+
+-- ---- at one switch turns end within the latency
+
+each-later : (l : LinkRow) (byte_ns : ℕ) (entries : List (Entry HeldFrame)) (turns : List (Turn HeldFrame))
+    (xs : List Arrival) → AreTurns byte_ns entries turns → AreInTime l turns
+    → frames_among l.vl (entries_back (slots turns)) ≡ map passing xs
+    → AreLater (1000 * l.latency_us) xs (slots_of l.vl turns)
+each-later l byte_ns entries [] [] are soon same = tt
+each-later l byte_ns entries [] (x ∷ xs) are soon same = absurd (cc same)
+each-later l byte_ns entries (s ∷ earlier) xs are soon same =
+    by s.too_old same (λ ys rest. each-later l byte_ns entries earlier ys are.1
+    (λ k d lt. soon (suc k) d (omega (arith, lt))) rest)
+  where
+    one : (ys : List Arrival) → is_of l.vl s.entry ≡ true
+        → passing_in s.entry ∷ frames_among l.vl (entries_back (slots earlier)) ≡ map passing ys
+        → ((zs : List Arrival) → frames_among l.vl (entries_back (slots earlier)) ≡ map passing zs
+        → AreLater (1000 * l.latency_us) zs (slots_of l.vl earlier))
+        → AreLater (1000 * l.latency_us) ys (s ∷ slots_of l.vl earlier)
+    one [] own same rest = absurd (cc same)
+    one (y ∷ ys) own same rest =
+        let head : passing_in s.entry ≡ passing y = cc same in
+        let time : s.entry.time ≡ y.time = ap (λ (p : Passing). p.time) head in
+        let ends = (soon 0 s (omega arith) own).1 in (
+          record {
+            bytes = ap (λ (p : Passing). p.bytes) head;
+            after = (let come = are.0.come in let lasts = are.0.lasts in omega (arith, time, come, lasts));
+            within = omega (arith, time, ends);
+          },
+          rest ys (cc same),
+        )
+
+    slot : (c : Bool) → is_of l.vl s.entry ≡ c
+        → map passing_in (if c then s.entry ∷ filter (is_of l.vl) (entries_back (slots earlier))
+        else filter (is_of l.vl) (entries_back (slots earlier))) ≡ map passing xs
+        → ((zs : List Arrival) → frames_among l.vl (entries_back (slots earlier)) ≡ map passing zs
+        → AreLater (1000 * l.latency_us) zs (slots_of l.vl earlier))
+        → AreLater (1000 * l.latency_us) xs (if c then s ∷ slots_of l.vl earlier else slots_of l.vl earlier)
+    slot true own same rest = one xs own same rest
+    slot false other same rest = rest xs same
+
+    by : (b : Bool)
+        → frames_among l.vl (entries_back (if not b then s ∷ slots earlier else slots earlier)) ≡ map passing xs
+        → ((zs : List Arrival) → frames_among l.vl (entries_back (slots earlier)) ≡ map passing zs
+        → AreLater (1000 * l.latency_us) zs (slots_of l.vl earlier))
+        → AreLater (1000 * l.latency_us) xs
+        (filter (λ z. is_of l.vl z.entry) (if not b then s ∷ slots earlier else slots earlier))
+    by true same rest = rest xs same
+    by false same rest = slot (is_of l.vl s.entry) refl same rest
 
 -- ---- the law
 
@@ -256,50 +257,43 @@ module _ (computed : BuiltIsComputed) (t : Rows) (arrivals : List Arrival) (syst
     (between : IsBetweenSystems t system l) (is : IsStreamOf t l messages stream)
     (sent : (side : Side) → AreFirstOf side stream (at_own_port t l side arrivals))
     (are : AreReceptions t s.port arrivals came) where
-  copies-on : (side : Side)
-      → Copies (1000 * l.latency_us) stream (length (at_own_port t l side arrivals))
-      (filter (λ f. is_side f.side side) (frames_of l.vl came))
-  copies-on side =
-      let turns = turns_at t side s.port arrivals in
-      let accepted : accepted_on t l side arrivals ≡ at_own_port t l side arrivals =
-      (accepted-stream t is.sender l messages stream is.lawful computed side
-      (own l.vl side arrivals) (sent side)).arrivals in
-      let left : frames_among l.vl (entries_back (slots turns)) ≡ map passing (at_own_port t l side arrivals) =
-      left-back t arrivals side s.port place l run at
-      (goes-there t system s l run.lawful stands goes) ∙ ap (map passing) accepted in
-      let ends = slots-end l.vl (1000 * l.latency_us) turns
-      (each-ends l.vl (1000 * l.latency_us) (byte_ns_at t s.port)
-      (entries_at t side s.port arrivals) turns
-      (its-turns t side s.port arrivals run.timed).each_next
-      (in-time t arrivals side s.port place l run at)) in
-      let copies = copies-by-slots l.vl (1000 * l.latency_us) side stream
-      (λ k y at_y. (sending-is computed is.sender l messages stream is.lawful side k
-      y at_y).frame)
-      (slots turns) (at_own_port t l side arrivals) (sent side) ends left in
-      subst (Copies (1000 * l.latency_us) stream (length (at_own_port t l side arrivals)))
-      (sym (frames-by-side l.vl side came ∙ ap (frames_of l.vl) (are.by_side side))) copies
+  accepted : (side : Side) → accepted_on t l side arrivals ≡ at_own_port t l side arrivals
+  accepted side =
+      (accepted-stream t is.sender l messages stream is.lawful computed side (own l.vl side arrivals) (sent side)).arrivals
+
+  later-on : (side : Side)
+      → AreLater (1000 * l.latency_us) (at_own_port t l side arrivals) (slots_of l.vl (turns_at t side s.port arrivals))
+  later-on side =
+      each-later l (byte_ns_at t s.port) (entries_at t side s.port arrivals) (turns_at t side s.port arrivals)
+      (at_own_port t l side arrivals) (its-turns t side s.port arrivals run.timed).each_next
+      (in-time t arrivals side s.port place l run at)
+      (left-back t arrivals side s.port place l run at (goes-there t system s l run.lawful stands goes)
+      ∙ ap (map passing) (accepted side))
+
+  stream-to : IsStreamTo l messages stream
+  stream-to = record {
+    sender = is.sender;
+    row = l;
+    ends = length t.systems;
+    link = link-alone (length t.systems) l
+        (AllByRecursion-slice_get (IsLinkUpTo jitter_from_any (length t.systems)) t.links place l
+        run.lawful.links.each at)
+        (run.lawful.sent place l at between.from);
+    vl = refl;
+    skew = refl;
+    fast = run.admitted.skews place l at;
+    lawful = is.lawful;
+  }
 
   pub come-so-far : reverse (messages_in (answers_on t system l.vl came))
       ≡ filter (λ m. has_port t.ports system l.vl m.udp)
       (take (max (length (at_own_port t l A arrivals)) (length (at_own_port t l B arrivals)))
       messages)
+  unfolding stream-to
   come-so-far =
-      let link : IsLink (length t.systems) l =
-      link-alone (length t.systems) l
-      (AllByRecursion-slice_get (IsLinkUpTo jitter_from_any (length t.systems)) t.links place l
-      run.lawful.links.each at)
-      (run.lawful.sent place l at between.from) in
-      let copies = both-sides (1000 * l.latency_us) stream (frames_of l.vl came)
-      (frames-in-time l.vl came are.in_order) (λ side. (copies-on side).are) in
-      ap (λ answers. reverse (messages_in answers)) (answers-own t system place l run.lawful at goes came)
-      ∙ ap reverse (messages-delivered (1000 * l.skew_us) (has_port t.ports system l.vl) (frames_of l.vl came))
-      ∙ stream_delivered_once computed (length t.systems) is.sender l messages stream
-      (has_port t.ports system l.vl) (frames_of l.vl came) link (run.admitted.skews place l at)
-      is.lawful copies
-      ∙ ap (λ n. filter (λ (m : Message). has_port t.ports system l.vl m.udp)
-      (take (max n (count_of B (frames_of l.vl came))) messages)) (copies-on A).counted
-      ∙ ap (λ n. filter (λ (m : Message). has_port t.ports system l.vl m.udp)
-      (take (max (length (at_own_port t l A arrivals)) n) messages)) (copies-on B).counted
+      from-slots computed t system place l messages stream run.lawful at goes stream-to came
+      (λ side. at_own_port t l side arrivals) (λ side. turns_at t side s.port arrivals) are.in_order are.by_side
+      sent later-on
 
 pub messages-so-far : BuiltIsComputed → MessagesComeSoFar
 messages-so-far computed t arrivals system place s l messages stream came run stands at goes between is sent

@@ -214,7 +214,7 @@ pub all-earlier : {Y : Type 0} (P : Y → Type 0) (later earlier : List Y)
 all-earlier P [] earlier all = all
 all-earlier P (y ∷ later) earlier all = all-earlier P later earlier all.1
 
-sent-so-far : BuiltIsComputed
+pub sent-so-far : BuiltIsComputed
     → (t : Rows) (arrivals : List Arrival) (s : SystemRow) (l : LinkRow)
     (emitted : List (Turn Frame)) → slice_get t.systems l.from ≡ Some s
     → AllByRecursion (IsBuildable s) emitted →

@@ -1,4 +1,5 @@
 -- Where the arrivals of recordings came in: at ports that the options say, or the bytes of frames do.
+use Rattle.std.specs.Option.{option_or}
 use Rattle.std.proofs.Common.{◌≡◌, ◌+◌, ℕ, List, [], ◌∷◌, ◌++◌, length, take, drop, reverse, refl, ap, sym, ◌∙◌, subst}
 use Rattle.std.proofs.Common.{◌⊎◌, inl, inr, Bool, true, false, not, Option, Some, None, is_some, Result, Ok, Err}
 use Rattle.afdx_frame.specs.Layout.{link_named_by}
@@ -37,7 +38,7 @@ use Rattle.afdx_recorded.specs.declared.skipped.Skipped.TheVariants as why
 use Rattle.afdx_recorded.specs.declared.timed_pair.TimedPair.{TimedPair}
 use Rattle.afdx_recorded.specs.Becoming.{Options, becomes, check, ends_with_sequence, entrance_of, entrance_with, entry_of}
 use Rattle.afdx_recorded.specs.Becoming.{found_with, frame_becomes, is_before, is_claimed, is_contradicted, kind_used}
-use Rattle.afdx_recorded.specs.Becoming.{kind_with, line_time, moment_by, options_of, or_else, said_or, side_said, whole_moment}
+use Rattle.afdx_recorded.specs.Becoming.{kind_with, line_time, moment_by, options_of, or_else, side_said, whole_moment}
 use Rattle.afdx_recorded.specs.Becoming.{◌>>=◌, ◌>>◌, only_if}
 use Rattle.afdx_recorded.specs.Claims.{Agree, Ports, ports_of, side_claimed}
 use Rattle.afdx_recorded.specs.Entering.{IsEntry}
@@ -89,7 +90,7 @@ module _ (options : Options) (ports : Ports) where
   unfolding entrance_of
   entrance-says place bytes =
       by (is_some (link_named_by bytes)) (entry_of place ports bytes) refl
-      (said_or (side_said options.network place) (side_claimed bytes))
+      (option_or (side_said options.network place) (side_claimed bytes))
     where
       by : (named : Bool) (entry : Option Entry) → entry_of place ports bytes ≡ entry → (side : Option Side)
           → IfGood (Says place bytes) (check named (no.Skipped why.NotAfdx)
@@ -333,7 +334,7 @@ pub entry-agrees : EntriesAgree
 entry-agrees options p q entry a h = record {
   interface = h.interface;
   bytes = h.bytes;
-  says = ap (λ (e : Option Entry). said_or (entry_said (options.place h.interface))
+  says = ap (λ (e : Option Entry). option_or (entry_said (options.place h.interface))
       (only_if (allows (options.place h.interface)) e)) (sym (a.entries h.bytes)) ∙ h.says;
 }
 

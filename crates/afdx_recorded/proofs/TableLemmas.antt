@@ -1,4 +1,5 @@
 -- Tables of which some places hold something, and what systems have.
+use Rattle.std.specs.Option.{option_or}
 use Rattle.std.proofs.Common.{◌≡◌, ◌<◌, ◌==◌, ℕ, zero, suc, List, [], ◌∷◌, length, drop, refl, sym, ◌∙◌, ap}
 use Rattle.std.proofs.Common.{Option, Some, None, option_and_then, slice_get, slice_set, true, false, arith, if◌then◌else◌}
 use Rattle.std.proofs.Common.{Bool, Vec, Global, ◌≢◌, get_or}
@@ -12,7 +13,7 @@ use Rattle.std.proofs.lemmas.List.{length-append}
 use Rattle.std.proofs.lemmas.Option.{slice_get-map, slice_get_past, slice_get_within}
 use Rattle.afdx_config.specs.Rows.{Rows, SystemRow}
 use Rattle.afdx_config.specs.Switches.{NamedRows}
-use Rattle.afdx_recorded.specs.Claims.{byte_ns_at, time_in, entry_among, entry_from, first_some, of_system, own_systems}
+use Rattle.afdx_recorded.specs.Claims.{byte_ns_at, time_in, entry_among, entry_from, of_system, own_systems}
 use Rattle.afdx_recorded.specs.Claims.{ports_among, ports_of, Agree, HaveTimes, sender_of}
 use Rattle.afdx_recorded.specs.Places.{entry_at}
 use Rattle.afdx_recorded.specs.declared.places.Entry.{Entry}
@@ -100,8 +101,8 @@ module _ (key value : SystemRow → ℕ) where
 
 -- one system more stands somewhere
 among-if : (at port : ℕ) (b : Bool) (rest : Option ℕ) (other : Option Entry)
-    → first_some (option_map (entry_at at) (if b then Some port else rest)) other
-    ≡ (if b then Some (entry_at at port) else first_some (option_map (entry_at at) rest) other)
+    → option_or (option_map (entry_at at) (if b then Some port else rest)) other
+    ≡ (if b then Some (entry_at at port) else option_or (option_map (entry_at at) rest) other)
 among-if at port true rest other = refl
 among-if at port false rest other = refl
 

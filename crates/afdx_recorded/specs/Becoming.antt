@@ -1,7 +1,7 @@
 -- What a number of a recording becomes: an arrival, or it is skipped, or a fault of the recording.
 use Rattle.std.specs.Prelude.{ℕ, ◌+◌, ◌-◌, Bool, true, false, not, ◌&&◌, ◌||◌, ◌==◌, ◌*◌, nat_lt, List, length, take}
 use Rattle.std.specs.Prelude.{Option, Some, None, is_some, Result, Ok, Err, if◌then◌else◌}
-use Rattle.std.specs.Option.{unwrap_or}
+use Rattle.std.specs.Option.{option_or, unwrap_or}
 use Rattle.afdx_frame.specs.Layout.{link_named_by}
 use Rattle.afdx_frame.specs.Sealing.{sequence_of, is_sealed}
 use Rattle.afdx_frame.specs.declared.seals.Seal.{Seal}
@@ -110,14 +110,9 @@ whole_moment fcs n frame captured = do
 
 -- ---- where it came in
 
--- what an option says, else what is claimed
-abbrev pub said_or : {X : Type 0} → Option X → Option X → Option X
-said_or (Some x) claimed = Some x
-said_or None claimed = claimed
-
 -- the side that is said: that of the network whose recording it is, or of the place
 abbrev pub side_said : (network : Option Side) → Option Place → Option Side
-side_said network place = said_or network (side_of place)
+side_said network place = option_or network (side_of place)
 
 -- where the frame's bytes claim that it came in, if the place allows for it
 abbrev pub only_if : {X : Type 0} → (X → Bool) → Option X → Option X
@@ -129,7 +124,7 @@ entry_claimed place ports bytes = only_if (allows place) (ports.entry bytes)
 
 -- where it came in: what the place says, else what its bytes claim
 abbrev pub entry_of : Option Place → Ports → List ℕ → Option Entry
-entry_of place ports bytes = said_or (entry_said place) (entry_claimed place ports bytes)
+entry_of place ports bytes = option_or (entry_said place) (entry_claimed place ports bytes)
 
 -- the side, the switch or the port is taken from the frame's bytes
 abbrev pub is_claimed : (network : Option Side) → Option Place → Ports → Bool
@@ -159,7 +154,7 @@ unfoldable pub entrance_of : (network : Option Side) → Option Place → Ports 
 entrance_of network place ports bytes = do
   check (is_some (link_named_by bytes)) (Skipped NotAfdx)
   entry ← or_else (entry_of place ports bytes) (Skipped UnknownSender)
-  side ← or_else (said_or (side_said network place) (side_claimed bytes)) (Skipped NoNetwork)
+  side ← or_else (option_or (side_said network place) (side_claimed bytes)) (Skipped NoNetwork)
   Ok (entrance_with side entry (is_claimed network place ports) (is_contradicted side bytes))
 
 -- ---- its check sequence

@@ -3,6 +3,7 @@ use Rattle.std.specs.Prelude.{ℕ, Bool, true, false, ◌≡◌, ◌+◌, ◌*�
 use Rattle.std.specs.Prelude.{drop, Option, Some, None, option_and_then, slice_get}
 use Rattle.std.specs.Prelude.{if◌then◌else◌, map, option_map, take}
 use Rattle.std.specs.Prelude.{Vec}
+use Rattle.std.specs.Option.{option_or}
 use Rattle.std.specs.declared.alloc.Global.{Global}
 use Rattle.afdx_frame.specs.declared.link.Side.{Side}
 use Rattle.afdx_frame.specs.declared.link.Side.TheVariants.{A, B}
@@ -70,15 +71,10 @@ port_of_system systems number = of_system (λ s. s.id) (λ s. s.port) systems nu
 abbrev pub byte_ns_at : List SystemRow → ℕ → Option ℕ
 byte_ns_at systems port = of_system (λ s. s.port) byte_ns systems port
 
--- the first if there is one, else the second
-abbrev pub first_some : {X : Type 0} → Option X → Option X → Option X
-first_some (Some x) other = Some x
-first_some None other = other
-
 -- where the system stands that has this number, of these at a switch and else of some others
 abbrev pub entry_among : ℕ → List SystemRow → ℕ → (other : Option Entry) → Option Entry
 entry_among at systems number other =
-    first_some (option_map (entry_at at) (port_of_system systems number)) other
+    option_or (option_map (entry_at at) (port_of_system systems number)) other
 
 -- where the first system of all switches stands that has this number; the first switch is `at`
 unfoldable pub entry_from : ℕ → List Rows → ℕ → Option Entry

@@ -23,7 +23,8 @@ use Rattle.afdx_text.proofs.TellingLemmas.{Tells-more, Tells-none}
 use Rattle.afdx_text.specs.OutLines.{place_text, verdict_line}
 use Rattle.afdx_text.specs.Telling.{Tells}
 use Rattle.afdx_replay.specs.cascading.Early.{HearsEarly, IsLineOn, TellsEarly, early_line_at}
-use Rattle.afdx_replay.specs.cascading.Text.{event_lines, name_of}
+use Rattle.afdx_replay.specs.cascading.Text.{event_lines}
+use Rattle.afdx_inputs.specs.ListText.{switch_name}
 use Rattle.afdx_replay.specs.cascading.Told.{SystemsAre, TellsOne}
 use Rattle.afdx_replay.specs.replaying.Replayed.{Known}
 use Rattle.afdx_replay.specs.replaying.Text.{loss_lines, with_admission}
@@ -38,7 +39,7 @@ told_lines n side name reason lost =
 module _ (s : List NamedRows) (before : List SwitchEvent) (b : Brought) (h : SwitchEvent)
     (tells : TellsArrival (plan_of s) before b h) where
   -- its lines, by the name of its switch
-  lines-are : (name : List ℕ) → name ≡ name_of s b.switch
+  lines-are : (name : List ℕ) → name ≡ switch_name s b.switch
       → told_lines b.tag b.side name (network.reason_in b.verdict) (network.lost_in b.verdict)
       ≡ event_lines s before (arriving (plan_of s) before b.switch tells.arrival)
   lines-are name named =
@@ -47,12 +48,12 @@ module _ (s : List NamedRows) (before : List SwitchEvent) (b : Brought) (h : Swi
       tells.side
       ∙ ap (λ n. told_lines tells.arrival.tag tells.arrival.side n (network.reason_in b.verdict)
       (network.lost_in b.verdict)) named
-      ∙ lines-told (name_of s b.switch) b.verdict
+      ∙ lines-told (switch_name s b.switch) b.verdict
       (admission_after (tables_of s b.switch) (came_to b.switch before) tells.arrival) tells.verdict
 
   -- an arrival is told
   pub told-arrival : (all : List Systems) (name : List ℕ) (old counts : Summary) (x y : Known)
-      → name ≡ name_of s b.switch → SystemsAre s all before
+      → name ≡ switch_name s b.switch → SystemsAre s all before
       → counts ≡ with_admission old (network.reason_in b.verdict) (length (network.lost_in b.verdict))
       → Appends x y (told_lines b.tag b.side name (network.reason_in b.verdict) (network.lost_in b.verdict))
       → TellsOne s all old counts x y before h
@@ -67,7 +68,7 @@ module _ (s : List NamedRows) (before : List SwitchEvent) (b : Brought) (h : Swi
         written = subst (λ (l : List ℕ). Appends x y l) (lines-are name named) written;
       })
 
-  pub begun-arrival : (name : List ℕ) (x y : Known) → name ≡ name_of s b.switch
+  pub begun-arrival : (name : List ℕ) (x y : Known) → name ≡ switch_name s b.switch
       → AppendsFront x y (told_lines b.tag b.side name (network.reason_in b.verdict) (network.lost_in b.verdict))
       → AppendsFront x y (event_lines s before h)
   begun-arrival name x y named written =
@@ -102,7 +103,7 @@ module _ (s : List NamedRows) (before : List SwitchEvent) (b : Brought) (h : Swi
 
     -- it was dropped for its link's rate
     pub heard-early : (name : List ℕ) (start : Option (Watched D)) (drops after : Watched D)
-        → name ≡ name_of s b.switch → is_over_rate reason ≡ true
+        → name ≡ switch_name s b.switch → is_over_rate reason ≡ true
         → Tells contents drops after (early_line_at b.tag (place_text b.side name) b.early)
         → HearsEarly contents s start (Some drops) before → HearsEarly contents s start (Some after) (h ∷ before)
     heard-early name None drops after named over told was = was

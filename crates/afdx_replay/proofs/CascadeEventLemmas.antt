@@ -31,7 +31,8 @@ use Rattle.afdx_network.specs.Events.{Event, Left, Departure}
 use Rattle.afdx_switch.proofs.ListLemmas.{set-cases}
 use Rattle.afdx_commands.specs.declared.summary.Summary.{Summary}
 use Rattle.afdx_text.specs.OutLines.{departure_line, place_text, side_text}
-use Rattle.afdx_replay.specs.cascading.Text.{event_lines, name_of}
+use Rattle.afdx_replay.specs.cascading.Text.{event_lines}
+use Rattle.afdx_inputs.specs.ListText.{switch_name}
 use Rattle.afdx_replay.specs.cascading.Told.{AreSteady, SystemsAre, TellsOne}
 use Rattle.afdx_replay.specs.replaying.Replayed.{HasRoom, Known, TellsDeparture}
 use Rattle.afdx_replay.specs.replaying.Text.{frames_left, handed_over, heard, lines_at}
@@ -46,8 +47,8 @@ none-some e = cc
 -- ---- look-ups
 
 pub name-is : (s : List NamedRows) (k : ℕ) (name : List ℕ)
-    → option_map (λ x. x.name) (slice_get s k) ≡ Some name → name ≡ name_of s k
-unfolding name_of
+    → option_map (λ x. x.name) (slice_get s k) ≡ Some name → name ≡ switch_name s k
+unfolding switch_name
 name-is s k name e = by (slice_get s k) e
   where
     by : (o : Option NamedRows) → option_map (λ x. x.name) o ≡ Some name
@@ -248,7 +249,7 @@ steady-departed r old counts h room accepted lost =
     })) accepted lost
 
 module _ (s : List NamedRows) (all : List Systems) (k : ℕ) (before : List SwitchEvent) (name : List ℕ)
-    (named : name ≡ name_of s k) where
+    (named : name ≡ switch_name s k) where
   -- the systems of a switch
   pub systems-at : (x : Systems) → SystemsAre s all before → k < length all → x ≡ get_or all k x
       → systems.StandsFor (tables_of s k) x (frames_left (at_switch k before))
@@ -276,14 +277,14 @@ module _ (s : List NamedRows) (all : List Systems) (k : ℕ) (before : List Swit
     unheard = cable-unheard s k d.port is.cable.0 is.cable.1
 
     sent-line : departure_line false x.tag x.time (place_text x.side name) x.port
-        ≡ departure_line d.turn.too_old d.turn.entry.item.tag d.turn.end (place_text d.side (name_of s k)) d.port
+        ≡ departure_line d.turn.too_old d.turn.entry.item.tag d.turn.end (place_text d.side (switch_name s k)) d.port
     sent-line =
         ap (λ n. departure_line false n x.time (place_text x.side name) x.port) is.tag
         ∙ ap (λ n. departure_line false d.turn.entry.item.tag n (place_text x.side name) x.port) is.time
         ∙ ap (λ z. departure_line false d.turn.entry.item.tag d.turn.end (place_text z name) x.port) is.side
         ∙ ap (λ n. departure_line false d.turn.entry.item.tag d.turn.end (place_text d.side n) x.port) named
-        ∙ ap (λ n. departure_line false d.turn.entry.item.tag d.turn.end (place_text d.side (name_of s k)) n) is.port
-        ∙ ap (λ b. departure_line b d.turn.entry.item.tag d.turn.end (place_text d.side (name_of s k)) d.port)
+        ∙ ap (λ n. departure_line false d.turn.entry.item.tag d.turn.end (place_text d.side (switch_name s k)) n) is.port
+        ∙ ap (λ b. departure_line b d.turn.entry.item.tag d.turn.end (place_text d.side (switch_name s k)) d.port)
         (sym is.left)
 
     nothing-heard : heard d.turn.too_old (tables_of s k) (frames_left (at_switch k before)) (handed_over d) ≡ []
@@ -294,7 +295,7 @@ module _ (s : List NamedRows) (all : List Systems) (k : ℕ) (before : List Swit
     sent-lines : departure_line false x.tag x.time (place_text x.side name) x.port
         ≡ event_lines s before (event_at k (Left d))
     sent-lines = sent-line ∙ sym (append-nil _) ∙ ap (λ (l : List ℕ). departure_line d.turn.too_old
-        d.turn.entry.item.tag d.turn.end (place_text d.side (name_of s k)) d.port ++ l) (sym nothing-heard)
+        d.turn.entry.item.tag d.turn.end (place_text d.side (switch_name s k)) d.port ++ l) (sym nothing-heard)
 
     -- a slot is told, whose frame a cable carries
     pub told-sent : (old counts : Summary) (a b : Known) → SystemsAre s all before

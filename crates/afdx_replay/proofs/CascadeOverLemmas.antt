@@ -1,12 +1,8 @@
 -- How a list of several switches is read: the switches that its lines name, and what is told of it.
-use Rattle.std.proofs.Common.{◌≡◌, ℕ, ◌+◌, ◌≤◌, ◌<◌, List, [], ◌∷◌, length, map, refl, ◌∙◌, ap, ap₂, sym, subst, arith}
+use Rattle.std.proofs.Common.{◌≡◌, ℕ, ◌≤◌, ◌<◌, List, [], ◌∷◌, length, map, refl, ◌∙◌, ap, ap₂, sym, subst, arith}
 use Rattle.std.proofs.Common.{◌⊎◌, Bool, true, false, true≢false, inl, inr, Vec, Global, Option, Some, None}
-use Rattle.std.proofs.Common.{Result, Ok, Err, IfOk, IfSome, is_some, get_or}
-use Rattle.std.specs.Prelude.{slice_get}
-use Rattle.std.specs.Option.{option_map_or}
+use Rattle.std.proofs.Common.{Result, Ok, Err, IfOk, IfSome, is_some}
 use Rattle.std.proofs.KnownBytes.{Appends-nil}
-use Rattle.std.proofs.lemmas.List.FromFn.{length-map-range_with_len, get_or-map-range_with_len}
-use Rattle.std.proofs.lemmas.Option.{slice_get-get_or}
 use Rattle.afdx_config.proofs.AmongOthersLemmas.{among_others}
 use Rattle.afdx_config.specs.Files.{IsLawfulFile}
 use Rattle.afdx_config.specs.Switches.{NamedRows, far_end}
@@ -20,7 +16,6 @@ use Rattle.afdx_commands.specs.Checking.{IsAdmittedFile}
 use Rattle.afdx_commands.specs.Counts.{with_lines}
 use Rattle.afdx_commands.specs.declared.summary.Summary.{Summary}
 use Rattle.afdx_end_systems.specs.declared.systems.Systems.{Systems}
-use Rattle.afdx_frame.specs.Ports.{last_port}
 use Rattle.afdx_frame.specs.Seals.{IsSealedAs}
 use Rattle.afdx_frame.specs.Times.{latest_listed}
 use Rattle.afdx_engine.specs.Engine.{CanTell, Item, item_of}
@@ -44,7 +39,7 @@ use Rattle.afdx_inputs.specs.declared.input_run.InputCount.{InputCount}
 use Rattle.afdx_inputs.specs.declared.input_run.InputCount.TheVariants.{Lines, Recorded}
 use Rattle.afdx_lists.specs.FrameLines.{listed_frame}
 use Rattle.afdx_lists.specs.Lines.{lines_of, most_lines}
-use Rattle.afdx_lists.specs.SitedLines.{NamedCables, is_cable_at, sited_frame}
+use Rattle.afdx_lists.specs.SitedLines.{NamedCables, sited_frame}
 use Rattle.afdx_lists.specs.declared.fault.RunFault.{RunFault}
 use Rattle.afdx_lists.specs.declared.fault.RunFault.TheVariants as run
 use Rattle.afdx_lists.specs.declared.frame_line.Heading.{Heading}
@@ -57,9 +52,10 @@ use Rattle.afdx_replay.specs.cascading.Early.{HearsEarly}
 use Rattle.afdx_replay.specs.cascading.Input.{Answering, PairAnswers, Replays, TellsReplay}
 use Rattle.afdx_replay.specs.cascading.Items.{BeginsItems, TellsAll, TellsItems}
 use Rattle.afdx_replay.specs.cascading.Ran.{Answers, HearsSoFar, WritesAll, WritesList, WritesSoFar, WritesSome, lists}
-use Rattle.afdx_replay.specs.cascading.Sited.{IsAtPlace, IsAtSite, cables_of, has_cable, lines_in, site_of, sited_frames}
+use Rattle.afdx_replay.specs.cascading.Sited.{IsAtPlace, IsAtSite, cables_of, lines_in, site_of, sited_frames}
 use Rattle.afdx_replay.specs.cascading.Sited.{sites_of}
-use Rattle.afdx_replay.specs.cascading.Text.{cascade_text, name_of}
+use Rattle.afdx_replay.specs.cascading.Text.{cascade_text}
+use Rattle.afdx_inputs.specs.ListText.{switch_name}
 use Rattle.afdx_replay.specs.cascading.Told.{AreSteady, HasTold, SystemsAre, latest_line}
 use Rattle.afdx_replay.specs.declared.cascading.run.Cascading.{Cascading}
 use Rattle.afdx_replay.specs.declared.cascading.teller.Teller.{Teller}
@@ -67,11 +63,12 @@ use Rattle.afdx_replay.specs.replaying.Replayed.{Known}
 use Rattle.afdx_replay.specs.replaying.Command.{FileAnswers, FilePromises}
 use Rattle.afdx_replay.proofs.AdmittedRunLemmas.{if-known}
 use Rattle.afdx_replay.proofs.CascadePartLemmas.{no-parts}
+use Rattle.afdx_replay.proofs.SiteLemmas.{cable-is, sites-count}
 use Rattle.afdx_replay.proofs.CascadeRunLemmas.{told-some, told-so-far}
 
 -- ---- the lines of a list
 
-pub same-site : (site : NamedCables) (ss : List NamedRows) (k : ℕ) → site.name ≡ name_of ss k
+pub same-site : (site : NamedCables) (ss : List NamedRows) (k : ℕ) → site.name ≡ switch_name ss k
     → site.cables ≡ cables_of ss k → site ≡ site_of ss k
 same-site site ss k name cables =
     let named : List ℕ → List Bool → NamedCables = λ n c. record { name = n; cables = c } in
@@ -112,32 +109,14 @@ no-end None e = refl
 no-end (Some f) e = absurd (true≢false e)
 
 module _ (ss : List NamedRows) where
-  pub sites-count : length (sites_of ss) ≡ length ss
-  unfolding sites_of
-  sites-count = length-map-range_with_len (site_of ss) 0 (length ss)
-
-  site-at : (k : ℕ) → k < length ss → slice_get (sites_of ss) k ≡ Some (site_of ss k)
-  unfolding sites_of
-  site-at k within =
-      let d = site_of ss 0 in
-      slice_get-get_or (sites_of ss) k d (omega (arith, within, sites-count))
-      ∙ ap Some (get_or-map-range_with_len (site_of ss) 0 (length ss) k k d within (omega arith))
-
-  cable-is : (k port : ℕ) → k < length ss → port ≤ last_port
-      → is_cable_at (sites_of ss) k port ≡ has_cable ss k port
-  unfolding is_cable_at
-  cable-is k port within low =
-      ap (λ o. option_map_or (λ (s : NamedCables). get_or s.cables port false) o false) (site-at k within)
-      ∙ get_or-map-range_with_len (has_cable ss k) 0 (last_port + 1) port port false (omega (arith, low))
-      (omega arith)
-
   at-place : (x : Item Heading) → IsAtSite (sites_of ss) x → IsAtPlace ss x
   at-place x is =
-      let within : x.head.switch < length ss = omega (arith, is.within, sites-count) in
+      let count = sites-count ss in
+      let within : x.head.switch < length ss = omega (arith, is.within, count) in
       record {
         within = within;
         free = no-end (far_end ss x.head.switch x.head.port)
-            (sym (cable-is x.head.switch x.head.port within is.port) ∙ is.free);
+            (sym (cable-is ss x.head.switch x.head.port within is.port) ∙ is.free);
       }
 
   -- each frame that the lines of a list say can be told

@@ -1,37 +1,71 @@
 -- What first events of a replay of several switches are at their parts.
-use Rattle.std.proofs.Common.{◌≡◌, ◌≤◌, ℕ, suc, List, [], ◌∷◌, ◌++◌, length, reverse, refl, ap, sym, ◌∙◌, arith}
-use Rattle.std.proofs.Common.{append-nil}
-use Rattle.std.proofs.lemmas.List.{length-append, length-map}
+use Rattle.std.proofs.Common.{◌≡◌, ◌<◌, ◌==◌, ℕ, Bool, true, false, List, [], ◌∷◌, ◌++◌, length, reverse}
+use Rattle.std.proofs.Common.{refl, ap, sym, ◌∙◌, arith, append-nil, if◌then◌else◌}
+use Rattle.std.proofs.lemmas.List.{length-map}
+use Rattle.afdx_frame.proofs.BuiltLemmas.{built_is_computed}
+use Rattle.afdx_admit.specs.Cascade.{IsCascadeAdmitted}
+use Rattle.afdx_cascade.specs.Admitted.{IsAdmittedCascade}
 use Rattle.afdx_cascade.specs.Cascade.{StandsFor}
 use Rattle.afdx_cascade.specs.Parts.{frames_of}
 use Rattle.afdx_cascade.specs.Plans.{plan_of, tables_of}
+use Rattle.afdx_cascade.specs.Receivers.{HaveBegun, lines_so_far}
 use Rattle.afdx_cascade.specs.Runs.{Line, Runs}
-use Rattle.afdx_cascade.specs.SwitchEvents.{SwitchEvent, count_if, listed, passes}
+use Rattle.afdx_cascade.specs.SwitchEvents.{SwitchEvent, at_switch, came_to, count_if, listed, passes}
 use Rattle.afdx_cascade.specs.declared.cascade.Cascade.{Cascade}
 use Rattle.afdx_cascade.proofs.CountedLemmas.{events-counted}
-use Rattle.afdx_cascade.proofs.EndToEndLemmas.{first-links-leave, no-others}
+use Rattle.afdx_cascade.proofs.KeptLemmas.{keeps-so-far}
 use Rattle.afdx_cascade.proofs.OnceLemmas.{at-most-listed}
 use Rattle.afdx_cascade.proofs.PartLemmas.{begins-alone}
-use Rattle.afdx_cascade.proofs.ReadLemmas.{cables-read}
 use Rattle.afdx_cascade.proofs.WayHopLemmas.{cascade-admitted}
-use Rattle.afdx_config.specs.Switches.{NamedRows}
+use Rattle.afdx_config.specs.Switches.{AreSwitches, NamedRows}
+use Rattle.afdx_network.specs.Events.{Event}
 use Rattle.afdx_network.specs.Order.{events_of}
-use Rattle.afdx_police.specs.Arrival.{Arrival}
-use Rattle.afdx_switch.specs.Switching.{taken_at}
+use Rattle.afdx_promises.specs.Lines.{told_by}
+use Rattle.afdx_replay.proofs.CascadePromisedLemmas.{admitted-run}
 use Rattle.afdx_replay.proofs.CascadeWholeLemmas.{frames-listed}
+use Rattle.afdx_replay.proofs.PromisedLemmas.{first-text}
 use Rattle.afdx_replay.specs.cascading.Ran.{AreInPartsSoFar}
+use Rattle.afdx_replay.specs.cascading.Text.{own_text}
+use Rattle.afdx_replay.specs.replaying.Promises.{text_of}
+use Rattle.afdx_replay.specs.replaying.Text.{lines_at, replay_text}
+
+-- ---- the text of a switch
+
+own-more : (s : List NamedRows) (k : ℕ) (e : Event) (before : List SwitchEvent) (own : List ℕ) (here : Bool)
+    → own ≡ replay_text (tables_of s k) (at_switch k before)
+    → own ++ (if here then lines_at [] (tables_of s k) (at_switch k before) e else [])
+    ≡ replay_text (tables_of s k) (if here then e ∷ at_switch k before else at_switch k before)
+unfolding replay_text
+own-more s k e before own true is = ap (λ x. x ++ lines_at [] (tables_of s k) (at_switch k before) e) is
+own-more s k e before own false is = append-nil own ∙ is
+
+pub own-is : (s : List NamedRows) (k : ℕ) (events : List SwitchEvent)
+    → own_text s k events ≡ replay_text (tables_of s k) (at_switch k events)
+unfolding own_text replay_text
+own-is s k [] = refl
+own-is s k (h ∷ before) = own-more s k h.event before (own_text s k before) (h.switch == k) (own-is s k before)
+
+-- the text of first events at an admitted switch is that of the lines that tell them
+told-at : (s : List NamedRows) (w : Cascade) (events : List SwitchEvent) (k : ℕ) → StandsFor (plan_of s) w events
+    → k < length s → IsCascadeAdmitted s
+    → own_text s k events ≡ text_of (tables_of s k) (lines_so_far s events k)
+told-at s w events k stands within admitted =
+    own-is s k events
+    ∙ first-text (tables_of s k) (came_to k events) (begins-alone (plan_of s) w events k stands within).0
+    (at_switch k events) (begins-alone (plan_of s) w events k stands within).1
+    (admitted-run s w events stands k within admitted)
+
+-- ---- the parts
 
 pub parts-so-far : (s : List NamedRows) (past : List Line) (w : Cascade) (events : List SwitchEvent)
     → StandsFor (plan_of s) w events → Runs (plan_of s) (reverse past) events []
     → AreInPartsSoFar s past events
 parts-so-far s past w events stands runs = record {
   begun = λ k within. begins-alone (plan_of s) w events k stands within;
-  accepted = λ are admitted k later past x other came joined.
-      (cables-read s events k later past x other (cascade-admitted s w events are admitted stands) came joined).1;
-  ends = λ are admitted side r before sum port way.
-      first-links-leave s events side r before sum port (cascade-admitted s w events are admitted stands) way;
-  others = λ are admitted side k port vl within low high none.
-      no-others s events side k port vl (cascade-admitted s w events are admitted stands) within low high none;
+  told = λ admitted k within. told-at s w events k stands within admitted;
+  end_to_end = λ are admitted.
+      keeps-so-far built_is_computed s events (cascade-admitted s w events are admitted stands)
+      (λ k within. begins-alone (plan_of s) w events k stands within);
   once = λ side k test.
       (let most = at-most-listed (plan_of s) events side k test stands.keeps.plan stands.keeps.stands.rules in
       let same = ap (count_if (passes side test)) frames in
@@ -46,22 +80,20 @@ parts-so-far s past w events stands runs = record {
     frames : listed (plan_of s) events ≡ frames_of past
     frames = frames-listed s past events runs
 
--- nothing has come
-not-among : (later past : List Arrival) (x : Arrival) → [] ≡ later ++ x ∷ past → ⊥
-not-among later past x is =
-    let none : 0 ≡ length (later ++ x ∷ past) = ap length is in
-    let parts = length-append later (x ∷ past) in
-    omega (arith, none, parts)
+nothing-came : (s : List NamedRows) → AreSwitches s → IsCascadeAdmitted s → IsAdmittedCascade s []
+nothing-came s are admitted =
+    record { are = are; admitted = admitted; timed = λ k within. tt; rules = tt }
 
 -- before the first event
 pub no-parts : (s : List NamedRows) → AreInPartsSoFar s [] []
-unfolding taken_at
+unfolding own_text text_of told_by
 no-parts s = record {
-  begun = λ k within. (events_of (tables_of s k) [], sym (append-nil (events_of (tables_of s k) [])));
-  accepted = λ are admitted k later past x other came joined. absurd (not-among later past x came);
-  ends = λ are admitted side r before sum port way.
-      record { waiting = []; gone = []; all = refl; leave = tt };
-  others = λ are admitted side k port vl within low high none. refl;
+  begun = nothing;
+  told = λ admitted k within. refl;
+  end_to_end = λ are admitted. keeps-so-far built_is_computed s [] (nothing-came s are admitted) nothing;
   once = λ side k test. omega arith;
   few = omega arith;
 }
+  where
+    nothing : HaveBegun s []
+    nothing k within = (events_of (tables_of s k) [], sym (append-nil (events_of (tables_of s k) [])))

@@ -57,7 +57,7 @@ tables-there s k row is = rw is refl
 
 module _ (s : List NamedRows) (w : Cascade) (events : List SwitchEvent) (stands : StandsFor (plan_of s) w events)
     (k : ℕ) (within : k < length s) where
-  admitted-run : IsCascadeAdmitted s → IsAdmittedRun (tables_of s k) (came_to k events)
+  pub admitted-run : IsCascadeAdmitted s → IsAdmittedRun (tables_of s k) (came_to k events)
   admitted-run admitted =
       let row = slice_get-within s k within in
       let count = stands.count in

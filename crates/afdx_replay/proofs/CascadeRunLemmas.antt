@@ -1,6 +1,6 @@
 -- How far a replay of several switches has come: which events these are, and how many.
 use Rattle.std.proofs.Common.{◌≡◌, ℕ, suc, ◌+◌, ◌*◌, ◌≤◌, ◌<◌, List, [], ◌∷◌, ◌++◌, length, reverse, refl, ap, sym, ◌∙◌}
-use Rattle.std.proofs.Common.{subst, Option, Some, None, Bool, true, false, is_none, arith, append_assoc, append-nil, ◌==◌, inl, inr}
+use Rattle.std.proofs.Common.{subst, Option, Some, None, Bool, true, false, is_none, arith, append_assoc, append-nil, inl, inr}
 use Rattle.std.proofs.Common.{if◌then◌else◌}
 use Rattle.std.proofs.lemmas.List.{length-append, length-map, length-reverse, reverse-append}
 use Rattle.std.specs.Io.KnownBytes.{Appends}
@@ -14,15 +14,16 @@ use Rattle.afdx_cascade.specs.Plans.{plan_of, tables_of}
 use Rattle.afdx_cascade.specs.Runs.{Line, Runs, IsFirstDue, IsNextLine, arriving}
 use Rattle.afdx_cascade.specs.SwitchEvents.{SwitchEvent, at_switch, came_to, listed}
 use Rattle.afdx_cascade.specs.declared.cascade.Cascade.{Cascade}
-use Rattle.afdx_cascade.proofs.AloneLemmas.{links-alone}
-use Rattle.afdx_cascade.proofs.EndToEndLemmas.{links-leave}
 use Rattle.afdx_cascade.proofs.CountedLemmas.{events-counted}
+use Rattle.afdx_cascade.proofs.KeptLemmas.{keeps-all}
+use Rattle.afdx_frame.proofs.BuiltLemmas.{built_is_computed}
 use Rattle.afdx_cascade.proofs.PartLemmas.{are-taken, runs-alone, cables-bring, are-of-list}
 use Rattle.afdx_end_systems.specs.Receptions.{is_delivered}
 use Rattle.afdx_network.specs.Order.{events_of}
-use Rattle.afdx_replay.proofs.CascadePartLemmas.{parts-so-far}
-use Rattle.afdx_replay.proofs.CascadePromisedLemmas.{promised-at}
+use Rattle.afdx_replay.proofs.CascadePartLemmas.{own-is, parts-so-far}
+use Rattle.afdx_replay.proofs.CascadePromisedLemmas.{admitted-run, promised-at}
 use Rattle.afdx_replay.proofs.CascadeWholeLemmas.{whole-events}
+use Rattle.afdx_replay.proofs.PromisedLemmas.{first-text}
 use Rattle.afdx_engine.specs.Items.{most_frames}
 use Rattle.afdx_lists.specs.Calls.{AppendsFront}
 use Rattle.afdx_lists.specs.declared.watched.Watched.{Watched}
@@ -34,13 +35,13 @@ use Rattle.afdx_cascade.specs.Keeping.{IsNothingDue}
 use Rattle.afdx_cascade.specs.Runs.{AreAll}
 use Rattle.afdx_commands.specs.Counts.{no_counts}
 use Rattle.afdx_replay.specs.cascading.Early.{HearsEarly}
-use Rattle.afdx_replay.specs.cascading.Ran.{AreInParts, AreInPartsSoFar, WritesSome, WritesSoFar, WritesAll}
+use Rattle.afdx_replay.specs.cascading.Ran.{AreInParts, WritesSome, WritesSoFar, WritesAll}
 use Rattle.afdx_replay.specs.cascading.Ran.{HearsSome, HearsSoFar, HearsAll}
 use Rattle.afdx_replay.specs.cascading.Text.{cascade_text, cascade_counts, event_lines, own_text}
 use Rattle.afdx_replay.specs.cascading.Told.{AreFirst, AreInTime, AreSteady, AreTold, HasTold, IsFor, TellsOne, latest_line, total}
 use Rattle.afdx_replay.specs.declared.cascading.teller.Teller.{Teller}
 use Rattle.afdx_replay.specs.replaying.Replayed.{AreLow}
-use Rattle.afdx_replay.specs.replaying.Text.{with_admission, with_departure, with_event, frames_left, handed_over, lines_at, replay_text}
+use Rattle.afdx_replay.specs.replaying.Text.{with_admission, with_departure, with_event, frames_left, handed_over, replay_text}
 
 -- ---- counts
 
@@ -207,20 +208,6 @@ module _ {D : Type 0} (contents : D → Option (List ℕ)) (s : List NamedRows) 
 
 -- ---- the parts
 
-own-more : (s : List NamedRows) (k : ℕ) (e : Event) (before : List SwitchEvent) (own : List ℕ) (here : Bool)
-    → own ≡ replay_text (tables_of s k) (at_switch k before)
-    → own ++ (if here then lines_at [] (tables_of s k) (at_switch k before) e else [])
-    ≡ replay_text (tables_of s k) (if here then e ∷ at_switch k before else at_switch k before)
-unfolding replay_text
-own-more s k e before own true is = ap (λ x. x ++ lines_at [] (tables_of s k) (at_switch k before) e) is
-own-more s k e before own false is = append-nil own ∙ is
-
-own-is : (s : List NamedRows) (k : ℕ) (events : List SwitchEvent)
-    → own_text s k events ≡ replay_text (tables_of s k) (at_switch k events)
-unfolding own_text replay_text
-own-is s k [] = refl
-own-is s k (h ∷ before) = own-more s k h.event before (own_text s k before) (h.switch == k) (own-is s k before)
-
 pub in-parts : (s : List NamedRows) (past : List Line) (w : Cascade) (events : List SwitchEvent)
     → StandsFor (plan_of s) w events → AreAll (plan_of s) (reverse past) events → AreInTime past
     → AreInParts s (reverse past) events
@@ -229,22 +216,18 @@ in-parts s past w events stands all soon = record {
   alone = alone;
   promised = λ admitted k within.
       promised-at s w events stands k within (own_text s k events) (alone k within) admitted;
-  accepted = so_far.accepted;
+  told = λ admitted k within.
+      alone k within
+      ∙ first-text (tables_of s k) (came_to k events) [] (events_of (tables_of s k) (came_to k events)) refl
+      (admitted-run s w events stands k within admitted);
   whole = whole-events s past w events stands all soon;
-  ends = λ are admitted side r before sum port way.
-      links-leave s events side r before sum port (whole-events s past w events stands all soon are admitted) way;
-  others = so_far.others;
-  same = λ are admitted another side r before also row rows alike.
-      links-alone s events another side r before (whole-events s past w events stands all soon are admitted) also
-      row rows alike;
+  end_to_end = λ are admitted.
+      keeps-all built_is_computed s events (whole-events s past w events stands all soon are admitted);
   cables = λ k port side other joined.
       cables-bring (plan_of s) events k port side other stands.keeps.stands.rules all.none joined;
   listed = are-of-list (plan_of s) w (reverse past) events stands all;
 }
   where
-    so_far : AreInPartsSoFar s past events
-    so_far = parts-so-far s past w events stands all.runs
-
     own : (k : ℕ) → k < length s → at_switch k events ≡ events_of (tables_of s k) (came_to k events)
     own k within = runs-alone (plan_of s) w events k stands all.none within
 

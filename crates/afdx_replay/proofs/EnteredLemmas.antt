@@ -1,5 +1,6 @@
 -- What comes in as options and frames' bytes say, once the options' places are those of the switches
 -- of a configuration, comes in at one of these, at a port where no cable is.
+use Rattle.std.specs.Option.{option_or}
 use Rattle.std.proofs.Common.{◌≡◌, ℕ, zero, suc, ◌+◌, ◌<◌, ◌==◌, Bool, true, false, not, List, [], ◌∷◌, length, take}
 use Rattle.std.proofs.Common.{map, refl, sym, ◌∙◌, ap, subst, arith, inl, inr, nat_lt, if◌then◌else◌}
 use Rattle.std.proofs.Common.{Option, Some, None, is_some, option_map, option_and_then, slice_get}
@@ -20,7 +21,7 @@ use Rattle.afdx_cascade.specs.Turning.{end_of}
 use Rattle.afdx_lists.specs.declared.frame_line.Heading.{Heading}
 use Rattle.afdx_engine.specs.Engine.{Item}
 use Rattle.afdx_recorded.specs.Becoming.{entry_of, only_if, options_of}
-use Rattle.afdx_recorded.specs.Claims.{entry_from, first_some, own_systems, port_of_system, ports_of_several}
+use Rattle.afdx_recorded.specs.Claims.{entry_from, own_systems, port_of_system, ports_of_several}
 use Rattle.afdx_recorded.specs.Claims.{sender_of}
 use Rattle.afdx_recorded.specs.Entering.{IsEntered, entry_in}
 use Rattle.afdx_recorded.specs.Places.{allows, entry_at, names_of, place_of}
@@ -121,7 +122,7 @@ own-of at (s ∷ ss) number e h =
     by (port_of_system (own_systems s.rows) number) refl h (λ later. own-of (at + 1) ss number e later)
   where
     by : (o : Option ℕ) → port_of_system (own_systems s.rows) number ≡ o
-        → first_some (option_map (entry_at at) o) (entry_from (at + 1) (map (λ s. s.rows) ss) number) ≡ Some e
+        → option_or (option_map (entry_at at) o) (entry_from (at + 1) (map (λ s. s.rows) ss) number) ≡ Some e
         → (entry_from (at + 1) (map (λ s. s.rows) ss) number ≡ Some e → IsOwn (at + 1) ss e) → IsOwn at (s ∷ ss) e
     by None is h later = own-later at s ss e (later h)
     by (Some port) is h later =

@@ -1,3 +1,4 @@
+pub mod SiteLemmas
 pub mod TextLemmas
 pub mod ToldLemmas
 pub mod EarlyLemmas

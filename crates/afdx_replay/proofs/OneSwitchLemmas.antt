@@ -49,7 +49,8 @@ use Rattle.afdx_replay.specs.cascading.OneSwitch.{CascadeOfOneIsItsSwitch, Lists
 use Rattle.afdx_replay.specs.cascading.OneSwitch.{AreAtSwitches, named_text}
 use Rattle.afdx_replay.specs.cascading.Ran.{lists}
 use Rattle.afdx_replay.specs.cascading.Sited.{site_of, sites_of}
-use Rattle.afdx_replay.specs.cascading.Text.{cascade_text, cascade_counts, name_of}
+use Rattle.afdx_replay.specs.cascading.Text.{cascade_text, cascade_counts}
+use Rattle.afdx_inputs.specs.ListText.{switch_name}
 use Rattle.afdx_replay.specs.replaying.Text.{lines_at, replay_text, replay_counts, with_event}
 
 -- ---- a cable leads to another switch
@@ -223,18 +224,18 @@ module _ (c : Plan) (none : (k port : ℕ) → c.far_end k port ≡ None) where
 
 module _ (ss : List NamedRows) where
   named-here : (events : List SwitchEvent) → AreHere events
-      → cascade_text ss events ≡ named_text (name_of ss 0) (tables_of ss 0) (at_switch 0 events)
+      → cascade_text ss events ≡ named_text (switch_name ss 0) (tables_of ss 0) (at_switch 0 events)
   unfolding cascade_text named_text
   named-here [] all = refl
   named-here (h ∷ before) all = by h.switch all.0 (named-here before all.1)
     where
       by : (k : ℕ) → k ≡ 0
-          → cascade_text ss before ≡ named_text (name_of ss 0) (tables_of ss 0) (at_switch 0 before)
-          → cascade_text ss before ++ lines_at (name_of ss k) (tables_of ss k) (at_switch k before) h.event
-          ≡ named_text (name_of ss 0) (tables_of ss 0)
+          → cascade_text ss before ≡ named_text (switch_name ss 0) (tables_of ss 0) (at_switch 0 before)
+          → cascade_text ss before ++ lines_at (switch_name ss k) (tables_of ss k) (at_switch k before) h.event
+          ≡ named_text (switch_name ss 0) (tables_of ss 0)
           (if k == 0 then h.event ∷ at_switch 0 before else at_switch 0 before)
       by zero here is =
-          ap (λ x. x ++ lines_at (name_of ss 0) (tables_of ss 0) (at_switch 0 before) h.event) is
+          ap (λ x. x ++ lines_at (switch_name ss 0) (tables_of ss 0) (at_switch 0 before) h.event) is
       by (suc k) here is = absurd (cc here)
 
   counted-here : (events : List SwitchEvent) → AreHere events
@@ -351,7 +352,7 @@ one-switch ss lines events are one at all parts =
       here = all-here events here;
       came = came;
       own = sym (all-here events here) ∙ own;
-      named = named-here ss events here ∙ ap (named_text (name_of ss 0) (tables_of ss 0)) own;
+      named = named-here ss events here ∙ ap (named_text (switch_name ss 0) (tables_of ss 0)) own;
       alone = parts.alone 0 first
           ∙ ap (λ xs. replay_text (tables_of ss 0) (events_of (tables_of ss 0) xs)) came;
       counted = counted-here ss events here ∙ ap (replay_counts (tables_of ss 0)) own;

@@ -1,6 +1,6 @@
 -- What a replay tells of a network whose tables are admitted.
 use Rattle.std.proofs.Common.{append_assoc, ◌≡◌, ℕ, ◌==◌, ◌&&◌, Bool, true, false, not, List, []}
-use Rattle.std.proofs.Common.{◌∷◌, ◌++◌, length, refl, sym, ap, ◌∙◌, arith, inl, inr}
+use Rattle.std.proofs.Common.{◌∷◌, ◌++◌, length, refl, sym, ap, ◌∙◌, subst, arith, inl, inr}
 use Rattle.std.specs.Prelude.{Option, Some, None, if◌then◌else◌}
 use Rattle.afdx_frame.proofs.BuiltLemmas.{built_is_computed}
 use Rattle.afdx_config.specs.Reading.{listener_at}
@@ -156,6 +156,17 @@ module _ (t : Rows) (arrivals : List Arrival) (run : IsAdmittedRun t arrivals) w
 
   promised_so_far : EventsSoFarKeepPromises t arrivals (events_so_far t arrivals)
   promised_so_far = so-far-promised t arrivals (events_so_far t arrivals) run (are-so-far t arrivals)
+
+kept-after : (later events : List Event) → AreKept (later ++ events) → AreKept events
+kept-after [] events all = all
+kept-after (e ∷ later) events all = kept-after later events (older e (later ++ events) all)
+
+-- the text of first events is that of the lines that tell them
+pub first-text : (t : Rows) (arrivals : List Arrival) (later events : List Event)
+    → events_of t arrivals ≡ later ++ events → IsAdmittedRun t arrivals
+    → replay_text t events ≡ text_of t (told_by t events)
+first-text t arrivals later events are run =
+    text-kept t events (kept-after later events (subst AreKept are (kept t arrivals run)))
 
 pub replay-promised : ReplayIsAsPromised
 replay-promised t arrivals run = record {

@@ -29,7 +29,7 @@ use Rattle.afdx_solve.proofs.DelayLemmas.{delay-stands}
 use Rattle.afdx_solve.proofs.SameLemmas.{jitter-with_jitter, jitter-with_delay, burst-same, high_load-same, high_wait-same, low_wait-same}
 
 -- rounded up, no more than what suffices
-div_ceil-least : (a b k : ℕ) → 0 < b → a ≤ k * b → div_ceil a b ≤ k
+pub div_ceil-least : (a b k : ℕ) → 0 < b → a ≤ k * b → div_ceil a b ≤ k
 div_ceil-least a b k some h =
     let below : div_ceil a b * b < (k + 1) * b = omega (arith, (div_ceil_times a b some).1, h) in
     omega (arith, lt_of_mul-lt-mul_right b below)
@@ -41,7 +41,7 @@ chosen-least false true as_is least k e = absurd (cc e)
 chosen-least false false as_is least k e = refl
 
 -- a row of those that were mapped
-mapped : {X Y : Type 0} (h : X → Y) (xs : List X) (i : ℕ) (y : Y) → slice_get (map h xs) i ≡ Some y
+pub mapped : {X Y : Type 0} (h : X → Y) (xs : List X) (i : ℕ) (y : Y) → slice_get (map h xs) i ≡ Some y
     → (x : X) × (slice_get xs i ≡ Some x) × (h x ≡ y)
 mapped h [] i y at = absurd (cc at)
 mapped h (x ∷ xs) zero y at = (x, refl, same_of_some (h x) y at)
@@ -52,7 +52,7 @@ mapped h (x ∷ xs) (suc i) y at = mapped h xs i y at
 
 -- ---- jitters
 
-jitter_at-stands : (t : Rows) (place : ℕ) (s : SystemRow) → slice_get t.systems place ≡ Some s
+pub jitter_at-stands : (t : Rows) (place : ℕ) (s : SystemRow) → slice_get t.systems place ≡ Some s
     → jitter_at t place ≡ sender_jitter (byte_ns s) (links_from t.links place)
 unfolding jitter_at
 jitter_at-stands t place s at =
@@ -86,7 +86,7 @@ least_jitters o t keep raise own = λ i l s at sender us enough.
 
 -- ---- the buffer
 
-need-least : (t : Rows) (bytes : ℕ) → ((i : ℕ) (s : SystemRow) → slice_get t.systems i ≡ Some s
+pub need-least : (t : Rows) (bytes : ℕ) → ((i : ℕ) (s : SystemRow) → slice_get t.systems i ≡ Some s
     → burst (flows_to t.links i) ≤ bytes * byte_units) → (place : ℕ) → need_to t place ≤ bytes
 unfolding buffer_need_of
 need-least t bytes enough place = by (slice_get t.systems place) refl
@@ -96,7 +96,7 @@ need-least t bytes enough place = by (slice_get t.systems place) refl
     by None at = omega arith
     by (Some s) at = div_ceil-least (burst (flows_to t.links place)) byte_units bytes (omega arith) (enough place s at)
 
-needs-least : (t : Rows) (bytes : ℕ) → ((place : ℕ) → need_to t place ≤ bytes) → (count : ℕ)
+pub needs-least : (t : Rows) (bytes : ℕ) → ((place : ℕ) → need_to t place ≤ bytes) → (count : ℕ)
     → greatest_need t count ≤ bytes
 unfolding greatest_need
 needs-least t bytes each zero = omega arith
@@ -115,7 +115,7 @@ least_buffer-least o t keep raise = λ bytes some enough.
 
 -- ---- latencies
 
-low_bound-some : (ns : ℕ) (flows : List Flow) → 0 < byte_units - high_load ns flows
+pub low_bound-some : (ns : ℕ) (flows : List Flow) → 0 < byte_units - high_load ns flows
     → low_bound_of (record { byte_ns = ns; flows = flows })
     ≡ Some (div_ceil (low_wait ns flows) (byte_units - high_load ns flows))
 unfolding low_bound_of
@@ -125,7 +125,7 @@ low_bound-some ns flows left =
     ap (λ b. if b then Some (div_ceil (low_wait ns flows) (byte_units - h)) else None) below
 
 -- what an output port needs is no more than a latency with which it is in time
-delay-least : (t : Rows) (class : Priority) (place : ℕ) (s : SystemRow) (us : ℕ) → slice_get t.systems place ≡ Some s
+pub delay-least : (t : Rows) (class : Priority) (place : ℕ) (s : SystemRow) (us : ℕ) → slice_get t.systems place ≡ Some s
     → IsInTime (byte_ns s) (flows_to t.links place) class (1000 * us)
     → (class ≡ Low → 0 < byte_units - high_load (byte_ns s) (flows_to t.links place)) → delay_to t class place ≤ us
 unfolding high_bound_of
@@ -145,7 +145,7 @@ delay-least t Low place s us at soon left =
     let is = low_bound-some ns flows (left refl) in
     subst (λ n. n ≤ us) (sym (delay-stands t Low place s at ∙ ap in_us is)) least
 
-latency_over-least : (f : ℕ → ℕ) (us count : ℕ) → 1 ≤ us → (places : List ℕ) → AllByRecursion (λ p. p < count) places
+pub latency_over-least : (f : ℕ → ℕ) (us count : ℕ) → 1 ≤ us → (places : List ℕ) → AllByRecursion (λ p. p < count) places
     → ((p : ℕ) → p < count → list_any (λ q. nat_eq q p) places ≡ true → f p ≤ us) → latency_over f places ≤ us
 unfolding latency_over
 latency_over-least f us count some [] within h = some
@@ -159,7 +159,7 @@ latency_over-least f us count some (p ∷ ps) within h =
     later false e = e
 
 -- a low link that goes to a port is among the low flows there
-low_stands : (place : ℕ) (ls : List LinkRow) (i : ℕ) (l : LinkRow) → slice_get ls i ≡ Some l → is_to place l ≡ true
+pub low_stands : (place : ℕ) (ls : List LinkRow) (i : ℕ) (l : LinkRow) → slice_get ls i ≡ Some l → is_to place l ≡ true
     → l.priority ≡ Low → Contains (of_class Low (flows_to ls place)) (flow_of_link l)
 low_stands place [] i l at goes low = absurd (cc at)
 low_stands place (x ∷ ls) zero l at goes low =

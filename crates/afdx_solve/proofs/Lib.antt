@@ -1,4 +1,15 @@
 pub mod DelayLemmas
+pub mod ZipLemmas
+pub mod AtLemmas
+pub mod RiseLemmas
+pub mod WayRiseLemmas
+pub mod RaisingLemmas
+pub mod RaisedLemmas
+pub mod LoopLemmas
+pub mod BeginLemmas
+pub mod CascadeLeastLemmas
+pub mod FitLemmas
+pub mod SolvableLemmas
 pub mod LeastLemmas
 pub mod RowLemmas
 pub mod SameLemmas
@@ -9,6 +20,11 @@ pub mod TreeLemmas
 pub mod KeyLemmas
 pub mod ReadRowLemmas
 pub mod ReadTablesLemmas
+pub mod ReadTopLemmas
+pub mod FrontLemmas
+pub mod NodeLemmas
+pub mod SwitchLineLemmas
+pub mod CascadeTextLemmas
 pub mod NameLemmas
 pub mod LineLemmas
 pub mod ConfigTextLemmas

@@ -9,7 +9,7 @@ use Rattle.toml.specs.Tables.{Expression, key_value, array_table}
 use Rattle.toml.specs.Text.{IsItemsText, IsLineText, IsLinesText, before_item, breaks_lines}
 use Rattle.toml.proofs.Lines.{IsLinesText-append}
 use Rattle.toml.proofs.ReadLines.{AllPrinted, IsPrinted}
-use Rattle.toml_writer.specs.Text.{key_text}
+use Rattle.toml_writer.specs.Text.{key_text, path_text}
 use Rattle.afdx_frame.specs.declared.link.Priority.{Priority}
 use Rattle.afdx_frame.specs.declared.link.Priority.TheVariants.{High, Low}
 use Rattle.afdx_frame.specs.declared.link.Policing.{Policing}
@@ -17,7 +17,8 @@ use Rattle.afdx_frame.specs.declared.link.Policing.TheVariants.{Byte, Frame}
 use Rattle.afdx_frame.proofs.ListLemmas.{AllByRecursion-slice_get, slice_get-within}
 use Rattle.afdx_config.specs.declared.rows.Kind.{Kind}
 use Rattle.afdx_config.specs.declared.rows.Kind.TheVariants.{Sampling, Queuing}
-use Rattle.afdx_config.specs.Lawful.{IsLawful, IsSystem, IsLink, IsPort, IsWithin}
+use Rattle.afdx_config.specs.Lawful.{IsLawful, IsLawfulSwitch, IsSystem, IsLinkUpTo, IsPort, IsWithin, jitter_from_any}
+use Rattle.afdx_config.proofs.AmongOthersLemmas.{among_others}
 use Rattle.afdx_config.specs.Reading.{is_name, deepest}
 use Rattle.afdx_config.specs.Rows.{SystemRow, LinkRow, PortRow, Rows}
 use Rattle.afdx_solve.specs.ConfigText.{in_quotes, listed, number_line, text_line, texts_line, header, class_word, policing_word, kind_word, name_at}
@@ -25,7 +26,9 @@ use Rattle.afdx_solve.specs.ConfigText.{system_text, way_text, traffic_text, tre
 use Rattle.afdx_solve.proofs.NameLemmas.{IsWord, word-text}
 use Rattle.afdx_solve.proofs.ReadRowLemmas.{rate-within, bag-within, identifier-within}
 use Rattle.afdx_solve.proofs.RunLemmas.{Fields, field_lines, table_lines, rows_lines}
-use Rattle.afdx_solve.proofs.TreeLemmas.{number, texts, way_fields, traffic_fields, treatment_fields, config_expressions, top_fields, system_fields, link_fields, port_fields}
+use Rattle.afdx_solve.proofs.TreeLemmas.{number, texts, way_fields, traffic_fields, treatment_fields, top_fields}
+use Rattle.afdx_solve.proofs.TreeLemmas.{system_fields, neighbour_fields, link_fields, port_fields, Parts, parts_lines}
+use Rattle.afdx_solve.proofs.ReadTopLemmas.{alone}
 
 -- ---- lines of each kind
 
@@ -81,9 +84,10 @@ line-texts k ss bare words =
       (rest, refl, rw (unbroken ss) (array-text ss words)),
     )
 
-line-header : (k : List ℕ) → IsBare k → IsLineText false true ([], k) array_table (header k)
+line-header : (path : List (List ℕ)) (k : List ℕ) → IsBare k
+    → IsLineText false true (path, k) array_table (header (path_text path) k)
 unfolding header
-line-header k bare = rw bare (simp append_assoc refl)
+line-header path k bare = rw bare (simp append_assoc refl)
 
 -- ---- rows
 
@@ -100,7 +104,11 @@ pub record AreLines (es : List Expression) (text : List ℕ) : Type 0 where
   pub lines : IsLinesText false true es text
   pub printed : AllPrinted es
 
-one : (e : Expression) (text : List ℕ) → IsLineText false true e.0 e.1 text → IsPrinted e.0 e.1 → AreLines (e ∷ []) text
+pub no-lines : AreLines [] []
+no-lines = record { lines = refl; printed = tt }
+
+pub one : (e : Expression) (text : List ℕ) → IsLineText false true e.0 e.1 text → IsPrinted e.0 e.1
+    → AreLines (e ∷ []) text
 one e text line printed = record { lines = (text, [], sym (append-nil text), line, refl); printed = (printed, tt) }
 
 both-printed : (es fs : List Expression) → AllPrinted es → AllPrinted fs → AllPrinted (es ++ fs)
@@ -108,21 +116,23 @@ both-printed [] fs a b = b
 both-printed (e ∷ es) fs a b = (a.0, both-printed es fs a.1 b)
 
 -- lines, and more of them
-and : {es fs : List Expression} {text more : List ℕ} → AreLines es text → AreLines fs more
+pub and : {es fs : List Expression} {text more : List ℕ} → AreLines es text → AreLines fs more
     → AreLines (es ++ fs) (text ++ more)
 and {es} {fs} {text} {more} first_lines others = record {
   lines = IsLinesText-append false true es fs text more first_lines.lines others.lines;
   printed = both-printed es fs first_lines.printed others.printed;
 }
 
-headed : (k : List ℕ) → IsBare k → AreLines ((([], k), array_table) ∷ []) (header k)
-headed k bare = one (([], k), array_table) (header k) (line-header k bare) (omega arith)
+headed : (path : List (List ℕ)) (k : List ℕ) → IsBare k → length path < 80
+    → AreLines (((path, k), array_table) ∷ []) (header (path_text path) k)
+headed path k bare shallow = one ((path, k), array_table) (header (path_text path) k) (line-header path k bare) shallow
 
-numbered : (k : List ℕ) (n : ℕ) → IsBare k → IsSmall n → AreLines (field_lines ((k, number n) ∷ [])) (number_line k n)
+pub numbered : (k : List ℕ) (n : ℕ) → IsBare k → IsSmall n
+    → AreLines (field_lines ((k, number n) ∷ [])) (number_line k n)
 numbered k n bare small =
     one (([], k), key_value (number n)) (number_line k n) (line-number k n bare small) (refl, omega arith, refl)
 
-worded : (k s : List ℕ) → IsBare k → IsWord s → AreLines (field_lines ((k, string s) ∷ [])) (text_line k s)
+pub worded : (k s : List ℕ) → IsBare k → IsWord s → AreLines (field_lines ((k, string s) ∷ [])) (text_line k s)
 worded k s bare word =
     one (([], k), key_value (string s)) (text_line k s) (line-text k s bare word) (refl, omega arith, refl)
 
@@ -136,18 +146,32 @@ name-word : (profile : ℕ) (s : SystemRow) → IsSystem profile s → IsWord s.
 unfolding is_name
 name-word profile s is = (and_parts _ _ is.name).1
 
-pub system-lines : (profile : ℕ) (s : SystemRow) → IsSystem profile s
-    → AreLines (table_lines (codes "system") (system_fields s)) (system_text s)
+-- a system, a link and a port entry stand in the table at a path
+pub system-lines : (path : List (List ℕ)) → length path < 80 → (profile : ℕ) (s : SystemRow) → IsSystem profile s
+    → AreLines (table_lines path (codes "system") (system_fields s)) (system_text (path_text path) s)
 unfolding system_text system_fields key_text
-system-lines profile s is =
+system-lines path shallow profile s is =
     let rate = rate-within profile s.rate is.rate in
     and (and (and (and (and
-    (headed (codes "system") refl)
+    (headed path (codes "system") refl shallow)
     (worded (codes "name") s.name refl (name-word profile s is)))
     (numbered (codes "port") s.port refl (omega (arith, is.port.1))))
     (numbered (codes "id") s.id refl (omega (arith, is.id.1))))
     (numbered (codes "partition") s.partition refl (omega (arith, is.partition.1))))
     (numbered (codes "rate") s.rate refl (omega (arith, rate.1)))
+
+pub neighbour-lines : (path : List (List ℕ)) → length path < 80 → (profile : ℕ) (e : SystemRow) → IsSystem profile e
+    → AreLines (table_lines path (codes "neighbour") (neighbour_fields e))
+    (header (path_text path) (codes "neighbour") ++ text_line (codes "name") e.name
+    ++ number_line (codes "port") e.port ++ number_line (codes "rate") e.rate)
+unfolding neighbour_fields key_text
+neighbour-lines path shallow profile e is =
+    let rate = rate-within profile e.rate is.rate in
+    and (and (and
+    (headed path (codes "neighbour") refl shallow)
+    (worded (codes "name") e.name refl (name-word profile e is)))
+    (numbered (codes "port") e.port refl (omega (arith, is.port.1))))
+    (numbered (codes "rate") e.rate refl (omega (arith, rate.1)))
 
 -- the names at places are words
 abbrev pub AreNamesWords : List SystemRow → Type 0
@@ -178,7 +202,8 @@ kind-word : (k : Kind) → IsWord (kind_word k)
 kind-word Sampling = refl
 kind-word Queuing = refl
 
-module _ (systems : List SystemRow) (words : AreNamesWords systems) (l : LinkRow) (is : IsLink (length systems) l) where
+module _ (systems : List SystemRow) (words : AreNamesWords systems) (l : LinkRow)
+    (is : IsLinkUpTo jitter_from_any (length systems) l) where
   way-lines : AreLines (field_lines (way_fields systems l)) (way_text systems l)
   unfolding key_text
   way-lines =
@@ -208,18 +233,21 @@ module _ (systems : List SystemRow) (words : AreNamesWords systems) (l : LinkRow
       (numbered (codes "skew_us") l.skew_us refl (omega (arith, is.skew_us.1))))
       (numbered (codes "subs") l.subs refl (omega (arith, is.subs.1)))
 
-  pub link-lines : AreLines (table_lines (codes "link") (link_fields systems l)) (link_text systems l)
+  pub link-lines : (path : List (List ℕ)) → length path < 80
+      → AreLines (table_lines path (codes "link") (link_fields systems l)) (link_text (path_text path) systems l)
   unfolding link_text link_fields key_text
-  link-lines = and (and (and (headed (codes "link") refl) way-lines) traffic-lines) treatment-lines
+  link-lines path shallow =
+      and (and (and (headed path (codes "link") refl shallow) way-lines) traffic-lines) treatment-lines
 
-pub port-lines : (systems : List SystemRow) (links : List LinkRow) (p : PortRow) → AreNamesWords systems
-    → AllByRecursion (IsLink (length systems)) links → IsPort (length systems) links p
-    → AreLines (table_lines (codes "port") (port_fields systems p)) (port_text systems p)
+pub port-lines : (path : List (List ℕ)) → length path < 80 → (systems : List SystemRow) (links : List LinkRow)
+    (p : PortRow) → AreNamesWords systems
+    → AllByRecursion (IsLinkUpTo jitter_from_any (length systems)) links → IsPort (length systems) links p
+    → AreLines (table_lines path (codes "port") (port_fields systems p)) (port_text (path_text path) systems p)
 unfolding port_text port_fields key_text
-port-lines systems links p words are is =
+port-lines path shallow systems links p words are is =
     let link = identifier-within (length systems) links p.link p.system are is.link in
     and (and (and (and (and
-    (headed (codes "port") refl)
+    (headed path (codes "port") refl shallow)
     (worded (codes "system") (name_at systems p.system) refl (words p.system is.system)))
     (numbered (codes "link") p.link refl (omega (arith, link.1))))
     (numbered (codes "udp") p.udp refl (omega (arith, is.udp.1))))
@@ -231,34 +259,54 @@ port-lines systems links p words are is =
     depth-small Queuing n within = omega (arith, within.1)
 
 -- the lines of some rows
-pub all-lines : {R : Type 0} (k : List ℕ) (fields : R → Fields) (text : R → List ℕ) (rows : List R) (P : R → Type 0)
-    → AllByRecursion P rows → ((r : R) → P r → AreLines (table_lines k (fields r)) (text r))
-    → AreLines (rows_lines k fields rows) (flat_map text rows)
-all-lines k fields text [] P are lines_of = record { lines = refl; printed = tt }
-all-lines k fields text (r ∷ rows) P are lines_of = and (lines_of r are.0)
-    (all-lines k fields text rows P are.1 lines_of)
+pub all-lines : {R : Type 0} (path : List (List ℕ)) (k : List ℕ) (fields : R → Fields) (text : R → List ℕ)
+    (rows : List R) (P : R → Type 0)
+    → AllByRecursion P rows → ((r : R) → P r → AreLines (table_lines path k (fields r)) (text r))
+    → AreLines (rows_lines path k fields rows) (flat_map text rows)
+all-lines path k fields text [] P are lines_of = no-lines
+all-lines path k fields text (r ∷ rows) P are lines_of =
+    and (lines_of r are.0) (all-lines path k fields text rows P are.1 lines_of)
+
+-- the tables of a switch, of which the neighbours are written in this text
+pub parts-lines : (path : List (List ℕ)) → length path < 80 → (profile : ℕ) (t : Parts) (neighbours : List ℕ)
+    → AllByRecursion (IsSystem profile) t.ends → AllByRecursion (IsSystem profile) t.systems
+    → AllByRecursion (IsLinkUpTo jitter_from_any (length t.ends)) t.links
+    → AllByRecursion (IsPort (length t.ends) t.links) t.ports
+    → AreLines (rows_lines path (codes "neighbour") neighbour_fields t.neighbours) neighbours
+    → AreLines (parts_lines path t)
+    (flat_map (system_text (path_text path)) t.systems ++ (neighbours
+    ++ (flat_map (link_text (path_text path) t.ends) t.links ++ flat_map (port_text (path_text path) t.ends) t.ports)))
+parts-lines path shallow profile t neighbours ends systems links ports written =
+    let words = names-words profile t.ends ends in
+    and (all-lines path (codes "system") system_fields (system_text (path_text path)) t.systems
+    (IsSystem profile) systems (system-lines path shallow profile))
+    (and written
+    (and (all-lines path (codes "link") (link_fields t.ends) (link_text (path_text path) t.ends) t.links
+    (IsLinkUpTo jitter_from_any (length t.ends)) links (λ l is. link-lines t.ends words l is path shallow))
+    (all-lines path (codes "port") (port_fields t.ends) (port_text (path_text path) t.ends) t.ports
+    (IsPort (length t.ends) t.links) ports (λ p is. port-lines path shallow t.ends t.links p words links is))))
 
 -- the text has just these lines, from its start
 pub record AreAllLines (es : List Expression) (text : List ℕ) : Type 0 where
   pub lines : IsLinesText false false es text
   pub printed : AllPrinted es
 
-pub config-lines : (t : Rows) → IsLawful t → AreAllLines (config_expressions t) (config_text t)
+-- a first line, and others
+pub all-from : (e : Expression) (es : List Expression) (this text : List ℕ)
+    → IsLineText false false e.0 e.1 this → IsPrinted e.0 e.1 → AreLines es text → AreAllLines (e ∷ es) (this ++ text)
+all-from e es this text line printed more =
+    record { lines = (this, text, refl, line, more.lines); printed = (printed, more.printed) }
+
+pub config-lines : (t : Rows) → IsLawful t
+    → AreAllLines (field_lines (top_fields t) ++ parts_lines [] (alone t)) (config_text t)
 unfolding top_fields key_text
 config-lines t lawful =
-    let words = names-words t.profile t.systems lawful.systems.each in
+    let is : IsLawfulSwitch t = among_others t lawful in
     let profile = line-number (codes "profile") t.profile refl (omega (arith, lawful.profile.1)) in
     let buffer = numbered (codes "buffer") t.buffer refl (omega (arith, lawful.buffer.1)) in
-    let systems = all-lines (codes "system") system_fields system_text t.systems
-    (IsSystem t.profile) lawful.systems.each
-    (system-lines t.profile) in
-    let links = all-lines (codes "link") (link_fields t.systems) (link_text t.systems) t.links
-    (IsLink (length t.systems))
-    lawful.links.each (link-lines t.systems words) in
-    let ports = all-lines (codes "port") (port_fields t.systems) (port_text t.systems) t.ports
-    (IsPort (length t.systems) t.links)
-    lawful.ports.each (λ p is. port-lines t.systems t.links p words lawful.links.each is) in
-    let rest = and buffer (and systems (and links ports)) in
+    let parts = parts-lines [] (omega arith) t.profile (alone t) [] is.systems.each is.systems.each is.links.each
+    is.ports.each no-lines in
+    let rest = and buffer parts in
     record {
       lines = (number_line (codes "profile") t.profile, _, simp append_assoc refl, profile, rest.lines);
       printed = ((refl, omega arith, refl), rest.printed);

@@ -1,6 +1,6 @@
 -- The tree of a lawful row reads as the row, after rows that differ from it.
 use Rattle.std.proofs.Common.{◌≡◌, ℕ, ◌+◌, ◌==◌, Bool, true, false, List, [], ◌∷◌, codes, length, map, Some, None, Ok, refl, arith, if◌then◌else◌}
-use Rattle.std.proofs.Common.{◌<◌, nat_eq, cond, subst, sym, inl, inr}
+use Rattle.std.proofs.Common.{◌<◌, ◌-◌, nat_eq, cond, subst, sym, ap, ◌∙◌, inl, inr}
 use Rattle.std.proofs.lemmas.Bool.{eqb-true, cases_lt, lt-ltb, le-ltb}
 use Rattle.std.proofs.lemmas.List.{length-map}
 use Rattle.std.specs.List.{AllByRecursion, find}
@@ -17,16 +17,17 @@ use Rattle.afdx_config.specs.declared.rows.Kind.{Kind}
 use Rattle.afdx_config.specs.declared.rows.Kind.TheVariants.{Sampling, Queuing}
 use Rattle.afdx_config.specs.Choices.{choice, all_kept}
 use Rattle.afdx_config.specs.Keys as keys
-use Rattle.afdx_config.specs.Keys.{top_keys, system_keys, link_keys, port_keys, whole, one_of, text, word, meaning, at_least, at_most}
-use Rattle.afdx_config.specs.Keys.{only, are_among, only_top_keys, only_system_keys, only_link_keys, only_port_keys}
-use Rattle.afdx_config.specs.Lawful.{IsSystem, IsLink, IsLinkUpTo, IsLinkAmong, IsPort, IsWithin, IsOneOf, jitter_from_any}
+use Rattle.afdx_config.specs.Keys.{system_keys, neighbour_keys, link_keys, port_keys, whole, one_of, text, word, meaning, at_least, at_most}
+use Rattle.afdx_config.specs.Keys.{only, are_among, only_system_keys, only_neighbour_keys, only_link_keys, only_port_keys}
+use Rattle.afdx_config.specs.Lawful.{IsSystem, HasNoNumber, IsLinkUpTo, IsLinkAmong, IsPort, IsWithin, IsOneOf, jitter_from_any}
 use Rattle.afdx_config.specs.Reading.{all_of, named, destinations, link_of, link_at, goes_to, has_port, socket_at, port_at}
 use Rattle.afdx_config.specs.Reading.{system_at, new_name, rates, system_named, system_at_port, has_id}
 use Rattle.afdx_config.specs.Reading.{traffic_at, treatment_at, deepest, greatest_jitter}
 use Rattle.afdx_config.specs.Rows.{SystemRow, LinkRow, PortRow, is_to}
+use Rattle.afdx_config.specs.Switches.{neighbour_at}
 use Rattle.afdx_solve.specs.ConfigText.{class_word, policing_word, kind_word, name_at}
 use Rattle.afdx_solve.proofs.KeyLemmas.{whole-reads, one_of-reads, text-reads, word-reads, texts-read}
-use Rattle.afdx_solve.proofs.TreeLemmas.{system_nodes, link_nodes, port_nodes}
+use Rattle.afdx_solve.proofs.TreeLemmas.{system_nodes, neighbour_nodes, link_nodes, port_nodes}
 
 -- ---- systems
 
@@ -84,6 +85,50 @@ module _ (profile : ℕ) (before : List SystemRow) (s : SystemRow) (is : IsSyste
   unfolding system_at
   system-reads new =
       rw (name-new new.name, port-read, new.port, id-read, new.id, partition-read, rate-read, only-read)
+
+-- ---- neighbours
+
+abbrev pub neighbour_tree : SystemRow → Members
+neighbour_tree e = close (neighbour_nodes e)
+
+no-number : (e : SystemRow) → HasNoNumber e → record e { id = 0; partition = 0 } ≡ e
+no-number e none =
+    ap (λ partition. record e { id = 0; partition = partition }) (sym none.1)
+    ∙ ap (λ id. record e { id = id }) (sym none.0)
+
+-- of the ends before, the first `own` are systems
+module _ (profile own : ℕ) (before : List SystemRow) (e : SystemRow) (is : IsSystem profile e) where
+  abbrev place : ℕ
+  place = length before - own + 1
+
+  neighbour-name : text (keys.neighbour_at place 1) (neighbour_tree e) ≡ Ok e.name
+  unfolding neighbour_nodes neighbour_keys
+  neighbour-name = text-reads (keys.neighbour_at place 1) (neighbour_tree e) e.name refl
+
+  neighbour-port : whole (keys.neighbour_at place 2) (neighbour_tree e) ≡ Ok e.port
+  unfolding neighbour_nodes neighbour_keys
+  neighbour-port = whole-reads (keys.neighbour_at place 2) (neighbour_tree e) e.port refl is.port
+
+  neighbour-rate : one_of (keys.neighbour_at place 3) (rates profile) (neighbour_tree e) ≡ Ok e.rate
+  unfolding neighbour_nodes neighbour_keys
+  neighbour-rate = one_of-reads (keys.neighbour_at place 3) (neighbour_tree e) (rates profile) e.rate
+      (whole-reads (keys.neighbour_at place 3) (neighbour_tree e) e.rate refl (rate-within profile e.rate is.rate))
+      is.rate
+
+  only-neighbour : only_neighbour_keys place (neighbour_tree e) ≡ Ok tt
+  unfolding neighbour_nodes neighbour_keys only_neighbour_keys only are_among
+  only-neighbour = refl
+
+  new-neighbour : system_named before e.name ≡ None
+      → new_name (keys.neighbour_at place 1) before (neighbour_tree e) ≡ Ok e.name
+  unfolding new_name
+  new-neighbour new = rw (neighbour-name, is.name, new)
+
+  pub neighbour-reads : system_named before e.name ≡ None → system_at_port before e.port ≡ None → HasNoNumber e
+      → neighbour_at profile own before (neighbour_tree e) ≡ Ok e
+  unfolding neighbour_at
+  neighbour-reads name port none =
+      rw (new-neighbour name, neighbour-port, port, neighbour-rate, only-neighbour) (ap Ok (no-number e none))
 
 -- ---- links
 
@@ -244,7 +289,8 @@ abbrev pub port_tree : List SystemRow → PortRow → Members
 port_tree systems p = close (port_nodes systems p)
 
 -- a link that goes somewhere has an identifier
-pub identifier-within : (n : ℕ) (links : List LinkRow) (vl system : ℕ) → AllByRecursion (IsLink n) links
+pub identifier-within : (n : ℕ) (links : List LinkRow) (vl system : ℕ)
+    → AllByRecursion (IsLinkUpTo jitter_from_any n) links
     → goes_to links vl system ≡ true → IsWithin 0 65535 vl
 unfolding goes_to
 identifier-within n [] vl system are there = absurd cc
@@ -258,55 +304,55 @@ identifier-within n (l ∷ links) vl system are there = by (nat_eq vl l.vl) refl
     by true same later there = subst (IsWithin 0 65535) (sym (eqb-true vl l.vl same)) are.0.vl
     by false other later there = later there
 
-module _ (systems : List SystemRow) (links : List LinkRow) (i : ℕ) (p : PortRow)
-    (is : IsPort (length systems) links p) where
-  at-system : AreNamed systems → named (keys.port_at i 1) systems (port_tree systems p) ≡ Ok p.system
+-- the ends have names, and those that have ports are the systems
+module _ (ends systems : List SystemRow) (links : List LinkRow) (i : ℕ) (p : PortRow)
+    (is : IsPort (length ends) links p) where
+  at-system : system_named systems (name_at ends p.system) ≡ Some p.system
+      → named (keys.port_at i 1) systems (port_tree ends p) ≡ Ok p.system
   unfolding port_nodes port_keys named
-  at-system named_back =
-      rw (
-        text-reads (keys.port_at i 1) (port_tree systems p)
-            (name_at systems p.system) refl,
-        named_back p.system is.system,
-      )
+  at-system named_back = rw (text-reads (keys.port_at i 1) (port_tree ends p) (name_at ends p.system) refl, named_back)
 
-  at-link : AllByRecursion (IsLink (length systems)) links → whole (keys.port_at i 2) (port_tree systems p) ≡ Ok p.link
+  at-link : AllByRecursion (IsLinkUpTo jitter_from_any (length ends)) links
+      → whole (keys.port_at i 2) (port_tree ends p) ≡ Ok p.link
   unfolding port_nodes port_keys
-  at-link are = whole-reads (keys.port_at i 2) (port_tree systems p) p.link refl
-      (identifier-within (length systems) links p.link p.system are is.link)
+  at-link are = whole-reads (keys.port_at i 2) (port_tree ends p) p.link refl
+      (identifier-within (length ends) links p.link p.system are is.link)
 
-  at-udp : whole (keys.port_at i 3) (port_tree systems p) ≡ Ok p.udp
+  at-udp : whole (keys.port_at i 3) (port_tree ends p) ≡ Ok p.udp
   unfolding port_nodes port_keys
-  at-udp = whole-reads (keys.port_at i 3) (port_tree systems p) p.udp refl is.udp
+  at-udp = whole-reads (keys.port_at i 3) (port_tree ends p) p.udp refl is.udp
 
-  at-kind : word (keys.port_at i 4) kind_words (port_tree systems p) ≡ Ok p.kind
+  at-kind : word (keys.port_at i 4) kind_words (port_tree ends p) ≡ Ok p.kind
   unfolding port_nodes port_keys
-  at-kind = word-reads (keys.port_at i 4) (port_tree systems p) kind_words
+  at-kind = word-reads (keys.port_at i 4) (port_tree ends p) kind_words
       (kind_word p.kind) p.kind refl (kind-means p.kind)
 
-  at-depth : whole (at_most (deepest p.kind) (keys.port_at i 5)) (port_tree systems p) ≡ Ok p.depth
+  at-depth : whole (at_most (deepest p.kind) (keys.port_at i 5)) (port_tree ends p) ≡ Ok p.depth
   unfolding port_nodes port_keys
-  at-depth = whole-reads (at_most (deepest p.kind) (keys.port_at i 5)) (port_tree systems p) p.depth refl is.depth
+  at-depth = whole-reads (at_most (deepest p.kind) (keys.port_at i 5)) (port_tree ends p) p.depth refl is.depth
 
-  only-port : only_port_keys i (port_tree systems p) ≡ Ok tt
+  only-port : only_port_keys i (port_tree ends p) ≡ Ok tt
   unfolding port_nodes port_keys only_port_keys only are_among
   only-port = refl
 
-  socket-reads : (before : List PortRow) → AllByRecursion (IsLink (length systems)) links → AreNamed systems
+  socket-reads : (before : List PortRow) → AllByRecursion (IsLinkUpTo jitter_from_any (length ends)) links
+      → system_named systems (name_at ends p.system) ≡ Some p.system
       → has_port before p.system p.link p.udp ≡ false
-      → socket_at (keys.port_at i) systems links before (port_tree systems p)
+      → socket_at (keys.port_at i) systems links before (port_tree ends p)
       ≡ Ok (record { system = record { 0 = p.system }; link = record { 0 = p.link }; udp = p.udp })
   unfolding socket_at
   socket-reads before are named_back new = rw (at-system named_back, at-link are, is.link, at-udp, new)
 
-pub port-reads : (systems : List SystemRow) (links : List LinkRow) (before : List PortRow) (p : PortRow)
-    → IsPort (length systems) links p → AllByRecursion (IsLink (length systems)) links → AreNamed systems
-    → has_port before p.system p.link p.udp ≡ false → port_at systems links before (port_tree systems p) ≡ Ok p
+pub port-reads : (ends systems : List SystemRow) (links : List LinkRow) (before : List PortRow) (p : PortRow)
+    → IsPort (length ends) links p → AllByRecursion (IsLinkUpTo jitter_from_any (length ends)) links
+    → system_named systems (name_at ends p.system) ≡ Some p.system
+    → has_port before p.system p.link p.udp ≡ false → port_at systems links before (port_tree ends p) ≡ Ok p
 unfolding port_at
-port-reads systems links before p is are named_back new =
+port-reads ends systems links before p is are named_back new =
     let i = length before + 1 in
     rw (
-      socket-reads systems links i p is before are named_back new,
-      at-kind systems links i p is,
-      at-depth systems links i p is,
-      only-port systems links i p is,
+      socket-reads ends systems links i p is before are named_back new,
+      at-kind ends systems links i p is,
+      at-depth ends systems links i p is,
+      only-port ends systems links i p is,
     )

@@ -1,30 +1,28 @@
 -- The tree of lawful tables reads as the tables.
-use Rattle.std.proofs.Common.{◌≡◌, suc, ◌+◌, Bool, true, false, not, cond, ◌||◌, List, [], ◌∷◌, ◌++◌}
-use Rattle.std.proofs.Common.{length, map, slice_get, position, Option, Some, None, Result, Ok, refl, sym, ap, ◌∙◌, subst}
+use Rattle.std.proofs.Common.{◌≡◌, ℕ, suc, ◌+◌, ◌<◌, Bool, true, false, not, cond, ◌||◌, List, [], ◌∷◌, ◌++◌}
+use Rattle.std.proofs.Common.{length, map, take, drop, slice_get, position, Some, None, Result, Ok, refl, sym, ap, ◌∙◌, subst}
+use Rattle.std.proofs.Common.{option_and_then}
 use Rattle.std.proofs.Common.{arith, append_assoc, append-nil, nat_eq, ◌&&◌, ◌==◌}
 use Rattle.std.specs.List.{list_any, position_or_len, AllByRecursion}
 use Rattle.std.specs.Str.{bytes_eq}
-use Rattle.std.proofs.lemmas.Bool.{or_parts, and_parts, eqb-true, le-ltb}
-use Rattle.std.proofs.lemmas.List.{length-map}
+use Rattle.std.proofs.lemmas.Bool.{or_parts, and_parts, eqb-true, lt-ltb, le-ltb}
+use Rattle.std.proofs.lemmas.List.{length-take-le, take-append-drop}
 use Rattle.std.proofs.lemmas.Slice.Eq.{bytes_eq-Decides}
 use Rattle.afdx_frame.proofs.ListLemmas.{AllByRecursion-slice_get, slice_get-within}
 use Rattle.toml.specs.Data.{Members}
-use Rattle.toml.specs.Tables.{Node, Nodes, close}
 use Rattle.afdx_config.specs.declared.fault.ConfigFault.{ConfigFault}
 use Rattle.afdx_config.specs.Choices.{all_kept}
-use Rattle.afdx_config.specs.Keys as keys
-use Rattle.afdx_config.specs.Keys.{Spot, top_keys, whole, tables, all_as, tables_or_none, only_top_keys, only, are_among}
-use Rattle.afdx_config.specs.Lawful.{IsLawful, IsLawfulSwitch, AreDistinct, IsSystem, IsLinkUpTo, IsLinkAmong, IsPort, triple, jitter_from_any}
-use Rattle.afdx_config.specs.Reading.{each, tables_at, system_at, link_at, port_at, system_named, system_at_port, has_id, link_of, has_port}
-use Rattle.afdx_config.specs.Rows.{SystemRow, LinkRow, PortRow, Rows, rows_with}
-use Rattle.afdx_config.proofs.AmongOthersLemmas.{among_others}
+use Rattle.afdx_config.specs.Lawful.{IsLawfulSwitch, AreDistinct, IsSystem, HasNoNumber, IsLinkUpTo, IsLinkAmong, IsPort}
+use Rattle.afdx_config.specs.Lawful.{triple, jitter_from_any}
+use Rattle.afdx_config.specs.Reading.{each, system_at, link_at, port_at, system_named, system_at_port, has_id, link_of, has_port}
+use Rattle.afdx_config.specs.Rows.{SystemRow, LinkRow, PortRow, Rows}
+use Rattle.afdx_config.specs.Switches.{neighbour_at}
 use Rattle.afdx_config.proofs.LookUpLemmas.{each_row-found}
+use Rattle.afdx_config.proofs.TakenLemmas.{below as below_or_none, named_take}
+use Rattle.afdx_solve.proofs.FrontLemmas.{front}
 use Rattle.afdx_solve.specs.ConfigText.{name_at}
-use Rattle.afdx_solve.proofs.KeyLemmas.{whole-reads, tables-read}
-use Rattle.afdx_solve.proofs.ReadRowLemmas.{IsNewSystem, AreNamed, system_tree, link_tree, port_tree, system-reads, link-reads, port-reads, choice-kept}
-use Rattle.afdx_solve.proofs.RunLemmas.{rows_node, rows-read}
-use Rattle.afdx_solve.proofs.TreeLemmas.{system_nodes, link_nodes, port_nodes}
-use Rattle.afdx_solve.proofs.TreeLemmas.{root, root-top, IsTop, top_nodes}
+use Rattle.afdx_solve.proofs.ReadRowLemmas.{IsNewSystem, AreNamed, system_tree, neighbour_tree, link_tree, port_tree}
+use Rattle.afdx_solve.proofs.ReadRowLemmas.{system-reads, neighbour-reads, link-reads, port-reads}
 
 -- ---- a row differs from those before it
 
@@ -64,42 +62,88 @@ not_found p rows none = rw (none-length p rows none, le-ltb (length rows) (lengt
 
 -- ---- the rows of each part
 
-each-reads : {R : Type 0} (row_at : List R → Members → Result R ConfigFault) (tree : R → Members) (all : List R)
-    → ((before after : List R) (r : R) → all ≡ before ++ r ∷ after → row_at before (tree r) ≡ Ok r)
-    → (before rest : List R) → all ≡ before ++ rest → each row_at before (map tree rest) ≡ Ok all
-each-reads row_at tree all reads before [] e = ap Ok (sym (e ∙ append-nil before))
-each-reads row_at tree all reads before (r ∷ rest) e =
-    rw (reads before rest r e)
-    (each-reads row_at tree all reads (before ++ r ∷ []) rest (e ∙ sym (append_assoc before (r ∷ []) rest)))
+-- each row that stands behind some reads back after those before it, if all have what it takes
+each-reads : {R : Type 0} (P : R → Type 0) (row_at : List R → Members → Result R ConfigFault) (tree : R → Members)
+    (all : List R)
+    → ((before after : List R) (r : R) → all ≡ before ++ r ∷ after → P r → row_at before (tree r) ≡ Ok r)
+    → (before rest : List R) → all ≡ before ++ rest → AllByRecursion P rest
+    → each row_at before (map tree rest) ≡ Ok all
+each-reads P row_at tree all reads before [] e are = ap Ok (sym (e ∙ append-nil before))
+each-reads P row_at tree all reads before (r ∷ rest) e are =
+    rw (reads before rest r e are.0)
+    (each-reads P row_at tree all reads (before ++ r ∷ []) rest (e ∙ sym (append_assoc before (r ∷ []) rest)) are.1)
 
 row-of : {R : Type 0} (P : R → Type 0) (all before after : List R) (r : R) → AllByRecursion P all
     → all ≡ before ++ r ∷ after → P r
 row-of P all before after r are e = AllByRecursion-slice_get P all (length before) r are (rw e (at-end before after r))
 
-module _ (t : Rows) (lawful : IsLawful t) where
-  pub systems-named : AreNamed t.systems
+-- a row among the first is one among all
+in-all : {R : Type 0} (n : ℕ) (all before after : List R) (r : R) → take n all ≡ before ++ r ∷ after
+    → all ≡ before ++ r ∷ (after ++ drop n all)
+in-all n all before after r e =
+    sym (take-append-drop n all) ∙ ap (λ rows. rows ++ drop n all) e ∙ append_assoc before (r ∷ after) (drop n all)
+
+module _ (t : Rows) (lawful : IsLawfulSwitch t) where
+  abbrev pub own_rows : List SystemRow
+  own_rows = take t.own t.systems
+
+  abbrev pub neighbour_rows : List SystemRow
+  neighbour_rows = drop t.own t.systems
+
+  pub own-count : length own_rows ≡ t.own
+  own-count = length-take-le t.own t.systems lawful.own
+
+  pub ends-named : AreNamed t.systems
   unfolding name_at
-  systems-named i within =
+  ends-named i within =
       let (s, at) = slice_get-within t.systems i within in
-      rw at ((each_row-found t (among_others t lawful)).by_name i s at)
+      rw at ((each_row-found t lawful).by_name i s at)
 
-  system-new : (before after : List SystemRow) (s : SystemRow) → t.systems ≡ before ++ s ∷ after → IsNewSystem before s
-  unfolding system_named system_at_port has_id
-  system-new before after s e = record {
-    name = not_found (λ r. bytes_eq s.name r.name) before
-        (fresh (λ r. r.name) (λ r. bytes_eq s.name r.name) before after s
-        (subst (AreDistinct (λ r. r.name)) e lawful.systems.names) (λ r h. sym ((bytes_eq-Decides s.name r.name).0 h)));
-    port = not_found (λ r. r.port == s.port) before (fresh (λ r. r.port) (λ r. r.port == s.port) before after s
-        (subst (AreDistinct (λ r. r.port)) e lawful.systems.ports) (λ r h. eqb-true r.port s.port h));
-    id = fresh (λ r. r.id) (λ r. r.id == s.id) before after s
-        (subst (AreDistinct (λ r. r.id)) e lawful.systems.ids) (λ r h. eqb-true r.id s.id h);
-  }
+  -- a system's name stands for it among the systems alone
+  own-named : (i : ℕ) → i < t.own → system_named own_rows (name_at t.systems i) ≡ Some i
+  own-named i below =
+      named_take t.own t.systems (name_at t.systems i)
+      ∙ ap (option_and_then (below_or_none t.own)) (ends-named i (omega (arith, below, lawful.own)))
+      ∙ rw (lt-ltb i t.own below) refl
 
-  systems-read : each (system_at t.profile) [] (map system_tree t.systems) ≡ Ok t.systems
-  systems-read = each-reads (system_at t.profile) system_tree t.systems
-      (λ before after s e. system-reads t.profile before s
-      (row-of (IsSystem t.profile) t.systems before after s lawful.systems.each e)
-      (system-new before after s e)) [] t.systems refl
+  -- no end before has its name or its port
+  new-name : (before after : List SystemRow) (s : SystemRow) → t.systems ≡ before ++ s ∷ after
+      → system_named before s.name ≡ None
+  unfolding system_named
+  new-name before after s e = not_found (λ r. bytes_eq s.name r.name) before
+      (fresh (λ r. r.name) (λ r. bytes_eq s.name r.name) before after s
+      (subst (AreDistinct (λ r. r.name)) e lawful.systems.names) (λ r h. sym ((bytes_eq-Decides s.name r.name).0 h)))
+
+  new-port : (before after : List SystemRow) (s : SystemRow) → t.systems ≡ before ++ s ∷ after
+      → system_at_port before s.port ≡ None
+  unfolding system_at_port
+  new-port before after s e = not_found (λ r. r.port == s.port) before
+      (fresh (λ r. r.port) (λ r. r.port == s.port) before after s
+      (subst (AreDistinct (λ r. r.port)) e lawful.systems.ports) (λ r h. eqb-true r.port s.port h))
+
+  system-new : (before after : List SystemRow) (s : SystemRow) → own_rows ≡ before ++ s ∷ after → IsNewSystem before s
+  unfolding has_id
+  system-new before after s e =
+      let among = in-all t.own t.systems before after s e in
+      record {
+        name = new-name before (after ++ neighbour_rows) s among;
+        port = new-port before (after ++ neighbour_rows) s among;
+        id = fresh (λ r. r.id) (λ r. r.id == s.id) before after s
+            (subst (AreDistinct (λ r. r.id)) e lawful.systems.ids) (λ r h. eqb-true r.id s.id h);
+      }
+
+  pub systems-read : each (system_at t.profile) [] (map system_tree own_rows) ≡ Ok own_rows
+  systems-read = each-reads (IsSystem t.profile) (system_at t.profile) system_tree own_rows
+      (λ before after s e is. system-reads t.profile before s is (system-new before after s e)) [] own_rows refl
+      (front (IsSystem t.profile) t.own t.systems lawful.systems.each)
+
+  pub neighbours-read : (own : ℕ)
+      → each (neighbour_at t.profile own) own_rows (map neighbour_tree neighbour_rows) ≡ Ok t.systems
+  neighbours-read own = each-reads HasNoNumber (neighbour_at t.profile own) neighbour_tree t.systems
+      (λ before after e is none. neighbour-reads t.profile own before e
+      (row-of (IsSystem t.profile) t.systems before after e lawful.systems.each is)
+      (new-name before after e is) (new-port before after e is) none)
+      own_rows neighbour_rows (sym (take-append-drop t.own t.systems)) lawful.systems.neighbours
 
   link-new : (before after : List LinkRow) (l : LinkRow) → t.links ≡ before ++ l ∷ after → link_of before l.vl ≡ None
   unfolding link_of
@@ -108,20 +152,20 @@ module _ (t : Rows) (lawful : IsLawful t) where
       (subst (AreDistinct (λ r. r.vl)) e lawful.links.identifiers) (λ r h. sym (eqb-true l.vl r.vl h)))
 
   -- each may have its jitter
-  link-among : (before after : List LinkRow) (l : LinkRow) → t.links ≡ before ++ l ∷ after
-      → IsLinkAmong (length t.systems) (length t.systems) l
-  link-among before after l e =
-      let is : IsLawfulSwitch t = among_others t lawful in
-      record {
-        link = row-of (IsLinkUpTo jitter_from_any (length t.systems)) t.links before after l is.links.each e;
-        sent = λ from. is.sent (length before) l (rw e (at-end before after l)) (rw lawful.own from);
-      }
+  link-among : (own : ℕ) → own ≡ t.own → (before after : List LinkRow) (l : LinkRow) → t.links ≡ before ++ l ∷ after
+      → IsLinkUpTo jitter_from_any (length t.systems) l → IsLinkAmong own (length t.systems) l
+  link-among own same before after l e is = record {
+    link = is;
+    sent = λ from. lawful.sent (length before) l (rw e (at-end before after l)) (rw (← same) from);
+  }
 
-  links-read : each (link_at all_kept (length t.systems) t.systems) [] (map (link_tree t.systems) t.links) ≡ Ok t.links
-  links-read = each-reads (link_at all_kept (length t.systems) t.systems) (link_tree t.systems) t.links
-      (λ before after l e. link-reads (length t.systems) t.systems before l (link-among before after l e) systems-named
+  pub links-read : (own : ℕ) → own ≡ t.own
+      → each (link_at all_kept own t.systems) [] (map (link_tree t.systems) t.links) ≡ Ok t.links
+  links-read own same = each-reads (IsLinkUpTo jitter_from_any (length t.systems))
+      (link_at all_kept own t.systems) (link_tree t.systems) t.links
+      (λ before after l e is. link-reads own t.systems before l (link-among own same before after l e is) ends-named
       (link-new before after l e))
-      [] t.links refl
+      [] t.links refl lawful.links.each
 
   same-triple : (p r : PortRow) → ((nat_eq r.system p.system && nat_eq r.link p.link) && nat_eq
       r.udp p.udp) ≡ true → triple r ≡ triple p
@@ -137,84 +181,8 @@ module _ (t : Rows) (lawful : IsLawful t) where
       fresh triple (λ r. (nat_eq r.system p.system && nat_eq r.link p.link) && nat_eq r.udp p.udp) before after p
       (subst (AreDistinct triple) e lawful.ports.triples) (same-triple p)
 
-  ports-read : each (port_at t.systems t.links) [] (map (port_tree t.systems) t.ports) ≡ Ok t.ports
-  ports-read = each-reads (port_at t.systems t.links) (port_tree t.systems) t.ports
-      (λ before after p e. port-reads t.systems t.links before p
-      (row-of (IsPort (length t.systems) t.links) t.ports before after p lawful.ports.each e)
-      lawful.links.each systems-named
-      (port-new before after p e)) [] t.ports refl
-
--- ---- the top
-
-abbrev pub systems_node : Rows → Option Node
-systems_node t = rows_node system_nodes t.systems
-
-abbrev pub links_node : Rows → Option Node
-links_node t = rows_node (link_nodes t.systems) t.links
-
-abbrev pub ports_node : Rows → Option Node
-ports_node t = rows_node (port_nodes t.systems) t.ports
-
-only-top : (t : Rows) (s l p : Option Node) → only_top_keys (close (root t s l p)) ≡ Ok tt
-unfolding root top_nodes top_keys only_top_keys only are_among
-only-top t None None None = refl
-only-top t None None (Some z) = refl
-only-top t None (Some y) None = refl
-only-top t None (Some y) (Some z) = refl
-only-top t (Some x) None None = refl
-only-top t (Some x) None (Some z) = refl
-only-top t (Some x) (Some y) None = refl
-only-top t (Some x) (Some y) (Some z) = refl
-
-module _ (t : Rows) (lawful : IsLawful t) (tree : Members)
-    (is : IsTop t (systems_node t) (links_node t) (ports_node t) tree) where
-  profile-read : whole (keys.top_at 1) tree ≡ Ok t.profile
-  unfolding top_keys
-  profile-read = whole-reads (keys.top_at 1) tree t.profile is.profile lawful.profile
-
-  buffer-read : whole (keys.top_at 2) tree ≡ Ok t.buffer
-  unfolding top_keys
-  buffer-read = whole-reads (keys.top_at 2) tree t.buffer is.buffer lawful.buffer
-
-  system-tables : tables (keys.top_at 3) tree ≡ Ok (map system_tree t.systems)
-  unfolding top_keys
-  system-tables = tables-read (keys.top_at 3) tree (map system_tree t.systems)
-      (rw is.systems_at (rows-read system_nodes (keys.top_at 3).place t.systems))
-      (rw (length-map t.systems system_tree) lawful.systems.count)
-
-  link-tables : tables (keys.top_at 4) tree ≡ Ok (map (link_tree t.systems) t.links)
-  unfolding top_keys
-  link-tables = tables-read (keys.top_at 4) tree (map (link_tree t.systems) t.links)
-      (rw is.links_at (rows-read (link_nodes t.systems) (keys.top_at 4).place t.links))
-      (rw (length-map t.links (link_tree t.systems)) lawful.links.count)
-
-  port-tables : tables (keys.top_at 5) tree ≡ Ok (map (port_tree t.systems) t.ports)
-  unfolding top_keys
-  port-tables = tables-read (keys.top_at 5) tree (map (port_tree t.systems) t.ports)
-      (rw is.ports_at (rows-read (port_nodes t.systems) (keys.top_at 5).place t.ports))
-      (rw (length-map t.ports (port_tree t.systems)) lawful.ports.count)
-
-  tables-read-with : only_top_keys tree ≡ Ok tt → tables_at all_kept tree ≡ Ok t
-  unfolding tables_at
-  tables-read-with only_known =
-      rw (
-        profile-read,
-        choice-kept (keys.top_at 2) tree,
-        buffer-read,
-        system-tables,
-        link-tables,
-        port-tables,
-        only_known,
-        systems-read t lawful,
-        links-read t lawful,
-        ports-read t lawful,
-      ) (ap (λ n. Ok (rows_with t.profile t.buffer n t.systems t.links t.ports)) (sym lawful.own))
-
--- the tree of lawful tables, which the text has
-abbrev pub tables_root : Rows → Nodes
-tables_root t = root t (systems_node t) (links_node t) (ports_node t)
-
-pub tree-reads : (t : Rows) → IsLawful t → tables_at all_kept (close (tables_root t)) ≡ Ok t
-tree-reads t lawful = tables-read-with t lawful (close (tables_root t))
-    (root-top t (systems_node t) (links_node t) (ports_node t))
-    (only-top t (systems_node t) (links_node t) (ports_node t))
+  pub ports-read : each (port_at own_rows t.links) [] (map (port_tree t.systems) t.ports) ≡ Ok t.ports
+  ports-read = each-reads (IsPort (length t.systems) t.links) (port_at own_rows t.links) (port_tree t.systems) t.ports
+      (λ before after p e is. port-reads t.systems own_rows t.links before p is lawful.links.each
+      (own-named p.system (lawful.heard (length before) p (rw e (at-end before after p))))
+      (port-new before after p e)) [] t.ports refl lawful.ports.each

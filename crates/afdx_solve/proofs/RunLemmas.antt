@@ -1,15 +1,16 @@
 -- What the lines of some tables, under one header, do to the nodes of a TOML document.
-use Rattle.std.proofs.Common.{◌≡◌, ℕ, List, [], ◌∷◌, map, Option, Some, None, option_map, option_and_then, refl, sym, ap, ◌∙◌}
+use Rattle.std.proofs.Common.{◌≡◌, ℕ, List, [], ◌∷◌, ◌++◌, map, Option, Some, None, option_map, option_and_then, refl, ap, ◌∙◌}
 use Rattle.std.specs.List.{flat_map}
 use Rattle.toml.specs.Data.{Data, array, table, Items, no_items, item, push_item}
-use Rattle.toml.specs.Tables.{Node, Nodes, no_nodes, open_array, close, close_node, Edit, Expression, key_value, array_table, get_node, insert, replace, put, define, along_header, at_key}
+use Rattle.toml.specs.Tables.{Node, Nodes, no_nodes, open_array, close, close_node, Edit, Definition, Document, Expression, key_value}
+use Rattle.toml.specs.Tables.{std_table, array_table, get_node, insert, replace, put, define, along_header, at_key}
 use Rattle.std.proofs.Common.{Ok}
 use Rattle.toml.specs.Data.{as_table}
 use Rattle.afdx_config.specs.declared.fault.Place.{Place}
 use Rattle.afdx_config.specs.Keys.{all_as, tables_or_none}
-use Rattle.toml.proofs.NodeLaws.{keep, seq, get_node-insert, replace-insert, along_found, along_seq}
+use Rattle.toml.proofs.NodeLaws.{keep, seq, get_node-insert, replace-insert, along_found}
 use Rattle.toml.proofs.ReadLines.{run}
-use Rattle.toml.proofs.Fill.{Exists, Exists-after, run-append}
+use Rattle.toml.proofs.Fill.{run-append}
 use Rattle.toml.proofs.ReadValues.{item_join, item_join-push}
 
 -- the members of a table in the order of its lines
@@ -24,67 +25,130 @@ unfoldable pub put_all : Fields → Edit
 put_all [] = keep
 put_all (f ∷ fs) = seq (put ([], f.0) f.1) (put_all fs)
 
--- the lines of a table of an array
-abbrev pub table_lines : List ℕ → Fields → List Expression
-table_lines k fields = (([], k), array_table) ∷ field_lines fields
-
-fields-step : (fs : Fields) (p : List (List ℕ)) (f : List ℕ × Data) (root : Nodes) (o : Option Nodes)
-    → o ≡ along_header p (put ([], f.0) f.1) root
-    → ((r : Nodes) → Exists p r → run (r, p) (field_lines fs) ≡ option_map (λ x. (x, p))
-    (along_header p (put_all fs) r))
-    → option_and_then (λ next. run next (field_lines fs)) (option_map (λ r. (r, p)) o)
-    ≡ option_map (λ x. (x, p)) (option_and_then (along_header p (put_all fs)) o)
-fields-step fs p f root None e ih = refl
-fields-step fs p f root (Some r) e ih = ih r (Exists-after p (put ([], f.0) f.1) root r (sym e))
-
--- what the members' lines do, in the table at a path
-pub run-fields : (fs : Fields) (p : List (List ℕ)) (root : Nodes) → Exists p root
-    → run (root, p) (field_lines fs) ≡ option_map (λ r. (r, p)) (along_header p (put_all fs) root)
-unfolding define put_all
-run-fields [] p root there = rw there
-run-fields (f ∷ fs) p root there =
-    rw (along_seq p (put ([], f.0) f.1) (put_all fs) root)
-    (fields-step fs p f root (along_header p (put ([], f.0) f.1) root) refl
-    (λ r there_now. run-fields fs p r there_now))
-
--- in the newest table of an array
-last-fields : (k : List ℕ) (fs : Fields) (done : Items) (n : Nodes) (root : Nodes) → put_all fs no_nodes ≡ Some n
-    → run (insert k (open_array done no_nodes) root, k ∷ []) (field_lines fs)
-    ≡ Some (insert k (open_array done n) root, k ∷ [])
-unfolding along_header
-last-fields k fs done n root made =
-    let x = open_array done no_nodes in
-    let start = insert k x root in
-    let found = get_node-insert k x root in
-    let stays : Exists (k ∷ []) start =
-    along_found k [] keep start x found ∙ ap Some (replace-insert k x x root) in
-    run-fields fs (k ∷ []) start stays
-    ∙ ap (option_map (λ r. (r, k ∷ []))) (along_found k [] (put_all fs) start x found
-    ∙ ap (λ (o : Option Nodes). option_map (λ new. replace k new start) (option_map (open_array done) o)) made
-    ∙ ap Some (replace-insert k x (open_array done n) root))
-
--- the first table of an array
-pub first-table : (k : List ℕ) (fs : Fields) (n root : Nodes) (p : List (List ℕ)) → get_node k root ≡ None
-    → put_all fs no_nodes ≡ Some n
-    → run (root, p) (table_lines k fs) ≡ Some (insert k (open_array no_items n) root, k ∷ [])
-unfolding define along_header at_key
-first-table k fs n root p none made = rw none (last-fields k fs no_items n root made)
-
--- one table more
-pub next-table : (k : List ℕ) (fs : Fields) (done : Items) (last n root : Nodes) (p : List (List ℕ))
-    → put_all fs no_nodes ≡ Some n
-    → run (insert k (open_array done last) root, p) (table_lines k fs)
-    ≡ Some (insert k (open_array (push_item done (table (close last))) n) root, k ∷ [])
-unfolding define along_header at_key
-next-table k fs done last n root p made =
-    let x = open_array done last in
-    let y = open_array (push_item done (table (close last))) no_nodes in
-    rw (get_node-insert k x root, replace-insert k x y root)
-    (last-fields k fs (push_item done (table (close last))) n root made)
+-- the lines of a table of an array, which is in the table at a path
+abbrev pub table_lines : (path : List (List ℕ)) → List ℕ → Fields → List Expression
+table_lines path k fields = ((path, k), array_table) ∷ field_lines fields
 
 -- the lines of some rows
-abbrev pub rows_lines : {R : Type 0} → List ℕ → (R → Fields) → List R → List Expression
-rows_lines k fields rs = flat_map (λ r. table_lines k (fields r)) rs
+abbrev pub rows_lines : {R : Type 0} → (path : List (List ℕ)) → List ℕ → (R → Fields) → List R → List Expression
+rows_lines path k fields rs = flat_map (λ r. table_lines path k (fields r)) rs
+
+fields-step : (fs : Fields) (o : Option Nodes)
+    → ((r : Nodes) → run (r, []) (field_lines fs) ≡ option_map (λ x. (x, [])) (put_all fs r))
+    → option_and_then (λ next. run next (field_lines fs)) (option_map (λ r. (r, [])) o)
+    ≡ option_map (λ x. (x, [])) (option_and_then (put_all fs) o)
+fields-step fs None ih = refl
+fields-step fs (Some r) ih = ih r
+
+-- what the members' lines do
+pub run-fields : (fs : Fields) (root : Nodes)
+    → run (root, []) (field_lines fs) ≡ option_map (λ r. (r, [])) (put_all fs root)
+unfolding define along_header put_all
+run-fields [] root = refl
+run-fields (f ∷ fs) root = fields-step fs (put ([], f.0) f.1 root) (λ r. run-fields fs r)
+
+-- ---- the lines of a document, in a table of an array
+
+-- a key by its path, and a line below another key
+abbrev Name : Type 0
+Name = List (List ℕ) × List ℕ
+
+abbrev under_as : List ℕ → Name → Definition → Expression
+under_as k key (key_value d) = (key, key_value d)
+under_as k key std_table = ((k ∷ key.0, key.1), std_table)
+under_as k key array_table = ((k ∷ key.0, key.1), array_table)
+
+abbrev pub under : List ℕ → List Expression → List Expression
+under k es = map (λ e. under_as k e.0 e.1) es
+
+pub under-append : (k : List ℕ) (es fs : List Expression) → under k (es ++ fs) ≡ under k es ++ under k fs
+under-append k [] fs = refl
+under-append k (e ∷ es) fs = rw (under-append k es fs)
+
+pub under-fields : (k : List ℕ) (fs : Fields) → under k (field_lines fs) ≡ field_lines fs
+under-fields k [] = refl
+under-fields k (f ∷ fs) = rw (under-fields k fs)
+
+pub under-rows : {R : Type 0} (k j : List ℕ) (path : List (List ℕ)) (fields : R → Fields) (rs : List R)
+    → under k (rows_lines path j fields rs) ≡ rows_lines (k ∷ path) j fields rs
+under-rows k j path fields [] = refl
+under-rows k j path fields (r ∷ rs) =
+    rw (
+      under-append k (table_lines path j (fields r)) (rows_lines path j fields rs),
+      under-fields k (fields r),
+      under-rows k j path fields rs,
+    )
+
+-- a document in the newest table of an array
+abbrev inside : List ℕ → Items → Nodes → Document → Document
+inside k done root doc = (insert k (open_array done doc.0) root, k ∷ doc.1)
+
+module _ (k : List ℕ) (done : Items) (root : Nodes) where
+  -- an edit there
+  along-inside : (p : List (List ℕ)) (e : Edit) (ns : Nodes)
+      → along_header (k ∷ p) e (insert k (open_array done ns) root)
+      ≡ option_map (λ new. insert k (open_array done new) root) (along_header p e ns)
+  along-inside p e ns =
+      let x = open_array done ns in
+      along_found k p e (insert k x root) x (get_node-insert k x root) ∙ by (along_header p e ns)
+    where
+      by : (o : Option Nodes)
+          → option_map (λ new. replace k new (insert k (open_array done ns) root)) (option_map (open_array done) o)
+          ≡ option_map (λ new. insert k (open_array done new) root) o
+      by None = refl
+      by (Some y) = ap Some (replace-insert k (open_array done ns) (open_array done y) root)
+
+  mapped : (q : List (List ℕ)) (o : Option Nodes)
+      → option_map (λ r. (r, k ∷ q)) (option_map (λ new. insert k (open_array done new) root) o)
+      ≡ option_map (inside k done root) (option_map (λ r. (r, q)) o)
+  mapped q None = refl
+  mapped q (Some r) = refl
+
+  define-inside : (doc : Document) (key : Name) (what : Definition)
+      → define (inside k done root doc) (under_as k key what) ≡ option_map (inside k done root) (define doc (key, what))
+  unfolding define
+  define-inside doc key (key_value d) = rw (along-inside doc.1 (put key d) doc.0) (mapped doc.1 _)
+  define-inside doc key std_table =
+      rw (along-inside key.0 (at_key key.1 std_table) doc.0) (mapped (key.0 ++ key.1 ∷ []) _)
+  define-inside doc key array_table =
+      rw (along-inside key.0 (at_key key.1 array_table) doc.0) (mapped (key.0 ++ key.1 ∷ []) _)
+
+  run-inside : (es : List Expression) (doc : Document)
+      → run (inside k done root doc) (under k es) ≡ option_map (inside k done root) (run doc es)
+  run-inside [] doc = refl
+  run-inside (e ∷ es) doc = rw (define-inside doc e.0 e.1) (by (define doc e) (λ next. run-inside es next))
+    where
+      by : (o : Option Document)
+          → ((next : Document)
+          → run (inside k done root next) (under k es) ≡ option_map (inside k done root) (run next es))
+          → option_and_then (λ next. run next (under k es)) (option_map (inside k done root) o)
+          ≡ option_map (inside k done root) (option_and_then (λ next. run next es) o)
+      by None later = refl
+      by (Some next) later = later next
+
+-- the lines of a document, as those of a table of an array
+abbrev pub element_lines : List ℕ → List Expression → List Expression
+element_lines k es = (([], k), array_table) ∷ under k es
+
+-- the first table of an array
+first-table : (k : List ℕ) (es : List Expression) (made : Document) (root : Nodes) (p : List (List ℕ))
+    → get_node k root ≡ None → run (no_nodes, []) es ≡ Some made
+    → run (root, p) (element_lines k es) ≡ Some (inside k no_items root made)
+unfolding define along_header at_key
+first-table k es made root p none ran =
+    rw none (run-inside k no_items root es (no_nodes, []) ∙ ap (option_map (inside k no_items root)) ran)
+
+-- one table more
+next-table : (k : List ℕ) (es : List Expression) (made : Document) (done : Items) (last root : Nodes)
+    (p : List (List ℕ)) → run (no_nodes, []) es ≡ Some made
+    → run (insert k (open_array done last) root, p) (element_lines k es)
+    ≡ Some (inside k (push_item done (table (close last))) root made)
+unfolding define along_header at_key
+next-table k es made done last root p ran =
+    let x = open_array done last in
+    let more = push_item done (table (close last)) in
+    rw (get_node-insert k x root, replace-insert k x (open_array more no_nodes) root)
+    (run-inside k more root es (no_nodes, []) ∙ ap (option_map (inside k more root)) ran)
 
 -- with an array, if there is one
 abbrev pub with_node : List ℕ → Option Node → Nodes → Nodes
@@ -131,28 +195,51 @@ module _ {R : Type 0} (nodes : R → Nodes) where
       all-tables [] = refl
       all-tables (r ∷ rs) = rw (all-tables rs)
 
-module _ {R : Type 0} (k : List ℕ) (fields : R → Fields) (nodes : R → Nodes)
-    (made : (r : R) → put_all (fields r) no_nodes ≡ Some (nodes r)) where
+-- rows whose lines make a document of their own
+module _ {R : Type 0} (k : List ℕ) (lines : R → List Expression) (nodes : R → Nodes)
+    (made : (r : R) → (q : List (List ℕ)) × (run (no_nodes, []) (lines r) ≡ Some (nodes r, q))) where
+  abbrev pub all_elements : List R → List Expression
+  all_elements rs = flat_map (λ r. element_lines k (lines r)) rs
+
   more-rows : (rs : List R) (done : Items) (last root : Nodes) (p : List (List ℕ))
-      → (q : List (List ℕ)) × (run (insert k (open_array done last) root, p) (rows_lines k fields rs)
+      → (q : List (List ℕ)) × (run (insert k (open_array done last) root, p) (all_elements rs)
       ≡ Some (insert k (array_after nodes done last rs) root, q))
   more-rows [] done last root p = (p, refl)
   more-rows (r ∷ rs) done last root p =
-      let next = next-table k (fields r) done last (nodes r) root p (made r) in
-      let (q, rest) = more-rows rs (push_item done (table (close last))) (nodes r) root (k ∷ []) in (
+      let (at, ran) = made r in
+      let next = next-table k (lines r) (nodes r, at) done last root p ran in
+      let (q, rest) = more-rows rs (push_item done (table (close last))) (nodes r) root (k ∷ at) in (
         q,
-        run-append _ (table_lines k (fields r)) (rows_lines k fields rs)
-            ∙ ap (option_and_then (λ d. run d (rows_lines k fields rs))) next ∙ rest,
+        run-append _ (element_lines k (lines r)) (all_elements rs)
+            ∙ ap (option_and_then (λ d. run d (all_elements rs))) next ∙ rest,
       )
 
   -- what the lines of all rows do
-  pub rows-run : (rs : List R) (root : Nodes) (p : List (List ℕ)) → get_node k root ≡ None
-      → (q : List (List ℕ)) × (run (root, p) (rows_lines k fields rs) ≡ Some (with_node k (rows_node nodes rs) root, q))
-  rows-run [] root p none = (p, refl)
-  rows-run (r ∷ rs) root p none =
-      let start = first-table k (fields r) (nodes r) root p none (made r) in
-      let (q, rest) = more-rows rs no_items (nodes r) root (k ∷ []) in (
+  pub elements-run : (rs : List R) (root : Nodes) (p : List (List ℕ)) → get_node k root ≡ None
+      → (q : List (List ℕ)) × (run (root, p) (all_elements rs) ≡ Some (with_node k (rows_node nodes rs) root, q))
+  elements-run [] root p none = (p, refl)
+  elements-run (r ∷ rs) root p none =
+      let (at, ran) = made r in
+      let start = first-table k (lines r) (nodes r, at) root p none ran in
+      let (q, rest) = more-rows rs no_items (nodes r) root (k ∷ at) in (
         q,
-        run-append _ (table_lines k (fields r)) (rows_lines k fields rs)
-            ∙ ap (option_and_then (λ d. run d (rows_lines k fields rs))) start ∙ rest,
+        run-append _ (element_lines k (lines r)) (all_elements rs)
+            ∙ ap (option_and_then (λ d. run d (all_elements rs))) start ∙ rest,
       )
+
+-- rows that have members alone
+module _ {R : Type 0} (k : List ℕ) (fields : R → Fields) (nodes : R → Nodes)
+    (made : (r : R) → put_all (fields r) no_nodes ≡ Some (nodes r)) where
+  fields-made : (r : R) → run (no_nodes, []) (field_lines (fields r)) ≡ Some (nodes r, [])
+  fields-made r = run-fields (fields r) no_nodes ∙ ap (option_map (λ x. (x, []))) (made r)
+
+  as-elements : (rs : List R) → rows_lines [] k fields rs ≡ flat_map (λ r. element_lines k (field_lines (fields r))) rs
+  as-elements [] = refl
+  as-elements (r ∷ rs) = rw (under-fields k (fields r), as-elements rs)
+
+  pub rows-run : (rs : List R) (root : Nodes) (p : List (List ℕ)) → get_node k root ≡ None
+      → (q : List (List ℕ))
+      × (run (root, p) (rows_lines [] k fields rs) ≡ Some (with_node k (rows_node nodes rs) root, q))
+  rows-run rs root p none =
+      rw (as-elements rs)
+      (elements-run k (λ r. field_lines (fields r)) nodes (λ r. ([], fields-made r)) rs root p none)

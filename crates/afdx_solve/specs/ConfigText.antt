@@ -33,9 +33,10 @@ text_line key s = key ++ codes " = " ++ in_quotes s ++ codes "\n"
 unfoldable pub texts_line : List ℕ → List (List ℕ) → List ℕ
 texts_line key texts = key ++ codes " = [" ++ listed texts ++ codes "]\n"
 
--- the empty line before a table, and its header
-unfoldable pub header : List ℕ → List ℕ
-header key = codes "\n[[" ++ key ++ codes "]]\n"
+-- The empty line before a table, and its header. The key is `above` and its own: nothing stands
+-- above it at the top of a file, and `switch.` in a switch of several.
+unfoldable pub header : (above key : List ℕ) → List ℕ
+header above key = codes "\n[[" ++ above ++ key ++ codes "]]\n"
 
 -- ---- words
 
@@ -60,9 +61,9 @@ name_at systems i = option_map_or (λ s. s.name) (slice_get systems i) []
 abbrev pub top_text : Rows → List ℕ
 top_text t = number_line (codes "profile") t.profile ++ number_line (codes "buffer") t.buffer
 
-unfoldable pub system_text : SystemRow → List ℕ
-system_text s =
-    header (codes "system")
+unfoldable pub system_text : (above : List ℕ) → SystemRow → List ℕ
+system_text above s =
+    header above (codes "system")
     ++ text_line (codes "name") s.name
     ++ number_line (codes "port") s.port
     ++ number_line (codes "id") s.id
@@ -91,13 +92,13 @@ treatment_text l =
     ++ number_line (codes "skew_us") l.skew_us
     ++ number_line (codes "subs") l.subs
 
-unfoldable pub link_text : List SystemRow → LinkRow → List ℕ
-link_text systems l =
-    header (codes "link") ++ way_text systems l ++ traffic_text l ++ treatment_text l
+unfoldable pub link_text : (above : List ℕ) → List SystemRow → LinkRow → List ℕ
+link_text above systems l =
+    header above (codes "link") ++ way_text systems l ++ traffic_text l ++ treatment_text l
 
-unfoldable pub port_text : List SystemRow → PortRow → List ℕ
-port_text systems p =
-    header (codes "port")
+unfoldable pub port_text : (above : List ℕ) → List SystemRow → PortRow → List ℕ
+port_text above systems p =
+    header above (codes "port")
     ++ text_line (codes "system") (name_at systems p.system)
     ++ number_line (codes "link") p.link
     ++ number_line (codes "udp") p.udp
@@ -108,6 +109,6 @@ port_text systems p =
 abbrev pub config_text : Rows → List ℕ
 config_text t =
     top_text t
-    ++ flat_map system_text t.systems
-    ++ flat_map (link_text t.systems) t.links
-    ++ flat_map (port_text t.systems) t.ports
+    ++ flat_map (system_text []) t.systems
+    ++ flat_map (link_text [] t.systems) t.links
+    ++ flat_map (port_text [] t.systems) t.ports

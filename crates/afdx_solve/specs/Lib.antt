@@ -1,4 +1,7 @@
 pub mod Solved
+pub mod SolvedCascade
 pub mod Delays
+pub mod Raising
 pub mod Laws
 pub mod ConfigText
+pub mod CascadeText

@@ -39,7 +39,7 @@ fn delay_to(tables: &Tables, class: Priority, system: SystemId) -> u64
 
 /// The latencies that links of a class need at the output ports to all systems, by their places, in
 /// us.
-fn delays_of(tables: &Tables, class: Priority) -> [u64; PORT_COUNT]
+pub(crate) fn delays_of(tables: &Tables, class: Priority) -> [u64; PORT_COUNT]
     ensures { AreDelays tables.now class result }
 {
     let mut delays = [0; PORT_COUNT];
@@ -52,7 +52,7 @@ fn delays_of(tables: &Tables, class: Priority) -> [u64; PORT_COUNT]
 
 /// The greatest latency that is needed at the output ports to some systems, in us, at least 1.
 #[tactic(auto, unfolding(crate::specs::Solved::latency_over))]
-fn latency_over(delays: &[u64], to: &[SystemId]) -> u64
+pub(crate) fn latency_over(delays: &[u64], to: &[SystemId]) -> u64
     requires count { length delays.now ≡ last_port }
     requires within { AllByRecursion (λ i. i < last_port) (system_places to.now) }
     ensures { result ≡ spec.latency_over (slice_index delays.now) (system_places to.now) }
@@ -86,16 +86,16 @@ fn times_of(link: &Link, delays: &[u64], options: SolveOptions) -> Times
 
 /// What the links of each class need.
 #[derive(Clone, Copy)]
-struct Delays {
-    high: [u64; PORT_COUNT],
-    low: [u64; PORT_COUNT],
+pub(crate) struct Delays {
+    pub(crate) high: [u64; PORT_COUNT],
+    pub(crate) low: [u64; PORT_COUNT],
 }
 
 impl Delays {
     ghost use Rattle.std.specs.Prelude.{◌≡◌};
     ghost use Rattle.afdx_solve.specs.Delays.{of_class};
 
-    fn of_class(&self, class: Priority) -> &[u64]
+    pub(crate) fn of_class(&self, class: Priority) -> &[u64]
         ensures { result.now ≡ of_class class self.now }
     {
         match class {

@@ -14,7 +14,7 @@ use afdx_config::{Link, Tables, Times};
 
 /// The least jitter of a link, in us, whose sender's is so many ns, or the greatest that it may
 /// have.
-fn least_jitter(needed: u64, link: &Link) -> u64
+pub(crate) fn least_jitter(needed: u64, link: &Link) -> u64
     requires { CanSend (link_row link.now) }
     ensures { result ≡ spec.least_jitter needed (link_row link.now) }
 {

@@ -3,13 +3,20 @@
 //! Its tests are in `afdx_part_tests`.
 #![tactic(auto)]
 
+mod beginning;
+mod cascade_needs;
+mod cascade_writing;
 mod delays;
 mod jitters;
 pub mod laws;
 mod options;
+mod raising;
 mod solving;
+mod solving_cascade;
 mod writing;
 
+pub use cascade_writing::cascade_text;
 pub use options::SolveOptions;
 pub use solving::solve;
+pub use solving_cascade::solve_cascade;
 pub use writing::config_text;

@@ -13,7 +13,7 @@ use afdx_admit::{AdmitFault, Admitted, admit, bounds_to};
 use afdx_config::{SystemId, Tables};
 
 /// The least and the most bytes that a buffer may have.
-const LEAST_BUFFER: u64 = 64;
+pub(crate) const LEAST_BUFFER: u64 = 64;
 
 const GREATEST_BUFFER: u64 = 4_194_304;
 
@@ -39,16 +39,22 @@ fn greatest_need(tables: &Tables) -> u64
     greatest
 }
 
+/// The buffer that the output ports need, or the greatest that there may be.
+pub(crate) fn least_buffer(tables: &Tables) -> u64
+    ensures { result ≡ spec.least_buffer tables.now }
+{
+    GREATEST_BUFFER.min(LEAST_BUFFER.max(greatest_need(tables)))
+}
+
 /// Gives the output ports the buffer that they take.
 fn set_buffer(tables: &mut Tables, options: SolveOptions)
     ensures { tables.new ≡ spec.with_least_buffer options tables.old }
 {
-    let least = GREATEST_BUFFER.min(LEAST_BUFFER.max(greatest_need(tables)));
     let buffer = chosen(
         options.kept.buffer,
         options.raise_only,
         tables.buffer(),
-        least,
+        least_buffer(tables),
     );
     tables.set_buffer(buffer);
 }

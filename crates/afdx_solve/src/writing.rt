@@ -1,14 +1,16 @@
 //! Tables as the text of a configuration.
 
-ghost use Rattle.std.specs.Prelude.{◌≡◌, ◌++◌, ◌<◌, length, map, string_bytes, IfOk, OnOk, codes};
+ghost use Rattle.std.specs.Prelude.{◌≡◌, ◌++◌, ◌<◌, ◌≤◌, length, take, map, string_bytes};
+ghost use Rattle.std.specs.Prelude.{IfOk, OnOk, codes};
 ghost use Rattle.std.specs.List.{AllByRecursion, flat_map};
 ghost use Rattle.afdx_config.specs.Rows.{AreKnown, system_row, link_row, port_row, system_places};
+ghost use Rattle.afdx_frame.specs.Ports.{last_port};
 ghost use Rattle.afdx_config.specs.Lawful.{IsLinkUpTo, IsPort, jitter_from_any};
 ghost use Rattle.afdx_config.specs.Reading.{Spells};
 ghost use Rattle.afdx_solve.specs.ConfigText.{number_line, text_line, texts_line, header, listed};
 ghost use Rattle.afdx_solve.specs.ConfigText.{class_word, policing_word, kind_word, name_at};
 ghost use Rattle.afdx_solve.specs.ConfigText.{system_text, way_text, traffic_text, treatment_text};
-ghost use Rattle.afdx_solve.specs.ConfigText.{link_text, port_text, config_text};
+ghost use Rattle.afdx_solve.specs.ConfigText.{link_text, port_text, top_text, config_text};
 
 use afdx_config::{ComRow, Kind, Link, System, SystemId, Tables};
 use afdx_frame::{Policing, Priority};
@@ -17,7 +19,7 @@ use std::fmt::Write;
 
 /// Adds a key with a whole number.
 #[tactic(auto, unfolding(crate::specs::ConfigText::number_line))]
-fn put_number(text: &mut String, key: &str, number: u64) -> Result<(), AllocError>
+pub(crate) fn put_number(text: &mut String, key: &str, number: u64) -> Result<(), AllocError>
     ensures { OnOk result
         (string_bytes text.new ≡ string_bytes text.old ++ number_line key.now number) }
 {
@@ -26,28 +28,29 @@ fn put_number(text: &mut String, key: &str, number: u64) -> Result<(), AllocErro
 
 /// Adds a key with a text.
 #[tactic(auto, unfolding(crate::specs::ConfigText::text_line))]
-fn put_text(text: &mut String, key: &str, value: &str) -> Result<(), AllocError>
+pub(crate) fn put_text(text: &mut String, key: &str, value: &str) -> Result<(), AllocError>
     ensures { OnOk result
         (string_bytes text.new ≡ string_bytes text.old ++ text_line key.now value.now) }
 {
     write!(text, "{key} = \"{value}\"\n")
 }
 
-/// Adds an empty line and the header of a table.
+/// Adds an empty line and the header of a table. Its key is `above` and its own.
 #[tactic(auto, unfolding(crate::specs::ConfigText::header))]
-fn put_header(text: &mut String, key: &str) -> Result<(), AllocError>
-    ensures { OnOk result (string_bytes text.new ≡ string_bytes text.old ++ header key.now) }
+pub(crate) fn put_header(text: &mut String, above: &str, key: &str) -> Result<(), AllocError>
+    ensures { OnOk result
+        (string_bytes text.new ≡ string_bytes text.old ++ header above.now key.now) }
 {
-    write!(text, "\n[[{key}]]\n")
+    write!(text, "\n[[{above}{key}]]\n")
 }
 
 /// Adds a system.
 #[tactic(auto, unfolding(crate::specs::ConfigText::system_text), using(std::proofs::Common::append_assoc))]
-fn put_system(text: &mut String, system: &System) -> Result<(), AllocError>
+pub(crate) fn put_system(text: &mut String, above: &str, system: &System) -> Result<(), AllocError>
     ensures { OnOk result (string_bytes text.new
-        ≡ string_bytes text.old ++ system_text (system_row system.now)) }
+        ≡ string_bytes text.old ++ system_text above.now (system_row system.now)) }
 {
-    put_header(text, "system")?;
+    put_header(text, above, "system")?;
     put_text(text, "name", &system.name)?;
     put_number(text, "port", u64::from(system.port))?;
     put_number(text, "id", u64::from(system.id))?;
@@ -156,12 +159,12 @@ fn put_treatment(text: &mut String, link: &Link) -> Result<(), AllocError>
 
 /// Adds a link.
 #[tactic(auto, unfolding(crate::specs::ConfigText::link_text), using(std::proofs::Common::append_assoc))]
-fn put_link(text: &mut String, tables: &Tables, link: &Link) -> Result<(), AllocError>
+fn put_link(text: &mut String, above: &str, tables: &Tables, link: &Link) -> Result<(), AllocError>
     requires { IsLinkUpTo jitter_from_any (length tables.now.systems) (link_row link.now) }
     ensures { OnOk result (string_bytes text.new
-        ≡ string_bytes text.old ++ link_text tables.now.systems (link_row link.now)) }
+        ≡ string_bytes text.old ++ link_text above.now tables.now.systems (link_row link.now)) }
 {
-    put_header(text, "link")?;
+    put_header(text, above, "link")?;
     put_way(text, tables, link)?;
     put_traffic(text, link)?;
     put_treatment(text, link)
@@ -179,12 +182,17 @@ fn kind_word(kind: Kind) -> &'static str
 
 /// Adds a communication port.
 #[tactic(auto, unfolding(crate::specs::ConfigText::port_text), using(std::proofs::Common::append_assoc))]
-fn put_port(text: &mut String, tables: &Tables, port: &ComRow) -> Result<(), AllocError>
+fn put_port(
+    text: &mut String,
+    above: &str,
+    tables: &Tables,
+    port: &ComRow,
+) -> Result<(), AllocError>
     requires { IsPort (length tables.now.systems) tables.now.links (port_row port.now) }
     ensures { OnOk result (string_bytes text.new
-        ≡ string_bytes text.old ++ port_text tables.now.systems (port_row port.now)) }
+        ≡ string_bytes text.old ++ port_text above.now tables.now.systems (port_row port.now)) }
 {
-    put_header(text, "port")?;
+    put_header(text, above, "port")?;
     put_text(text, "system", name_of(tables, port.system))?;
     put_number(text, "link", u64::from(port.link.0))?;
     put_number(text, "udp", u64::from(port.udp))?;
@@ -192,45 +200,61 @@ fn put_port(text: &mut String, tables: &Tables, port: &ComRow) -> Result<(), All
     put_number(text, "depth", port.depth)
 }
 
-/// Adds all systems.
-fn put_systems(text: &mut String, tables: &Tables) -> Result<(), AllocError>
-    ensures { OnOk result (string_bytes text.new
-        ≡ string_bytes text.old ++ flat_map system_text tables.now.systems) }
+/// Adds the first systems, as many as this.
+pub(crate) fn put_systems(
+    text: &mut String,
+    above: &str,
+    tables: &Tables,
+    count: usize,
+) -> Result<(), AllocError>
+    requires count { count ≤ length tables.now.systems }
+    requires few { count ≤ last_port }
+    ensures { OnOk result (string_bytes text.new ≡ string_bytes text.old
+        ++ flat_map (system_text above.now) (take count tables.now.systems)) }
 {
-    let count = tables.system_count();
     for i in 0..count {
-        put_system(text, tables.system(SystemId(i as u8)))?;
+        put_system(text, above, tables.system(SystemId(i as u8)))?;
     }
     Ok(())
 }
 
 /// Adds all links.
-fn put_links(text: &mut String, tables: &Tables) -> Result<(), AllocError>
+pub(crate) fn put_links(text: &mut String, above: &str, tables: &Tables) -> Result<(), AllocError>
     ensures { OnOk result (string_bytes text.new ≡ string_bytes text.old
-        ++ flat_map (link_text tables.now.systems) tables.now.links) }
+        ++ flat_map (link_text above.now tables.now.systems) tables.now.links) }
 {
     let count = tables.link_count();
     for i in 0..count {
-        put_link(text, tables, tables.link(i))?;
+        put_link(text, above, tables, tables.link(i))?;
     }
     Ok(())
 }
 
 /// Adds all communication ports.
-fn put_ports(text: &mut String, tables: &Tables) -> Result<(), AllocError>
+pub(crate) fn put_ports(text: &mut String, above: &str, tables: &Tables) -> Result<(), AllocError>
     ensures { OnOk result (string_bytes text.new ≡ string_bytes text.old
-        ++ flat_map (port_text tables.now.systems) tables.now.ports) }
+        ++ flat_map (port_text above.now tables.now.systems) tables.now.ports) }
 {
     let count = tables.com_count();
     for i in 0..count {
-        put_port(text, tables, tables.com(i))?;
+        put_port(text, above, tables, tables.com(i))?;
     }
     Ok(())
 }
 
-/// The text of a configuration with these tables, in one layout: the keys of each table in the
-/// order of their numbers. It reads back as these tables, if none of what stands at the ports is a
-/// neighbour.
+/// Adds the two keys of the top.
+#[tactic(auto, using(std::proofs::Common::append_assoc))]
+pub(crate) fn put_top(text: &mut String, tables: &Tables) -> Result<(), AllocError>
+    ensures { OnOk result
+        (string_bytes text.new ≡ string_bytes text.old ++ top_text tables.now) }
+{
+    put_number(text, "profile", tables.profile())?;
+    put_number(text, "buffer", tables.buffer())
+}
+
+/// The text of the configuration of one switch with these tables, in one layout: the keys of each
+/// table in the order of their numbers. It reads back as these tables, if none of what stands at
+/// the ports is a neighbour.
 #[tactic(auto, using(std::proofs::Common::append_assoc))]
 pub fn config_text(alloc: Global, tables: &Tables) -> Result<String, AllocError>
     ensures text { IfOk result (λ text. string_bytes text ≡ config_text tables.now) }
@@ -238,10 +262,9 @@ pub fn config_text(alloc: Global, tables: &Tables) -> Result<String, AllocError>
         IfOk result (λ text. Spells (string_bytes text) tables.now) }
 {
     let mut text = String::new(alloc);
-    put_number(&mut text, "profile", tables.profile())?;
-    put_number(&mut text, "buffer", tables.buffer())?;
-    put_systems(&mut text, tables)?;
-    put_links(&mut text, tables)?;
-    put_ports(&mut text, tables)?;
+    put_top(&mut text, tables)?;
+    put_systems(&mut text, "", tables, tables.system_count())?;
+    put_links(&mut text, "", tables)?;
+    put_ports(&mut text, "", tables)?;
     Ok(text)
 }

@@ -15,12 +15,18 @@ ok, in this order, each from those before it as written:
   latency_us   of each link, from the bounds at all its ports
   skew_us      of each link, its latency
 
+Of several switches a side they are the least that are enough for each other: a
+jitter behind a cable is the jitter and the latency at the switch before, a skew of
+a link to a system the sum of the latencies on its way.
+
 In CONFIG these keys may be absent, or any whole number from 0. The text that is
 written has one layout, that of the program: remarks and spaces of CONFIG aren't
 kept. Of each link at each port whose bound, with the jitters that are written, is
 more than the latency_us of CONFIG, a line is told on standard error:
 
   vl 20 at 3: 111111 ns needed, 100 us asked
+
+Of several switches the switch's name stands before the port: 'vl 1 at fwd 24: ..'.
 
 Where no values in range are enough, the one line that is printed is 'no' with the
 first line of admission that is false, as 'check' has them, each value being at its
@@ -30,7 +36,8 @@ A closed pipe, as with '| head', is the fault 'device Write', status 4.
 
 Examples:
   afdx solve examples/network.toml
-  afdx solve --keep buffer,latency --raise-only examples/network.toml";
+  afdx solve --keep buffer,latency --raise-only examples/network.toml
+  afdx solve examples/two_switches.toml";
 
 const KEEP_HELP: &str = "Keys that keep their values, which have to be there, in range: any of \
 jitter, buffer, latency and skew, with commas between them";

@@ -11,7 +11,7 @@ use Rattle.afdx_police.specs.Verdicts.{is_over_rate}
 use Rattle.afdx_switch.specs.Early.{IsEarlyBy}
 use Rattle.afdx_text.specs.OutLines.{place_text}
 use Rattle.afdx_text.specs.Telling.{Tells}
-use Rattle.afdx_replay.specs.cascading.Text.{name_of}
+use Rattle.afdx_inputs.specs.ListText.{switch_name}
 use Rattle.afdx_replay.specs.replaying.Early.{IsOneMore}
 
 -- the frame of line n came so many nanoseconds too early at a place
@@ -25,7 +25,7 @@ module _ (switches : List NamedRows) where
   abbrev pub IsLineOn : ℕ → List SwitchEvent → Admission → Bool → List ℕ → Type 0
   IsLineOn k before c true line =
       (wait : ℕ) × IsEarlyBy (tables_of switches k) (came_to k before) c.arrival wait
-      × (line ≡ early_line_at c.arrival.tag (place_text c.arrival.side (name_of switches k)) wait)
+      × (line ≡ early_line_at c.arrival.tag (place_text c.arrival.side (switch_name switches k)) wait)
   IsLineOn k before c false line = line ≡ []
 
   abbrev pub IsLineOf : ℕ → List SwitchEvent → Event → List ℕ → Type 0

@@ -12,7 +12,8 @@ use Rattle.afdx_engine.specs.Lists.{items_of}
 use Rattle.afdx_network.specs.Events.{Event}
 use Rattle.afdx_network.specs.Order.{events_of}
 use Rattle.afdx_replay.specs.cascading.Ran.{AreInParts, lists}
-use Rattle.afdx_replay.specs.cascading.Text.{cascade_text, cascade_counts, name_of, own_text}
+use Rattle.afdx_replay.specs.cascading.Text.{cascade_text, cascade_counts, own_text}
+use Rattle.afdx_inputs.specs.ListText.{switch_name}
 use Rattle.afdx_replay.specs.replaying.Text.{lines_at, replay_text, replay_counts}
 
 -- each line is at one of the switches
@@ -35,7 +36,7 @@ pub record IsOfOne (switches : List NamedRows) (t : Rows) (lines : List Line)
   pub own : map (λ h. h.event) events ≡ events_of t (frames_of (reverse lines))
   -- the text is that of a run of its own tables on these frames, with its name
   pub named : cascade_text switches events
-      ≡ named_text (name_of switches 0) t (events_of t (frames_of (reverse lines)))
+      ≡ named_text (switch_name switches 0) t (events_of t (frames_of (reverse lines)))
   -- and without it
   pub alone : own_text switches 0 events
       ≡ replay_text t (events_of t (frames_of (reverse lines)))

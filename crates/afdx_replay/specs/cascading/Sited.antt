@@ -11,7 +11,7 @@ use Rattle.afdx_engine.specs.Lists.{Kind}
 use Rattle.afdx_engine.specs.Listed.{arrival_at}
 use Rattle.afdx_lists.specs.SitedLines.{NamedCables, SitedFrame, sited_frame, sited_line_says, is_cable_at}
 use Rattle.afdx_lists.specs.declared.frame_line.Heading.{Heading}
-use Rattle.afdx_replay.specs.cascading.Text.{name_of}
+use Rattle.afdx_inputs.specs.ListText.{switch_name}
 
 module _ (switches : List NamedRows) where
   -- at the place of a port's number, from 0, whether a cable is there
@@ -23,7 +23,7 @@ module _ (switches : List NamedRows) where
 
   -- the switch at a place, and each switch in the order of the file, as lists name it
   abbrev pub site_of : ℕ → NamedCables
-  site_of k = record { name = name_of switches k; cables = cables_of k }
+  site_of k = record { name = switch_name switches k; cables = cables_of k }
 
   unfoldable pub sites_of : List NamedCables
   sites_of = map site_of (range_with_len 0 (length switches))

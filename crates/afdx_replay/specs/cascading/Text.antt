@@ -7,17 +7,14 @@ use Rattle.afdx_cascade.specs.Plans.{tables_of}
 use Rattle.afdx_cascade.specs.SwitchEvents.{SwitchEvent, at_switch}
 use Rattle.afdx_commands.specs.Counts.{no_counts}
 use Rattle.afdx_commands.specs.declared.summary.Summary.{Summary}
+use Rattle.afdx_inputs.specs.ListText.{switch_name}
 use Rattle.afdx_replay.specs.replaying.Text.{lines_at, with_event}
-
--- the name of the switch of a number
-unfoldable pub name_of : List NamedRows → ℕ → List ℕ
-name_of switches k = option_map_or (λ s. s.name) (slice_get switches k) []
 
 module _ (switches : List NamedRows) where
   -- the lines of an event that comes after these
   abbrev pub event_lines : List SwitchEvent → SwitchEvent → List ℕ
   event_lines before h =
-      lines_at (name_of switches h.switch) (tables_of switches h.switch)
+      lines_at (switch_name switches h.switch) (tables_of switches h.switch)
       (at_switch h.switch before) h.event
 
   unfoldable pub cascade_text : List SwitchEvent → List ℕ

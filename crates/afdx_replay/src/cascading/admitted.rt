@@ -24,11 +24,16 @@ use std::io::{Read, Write};
 /// accepted one leaves each of its ports within the link's latency of that switch, and what its
 /// systems get is the integrity and redundancy rules' answer on what came to them.
 ///
-/// And from end to end: a switch accepts each frame that a cable brings (`accepted`). From each
-/// port to which a link goes leave exactly the frames that the first switch of its way accepted,
-/// byte for byte, in order, each within the sum of the latencies on the way (`ends`), and of no
-/// link others (`others`). If at the first switch the link's own frames are the same but for their
-/// numbers, what is accepted and what leaves on its way is the same, whatever else comes (`same`).
+/// And from end to end (`end_to_end`): a switch accepts each frame that a cable brings
+/// (`accepted`). From each port to which a link goes leave exactly the frames that the first switch
+/// of its way accepted, byte for byte, in order, each within the sum of the latencies on the way
+/// (`ends`), and of no link others (`others`). If at the first switch the link's own frames are the
+/// same but for their numbers, the verdicts on them (`verdicts`), and what leaves on its way
+/// (`same`), are the same, whatever else comes. If a lawful stream of the link comes there on both
+/// sides, or on one side with the first of it on the other, each system to which the link goes, at
+/// whichever switch, gets the messages to its UDP ports, each once and in order (`once`,
+/// `one_side`); if on each side the first of it comes, as far as one side has come (`once_so_far`).
+/// After a fault what stands written is the first of that (`first`).
 /// The errors are those of `run_cascade_unadmitted`.
 pub fn run_cascade<R: Read, W: Write>(
     alloc: Global,

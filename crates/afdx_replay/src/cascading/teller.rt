@@ -18,7 +18,8 @@ ghost use Rattle.afdx_text.specs.Sinks.{IsOfOutput};
 ghost use Rattle.afdx_replay.specs.replaying.Text.{with_departure};
 ghost use Rattle.afdx_replay.specs.replaying.Replayed.{AreLow};
 ghost use Rattle.afdx_replay.specs.cascading.Early.{HearsEarly};
-ghost use Rattle.afdx_replay.specs.cascading.Text.{event_lines, name_of};
+ghost use Rattle.afdx_replay.specs.cascading.Text.{event_lines};
+ghost use Rattle.afdx_inputs.specs.ListText.{switch_name};
 ghost use Rattle.afdx_replay.specs.cascading.Told as spec;
 ghost use Rattle.afdx_replay.specs.cascading.Told.{AreSteady, SystemsAre, TellsOne, place_of};
 

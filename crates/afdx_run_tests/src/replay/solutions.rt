@@ -2,7 +2,7 @@
 
 use crate::texts::short_text;
 use afdx_replay::{KeptKeys, SolveOptions, Watched, solve_config};
-use afdx_samples::{ShortText, all_right, base, changed, equal};
+use afdx_samples::{ShortText, all_right, base, changed, equal, two_switches};
 use std::alloc::Global;
 use std::test::Fail;
 
@@ -33,7 +33,7 @@ pub(super) fn answered(
     Ok((status, text, line))
 }
 
-/// A piece of the base text, what takes its place, whether buffer and jitters are kept, the status,
+/// A piece of a text, what takes its place, whether buffer and jitters are kept, the status,
 /// the beginning of the output, and what is told.
 type Change = (
     &'static str,
@@ -76,18 +76,61 @@ const CHANGES: [Change; 6] = [
     ),
 ];
 
-/// Whether `solve` answers so for the base text with a value changed.
-fn is_answered(alloc: Global, change: &Change) -> Result<bool, Fail> {
+const LEAST_OF_TWO: &str =
+    "[[switch]]\nname = \"fwd\"\nprofile = 1\nbuffer = 90\n\n[[switch.system]]\n";
+
+const CHANGES_OF_TWO: [Change; 5] = [
+    ("buffer = 254", "", false, 0, LEAST_OF_TWO, ""),
+    (
+        "latency_us = 17",
+        "latency_us = 7",
+        false,
+        0,
+        LEAST_OF_TWO,
+        "vl 1 at fwd 24: 7036 ns needed, 7 us asked\n",
+    ),
+    (
+        "latency_us = 18",
+        "latency_us = 1",
+        false,
+        0,
+        LEAST_OF_TWO,
+        "vl 1 at aft 3: 13810 ns needed, 1 us asked\n",
+    ),
+    (
+        "buffer = 254",
+        "buffer = 127",
+        true,
+        1,
+        "no A2 fwd 1 128\n",
+        "",
+    ),
+    (
+        "id = 2",
+        "id = 1",
+        false,
+        1,
+        "",
+        "config Twice switch 2 system 1 key 3\n",
+    ),
+];
+
+/// Whether `solve` answers so for the text with a value changed.
+fn is_answered(alloc: Global, text: &str, change: &Change) -> Result<bool, Fail> {
     let (old, new, keeps, status, begins, told) = *change;
-    let config = changed(base(), old, new)?;
+    let config = changed(text, old, new)?;
     let (found, output, errors) = answered(alloc, options(keeps), config.as_str().as_bytes())?;
     Ok(output.as_str().starts_with(begins) && (found, errors.as_str()) == (status, told))
 }
 
 /// What takes a value's place in the first of the changes that isn't answered as it should be.
-fn wrongly_answered(alloc: Global, changes: &[Change]) -> Result<Option<&'static str>, Fail> {
+fn wrongly_answered(
+    alloc: Global,
+    text: &str,
+    changes: &[Change],
+) -> Result<Option<&'static str>, Fail> {
     for change in changes {
-        if !is_answered(alloc, change)? {
+        if !is_answered(alloc, text, change)? {
             return Ok(Some(change.1));
         }
     }
@@ -96,17 +139,36 @@ fn wrongly_answered(alloc: Global, changes: &[Change]) -> Result<Option<&'static
 
 #[test]
 fn changed_tables(rt: HostRuntime) -> Result<(), Fail> {
-    all_right(wrongly_answered(rt.alloc(), CHANGES.as_slice())?)
+    all_right(wrongly_answered(rt.alloc(), base(), CHANGES.as_slice())?)
 }
 
 #[test]
-fn a_solution_may_be_refused(rt: HostRuntime) -> Result<(), Fail> {
+fn changed_switches(rt: HostRuntime) -> Result<(), Fail> {
+    all_right(wrongly_answered(
+        rt.alloc(),
+        two_switches(),
+        CHANGES_OF_TWO.as_slice(),
+    )?)
+}
+
+/// Whether `solve` writes a text that begins so, where one try may end out of memory.
+fn is_solved(alloc: Global, text: &str, begins: &str) -> Result<(), Fail> {
     for _ in 0..2 {
-        let (status, output, _) = answered(rt.alloc(), options(false), base().as_bytes())?;
+        let (status, output, _) = answered(alloc, options(false), text.as_bytes())?;
         if status == 0 {
-            return equal(output.as_str().starts_with(LEAST), true);
+            return equal(output.as_str().starts_with(begins), true);
         }
         equal(status, 4)?;
     }
     Err("each try was refused".into())
+}
+
+#[test]
+fn a_solution_may_be_refused(rt: HostRuntime) -> Result<(), Fail> {
+    is_solved(rt.alloc(), base(), LEAST)
+}
+
+#[test]
+fn a_solution_of_switches_may_be_refused(rt: HostRuntime) -> Result<(), Fail> {
+    is_solved(rt.alloc(), two_switches(), LEAST_OF_TWO)
 }

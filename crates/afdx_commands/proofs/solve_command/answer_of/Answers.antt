@@ -1,32 +1,37 @@
-use Rattle.std.proofs.Common.{◌≡◌, string_bytes, refl, ap, subst, ◌∙◌}
-use Rattle.afdx_config.specs.Lawful.{IsLawful, IsLawfulSwitch}
-use Rattle.afdx_config.specs.Reading.{Spells}
-use Rattle.afdx_config.proofs.AmongOthersLemmas.{alone-one}
-use Rattle.afdx_solve.specs.ConfigText.{config_text}
-use Rattle.afdx_solve.specs.Solved.{solved}
-use Rattle.afdx_commands.specs.SolveText.{needs_text}
-use Rattle.afdx_commands.proofs.SolveLemmas.{solved-alone}
+use Rattle.std.specs.Prelude.{string_bytes}
+use Rattle.std.proofs.lemmas.Result.{IfOk-weaker}
+use Rattle.afdx_commands.proofs.SolveLemmas.{one-solution, one-denial, several-solution, several-denial}
 use Rattle.afdx_commands.proofs.solve_command.answer_of.Goals as goal
 
-pub returns-in_ok-needs-in-Ok-clause-solution : goal.returns-in_ok-needs-in-Ok-clause-solution
-returns-in_ok-needs-in-Ok-clause-solution c = λ _ config spelled asks.
-    let o = c.args.options in
-    let t = c.args.tables in
-    let all = c.tables-tables.result.now in
-    let is : all ≡ solved o t = c.tables-tables.ensures.tables ∙ c.in-Ok.ensures.solved in
-    let own = solved-alone o t all c.requires.own is in
-    let switch = subst IsLawfulSwitch c.in-Ok.ensures.solved c.tables-tables.ensures.lawful in
-    let lawful : IsLawful (solved o t) = alone-one (solved o t) switch
-    (solved-alone o t (solved o t) c.requires.own refl) in
-    record {
-      tables = t;
-      asked = c.args.asked.now;
-      spelled = spelled;
-      asks = asks;
-      lawful = c.requires;
-      layout = c.in_ok-text-in-Ok.ensures.text ∙ ap config_text is;
-      spells = subst (Spells (string_bytes c.in_ok-text-in-Ok.text)) is (c.in_ok-text-in-Ok.ensures.spells own);
-      admitted = c.in-Ok.ensures.admitted;
-      least = λ raise. c.each_is_least.ensures o t raise lawful c.in-Ok.ensures.admitted;
-      told = c.in_ok-needs-in-Ok.ensures ∙ ap (λ r. needs_text r c.args.asked.now) is;
-    }
+pub returns-in-One-clause-solution : goal.returns-in-One-clause-solution
+returns-in-One-clause-solution c =
+    IfOk-weaker c.answer_of_one.result _ _
+    (λ answer solves yes config read.
+    one-solution c.args.options config c.args.file (string_bytes answer.text) (string_bytes answer.needs) read
+    c.in-One.tables c.in-One.asked c.in-One.is c.as_slice.result.now c.as_slice.ensures.value (solves yes))
+    c.answer_of_one.ensures.solution
+
+pub returns-in-One-clause-denial : goal.returns-in-One-clause-denial
+returns-in-One-clause-denial c =
+    IfOk-weaker c.answer_of_one.result _ _
+    (λ answer denies no_ config read.
+    one-denial c.args.options config c.args.file (string_bytes answer.text) (string_bytes answer.needs) read
+    c.in-One.tables c.in-One.asked c.in-One.is (denies no_))
+    c.answer_of_one.ensures.denial
+
+pub returns-in-Several-clause-solution : goal.returns-in-Several-clause-solution
+returns-in-Several-clause-solution c =
+    IfOk-weaker c.answer_of_several.result _ _
+    (λ answer solves yes config read.
+    several-solution c.args.options config c.args.file (string_bytes answer.text) (string_bytes answer.needs) read
+    c.in-Several.switches c.in-Several.asked c.in-Several.is
+    c.as_slice-in-Several.result.now c.as_slice-in-Several.ensures.value (solves yes))
+    c.answer_of_several.ensures.solution
+
+pub returns-in-Several-clause-denial : goal.returns-in-Several-clause-denial
+returns-in-Several-clause-denial c =
+    IfOk-weaker c.answer_of_several.result _ _
+    (λ answer denies no_ config read.
+    several-denial c.args.options config c.args.file (string_bytes answer.text) (string_bytes answer.needs) read
+    c.in-Several.switches c.in-Several.asked c.in-Several.is (denies no_))
+    c.answer_of_several.ensures.denial

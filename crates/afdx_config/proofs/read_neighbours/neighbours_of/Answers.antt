@@ -1,4 +1,4 @@
-use Rattle.std.proofs.Common.{[], ◌∷◌, ◌∙◌, refl, arith, length-append}
+use Rattle.std.proofs.Common.{◌≤◌, length, [], ◌∷◌, ◌∙◌, refl, arith, length-append}
 use Rattle.std.proofs.lemmas.Grind.{common_steps}
 use Rattle.std.proofs.lemmas.List.{take-append-le}
 use Rattle.std.proofs.Math.Seq.{take-length}
@@ -10,29 +10,31 @@ use Rattle.afdx_config.proofs.read_neighbours.neighbours_of.Goals as goal
 pub loop-table-init : goal.loop-table-init
 loop-table-init c = record {
   so_far = refl;
-  behind = omega (arith, c.len-own.ensures.len);
+  count = omega (arith, c.len-own.ensures.len);
   systems = rw c.len-own.ensures.len (take-length c.args.systems);
-  lawful = ends_alone c.args.profile c.len-own.result c.args.systems c.len-own.ensures.len c.requires;
+  lawful = ends_alone c.args.profile c.len-own.result c.args.systems c.len-own.ensures.len c.requires.systems;
 }
 
 pub push-requires-clause-room : goal.push-requires-clause-room
 push-requires-clause-room c =
     ends_room c.args.profile c.len-own.result c.loop-table.ends (system_row c.in_ok-neighbour.neighbour)
-    c.loop-table.invariant.lawful c.loop-table.invariant.behind c.in_ok-neighbour.ensures.lawful
+    c.loop-table.invariant.lawful (omega (arith, c.loop-table.invariant.count)) c.in_ok-neighbour.ensures.lawful
     c.in_ok-neighbour.ensures.name c.in_ok-neighbour.ensures.port
 
 pub loop-table-preserved : goal.loop-table-preserved
 loop-table-preserved c =
     let ends = c.loop-table.ends in
     let new = system_row c.in_ok-neighbour.neighbour in
+    let behind : c.len-own.result ≤ length ends = omega (arith, c.loop-table.invariant.count) in
     record {
       so_far = grind (arith, common_steps);
-      behind = rw c.in_ok-push.ensures (omega (arith, c.loop-table.invariant.behind, length-append ends (new ∷ [])));
+      count = rw c.in_ok-push.ensures (omega (arith, c.loop-table.invariant.count, length-append ends (new ∷ [])));
       systems = rw c.in_ok-push.ensures
-          (take-append-le c.len-own.result ends (new ∷ []) c.loop-table.invariant.behind
+          (take-append-le c.len-own.result ends (new ∷ []) behind
           ∙ c.loop-table.invariant.systems);
       lawful = rw c.in_ok-push.ensures
           (ends_push c.args.profile c.len-own.result ends new c.loop-table.invariant.lawful
-          c.loop-table.invariant.behind c.in_ok-neighbour.ensures.lawful c.in_ok-neighbour.ensures.name
-          c.in_ok-neighbour.ensures.port);
+          behind c.in_ok-neighbour.ensures.lawful c.in_ok-neighbour.ensures.name c.in_ok-neighbour.ensures.port
+          (omega (arith, c.loop-table.invariant.count, c.loop-table-test.true, c.requires.few))
+          c.in_ok-neighbour.ensures.number);
     }

@@ -1,4 +1,4 @@
-use Rattle.std.proofs.Common.{◌≡◌, ◌≤◌, drop, take, length}
+use Rattle.std.proofs.Common.{◌≡◌, ◌+◌, drop, take, length}
 use Rattle.afdx_config.specs.Lawful.{AreEnds}
 use Rattle.afdx_config.specs.Trees.{trees}
 use Rattle.afdx_config.specs.Reading.{each}
@@ -9,7 +9,7 @@ abbrev pub invariant-loop-table : goal.invariant-loop-table
 invariant-loop-table l = record {
   so_far : each (neighbour_at l.profile l.own) l.ends (trees (drop l.table-index l.tables))
       ≡ each (neighbour_at l.profile l.own) l.fn.systems (trees l.tables);
-  behind : l.own ≤ length l.ends;
+  count : length l.ends ≡ l.own + l.table-index;
   systems : take l.own l.ends ≡ l.fn.systems;
   lawful : AreEnds l.profile l.own l.ends;
 }

@@ -1,4 +1,5 @@
-use Rattle.afdx_end_to_end.proofs.EndToEndLemmas.{laws-of, taken-is-told, written-is-sent}
+use Rattle.afdx_end_to_end.proofs.EmittedLemmas.{laws-of}
+use Rattle.afdx_end_to_end.proofs.EndToEndLemmas.{taken-is-told, written-is-sent}
 use Rattle.afdx_end_to_end.proofs.EndToEndLemmas.{runs-tell-taken, texts-are-lists, taken-so-far}
 use Rattle.afdx_end_to_end.proofs.EndToEndLemmas.{taken-by-one}
 use Rattle.afdx_end_to_end.proofs.MergedLemmas.{merged-are-told}

@@ -6,4 +6,4 @@ use Rattle.afdx_solve.proofs.writing.put_links.Given as goal
 
 abbrev pub invariant-loop-i : goal.invariant-loop-i
 invariant-loop-i l = string_bytes l.text
-    ≡ string_bytes l.fn.text ++ flat_map (link_text l.tables.systems) (take l.i l.tables.links)
+    ≡ string_bytes l.fn.text ++ flat_map (link_text l.above l.tables.systems) (take l.i l.tables.links)

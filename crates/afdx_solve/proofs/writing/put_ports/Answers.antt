@@ -6,6 +6,7 @@ use Rattle.afdx_solve.proofs.writing.put_ports.Goals as goal
 
 pub loop-i-preserved : goal.loop-i-preserved
 loop-i-preserved c =
-    row-next (port_text c.args.tables.now.systems) c.args.tables.now.ports c.loop-i.i (port_row c.com.result.now)
+    row-next (port_text c.args.above.now c.args.tables.now.systems) c.args.tables.now.ports c.loop-i.i
+    (port_row c.com.result.now)
     (string_bytes c.args.text.now) (string_bytes c.loop-i.text) _ c.com.ensures.row c.loop-i.invariant
     c.in_ok-put_port.ensures

@@ -6,4 +6,4 @@ use Rattle.afdx_solve.proofs.writing.put_ports.Given as goal
 
 abbrev pub invariant-loop-i : goal.invariant-loop-i
 invariant-loop-i l = string_bytes l.text
-    ≡ string_bytes l.fn.text ++ flat_map (port_text l.tables.systems) (take l.i l.tables.ports)
+    ≡ string_bytes l.fn.text ++ flat_map (port_text l.above l.tables.systems) (take l.i l.tables.ports)

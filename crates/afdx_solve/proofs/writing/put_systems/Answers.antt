@@ -6,6 +6,6 @@ use Rattle.afdx_solve.proofs.writing.put_systems.Goals as goal
 
 pub loop-i-preserved : goal.loop-i-preserved
 loop-i-preserved c =
-    row-next system_text c.args.tables.now.systems c.loop-i.i (system_row c.system.result.now)
+    row-next (system_text c.args.above.now) c.args.tables.now.systems c.loop-i.i (system_row c.system.result.now)
     (string_bytes c.args.text.now) (string_bytes c.loop-i.text) _ c.system.ensures.row c.loop-i.invariant
     c.in_ok-put_system.ensures

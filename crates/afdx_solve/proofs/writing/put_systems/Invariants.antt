@@ -6,4 +6,4 @@ use Rattle.afdx_solve.proofs.writing.put_systems.Given as goal
 
 abbrev pub invariant-loop-i : goal.invariant-loop-i
 invariant-loop-i l = string_bytes l.text
-    ≡ string_bytes l.fn.text ++ flat_map system_text (take l.i l.tables.systems)
+    ≡ string_bytes l.fn.text ++ flat_map (system_text l.above) (take l.i l.tables.systems)

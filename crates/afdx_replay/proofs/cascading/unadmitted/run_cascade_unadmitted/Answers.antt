@@ -1,7 +1,8 @@
 use Rattle.std.proofs.Common.{rules, arith, IfSome, None, Ok, ◌∙◌}
 use Rattle.afdx_commands.specs.Counts.{with_lines}
 use Rattle.afdx_replay.specs.cascading.Ran.{Answers}
-use Rattle.afdx_replay.proofs.CascadeOverLemmas.{answered-err, answered-ok, can-tell, none-told, sites-count, stops-start}
+use Rattle.afdx_replay.proofs.CascadeOverLemmas.{answered-err, answered-ok, can-tell, none-told, stops-start}
+use Rattle.afdx_replay.proofs.SiteLemmas.{sites-count}
 use Rattle.afdx_replay.proofs.TextLemmas.{once-back}
 use Rattle.afdx_replay.proofs.cascading.unadmitted.run_cascade_unadmitted.Goals as goal
 

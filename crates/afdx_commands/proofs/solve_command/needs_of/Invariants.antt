@@ -1,7 +1,0 @@
-use Rattle.std.proofs.Common.{◌≡◌}
-use Rattle.std.specs.Prelude.{string_bytes}
-use Rattle.afdx_commands.specs.SolveText.{needs_at_first}
-use Rattle.afdx_commands.proofs.solve_command.needs_of.Given as goal
-
-abbrev pub invariant-loop-count : goal.invariant-loop-count
-invariant-loop-count l = string_bytes l.text ≡ needs_at_first l.tables l.asked l.count
