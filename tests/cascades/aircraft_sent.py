@@ -4,6 +4,7 @@ port for it, also where one side is dead or dies. The program reads the example'
 from __future__ import annotations
 
 import random
+from collections.abc import Callable
 
 import tables
 from cascade import loaded
@@ -113,20 +114,27 @@ def aircraft_is_recorded(runs: Computed, seed: int, grain: str) -> None:
         all_arrive(told_of_taps(runs, chance, cascade, text, grain), messages_in(streams, lines))
 
 
+def is_refused(promise: Callable[..., None], *given: object) -> bool:
+    """What is told isn't as promised."""
+    try:
+        promise(*given)
+    except Wrong:
+        return True
+    return False
+
+
 def aircraft_is_looked_at(seed: int) -> None:
-    """A list with a frame that doesn't pass, or without a message, isn't taken for what was sent.
-    """
+    """Of a list with strangers not each frame passes, and of one without a frame of both sides a
+    message isn't read; all else is as of what was sent."""
     chance, cascade, runs = random.Random(f"aircraft/{seed}"), aircraft(), Computed()
     streams = streams_sent(runs, chance, cascade)
     lines = lines_of(chance, streams)
     sent = messages_in(streams, lines)
-    strange = with_strangers(chance, cascade["switch"], lines[:100])
+    strange = told_of(runs, cascade, with_strangers(chance, cascade["switch"], lines))
+    must(is_refused(all_pass, strange), "a stranger isn't seen")
+    exactly_once(strange, sent)
     lost = chance.choice([line for line in lines if sent[line.vl][line.place][0] != NO_PORT])
     others = [line.text for line in lines if (line.vl, line.place) != (lost.vl, lost.place)]
-    for text in (strange, text_of(others)):
-        told = told_of(runs, cascade, text)
-        try:
-            all_arrive(told, sent)
-        except Wrong:
-            continue
-        raise Wrong("a list is taken in which something is amiss")
+    absent = told_of(runs, cascade, text_of(others))
+    all_pass(absent)
+    must(is_refused(exactly_once, absent, sent), "a message isn't missed")
