@@ -26,7 +26,7 @@ use Rattle.afdx_lists.specs.SitedLines.{NamedCables, SitedFrame, sited_line_says
 use Rattle.afdx_lists.specs.declared.fault.LineFault.{LineFault}
 use Rattle.afdx_replay.specs.cascading.Ran.{WritesList, lists}
 use Rattle.afdx_replay.specs.cascading.Sited.{sites_of}
-use Rattle.afdx_replay.specs.cascading.Text.{name_of}
+use Rattle.afdx_inputs.specs.ListText.{switch_name}
 use Rattle.afdx_send.specs.Complete.{submissions_of, AreReleasesOfAll}
 use Rattle.afdx_send.specs.Releases.{Submission, Release}
 use Rattle.afdx_sending.specs.Events.{Event, taken_by, turns_in}
@@ -71,12 +71,12 @@ pub record HasSentFrom (switches : List NamedRows) (k sender : ℕ) (s : SystemR
 
 -- its text, in which its switch is named
 abbrev pub text_of : List NamedRows → (k : ℕ) → SystemRow → List Event → List ℕ
-text_of switches k s sends = send_text_at (name_of switches k) s sends
+text_of switches k s sends = send_text_at (switch_name switches k) s sends
 
 -- as `run_send` is given it
 abbrev pub source_from : List NamedRows → (k sender : ℕ) → SystemRow → Source
 source_from switches k sender s =
-    source_of (name_of switches k) (tables_of switches k) sender s
+    source_of (switch_name switches k) (tables_of switches k) sender s
 
 -- ---- a list that is replayed
 
