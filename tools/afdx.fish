@@ -49,8 +49,8 @@ end
 # printed by bin/pages
 set -g __afdx_valued --interface --fcs --origin --reorder --stamps --vl --port --lmin --policing \
     --keep --out -j --jobs -S --sshlogin --taps --fail-on --junit --config -o --split --side \
-    --profile --reserve --since --link --from --rows --worst --compare --title --cover --seconds \
-    --seed
+    --cables --profile --reserve --since --link --from --rows --worst --compare --title --cover \
+    --seconds --seed
 
 complete -c afdx -f
 complete -c afdx -n '__afdx_at - 0 0' -l help -d 'Print help and leave'
@@ -260,6 +260,8 @@ complete -c afdx-fill -n '__afdx_at - 1 1' -a '(__afdx_files toml)'
 complete -c afdx-icd -f
 complete -c afdx-icd -l help -d 'show this help message and exit'
 complete -c afdx-icd -l version -d 'print the version and leave'
+complete -c afdx-icd -x -l cables -a '(__afdx_files csv)' \
+    -d 'the table of the cables between switches'
 complete -c afdx-icd -x -l profile -a '1 2' -d '2 has rates of 1000 Mbit/s'
 complete -c afdx-icd -l fill \
     -d 'an empty cell that has to have a value has that of the cell above'
@@ -315,6 +317,8 @@ complete -c afdx-taps -n '__afdx_at - 3 3' -a '(__afdx_files pcap pcapng)'
 complete -c afdx-traffic -f
 complete -c afdx-traffic -l help -d 'show this help message and exit'
 complete -c afdx-traffic -l version -d 'print the version and leave'
+complete -c afdx-traffic -x -l cables -a '(__afdx_files csv)' \
+    -d 'the table of the cables between switches'
 complete -c afdx-traffic -x -l profile -a '1 2' -d '2 has rates of 1000 Mbit/s'
 complete -c afdx-traffic -l fill \
     -d 'an empty cell that has to have a value has that of the cell above'

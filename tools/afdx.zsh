@@ -185,6 +185,7 @@ _afdx_takes() { # COMMAND
     'afdx-icd')
         _arguments $help \
             $version \
+            '--cables[the table of the cables between switches]:cables.csv:_files -g "*.csv(-.)"' \
             '--profile[2 has rates of 1000 Mbit/s]: :(1 2)' \
             '--fill[an empty cell that has to have a value has that of the cell above]' \
             '--raise[write it also where messages can'\''t be in time]' \
@@ -231,6 +232,7 @@ _afdx_takes() { # COMMAND
     'afdx-traffic')
         _arguments $help \
             $version \
+            '--cables[the table of the cables between switches]:cables.csv:_files -g "*.csv(-.)"' \
             '--profile[2 has rates of 1000 Mbit/s]: :(1 2)' \
             '--fill[an empty cell that has to have a value has that of the cell above]' \
             '--seconds[for how long]:s:' \
