@@ -1,6 +1,8 @@
 //! Several switches that are to be solved, as they are read and written.
 
-use afdx_config::{Described, KeptKeys, SwitchId, Switches, ToSolve, read_file, read_file_to_solve};
+use afdx_config::{
+    Described, KeptKeys, SwitchId, Switches, ToSolve, read_file, read_file_to_solve,
+};
 use afdx_samples::{changed, equal, two_switches};
 use afdx_solve::cascade_text;
 use std::alloc::Global;
@@ -81,8 +83,7 @@ fn free_keys_in_each_switch(rt: HostRuntime) -> Result<(), Fail> {
 
 /// What the links of the second switch ask for.
 fn asked_of_second(alloc: Global, text: &str) -> Result<(Option<u64>, Option<u64>), Fail> {
-    let Ok(ToSolve::Several(_, asked)) = read_file_to_solve(alloc, text.as_bytes(), JITTERS)
-    else {
+    let Ok(ToSolve::Several(_, asked)) = read_file_to_solve(alloc, text.as_bytes(), JITTERS) else {
         return Err("the text is refused".into());
     };
     match asked.as_slice() {

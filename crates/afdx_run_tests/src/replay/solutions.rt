@@ -144,11 +144,7 @@ fn changed_tables(rt: HostRuntime) -> Result<(), Fail> {
 
 #[test]
 fn changed_switches(rt: HostRuntime) -> Result<(), Fail> {
-    all_right(wrongly_answered(
-        rt.alloc(),
-        two_switches(),
-        CHANGES_OF_TWO.as_slice(),
-    )?)
+    all_right(wrongly_answered(rt.alloc(), two_switches(), CHANGES_OF_TWO.as_slice())?)
 }
 
 /// Whether `solve` writes a text that begins so, where one try may end out of memory.
