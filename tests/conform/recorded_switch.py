@@ -70,15 +70,15 @@ class RecordedSwitch:
     """Runs over all that comes. A wrong switch overrides a step."""
 
     def __init__(self, tables: dict, options: Options, chance: random.Random) -> None:
-        self.tables, self.options, self.chance = {"neighbour": []} | tables, options, chance
-        self.switch = Switch(self.tables)
+        self.tables, self.options, self.chance = tables, options, chance
+        self.switch = Switch(tables | {"neighbour": []})
         self.clock = Clock(chance, options.drift)
         plain = options._replace(drift=0)
         self.byte_ns = {port: out.byte_ns for port, out in self.switch.ports.items()}
         self.terms = {
             (vl, port): Terms(link, self.byte_ns[port], plain, 0)
             for vl, link in self.switch.links.items()
-            for port in (self.switch.port_of[name] for name in link["to"])
+            for port in self.ports_of(vl)
         }
         self.rules: dict[Key, Policing] = {}
         self.came: list[Recorded] = []
@@ -90,12 +90,16 @@ class RecordedSwitch:
         self.pending: list[tuple[int, int, str, int, str, bytes]] = []  # what is to leave
         self.count = 0
 
+    def ports_of(self, vl: int) -> list[int]:
+        """The output ports of a link."""
+        return [self.switch.port_of[name] for name in self.switch.links[vl]["to"]]
+
     # ---- what a wrong switch may change ----------------------------------------------------------
 
-    def accepts(self, side: str, vl: int, time: int, length: int) -> bool:
+    def accepts(self, vl: int, time: int, arriving: Arriving) -> bool:
         """The account has room."""
-        rule = self.rules.setdefault((side, vl), Policing(self.switch.links[vl]))
-        return not rule.early(time, length)
+        rule = self.rules.setdefault((arriving.side, vl), Policing(self.switch.links[vl]))
+        return not rule.early(time, len(arriving.frame().content))
 
     def delay(self, vl: int, port: int, length: int) -> int:
         """What a frame takes inside."""
@@ -103,9 +107,13 @@ class RecordedSwitch:
         least, most = terms.wire_time(length), terms.latency
         return self.chance.choice([least, most, self.chance.randint(least, most)])
 
-    def leave(self, side: str, port: int, end: int, arriving: Arriving) -> None:
+    def leave(self, port: int, end: int, arriving: Arriving) -> None:
         """The frame is to leave the port when the clock shows so much."""
-        self.put(side, port, end, arriving.kind, arriving.content)
+        self.put(arriving.side, port, end, arriving.kind, arriving.content)
+
+    def tell(self, word: str, port: int, arriving: Arriving) -> None:
+        """So much must be found."""
+        self.told.add((word, arriving.side, port, arriving.content.hex()))
 
     # ---- the run ---------------------------------------------------------------------------------
 
@@ -160,12 +168,11 @@ class RecordedSwitch:
         if self.switch.shape(arriving.port, frame) or vl is None:
             return
         length = len(frame.content)
-        if self.accepts(side, vl, clock, length):
-            for name in self.switch.links[vl]["to"]:
-                port = self.switch.port_of[name]
+        if self.accepts(vl, clock, arriving):
+            for port in self.ports_of(vl):
                 end = max(clock, self.ends[side, vl, port], came + self.delay(vl, port, length))
                 self.ends[side, vl, port] = end
-                self.leave(side, port, end, arriving)
+                self.leave(port, end, arriving)
 
 
 def lines_of(recorded: list[Recorded], begin: int = 0, end: int = 10**18) -> bytes:

@@ -91,13 +91,13 @@ def long_tables() -> dict:
 def two_tables() -> dict:
     """Two switches, k1 and k2: link 1 comes to k1 over their cable."""
     tables = made.base_tables()
-    third, cable = tables["system"][2], {"port": 1, "rate": 100}
-    first = {"name": "k1", **tables, "system": [third], "link": [dict(tables["link"][0])]}
-    first |= {"neighbour": [{"name": "k2", **cable}], "port": []}
-    first["link"][0] |= {"from": "k2", "jitter_us": 7000}
-    second = {"name": "k2", **tables, "system": tables["system"][:2], "port": []}
-    links = [link | {"to": ["k1"]} for link in tables["link"]]
-    second |= {"neighbour": [{"name": "k1", **cable, "port": 3}], "link": links}
+    systems, links = tables["system"], tables["link"]
+    onward = links[0] | {"from": "k2", "jitter_us": 7000}
+    first = tables | {"name": "k1", "system": systems[2:], "link": [onward], "port": []}
+    first["neighbour"] = [{"name": "k2", "port": 1, "rate": 100}]
+    to_first = [link | {"to": ["k1"]} for link in links]
+    second = tables | {"name": "k2", "system": systems[:2], "link": to_first, "port": []}
+    second["neighbour"] = [{"name": "k1", "port": 3, "rate": 100}]
     return {"switch": [first, second]}
 
 

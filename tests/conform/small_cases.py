@@ -11,8 +11,8 @@ from first_fault import LATEST
 from frames import byte_ns, sealed
 from one_switch import MS, Policing
 
-GAPS = (0, 0, 1, 5_760, 54_617, 480_000, 498_000, 499_499, 499_501, 499_999, 500_000, 500_001)
-GAPS += (500_500, 999_000, MS - 1, MS, MS + 1_001, 2 * MS)
+GAPS = [0, 0, 1, 5_760, 54_617, 480_000, 498_000, 499_499, 499_501, 499_999, 500_000, 500_001]
+GAPS += [500_500, 999_000, MS - 1, MS, MS + 1_001, 2 * MS]
 OFF = (-5_760, -1_000, -2, -1, 0, 0, 1, 2, 1_000, 17_000)  # of times, by which lists are changed
 SLACKS, DRIFTS, INNERS = (0, 1, 1_000, 50_000, MS), (0, 1, 100, 1_000), (0, 1, 60_000, MS)
 ASKED = (0, 1, 700, 10_000)
@@ -169,4 +169,4 @@ def small_pair(chance: random.Random, most: int = 9, faulty: float = 0.05) -> Pa
     if chance.random() < faulty:
         at = chance.randrange(2)
         texts[at] = with_fault(chance, texts[at])
-    return Pair(made.text_of(tables), *texts, words)
+    return Pair(made.text_of(tables), texts[0], texts[1], words)

@@ -162,5 +162,3 @@ def wrong_bodies() -> list[tuple[str, type[Judging]]]:
     steps = [(stream, judging_by(Terms, stream)) for stream in OTHER_STREAMS]
     both = [*changed, *steps, *((run, run) for run in OTHER_RUNS)]
     return [((wrong.__doc__ or "").strip(" ."), judging) for wrong, judging in both]
-
-
