@@ -84,6 +84,30 @@ def are_explained(seed: int, count: int) -> None:
     must(tried > count, "too few streams")
 
 
+def told_early(judge: Judge, seed: int, count: int) -> None:
+    """What is written before a fault is the beginning of what is written without it, down to the
+    lines whose moments are over."""
+    told = 0
+    for case in range(count):
+        chance = random.Random(f"{seed} {case} early")
+        pair = small_pair(chance, faulty=0)
+        whole = judge.answer(pair)
+        lists = [text.splitlines(keepends=True) for text in (pair.came, pair.left)]
+        times = sorted(int(line.split(b" ")[1]) for line in [*lists[0], *lists[1]])
+        if whole.status not in (0, 3, 5) or whole.err or not times:
+            continue
+        end, bad = chance.choice(times), chance.randrange(2)
+        cut = [[line for line in lines if int(line.split(b" ")[1]) <= end] for lines in lists]
+        cut[bad].append(b"bad\n")
+        begun = pair._replace(came=b"".join(cut[0]), left=b"".join(cut[1]))
+        found = judge.answer(begun)
+        name = ("came", "left")[bad]
+        must(found.status == 3 and found.err.startswith(b"list %s " % name.encode()), "no fault")
+        must(whole.out.startswith(found.out), f"case {case}: {found.out!r} of {whole.out!r}")
+        told += found.out != b""
+    must(told, "nothing was told before a fault")
+
+
 def judged_alike(judge: Judge, seed: int, count: int) -> None:
     """It answers what is computed here."""
     for case in range(count):
@@ -155,6 +179,25 @@ def right_conform(judge: Judge, seed: int, count: int) -> None:
         starts = begin, first - chance.randrange(MS)
         nothing_found(judge, recorded(switch, (*words, "--from", str(begin)), starts, far))
         nothing_found(judge, recorded(switch, (*until, "--from", str(begin)), starts, stopped))
+
+
+def anywhere_conform(judge: Judge, seed: int) -> None:
+    """Wherever a recording begins or ends, a right switch isn't accused. Stamps may be off by more
+    than a frame takes, so that it may seem to leave before it came."""
+    chance = random.Random(f"{seed} anywhere")
+    tables = bench_tables(chance, 1)
+    tables["link"][0] |= {"to": ["s3"], "latency_us": 150}
+    options = Options(slack=100_000, asked=chance.choice([0, 10_000]))
+    switch = RecordedSwitch(tables, options, chance)
+    switch.run([each for each in traffic(chance, tables, 12, 1000, odd=0) if each.side == "A"])
+    words, far = words_of(options), (10**18, 10**18)
+    for time, *_ in [*switch.came, *switch.left]:
+        for more in (-1, 0, 1, 200_000, 350_000, 450_000, 550_000):
+            at = max(0, time + more)
+            until, start = (*words, "--until", str(at)), (*words, "--from", str(at))
+            nothing_found(judge, recorded(switch, until, (0, 0), (at, at)))
+            begins = at, max(0, at - 200_000)
+            nothing_found(judge, recorded(switch, start, begins, far))
 
 
 def left_out_conform(judge: Judge, seed: int) -> None:

@@ -25,8 +25,8 @@ TESTS = os.path.join(os.path.dirname(os.path.abspath(__file__)), "..")
 sys.path[:0] = [os.path.join(TESTS, name) for name in ("lib", "conform", "cascades", "fuzzing")]
 from conform_claims import JUDGED, Judge  # noqa: E402
 from conform_claims import are_explained, bodies_are_refused, judged_alike  # noqa: E402
-from conform_claims import left_out_conform, long_run_conforms, right_conform  # noqa: E402
-from conform_claims import row_holds, wrong_are_found  # noqa: E402
+from conform_claims import anywhere_conform, left_out_conform, long_run_conforms  # noqa: E402
+from conform_claims import right_conform, row_holds, told_early, wrong_are_found  # noqa: E402
 from program import Program, main_of_both  # noqa: E402
 from replay_claims import cascades_conform, examples_conform, stored_conform  # noqa: E402
 from rows import ROWS  # noqa: E402
@@ -42,10 +42,12 @@ def cases_of(judge: Judge, who: str) -> list[tuple]:
     cases: list[tuple] = [(f"{who}: {row.name}", row_holds, judge, row) for row in ROWS]
     for seed in range(3):
         cases.append((f"{who}: right switches, {seed}", right_conform, judge, seed, 4))
+        cases.append((f"{who}: begun and ended anywhere, {seed}", anywhere_conform, judge, seed))
         cases.append((f"{who}: what is left out, {seed}", left_out_conform, judge, seed))
     for wrong in WRONG_SWITCHES:
         cases.append((f"{who}: {(wrong.__doc__ or '').strip()}", wrong_are_found, judge, wrong))
     cases.append((f"{who}: clocks that drift for long", long_run_conforms, judge, LONG))
+    cases.append((f"{who}: what is told before a fault", told_early, judge, 0, MANY))
     return cases
 
 
