@@ -4,22 +4,26 @@ from __future__ import annotations
 
 import os
 import random
-import tomllib
+from collections.abc import Callable
 
 from admitted_cascades import admitted
 from cascade import cascade_text, loaded
 from cascade_run import replayed
-from conform import conform
+from compared_runs import replay_by
+from conform_claims import Judge
 from made_lists import made_list
-from program import Answer, Program, must
+from program import Answer, Program, answers, must
 from replayed_lists import Replayed, of_one, of_several
+from small_cases import Pair
 from tables import EXAMPLES, example
 
 LEEWAYS: tuple[tuple[str, ...], ...] = (
     (), ("--slack", "1000"), ("--drift", "100", "--from", "2000000"), ("--asked", "10000"),
     ("--inner", "60000", "--until", "30000000"), ("--slack", "50000", "--from", "0"),
 )
-ONES = (("network.toml", "bench"),)  # those that are admitted
+ONE, TWO = ("network.toml", "bench.list"), ("two_switches.toml", "two_switches.list")
+
+Replay = Callable[[dict, bytes], bytes]  # what a replay writes of a cascade and a list
 
 
 def conforms(answer: Answer, must_show: bool, name: str) -> None:
@@ -28,48 +32,62 @@ def conforms(answer: Answer, must_show: bool, name: str) -> None:
     must(answer.status in fine and answer.out.count(b"\n") == 1, f"{name}: {answer.out[:200]!r}")
 
 
-def pair_conforms(config: bytes, pair: Replayed, switch: tuple[str, ...], name: str) -> None:
+def pair_conforms(
+    judge: Judge, config: bytes, pair: Replayed, name: str, switch: tuple[str, ...] = ()
+) -> None:
     """It conforms, with each leeway too."""
     for words in LEEWAYS:
-        must_show = not words and pair.left != b""
-        conforms(conform(config, *pair, (*words, *switch)), must_show, f"{name} {words}")
+        answer = judge.answer(Pair(config, pair.came, pair.left, (*words, *switch)))
+        conforms(answer, not words and pair.left != b"", f"{name} {words}")
 
 
-def several_conform(config: bytes, text: bytes, out: bytes, name: str) -> None:
+def several_conform(judge: Judge, config: bytes, text: bytes, out: bytes) -> None:
     """Each switch of a cascade conforms."""
-    for switch, pair in of_several(loaded(config)["switch"], text, out).items():
-        pair_conforms(config, pair, ("--switch", switch), f"{name}, {switch}")
+    for name, pair in of_several(loaded(config)["switch"], text, out).items():
+        pair_conforms(judge, config, pair, name, ("--switch", name))
 
 
-def stored_conform() -> None:
-    """The stored outputs."""
-    for tables, name in ONES:
-        pair = of_one(example(f"{name}.list"), example(f"{name}.out"))
-        pair_conforms(example(tables), pair, (), name)
-    config, text, out = (example(f"two_switches.{end}") for end in ("toml", "list", "out"))
-    several_conform(config, text, out, "two_switches")
+def stored_conform(judge: Judge) -> None:
+    """The stored outputs of networks that are admitted."""
+    config, text = map(example, ONE)
+    pair_conforms(judge, config, of_one(text, example("bench.out")), "bench")
+    config, text = map(example, TWO)
+    several_conform(judge, config, text, example("two_switches.out"))
 
 
-def cascades_conform(chance: random.Random, count: int) -> None:
-    """What is computed of admitted cascades."""
+def cascades_conform(judge: Judge, replay: Replay, seed: int, count: int) -> None:
+    """What a replay writes of admitted cascades."""
+    chance = random.Random(seed)
     for _ in range(count):
         cascade = admitted(chance)
         text = made_list(chance, cascade, 40)
-        out = replayed(cascade, text).out()
-        several_conform(cascade_text(cascade), text, out, f"{len(cascade['switch'])} switches")
+        several_conform(judge, cascade_text(cascade), text, replay(cascade, text))
 
 
-def examples_conform(program: Program) -> None:
-    """What the program writes of each example's list."""
-    found = 0
-    for tables, name in (*ONES, ("two_switches.toml", "two_switches")):
-        paths = [os.path.join(EXAMPLES, each) for each in (tables, f"{name}.list")]
-        run = program.run("replay", *paths)
-        must(run.status == 0, f"{name}: {run.err!r}")
-        config, text = example(tables), example(f"{name}.list")
-        if "switch" in tomllib.loads(config.decode()):
-            several_conform(config, text, run.out, name)
-        else:
-            pair_conforms(config, of_one(text, run.out), (), name)
-        found += 1
-    must(found == len(ONES) + 1, "an example is missing")
+def computed_replay(cascade: dict, text: bytes) -> bytes:
+    """What is computed that a replay writes."""
+    return replayed(cascade, text).out()
+
+
+def replay_of(program: Program) -> Replay:
+    """The program's replay."""
+
+    def replay(cascade: dict, text: bytes) -> bytes:
+        found = replay_by(program.apart(), cascade, text, ())
+        answers(found, 0, None, b"")
+        return found.out
+
+    return replay
+
+
+def examples_conform(judge: Judge, program: Program) -> None:
+    """What the program writes of the examples' lists."""
+    outs = []
+    for names in (ONE, TWO):
+        found = program.run("replay", *(os.path.join(EXAMPLES, name) for name in names))
+        answers(found, 0, None, b"")
+        outs.append(found.out)
+    config, text = map(example, ONE)
+    pair_conforms(judge, config, of_one(text, outs[0]), "bench")
+    config, text = map(example, TWO)
+    several_conform(judge, config, text, outs[1])

@@ -5,6 +5,7 @@ from __future__ import annotations
 from typing import NamedTuple
 
 from cascade_run import SIDES, Arrival, Places, arrivals_of
+from first_fault import LATEST
 
 
 class Replayed(NamedTuple):
@@ -25,7 +26,8 @@ class Departure(NamedTuple):
 
 
 def departures_of(out: bytes, is_named: bool) -> list[Departure]:
-    """The D lines of an output; without places of several switches no switch has a name."""
+    """The D lines of an output whose times a list may have; without places of several switches no
+    switch has a name."""
     found = []
     for line in out.decode().splitlines():
         words = line.split(" ")
@@ -33,7 +35,7 @@ def departures_of(out: bytes, is_named: bool) -> list[Departure]:
             _, number, time, side, *switch, port = words
             name = switch[0] if is_named else ""
             found.append(Departure(int(number), int(time), side, name, int(port)))
-    return found
+    return [leaves for leaves in found if leaves.time <= LATEST]
 
 
 def raw(time: int, side: str, port: int, content: bytes) -> tuple[int, str]:

@@ -17,7 +17,6 @@ case failed. Needs Python 3.11.
 from __future__ import annotations
 
 import os
-import random
 import sys
 
 sys.dont_write_bytecode = True
@@ -28,7 +27,8 @@ from conform_claims import are_explained, bodies_are_refused, judged_alike  # no
 from conform_claims import anywhere_conform, left_out_conform, long_run_conforms  # noqa: E402
 from conform_claims import right_conform, row_holds, told_early, wrong_are_found  # noqa: E402
 from program import Program, main_of_both  # noqa: E402
-from replay_claims import cascades_conform, examples_conform, stored_conform  # noqa: E402
+from replay_claims import cascades_conform, computed_replay, examples_conform  # noqa: E402
+from replay_claims import replay_of, stored_conform  # noqa: E402
 from rows import ROWS  # noqa: E402
 from wrong_bodies import wrong_bodies  # noqa: E402
 from wrong_switches import WRONG_SWITCHES  # noqa: E402
@@ -58,8 +58,9 @@ def computed_cases() -> list[tuple]:
         *((f"refused: {name}", bodies_are_refused, body) for name, body in wrong_bodies()),
         *((f"explained exactly where nothing is found, {seed}", are_explained, seed, MANY)
           for seed in range(3)),
-        ("the stored outputs conform", stored_conform),
-        ("replays over several switches conform", cascades_conform, random.Random(7), 4),
+        ("the stored outputs conform", stored_conform, JUDGED),
+        ("computed replays of several switches conform", cascades_conform, JUDGED,
+         computed_replay, 7, 4),
     ]
 
 
@@ -70,12 +71,16 @@ def has_conform(program: Program) -> bool:
 
 def program_cases(program: Program) -> list[tuple]:
     """What is tried with the program."""
-    cases: list[tuple] = [("replays of the program conform", examples_conform, program.apart())]
+    judge, who = JUDGED, "computed"
+    cases: list[tuple] = []
     if has_conform(program):
-        judge = Judge(program)
-        cases += cases_of(judge, "program")
+        judge, who = Judge(program), "program"
+        cases += cases_of(judge, who)
         for seed in range(4):
             cases.append((f"cases made at random, {seed}", judged_alike, judge, seed, MANY))
+    cases.append((f"{who}: replays by the program conform", examples_conform, judge, program))
+    cases.append((f"{who}: replays by the program, several switches", cascades_conform, judge,
+                  replay_of(program), 8, 6))
     return cases
 
 
