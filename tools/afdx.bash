@@ -149,8 +149,8 @@ _afdx_takes() { # COMMAND : its options, and those that take a value
             valued=(--keep)
             ;;
         'afdx-icd')
-            options=(--help --version --profile --fill --raise --reserve --since)
-            valued=(--profile --reserve --since)
+            options=(--help --version --cables --profile --fill --raise --reserve --since)
+            valued=(--cables --profile --reserve --since)
             ;;
         'afdx-report')
             options=(--help --version --out --no-admission --link --from --rows --worst --compare \
@@ -164,8 +164,8 @@ _afdx_takes() { # COMMAND : its options, and those that take a value
             valued=()
             ;;
         'afdx-traffic')
-            options=(--help --version --profile --fill --seconds --seed --config)
-            valued=(--profile --seconds --seed --config)
+            options=(--help --version --cables --profile --fill --seconds --seed --config)
+            valued=(--cables --profile --seconds --seed --config)
             ;;
     esac
 }
@@ -202,6 +202,7 @@ _afdx_value() { # COMMAND OPTION, in one word
         'afdx-capture annotate --fcs') _afdx_words yes no ;;
         'afdx-capture annotate --stamps') _afdx_words end start ;;
         'afdx-fill --keep') _afdx_words jitter buffer latency skew ;;
+        'afdx-icd --cables') _afdx_files csv ;;
         'afdx-icd --profile') _afdx_words 1 2 ;;
         'afdx-icd --since') _afdx_files toml ;;
         'afdx-report --out') _afdx_folders ;;
@@ -216,6 +217,7 @@ _afdx_value() { # COMMAND OPTION, in one word
                 lost
             ;;
         'afdx-report --junit') _afdx_files xml ;;
+        'afdx-traffic --cables') _afdx_files csv ;;
         'afdx-traffic --profile') _afdx_words 1 2 ;;
         'afdx-traffic --config') _afdx_files toml ;;
     esac

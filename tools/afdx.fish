@@ -49,8 +49,8 @@ end
 # printed by bin/pages
 set -g __afdx_valued --interface --fcs --origin --reorder --stamps --vl --port --lmin --policing \
     --keep --out -j --jobs -S --sshlogin --taps --fail-on --junit --config -o --split --side \
-    --profile --reserve --since --link --from --rows --worst --compare --title --cover --seconds \
-    --seed
+    --cables --profile --reserve --since --link --from --rows --worst --compare --title --cover \
+    --seconds --seed
 
 complete -c afdx -f
 complete -c afdx -n '__afdx_at - 0 0' -l help -d 'Print help and leave'
@@ -218,7 +218,7 @@ complete -c afdx-capture -n '__afdx_in list' -x -l split -a '(__afdx_files list)
 complete -c afdx-capture -n '__afdx_at list 0 0' -a '(__afdx_files pcap pcapng)'
 complete -c afdx-capture -n '__afdx_at list 1 1' -a '(__afdx_files pcap pcapng)'
 complete -c afdx-capture -n '__afdx_at - 0 0' -a pcap \
-    -d 'Writes a frame list, or what afdx send writes, as pcap with times in ns.'
+    -d 'Writes a frame list, or what afdx send writes, as pcap with times in ns of'
 complete -c afdx-capture -n '__afdx_in pcap' -l help -d 'show this help message and exit'
 complete -c afdx-capture -n '__afdx_in pcap' -x -l side -a 'A B' -d 'only this network\'s frames'
 complete -c afdx-capture -n '__afdx_in pcap' -x -l fcs -a 'yes no' \
@@ -260,6 +260,8 @@ complete -c afdx-fill -n '__afdx_at - 1 1' -a '(__afdx_files toml)'
 complete -c afdx-icd -f
 complete -c afdx-icd -l help -d 'show this help message and exit'
 complete -c afdx-icd -l version -d 'print the version and leave'
+complete -c afdx-icd -x -l cables -a '(__afdx_files csv)' \
+    -d 'the table of the cables between switches'
 complete -c afdx-icd -x -l profile -a '1 2' -d '2 has rates of 1000 Mbit/s'
 complete -c afdx-icd -l fill \
     -d 'an empty cell that has to have a value has that of the cell above'
@@ -276,7 +278,7 @@ complete -c afdx-report -l version -d 'print the version and leave'
 complete -c afdx-report -x -l out -a '(__fish_complete_directories)' \
     -d 'the folder for page, CSV and JSON'
 complete -c afdx-report -l no-admission -d 'also where the network isn\'t admitted'
-complete -c afdx-report -x -l link -d 'a link with a time line, several times'
+complete -c afdx-report -x -l link -d 'a link with a time line'
 complete -c afdx-report -x -l from -d 'where the time lines begin'
 complete -c afdx-report -x -l rows -d 'links in the picture of latencies'
 complete -c afdx-report -x -l worst -d 'frames in the tables of the worst'
@@ -315,6 +317,8 @@ complete -c afdx-taps -n '__afdx_at - 3 3' -a '(__afdx_files pcap pcapng)'
 complete -c afdx-traffic -f
 complete -c afdx-traffic -l help -d 'show this help message and exit'
 complete -c afdx-traffic -l version -d 'print the version and leave'
+complete -c afdx-traffic -x -l cables -a '(__afdx_files csv)' \
+    -d 'the table of the cables between switches'
 complete -c afdx-traffic -x -l profile -a '1 2' -d '2 has rates of 1000 Mbit/s'
 complete -c afdx-traffic -l fill \
     -d 'an empty cell that has to have a value has that of the cell above'

@@ -16,9 +16,12 @@ local fields = {
     seq = ProtoField.uint8("afdx.seq", "Sequence number"),
     step = ProtoField.int16("afdx.step", "Steps since the link's number before on this network"),
     gap = ProtoField.double("afdx.gap_ms", "Gap to the link's frame before on this network, in ms"),
+    switch = ProtoField.string("afdx.switch", "Switch, of several"),
+    port = ProtoField.uint8("afdx.port", "Port of the switch, of several"),
 }
 afdx.fields = {
     fields.vl, fields.side, fields.system, fields.partition, fields.seq, fields.step, fields.gap,
+    fields.switch, fields.port,
 }
 
 local experts = {
@@ -54,8 +57,13 @@ local SHORTEST = 60            -- bytes of the shortest frame without its check 
 local MOST_STEPS = 127         -- forward from one number to another
 local LONGEST = 1518           -- bytes of the longest frame with it; what is longer is no AFDX
 
--- Of each link on each network: true once a right check sequence was found, frames whose check
--- sequence was computed, time and number of the frame before.
+-- Of several switches a frame stands there once for each to which it came, at an interface such as
+-- `A fwd port 3`. Of each interface's name: its switch and its port, or false for another name.
+local interface_name = Field.new("frame.interface_name")
+local places
+
+-- Of each link on each network, of several switches at each: true once a right check sequence was
+-- found, frames whose check sequence was computed, time and number of the frame before.
 local sealed, looked, last_time, last_seq
 -- Of all frames: was a right check sequence found, of how many frames was it computed?
 local found, tried
@@ -72,7 +80,7 @@ end
 function afdx.init()
     fcs = afdx.prefs.fcs
     sealed, looked, last_time, last_seq = {}, {}, {}, {}
-    gaps, steps, begins = {}, {}, {}
+    gaps, steps, begins, places = {}, {}, {}, {}
     found, tried = false, 0
 end
 
@@ -179,6 +187,20 @@ local function add_history(tree, number)
     end
 end
 
+-- ---- where it came in ------------------------------------------------------------------------
+
+-- The switch and the port of the frame's interface, if it is named as one of several switches.
+local function place_of()
+    local found = interface_name()
+    if not found then return false end
+    local name = tostring(found)
+    if places[name] == nil then
+        local switch, port = name:match("^[AB] (%w+) port (%d+)$")
+        places[name] = switch and { switch = switch, port = tonumber(port) } or false
+    end
+    return places[name]
+end
+
 -- ---- a frame ---------------------------------------------------------------------------------
 
 local function add_addresses(tree, tvb, head, side)
@@ -223,7 +245,13 @@ function afdx.dissector(tvb, pinfo, root)
     local name = "VL " .. vl .. " " .. (side or "?")
     local tree = root:add(afdx, tvb(), "AFDX, " .. name)
     add_addresses(tree, tvb, head, side)
-    local seq = add_number(tree, tvb, length, pinfo, vl * 256 + network)
+    local key, place = vl * 256 + network, place_of()
+    if place then
+        key = place.switch .. " " .. key
+        tree:add(fields.switch, place.switch):set_generated()
+        tree:add(fields.port, place.port):set_generated()
+    end
+    local seq = add_number(tree, tvb, length, pinfo, key)
     if seq then name = name .. " #" .. seq end
     local columns = pinfo.cols
     columns.protocol = "AFDX"

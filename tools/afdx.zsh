@@ -185,6 +185,7 @@ _afdx_takes() { # COMMAND
     'afdx-icd')
         _arguments $help \
             $version \
+            '--cables[the table of the cables between switches]:cables.csv:_files -g "*.csv(-.)"' \
             '--profile[2 has rates of 1000 Mbit/s]: :(1 2)' \
             '--fill[an empty cell that has to have a value has that of the cell above]' \
             '--raise[write it also where messages can'\''t be in time]' \
@@ -199,7 +200,7 @@ _afdx_takes() { # COMMAND
             $version \
             '--out[the folder for page, CSV and JSON]:dir:_path_files -/' \
             '--no-admission[also where the network isn'\''t admitted]' \
-            '*--link[a link with a time line, several times]:vl:' \
+            '*--link[a link with a time line]:vl:' \
             '--from[where the time lines begin]:ns:' \
             '--rows[links in the picture of latencies]:n:' \
             '--worst[frames in the tables of the worst]:n:' \
@@ -231,6 +232,7 @@ _afdx_takes() { # COMMAND
     'afdx-traffic')
         _arguments $help \
             $version \
+            '--cables[the table of the cables between switches]:cables.csv:_files -g "*.csv(-.)"' \
             '--profile[2 has rates of 1000 Mbit/s]: :(1 2)' \
             '--fill[an empty cell that has to have a value has that of the cell above]' \
             '--seconds[for how long]:s:' \

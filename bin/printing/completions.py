@@ -22,7 +22,8 @@ LISTS, PCAPS = ("list",), ("pcap", "pcapng")
 KINDS: dict[str, Kind] = {
     "CONFIG": ("files", "toml"), "OLD": ("files", "toml"), "FILLED": ("files", "toml"),
     "OTHER.json": ("files", "json"), "SYSTEMS.csv": ("files", "csv"),
-    "MESSAGES.csv": ("files", "csv"), "TAPS": ("files", "csv"), "RECORDING": ("files", *PCAPS),
+    "MESSAGES.csv": ("files", "csv"), "CABLES.csv": ("files", "csv"), "TAPS": ("files", "csv"),
+    "RECORDING": ("files", *PCAPS),
     "LIST": ("files", *LISTS, *PCAPS), "SUBMISSIONS": ("files", *LISTS, "messages"),
     "DIR": ("folders",), "FOLDER": ("folders",), "SYSTEM": ("systems",),
     "BAG_MS": ("words", "1", "2", "4", "8", "16", "32", "64", "128"),

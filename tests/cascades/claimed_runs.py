@@ -8,19 +8,19 @@ import random
 from cascade import cascade_text
 from cascade_check import check_lines
 from cascade_run import SIDES, Arrival, Places, arrivals_of, replayed, sent_text
-from compared_recordings import CONFIG, case_over, files_of
-from compared_runs import replay_by
+from compared_recordings import CONFIG, case_over, files_of, replayed_answer
 from end_claims import Told, accepted_everywhere, alone, ends_are_sums, exactly_once
 from end_claims import from_end_to_end
 from frames import Sent
-from lawful_streams import Line, Messages, Stream, computed_send, greedy_lines, late_streams
-from lawful_streams import lines_of, merged_lines, messages_in, other_lines, sent_streams, text_of
-from lawful_streams import ways_to_end, with_strangers
+from lawful_streams import Line, Messages, Stream, Submit, computed_send, greedy_lines
+from lawful_streams import late_streams, lines_of, merged_lines, messages_in, other_lines
+from lawful_streams import sent_streams, text_of, ways_to_end, with_strangers
 from made_lists import made_list
 from pair_wanted import PairCase
 from program import Program, answers, must
 from recorded_pair import PairOptions
 from sender import Message, submission_list
+from sent_over import messages_of
 from tapped_lists import FIRST, MIRRORS, TAPS, frames_of, over_cables, recorded
 
 MOST_LINKS = 3  # whose frames are looked at alone
@@ -34,6 +34,12 @@ class Computed:
         ran = replayed(cascade, text)
         must(ran.fault == fault, f"the fault is {ran.fault!r}")
         return ran.out()
+
+    def replay_pair(self, cascade: dict, case: PairCase) -> bytes:
+        """What is written of two recordings."""
+        found = replayed_answer(cascade, case.told(), ())
+        answers(found, 0, None, b"")
+        return found.out
 
     def check(self, cascade: dict) -> list[str]:
         """What `check` writes."""
@@ -51,22 +57,33 @@ class Called(Computed):
     def __init__(self, program: Program) -> None:
         self.program = program.apart()
 
+    def config(self, cascade: dict) -> str:
+        """The file of a cascade, which is written."""
+        return self.program.write(CONFIG, cascade_text(cascade))
+
     def replay(self, cascade: dict, text: bytes, fault: bytes = b"") -> bytes:
         """The program's output, and this is the fault."""
-        found = replay_by(self.program, cascade, text, ())
+        found = self.program.run("replay", self.config(cascade), "-", given=text)
         answers(found, 3 if fault else 0, None, fault)
+        return found.out
+
+    def replay_pair(self, cascade: dict, case: PairCase) -> bytes:
+        """The program's output of two recordings."""
+        self.config(cascade)
+        found = self.program.run("replay", *case.options.words(), *files_of(self.program, case))
+        answers(found, 0, None, b"")
         return found.out
 
     def check(self, cascade: dict) -> list[str]:
         """What `check` writes."""
-        found = self.program.run("check", self.program.write("config", cascade_text(cascade)))
+        found = self.program.run("check", self.config(cascade))
         answers(found, 0, None, b"")
         return found.out.decode().splitlines()
 
     def send(self, cascade: dict, switch: dict, name: str, messages: list[Message]) -> list[Sent]:
         """What `send` writes is what is computed of a system."""
-        config = self.program.write("config", cascade_text(cascade))
-        found = self.program.run("send", config, name, "-", given=submission_list(messages))
+        given = submission_list(messages)
+        found = self.program.run("send", self.config(cascade), name, "-", given=given)
         answers(found, 0, sent_text(cascade, name, messages), b"")
         return computed_send(switch, name, messages)
 
@@ -91,13 +108,23 @@ def told_of(runs: Computed, cascade: dict, text: bytes) -> Told:
 
 def streams_of(runs: Computed, chance: random.Random, cascade: dict) -> list[Stream]:
     """What all systems send; or late frames."""
+    switches = cascade["switch"]
     if chance.random() < 0.5:
-        return late_streams(chance, cascade["switch"])
+        return late_streams(chance, switches)
+
+    def submit(switch: dict, name: str) -> list[Message]:
+        return messages_of(chance, switches, switch, name)
+
+    return sent_by(runs, cascade, submit)
+
+
+def sent_by(runs: Computed, cascade: dict, submit: Submit) -> list[Stream]:
+    """What all systems send of what they submit."""
 
     def send(switch: dict, name: str, messages: list[Message]) -> list[Sent]:
         return runs.send(cascade, switch, name, messages)
 
-    return sent_streams(chance, cascade["switch"], send)
+    return sent_streams(cascade["switch"], submit, send)
 
 
 def streams_arrive(runs: Computed, chance: random.Random, cascade: dict) -> None:
@@ -196,19 +223,23 @@ def tapped(
     ]
 
 
-def taps_arrive(runs: Called, chance: random.Random, cascade: dict) -> None:
+def told_of_taps(
+    runs: Computed, chance: random.Random, cascade: dict, text: bytes, grain: str
+) -> Told:
+    """The same of two recordings of a list."""
+    case, arrivals = tapped(chance, cascade, text, grain)
+    told = Told(cascade, arrivals, runs.replay_pair(cascade, case))
+    accepted_everywhere(told)
+    from_end_to_end(told)
+    return told
+
+
+def taps_arrive(runs: Computed, chance: random.Random, cascade: dict) -> None:
     """The same streams in two recordings; where switches are mirrored without strangers, of whom
     most say that they are elsewhere."""
     streams, grain = streams_of(runs, chance, cascade), chance.choice([TAPS, TAPS, MIRRORS])
-    runs.program.write(CONFIG, cascade_text(cascade))
     for lines in ways_to_end(chance, lines_of(chance, streams)).values():
         text = with_strangers(chance, cascade["switch"], lines)
         text = text_of([line.text for line in lines]) if grain == MIRRORS else text
-        case, arrivals = tapped(chance, cascade, text, grain)
-        files = files_of(runs.program, case)
-        found = runs.program.run("replay", *case.options.words(), *files)
-        answers(found, 0, None, b"")
-        told = Told(cascade, arrivals, found.out)
-        accepted_everywhere(told)
-        from_end_to_end(told)
+        told = told_of_taps(runs, chance, cascade, text, grain)
         exactly_once(told, messages_in(streams, lines))

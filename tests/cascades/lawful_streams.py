@@ -14,7 +14,6 @@ from frames import Sent, frame_of, number_of
 from made_lists import made_list
 from one_switch import Policing
 from sender import Message, emissions
-from sent_over import messages_of
 from tables import system_named
 
 MS = 1_000_000
@@ -22,6 +21,8 @@ MOST_READ = 47  # bytes of a frame that are no payload
 
 # the messages of the link's frames, in order
 Messages = list[tuple[int, bytes]]
+# what a system submits, at a switch
+Submit = Callable[[dict, str], list[Message]]
 # what a system sends of such messages, at a switch
 Send = Callable[[dict, str, list[Message]], list[Sent]]
 
@@ -49,14 +50,13 @@ class Line(NamedTuple):
 # ---- streams -------------------------------------------------------------------------------------
 
 
-def sent_streams(chance: random.Random, switches: list[dict], send: Send) -> list[Stream]:
-    """All systems send messages, some of which they refuse."""
+def sent_streams(switches: list[dict], submit: Submit, send: Send) -> list[Stream]:
+    """What all systems send of what they submit."""
     streams = []
     for switch in switches:
         for name in sorted(own_names(switch)):
-            messages = messages_of(chance, switches, switch, name)
             by_link: dict[int, list[Sent]] = {}
-            for one in send(switch, name, messages):
+            for one in send(switch, name, submit(switch, name)):
                 by_link.setdefault(one.vl, []).append(one)
             port = system_named(switch, name)["port"]
             streams += [Stream(switch["name"], port, sent) for sent in by_link.values()]

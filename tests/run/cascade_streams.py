@@ -6,9 +6,10 @@
 Cascades of 2 to 5 switches are made at random: chains, stars, trees and rings of cables, of both
 profiles, with jitters behind cables of more than a BAG. All systems send at once, or their frames
 are late by up to a jitter. Strangers' frames come in at each port, and a side is dead from the
-begin, dies at any frame, or links' streams end anywhere. So it is in cascades of 24 switches. What
-is written of such a list, up to its end or to a fault, and of two recordings of it, is read for
-what is promised, by tests/cascades/end_claims.py:
+begin, dies at any frame, or links' streams end anywhere. So it is in cascades of 24 switches, and
+of what all systems of examples/aircraft.toml send. What is written of such a list, up to its end or
+to a fault, and of two recordings of it, is read for what is promised, by
+tests/cascades/end_claims.py:
 
 - what a cable brings is accepted, and no copy is lost or too old;
 - from each port of a link's way leave just the frames that its first switch accepted, in order, and
@@ -34,6 +35,8 @@ sys.dont_write_bytecode = True
 TESTS = os.path.join(os.path.dirname(os.path.abspath(__file__)), "..")
 sys.path[:0] = [os.path.join(TESTS, name) for name in ("lib", "cascades", "recordings", "fuzzing")]
 from admitted_cascades import SHAPES, admitted, admitted_cascade, rows_by_link  # noqa: E402
+from aircraft_sent import OfExample, aircraft_arrives, aircraft_is_looked_at  # noqa: E402
+from aircraft_sent import aircraft_is_recorded  # noqa: E402
 from amiss import AMISS, refused_by  # noqa: E402
 from cascade import cascade_text  # noqa: E402
 from cascade_check import cascade_false_lines, check_lines  # noqa: E402
@@ -46,6 +49,7 @@ from large_cascades import around_one, in_a_mesh, in_a_ring, in_a_row  # noqa: E
 from lawful_streams import lines_of, messages_in, ways_to_end, with_strangers  # noqa: E402
 from needed_lines import NEEDED, Needed, read_once  # noqa: E402
 from program import Program, Wrong, answers, main_of_both, must, same_text  # noqa: E402
+from tapped_lists import MIRRORS, TAPS  # noqa: E402
 
 Case = Callable[[Computed, random.Random, dict], None]
 
@@ -180,6 +184,10 @@ def computed_cases() -> list[tuple]:
         ("the generated cascades show everything", shapes_are_shown, 1, 20),
         ("computed: streams over 4 cascades", so_many, Computed(), streams_arrive, 1, 4),
         ("computed: any lists over 6 cascades", so_many, Computed(), any_list_runs, 1, 6),
+        ("computed: streams over 2 cascades, recorded", so_many, Computed(), taps_arrive, 1, 2),
+        ("computed: what the aircraft's systems send", aircraft_arrives, Computed(), 0),
+        ("computed: the same, recorded", aircraft_is_recorded, Computed(), 0, MIRRORS),
+        ("seen: a stranger in the aircraft, or an absent message", aircraft_is_looked_at, 0),
     ]
 
 
@@ -192,6 +200,12 @@ def program_cases(program: Program) -> list[tuple]:
         ("24 switches each to each", large, program, lambda: in_a_mesh(24, False)),
         ("24 switches in a row", large, program, lambda: in_a_row(24)),
     ]
+    for seed in range(2):
+        name = f"what the aircraft's systems send, {seed}"
+        cases.append((name, aircraft_arrives, OfExample(program), seed))
+    for grain in (TAPS, MIRRORS):
+        name = f"what the aircraft's systems send, recorded at {grain}"
+        cases.append((name, aircraft_is_recorded, OfExample(program), 0, grain))
     for seed in range(4):
         cases += [
             (f"streams over 12 cascades, {seed}", called, program, streams_arrive, seed, 12),

@@ -6,7 +6,8 @@
 Each system sends on each of its links about once in a BAG, at most one frame at a time on its line,
 on both sides; side B is a little late. Unless --sound is given, a link babbles for a while, some
 check sequences are wrong, some copies are missing on one side, one system uses another's link, and
-some frames name no link. The same words give the same list.
+some frames name no link. Of several switches a side lines name these. The same words give the same
+list.
 """
 from __future__ import annotations
 
@@ -35,10 +36,19 @@ class Sent(NamedTuple):
     number: int
 
 
+UDPS: dict[int, int] = {}  # of links whose UDP port isn't their identifier + 20,000
+
+
+def note_udps(tables: dict) -> None:
+    """Notes the UDP ports that links have at systems of several switches."""
+    for switch in tables.get("switch", []):
+        UDPS.update({row["link"]: row["udp"] for row in switch.get("port", [])})
+
+
 def body(link: Link, system_id: int, side: str, length: int, number: int) -> bytes:
-    """A frame without its check sequence; link's identifier + 20,000 is its UDP port."""
+    """A frame without its check sequence."""
     payload = bytes((number + n) % 251 for n in range(max(length - AROUND, 1)))
-    udp = (20_000 + link.vl) % 65_536
+    udp = UDPS.get(link.vl, (20_000 + link.vl) % 65_536)
     return frame_of(system_id, 1, link.vl, payload, number, side, udp, length)
 
 
@@ -68,6 +78,19 @@ def babble(link: Link, begin: int) -> list[Sent]:
     ]
 
 
+def place_of(config: Config, side: str, port: int) -> str:
+    """A port of a side as a line has it."""
+    return " ".join(map(str, [side, *config.keys_of(port).values()]))
+
+
+def other_port(config: Config, port: int) -> int:
+    """The port of another system, or one that has none."""
+    if config.several is None:
+        return port % len(config.systems) + 1
+    ports = [system.port for system in config.systems.values()]
+    return ports[(ports.index(port) + 1) % len(ports)]
+
+
 def lines_of(config: Config, args: argparse.Namespace) -> Iterator[tuple[int, str, str]]:
     """Time, side and line of each frame."""
     dice = random.Random(args.seed)
@@ -94,10 +117,11 @@ def lines_of(config: Config, args: argparse.Namespace) -> Iterator[tuple[int, st
                 elif luck < 0.012:
                     frame = frame[:4] + b"\xff\xf0" + frame[6:]
                 elif luck < 0.014:
-                    port = port % len(config.systems) + 1
+                    port = other_port(config, port)
                 elif luck < 0.015:
                     kind, frame = "R", frame[:40]
-                yield time + late, side, f"{kind} {time + late} {side} {port} {frame.hex()}"
+                place = place_of(config, side, port)
+                yield time + late, side, f"{kind} {time + late} {place} {frame.hex()}"
 
 
 def main() -> None:
@@ -111,7 +135,9 @@ def main() -> None:
     parser.add_argument("--sound", action="store_true")
     args = parser.parse_args()
     with open(args.config, "rb") as file:
-        config = config_of(tomllib.load(file), args.config)
+        tables = tomllib.load(file)
+    config = config_of(tables, args.config)
+    note_udps(tables)
     for _, _, line in sorted(lines_of(config, args)):
         print(line)
 

@@ -5,7 +5,8 @@ import unittest
 from fractions import Fraction
 
 from afdx_tools.faults import Refused
-from afdx_tools.icd.document import MESSAGES, SYSTEMS, Document, apart, document_of
+from afdx_tools.icd.document import MESSAGES, SYSTEMS, Document, apart
+from afdx_tools.icd.reading import document_of
 from afdx_tools.icd.room import Room, room_of
 from afdx_tools.icd.submissions import Stream, begin_of, streams_of, submissions
 from afdx_tools.solving import Bounds, Worst

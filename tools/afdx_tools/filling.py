@@ -52,8 +52,12 @@ def changes_of(text: str, table: Table, row: dict, keys: tuple[str, ...]) -> Ite
 
 
 def all_changes(text: str, places: Places, wanted: dict) -> Iterator[Change]:
-    """What gives a configuration the values of these tables."""
-    if "buffer" in places.top.values:
+    """What gives a configuration the values of these tables; of several switches one by one."""
+    if places.switches:
+        for switch, tables in zip(places.switches, wanted["switch"]):
+            yield from all_changes(text, switch, tables)
+        return
+    if places.top.is_inline or "buffer" in places.top.values:
         yield from changes_of(text, places.top, wanted, ("buffer",))
     else:
         yield new_line(text, places.top.values["profile"].end, "buffer", wanted["buffer"])

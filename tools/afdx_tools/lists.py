@@ -1,6 +1,7 @@
 """Frame lists: their lines, and the bytes of the frames that these name."""
 from __future__ import annotations
 
+import re
 import zlib
 from typing import Iterator, NamedTuple
 
@@ -10,10 +11,12 @@ MOST_LINES = 1_000_000
 LONGEST_LINE = 4_200  # bytes, without the line feed
 LATEST = 10**15
 CONSTANT = "03000000"
+SWITCH, PORT = re.compile(r"[A-Za-z0-9]{1,16}"), re.compile(r"[1-9][0-9]?")
 
 
 class Listed(NamedTuple):
-    """A line of a frame list: its number, its five fields."""
+    """A line of a frame list: its number, its five fields; of several switches also the name of its
+    switch."""
 
     line: int
     kind: str
@@ -21,6 +24,13 @@ class Listed(NamedTuple):
     side: str
     port: int
     digits: str
+    switch: str = ""
+
+    @property
+    def place(self) -> str:
+        """Where the frame came in, as an interface of a recording is called."""
+        side = f"{self.side} {self.switch}" if self.switch else f"side {self.side}"
+        return f"{side} port {self.port}"
 
     @property
     def length(self) -> int:
@@ -39,10 +49,14 @@ def listed_of(number: int, text: str) -> Listed:
     """A line's fields; Refused where it hasn't the form of a line of a frame list."""
     fields = text.split(" ")
     try:
+        switch = fields.pop(3) if len(fields) == 6 else ""
         kind, time, side, port, digits = fields
         if kind not in ("F", "B", "R") or side not in ("A", "B"):
             raise ValueError
-        return Listed(number, kind, int(time), side, int(port), "" if digits == "-" else digits)
+        if switch and not (SWITCH.fullmatch(switch) and PORT.fullmatch(port)):
+            raise ValueError
+        digits = "" if digits == "-" else digits
+        return Listed(number, kind, int(time), side, int(port), digits, switch)
     except ValueError as error:
         raise Refused(f"line {number} is no line of a frame list") from error
 

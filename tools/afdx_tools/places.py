@@ -14,6 +14,7 @@ KEY = re.compile(r"[A-Za-z0-9_-]+|\"[^\"\\\n]*\"|'[^'\n]*'")
 TEXT = re.compile(
     r'"""(?:[^\\]|\\.)*?"""(?!")|\'\'\'.*?\'\'\'(?!\')|"(?:[^"\\\n]|\\.)*"|\'[^\'\n]*\'', re.DOTALL
 )
+SWITCH = "switch"  # the array whose tables have arrays of their own
 WORD = re.compile(r"[^\s,\]}#]+(?: [0-9][^\s,\]}#]*)?")  # a number, a truth value, a date
 
 
@@ -119,10 +120,37 @@ class Reader:
 
 @dataclass
 class Places:
-    """The table at the top of a text, and the tables of each array of tables in their order."""
+    """The table at the top of a text, and the tables of each array of tables in their order. Those
+    of the array `switch` have rows of their own, and stand in `switches`."""
 
     top: Table = field(default_factory=lambda: Table(False))
     rows: dict[str, list[Table]] = field(default_factory=dict)
+    switches: list[Places] = field(default_factory=list)
+
+    def begin(self, key: str) -> Table:
+        """The next table of an array, whose head stands there."""
+        array, _, part = key.partition(".")
+        if array == SWITCH and part:
+            if not self.switches:
+                raise Unplaced
+            return self.switches[-1].begin(part)
+        table = Table(False)
+        if array == SWITCH:
+            self.switches.append(Places(table))
+        else:
+            self.rows.setdefault(key, []).append(table)
+        return table
+
+    def look_inside(self) -> None:
+        """Finds the tables that stand in braces."""
+        for key, value in self.top.values.items():
+            inline = [part.table for part in value.values if part.table is not None]
+            if inline and key == SWITCH:
+                self.switches = [Places(table) for table in inline]
+            elif inline:
+                self.rows[key] = inline
+        for switch in self.switches:
+            switch.look_inside()
 
 
 def places_of(text: str) -> Places:
@@ -132,13 +160,10 @@ def places_of(text: str) -> Places:
     reader.skip()
     while reader.at < len(text):
         if reader.takes("[["):
-            table = Table(False)
-            places.rows.setdefault(reader.key(), []).append(table)
+            table = places.begin(reader.key())
             reader.wants("]]")
         else:
             reader.pair(table)
         reader.skip()
-    for key, value in places.top.values.items():
-        if any(part.table is not None for part in value.values):
-            places.rows[key] = [part.table for part in value.values if part.table is not None]
+    places.look_inside()
     return places

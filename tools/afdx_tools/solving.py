@@ -1,7 +1,6 @@
 """What `afdx solve` makes of a configuration, and what `afdx check` says of one."""
 from __future__ import annotations
 
-import os
 import re
 import subprocess
 import tomllib
@@ -11,25 +10,32 @@ from afdx_tools.faults import Failed, Refused, shown
 from afdx_tools.program import program, version
 
 AS_WRITTEN = "jitter,buffer,latency,skew"  # the keys that `solve` finds; kept, all stay
-NEED = re.compile(r"vl (\d+) at (\d+): (\d+) ns needed, (\d+) us asked")
-SEVERAL = "so far no tool reads a configuration of several switches a side"
-# what `check` says of such a file: the name of the first switch, or a fault in one, or of the key
-NAMED = re.compile(r"S |config \w+ (switch |top 0 key 6$)")
+NEED = re.compile(r"vl (\d+) at (?:([A-Za-z0-9]+) )?(\d+): (\d+) ns needed, (\d+) us asked")
 
 
 class Need(NamedTuple):
     """A line of `solve` on standard error: at a port a link's frames can take more than is asked of
-    them."""
+    them. Of several switches it names the port's."""
 
     vl: int
     port: int
     needed_ns: int
     asked_us: int
+    switch: str = ""
 
     def line(self) -> str:
         """The line."""
-        at = f"vl {self.vl} at {self.port}"
+        at = f"vl {self.vl} at {self.switch} {self.port}".replace("  ", " ")
         return f"{at}: {self.needed_ns} ns needed, {self.asked_us} us asked"
+
+
+def need_of(line: str) -> Need | None:
+    """A line of `solve` on standard error, if it is one."""
+    match = NEED.fullmatch(line)
+    if match is None:
+        return None
+    vl, switch, port, needed, asked = match.groups("")
+    return Need(int(vl), int(port), int(needed), int(asked), switch)
 
 
 class Worst(NamedTuple):
@@ -81,32 +87,14 @@ def run(words: list[str], config: bytes) -> Said:
     return Said(done.returncode, out, errors)
 
 
-def is_of_several(config: bytes) -> bool:
-    """Does a configuration describe several switches a side, as the program reads it?"""
-    said = run(["check"], config)
-    return bool(NAMED.match(said.out or said.errors[0]))
-
-
-def want_one_switch(path: str) -> None:
-    """Failed where a file describes several switches a side. What is no file can be read only once,
-    and the program says of it what it can."""
-    if os.path.isfile(path):
-        with open(path, "rb") as file:
-            if is_of_several(file.read()):
-                raise Failed(SEVERAL, 1)
-
-
 def solve(config: bytes, options: Sequence[str] = ("--raise-only",)) -> Solved:
     """Gives a configuration the least values with which it is admitted; with these options none of
     them is less than it has."""
     said = run(["solve", *options], config)
     if said.status == 1:
-        line = shown([*said.out.splitlines(), *said.errors][0])
-        return Solved("", [], SEVERAL if is_of_several(config) else line)
-    if said.out.startswith("[[switch]]"):
-        return Solved("", [], SEVERAL)
-    found = map(NEED.fullmatch, said.errors)
-    return Solved(said.out, [Need(*map(int, match.groups())) for match in found if match], "")
+        return Solved("", [], shown([*said.out.splitlines(), *said.errors][0]))
+    found = map(need_of, said.errors)
+    return Solved(said.out, [need for need in found if need], "")
 
 
 def worst_of(needs: Iterable[Need]) -> dict[int, Worst]:

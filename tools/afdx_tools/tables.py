@@ -20,6 +20,13 @@ NAMES = {
     "clocks": "Senders: by how much their copies came later on side B, in ns",
     "ports": "Ports: load, greatest backlog in bytes, and frames that left",
 }
+# the tables that the report of several switches a side has, before the others
+OF_SEVERAL = {
+    "ways": "Links, receivers and sides: latency from end to end in the replay, in ns",
+    "receivers": "Receivers: frames of each link that were read once, twice, never",
+    "switches": "Switches and sides: what came in, was dropped, lost, late, and left",
+    "lines": "Lines and cables: load by contract, and in the replay on each side",
+}
 TROUBLES = "Frames with trouble: dropped, late, too old, refused, or at a full buffer"
 EARLY = "Links and sides: over-rate frames, and by how much they came too early"
 PROVED = (
@@ -28,6 +35,11 @@ PROVED = (
     "the ports (P) and the answer of admission. On an admitted network no accepted frame is lost, "
     "and each leaves its port within its link's configured latency; the bound of a port is the "
     "least latency in ns that admission takes there."
+)
+PROVED_OF_SEVERAL = (
+    " Of several switches the latencies from end to end (E) are such lines too. On admitted ones "
+    "each frame that a cable brings is accepted, and leaves each port of its link's way within the "
+    "configured latencies up to there together."
 )
 UNPROMISED = "This network is not admitted, so nothing promises its bounds."
 COUNTED = (
@@ -40,9 +52,15 @@ COUNTED = (
 # Where a formula could begin: at a cell's begin, or after a semicolon, at which spreadsheets of
 # many countries cut a line.
 FORMULA = re.compile(r"(^|;)( *)(?=[=+\-@])")
-WRITTEN = {f"{name}.csv" for name in NAMES} | {"arrivals.csv", "early.csv", "compared.csv"}
+WRITTEN = {f"{name}.csv" for name in (*NAMES, *OF_SEVERAL)}
+WRITTEN |= {"arrivals.csv", "early.csv", "compared.csv"}
 WRITTEN |= {"troubles.csv", "where.csv"}
 WRITTEN |= {"report.json", "report.html"}  # what a folder may have of an earlier report
+
+
+def names_of(report: Row) -> dict[str, str]:
+    """The tables of a report, with their heads."""
+    return {name: head for name, head in {**OF_SEVERAL, **NAMES}.items() if name in report}
 
 
 def percent(share: float) -> str:
@@ -123,7 +141,7 @@ def over_time(arrivals: Row) -> list[Row]:
 
 def files_of(report: Row) -> dict[str, str]:
     """The tables as CSV files, and all of the report as JSON: names and texts."""
-    texts = {f"{name}.csv": csv_text(report[name]) for name in NAMES}
+    texts = {f"{name}.csv": csv_text(report[name]) for name in names_of(report)}
     texts["arrivals.csv"] = csv_text(over_time(report["arrivals"]))
     if "early_ns" in report:
         texts["early.csv"] = csv_text(report["early_ns"])

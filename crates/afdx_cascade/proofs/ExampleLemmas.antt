@@ -13,7 +13,7 @@ use Rattle.afdx_admit.specs.Cascade.{row_at, row_before, is_sent_here, way_laten
 use Rattle.afdx_admit.specs.Cascade.{IsHop as IsAdmittedHop, IsCascadeAdmitted}
 use Rattle.afdx_config.specs.Admission.{IsAdmitted, IsServing, byte_ns, flows_to, sender_jitter, links_from}
 use Rattle.afdx_config.specs.Flows.{flow_of_link}
-use Rattle.afdx_config.specs.Lawful.{IsLawfulSwitch, IsLinkUpTo, IsSystem, ArePorts, AreOfSystems, AreDistinct, triple}
+use Rattle.afdx_config.specs.Lawful.{IsLawfulSwitch, IsLinkUpTo, IsSystem, ArePorts, AreOfSystems, AreDistinct, triple, HasNoNumber}
 use Rattle.afdx_config.specs.Lawful.{jitter_from_any, jitter_from_system}
 use Rattle.afdx_config.specs.Reading.{is_name, are_apart, link_of, system_named, system_at_port}
 use Rattle.afdx_config.specs.Reading as reading
@@ -82,8 +82,8 @@ link-is from place jitter sends gets low apart = record {
 lawful-with : (system other : SystemRow) (l : LinkRow) (ports : List PortRow) → IsSystem 2 system → IsSystem 2 other
     → (system.name ≡ other.name → ⊥) → (system.port ≡ other.port → ⊥) → IsLinkUpTo jitter_from_any 2 l
     → (l.from < 1 → l.jitter_us ≤ jitter_from_system l.bag_ms) → ArePorts 2 (l ∷ []) ports → AreOfSystems 1 ports
-    → IsLawfulSwitch (switch_with system other l ports)
-lawful-with system other l ports first second names apart link sent are heard = record {
+    → HasNoNumber other → IsLawfulSwitch (switch_with system other l ports)
+lawful-with system other l ports first second names apart link sent are heard no-number = record {
   profile = (omega arith, omega arith);
   buffer = (omega arith, omega arith);
   own = omega arith;
@@ -93,6 +93,8 @@ lawful-with system other l ports first second names apart link sent are heard = 
     names = base.two-distinct (λ (s : SystemRow). s.name) system other names;
     ports = base.two-distinct (λ (s : SystemRow). s.port) system other apart;
     ids = base.one-distinct (λ (s : SystemRow). s.id) system;
+    few = omega arith;
+    neighbours = (no-number, tt);
   };
   links = record { count = omega arith; each = (link, tt); identifiers = base.one-distinct (λ (m : LinkRow). m.vl) l };
   sent = base.one-at (λ i (m : LinkRow). m.from < 1 → m.jitter_us ≤ jitter_from_system m.bag_ms) l sent;
@@ -114,7 +116,7 @@ lawful-before = lawful-with sender (neighbour (codes "aft") 2) link_before []
     (is-end (codes "aft") 2 0 0 refl (omega arith) (omega arith) (omega arith) (omega arith))
     (first-byte 115 97 (codes "1") (codes "ft") (λ same. omega (arith, same))) (λ same. omega (arith, same))
     (link-is 0 1 489 (omega arith) (omega arith) (omega arith) refl) (λ from. omega arith)
-    (record { count = omega arith; each = tt; triples = none-distinct triple }) (λ i p at. absurd (cc at))
+    (record { count = omega arith; each = tt; triples = none-distinct triple }) (λ i p at. absurd (cc at)) (refl, refl)
 
 pub lawful-after : IsLawfulSwitch tables_after
 unfolding is_name are_apart reading.goes_to
@@ -136,7 +138,7 @@ lawful-after = lawful-with receiver (neighbour (codes "fwd") 1) link_after (list
       );
       triples = base.one-distinct triple listening;
     })
-    (base.one-at (λ i (p : PortRow). p.system < 1) listening (omega arith))
+    (base.one-at (λ i (p : PortRow). p.system < 1) listening (omega arith)) (refl, refl)
 
 names-hold : first_false (each_from (name_lines switches) 0 2) ≡ None
 unfolding name_lines switch_named first_false each_from

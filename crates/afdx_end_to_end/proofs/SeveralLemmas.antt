@@ -34,12 +34,12 @@ use Rattle.afdx_promises.specs.Sent.{AreSentAs, IsMerged, IsMergedSoFar, arrival
 use Rattle.afdx_promises.proofs.SentLemmas.{all-earlier, copy-is, take-all}
 use Rattle.afdx_replay.specs.cascading.Ran.{lists}
 use Rattle.afdx_replay.specs.cascading.Sited.{sites_of}
-use Rattle.afdx_replay.specs.cascading.Text.{name_of}
+use Rattle.afdx_inputs.specs.ListText.{switch_name}
 use Rattle.afdx_send.specs.Emissions.{own, sent_list}
 use Rattle.afdx_send.specs.Frames.{Frame}
 use Rattle.afdx_sending.specs.Events.{Event, taken_by, turns_in}
 use Rattle.afdx_end_to_end.specs.Several.{AreHeardAsTaken, AreHeardSoFar, HasSentFrom, HoldsFirstOf, HoldsTextOf, IsReplayed}
-use Rattle.afdx_end_to_end.specs.Several.{RunsBringTaken, TakenComesByOneSide, TakenComesEndToEnd, TakenComesSoFar, lines_there, messages_of, says_there, text_of}
+use Rattle.afdx_end_to_end.specs.Several.{RunsBringTaken, WrittenIsSentFrom, TakenComesByOneSide, TakenComesEndToEnd, TakenComesSoFar, lines_there, messages_of, says_there, text_of}
 use Rattle.afdx_end_to_end.proofs.EmittedLemmas as emitted
 use Rattle.afdx_end_to_end.proofs.EmittedLemmas.{Laws, sent-messages}
 use Rattle.afdx_end_to_end.proofs.EndToEndLemmas.{lines-first, not-empty, snoc-same}
@@ -62,7 +62,7 @@ module _ (ss : List NamedRows) (are : AreSwitches ss) (k : ℕ) (within : k < le
   sites = sites_of ss
 
   abbrev name : List ℕ
-  name = name_of ss k
+  name = switch_name ss k
 
   turn-says : (side : Side) (turn : Turn Frame) → CanBeRead s turn
       → sited_line_says sites 0 (line_on name s side turn)
@@ -156,7 +156,7 @@ module _ (laws : Laws) (ss : List NamedRows) (list : List (List ℕ)) (events : 
       (said-there (sites_of ss) k side s.port list (length list) (omega arith) run.sound))
 
   of-text : (side : Side) → lines_there (sites_of ss) k side s.port (lines_of (text_of ss k s sends))
-      ≡ lines_on (name_of ss k) s side (turns_in sends)
+      ≡ lines_on (switch_name ss k) s side (turns_in sends)
   of-text side = at-port ss run.are k from.within s is_system.port.0 is_system.port.1 free side sends fine
 
   -- so where these are those of the text, it is what it sent
@@ -171,7 +171,7 @@ module _ (laws : Laws) (ss : List NamedRows) (list : List (List ℕ)) (events : 
   first-merged : ((side : Side) → HoldsFirstOf ss k s side list (text_of ss k s sends))
       → IsMergedSoFar s (turns_in sends) (came_to k events)
   first-merged holds side =
-      let first = lines-first (name_of ss k) s side (turns_in sends) (lines_there (sites_of ss) k side s.port list)
+      let first = lines-first (switch_name ss k) s side (turns_in sends) (lines_there (sites_of ss) k side s.port list)
       (holds side).0 (sym (of-text side) ∙ (holds side).1) in (
         first.0,
         first.1,
@@ -272,13 +272,33 @@ pub taken-so-far : Laws → TakenComesSoFar
 taken-so-far laws ss list events k sender s given sends run from holds r before system way at_k by_it =
     heard-so-far laws ss list events k sender s given sends run from r before system way at_k by_it holds
 
+-- ---- of the two runs
+
+pub written-from : WrittenIsSentFrom
+written-from ss k sender s given text sends within is_own stands sent early = (
+  record {
+    within = within;
+    own = is_own;
+    sent = record {
+      stands = stands;
+      sound = sent.sound;
+      are_events = sent.writes.are_events;
+      are_done = sent.writes.are_done;
+      early = early;
+    };
+  },
+  sent.writes.written,
+)
+
 pub runs-bring : Laws → RunsBringTaken
-runs-bring laws ss k sender s given sends bytes old new summary are admitted from holds ran =
-    taken-comes laws ss (lines_of bytes) ran.told.events k sender s given sends
+runs-bring laws ss k sender s given text bytes old new sends replays are admitted within is_own stands sent early holds
+    ran =
+    let w = written-from ss k sender s given text sends within is_own stands sent early in
+    taken-comes laws ss (lines_of bytes) ran.told.events k sender s (lines_of given) sent.writes.events
     (record {
       are = are;
       admitted = admitted;
       sound = ran.sound;
       all = ran.told.all;
       kept = ran.told.parts.end_to_end are admitted;
-    }) from holds
+    }) w.0 (subst (HoldsTextOf ss k s (lines_of bytes)) w.1 holds)

@@ -1,8 +1,11 @@
 -- From the lists of the senders to the messages of the receivers over several switches a side, over
 -- texts: what each sender took is told once, at whichever switch. Lists of lines and of submissions
 -- have the first one first.
-use Rattle.std.specs.Prelude.{◌≡◌, ℕ, ◌<◌, ◌==◌, ◌&&◌, Bool, false, List, ◌++◌, length, filter}
-use Rattle.std.specs.Prelude.{map, reverse, take, Option, Some, None, Result, Ok, Err}
+use Rattle.std.specs.Prelude.{◌≡◌, ℕ, ◌<◌, ◌≤◌, ◌==◌, ◌&&◌, Bool, false, List, ◌++◌, length, filter}
+use Rattle.std.specs.Prelude.{[], map, reverse, slice_get, take, Option, Some, None, Result, Ok}
+use Rattle.std.specs.Prelude.{Err}
+use Rattle.std.specs.List.{AllByRecursion}
+use Rattle.afdx_frame.specs.Times.{latest_listed}
 use Rattle.afdx_frame.specs.Sides.{is_side}
 use Rattle.afdx_frame.specs.declared.link.Side.{Side}
 use Rattle.afdx_admit.specs.Cascade.{RowAt, IsCascadeAdmitted}
@@ -23,10 +26,11 @@ use Rattle.afdx_lists.specs.SitedLines.{NamedCables, SitedFrame, sited_line_says
 use Rattle.afdx_lists.specs.declared.fault.LineFault.{LineFault}
 use Rattle.afdx_replay.specs.cascading.Ran.{WritesList, lists}
 use Rattle.afdx_replay.specs.cascading.Sited.{sites_of}
-use Rattle.afdx_replay.specs.cascading.Text.{name_of}
+use Rattle.afdx_inputs.specs.ListText.{switch_name}
 use Rattle.afdx_send.specs.Complete.{submissions_of, AreReleasesOfAll}
 use Rattle.afdx_send.specs.Releases.{Submission, Release}
-use Rattle.afdx_sending.specs.Events.{Event, taken_by}
+use Rattle.afdx_sending.specs.Events.{Event, taken_by, turns_in}
+use Rattle.afdx_sending.specs.Sent.{Source, WritesAll, source_of}
 use Rattle.afdx_sending.specs.Text.{send_text_at}
 use Rattle.afdx_end_to_end.specs.EndToEnd.{HasSent}
 
@@ -67,7 +71,12 @@ pub record HasSentFrom (switches : List NamedRows) (k sender : ℕ) (s : SystemR
 
 -- its text, in which its switch is named
 abbrev pub text_of : List NamedRows → (k : ℕ) → SystemRow → List Event → List ℕ
-text_of switches k s sends = send_text_at (name_of switches k) s sends
+text_of switches k s sends = send_text_at (switch_name switches k) s sends
+
+-- as `run_send` is given it
+abbrev pub source_from : List NamedRows → (k sender : ℕ) → SystemRow → Source
+source_from switches k sender s =
+    source_of (switch_name switches k) (tables_of switches k) sender s
 
 -- ---- a list that is replayed
 
@@ -161,14 +170,35 @@ TakenComesSoFar =
     AreHeardSoFar switches events r (begins_at r before) system
     (taken_by (begins_at r before).row.vl sends) (most_sent switches events (begins_at r before))
 
--- So it is of what `run_cascade` answers and writes for a list that holds the text.
+-- What a system of a switch has sent is what `run_send` answers and writes for it, with the name of
+-- its switch, to an output that was empty.
+abbrev pub WrittenIsSentFrom : Type 0
+WrittenIsSentFrom =
+    (switches : List NamedRows) (k sender : ℕ) (s : SystemRow) (given text : List ℕ)
+    (sends : Summary) →
+    k < length switches →
+    sender < (tables_of switches k).own →
+    slice_get (tables_of switches k).systems sender ≡ Some s →
+    (sent : WritesAll (source_from switches k sender s) (lines_of given) (Some []) (Some text)
+    sends) →
+    AllByRecursion (λ turn. turn.end ≤ latest_listed) (turns_in sent.writes.events) →
+    HasSentFrom switches k sender s (lines_of given) sent.writes.events
+    × (text ≡ text_of switches k s sent.writes.events)
+
+-- So the same is true of the two runs: of what `run_send` answers and writes, and of what
+-- `run_cascade` answers and writes for a list that holds this text.
 abbrev pub RunsBringTaken : Type 0
 RunsBringTaken =
-    (switches : List NamedRows) (k sender : ℕ) (s : SystemRow) (given : List (List ℕ))
-    (sends : List Event) (bytes : List ℕ) (old new : Option (List ℕ)) (summary : Summary) →
+    (switches : List NamedRows) (k sender : ℕ) (s : SystemRow) (given text bytes : List ℕ)
+    (old new : Option (List ℕ)) (sends replays : Summary) →
     AreSwitches switches →
     IsCascadeAdmitted switches →
-    HasSentFrom switches k sender s given sends →
-    HoldsTextOf switches k s (lines_of bytes) (text_of switches k s sends) →
-    (ran : WritesList switches (lines_of bytes) old new summary) →
-    EachIsHeardAsTaken switches ran.told.events k sender sends
+    k < length switches →
+    sender < (tables_of switches k).own →
+    slice_get (tables_of switches k).systems sender ≡ Some s →
+    (sent : WritesAll (source_from switches k sender s) (lines_of given) (Some []) (Some text)
+    sends) →
+    AllByRecursion (λ turn. turn.end ≤ latest_listed) (turns_in sent.writes.events) →
+    HoldsTextOf switches k s (lines_of bytes) text →
+    (ran : WritesList switches (lines_of bytes) old new replays) →
+    EachIsHeardAsTaken switches ran.told.events k sender sent.writes.events

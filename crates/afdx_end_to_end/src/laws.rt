@@ -5,7 +5,8 @@ ghost use Rattle.afdx_end_to_end.specs.EndToEnd.{TextsAreLists};
 ghost use Rattle.afdx_end_to_end.specs.Merged.{MergedAreToldOnce};
 ghost use Rattle.afdx_end_to_end.specs.OneSide.{TakenIsToldByOneSide, TakenIsToldSoFar};
 ghost use Rattle.afdx_end_to_end.specs.Several.{TakenComesEndToEnd, TakenComesByOneSide};
-ghost use Rattle.afdx_end_to_end.specs.Several.{TakenComesSoFar, RunsBringTaken};
+ghost use Rattle.afdx_end_to_end.specs.Several.{TakenComesSoFar, WrittenIsSentFrom};
+ghost use Rattle.afdx_end_to_end.specs.Several.{RunsBringTaken};
 ghost use Rattle.afdx_end_to_end.specs.SentLaws.{SentLinesAreArrivals, EventsAreOne, SendsAreOne};
 ghost use Rattle.afdx_end_to_end.specs.Stops.{EventsSoFarAreOne, EventsSoFarBegin};
 ghost use Rattle.afdx_end_to_end.specs.Stops.{StoppedSendsAreOne};
@@ -66,12 +67,12 @@ pub fn taken_is_told_once()
     built_is_computed()
 }
 
-/// Exactly once, end to end, over several switches a side: where what is written for a system of
-/// any switch is merged into a list that `run_cascade` reads, in any way that keeps its order, and
-/// no other line of the list is at the system's port of that switch, the M lines for each receiver
-/// of each link of that system, at whichever switch, are the messages which the sender took for the
-/// link, of those to the receiver's UDP ports: each once, in order of their releases; so, of a
-/// sub-VL, in the order in which they were handed over.
+/// Exactly once, end to end, over several switches a side: where what `run_send` writes for a
+/// system of any switch is merged into a list that `run_cascade` reads, in any way that keeps its
+/// order, and no other line of the list is at the system's port of that switch, the M lines for
+/// each receiver of each link of that system, at whichever switch, are the messages which the
+/// sender took for the link, of those to the receiver's UDP ports: each once, in order of their
+/// releases; so, of a sub-VL, in the order in which they were handed over.
 ///
 /// So it is too where on one side only the first of these lines come, as when a network fails;
 /// where this is so on both sides, as far as one of them has come.
@@ -79,6 +80,7 @@ pub fn taken_is_told_once()
 /// All cascades that are admitted. The lists have no fault, and each emission ends by 10^15 ns.
 pub fn taken_comes_end_to_end()
     ensures lines { TakenComesEndToEnd }
+    ensures written { WrittenIsSentFrom }
     ensures one_side { TakenComesByOneSide }
     ensures so_far { TakenComesSoFar }
     ensures runs { RunsBringTaken }

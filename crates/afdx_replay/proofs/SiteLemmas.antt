@@ -17,7 +17,7 @@ use Rattle.afdx_config.specs.Switches.{AreSwitches, NamedRows, far_end, switch_n
 use Rattle.afdx_cascade.proofs.PlanLemmas.{own-place}
 use Rattle.afdx_lists.specs.SitedLines.{NamedCables, is_cable_at, place_named}
 use Rattle.afdx_replay.specs.cascading.Sited.{has_cable, site_of, sites_of}
-use Rattle.afdx_replay.specs.cascading.Text.{name_of}
+use Rattle.afdx_inputs.specs.ListText.{switch_name}
 
 -- two lists of which the same places pass have the same first place that does
 same-first : {X Y : Type 0} (p : X → Bool) (q : Y → Bool) (xs : List X) (ys : List Y) → length xs ≡ length ys
@@ -93,24 +93,24 @@ module _ (ss : List NamedRows) (are : AreSwitches ss) (k : ℕ) (within : k < le
   s : (z : NamedRows) × (slice_get ss k ≡ Some z)
   s = slice_get-within ss k within
 
-  name-at : (i : ℕ) (z : NamedRows) → slice_get ss i ≡ Some z → name_of ss i ≡ z.name
-  unfolding name_of
+  name-at : (i : ℕ) (z : NamedRows) → slice_get ss i ≡ Some z → switch_name ss i ≡ z.name
+  unfolding switch_name
   name-at i z at = ap (λ o. option_map_or (λ (r : NamedRows). r.name) o []) at
 
-  pub word : IsWord (name_of ss k)
+  pub word : IsWord (switch_name ss k)
   word =
       let named = AllByRecursion-slice_get (λ (z : NamedRows). is_name z.name ≡ true) ss k s.0 are.names s.1 in
-      word-of (name_of ss k) (ap is_name (name-at k s.0 s.1) ∙ named)
+      word-of (switch_name ss k) (ap is_name (name-at k s.0 s.1) ∙ named)
 
   -- the lines name it by its place
-  pub found : place_named (sites_of ss) (name_of ss k) ≡ Some k
+  pub found : place_named (sites_of ss) (switch_name ss k) ≡ Some k
   unfolding place_named switch_named
   found =
-      same-position (λ (z : NamedCables). bytes_eq (name_of ss k) z.name) (λ (z : NamedRows). bytes_eq (name_of ss k) z.name)
+      same-position (λ (z : NamedCables). bytes_eq (switch_name ss k) z.name) (λ (z : NamedRows). bytes_eq (switch_name ss k) z.name)
       (sites_of ss) ss (sites-count ss) (λ i x y at there.
       let site = same_Some x (site_of ss i) (sym at ∙ site-at ss i (slice_get_within ss i y there)) in
-      ap (λ (z : NamedCables). bytes_eq (name_of ss k) z.name) site
-      ∙ ap (bytes_eq (name_of ss k)) (name-at i y there))
+      ap (λ (z : NamedCables). bytes_eq (switch_name ss k) z.name) site
+      ∙ ap (bytes_eq (switch_name ss k)) (name-at i y there))
       ∙ ap (λ name. position (λ (z : NamedRows). bytes_eq name z.name) ss) (name-at k s.0 s.1)
       ∙ own-place ss are k s.0 s.1
 

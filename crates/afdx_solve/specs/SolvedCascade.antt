@@ -22,14 +22,9 @@ use Rattle.afdx_solve.specs.Solved.{chosen, least_jitter, delay_to, latency_over
 -- how late a frame may be behind the row before this one; 0 where the way is broken
 unfoldable pub late_before : List NamedRows → RowAt → ℕ
 late_before switches r =
-<<<<<<< HEAD
-    option_map_or (λ sum. option_map_or (λ before. late_behind before.row)
-    (row_before switches r) 0) (way_latency switches r) 0
-=======
     option_map_or
     (λ sum. option_map_or (λ before. late_behind before.row) (row_before switches r) 0)
     (way_latency switches r) 0
->>>>>>> 68e0981d2df674fd0b4dde394fb35b0fbc2cac45
 
 -- the jitter, which allows for the system that sends the row, or for what is behind it
 unfoldable pub jitter_needed : List NamedRows → Rows → RowAt → ℕ

@@ -9,7 +9,7 @@ from typing import NamedTuple, Sequence
 from afdx_tools.campaign.rounds import Attempt
 from afdx_tools.faults import shown
 from afdx_tools.report.criteria import judged
-from afdx_tools.report.ranking import nearest
+from afdx_tools.report.ranking import latencies_of, nearest, place_of, port_of
 from afdx_tools.tables import Row
 
 SUMS = (
@@ -55,13 +55,14 @@ def text_of(path: str) -> str:
 def is_report(report: Row) -> bool:
     """Has a report what stands in the table, each of its kind?"""
     counts = [report["totals"][key] for key in SUMS]
-    counts += [row[key] for row in report["latency"] for key in ("greatest_ns", "configured_ns")]
-    counts += [row[key] for row in report["latency"] for key in ("frames", "late", "bound_ns")]
-    places = [(row["link"], row["port"], row["side"]) for row in report["latency"]]
+    rows = latencies_of(report)
+    counts += [row[key] for row in rows for key in ("greatest_ns", "configured_ns")]
+    counts += [row[key] for row in rows for key in ("frames", "late", "bound_ns")]
+    places = [(*place_of(row), row["side"]) for row in rows]
     return (
         all(count is None or isinstance(count, int) for count in counts)
         and all(isinstance(part, (int, str)) for place in places for part in place)
-        and all(0 <= row["share"] < math.inf for row in report["latency"])
+        and all(0 <= row["share"] < math.inf for row in rows)
         and isinstance(report["fault"], str)
     )
 
@@ -81,14 +82,14 @@ def report_of(out: str, number: int) -> tuple[Row | None, str]:
 
 def run_row(name: str, report: Row | None, fault: str, status: int | None, unmet: list[str]) -> Row:
     """A run's row of the table."""
-    most = nearest(report["latency"]) if report else None
+    most = nearest(latencies_of(report)) if report else None
     row: Row = {"list": shown(name)}
     row.update({key: report["totals"][key] if report else None for key in SUMS})
     row["latency_ns"] = most["greatest_ns"] if most else None
     row["bound_ns"] = most["bound_ns"] if most else None
     row["configured_ns"] = most["configured_ns"] if most else None
     row["share"] = most["share"] if most else None
-    row["where"] = f"{most['link']} at port {most['port']}, {most['side']}" if most else None
+    row["where"] = f"{most['link']} at {port_of(most)}, {most['side']}" if most else None
     row["status"] = NO_RESULT if status == 0 and not report else status  # 0 only with a report
     row["fault"] = fault or ("not met: " + ", ".join(unmet) if unmet else None)
     return row

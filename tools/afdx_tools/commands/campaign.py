@@ -32,7 +32,6 @@ from afdx_tools.outputs import whole, write_folder
 from afdx_tools.program import HERE, program, version
 from afdx_tools.recordings.options import add_recording_words, files_of, handed_on
 from afdx_tools.report.criteria import add_words, suite_of, write_junit
-from afdx_tools.solving import want_one_switch
 from afdx_tools.tables import as_text, csv_text
 from afdx_tools.version import add_version
 
@@ -248,7 +247,6 @@ def run(args: argparse.Namespace) -> int:
     """Runs all lists and prints the table; the worst status."""
     args.out = as_file(args.out)
     version()  # built once, if at all
-    want_one_switch(args.config)
     machines = Machines(args.sshlogin)
     words = starter(args, machines)
     os.makedirs(args.out, exist_ok=True)

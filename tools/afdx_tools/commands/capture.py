@@ -17,7 +17,7 @@ import itertools
 import os
 import subprocess
 import sys
-from typing import BinaryIO, Iterator, NoReturn
+from typing import BinaryIO, Callable, Iterator, NoReturn
 
 from afdx_tools.command_line import Parser
 from afdx_tools.faults import Refused, leave, let_go, shown
@@ -34,7 +34,6 @@ from afdx_tools.recordings.options import (
     recording_options,
 )
 from afdx_tools.recordings.tapped import found_by
-from afdx_tools.solving import want_one_switch
 from afdx_tools.version import add_version
 
 TOOL = "afdx-capture"
@@ -141,7 +140,6 @@ def pass_on(run: subprocess.Popen[bytes]) -> None:
 def to_list(args: argparse.Namespace) -> None:
     """Recordings to a frame list, by `afdx list`. Its counts come once the list is written."""
     version()
-    want_one_switch(args.config)
     pipe = subprocess.PIPE
     with subprocess.Popen(program_words(args), stdout=pipe, stderr=pipe) as run:
         lines = listed_lines(run)
@@ -171,15 +169,35 @@ def wired(args: argparse.Namespace, listed: Listed) -> bytes | None:
     return frame[:-4] if is_sealed(frame) else None
 
 
+def writer_of(
+    args: argparse.Namespace, file: BinaryIO, first: Listed | None
+) -> Callable[[int, str, bytes], None]:
+    """What writes a frame by its time and place: a pcap, or a pcapng where lines name switches, as
+    a pcap can't tell places apart."""
+    from afdx_tools.recordings.writing import Pcap, Pcapng
+
+    has_check_sequences = args.fcs == "yes"
+    if first is not None and first.switch:
+        several = Pcapng(file, has_check_sequences)
+        return lambda time, place, frame: several.write(time, place, frame, [])
+    one = Pcap(file, has_check_sequences)
+    return lambda time, place, frame: one.write(time, frame)
+
+
 def to_recording(args: argparse.Namespace) -> None:
     """A frame list to a recording."""
-    from afdx_tools.recordings.writing import Pcap, in_range
+    from afdx_tools.recordings.writing import in_range
 
     written, wrong = 0, 0
     with finished(args.recording) as file:
-        recording = Pcap(file, args.fcs == "yes")
         path = "/dev/stdin" if args.list == "-" else args.list
-        for listed in counted(read_list(path), "lines"):
+        lines = read_list(path)
+        first = next(lines, None)
+        write = writer_of(args, file, first)
+        for listed in counted(itertools.chain([first] if first else [], lines), "lines"):
+            if bool(listed.switch) != bool(first and first.switch):
+                raise Refused(f"only one of the lines {first and first.line} and {listed.line} "
+                              "names a switch")  # fmt: skip
             if args.side not in (None, listed.side):
                 continue
             frame = wired(args, listed)
@@ -187,7 +205,7 @@ def to_recording(args: argparse.Namespace) -> None:
                 wrong += 1
                 continue
             in_range(args.origin + listed.time, frame, listed.line)
-            recording.write(args.origin + listed.time, frame)
+            write(args.origin + listed.time, listed.place, frame)
             written += 1
     with_it = "each with its" if args.fcs == "yes" else "without"
     say(f"{written} frames written, {with_it} check sequence")
@@ -208,10 +226,9 @@ def of_list(args: argparse.Namespace, config: str, path: str, file: BinaryIO) ->
         raise Refused(f"--origin {shown(origin)} is no whole number of ns")
     recording = Pcapng(file)
     for one in replayed(config, path, args.no_admission, read_list(path)):
-        listed, frame = one.listed, sealed(one.listed)
-        time = int(origin) + listed.time
-        in_range(time, frame, listed.line)
-        recording.write(time, listed.side, listed.port, frame, one.lines)
+        frame, time = sealed(one.listed), int(origin) + one.listed.time
+        in_range(time, frame, one.listed.line)
+        recording.write(time, one.listed.place, frame, one.lines)
         yield None
 
 
@@ -233,7 +250,6 @@ def to_annotated(args: argparse.Namespace) -> None:
     count = 0
     with contextlib.ExitStack() as files:
         config = files.enter_context(at_hand(os.path.join(".", args.config)))
-        want_one_switch(config)
         paths = [files.enter_context(at_hand(name)) for name in names]
         options = options_of(args, config, paths)
         file = files.enter_context(finished(args.recording))
@@ -313,7 +329,8 @@ def words() -> argparse.ArgumentParser:
         (
             "pcap",
             "a frame list to a recording",
-            "Writes a frame list, or what `afdx send` writes, as pcap with times in ns.",
+            "Writes a frame list, or what `afdx send` writes, as pcap with times in ns; of several "
+            "switches as pcapng, with an interface for each port.",
             pcap_words,
             to_recording,
         ),
@@ -321,8 +338,9 @@ def words() -> argparse.ArgumentParser:
             "annotate",
             "a list or recordings as a recording whose frames tell what became of them",
             "Replays a frame list or recordings, and writes the frames as pcapng; the lines of the "
-            "replay about a frame are its comments. Recorded frames stay as they were recorded; "
-            "those that were left out say why.",
+            "replay about a frame are its comments. Of a list of several switches a frame stands "
+            "there once for each switch to which it came. Recorded frames stay as they were "
+            "recorded; those that were left out say why.",
             annotate_words,
             to_annotated,
         ),

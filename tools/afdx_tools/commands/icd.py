@@ -1,16 +1,21 @@
-"""Makes the configuration of a network from two tables of its interface document.
+"""Makes the configuration of a network from the tables of its interface document.
 
     afdx-icd systems.csv messages.csv network.toml
+    afdx-icd --cables cables.csv systems.csv messages.csv aircraft.toml
 
 The tables are CSV as spreadsheets write it; their first rows name the columns:
 
     systems    system, port (of the switches), id, partition, rate (Mbit/s)
     messages   message, vl, from, to (names, spaces between), every_ms, bytes,
-               within_us (through the switch), priority (high or low),
+               within_us (from end to end), priority (high or low),
                port (UDP), kind (sampling or queuing), depth
+    cables     switch, port, switch, port (at both ends), rate (Mbit/s)
+
+With cables a side has several switches, and each system a column switch. Links
+take the shortest ways, or those that messages name in a column via.
 
 The messages of one vl share a virtual link. `afdx solve` finds the least
-jitters, buffer, latencies and skews with which the network is admitted. Prints
+jitters, buffers, latencies and skews with which the network is admitted. Prints
 `ok`; or names each message that can't be in time, and writes nothing then
 (status 1).
 """
@@ -22,11 +27,16 @@ import tomllib
 from typing import NoReturn
 
 from afdx_tools.command_line import Parser, whole
-from afdx_tools.faults import Failed, shown
+from afdx_tools.faults import Failed, Refused, shown
 from afdx_tools.guard import guarded
+from afdx_tools.icd.aircraft import left_out, made_of
+from afdx_tools.icd.cascade import Cascade, Values
 from afdx_tools.icd.changes import Comparison
-from afdx_tools.icd.document import Document, add_document_words, read_document
+from afdx_tools.icd.changes_over import change_lines
+from afdx_tools.icd.document import Document
 from afdx_tools.icd.layout import asked_text, config_text, with_solved
+from afdx_tools.icd.making import text_with
+from afdx_tools.icd.reading import add_document_words, read_document
 from afdx_tools.icd.room import room_of, roomy
 from afdx_tools.icd.untimely import late_lines, refusal
 from afdx_tools.outputs import finished
@@ -54,6 +64,17 @@ def solved_tables(document: Document, text: str) -> dict:
         raise Failed("solve wrote other tables than it was given", 4) from error
 
 
+def read_earlier(path: str, document: Document) -> dict:
+    """The tables of an earlier configuration; Refused if it isn't admitted, or of another kind than
+    the document."""
+    tables = read_admitted(path)
+    if "switch" in tables and document.cabling is None:
+        raise Refused(f"{shown(path)}: it has several switches a side, and the tables have one")
+    if "switch" not in tables and document.cabling is not None:
+        raise Refused(f"{shown(path)}: it has one switch a side, and the tables have several")
+    return tables
+
+
 def run() -> int:
     """Makes the configuration that the words ask for; the status."""
     args = words().parse_args()
@@ -62,16 +83,30 @@ def run() -> int:
     if document.faults:
         say(document.faults)
         return 2
-    since = None if args.since is None else read_admitted(args.since)
+    since = None if args.since is None else read_earlier(args.since, document)
+    if document.cabling is not None:
+        return make_several(args, Cascade(document, document.cabling), since)
     solved = solve(asked_text(document))
     if solved.line:
         say([refusal(document, solved.line)])
         return 1
-    return write(args, document, solved_tables(document, solved.text), since)
+    return make(args, document, solved_tables(document, solved.text), since)
 
 
-def write(args: argparse.Namespace, document: Document, tables: dict, since: dict | None) -> int:
-    """Writes the configuration with these tables and the room that is asked for, if no message is
+def make_several(args: argparse.Namespace, cascade: Cascade, since: dict | None) -> int:
+    """Makes the configuration of several switches a side; the status."""
+    say(left_out(cascade))
+    old = [] if since is None else since["switch"]
+    late, values = made_of(cascade, args.reserve, Values.of(old), args.raised)
+    say(late)
+    if values is None:
+        return 1
+    lines = [] if since is None else change_lines(cascade, old, values)
+    return write(args, text_with(cascade, values), lines)
+
+
+def make(args: argparse.Namespace, document: Document, tables: dict, since: dict | None) -> int:
+    """Makes the configuration with these tables and the room that is asked for, if no message is
     late; the status."""
     room, proved = room_of(args.reserve, since), bounds(config_text(document, tables))
     late = late_lines(document, proved.latencies, room.enough_us(proved), args.reserve)
@@ -79,11 +114,15 @@ def write(args: argparse.Namespace, document: Document, tables: dict, since: dic
     if late and not args.raised:
         return 1
     made = roomy(document, room, proved, tables)
-    config = config_text(document, made)
+    lines = [] if since is None else Comparison(document, since, made, proved).lines()
+    return write(args, config_text(document, made), lines)
+
+
+def write(args: argparse.Namespace, config: bytes, lines: list[str]) -> int:
+    """Writes a configuration that is admitted, and prints these lines and `ok`; the status."""
     answer = check(config)
     if answer != "ok":
         raise Failed(f"what it made isn't admitted: {answer}", 4)
-    lines = [] if since is None else Comparison(document, since, made, proved).lines()
     with finished(args.config) as file:
         file.write(config)
     for line in [*lines, answer]:

@@ -44,7 +44,8 @@ def words() -> argparse.ArgumentParser:
         action="append",
         default=[],
         metavar="VL",
-        help="a link with a time line, several times (that with the most trouble)",
+        help="a link with a time line, whose way the pictures of several switches show; several "
+        "times (that with the most trouble, and no way)",
     )
     add("--from", dest="begin", type=whole(0, 10**15), default=0, metavar="NS",
         help="where the time lines begin")

@@ -7,6 +7,7 @@ TAPS is a table as spreadsheets write it (CSV). Its first row names the columns:
 
     interface   its name in the recording, or #0 for interface 0 if it has none
     side, port  A or B; the port of the switch, 1 to 24
+    switch      its name, where there are several a side
     direction   in (into the switch), out (from it to the system), or none
 
 Prints the words --interface, one a line, if recording and table agree: each
@@ -48,10 +49,10 @@ def words_of(args: argparse.Namespace) -> tuple[list[str], int]:
             raise Refused(f"{shown(path)} is no file, and it has to be read twice")
     try:
         taps = read_taps(args.taps)
+        found = checked(read_config(args.config), taps, recordings, recordings, Progress(TOOL))
     except WrongTaps as wrong:
         say(wrong.lines)
         return [], 2
-    found = checked(read_config(args.config), taps, recordings, recordings, Progress(TOOL))
     say([*found.remarks, *found.faults])
     if found.faults and not args.anyway:
         return [], DISAGREE

@@ -24,13 +24,12 @@ from typing import NoReturn
 from afdx_tools.command_line import Parser, whole
 from afdx_tools.faults import Failed, Refused, shown
 from afdx_tools.guard import guarded
-from afdx_tools.icd.document import add_document_words, read_document
+from afdx_tools.icd.reading import add_document_words, read_document
 from afdx_tools.icd.submissions import Stream, streams_of, submissions
 from afdx_tools.inputs import as_file
 from afdx_tools.lists import MOST_LINES
 from afdx_tools.outputs import whole as whole_file
 from afdx_tools.program import program, version
-from afdx_tools.solving import want_one_switch
 from afdx_tools.version import add_version
 
 TOOL = "afdx-traffic"
@@ -78,7 +77,7 @@ def send(config: str, name: str, submitted: str, path: str) -> None:
     if refused:
         number, why = (part.decode() for part in refused.groups())
         raise Failed(f"{shown(config)} refuses line {number} of {shown(submitted)}: {why}", 1)
-    if not re.fullmatch(rb"(R \d+ [AB] \d+ [0-9a-f]+\n)*", done.stdout):
+    if not re.fullmatch(rb"(R \d+ [AB] ([A-Za-z0-9]+ )?\d+ [0-9a-f]+\n)*", done.stdout):
         raise Failed("send wrote other lines than those of frames", 4)
     with whole_file(path) as file:
         file.write(done.stdout)
@@ -125,7 +124,6 @@ def run() -> int:
     want_room(counts, args.config is not None, end_ns)
     if args.config is not None:
         version()
-        want_one_switch(args.config)
     write(args, streams, end_ns)
     say(f"{sum(counts.values())} messages of {len(counts)} systems written")
     return 0

@@ -68,11 +68,13 @@ def row_lines(
 
 
 class Tables:
-    """The tables of a configuration by what names their rows."""
+    """The tables of a configuration, or of one of its switches, by what names their rows."""
 
     def __init__(self, tree: dict) -> None:
         self.buffer: int = tree["buffer"]
         self.systems: dict[str, dict] = {row["name"]: row for row in tree.get("system", [])}
+        self.neighbours: dict[str, dict] = {row["name"]: row for row in tree.get("neighbour", [])}
+        self.ends = self.systems | self.neighbours
         self.links: dict[int, dict] = {row["vl"]: row for row in tree.get("link", [])}
         self.ports: list[dict] = tree.get("port", [])
 
@@ -101,8 +103,8 @@ class Comparison:
         self.of_system = functools.cache(self.why_system)
 
     def rates(self, name: str) -> list[str]:
-        """A system whose line has another rate."""
-        old, new = (tables.systems.get(name, {}).get("rate") for tables in (self.old, self.new))
+        """A system, or another switch, whose line has another rate."""
+        old, new = (tables.ends.get(name, {}).get("rate") for tables in (self.old, self.new))
         return [f"other rate: {name}"] if old != new else []
 
     def why_sender(self, name: str) -> str:
@@ -118,7 +120,7 @@ class Comparison:
 
     def why_bound(self, worst: Worst, what: str) -> str:
         """Why so much is needed at a port; `what` has room for the amount and the system."""
-        name = next(name for name, row in self.new.systems.items() if row["port"] == worst.port)
+        name = next(name for name, row in self.new.ends.items() if row["port"] == worst.port)
         return "; ".join([what.format(worst.amount, name), *self.of_system(name)])
 
     def why(self, vl: int, key: str) -> str:

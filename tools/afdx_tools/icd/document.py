@@ -3,35 +3,34 @@ configuration: the messages of a number are those of a virtual link, each with a
 at each of its receivers."""
 from __future__ import annotations
 
-import argparse
-import itertools
-import os
-import re
 from dataclasses import dataclass, field
 from fractions import Fraction
 from typing import Iterable, Iterator
 
 from afdx_tools.faults import shown
+from afdx_tools.icd.cabling import RATES, Cabling
+from afdx_tools.icd.names import NO_NAME
+from afdx_tools.icd.ways import Tree
 from afdx_tools.spreadsheets.cells import MOST_US, Cells, bag_of
 from afdx_tools.spreadsheets.heads import amount_of
-from afdx_tools.spreadsheets.sheets import Row, Sheet, read_sheet
+from afdx_tools.spreadsheets.sheets import Row
 
-# the columns, and whether each has to be there
+# the columns, and whether each has to be there; then those beside a table of cables
 SYSTEMS = dict.fromkeys(("system", "port", "id", "partition", "rate"), True)
 MESSAGES = dict.fromkeys(
     ("message", "vl", "from", "to", "every_ms", "bytes", "within_us", "priority", "port", "kind"),
     True,
 ) | dict.fromkeys(("depth", "lmin", "policing", "skew_us", "subs"), False)
+CABLED_SYSTEMS = SYSTEMS | {"switch": True}
+CABLED_MESSAGES = MESSAGES | {"via": False}
 # those whose cells may not be empty
-FULL_SYSTEMS = tuple(SYSTEMS)
+FULL_SYSTEMS = tuple(CABLED_SYSTEMS)
 FULL_MESSAGES = tuple(
     name for name, is_needed in MESSAGES.items() if is_needed and name != "within_us"
 )
 AROUND = 47  # bytes of a frame that aren't the message's
 SHORTEST, LONGEST = 64, 1518  # bytes of a frame
 MOST_LINKS = MOST_PORTS = 4096
-LONGEST_NAME = 16
-RATES = {1: (10, 100), 2: (10, 100, 1000)}
 POLICINGS = ("byte", "frame")
 
 
@@ -54,13 +53,15 @@ class Message:
     policing: str | None
     skew_us: int | None
     subs: int | None
+    via: list[str]
 
 
 @dataclass
 class Document:
     """The tables of a configuration without the keys that are solved, unless they are asked for;
     the rows that they were made of; and what is wrong with these. `names` are those of the systems
-    in the configuration, by those that the document has."""
+    in the configuration, by those that the document has. Of several switches a side `cabling` has
+    the switches, and `trees` how each link's frames come to them."""
 
     profile: int
     source: str = ""
@@ -71,6 +72,8 @@ class Document:
     system_rows: dict[str, Row] = field(default_factory=dict)
     messages: dict[int, list[Message]] = field(default_factory=dict)
     faults: list[str] = field(default_factory=list)
+    cabling: Cabling | None = None
+    trees: dict[int, Tree] = field(default_factory=dict)
 
     def called(self, name: str) -> str:
         """What the document calls a system of the configuration."""
@@ -88,38 +91,11 @@ class Document:
 # ---- systems -------------------------------------------------------------------------------------
 
 
-def is_lawful(name: str) -> bool:
-    """A configuration takes the name."""
-    return re.fullmatch(f"[A-Za-z0-9]{{1,{LONGEST_NAME}}}", name) is not None
-
-
-def numbered(name: str) -> Iterator[str]:
-    """A name, then the same with a number each: x2, x3 and so on."""
-    ends = itertools.chain([""], (f"x{number}" for number in itertools.count(2)))
-    return (name[: LONGEST_NAME - len(end)] + end for end in ends)
-
-
-def add_names(document: Document, names: Iterable[str]) -> None:
-    """Gives each name that has `_` and `-` one without, which no other system has. If two would be
-    the same, the second has a number too: x2, x3 and so on."""
-    names = list(names)
-    document.names.update((name, name) for name in names if is_lawful(name))
-    taken = set(document.names)
-    others: dict[str, Iterator[str]] = {}
-    for name in names:
-        plain = re.sub("[_-]", "", name)
-        if name in document.names or not is_lawful(plain):
-            continue
-        choice = others.setdefault(plain, numbered(plain))
-        document.names[name] = next(other for other in choice if other not in taken)
-        taken.add(document.names[name])
-
-
 def add_system(document: Document, row: Row) -> None:
     """A system from its row."""
     cells = Cells(row, document.faults)
     if row.name not in document.names:
-        cells.refuse("system", "it has to be a name of 1 to 16 letters A to Z and digits")
+        cells.refuse("system", NO_NAME)
     system = {
         "name": document.names.get(row.name, ""),
         "port": cells.whole("port", 1, 24),
@@ -190,6 +166,7 @@ def message_of(document: Document, row: Row) -> Message:
         policing=cells.one_of("policing", POLICINGS) if row.cells["policing"] else None,
         skew_us=cells.given("skew_us", 1, MOST_US),
         subs=cells.given("subs", 1, 4),
+        via=cells.words("via") if "via" in row.cells else [],
     )
 
 
@@ -299,72 +276,3 @@ def add_link(document: Document, vl: int, messages: list[Message]) -> None:
                     "depth": message.depth,
                 }
             )
-
-
-# ---- the document --------------------------------------------------------------------------------
-
-
-def fill_depths(sheet: Sheet) -> None:
-    """Gives each queuing message without a depth that of the row above it."""
-    above = None
-    for row in sheet.rows:
-        if row.cells["kind"].lower() == "queuing":
-            sheet.fill(above, row, "depth")
-        above = row
-
-
-def document_of(systems: Sheet, messages: Sheet, profile: int) -> Document:
-    """Reads both tables; all that is wrong with their cells is noted."""
-    names = " and ".join(os.path.basename(sheet.path) for sheet in (systems, messages))
-    document = Document(profile, shown(names))
-    add_names(document, (row.name for row in systems.rows))
-    for row in systems.rows:
-        add_system(document, row)
-    for column in ("system", "port", "id"):
-        refuse_twice(document, systems.rows, column)
-    for row in messages.rows:
-        message = message_of(document, row)
-        if message.vl is not None:
-            document.messages.setdefault(message.vl, []).append(message)
-    for vl, group in document.messages.items():
-        add_link(document, vl, group)
-    if len(document.links) > MOST_LINKS:
-        document.faults.append(f"{messages.name}: it has more than {MOST_LINKS} links")
-    if len(document.ports) > MOST_PORTS:
-        text = f"its messages have {len(document.ports)} receivers; {MOST_PORTS} are the most"
-        document.faults.append(f"{messages.name}: {text}")
-    return document
-
-
-# ---- what the tools that read the tables share ---------------------------------------------------
-
-
-def add_document_words(parser: argparse.ArgumentParser) -> None:
-    """The words that name both tables, and how they are read."""
-    add = parser.add_argument
-    add("systems", metavar="SYSTEMS.csv", help="the table of the systems")
-    add("messages", metavar="MESSAGES.csv", help="the table of the messages")
-    profile = "2 has rates of 1000 Mbit/s, and drops frames that grow too old (1)"
-    add("--profile", type=int, choices=(1, 2), default=1, help=profile)
-    fill = "an empty cell that has to have a value has that of the cell above, as if merged"
-    add("--fill", action="store_true", help=fill)
-
-
-def read_document(args: argparse.Namespace) -> tuple[Document, list[str]]:
-    """Reads the tables that the words name; lines about what was read otherwise than it stands
-    there."""
-    systems = read_sheet(args.systems, SYSTEMS, FULL_SYSTEMS if args.fill else ())
-    messages = read_sheet(args.messages, MESSAGES, FULL_MESSAGES if args.fill else ())
-    if args.fill:
-        fill_depths(messages)
-    remarks = []
-    for sheet in (systems, messages):
-        if sheet.others:
-            remarks.append(f"{sheet.name}: columns passed over: {', '.join(sheet.others)}")
-        if sheet.filled:
-            remarks.append(f"{sheet.name}: {sheet.filled} empty cells have what stands above them")
-    document = document_of(systems, messages, args.profile)
-    renamed = [f"{shown(name)} is {other}" for name, other in document.renamed().items()]
-    if renamed:
-        remarks.append(f"{systems.name}: in the configuration {', '.join(renamed)}")
-    return document, remarks

@@ -2,22 +2,31 @@
 the names that the document has as remarks."""
 from __future__ import annotations
 
+from typing import Iterator, Mapping
+
 from afdx_tools.faults import shown
 from afdx_tools.icd.document import Document
 
 SOLVED = ("jitter_us", "latency_us", "skew_us")  # the keys of a link that `solve` finds
+PARTS = ("system", "link", "port")
+SHORTER = (("  {", "{"), (", ", ","), (" = ", "="), ("{ ", "{"), (" }", "}"))
+PARTS_OF_SEVERAL = ("system", "neighbour", "link", "port")
 
 
 def value_text(value: object) -> str:
     """A value as TOML spells it."""
-    if isinstance(value, list):
-        return f"[{', '.join(map(value_text, value))}]"
-    return f'"{value}"' if isinstance(value, str) else str(value)
+    if isinstance(value, str):
+        return f'"{value}"'
+    return f"[{', '.join(map(value_text, value))}]" if isinstance(value, list) else str(value)
 
 
 def row_text(row: dict) -> str:
     """A table in a line; keys without a value are left out."""
-    pairs = (f"{key} = {value_text(value)}" for key, value in row.items() if value is not None)
+    pairs = [
+        f"{key} = {value if isinstance(value, int) else value_text(value)}"
+        for key, value in row.items()
+        if value is not None
+    ]
     return f"{{ {', '.join(pairs)} }},"
 
 
@@ -26,28 +35,74 @@ def names_of(document: Document, vl: int) -> list[str]:
     return list(dict.fromkeys(shown(message.row.name) for message in document.messages[vl]))
 
 
+def remarks_of(document: Document, part: str, row: dict, renamed: Mapping[str, str]) -> list[str]:
+    """What the document calls the thing that a row is about, where a row doesn't say it."""
+    if part == "link":
+        return names_of(document, row["vl"])
+    return [shown(renamed[row["name"]])] if row.get("name") in renamed else []
+
+
+def part_lines(
+    document: Document, part: str, rows: list[dict], renamed: Mapping[str, str]
+) -> Iterator[str]:
+    """An array of tables, a table a line."""
+    yield f"{part} = ["
+    for row in rows:
+        yield from (f"  # {name}" for name in remarks_of(document, part, row, renamed))
+        yield f"  {row_text(row)}"
+    yield "]"
+
+
+def text_of(document: Document, lines: list[str]) -> bytes:
+    """The configuration with these lines."""
+    head = f"# Made by afdx-icd from {document.source}."
+    return "".join(f"{line}\n" for line in [head, *lines]).encode()
+
+
 def config_text(document: Document, tables: dict) -> bytes:
     """The configuration with the buffer and the links of these tables, and with the names that the
     document has."""
-    lines = [f"# Made by afdx-icd from {document.source}.", f"profile = {document.profile}"]
+    lines = [f"profile = {document.profile}"]
     lines += [f"buffer = {tables['buffer']}"] if "buffer" in tables else []
-    lines += ["", "system = ["]
     renamed = {lawful: name for name, lawful in document.renamed().items()}
-    for system in document.systems:
-        name = renamed.get(system["name"])
-        lines += [] if name is None else [f"  # {shown(name)}"]
-        lines.append(f"  {row_text(system)}")
-    lines += ["]", "", "link = ["]
-    for link in tables["link"]:
-        lines += [f"  # {name}" for name in names_of(document, link["vl"])]
-        lines.append(f"  {row_text(link)}")
-    lines += ["]", "", "port = [", *(f"  {row_text(row)}" for row in document.ports), "]"]
-    return "".join(f"{line}\n" for line in lines).encode()
+    rows = {"system": document.systems, "link": tables["link"], "port": document.ports}
+    for part in PARTS:
+        lines += ["", *part_lines(document, part, rows[part], renamed)]
+    return text_of(document, lines)
 
 
 def asked_text(document: Document) -> bytes:
     """The configuration with the keys that are asked for."""
     return config_text(document, {"link": document.links})
+
+
+def several_text(document: Document, switches: list[dict]) -> bytes:
+    """The configuration of several switches with these tables, and with the names that the document
+    has. A part without rows is left out."""
+    assert document.cabling is not None
+    renamed = {name: key for key, name in document.renamed().items()}
+    called = {name: key for key, name in document.cabling.renamed().items()}
+    lines = []
+    for tables in switches:
+        name = tables["name"]
+        lines += ["", "[[switch]]", *([f"# {shown(called[name])}"] if name in called else [])]
+        keys = ("name", "profile", "buffer")
+        lines += [f"{key} = {value_text(tables[key])}" for key in keys if tables[key] is not None]
+        for part in filter(tables.get, PARTS_OF_SEVERAL):
+            lines += part_lines(document, part, tables[part], renamed | called)
+    return text_of(document, lines)
+
+
+def shortened(config: bytes) -> bytes:
+    """The same configuration without the names of messages and most spaces. In quotes stand names
+    of the configuration alone, which have none of what is shortened."""
+    lines = []
+    for line in config.decode().splitlines():
+        if not line.startswith("  # "):
+            for long, short in SHORTER if not line.startswith("#") else ():
+                line = line.replace(long, short)
+            lines.append(line)
+    return "".join(f"{line}\n" for line in lines).encode()
 
 
 def with_solved(document: Document, solved: dict) -> dict:

@@ -12,7 +12,7 @@ from itertools import starmap
 from operator import itemgetter
 from typing import BinaryIO, Iterable, Iterator
 
-from afdx_tools.config import read_config
+from afdx_tools.config import port_at, read_config
 from afdx_tools.faults import Failed, Refused
 from afdx_tools.program import program
 from afdx_tools.recordings.options import WRITER, WRITER_CODE
@@ -36,12 +36,14 @@ Key = tuple[str, int]  # a side, empty where there is one recording, and a numbe
 
 @dataclass
 class Reported:
-    """What the program says of a frame: its lines; whether it was accepted, and how many of its
-    copies came to their end."""
+    """What the program says of a frame: its lines; how many verdicts these are, which switches
+    accepted it, how many of its copies came to their end, and how many of these to a cable."""
 
     lines: list[bytes] = field(default_factory=list)
-    accepted: bool | None = None
+    verdicts: int = 0
+    accepted: list[int] = field(default_factory=list)
     ended: int = 0
+    sent: int = 0
 
 
 # ---- what the program says -----------------------------------------------------------------------
@@ -71,12 +73,16 @@ def none_of_this(line: bytes) -> Refused:
 
 
 class Followed:
-    """The lines of a replay, by the frames that they are about. `copies` are the ports that the
-    frames of each link go to."""
+    """The lines of a replay, by the frames that they are about. `copies` says how many ports the
+    frames of each link go to at each switch; `names` are those of several switches."""
 
     def __init__(self, config: str, lines: Iterable[bytes], is_pair: bool) -> None:
-        links = read_config(config).links
-        self.copies = {vl: len(link.ports) for vl, link in links.items()}
+        read = read_config(config)
+        self.names = {name.encode(): number for number, name in enumerate(read.names)}
+        rows = {(0, vl): link for vl, link in read.links.items()}
+        rows = read.several.rows if read.several else rows
+        self.copies = {key: len(row.ports) for key, row in rows.items()}
+        self.cables = set(read.cables)
         self.lines, self.is_pair = iter(lines), is_pair
         self.reported: dict[Key, Reported] = {}
         self.last = Reported()  # the frame of the last D line
@@ -91,13 +97,19 @@ class Followed:
         elif kind == b"X":
             self.last.lines.append(text)
         elif kind in (b"V", b"L", b"D", b"T"):
-            side = fields[0 if kind in (b"V", b"L") else 1].decode("ascii")
-            one = self.reported.setdefault((side if self.is_pair else "", int(number)), Reported())
+            side, *behind = fields if kind in (b"V", b"L") else fields[1:]
+            switch = self.names[behind.pop(0)] if self.names else 0
+            key = side.decode("ascii") if self.is_pair else "", int(number)
+            one = self.reported.setdefault(key, Reported())
             one.lines.append(text)
             if kind == b"V":
-                one.accepted = fields[1] == b"accept"
+                one.verdicts += 1
+                if behind[0] == b"accept":
+                    one.accepted.append(switch)
             else:
                 one.ended, self.last = one.ended + 1, one
+                if kind == b"D" and self.cables:
+                    one.sent += port_at(switch, int(behind[0])) in self.cables
         else:
             raise ValueError
 
@@ -109,16 +121,16 @@ class Followed:
             return
         try:
             self.take(line)
-        except (ValueError, IndexError) as error:
+        except (ValueError, LookupError) as error:
             raise none_of_this(line) from error
 
     def is_done(self, key: Key, content: bytes) -> bool:
         """Was all said of a frame?"""
         one = self.reported.get(key)
-        if one is None or one.accepted is None:
+        if one is None or one.verdicts != 1 + one.sent:  # a cable has still to bring it somewhere
             return False
         vl = int.from_bytes(content[4:6], "big") if content.startswith(LINK) else -1
-        wanted = self.copies.get(vl, 0) if one.accepted else 0
+        wanted = sum(self.copies.get((switch, vl), 0) for switch in one.accepted)
         # the line after its last departure says what the receiver did, so that has to be here too
         return one.ended >= wanted and self.last is not one
 

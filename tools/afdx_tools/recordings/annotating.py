@@ -1,4 +1,5 @@
-"""A replay beside its frames: each frame of a list with the program's lines about it."""
+"""A replay beside its frames: each frame of a list with the program's lines about it, once at each
+switch to which it came."""
 from __future__ import annotations
 
 import subprocess
@@ -7,7 +8,7 @@ from collections import deque
 from dataclasses import dataclass
 from typing import Iterable, Iterator
 
-from afdx_tools.config import read_config
+from afdx_tools.config import MOST_PORTS, Config, port_at, read_config
 from afdx_tools.faults import Failed, Refused
 from afdx_tools.lists import Listed
 from afdx_tools.program import program, version
@@ -15,7 +16,9 @@ from afdx_tools.program import program, version
 
 @dataclass
 class Followed:
-    """A frame of the list, the lines about it so far, its copies of which more will be said."""
+    """A frame as it came to a switch, which is a line of the list, or one with the time and the
+    place to which a cable brought the frame; the lines about it there so far, its copies of which
+    more will be said."""
 
     listed: Listed
     lines: list[str]
@@ -23,55 +26,92 @@ class Followed:
 
 
 class Following:
-    """Follows the frames of a list through the lines of its replay."""
+    """Follows the frames of a list through the lines of its replay. Several switches have a name
+    behind each side, and frames come to further switches in the order in which they left for
+    them."""
 
     def __init__(self, config: str, listed: Iterator[Listed]) -> None:
-        self._config = config
+        self._path = config
+        self._config: Config | None = None
         self._listed = listed
-        self._copies: dict[int, int] | None = None  # of each link: ports that its frames go to
+        self._next = next(listed, None)
         self._waiting: deque[Followed] = deque()
-        self._by_line: dict[int, Followed] = {}
-        self._last = 0  # the list's line of the last D line
+        self._accepted: dict[tuple[int, str], Followed] = {}  # by line and switch
+        self._brought: deque[Listed] = deque()  # what cables bring
+        self._last: Followed | None = None  # that of the last D line
+
+    @property
+    def config(self) -> Config:
+        """The configuration; it is read when the program has taken it."""
+        if self._config is None:
+            self._config = read_config(self._path)
+        return self._config
 
     def take(self, text: str) -> None:
         """Takes the next line of the replay."""
         kind, *fields = text.split(" ")
         if kind == "V":
-            self._begin(int(fields[0]), text, fields[2] == "accept")
+            switch = fields.pop(2) if self.config.several else ""
+            self._begin(int(fields[0]), switch, text, fields[2] == "accept")
         elif kind in ("D", "T", "L"):
-            self._last = int(fields[0])
-            self._by_line[self._last].lines.append(text)
-            self._by_line[self._last].copies -= 1
-        elif kind == "M":  # the message itself stands in the frame
-            self._by_line[self._last].lines.append(" ".join(["M", *fields[:3]]))
-        elif kind == "X":
-            self._by_line[int(fields[2])].lines.append(text)
+            self._end(kind, fields, text)
+        elif kind in ("M", "X") and self._last is not None:
+            # the message itself stands in the frame
+            self._last.lines.append(" ".join(["M", *fields[:3]]) if kind == "M" else text)
         else:
             raise ValueError
 
-    def _begin(self, number: int, text: str, accepted: bool) -> None:
+    def _begin(self, number: int, switch: str, text: str, accepted: bool) -> None:
         """A verdict: the frame is followed from here on."""
-        if self._copies is None:
-            links = read_config(self._config).links
-            self._copies = {vl: len(link.ports) for vl, link in links.items()}
-        listed = next(self._listed)
-        if listed.line != number or (accepted and listed.vl not in self._copies):
+        if self._next is not None and self._next.line == number:
+            listed, self._next = self._next, next(self._listed, None)
+        else:
+            listed = self._brought.popleft()
+        if (listed.line, listed.switch) != (number, switch):
             raise ValueError
-        copies = self._copies[listed.vl] if accepted and listed.vl is not None else 0
-        followed = Followed(listed, [text], copies)
+        followed = Followed(listed, [text], 0)
         self._waiting.append(followed)
-        self._by_line[number] = followed
+        if accepted:
+            row = self.config.row_at(-1 if listed.vl is None else listed.vl, self._port(listed))
+            if row is None:
+                raise ValueError
+            followed.copies = len(row.ports)
+            self._accepted[number, switch] = followed
+
+    def _end(self, kind: str, fields: list[str], text: str) -> None:
+        """The end of a copy; what goes on over a cable comes to another switch."""
+        place = fields[1:] if kind == "L" else fields[2:]
+        switch = place[1] if self.config.several else ""
+        followed = self._accepted[int(fields[0]), switch]
+        followed.lines.append(text)
+        followed.copies -= 1
+        if kind == "D":
+            self._last = followed
+            port = port_at(self._switch(switch), int(place[-1]))
+            if cable := self.config.cables.get(port):
+                time, far = int(fields[1]), cable.far % MOST_PORTS
+                there = followed.listed._replace(time=time, switch=cable.name, port=far)
+                self._brought.append(there)
+        if not followed.copies:
+            del self._accepted[int(fields[0]), switch]
+
+    def _switch(self, name: str) -> int:
+        """The number of a switch."""
+        return self.config.names.index(name) if name else 0
+
+    def _port(self, listed: Listed) -> int:
+        """The number of the port where a frame came in."""
+        return port_at(self._switch(listed.switch), listed.port)
 
     def done(self) -> Iterator[Followed]:
-        """The frames, in the list's order, of which nothing more will be said."""
+        """The frames, in the order in which they came, of which nothing more will be said."""
         while self._waiting and self._waiting[0].copies == 0:
-            followed = self._waiting.popleft()
-            del self._by_line[followed.listed.line]
-            yield followed
+            yield self._waiting.popleft()
 
 
 def follow(config: str, listed: Iterator[Listed], lines: Iterable[str]) -> Iterator[Followed]:
-    """The frames of a list in its order, each with the program's lines about it."""
+    """The frames of a list in the order in which they came to a switch, each with the program's
+    lines about it there."""
     following = Following(config, listed)
     for line in lines:
         text = line.rstrip("\n")
@@ -79,7 +119,7 @@ def follow(config: str, listed: Iterator[Listed], lines: Iterable[str]) -> Itera
             yield from following.done()
         try:
             following.take(text)
-        except (ValueError, LookupError, StopIteration) as error:
+        except (ValueError, LookupError) as error:
             raise Refused(f"the program's line '{text[:60]}' is none of this replay") from error
     yield from following.done()
 

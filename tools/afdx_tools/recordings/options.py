@@ -23,7 +23,8 @@ def add_recording_words(parser: argparse.ArgumentParser) -> None:
         action="append",
         default=[],
         metavar="K=PLACE",
-        help="where the frames of interface K came in: A, B, A:PORT or B:PORT; - leaves them out",
+        help="where the frames of interface K came in: A, B, A:PORT or B:PORT, of several "
+        "switches also 'A NAME' or 'A NAME:PORT'; - leaves them out",
     )
     taps = "a table of taps in the place of --interface, which is checked; see afdx-taps"
     add("--taps", metavar="FILE", help=taps)

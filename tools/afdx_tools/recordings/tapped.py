@@ -5,7 +5,7 @@ import filecmp
 import os
 from typing import Iterable, NamedTuple
 
-from afdx_tools.config import Config, read_config
+from afdx_tools.config import MOST_PORTS, Config, Link, port_at, read_config
 from afdx_tools.faults import LONGEST_NAME, Failed, cut, shown
 from afdx_tools.progress import Progress
 from afdx_tools.recordings.interfaces import OTHERS, Interface, interfaces_of
@@ -19,6 +19,7 @@ from afdx_tools.recordings.taps import (
     Place,
     Recording,
     Tap,
+    WrongTaps,
     called,
     matched,
     read_taps,
@@ -50,8 +51,8 @@ class Claims:
     """Where the systems of a configuration are, by the source addresses of their frames."""
 
     def __init__(self, config: Config, all_tapped: Iterable[Tapped]) -> None:
-        self.ports = config.ports_by_id()
-        self.names = {port: system.name for port, system in config.by_port().items()}
+        self.config, self.ports = config, config.ports_by_id()
+        self.names = {port: end.name for port, end in config.by_port().items()}
         self.links = config.links.values()
         # the places from which frames came that name them
         self.named = {
@@ -65,24 +66,38 @@ class Claims:
         """The place that a source address names; None where it names none."""
         side = SIDES.get(source[-1]) if source.startswith(SENDER) else None
         port = self.ports.get(int.from_bytes(source[3:5], "big"))
-        return Place(side, port) if side and port else None
+        if not side or not port:
+            return None
+        return Place(side, port % MOST_PORTS, self.config.switch_of(port))
+
+    def port_of(self, place: Place) -> int:
+        """The number of a place's port."""
+        names = self.config.names
+        return port_at(names.index(place.switch) if names else 0, place.port)
+
+    def is_cable(self, place: Place | None) -> bool:
+        """A cable to another switch is there."""
+        return place is not None and self.port_of(place) in self.config.cables
 
     def called(self, source: bytes) -> str:
         """That place in words."""
         place = self.place_of(source)
         if place:
-            return f"{place} ({self.names[place.port]})"
+            return f"{place} ({self.names[self.port_of(place)]})"
         return f"no place ({source.hex(':')})" if source != OTHERS else "other addresses"
 
     def agrees(self, tap: Tap, source: bytes) -> bool:
         """A frame of that source can come there: into the switch only from the system at the port,
-        out of it only from another one on that side; anything where it doesn't count."""
+        or over a cable from one of another switch; out of it only from another one on that side;
+        anything where it doesn't count."""
         place, here = self.place_of(source), tap.place
         if tap.direction == NONE:
             return True
-        if tap.direction == IN:
+        if tap.direction == IN and not self.is_cable(here):
             return place == here
-        return place is not None and here is not None and place.side == here.side and place != here
+        if place is None or here is None or place.side != here.side:
+            return False
+        return place.switch != here.switch if tap.direction == IN else place != here
 
     def are_others(self, tap: Tap, sources: Iterable[bytes]) -> bool:
         """These are systems of the same side that were recorded at their places, too."""
@@ -92,18 +107,24 @@ class Claims:
 
     def come_out(self, tap: Tap, sources: Iterable[bytes]) -> bool:
         """These are such systems, and their frames come out of the switch at the tap's place."""
-        here = tap.place.port if tap.place else None
-        ports = {link.port for link in self.links if here in link.ports}
+        ports = {link.port for link in self.links if tap.place and self.goes(link, tap.place)}
         places = map(self.place_of, sources)
-        come = all(place is not None and place.port in ports for place in places)
+        come = all(place is not None and self.port_of(place) in ports for place in places)
         return come and self.are_others(tap, sources)
+
+    def goes(self, link: Link, place: Place) -> bool:
+        """A link's frames come out there."""
+        port = self.port_of(place)
+        if self.config.several:
+            return (link.vl, port) in self.config.several.ways
+        return port in link.ports
 
     def is_wrong(self, tap: Tap, sources: Iterable[bytes]) -> bool:
         """The place is wrong, where not one frame agrees with it. It may be right if no system is
         there, or if the one there sends as others do; but not if their frames come out there."""
         if tap.direction == OUT:
             return True
-        if tap.place is None or tap.place.port not in self.names:
+        if tap.place is None or self.port_of(tap.place) not in self.names:
             return False
         return not self.are_others(tap, sources) or self.come_out(tap, sources)
 
@@ -168,22 +189,31 @@ def note_frames(found: Found, claims: Claims, tapped: Tapped) -> None:
 # ---- the words -----------------------------------------------------------------------------------
 
 
-def word_of(tap: Tap, number: int) -> str:
-    """The word of the program for an interface."""
-    place = tap.place if tap.direction == IN else "-"
-    return f"--interface={number}={place}"
+def word_of(claims: Claims, tap: Tap, number: int) -> str:
+    """The word of the program for an interface. What a cable brings is left out: it is computed."""
+    is_in = tap.direction == IN and not claims.is_cable(tap.place)
+    return f"--interface={number}={tap.place if is_in else '-'}"
 
 
-def note_words(found: Found, rows: list[dict[int, Tap]]) -> None:
+def note_words(found: Found, claims: Claims, rows: list[dict[int, Tap]]) -> None:
     """The words for all recordings; an interface that is left out is so in both."""
     for number in sorted(set().union(*rows)):
-        words = {word_of(each[number], number) for each in rows if number in each}
+        words = {word_of(claims, each[number], number) for each in rows if number in each}
         if f"--interface={number}=-" in words and len(words) > 1:
             found.faults.append(
                 f"interface {number} is left out of one recording and not of the other, which no "
                 "word says; record the interfaces of both networks in one order"
             )
         found.words += sorted(words)
+
+
+def want_switches(config: Config, taps: list[Tap]) -> None:
+    """WrongTaps where a row names no switch of the configuration, or one where there is but one."""
+    wrong = [tap for tap in taps if tap.place and tap.place.switch not in (config.names or ("",))]
+    what = f"it has to be one of {', '.join(config.names)}"
+    what = what if config.several else "the configuration has one switch a side"
+    if wrong:
+        raise WrongTaps([f"{tap.row.at('switch')}: {what}" for tap in wrong])
 
 
 def are_same(paths: list[str]) -> bool:
@@ -212,6 +242,7 @@ def checked(
     """Looks at one recording, or at those of A and B, and at the table. Recordings have to be files
     that can be read again; `names` are what they are called."""
     found = Found()
+    want_switches(config, taps)
     if len(paths) == 2 and are_same(paths):
         found.faults.append(f"{shown(names[0])} and {shown(names[1])} are the same recording")
         return found
@@ -234,7 +265,7 @@ def checked(
     claims = Claims(config, all_tapped)
     for tapped in all_tapped:
         note_frames(found, claims, tapped)
-    note_words(found, rows)
+    note_words(found, claims, rows)
     return found
 
 

@@ -10,19 +10,20 @@ from afdx_tools.recordings.interfaces import Interface
 from afdx_tools.spreadsheets.cells import Cells
 from afdx_tools.spreadsheets.sheets import Row, read_sheet
 
-COLUMNS = dict.fromkeys(("interface", "side", "port", "direction"), True)
+COLUMNS = dict.fromkeys(("interface", "side", "port", "direction"), True) | {"switch": False}
 SIDES = {0x20: "A", 0x40: "B"}  # by the last byte of a source address
 IN, OUT, NONE = "in", "out", "none"
 
 
 class Place(NamedTuple):
-    """A side, and a port of its switch."""
+    """A side, and a port of its switch; of several switches also which one it is at."""
 
     side: str
     port: int
+    switch: str = ""
 
     def __str__(self) -> str:
-        return f"{self.side}:{self.port}"
+        return f"{self.side} {self.switch}".rstrip() + f":{self.port}"
 
 
 @dataclass(frozen=True)
@@ -79,7 +80,7 @@ def tap_of(row: Row, faults: list[str]) -> Tap:
         side, port = row.cells["side"].upper(), cells.whole("port", 1, 24)
         if side not in SIDES.values():
             cells.refuse_other("side", list(SIDES.values()))
-        place = Place(side, port or 0)
+        place = Place(side, port or 0, row.cells["switch"])
     return Tap(row, row.name, place, direction)
 
 

@@ -61,26 +61,27 @@ class Pcapng:
     """A pcapng file with times in ns, frames with check sequences and comments, and an interface
     for each port of each switch to which frames came."""
 
-    def __init__(self, file: BinaryIO) -> None:
+    def __init__(self, file: BinaryIO, has_check_sequences: bool = True) -> None:
         self._file = file
-        self._taps: dict[tuple[str, int], int] = {}
+        self._fcs = b"\x04" if has_check_sequences else b"\x00"
+        self._taps: dict[str, int] = {}
         file.write(bytes(pcapng.SectionHeaderBlockLE(opts=[option(WRITER_CODE, WRITER), END])))
 
-    def _tap(self, side: str, port: int) -> int:
-        """The place of an interface, which is described when it is first used."""
-        if (side, port) not in self._taps:
-            name = f"side {side} port {port}".encode("ascii")
-            options = [option(NAME, name), option(RESOLUTION, b"\x09"), option(FCS, b"\x04"), END]
+    def _tap(self, place: str) -> int:
+        """The number of an interface, which is described when it is first used."""
+        if place not in self._taps:
+            options = [option(NAME, place.encode("ascii")), option(RESOLUTION, b"\x09")]
+            options += [option(FCS, self._fcs), END]
             block = pcapng.InterfaceDescriptionBlockLE(snaplen=LONGEST_FRAME, opts=options)
             self._file.write(bytes(block))
-            self._taps[side, port] = len(self._taps)
-        return self._taps[side, port]
+            self._taps[place] = len(self._taps)
+        return self._taps[place]
 
-    def write(self, time: int, side: str, port: int, frame: bytes, comments: list[str]) -> None:
-        """A frame that came so many ns after 1970 to that port, with its comments."""
+    def write(self, time: int, place: str, frame: bytes, comments: list[str]) -> None:
+        """A frame that came so many ns after 1970 to that place, with its comments."""
         options = [option(COMMENT, text.encode("ascii")) for text in comments]
         block = pcapng.EnhancedPacketBlockLE(
-            iface_id=self._tap(side, port),
+            iface_id=self._tap(place),
             ts_high=time >> 32,
             ts_low=time & 0xFFFF_FFFF,
             pkt_data=frame,

@@ -8,6 +8,7 @@ from dataclasses import dataclass
 
 import numpy as np
 
+from afdx_tools.config import MOST_PORTS
 from afdx_tools.replay.copies import (
     Offset,
     alone_of,
@@ -18,7 +19,7 @@ from afdx_tools.replay.copies import (
     skews_at_receivers,
     twice_by_link,
 )
-from afdx_tools.replay.counting import MOST_PORTS, Counting
+from afdx_tools.replay.counting import Counting
 from afdx_tools.replay.events import side_name
 from afdx_tools.replay.listing import NO_LINK, NO_SOURCE
 from afdx_tools.replay.silence import LINK, NETWORK, SYSTEM, Silence, Silences
@@ -89,41 +90,47 @@ def silence_row(counting: Counting, one: Silence) -> Row:
 
 def dropped_rows(counting: Counting) -> list[Row]:
     """A row for each link, side, reason and input port of frames that a switch dropped."""
-    events, listing = counting.events, counting.listing
-    lines = counting.arrived[events.verdict[counting.arrived] > 0]
-    keys = counting.place[lines].astype(np.int64) * 2 + listing.side[lines]
-    keys = (keys * KINDS + events.verdict[lines]) * MOST_PORTS + listing.port[lines]
+    came = counting.events.came
+    at = np.flatnonzero(came.verdict > 0)
+    lines = came.line[at]
+    keys = counting.place[lines].astype(np.int64) * 2 + counting.listing.side[lines]
+    keys = (keys * KINDS + came.verdict[at]) * counting.ports + came.port[at]
     order = np.argsort(keys, kind="stable")
     bounds = np.flatnonzero(np.diff(keys[order], prepend=-1, append=-1))
     return [
-        dropped_row(counting, lines[order[begin:end]])
-        for begin, end in zip(bounds[:-1], bounds[1:])
+        dropped_row(counting, at[order[begin:end]]) for begin, end in zip(bounds[:-1], bounds[1:])
     ]
 
 
-def dropped_row(counting: Counting, lines: np.ndarray) -> Row:
-    """Frames of one link, side, reason and input port, in the order of the list."""
-    listing, first = counting.listing, int(lines[0])
-    vl, port = counting.vls[counting.place[first]], int(listing.port[first])
-    link = counting.config.links.get(vl)
+def dropped_row(counting: Counting, at: np.ndarray) -> Row:
+    """Frames of one link, side, reason and input port, in the order in which they came; `at` are
+    their places among all that came."""
+    came, config = counting.events.came, counting.config
+    lines, port = came.line[at], int(came.port[at[0]])
+    first = int(lines[0])
+    vl = counting.vls[counting.place[first]]
+    link = config.row_at(vl, port)
+    place = config.keys_of(port)
+    own = link.port % MOST_PORTS if link else None
     return {
         "link": "none" if vl == NO_LINK else vl,
-        "side": side_name(int(listing.side[first])),
-        "reason": counting.events.verdict_of(first),
+        "side": side_name(int(counting.listing.side[first])),
+        "reason": counting.events.verdicts.names[came.verdict[at[0]]],
         "frames": len(lines),
-        "came_in": port,
+        **{"switch": name for name in [place.get("switch")] if name},
+        "came_in": place["port"],
         "system": system_at(counting, port),
-        "own_port": link.port if link else None,
+        "own_port": own,
         "own_system": link.source if link else None,
         "address": addressed(counting, lines),
-        "from_ns": int(listing.time[first]),
-        "until_ns": int(listing.time[lines[-1]]),
+        "from_ns": int(came.time[at[0]]),
+        "until_ns": int(came.time[at[-1]]),
         "first_line": counting.events.number_of(first),
     }
 
 
 def system_at(counting: Counting, port: int) -> str | None:
-    """The system at a port of both switches."""
+    """The system at a port of both switches, or the switch at the other end of its cable."""
     system = counting.by_port.get(port)
     return system.name if system else None
 
@@ -174,7 +181,7 @@ def skew_rows(counting: Counting, copied: Copied) -> list[Row]:
                 "at_receivers_ns": there.greatest if there else None,
                 "receivers_line": number_of(counting, there.line if there else 0),
                 "receivers_side": side_of(counting, there.line if there else 0),
-                "table_skew_ns": counting.config.links[vl].skew_ns,
+                "table_skew_ns": there.table if there else counting.config.links[vl].skew_ns,
                 "twice": twice.get(vl, 0),
             }
         )

@@ -5,7 +5,7 @@ from dataclasses import dataclass
 
 import numpy as np
 
-from afdx_tools.replay.counting import MOST_PORTS, Counting
+from afdx_tools.replay.counting import Counting
 from afdx_tools.replay.events import ACCEPT, DELIVERED
 from afdx_tools.replay.silence import Silences
 from afdx_tools.replay.traffic import NUMBERED, grouped, of_kinds, order_of
@@ -18,11 +18,13 @@ LEAST_OFFSET = 100_000  # ns; below that it may as well be cables and senders
 
 @dataclass(frozen=True)
 class Skew:
-    """The greatest time in ns between the two copies of a frame, and the line of the later one."""
+    """The greatest time in ns between the two copies of a frame, and the line of the later one; of
+    several receivers that which is the most of its SkewMax, `table`."""
 
     pairs: int
     greatest: int
     line: int
+    table: int
 
 
 @dataclass(frozen=True)
@@ -142,14 +144,27 @@ def nearest_there(keys: np.ndarray, times: np.ndarray, side: np.ndarray) -> np.n
 
 
 def greatest_by_link(
-    counting: Counting, places: np.ndarray, apart: np.ndarray, lines: np.ndarray
-) -> dict[int, Skew]:
-    """The greatest of each link; `places` are those of the links."""
+    counting: Counting, places: np.ndarray, apart: np.ndarray, lines: np.ndarray,
+    table: np.ndarray,
+) -> dict[int, Skew]:  # fmt: skip
+    """The greatest of each link, by its share of what its table has; `places` are those of the
+    links."""
     found = {}
+    shares = apart / np.maximum(table, 1)
     for index, at in grouped(places).items():
-        worst = int(at[int(np.argmax(apart[at]))])
-        found[counting.vls[index]] = Skew(len(at), int(apart[worst]), int(lines[worst]))
+        worst = int(at[int(np.argmax(shares[at]))])
+        amount, line = int(apart[worst]), int(lines[worst])
+        found[counting.vls[index]] = Skew(len(at), amount, line, int(table[worst]))
     return found
+
+
+def skews_asked(counting: Counting, places: np.ndarray, ports: np.ndarray) -> np.ndarray:
+    """SkewMax of these links in their rows at the switches of these ports."""
+    config, keys = counting.config, places.astype(np.int64) * counting.ports + ports
+    found, which = np.unique(keys, return_inverse=True)
+    skews = [config.skew_at(counting.vls[key // counting.ports], key % counting.ports)
+             for key in found.tolist()]  # fmt: skip
+    return np.array(skews, np.int64)[which]
 
 
 def skews_at_inputs(counting: Counting, other: np.ndarray) -> dict[int, Skew]:
@@ -157,22 +172,22 @@ def skews_at_inputs(counting: Counting, other: np.ndarray) -> dict[int, Skew]:
     time = counting.listing.time
     later = np.flatnonzero(other)
     later = later[other[later] < later]
-    return greatest_by_link(
-        counting, counting.place[later], time[later] - time[other[later]], later
-    )
+    places = counting.place[later]
+    table = skews_asked(counting, places, counting.listing.port[later])
+    return greatest_by_link(counting, places, time[later] - time[other[later]], later, table)
 
 
 def copies_at_receivers(counting: Counting, other: np.ndarray) -> tuple[np.ndarray, np.ndarray]:
     """The copies that left a port after, in the list, their frame's copy of the other side, and
-    those that left the same port of the other switch."""
-    events = counting.events
-    at = np.flatnonzero(counting.left)
-    keys = events.line[at].astype(np.int64) * MOST_PORTS + events.port[at]
+    those that left the same port of the other switch; ports with a system alone."""
+    events, count = counting.events, counting.ports
+    at = np.flatnonzero(counting.ended)
+    keys = events.line[at].astype(np.int64) * count + events.port[at]
     order = np.argsort(keys, kind="stable")
     at, keys = at[order], keys[order]
     partner = other[events.line[at]]
     second = np.flatnonzero((partner > 0) & (partner < events.line[at]))
-    wanted = partner[second].astype(np.int64) * MOST_PORTS + events.port[at[second]]
+    wanted = partner[second].astype(np.int64) * count + events.port[at[second]]
     place = np.minimum(np.searchsorted(keys, wanted), max(len(keys) - 1, 0))
     there = keys[place] == wanted if len(keys) else np.zeros(0, bool)
     return at[second[there]], at[place[there]]
@@ -184,7 +199,9 @@ def skews_at_receivers(counting: Counting, other: np.ndarray) -> dict[int, Skew]
     mine, its = copies_at_receivers(counting, other)
     apart = events.time[mine] - events.time[its]
     lines = events.line[np.where(apart >= 0, mine, its)]
-    return greatest_by_link(counting, counting.links[mine], np.abs(apart), lines)
+    places = counting.links[mine]
+    table = skews_asked(counting, places, events.port[mine])
+    return greatest_by_link(counting, places, np.abs(apart), lines, table)
 
 
 def twice_by_link(counting: Counting, other: np.ndarray) -> dict[int, int]:

@@ -1,8 +1,9 @@
 """Counts what a replay wrote: sums by link and side, latencies, backlogs, loads.
 
 Every number here is counted from the program's lines and the list. A latency runs from the arrival
-of a frame's last bit to the end of its slot. All columns of the run are held, about 60 bytes for
-each line of the list and 40 for each copy that left a port.
+of a frame's last bit to the end of its slot: at a switch from where it came in there, from end to
+end from the list's arrival. All columns of the run are held, about 60 bytes for each line of the
+list and 60 for each copy that left a port.
 """
 from __future__ import annotations
 
@@ -10,12 +11,11 @@ from dataclasses import dataclass
 
 import numpy as np
 
-from afdx_tools.config import Config
+from afdx_tools.config import MOST_PORTS, Config
 from afdx_tools.replay.events import ACCEPT, FATES, LEFT, LOST, NOT_YET, OLD, Events
 from afdx_tools.replay.listing import NO_LINK, Listing
 
 WIRE_EXTRA = 20  # bytes that a frame takes on the wire beside its own
-MOST_PORTS = 32  # more than the ports of a switch
 MOST_LINK = 65_536
 SHARES = (500, 990, 999)  # of a thousand: the percentiles 50, 99 and 99.9 of latencies
 
@@ -84,13 +84,38 @@ class Counting:
         self.place = index[listing.link]  # of each line its link's place in `vls`
         self.arrived = np.flatnonzero(events.verdict != NOT_YET)
         self.span()
-        configured = [config.links[vl].latency_ns for vl in self.order] + [0]
-        self.configured = np.array(configured, np.int64)
         self.links = self.place[events.line]  # of each copy
         self.sides = listing.side[events.line]
-        self.latency = events.time - listing.time[events.line]
         self.left = events.fate == FATES.index(LEFT)
-        self.late = self.left & (self.latency > self.configured[self.links])
+        self.latency = events.time - events.since
+        self.configured, self.promised = self.asked()
+        self.late = self.left & (self.latency > self.configured)
+        # of each copy that left: it went to a system; and from end to end
+        cables = np.isin(events.port, list(config.cables))
+        self.ended = self.left & ~cables if cables.any() else self.left
+        self.whole = events.time - listing.time[events.line] if config.several else self.latency
+
+    @property
+    def ports(self) -> int:
+        """More than the number of any port."""
+        return MOST_PORTS * max(len(self.config.names), 1)
+
+    def asked(self) -> tuple[np.ndarray, np.ndarray]:
+        """Of each copy the latency that is configured at its switch, and that of its link's way to
+        its port."""
+        config = self.config
+        if config.several is None:
+            configured = [config.links[vl].latency_ns for vl in self.order] + [0]
+            here = np.array(configured, np.int64)[self.links]
+            return here, here
+        at = {vl: place for place, vl in enumerate(self.order)}
+        rows, ways = (np.zeros((len(self.vls), self.ports), np.int64) for _ in range(2))
+        for (_, vl), row in config.several.rows.items():
+            if vl in at:
+                rows[at[vl], list(row.ports)] = row.latency_ns
+        for vl, port in config.several.ways:
+            ways[at[vl], port] = config.latency_to(vl, port)
+        return rows[self.links, self.events.port], ways[self.links, self.events.port]
 
     def span(self) -> None:
         """The first and the last time of the run."""
@@ -104,6 +129,11 @@ class Counting:
         words = len(self.events.verdicts.names)
         return tally(keys[self.arrived], self.events.verdict[self.arrived], count, words)
 
+    def came_by(self, keys: np.ndarray, count: int) -> np.ndarray:
+        """The same with what cables brought to further switches."""
+        came, words = self.events.came, len(self.events.verdicts.names)
+        return tally(keys[came.line], came.verdict, count, words)
+
     def fates_by(self, keys: np.ndarray, count: int) -> np.ndarray:
         """For each key the copies by fate; `keys` has one for each copy."""
         return tally(keys, self.events.fate, count, len(FATES))
@@ -113,34 +143,41 @@ class Counting:
         known = self.events.end != NOT_YET
         return tally(keys[known], self.events.end[known], count, len(self.events.ends.names))
 
+    def ended_by(self, keys: np.ndarray, count: int) -> np.ndarray:
+        """For each key the copies that left to a system."""
+        return np.bincount(keys[self.ended], minlength=count)
+
     def late_by(self, keys: np.ndarray, count: int) -> np.ndarray:
         """For each key the copies that took longer than their link's configured latency."""
         return np.bincount(keys[self.late], minlength=count)
 
-    def paths(self) -> list[Path]:
-        """The latencies of each link at each port of each side, in that order."""
-        at = np.flatnonzero(self.left)
-        keys = (self.links[at].astype(np.int64) * MOST_PORTS + self.events.port[at]) * 2
+    def paths(self, is_whole: bool = False) -> list[Path]:
+        """The latencies of each link at each port of each side, in that order; those from end to
+        end where they are `is_whole`."""
+        at = np.flatnonzero(self.ended if is_whole else self.left)
+        latency = (self.whole if is_whole else self.latency)[at]
+        asked = (self.promised if is_whole else self.configured)[at]
+        keys = (self.links[at].astype(np.int64) * self.ports + self.events.port[at]) * 2
         keys += self.sides[at]
-        order = sorted_by(keys, self.latency[at])
-        keys, at = keys[order], at[order]
+        order = sorted_by(keys, latency)
+        keys, at, latency, late = keys[order], at[order], latency[order], (latency > asked)[order]
         bounds = np.flatnonzero(np.diff(keys, prepend=-1, append=-1))
-        latency, late = self.latency[at], self.late[at]
         paths = []
         for begin, end in zip(bounds[:-1], bounds[1:]):
             seen = latency[begin:end]
             key = int(keys[begin])
             worst = int(at[begin + np.searchsorted(seen, seen[-1])])
-            link, port = self.vls[key // 2 // MOST_PORTS], key // 2 % MOST_PORTS
+            link, port = self.vls[key // 2 // self.ports], key // 2 % self.ports
             paths.append(Path(link, port, key % 2, seen, worst, int(late[begin:end].sum())))
         return paths
 
     def queues(self, most: int = 120) -> tuple[Steps, list[Queue]]:
         """Each output port of each side to which copies came, and the steps of its loads."""
         steps = steps_of(self.first, max(self.last - 1, self.first), most)
-        keys = self.events.port.astype(np.int32) * 2 + self.sides
-        found = [self.queue(np.flatnonzero(keys == key), steps) for key in np.unique(keys)]
-        return steps, found
+        keys = (self.events.port * 2 + self.sides).astype(np.uint16)
+        order = np.argsort(keys, kind="stable")
+        parts = np.split(order, np.flatnonzero(np.diff(keys[order])) + 1)
+        return steps, [self.queue(part, steps) for part in parts if len(part)]
 
     def queue(self, at: np.ndarray, steps: Steps) -> Queue:
         """One output port of one side; `at` are its copies."""
@@ -150,8 +187,7 @@ class Counting:
         slot = np.where(left, (length + WIRE_EXTRA) * self.by_port[port].byte_ns, 0)
         put = self.events.fate[at] != FATES.index(LOST)
         begun = self.events.time[at] - slot
-        backlog, time = most_waiting(self.listing.time[self.events.line[at]][put], begun[put],
-                                     length[put])
+        backlog, time = most_waiting(self.events.since[at][put], begun[put], length[put])
         loads, load = loads_of(begun[left], slot[left], steps, self.last - self.first)
         return Queue(port, side, int(left.sum()), backlog, time, load, loads)
 
@@ -160,9 +196,8 @@ class Counting:
         arrival, copies that were lost or too old by that of their end."""
         events, steps = self.events, steps_of(self.first, self.last, most)
         found = {}
-        verdicts = events.verdict[self.arrived]
         for code, word in enumerate(events.verdicts.names):
-            times = self.listing.time[self.arrived[verdicts == code]]
+            times = events.came.time[events.came.verdict == code]
             if word != ACCEPT and len(times):
                 found[word] = np.bincount(steps.of(times), minlength=steps.count)
         for word in (LOST, OLD):
@@ -173,9 +208,10 @@ class Counting:
 
 
 def sorted_by(keys: np.ndarray, values: np.ndarray) -> np.ndarray:
-    """The order by keys (below 2 ** 18), then by values; equal ones as they stand."""
-    if values.max(initial=0) < 1 << 44:
-        return np.argsort(keys << 44 | values, kind="stable")  # one sort, not two
+    """The order by keys, then by values; equal ones as they stand."""
+    bits = int(values.max(initial=0)).bit_length()
+    if bits + int(keys.max(initial=0)).bit_length() < 64:
+        return np.argsort(keys << bits | values, kind="stable")  # one sort, not two
     return np.lexsort((values, keys))
 
 

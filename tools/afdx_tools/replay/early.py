@@ -1,7 +1,8 @@
 """What `afdx replay --explain-drops` writes on standard error, as columns.
 
 Each line `early n NS` is one of the proved program: NS is the least wait in ns after which the
-frame of line n, dropped as over-rate, would have been accepted.
+frame of line n, dropped as over-rate, would have been accepted. Of several switches a PLACE stands
+before it.
 """
 from __future__ import annotations
 
@@ -12,6 +13,7 @@ import numpy as np
 from afdx_tools.faults import Refused
 from afdx_tools.replay.lines import Block, blocks_of
 from afdx_tools.replay.named import Named
+from afdx_tools.replay.sites import Sites
 
 HEAD = b"early "
 
@@ -19,10 +21,17 @@ HEAD = b"early "
 class Early:
     """The `early` lines in their order: the list's line, and the ns that its frame came too early
     by. What else stands there is the `fault`. A last such line that was cut doesn't count. With two
-    recordings they have no side: the i-th is about the i-th frame that is `over_rate`."""
+    recordings they have no side, and with several switches a number may come more than once: the
+    i-th is about the i-th frame that is `over_rate`."""
 
-    def __init__(self, file: IO[bytes], named: Named, over_rate: np.ndarray | None = None) -> None:
-        self.named, self.over_rate = named, over_rate
+    def __init__(
+        self,
+        file: IO[bytes],
+        named: Named,
+        over_rate: np.ndarray | None = None,
+        sites: Sites = Sites(),
+    ) -> None:
+        self.named, self.over_rate, self.sites = named, over_rate, sites
         self.parts = [(np.zeros(0, np.int32), np.zeros(0, np.int64))]
         others, end = [], 0
         for text in blocks_of(file, ended=True):
@@ -51,6 +60,8 @@ class Early:
         for place, letter in enumerate(HEAD):
             is_early &= block.at(block.starts + place) == letter
         numbers, after = block.numbers(block.starts[is_early] + len(HEAD))
+        if self.sites.are_several:
+            _, after = self.sites.read(block, after + 1)
         amounts, _ = block.numbers(after + 1)
         self.parts.append((self.lines_of(numbers), amounts))
         others = np.flatnonzero(~is_early)

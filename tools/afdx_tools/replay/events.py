@@ -7,9 +7,11 @@ from typing import IO, Callable
 
 import numpy as np
 
+from afdx_tools.config import MOST_PORTS, Config
 from afdx_tools.faults import Refused
 from afdx_tools.program import program
 from afdx_tools.replay.early import Early
+from afdx_tools.replay.hops import Came, Hops
 from afdx_tools.replay.lines import SPACE, Block, blocks_of
 from afdx_tools.replay.listing import SIDES, Listing
 from afdx_tools.replay.named import Named
@@ -49,13 +51,16 @@ class Words:
 class Events:
     """What a replay wrote. Of each line of the list `verdict`, the place of its word in
     `verdicts.names`; of each copy that came to its end, in the order of the lines, the list's line,
-    the output port, the time, the fate (the place in FATES), and what its receiver did with it (the
-    place in `ends.names`). `early` is what standard error said; `named` has the number that the
-    program gave a line."""
+    the output port, the time, the fate (the place in FATES), what its receiver did with it (the
+    place in `ends.names`), and `since`, when its frame came to that switch. `came` is all that came
+    to a switch and was judged there, over cables too. `early` is what standard error said; `named`
+    has the number that the program gave a line. With several switches `config` says how they hang
+    together."""
 
-    def __init__(self, listing: Listing) -> None:
-        self.listing = listing
+    def __init__(self, listing: Listing, config: Config | None = None) -> None:
+        self.listing, self.sites = listing, listing.sites
         self.named = Named(listing)
+        self.hops = Hops(config) if config and config.several else None
         self.verdicts = Words(ACCEPT, *verdicts())
         self.ends = Words(DELIVERED, REDUNDANT)
         self.verdict = np.full(listing.lines + 1, NOT_YET, np.int8)
@@ -77,11 +82,27 @@ class Events:
         self.parts = []
         self.line, self.time, self.port = joined["line"], joined["time"], joined["port"]
         self.fate, self.end = joined["fate"], joined["end"]
+        self.join()
+
+    def join(self) -> None:
+        """Finds what came to each switch, and when."""
+        listing = self.listing
+        if self.hops is None:
+            lines = np.flatnonzero(self.verdict != NOT_YET)
+            times = listing.time[lines]
+            self.came = Came(lines, listing.port[lines], times, self.verdict[lines])
+            self.since = listing.time[self.line]
+            return
+        left = self.fate == FATES.index(LEFT)
+        self.came, self.since = self.hops.joined(listing, self.line, self.port, self.time, left)
+        lost = self.fate == FATES.index(LOST)
+        self.time[lost] = self.since[lost]
 
     def read_errors(self, file: IO[bytes]) -> str:
         """Takes the lines of standard error, a file that was written; the fault line there."""
-        over_rate = self.lines_of(OVER_RATE) if self.listing.is_pair else None
-        self.early = Early(file, self.named, over_rate)
+        wanted = self.listing.is_pair or self.sites.are_several
+        over_rate = self.came.line[self.came.verdict == self.code_of(OVER_RATE)] if wanted else None
+        self.early = Early(file, self.named, over_rate, self.sites)
         return self.early.fault
 
     def take(self, text: bytes, report: Callable[[int], None]) -> None:
@@ -98,32 +119,46 @@ class Events:
         self.parts.append({name: column[order] for name, column in part.items()})
 
     def judged(self, block: Block) -> np.ndarray:
-        """`V n side accept` or `V n side drop WORD`"""
+        """`V n PLACE accept` or `V n PLACE drop WORD`"""
         at = np.flatnonzero(block.heads == LETTERS["V"])
         numbers, end = block.numbers(block.starts[at] + 2)
-        lines = self.named.next_lines(numbers, block.at(end + 1))
         verdict = np.zeros(len(at), np.int8)
         before = block.ends[at] - len(ACCEPT) - 1  # a space, where the word is as long as that
         dropped = np.flatnonzero(block.bytes[before] != SPACE)
         names, places = block.last_words(at[dropped])
         verdict[dropped] = self.verdicts.of(names)[places]
+        sides = block.at(end + 1)
+        if self.hops is None:
+            lines = self.named.next_lines(numbers, sides)
+        else:
+            first = self.named.are_first(numbers, sides)
+            listed = self.named.next_lines(numbers[first], sides[first])
+            switch, _ = self.sites.read(block, end + 1)
+            self.hops.judged(self.named.of(numbers, sides), switch, verdict, first)
+            lines, verdict = listed, verdict[first]
         self.verdict[lines] = verdict
         return lines
 
+    def site(self, block: Block, at: np.ndarray) -> tuple[np.ndarray, np.ndarray]:
+        """Of `PLACE port`, which begins there, the letter of the side, and the port."""
+        switch, after = self.sites.read(block, at)
+        port, _ = block.numbers(after + 1)
+        return block.at(at), MOST_PORTS * switch + port
+
     def lost(self, block: Block) -> dict[str, np.ndarray]:
-        """`L n side port`: the time is that of the list's line."""
+        """`L n PLACE port`: the time is that of the list's line."""
         at = np.flatnonzero(block.heads == LETTERS["L"])
         numbers, end = block.numbers(block.starts[at] + 2)
-        line = self.named.of(numbers, block.at(end + 1))
-        port, _ = block.numbers(end + 3)
+        side, port = self.site(block, end + 1)
+        line = self.named.of(numbers, side)
         return copies(at, line, self.listing.time[line], port, LOST)
 
     def old(self, block: Block) -> dict[str, np.ndarray]:
-        """`T n time side port`"""
+        """`T n time PLACE port`"""
         return self.ended(block, "T", OLD)
 
     def departed(self, block: Block) -> dict[str, np.ndarray]:
-        """`D n time side port`, and what the line after it says: M, or X with its word."""
+        """`D n time PLACE port`, and what the line after it says: M, or X with its word."""
         part = self.ended(block, "D", LEFT)
         after = np.minimum(part["at"] + 1, len(block.heads) - 1)
         heads = block.heads[after]
@@ -134,12 +169,12 @@ class Events:
         return part
 
     def ended(self, block: Block, letter: str, fate: str) -> dict[str, np.ndarray]:
-        """The copies of the lines `LETTER n time side port`."""
+        """The copies of the lines `LETTER n time PLACE port`."""
         at = np.flatnonzero(block.heads == LETTERS[letter])
         numbers, end = block.numbers(block.starts[at] + 2)
         time, end = block.numbers(end + 1)
-        port, _ = block.numbers(end + 3)
-        return copies(at, self.named.of(numbers, block.at(end + 1)), time, port, fate)
+        side, port = self.site(block, end + 1)
+        return copies(at, self.named.of(numbers, side), time, port, fate)
 
     def side_of_copies(self) -> np.ndarray:
         """The side of each copy: 0 for A, 1 for B."""
@@ -153,10 +188,9 @@ class Events:
         """The verdict of a line, as a word."""
         return self.verdicts.names[self.verdict[line]]
 
-    def lines_of(self, verdict: str) -> np.ndarray:
-        """The lines with that verdict."""
-        places = [n for n, name in enumerate(self.verdicts.names) if name == verdict]
-        return np.flatnonzero(np.isin(self.verdict, places))
+    def code_of(self, verdict: str) -> int:
+        """The place of a verdict among the words."""
+        return self.verdicts.names.index(verdict)
 
     def end_of(self, copy: int) -> str:
         """What the receiver did with a copy, as a word; nothing where no line says it."""
@@ -182,7 +216,7 @@ def copies(
         "at": at,
         "line": line.astype(np.int32),
         "time": time,
-        "port": port.astype(np.int8),
+        "port": port.astype(np.int16),
         "fate": np.full(len(at), FATES.index(fate), np.int8),
         "end": np.full(len(at), NOT_YET, np.int8),
     }

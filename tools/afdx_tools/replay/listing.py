@@ -6,8 +6,10 @@ from typing import IO, Callable
 
 import numpy as np
 
+from afdx_tools.config import MOST_PORTS
 from afdx_tools.lists import MOST_LINES
 from afdx_tools.replay.lines import LINE_FEED, RETURN, SPACE, Block, Readable, blocks_of
+from afdx_tools.replay.sites import Sites
 
 NO_LINK = -1  # stands for frames that name no link of the configuration
 NO_NUMBER = -1  # stands for frames too short for a sequence number
@@ -37,6 +39,7 @@ class Listing:
         is_recorded: bool = False,
         is_pair: bool = False,
         most: int = MOST_LINES,
+        sites: Sites = Sites(),
     ) -> None:
         digest = hashlib.sha256()  # of a list; recordings are files of their own
         parts: list[dict[str, np.ndarray]] = [columns_of_none()]
@@ -47,11 +50,11 @@ class Listing:
         for text in blocks_of(source):
             taken = text if is_recorded else first_lines(text, most - lines)
             if taken:
-                part = columns_of(Block(taken))
+                part = columns_of(Block(taken), sites)
                 parts.append(part)
                 lines += len(part["time"])
                 report(lines)
-        self.lines = lines
+        self.lines, self.sites = lines, sites
         self.is_recorded, self.is_pair = is_recorded, is_pair
         self.digest = digest.hexdigest()
         joined = {name: np.concatenate([part[name] for part in parts]) for name in parts[0]}
@@ -94,7 +97,7 @@ def columns_of_none() -> dict[str, np.ndarray]:
         "sound": np.zeros(1, bool),
         "time": np.zeros(1, np.int64),
         "side": np.zeros(1, np.int8),
-        "port": np.zeros(1, np.int8),
+        "port": np.zeros(1, np.int16),
         "link": np.full(1, NO_LINK, np.int32),
         "length": np.zeros(1, np.int16),
         "number": np.full(1, NO_NUMBER, np.int16),
@@ -103,19 +106,22 @@ def columns_of_none() -> dict[str, np.ndarray]:
     }
 
 
-def columns_of(block: Block) -> dict[str, np.ndarray]:
+def columns_of(block: Block, sites: Sites) -> dict[str, np.ndarray]:
     """The columns of a block's lines; those of lines that aren't sound are of no use."""
     count = len(block.ends)
     columns = {name: np.repeat(column, count) for name, column in columns_of_none().items()}
     lines = np.flatnonzero(KINDS[block.heads] & (block.at(block.starts + 1) == SPACE))
     time, after = block.numbers(block.starts[lines] + 2)
     side = block.at(after + 1) - np.uint8(ord("A"))
-    port, blank = block.numbers(after + 3)
+    switch, behind = sites.read(block, after + 1)
+    port, blank = block.numbers(behind + 1)
     begin, end = blank + 1, block.ends[lines]
     end = end - (block.bytes[end - 1] == RETURN)
-    sound = (side <= 1) & (begin < end)
-    for place in (after, after + 2, blank):
+    sound = (side <= 1) & (switch >= 0) & (begin < end)
+    for place in (after, behind, blank):
         sound &= block.at(place) == SPACE
+    # over 24: a fault, with which the run ends
+    port = MOST_PORTS * switch + np.minimum(port, MOST_PORTS - 1)
     found = (lines, time, side, port, begin, end)
     lines, time, side, port, begin, end = (part[sound] for part in found)
     size = np.where(block.at(begin) == ord("-"), 0, end - begin)
@@ -123,7 +129,7 @@ def columns_of(block: Block) -> dict[str, np.ndarray]:
     columns["sound"][lines] = True
     columns["time"][lines] = time
     columns["side"][lines] = side
-    columns["port"][lines] = np.minimum(port, 127)  # over 24: a fault, with which the run ends
+    columns["port"][lines] = port
     columns["length"][lines] = size // 2 + np.where(raw, 0, 4)
     columns["link"][lines] = links_of(block.bytes, begin, size)
     last = np.where(raw, 10, 2)  # digits from the sequence number on

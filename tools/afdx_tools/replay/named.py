@@ -19,12 +19,26 @@ class Named:
         self.lines = np.zeros(listing.lines + 1, np.int32)
         self.lines[known] = known
         self.numbers = self.lines.copy()
+        self.seen = np.zeros(0, bool)  # of each key whether a verdict had it
 
     def keys(self, numbers: np.ndarray, sides: np.ndarray | None) -> np.ndarray:
         """What tells these frames from all others; `sides` are the letters beside the numbers."""
         if sides is None or not self.listing.is_pair:
             return numbers
         return 2 * numbers + (sides == ord("B"))
+
+    def are_first(self, numbers: np.ndarray, sides: np.ndarray) -> np.ndarray:
+        """Which of the next verdicts are those of the list's arrivals: the first of its number, and
+        of two recordings of its side. Later ones are of what cables bring."""
+        keys = self.keys(numbers, sides)
+        most = int(keys.max(initial=0))
+        if most >= len(self.seen):
+            self.seen = np.pad(self.seen, (0, 2 * most + 1 - len(self.seen)))
+        first = np.zeros(len(keys), bool)
+        first[np.unique(keys, return_index=True)[1]] = True
+        first &= ~self.seen[keys]
+        self.seen[keys] = True
+        return first
 
     def next_lines(self, numbers: np.ndarray, sides: np.ndarray) -> np.ndarray:
         """The lines of the next verdicts, which have these numbers."""

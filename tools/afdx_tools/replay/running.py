@@ -8,6 +8,7 @@ from dataclasses import dataclass, field
 
 import numpy as np
 
+from afdx_tools.config import Config
 from afdx_tools.faults import Failed, shown
 from afdx_tools.lists import MOST_LINES
 from afdx_tools.program import program
@@ -17,6 +18,7 @@ from afdx_tools.recordings.taps import Found
 from afdx_tools.replay.checked import Checked, checked_of
 from afdx_tools.replay.events import OVER_RATE, Events
 from afdx_tools.replay.listing import Listing
+from afdx_tools.replay.sites import Sites
 
 ENDED = (0, 3)  # the input came to its end or has a fault: each over-rate frame has its line
 ANY_RULE = ("1", "64", "0")  # BAG, Lmax and jitter of a link, of which no fault of a list depends
@@ -88,9 +90,12 @@ def counts_of(line: str) -> dict[str, int]:
     return dict(zip(words[::2], map(int, words[1::2])))
 
 
-def taken_of(path: str) -> int:
+def taken_of(path: str, sites: Sites) -> int:
     """How many lines of a list the program takes: those before the first fault, which is the same
-    for all networks. What stands there or after it isn't looked at here."""
+    for all networks. What stands there or after it isn't looked at here. Of several switches no
+    command says it, and lines that the program doesn't judge count for nothing."""
+    if sites.are_several:
+        return MOST_LINES
     words = [program(), "police", *ANY_RULE, path]
     run = subprocess.run(words, stdout=subprocess.DEVNULL, stderr=subprocess.PIPE, check=False)
     if run.returncode == 0 or run.stderr.split() == [b"list", b"TooManyLines"]:
@@ -99,7 +104,7 @@ def taken_of(path: str) -> int:
     return int(fault[1]) - 1 if fault else 0
 
 
-def listed_of(source: Source, progress: Progress, is_run: bool) -> Listed:
+def listed_of(source: Source, sites: Sites, progress: Progress, is_run: bool) -> Listed:
     """The list's columns; a recording's are those of the list that `afdx list` writes. `is_run`:
     the program replays it, since the network is admitted or needn't be."""
 
@@ -107,15 +112,17 @@ def listed_of(source: Source, progress: Progress, is_run: bool) -> Listed:
         progress.report(f"{count:,} lines of the list read")
 
     if not source.is_recorded:
-        most = taken_of(source.paths[0]) if is_run else 0
+        most = taken_of(source.paths[0], sites) if is_run else 0
         with open(source.paths[0], "rb") as file:
-            return Listed(Listing(file, report, most=most))
+            return Listed(Listing(file, report, most=most, sites=sites))
     with tempfile.TemporaryFile() as errors:
         with subprocess.Popen(
             source.listed(), stdout=subprocess.PIPE, stderr=errors, pipesize=PIECE
         ) as run:
             assert run.stdout is not None
-            listing = Listing(run.stdout, report, is_recorded=True, is_pair=source.is_pair)
+            listing = Listing(
+                run.stdout, report, is_recorded=True, is_pair=source.is_pair, sites=sites
+            )
         errors.seek(0)
         said = shown(errors.read().decode("utf-8", "replace").strip())
     if run.returncode not in ENDED:
@@ -124,9 +131,11 @@ def listed_of(source: Source, progress: Progress, is_run: bool) -> Listed:
     return Listed(listing, {} if run.returncode else counts_of(said))
 
 
-def replay(source: Source, listed: Listed, progress: Progress) -> tuple[Events, str, int]:
+def replay(
+    source: Source, config: Config, listed: Listed, progress: Progress
+) -> tuple[Events, str, int]:
     """Runs the replay and takes its lines; its fault line and its status."""
-    events = Events(listed.listing)
+    events = Events(listed.listing, config)
     most = max(listed.listing.lines, 1)
     with tempfile.TemporaryFile() as errors:
         with subprocess.Popen(
@@ -148,7 +157,8 @@ def replay(source: Source, listed: Listed, progress: Progress) -> tuple[Events, 
 def want_whole(events: Events) -> None:
     """Failed where only a part of the `early` lines came: the program says nothing of those that it
     couldn't write."""
-    got, wanted = events.early.lines, events.lines_of(OVER_RATE)
+    came = events.came
+    got, wanted = events.early.lines, came.line[came.verdict == events.code_of(OVER_RATE)]
     if len(got) and not np.array_equal(got, wanted):
         raise Failed(
             f"{len(got)} lines 'early' came for {len(wanted)} over-rate frames: is there no room "

@@ -66,12 +66,21 @@ def failure_of(totals: Row, word: str) -> str:
     return f"{count}" if count else ""
 
 
+def places_of(totals: Row, word: str) -> str:
+    """How many of these there are at which of several switches; nothing where that isn't known."""
+    found = totals.get("at_switches")
+    places = found.get(word.replace("-", "_")) if isinstance(found, dict) else None
+    if not isinstance(places, dict) or not places:
+        return ""
+    return f" ({', '.join(shown(f'{count} at {name}') for name, count in places.items())})"
+
+
 def judged(totals: Row | None, words: Sequence[str]) -> list[str]:
     """The criteria that aren't met, each with its count."""
     if totals is None:
         return []
     found = [(failure_of(totals, word), word) for word in words]
-    return [f"{count} {word}" for count, word in found if count]
+    return [f"{count} {word}{places_of(totals, word)}" for count, word in found if count]
 
 
 def status_of(status: int, unmet: Sequence[str]) -> int:
@@ -93,7 +102,8 @@ def suite_of(name: str, fault: str, totals: Row | None, words: Sequence[str]) ->
             xml.SubElement(case, "skipped", message="the run gave no report")
         elif count := failure_of(totals, word):
             failures += 1
-            xml.SubElement(case, "failure", message=f"{count} {CRITERIA[word]}")
+            message = f"{count} {CRITERIA[word]}{places_of(totals, word)}"
+            xml.SubElement(case, "failure", message=message)
     suite.set("errors", str(errors))
     suite.set("failures", str(failures))
     return suite

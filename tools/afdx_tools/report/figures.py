@@ -4,6 +4,7 @@ from __future__ import annotations
 import math
 from typing import Callable, Sequence
 
+from afdx_tools.report.ranking import at_system, port_of
 from afdx_tools.report.svg import (
     LATE,
     WIDTH,
@@ -36,7 +37,7 @@ def latency_in_words(row: Row) -> str:
     """A row of latencies in words."""
     bound = "no bound" if row["bound_ns"] is None else f"bound {row['bound_ns']:,} ns"
     return (
-        f"link {row['link']} at port {row['port']} ({row['system']}), side {row['side']}, "
+        f"link {row['link']} {at_system(row)}, side {row['side']}, "
         f"{row['frames']:,} copies: {row['least_ns']:,} to {row['greatest_ns']:,} ns, median "
         f"{row['median_ns']:,}, 99 percent within {row['p99_ns']:,} ns; {bound}, configured "
         f"{row['configured_ns']:,} ns; {percent(row['share'])} of the configured"
@@ -267,13 +268,34 @@ def area(
 
 
 def loads(found: Row, rows: Sequence[Row]) -> str:
-    """The load of each port over time, A above its line and B below."""
-    ports = found["ports"]
+    """The load of each port over time; a picture for each switch, where there are several."""
+    of_switch: dict[str, list[Row]] = {}
+    for port in found["ports"]:
+        of_switch.setdefault(port.get("switch", ""), []).append(port)
+    most = max(max((max(port["loads"], default=0) for port in found["ports"]), default=0), 1e-6)
+    of_row: dict[tuple, Row] = {(*place_of_port(row), row["side"]): row for row in rows}
+    return "".join(
+        loads_part(found, ports, of_row, most, f"loads{name and '-'}{name}", n)
+        for n, (name, ports) in enumerate(of_switch.items())
+    )
+
+
+def place_of_port(row: Row) -> tuple[str, int]:
+    """The switch and the port of a row."""
+    return row.get("switch", ""), row["port"]
+
+
+def loads_part(
+    found: Row, ports: Sequence[Row], rows: dict[tuple, Row], most: float, name: str, number: int
+) -> str:
+    """The loads of some ports, A above each one's line and B below."""
     steps = max(len(port["loads"]) for port in ports)
-    most = max(max((max(port["loads"], default=0) for port in ports), default=0), 1e-6)
-    of_row = {(row["port"], row["side"]): row for row in rows}
-    names = sorted({(port["port"], port["system"]) for port in ports})
-    left, right, bottom = NAME, WIDTH - 190, 12 + 40 * len(names)
+    pairs: dict[tuple[str, int], list[Row]] = {}
+    for port in ports:
+        pairs.setdefault(place_of_port(port), []).append(port)
+    names = [f"{port_of(pair[0])}, {pair[0]['system']}" for pair in pairs.values()]
+    longest = max(map(len, names)) if "switch" in ports[0] else 0
+    left, right, bottom = max(NAME, 20 + 7 * longest), WIDTH - 190, 12 + 40 * len(pairs)
     start, width = found["start_ns"], found["step_ns"]
 
     def place_x(step: float) -> float:
@@ -282,22 +304,14 @@ def loads(found: Row, rows: Sequence[Row]) -> str:
     parts = time_axis(
         start, start + steps * width, lambda tick: place_x((tick - start) / width), 4, bottom
     )
-    words = []
-    for number, (port, system) in enumerate(names):
-        base = 26 + 40 * number
-        parts.append(text(left - 12, base + 4, f"port {port}, {system}", "", "end"))
-        for side, height in (("A", 17), ("B", -17)):
-            row = of_row.get((port, side))
-            loads = (p["loads"] for p in ports if (p["port"], p["side"]) == (port, side))
-            series: list[float] = next(loads, [])
-            if row is None:
-                continue
-            load = f"side {side}: {percent(row['load'])}, at most {percent(row['peak_load'])}"
-            words.append(f"port {port}, {load}")
-            shape = f'<path d="{area(series, most, base, height, place_x)}" class="side-{side}"/>'
-            parts.append(titled(shape, f"port {port}, {load}"))
-            short = f"{side} {percent(row['load'])}, most {percent(row['peak_load'])}"
-            parts.append(text(right + 10, base + (-3 if side == "A" else 11), short, "muted"))
+    words: list[str] = []
+    for place, pair in enumerate(pairs.values()):
+        base = 26 + 40 * place
+        parts.append(text(left - 12, base + 4, names[place], "", "end"))
+        for one in pair:
+            row = rows[(*place_of_port(one), one["side"])]
+            parts += port_load(one, row, most, base, place_x, right)
+            words.append(load_in_words(row))
         parts.append(line(left, base, right, base, "axis"))
     unit = unit_for(steps * width)
     note = (
@@ -305,4 +319,26 @@ def loads(found: Row, rows: Sequence[Row]) -> str:
         f"B below; the full height is {percent(most)} of the line's rate"
     )
     parts.append(text(left, bottom + 34, note, "muted"))
-    return picture("loads", bottom + 42, parts, "Load of each port over time", ". ".join(words))
+    kind = "shown" if number < ON_PAPER else "screen"
+    label = "Load of each port over time"
+    return picture(name, bottom + 42, parts, label, ". ".join(words), kind)
+
+
+def load_in_words(row: Row) -> str:
+    """A port's load in words."""
+    shares = f"{percent(row['load'])}, at most {percent(row['peak_load'])}"
+    return f"{port_of(row)}, side {row['side']}: {shares}"
+
+
+def port_load(
+    port: Row, row: Row, most: float, base: float, place_x: Scale, right: float
+) -> list[str]:
+    """The load of a port on one side, as an area and in words."""
+    is_a = port["side"] == "A"
+    way = area(port["loads"], most, base, 17 if is_a else -17, place_x)
+    shape = f'<path d="{way}" class="side-{port["side"]}"/>'
+    short = f"{port['side']} {percent(row['load'])}, most {percent(row['peak_load'])}"
+    return [
+        titled(shape, load_in_words(row)),
+        text(right + 10, base + (-3 if is_a else 11), short, "muted"),
+    ]

@@ -4,7 +4,8 @@ from __future__ import annotations
 from typing import Callable, Iterator, Sequence
 
 from afdx_tools.replay.silence import LINK, NETWORK, SYSTEM
-from afdx_tools.report.ranking import latency_words, ranked
+from afdx_tools.report.criteria import places_of
+from afdx_tools.report.ranking import latencies_of, latency_words, ranked
 from afdx_tools.tables import Row
 
 MOST_NAMED = 3  # of a kind, each in a sentence of its own
@@ -162,7 +163,7 @@ def dropped(report: Row) -> Iterator[str]:
     sums: dict[tuple, list[Row]] = {}
     for row in report["dropped"]:
         port = row["came_in"] if row["reason"] == "wrong-port" else None
-        sums.setdefault((row["reason"], row["link"], port), []).append(row)
+        sums.setdefault((row["reason"], row["link"], row.get("switch"), port), []).append(row)
     groups = sorted(
         sums.values(),
         key=lambda rows: (rows[0]["reason"] != "wrong-port", -sum(r["frames"] for r in rows)),
@@ -183,22 +184,29 @@ def drop_words(rows: Sequence[Row]) -> str:
     sides = " and ".join(dict.fromkeys(row["side"] for row in rows))
     begin, end = min(r["from_ns"] for r in rows), max(r["until_ns"] for r in rows)
     when = f"from {moment(begin)} to {moment(end)}" if frames > 1 else f"at {moment(begin)}"
-    of = f"link {row['link']} ({row['own_system']})" if row["own_port"] else "no link"
+    switch = row.get("switch", "")
+    own = f" ({row['own_system']})"
+    of = f"link {row['link']}{'' if switch else own}" if row["own_port"] else "no link"
     words = f"{many(frames, 'frame', 'frames')} of {of}"
     if row["reason"] != "wrong-port":
-        return f"{words} dropped as {row['reason']} on {sides}, {when}"
+        return f"{words} dropped as {row['reason']}{switch and f' at {switch}'} on {sides}, {when}"
+    port = f"{switch} port {row['came_in']}".lstrip()
+    right = f"{row['own_port']}{own if switch else ''}"
     return (
-        f"{words} came in at port {row['came_in']} ({row['system'] or 'no system'}) on {sides}, "
-        f"{when}; that isn't its port {row['own_port']}: dropped as wrong-port; their source "
+        f"{words} came in at {port} ({row['system'] or 'no system'}) on {sides}, "
+        f"{when}; that isn't its port {right}: dropped as wrong-port; their source "
         f"address names {row['address'] or 'nobody'}"
     )
 
 
 def late(report: Row) -> Iterator[str]:
     """Copies that left too late."""
-    rows = [row for row in ranked(report["latency"]) if row["late"]]
+    tables = latencies_of(report), report["latency"]
+    late_rows = ([row for row in ranked(table) if row["late"]] for table in tables)
+    rows: list[Row] = next(filter(None, late_rows), [])
     if rows:
         copies = many(report["totals"]["late"], "copy", "copies")
+        copies += places_of(report["totals"], "late")
         yield f"LATE: {copies} of {named_links(rows)}; {latency_words(rows[0])}"
 
 
@@ -206,14 +214,16 @@ def full_buffer(report: Row) -> Iterator[str]:
     """Copies for which a port had no room."""
     if count := report["totals"]["full_buffer"]:
         rows = [row for row in report["links"] if row["full_buffer"]]
-        yield f"{many(count, 'copy', 'copies')} lost to a full buffer, of {named_links(rows)}"
+        copies = many(count, "copy", "copies") + places_of(report["totals"], "full-buffer")
+        yield f"{copies} lost to a full buffer, of {named_links(rows)}"
 
 
 def too_old(report: Row) -> Iterator[str]:
     """Copies that were dropped for their age."""
     if count := report["totals"]["too_old"]:
         rows = [row for row in report["links"] if row["too_old"]]
-        yield f"{many(count, 'copy', 'copies')} dropped as too old, of {named_links(rows)}"
+        copies = many(count, "copy", "copies") + places_of(report["totals"], "too-old")
+        yield f"{copies} dropped as too old, of {named_links(rows)}"
 
 
 def refused(report: Row) -> Iterator[str]:

@@ -4,7 +4,7 @@ from __future__ import annotations
 from html import escape
 
 from afdx_tools.report.criteria import CRITERIA
-from afdx_tools.report.ranking import latency_words, nearest
+from afdx_tools.report.ranking import latencies_of, latency_words, nearest
 from afdx_tools.tables import Row
 
 CARDS = {
@@ -66,7 +66,7 @@ def answer(report: Row) -> str:
     parts.append(
         badge("tables admitted", "good") if said == "ok" else badge(f"not admitted: {said}", "bad")
     )
-    most = nearest(report["latency"])
+    most = nearest(latencies_of(report))
     if most and not report["totals"]["late"]:
         parts.append(f'<span class="muted">Nearest: {escape(latency_words(most))}.</span>')
     return f'<p class="answers">{"".join(parts)}</p>{findings(report)}'

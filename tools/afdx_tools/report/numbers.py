@@ -5,6 +5,7 @@ from typing import Sequence
 
 import numpy as np
 
+from afdx_tools.config import MOST_PORTS
 from afdx_tools.replay.absence import Copied, alone_by_side, contradicted
 from afdx_tools.replay.checked import Checked
 from afdx_tools.replay.counting import SHARES, Counting, Path, sorted_by
@@ -14,6 +15,7 @@ from afdx_tools.replay.traffic import Traffic, traffic_of
 from afdx_tools.tables import Row
 
 MOST_TROUBLES = 10_000
+AT_SWITCHES = ("dropped", "full_buffer", "late", "too_old")
 SUMS = (
     "frames",
     "accepted",
@@ -40,13 +42,13 @@ def words_of(counts: np.ndarray, names: Sequence[str], without: Sequence[str]) -
 
 def sums_row(counting: Counting, keys: np.ndarray, of_copies: np.ndarray, count: int) -> list[Row]:
     """For each key the sums; `keys` has one for each line, `of_copies` one for each copy."""
-    frames = counting.frames_by(keys, count)
+    frames, came = counting.frames_by(keys, count), counting.came_by(keys, count)
     fates, ends = counting.fates_by(of_copies, count), counting.ends_by(of_copies, count)
-    late = counting.late_by(of_copies, count)
+    late, left = counting.late_by(of_copies, count), counting.ended_by(of_copies, count)
     verdicts, ended = counting.events.verdicts.names, counting.events.ends.names
     rows = []
     for key in range(count):
-        reasons = words_of(frames[key], verdicts, [ACCEPT])
+        reasons = words_of(came[key], verdicts, [ACCEPT])
         refusals = words_of(ends[key], ended, [DELIVERED, REDUNDANT])
         rows.append(
             {
@@ -57,7 +59,7 @@ def sums_row(counting: Counting, keys: np.ndarray, of_copies: np.ndarray, count:
                 "full_buffer": int(fates[key][FATES.index(LOST)]),
                 "late": int(late[key]),
                 "too_old": int(fates[key][FATES.index(OLD)]),
-                "departed": int(fates[key][FATES.index(LEFT)]),
+                "departed": int(left[key]),
                 "delivered": int(ends[key][ended.index(DELIVERED)]),
                 "redundant": int(ends[key][ended.index(REDUNDANT)]),
                 "refused": sum(refusals.values()),
@@ -65,6 +67,12 @@ def sums_row(counting: Counting, keys: np.ndarray, of_copies: np.ndarray, count:
             }
         )
     return rows
+
+
+def at_port(counting: Counting, port: int) -> Row:
+    """An output port as columns of a row: its number, of several switches also which it is at, and
+    what is there."""
+    return {**counting.config.keys_of(port), "system": counting.by_port[port].name}
 
 
 def link_rows(counting: Counting) -> list[Row]:
@@ -116,14 +124,14 @@ def measured_row(counting: Counting, vl: int, traffic: Traffic | None) -> Row:
 
 def latency_row(counting: Counting, checked: Checked, path: Path) -> Row:
     """The latencies of a link at a port of one side."""
-    link, line = counting.config.links[path.link], int(counting.events.line[path.worst])
+    config, line = counting.config, int(counting.events.line[path.worst])
+    link = config.row_at(path.link, path.port) or config.links[path.link]
     bound, greatest = checked.bound_of(link, path.port), int(path.latencies[-1])
     half, most, nearly = (path.rank(share) for share in SHARES)
     return {
         "link": path.link,
         "from": link.source,
-        "port": path.port,
-        "system": counting.by_port[path.port].name,
+        **at_port(counting, path.port),
         "side": side_name(path.side),
         "priority": link.priority,
         "frames": len(path.latencies),
@@ -133,7 +141,7 @@ def latency_row(counting: Counting, checked: Checked, path: Path) -> Row:
         "p99.9_ns": nearly,
         "greatest_ns": greatest,
         "at_line": named(counting, line),
-        "at_ns": int(counting.listing.time[line]),
+        "at_ns": int(counting.events.since[path.worst]),
         "bound_ns": bound,
         "configured_ns": link.latency_ns,
         "margin_ns": None if bound is None else link.latency_ns - bound,
@@ -155,8 +163,7 @@ def port_rows(counting: Counting, checked: Checked) -> tuple[list[Row], Row]:
         bound = checked.bounds.get(queue.port)
         rows.append(
             {
-                "port": queue.port,
-                "system": counting.by_port[queue.port].name,
+                **at_port(counting, queue.port),
                 "side": side_name(queue.side),
                 "left": queue.left,
                 "load": queue.load,
@@ -164,13 +171,12 @@ def port_rows(counting: Counting, checked: Checked) -> tuple[list[Row], Row]:
                 "backlog": queue.backlog,
                 "at_ns": queue.time,
                 "bound": bound.buffer if bound else None,
-                "buffer": counting.config.buffer,
+                "buffer": counting.config.buffer_at(queue.port),
             }
         )
     loads = [
         {
-            "port": queue.port,
-            "system": counting.by_port[queue.port].name,
+            **at_port(counting, queue.port),
             "side": side_name(queue.side),
             "loads": [round(float(load), 6) for load in queue.loads],
         }
@@ -189,35 +195,35 @@ def drops_of(counting: Counting) -> Row:
 def histogram_of(counting: Counting) -> Row:
     """For each side the copies by share of their link's configured latency, in steps of 5 %; the
     last step is over 100 %."""
-    twentieths = -(-counting.latency * 20 // counting.configured[counting.links])
+    twentieths = -(-counting.whole * 20 // np.maximum(counting.promised, 1))
     places = np.clip(twentieths - 1, 0, 20)
     return {
         side_name(side): np.bincount(
-            places[counting.left & (counting.sides == side)], minlength=21
+            places[counting.ended & (counting.sides == side)], minlength=21
         ).tolist()
         for side in (0, 1)
     }
 
 
 def frame_rows(counting: Counting, checked: Checked, most: int) -> list[Row]:
-    """The copies whose latency was the greatest share of the configured one, the worst first."""
-    at = np.flatnonzero(counting.left)
-    shares = counting.latency[at] / np.maximum(counting.configured[counting.links[at]], 1)
+    """The copies whose latency was the greatest share of the configured one, the worst first; of
+    several switches from end to end."""
+    at = np.flatnonzero(counting.ended)
+    shares = counting.whole[at] / np.maximum(counting.promised[at], 1)
     order = np.lexsort((at, -shares))[:most] if len(at) <= 4 * most else largest(shares, most)
     rows = []
     for copy in at[order]:
         line, port = int(counting.events.line[copy]), int(counting.events.port[copy])
-        link = counting.config.links[counting.vls[counting.links[copy]]]
+        vl = counting.vls[counting.links[copy]]
         rows.append(
             {
                 **frame_key(counting, line),
                 "line": named(counting, line),
-                "port": port,
-                "system": counting.by_port[port].name,
-                "latency_ns": int(counting.latency[copy]),
-                "bound_ns": checked.bound_of(link, port),
-                "configured_ns": link.latency_ns,
-                "share": int(counting.latency[copy]) / link.latency_ns,
+                **at_port(counting, port),
+                "latency_ns": int(counting.whole[copy]),
+                "bound_ns": checked.bound_on(counting.config, vl, port),
+                "configured_ns": int(counting.promised[copy]),
+                "share": int(counting.whole[copy]) / int(counting.promised[copy]),
             }
         )
     return rows
@@ -278,27 +284,40 @@ def early_frames(counting: Counting, most: int) -> list[Row]:
 
 
 def trouble_rows(counting: Counting, most: int = MOST_TROUBLES) -> list[Row]:
-    """The first frames, by their lines, that were dropped, lost, late, too old or refused."""
-    events, arrived = counting.events, counting.arrived
-    dropped = arrived[events.verdict[arrived] > 0]
+    """The first frames, by their lines, that were dropped, lost, late, too old or refused; at which
+    port, if they came that far, and where they came in there."""
+    events, came = counting.events, counting.events.came
+    dropped = np.flatnonzero(came.verdict > 0)
+    dropped = dropped[np.argsort(came.line[dropped], kind="stable")]
     refused = events.end > events.ends.names.index(REDUNDANT)
     copies = np.flatnonzero(~counting.left | counting.late | refused)
-    found = [(int(line), 0, events.verdict_of(line)) for line in dropped[:most]]
+    words = events.verdicts.names
+    found = [
+        (int(came.line[n]), int(came.port[n]) // MOST_PORTS * MOST_PORTS, words[came.verdict[n]],
+         int(came.port[n]))
+        for n in dropped[:most]
+    ]  # fmt: skip
     for copy in copies[np.argsort(events.line[copies], kind="stable")][:most]:
-        fate = FATES[events.fate[copy]]
-        words = [fate] if fate != LEFT else ["late"] if counting.late[copy] else []
-        words += [events.end_of(copy)] if refused[copy] else []
-        found += [(int(events.line[copy]), int(events.port[copy]), word) for word in words]
-    return [
-        {
-            **frame_key(counting, line),
-            "line": named(counting, line),
-            "port": port or None,
-            "what": what,
-            "came_in": int(counting.listing.port[line]),
-        }
-        for line, port, what in sorted(found)[:most]
-    ]
+        fate, line, port = FATES[events.fate[copy]], int(events.line[copy]), int(events.port[copy])
+        whats = [fate] if fate != LEFT else ["late"] if counting.late[copy] else []
+        whats += [events.end_of(copy)] if refused[copy] else []
+        row = counting.config.row_at(counting.vls[counting.links[copy]], port)
+        came_in = row.port if row else int(counting.listing.port[line])
+        found += [(line, port, what, came_in) for what in whats]
+    return [trouble_row(counting, *one) for one in sorted(found)[:most]]
+
+
+def trouble_row(counting: Counting, line: int, port: int, what: str, came_in: int) -> Row:
+    """A frame with trouble. A frame that was dropped came to no output port."""
+    place = counting.config.keys_of(port)
+    return {
+        **frame_key(counting, line),
+        "line": named(counting, line),
+        **place,
+        "port": place["port"] or None,
+        "what": what,
+        "came_in": came_in % MOST_PORTS,
+    }
 
 
 def totals(counting: Counting, report: Row) -> Row:
@@ -324,4 +343,15 @@ def totals(counting: Counting, report: Row) -> Row:
         "recorder_lost": lost,
         "claimed": claimed,
         "left_out": sum(left.values()),
+        **at_switches(report),
     }
+
+
+def at_switches(report: Row) -> Row:
+    """The counts of some of these at each of several switches that has some."""
+    found: dict[str, dict[str, int]] = {word: {} for word in AT_SWITCHES}
+    for row in report.get("switches", []):
+        for word, counts in found.items():
+            if row[word]:
+                counts[row["switch"]] = counts.get(row["switch"], 0) + row[word]
+    return {"at_switches": found} if "switches" in report else {}

@@ -16,10 +16,11 @@ from afdx_tools.report.head import answer, cards, words_section
 from afdx_tools.report.lanes import lanes
 from afdx_tools.report.made import made_section, made_table, sheet_style
 from afdx_tools.report.parts import paper_rows, section, table, table_section
-from afdx_tools.report.ranking import FEWEST, ranked
+from afdx_tools.report.ranking import FEWEST, latencies_of, place_of, ranked
+from afdx_tools.report.several import hops_section, network_sections
 from afdx_tools.report.style import POLICY, SCRIPT, STYLE
 from afdx_tools.report.where import Where
-from afdx_tools.tables import COUNTED, EARLY, NAMES, PROVED, TROUBLES, UNPROMISED, Row, in_us
+from afdx_tools.tables import COUNTED, EARLY, TROUBLES, UNPROMISED, Row, in_us, names_of
 
 EARLY_FRAMES = "Over-rate frames that came too early by most, in us"
 TAPS = "Taps: where the interfaces were plugged in, and frames that name another place"
@@ -34,23 +35,24 @@ FIND = (
 def one_each(latency: Sequence[Row]) -> list[list[Row]]:
     """Of each ranked link both sides at the port where it has the greatest share, in that order; of
     a link that is late, each port where it is."""
-    of_place: dict[tuple[int, int], list[Row]] = {}
+    of_place: dict[tuple, list[Row]] = {}
     for row in latency:
-        of_place.setdefault((row["link"], row["port"]), []).append(row)
+        of_place.setdefault(place_of(row), []).append(row)
     seen: set[int] = set()
-    places: dict[tuple[int, int], None] = {}
+    places: dict[tuple, None] = {}
     for row in ranked(latency):
-        place = row["link"], row["port"]
         if row["link"] not in seen or row["late"]:
-            places[place] = None
+            places[place_of(row)] = None
         seen.add(row["link"])
     return [of_place[place] for place in places]
 
 
-def latency_section(report: Row, most: int) -> str:
+def latency_section(report: Row, counting: Counting, most: int) -> str:
     """The picture of latencies."""
-    pairs = one_each(report["latency"])
+    pairs = one_each(latencies_of(report))
     head = "Latency in the replay against the configured latency"
+    if "ways" in report:
+        head = "Latency from end to end in the replay, against the configured latencies together"
     if not pairs:
         words = f"No link has {FEWEST} copies at a port." if report["latency"] else "None left."
         return section("picture", head, words, "")
@@ -62,10 +64,13 @@ def latency_section(report: Row, most: int) -> str:
     if len(pairs) > most:
         words += f"The first {most} of {len(pairs)}; the table below has all. "
     words += "From a frame's arrival to the end of its slot."
+    if "ways" in report:
+        words += " At the last switch; the bound is that of all ports of the way together."
     name = "proved bound" if report["admission"] == "ok" else "bound of check"
     if report["admission"] != "ok":
         words += f" {UNPROMISED}"
-    return section("picture", head, words, figures.latencies(pairs[:most], name))
+    shown = section("picture", head, words, figures.latencies(pairs[:most], name))
+    return shown + (hops_section(counting, pairs, most) if "ways" in report else "")
 
 
 def track_sections(counting: Counting, args: argparse.Namespace) -> str:
@@ -89,7 +94,6 @@ def track_section(counting: Counting, vl: int, wrong: np.ndarray, begin: int) ->
         lines = tracks.shown_lines(counting, vl, wrong, begin)
     if link is None or not len(lines):
         return section(name, head, "It has no frames there.", "")
-    ports = {port: counting.by_port[port].name for port in link.ports}
     words = (
         f"From {link.source} to {', '.join(link.to)}; {link.priority} priority, "
         f"BAG {link.bag_ms} ms, Lmax {link.lmax} bytes. "
@@ -99,12 +103,12 @@ def track_section(counting: Counting, vl: int, wrong: np.ndarray, begin: int) ->
         where = ", where most went wrong" if not begin and wrong[lines].any() else ""
         words += f"{len(lines)} of {frames:,} arrivals{where}."
     shown = tracks.arrivals_of(counting, lines)
-    return section(name, head, words, tracks.track(name, shown, ports))
+    return section(name, head, words, tracks.track(name, shown, tracks.lane_names(counting, vl)))
 
 
-def foot() -> str:
+def foot(report: Row) -> str:
     """Which numbers are proved."""
-    return f"<footer><p>{escape(PROVED)}</p><p>{escape(COUNTED)}</p></footer>"
+    return f"<footer><p>{escape(report['proved'])}</p><p>{escape(COUNTED)}</p></footer>"
 
 
 def arrivals_section(report: Row) -> str:
@@ -118,7 +122,8 @@ def arrivals_section(report: Row) -> str:
 
 def pictures(report: Row, counting: Counting, args: argparse.Namespace) -> str:
     """All pictures."""
-    parts = [arrivals_section(report), latency_section(report, args.rows)]
+    parts = [network_sections(report, counting, args)] if "ways" in report else []
+    parts += [arrivals_section(report), latency_section(report, counting, args.rows)]
     if report["latency"]:
         words = "How near the copies came to their link's configured latency, sides A and B apart."
         shares = figures.histogram(report["histogram"])
@@ -177,7 +182,7 @@ def table_sections(report: Row, where: Where) -> str:
     tables = dict(both)
     if "taps" in report:
         tables["taps"] = TAPS, report["taps"]["rows"]
-    for name, head in NAMES.items():
+    for name, head in names_of(report).items():
         tables[name] = head, report[name]
         after = {"frames": "early-frames", "sides": "early"}.get(name)
         if after in early:
@@ -199,8 +204,9 @@ def table_sections(report: Row, where: Where) -> str:
 
 def links_to(report: Row) -> str:
     """Anchors to the parts of the page."""
-    names = {"words": "words", "arrivals": "arrivals", "picture": "latency", "drops": "drops"}
-    names |= {name: f"table of {name}" for name in (*NAMES, "troubles")}
+    names = {"words": "words", **({"network": "network"} if "ways" in report else {})}
+    names |= {"arrivals": "arrivals", "picture": "latency", "drops": "drops"}
+    names |= {name: f"table of {name}" for name in (*names_of(report), "troubles")}
     names |= {"early": "table of over-rate frames"} if "early_ns" in report else {}
     names |= {"made": "what made it"}
     parts = [f'<a href="#{name}">{escape(words)}</a>' for name, words in names.items()]
@@ -211,7 +217,9 @@ def page(report: Row, counting: Counting, where: Where, args: argparse.Namespace
     """The whole page."""
     title = f"AFDX replay: {report['run']['title']}"
     span = report["run"]["span_ns"] / 1e6
-    words = f"{report['totals']['frames']:,} frames over {span:,.3f} ms at both switches."
+    switches = len(counting.config.names)
+    at = f"at {switches} switches a side" if switches else "at both switches"
+    words = f"{report['totals']['frames']:,} frames over {span:,.3f} ms {at}."
     if report["run"]["time_0"]:
         words += f" Time 0 is {report['run']['time_0']}."
     if "skipped" in report:
@@ -231,7 +239,7 @@ def page(report: Row, counting: Counting, where: Where, args: argparse.Namespace
         pictures(report, counting, args),
         table_sections(report, where),
         "" if report["cover"] else made_section(report["run"]),
-        foot(),
+        foot(report),
         f"</main><script>{SCRIPT}</script></body></html>\n",
     ]
     return "".join(parts)

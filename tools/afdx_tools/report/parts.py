@@ -35,9 +35,11 @@ def kind_of(name: str, rows: Sequence[Row]) -> str:
 
 def is_over(row: Row) -> bool:
     """Is something in the row over what the tables say, or of no good at all?"""
-    pairs = (("jitter_ns", "table_jitter_ns"), ("at_receivers_ns", "table_skew_ns"))
+    pairs = (("jitter_ns", "table_jitter_ns"), ("at_receivers_ns", "table_skew_ns"),
+             ("skew_ns", "table_skew_ns"))  # fmt: skip
     over = any((row.get(name) or 0) > row.get(table, 0) for name, table in pairs if table in row)
-    wrong = any(row.get(name) for name in ("late", "silent", "clock", "twice", "alone", "missing"))
+    words = ("late", "silent", "clock", "twice", "alone", "missing", "never")
+    wrong = any(row.get(name) for name in words)
     wrong |= row.get("reason") == "wrong-port"
     return over or bool(wrong) or ("latency_ns" in row and row["share"] > 1)
 

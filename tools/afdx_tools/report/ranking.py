@@ -8,15 +8,39 @@ from afdx_tools.tables import Row, percent
 FEWEST = 10  # copies at a port, of both sides, below which a link isn't ranked there
 
 
+def latencies_of(report: Row) -> list[Row]:
+    """The latencies that links are ranked by: those from end to end, where there are such."""
+    return report["ways"] if "ways" in report else report["latency"]
+
+
+def place_of(row: Row) -> tuple:
+    """A row's port, of several switches also which it is at."""
+    return row["link"], row.get("switch", ""), row["port"]
+
+
+def port_of(row: Row) -> str:
+    """A row's port in words: `port 3`, of several switches `fwd port 3`."""
+    return f"{row.get('switch', '')} port {row['port']}".lstrip()
+
+
+def at_system(row: Row) -> str:
+    """Where a row is, and what is there."""
+    return f"at {port_of(row)} ({row['system']})"
+
+
+def at(row: Row) -> str:
+    """Where a row is; of one switch the port alone."""
+    return at_system(row) if "switch" in row else f"at {port_of(row)}"
+
+
 def ranked(latency: Sequence[Row]) -> list[Row]:
     """The rows that are late, and those of ports to which enough frames of the link came, by share
     of the configured latency, the greatest first."""
-    copies: dict[tuple[int, int], int] = {}
+    copies: dict[tuple, int] = {}
     for row in latency:
-        key = row["link"], row["port"]
-        copies[key] = copies.get(key, 0) + row["frames"]
-    kept = [row for row in latency if row["late"] or copies[row["link"], row["port"]] >= FEWEST]
-    return sorted(kept, key=lambda row: (-row["share"], row["link"], row["port"], row["side"]))
+        copies[place_of(row)] = copies.get(place_of(row), 0) + row["frames"]
+    kept = [row for row in latency if row["late"] or copies[place_of(row)] >= FEWEST]
+    return sorted(kept, key=lambda row: (-row["share"], *place_of(row), row["side"]))
 
 
 def nearest(latency: Sequence[Row]) -> Row | None:
@@ -28,7 +52,7 @@ def nearest(latency: Sequence[Row]) -> Row | None:
 def latency_words(row: Row) -> str:
     """A row of latencies in words."""
     return (
-        f"link {row['link']} at port {row['port']}, side {row['side']}, "
+        f"link {row['link']} {at(row)}, side {row['side']}, "
         f"{row['greatest_ns']:,} of {row['configured_ns']:,} ns configured "
         f"({percent(row['share'])})"
     )
@@ -37,6 +61,6 @@ def latency_words(row: Row) -> str:
 def latency_text(row: Row) -> str:
     """The same without commas in numbers."""
     return (
-        f"link {row['link']} at port {row['port']}, side {row['side']}: {row['greatest_ns']} of "
+        f"link {row['link']} {at(row)}, side {row['side']}: {row['greatest_ns']} of "
         f"{row['configured_ns']} ns configured ({percent(row['share'])})"
     )

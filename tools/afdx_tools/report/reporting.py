@@ -16,12 +16,20 @@ from afdx_tools.program import program, version
 from afdx_tools.progress import Progress
 from afdx_tools.recordings.options import recording_options
 from afdx_tools.recordings.tapped import found_by
-from afdx_tools.replay.absence import clock_rows, copied_of, dropped_rows, silence_rows, skew_rows
+from afdx_tools.replay.absence import (
+    Copied,
+    clock_rows,
+    copied_of,
+    dropped_rows,
+    silence_rows,
+    skew_rows,
+)
 from afdx_tools.replay.checked import Checked
 from afdx_tools.replay.counting import Counting
 from afdx_tools.replay.lines import keep_memory
 from afdx_tools.replay.running import Source, check, listed_of, replay
 from afdx_tools.replay.silence import Silences
+from afdx_tools.replay.sites import Sites
 from afdx_tools.report import numbers
 from afdx_tools.report.compare import compared, other_report, words_of
 from afdx_tools.report.cover import Cover
@@ -30,19 +38,22 @@ from afdx_tools.report.findings import findings_of
 from afdx_tools.report.lanes import arrivals_of
 from afdx_tools.report.made import header
 from afdx_tools.report.page import page
-from afdx_tools.report.ranking import FEWEST, latency_text, nearest, ranked
+from afdx_tools.report.ranking import FEWEST, latencies_of, latency_text, nearest, ranked
+from afdx_tools.report.switches import line_rows, switch_rows
+from afdx_tools.report.ways import receiver_rows, way_rows
 from afdx_tools.report.where import Where
 from afdx_tools.tables import (
     COUNTED,
     EARLY,
-    NAMES,
     PROVED,
+    PROVED_OF_SEVERAL,
     UNPROMISED,
     WRITTEN,
     Row,
     as_text,
     cell,
     files_of,
+    names_of,
 )
 
 
@@ -52,7 +63,8 @@ def tables_of(counting: Counting, checked: Checked, worst: int) -> Row:
     silences = Silences(counting)
     copied = copied_of(counting, silences)
     return {
-        "bounds": {port: vars(bound) for port, bound in checked.bounds.items()},
+        **several_of(counting, checked, copied),
+        "bounds": bounds_of(counting, checked),
         "silences": silence_rows(counting, silences),
         "dropped": dropped_rows(counting),
         "links": numbers.link_rows(counting),
@@ -71,6 +83,29 @@ def tables_of(counting: Counting, checked: Checked, worst: int) -> Row:
     }
 
 
+def bounds_of(counting: Counting, checked: Checked) -> Row:
+    """What `check` says of each port, by its number; of several switches with the switch's name."""
+    config = counting.config
+    named = {port: " ".join(map(str, config.keys_of(port).values())) for port in checked.bounds}
+    return {
+        named[port] if config.several else port: vars(bound)
+        for port, bound in checked.bounds.items()
+    }
+
+
+def several_of(counting: Counting, checked: Checked, copied: Copied) -> Row:
+    """The tables of several switches a side."""
+    if counting.config.several is None:
+        return {}
+    _, queues = counting.queues()
+    return {
+        "ways": way_rows(counting, checked),
+        "receivers": receiver_rows(counting, copied),
+        "switches": switch_rows(counting),
+        "lines": line_rows(counting, queues),
+    }
+
+
 def early_of(counting: Counting, worst: int) -> Row:
     """By how much frames came too early, where some did."""
     if not len(counting.events.early.lines):
@@ -86,8 +121,9 @@ def report_of(
     called = version()
     checked = check(program(), source.config)
     tables = read_config(source.config)
-    listed = listed_of(source, progress, checked.answer == "ok" or args.no_admission)
-    events, fault, status = replay(source, listed, progress)
+    is_run = checked.answer == "ok" or args.no_admission
+    listed = listed_of(source, Sites(tables.names), progress, is_run)
+    events, fault, status = replay(source, tables, listed, progress)
     progress.report("counting")
     counting = Counting(tables, listed.listing, events)
     where = Where(source, counting)
@@ -100,7 +136,7 @@ def report_of(
         "totals": {},
         "findings": [],
         **tables_of(counting, checked, args.worst),
-        "proved": PROVED,
+        "proved": PROVED + (PROVED_OF_SEVERAL if tables.several else ""),
         "counted": COUNTED,
     }
     if listed.skipped and not status:
@@ -125,11 +161,11 @@ def print_head(report: Row) -> None:
         print(f"not met     {line}")
     for name in (*numbers.SUMS, "missing"):
         print(f"{name.replace('_', ' '):11} {report['totals'][name]}")
-    most = nearest(report["latency"])
+    most = nearest(latencies_of(report))
     if "skipped" in report:
         print(f"skipped     {cell(report['skipped'])}")
     print(f"nearest     {latency_text(most) if most else f'no link has {FEWEST} copies at a port'}")
-    for row in ranked(report["latency"]):
+    for row in ranked(latencies_of(report)):
         if row["late"]:
             print(f"late        {latency_text(row)}, {row['late']} of {row['frames']} copies")
     if report["admission"] != "ok":
@@ -139,14 +175,14 @@ def print_head(report: Row) -> None:
 def print_text(report: Row) -> None:
     """The numbers as text."""
     print_head(report)
-    for name, head in NAMES.items():
+    for name, head in names_of(report).items():
         print(f"\n{head}\n{as_text(report[name])}", end="")
     if "early_ns" in report:
         print(f"\n{EARLY}, in ns\n{as_text(report['early_ns'])}", end="")
     if "compared" in report:
         print("\n" + "\n".join(words_of(report["compared"])))
         print(as_text(report["compared"]["rows"]), end="")
-    print(f"\n{PROVED}\n{COUNTED}")
+    print(f"\n{report['proved']}\n{COUNTED}")
 
 
 @contextlib.contextmanager

@@ -9,11 +9,14 @@ STYLE = """
 :root { --ground: #f6f6f4; --sheet: #ffffff; --ink: #1d2126; --muted: #5f6771; --rule: #ececea;
   --grid: #e4e5e3; --axis: #7d848b; --replayed: #5f90bf; --median: #174a7c; --bound: #1d2126;
   --configured: #a3690f; --good: #2c7a51; --bad: #b3362f; --second: #b07a2c;
-  color-scheme: light dark; }
+  --load-1: #7fa8cf; --load-2: #3f79b0; --load-3: #2c8c7e; --load-4: #b08a1c; --load-5: #c9601d;
+  --load-6: #a3201b; --tree: #f1e3b4; color-scheme: light dark; }
 @media (prefers-color-scheme: dark) {
 :root { --ground: #15171a; --sheet: #1d2024; --ink: #e4e6e8; --muted: #a0a8b1; --rule: #2a2e33;
   --grid: #2e3237; --axis: #7f8790; --replayed: #4f7fae; --median: #b9dafb; --bound: #f0f1f2;
-  --configured: #d9a441; --good: #63bd8d; --bad: #ec7a72; --second: #c9994e; } }
+  --configured: #d9a441; --good: #63bd8d; --bad: #ec7a72; --second: #c9994e;
+  --load-1: #4a7195; --load-2: #68a5dc; --load-3: #4fc0ac; --load-4: #d9b64a; --load-5: #ef8b4a;
+  --load-6: #ff6b60; --tree: #4a4220; } }
 * { box-sizing: border-box; }
 body { margin: 0; background: var(--ground); color: var(--ink);
   font: 14px/1.5 system-ui, -apple-system, "Segoe UI", Roboto, "DejaVu Sans", sans-serif; }
@@ -91,6 +94,20 @@ svg text.small { font-size: 10px; fill: var(--muted); }
 .lane-wrong { stroke: var(--bad); stroke-width: 6.4; stroke-dasharray: 1.4 1.6; }
 svg text.lane-name { font-size: 10.5px; }
 .way { stroke: var(--axis); stroke-width: .6; opacity: .6; }
+.asked { fill: none; stroke: var(--configured); stroke-width: 1; }
+svg.map { max-width: var(--most); min-width: var(--least); }
+.switch { fill: var(--sheet); stroke: var(--axis); stroke-width: 1.2; }
+.cable { fill: none; stroke-linejoin: round; } .aside { opacity: .38; }
+.idle { stroke: var(--grid); stroke-width: 1.2; }
+.tree { fill: none; stroke: var(--tree); stroke-width: 13; stroke-linecap: round; }
+.load-0 { stroke: var(--axis); stroke-width: 1.4; stroke-dasharray: 2 3; }
+.load-1 { stroke: var(--load-1); stroke-width: 1.8; }
+.load-2 { stroke: var(--load-2); stroke-width: 2.4; }
+.load-3 { stroke: var(--load-3); stroke-width: 3.2; }
+.load-4 { stroke: var(--load-4); stroke-width: 4.2; }
+.load-5 { stroke: var(--load-5); stroke-width: 5.2; }
+.load-6 { stroke: var(--load-6); stroke-width: 6.4; }
+.load-7 { stroke: var(--bad); stroke-width: 8; }
 footer { color: var(--muted); margin-top: 20px; font-size: 13px; }
 footer code { font-size: 12px; overflow-wrap: anywhere; }
 @page { size: A4 portrait; margin: 12mm; }
@@ -99,10 +116,12 @@ footer code { font-size: 12px; overflow-wrap: anywhere; }
   :root { --ground: #ffffff; --sheet: #ffffff; --ink: #000000; --muted: #444a52; --rule: #dddddd;
     --grid: #dddddd; --axis: #666c72; --replayed: #5f90bf; --median: #174a7c; --bound: #000000;
     --configured: #a3690f; --good: #2c7a51; --bad: #b3362f; --second: #b07a2c;
-    color-scheme: light; }
+    --load-1: #7fa8cf; --load-2: #3f79b0; --load-3: #2c8c7e; --load-4: #b08a1c; --load-5: #c9601d;
+    --load-6: #a3201b; --tree: #f1e3b4; color-scheme: light; }
   body { font-size: 11px; } main { max-width: none; padding: 0; }
   section { overflow: visible; padding: 8px 0; border-width: 1px 0 0; border-radius: 0; }
-  svg { min-width: 0; break-inside: avoid; } h2, section > p, caption { break-after: avoid; }
+  svg, svg.map { min-width: 0; break-inside: avoid; } svg.map { max-height: 235mm; }
+  h2, section > p, caption { break-after: avoid; }
   section > p, .findings li, .card { break-inside: avoid; }
   nav, .find, .screen { display: none; } .on-paper { display: inline; }
   #cover { break-after: page; } .box { max-height: none; overflow: visible; }

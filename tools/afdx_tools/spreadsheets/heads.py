@@ -23,6 +23,9 @@ UNITS: dict[str, tuple[str, Mapping[str, Fraction]]] = {
 }
 
 
+SECOND = "second"  # before the name of a column: the second one of two that have the same head
+
+
 class Head(NamedTuple):
     """The column that a head names, and by what its numbers are multiplied."""
 
@@ -32,7 +35,7 @@ class Head(NamedTuple):
 
 def heads_of(column: str) -> Iterator[tuple[str, Head]]:
     """The heads that name a column, in one spelling, and what they say."""
-    yield column, Head(column, Fraction(1))
+    yield spelled(column), Head(column, Fraction(1))
     base, factors = UNITS.get(column, ("", {}))
     for unit, factor in factors.items():
         yield f"{base}_{unit}", Head(column, factor)
@@ -47,11 +50,23 @@ def spelled(head: str) -> str:
     return re.sub(r"[\W_]+", "_", plain).strip("_")
 
 
+def named_by(heads: Iterable[str], known: Mapping[str, Head]) -> list[Head | None]:
+    """The columns that heads name; a head that comes again names the second column of that name, if
+    there is one."""
+    found: list[Head | None] = []
+    for head in heads:
+        named = known.get(spelled(head))
+        if named is not None and named in found:
+            named = known.get(spelled(f"{SECOND} {named.column}"), named)
+        found.append(named)
+    return found
+
+
 def columns_of(path: str, heads: Iterable[str], columns: Mapping[str, bool]) -> list[Head | None]:
     """The columns that the first row of a table names, None where a head names none; Refused where
     one of those that have to be there isn't, or one stands twice."""
     known = dict(head for column in columns for head in heads_of(column))
-    found = [known.get(spelled(head)) for head in heads]
+    found = named_by(heads, known)
     names = [head.column for head in found if head]
     missing = [name for name, is_needed in columns.items() if is_needed and name not in names]
     if missing:

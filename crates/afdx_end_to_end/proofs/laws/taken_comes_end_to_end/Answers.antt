@@ -1,5 +1,5 @@
 use Rattle.afdx_end_to_end.proofs.EmittedLemmas.{laws-of}
-use Rattle.afdx_end_to_end.proofs.SeveralLemmas.{runs-bring, taken-by-one, taken-comes, taken-so-far}
+use Rattle.afdx_end_to_end.proofs.SeveralLemmas.{runs-bring, taken-by-one, taken-comes, taken-so-far, written-from}
 use Rattle.afdx_end_to_end.proofs.laws.taken_comes_end_to_end.Goals as goal
 
 pub returns-clause-lines : goal.returns-clause-lines
@@ -25,3 +25,6 @@ returns-clause-runs c =
     runs-bring (laws-of c.all_is_sent.ensures.sent c.all_is_sent.ensures.frames
     c.sent_is_told_once.ensures.stream c.sent_is_told_once.ensures.once
     c.sent_is_told_once.ensures.so_far c.sent_is_told_once.ensures.one_side c.built_is_computed.ensures)
+
+pub returns-clause-written : goal.returns-clause-written
+returns-clause-written c = written-from
