@@ -36,10 +36,10 @@ filled_tests() {
         is_solved examples/aircraft.toml
         is_kept examples/aircraft.toml
     )"
-    launch tools/afdx-fill <(sed 's/^jitter_us = 517/jitter_us = 101001/' "$two") "$several/no.toml"
+    launch tools/afdx-fill <(sed 's/^bag_ms = 1/bag_ms = 3/' "$two") "$several/no.toml"
     tell 'a fault names its switch' "$(
         is_status 1
-        says err 'config OutOfRange switch 2 link 1 key 7'
+        says err 'config OutOfRange switch 1 link 1 key'
     )"
 }
 
