@@ -101,7 +101,7 @@ recorded_several_tests() {
         wants_text "$(fields_of "$one" frame.interface_name | sort -u | wc -l)" 70 interfaces
         says err "$(wc -l <"$several/sound.list") frames written"
     )"
-    launch tools/afdx-capture list --config "$config" "$one"
+    launch tools/afdx-capture list --config "$config" --origin 0 "$one"
     tell 'and back to the list' "$(
         is_status 0
         cut -d ' ' -f 2- "$work/out" >"$work/got"
@@ -186,7 +186,7 @@ several_taps_tests() {
         "$several/run.pcapng"
     tell 'a list by a table of taps' "$(
         is_status 0
-        wants_text "$(cut -d ' ' -f 3-5 "$work/out" | grep -v '#' | sort -u | paste -s -d ,)" \
+        wants_text "$(grep -v '^#' "$work/out" | cut -d ' ' -f 3-5 | sort -u | paste -s -d ,)" \
             'A aft 2,A fwd 1' places
     )"
 }
