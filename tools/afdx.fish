@@ -218,7 +218,7 @@ complete -c afdx-capture -n '__afdx_in list' -x -l split -a '(__afdx_files list)
 complete -c afdx-capture -n '__afdx_at list 0 0' -a '(__afdx_files pcap pcapng)'
 complete -c afdx-capture -n '__afdx_at list 1 1' -a '(__afdx_files pcap pcapng)'
 complete -c afdx-capture -n '__afdx_at - 0 0' -a pcap \
-    -d 'Writes a frame list, or what afdx send writes, as pcap with times in ns.'
+    -d 'Writes a frame list, or what afdx send writes, as pcap with times in ns of'
 complete -c afdx-capture -n '__afdx_in pcap' -l help -d 'show this help message and exit'
 complete -c afdx-capture -n '__afdx_in pcap' -x -l side -a 'A B' -d 'only this network\'s frames'
 complete -c afdx-capture -n '__afdx_in pcap' -x -l fcs -a 'yes no' \
@@ -278,7 +278,7 @@ complete -c afdx-report -l version -d 'print the version and leave'
 complete -c afdx-report -x -l out -a '(__fish_complete_directories)' \
     -d 'the folder for page, CSV and JSON'
 complete -c afdx-report -l no-admission -d 'also where the network isn\'t admitted'
-complete -c afdx-report -x -l link -d 'a link with a time line, several times'
+complete -c afdx-report -x -l link -d 'a link with a time line'
 complete -c afdx-report -x -l from -d 'where the time lines begin'
 complete -c afdx-report -x -l rows -d 'links in the picture of latencies'
 complete -c afdx-report -x -l worst -d 'frames in the tables of the worst'

@@ -200,7 +200,7 @@ _afdx_takes() { # COMMAND
             $version \
             '--out[the folder for page, CSV and JSON]:dir:_path_files -/' \
             '--no-admission[also where the network isn'\''t admitted]' \
-            '*--link[a link with a time line, several times]:vl:' \
+            '*--link[a link with a time line]:vl:' \
             '--from[where the time lines begin]:ns:' \
             '--rows[links in the picture of latencies]:n:' \
             '--worst[frames in the tables of the worst]:n:' \
