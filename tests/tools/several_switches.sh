@@ -211,11 +211,7 @@ if [[ -x $program ]]; then
     mkdir -p "$several"
     tests/tools/sample_list.py examples/aircraft.toml --ms 100 >"$several/sample.list"
     tests/tools/sample_list.py examples/aircraft.toml --ms 100 --sound >"$several/sound.list"
-    if "$program" solve examples/two_switches.toml >"$work/said" 2>&1; then
-        filled_tests
-    else
-        skip 'filled: several switches' 'this program solves one switch a side'
-    fi
+    filled_tests
     several_taps_tests
     several_traffic_tests
     pcap_faults_tests
