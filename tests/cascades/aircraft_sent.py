@@ -5,6 +5,7 @@ from __future__ import annotations
 
 import random
 from collections.abc import Callable
+from functools import cache
 
 import tables
 from cascade import loaded
@@ -29,6 +30,7 @@ class OfExample(Called):
         return self.program.write(CONFIG, tables.example(EXAMPLE))
 
 
+@cache
 def aircraft() -> dict:
     """The tables of the example."""
     return loaded(tables.example(EXAMPLE))

@@ -10,7 +10,7 @@ import tomllib
 from dataclasses import dataclass, field, replace
 
 from afdx_tools.faults import Failed, Refused, shown
-from afdx_tools.solving import AS_WRITTEN, check, solve
+from afdx_tools.solving import AS_WRITTEN, solve
 
 MOST_PORTS = 32  # more than the ports of a switch
 
@@ -172,12 +172,6 @@ def link_of(row: dict, ports: dict[str, int]) -> Link:
     )
 
 
-def is_read(config: bytes) -> bool:
-    """The program reads this configuration, even if `solve` doesn't take it."""
-    answer = check(config)
-    return answer == "ok" or answer.startswith("no ")
-
-
 def tables_of(path: str) -> dict:
     """The tables of a configuration; Failed with the program's line where it refuses them."""
     with open(path, "rb") as file:
@@ -185,7 +179,7 @@ def tables_of(path: str) -> dict:
     solved = solve(config, ("--keep", AS_WRITTEN))
     if solved.text:
         return tomllib.loads(solved.text)
-    if not solved.line.startswith("no ") and not is_read(config):
+    if not solved.line.startswith("no "):
         raise Failed(solved.line, 1)
     try:
         return tomllib.loads(config.decode("utf-8-sig"))

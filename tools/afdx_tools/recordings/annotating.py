@@ -34,7 +34,7 @@ class Following:
         self._path = config
         self._config: Config | None = None
         self._listed = listed
-        self._next = next(listed, None)
+        self._latest = 0  # the list's line of the latest frame that it brought
         self._waiting: deque[Followed] = deque()
         self._accepted: dict[tuple[int, str], Followed] = {}  # by line and switch
         self._brought: deque[Listed] = deque()  # what cables bring
@@ -63,8 +63,9 @@ class Following:
 
     def _begin(self, number: int, switch: str, text: str, accepted: bool) -> None:
         """A verdict: the frame is followed from here on."""
-        if self._next is not None and self._next.line == number:
-            listed, self._next = self._next, next(self._listed, None)
+        if number > self._latest:
+            listed = next(self._listed)
+            self._latest = listed.line
         else:
             listed = self._brought.popleft()
         if (listed.line, listed.switch) != (number, switch):
@@ -119,7 +120,7 @@ def follow(config: str, listed: Iterator[Listed], lines: Iterable[str]) -> Itera
             yield from following.done()
         try:
             following.take(text)
-        except (ValueError, LookupError) as error:
+        except (ValueError, LookupError, StopIteration) as error:
             raise Refused(f"the program's line '{text[:60]}' is none of this replay") from error
     yield from following.done()
 
