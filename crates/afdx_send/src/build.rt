@@ -13,6 +13,7 @@ ghost use Rattle.afdx_send.specs.New.{IsNewLine, AreNewLines, IsPlaceIn};
 use crate::agenda::Agenda;
 use crate::line::Line;
 use crate::regulator::Regulator;
+use crate::rooms::Rooms;
 use crate::sender_state::SenderState;
 use afdx_admit::Admitted;
 use afdx_bounds::laws::tables_are_served;
@@ -85,6 +86,7 @@ pub(crate) fn build(
 {
     // A law, for the proof: what admitted tables let a sender wait with fits its port.
     tables_are_served();
+    let rooms = Rooms::new(alloc);
     let tables = tables.tables();
     let row = tables.system(system);
     let lines = new_lines(alloc, tables, system)?;
@@ -102,5 +104,6 @@ pub(crate) fn build(
         agenda,
         output,
         ready: None,
+        rooms,
     })
 }

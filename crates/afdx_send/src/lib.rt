@@ -11,6 +11,7 @@ pub mod laws;
 mod line;
 mod regulator;
 mod released;
+mod rooms;
 mod sender;
 mod sender_state;
 

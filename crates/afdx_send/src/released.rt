@@ -63,6 +63,11 @@ impl Released {
         self.vl
     }
 
+    pub(crate) fn into_payload(self) -> Vec<u8> {
+        let Released { payload, .. } = self;
+        payload
+    }
+
     /// The frames for network A and network B.
     pub(crate) fn frames(
         &self,

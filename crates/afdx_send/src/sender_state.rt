@@ -12,6 +12,7 @@ use crate::laws::emissions_are_lawful;
 use crate::line::Line;
 use crate::regulator::Queued;
 use crate::released::Released;
+use crate::rooms::Rooms;
 use crate::sender::Emission;
 use afdx_bounds::laws::sender_is_bounded;
 use afdx_frame::{Priority, VlId};
@@ -35,6 +36,8 @@ pub(crate) struct SenderState {
     pub(crate) output: Port<Released>,
     /// What left the port and isn't emitted yet.
     pub(crate) ready: Option<Left<Released>>,
+    /// Of the payloads that were emitted.
+    pub(crate) rooms: Rooms,
 }
 
 impl Drop for SenderState {
@@ -50,6 +53,7 @@ impl Drop for SenderState {
             agenda,
             output,
             ready,
+            rooms,
         } = self;
     }
 }
@@ -223,7 +227,10 @@ impl SenderState {
             return Ok(None);
         };
         match self.emission(&left) {
-            Ok(emission) => Ok(Some(emission)),
+            Ok(emission) => {
+                self.rooms.give_back(left.item.into_payload());
+                Ok(Some(emission))
+            }
             Err(refused) => {
                 self.ready = Some(left);
                 Err(refused)
@@ -291,7 +298,7 @@ impl SenderState {
         if let Err(fault) = self.lines[place].check(sub, payload.len()) {
             return Err(fault);
         }
-        let Ok(payload) = Vec::from_slice(self.alloc, payload) else {
+        let Ok(payload) = self.rooms.copy(payload) else {
             return Err(SendFault::Memory);
         };
         let message = Queued::new(self.clock, udp, payload);

@@ -24,6 +24,7 @@ made c = record {
   agenda = c.in_ok-agenda.agenda;
   output = c.in_ok-output.output;
   ready = None;
+  rooms = tt;
 }
 
 -- a system stands among those of the tables

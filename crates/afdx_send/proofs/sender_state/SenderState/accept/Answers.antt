@@ -26,9 +26,9 @@ returns-in-Err-clause-refused c = λ h st.
     refuses w h st c.in-Some.place c.args.vl.0 c.args.sub (length c.args.payload.now)
     c.index.result.now c.in-Err.fault c.requires.idle p has c.in-Err.ensures.err
 
-pub returns-in_default-from_slice-clause-refused :
-    goal.returns-in_default-from_slice-clause-refused
-returns-in_default-from_slice-clause-refused c = λ h st.
+pub returns-in_default-copy-clause-refused :
+    goal.returns-in_default-copy-clause-refused
+returns-in_default-copy-clause-refused c = λ h st.
     let w = c.args.self.now in
     let p = c.in-Some.ensures h st in
     let has = read_at w.lines.items c.in-Some.place c.index.result.now
@@ -66,9 +66,9 @@ add-requires-clause-queue c = λ line has.
     let some = lets.is_sub.0 in
     let at : c.from.result - 1 + 1 ≡ c.args.sub = omega arith in
     let same_bytes : c.new-message.result.payload.items ≡ c.args.payload.now =
-    ap (λ v. v.items) c.new-message.ensures.payload ∙ c.in-Ok.ensures.items in
+    ap (λ v. v.items) c.new-message.ensures.payload ∙ c.in-Ok.ensures.copied in
     let n : length c.new-message.result.payload.items ≡ length c.args.payload.now =
-    ap (λ v. length v.items) c.new-message.ensures.payload ∙ ap length c.in-Ok.ensures.items in
+    ap (λ v. length v.items) c.new-message.ensures.payload ∙ ap length c.in-Ok.ensures.copied in
     subst (λ (z : Line). CanTake z (c.from.result - 1) c.new-message.result) same
     (can_take c.index.result.now (c.from.result - 1) c.args.sub c.new-message.result
     (length c.args.payload.now) lets at n (omega (arith, c.new-message.ensures.udp))
@@ -89,7 +89,7 @@ returns-in-Ok-add-clause-ok c = λ h st.
     submission_is c.new-message.result (c.from.result - 1) c.args.sub w.clock c.args.udp
     c.args.payload.now at
     c.new-message.ensures.time c.new-message.ensures.udp
-    (ap (λ v. v.items) c.new-message.ensures.payload ∙ c.in-Ok.ensures.items) in (
+    (ap (λ v. v.items) c.new-message.ensures.payload ∙ c.in-Ok.ensures.copied) in (
       c.in-Some.place,
       admits w h st c.in-Some.place c.args.vl.0 c.args.sub
           (length c.args.payload.now) c.index.result.now c.requires.idle p has lets,
