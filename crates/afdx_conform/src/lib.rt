@@ -15,4 +15,4 @@ pub use cases::cases_of;
 pub use leeway::Leeway;
 pub use levels::{Levels, Rates};
 pub use limits::{Frame, Limits};
-pub use states::{Case, Held, Next, came, close, lead_all, thinned};
+pub use states::{Case, Held, NextFrame, came, close, lead_all, thinned};

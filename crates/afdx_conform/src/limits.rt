@@ -11,7 +11,7 @@ ghost use Rattle.afdx_frame.specs.Times.{latest_listed};
 ghost use Rattle.afdx_conform.specs.Streams.{Terms, fits as fits_it, is_open as is_open_by};
 
 use crate::leeway::{Leeway, PARTS};
-use crate::states::Next;
+use crate::states::NextFrame;
 
 /// A frame that left: its number, the time of its last bit in ns, its bytes.
 #[derive(Debug, Drop)]
@@ -91,7 +91,7 @@ impl Limits {
         frames: &[Frame],
         passed: usize,
         is_open: bool,
-    ) -> Next
+    ) -> NextFrame
         requires time { time ≤ latest_listed }
         requires left { All (λ y. y.time ≤ latest_listed) frames.now }
         requires bytes { length bytes.now ≤ most_bytes }
@@ -101,14 +101,14 @@ impl Limits {
     {
         if passed < frames.len() {
             if self.fits(time, bytes, &frames[passed]) {
-                Next::Fits
+                NextFrame::Fits
             } else {
-                Next::Other
+                NextFrame::Other
             }
         } else if is_open {
-            Next::Open
+            NextFrame::Open
         } else {
-            Next::Over
+            NextFrame::Over
         }
     }
 
