@@ -8,7 +8,9 @@ use Rattle.afdx_police.specs.Shape.{fault_of}
 use Rattle.afdx_police.specs.declared.shape.Reason.{Reason}
 use Rattle.afdx_conform.specs.Explanations.{link, last_time, levels_then}
 use Rattle.afdx_conform.specs.Levels.{Levels, first_levels}
-use Rattle.afdx_conform.specs.Findings.{Found, Judged, lead, with_rest, has_some, front_rest, unexplained, skipped, closed_by, closed_to, is_far, is_early, is_late, deviates, answered_by, few_of, with_mark, came_by, came_to, rate_mark, is_uncertain, one_if, sound_events, judged_after, thinned_onto}
+use Rattle.afdx_conform.specs.Findings.{Found, Judged, lead, with_rest, has_some, front_rest, unexplained, skipped, closed_by, closed_to, with_states, asked, deviation_of, deviates_by, deviates, answered_by, few_of, with_mark, came_by, came_to, rate_mark, is_uncertain, one_if, sound_events, judged_after, thinned_onto}
+use Rattle.afdx_conform.specs.declared.finding.Deviation.{Deviation}
+use Rattle.afdx_conform.specs.declared.finding.Deviation.TheVariants as deviation
 use Rattle.afdx_conform.specs.FindingLaws.{FoundWhereNoneIsLeft, NothingFoundIsExplained}
 use Rattle.afdx_conform.specs.Laws.{IsSomeState}
 use Rattle.afdx_conform.specs.States.{Event, Came, Closing, State, arrivals_came, led_by, kept, are_behind, first_states, states_at, states_after}
@@ -51,14 +53,16 @@ deviates-finds : (z : Terms) (behind : List Arrival) (x : Arrival) (states : Lis
 unfolding deviates unexplained
 deviates-finds z behind x states [] j = tt
 deviates-finds z behind x states (y ∷ rest) j =
-    let more = deviates-finds z behind x (with_rest rest (lead states)) rest (unexplained z x.time y j) in
-    if-both (λ (r : Judged). IsFound r.findings) (is_far z x y) _ _ tt
-    (if-both (λ (r : Judged). IsFound r.findings) (is_early z x y) _ _ tt
-    (if-both (λ (r : Judged). IsFound r.findings) (list_any (λ w. fits z w y) behind) _ _ tt
-    (if-both (λ (r : Judged). IsFound r.findings) (bytes_eq x.bytes y.bytes && is_late z x y) _ _ tt
-    (if-both (λ (r : Judged). IsFound r.findings) (is_late z x y) _ _ tt
-    (if-both (λ (r : Judged). IsFound r.findings)
-    (has_some (led_by (λ s. states_at z x s.levels s) (with_rest rest (lead states)))) _ _ tt more)))))
+    by (deviation_of z behind x y) (deviates-finds z behind x (with_rest rest (lead states)) rest (unexplained z x.time y j))
+  where
+    by : (d : Deviation) → IsFound (deviates z behind x (with_rest rest (lead states)) rest (unexplained z x.time y j)).findings
+        → IsFound (deviates_by z d x states y rest j
+        (deviates z behind x (with_rest rest (lead states)) rest (unexplained z x.time y j))).findings
+    by deviation.Stopped more = tt
+    by (deviation.Took finding) more = tt
+    by deviation.Other more =
+        if-both (λ (r : Judged). IsFound r.findings) (has_some (asked z x rest states))
+        (with_states (asked z x rest states) (unexplained z x.time y j)) _ tt more
 
 -- ---- where states are left
 

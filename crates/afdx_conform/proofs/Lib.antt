@@ -18,3 +18,4 @@ pub mod FindingLemmas
 pub mod LimitLemmas
 pub mod RowLemmas
 pub mod FewLemmas
+pub mod NamingLemmas

@@ -11,6 +11,8 @@ pub mod LimitRanges
 pub mod Limits
 pub mod HeldStates
 pub mod Findings
+pub mod Marks
+pub mod Naming
 pub mod FindingLaws
 pub mod Thinned
 pub mod Right

@@ -4,14 +4,19 @@
 //! A stream is one link, on one side, at one output port. Its tests are in `afdx_part_tests`.
 #![tactic(auto)]
 
+mod arrived;
 mod cases;
+mod finding;
 pub mod laws;
 mod leeway;
 mod levels;
 mod limits;
+mod naming;
 mod states;
 
+pub use arrived::Arrived;
 pub use cases::cases_of;
+pub use finding::{Deviation, Finding, Mark, Strangeness};
 pub use leeway::Leeway;
 pub use levels::{Levels, Rates};
 pub use limits::{Frame, Limits};
