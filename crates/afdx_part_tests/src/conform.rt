@@ -1,7 +1,6 @@
 //! Leeways, limits and states with known answers, of a link with frames of 64 bytes, a BAG of 1 ms,
 //! a jitter of 500 us and a latency of 17 us, at a port of 100 Mbit/s.
 
-ghost use Rattle.std.specs.Prelude.{◌≡◌, IfOk};
 ghost use Rattle.afdx_conform.specs.Accounts.{AreLevels};
 
 use afdx_conform::{
@@ -45,14 +44,12 @@ fn leeways_in_range() -> Result<(), Fail> {
 const BYTES: [u8; 64] = [7; 64];
 
 /// A frame of these bytes that left at this time.
-fn frame(alloc: Global, time: u64) -> Result<Frame, AllocError>
-    ensures { IfOk result (λ frame. frame.time ≡ time) }
-{
+fn frame(alloc: Global, time: u32) -> Result<Frame, AllocError> {
     let mut bytes = Vec::new(alloc);
     bytes.extend_from_slice(&BYTES)?;
     Ok(Frame {
         number: 1,
-        time,
+        time: time.into(),
         bytes,
     })
 }
@@ -70,7 +67,7 @@ type Left = (u64, u32, bool);
 /// The first of the rows that is otherwise.
 fn otherwise_fitting(alloc: Global, rows: &[Left]) -> Result<Option<Left>, AllocError> {
     for (slack, time, wanted) in rows {
-        let frame = frame(alloc, *time as u64)?;
+        let frame = frame(alloc, *time)?;
         let fits = limits(*slack).map(|limits| limits.fits(0, &BYTES, &frame));
         if fits != Some(*wanted) {
             return Ok(Some((*slack, *time, *wanted)));
