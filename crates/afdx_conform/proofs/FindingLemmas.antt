@@ -81,12 +81,12 @@ enough-some all few h some =
     let one = some-among few some in
     among-some one.0 all (h.among one.0 one.1)
 
-record IsFront (states : List State) : Type 0 where
+pub record IsFront (states : List State) : Type 0 where
   pub of : State
   pub among : Among of states
   pub rest : of.rest ≡ front_rest states
 
-front-is : (states : List State) → IsSomeState states → IsFront states
+pub front-is : (states : List State) → IsSomeState states → IsFront states
 unfolding front_rest
 front-is [] h = absurd h
 front-is (s ∷ []) h = record { of = s; among = inl refl; rest = refl }

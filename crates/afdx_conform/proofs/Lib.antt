@@ -19,3 +19,7 @@ pub mod LimitLemmas
 pub mod RowLemmas
 pub mod FewLemmas
 pub mod NamingLemmas
+pub mod LeadLemmas
+pub mod DeviationLemmas
+pub mod DeviateLemmas
+pub mod DeviateSteps

@@ -18,6 +18,10 @@ use Rattle.afdx_conform.specs.declared.states.NextFrame.TheVariants.{Fits, Other
 abbrev pub state_of : List Gone → Held → State
 state_of ys held = state_with (drop held.passed ys) held.levels held.waiting
 
+-- the same, where so many frames are explained
+abbrev pub past : ℕ → Held → Held
+past passed held = record { passed = passed; levels = held.levels; waiting = held.waiting }
+
 -- that is what stands next for an arrival
 abbrev pub IsNext : Terms → Arrival → List Gone → NextFrame → Type 0
 IsNext z x [] Fits = ⊥

@@ -13,6 +13,7 @@ pub mod HeldStates
 pub mod Findings
 pub mod Marks
 pub mod Naming
+pub mod Bounds
 pub mod FindingLaws
 pub mod Thinned
 pub mod Right

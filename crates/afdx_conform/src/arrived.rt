@@ -1,6 +1,6 @@
 //! An arrival of a stream.
 
-ghost use Rattle.std.specs.Prelude.{◌≤◌, length};
+ghost use Rattle.std.specs.Prelude.{◌≤◌, ◌<◌, length};
 ghost use Rattle.afdx_conform.specs.LimitRanges.{most_bytes};
 ghost use Rattle.afdx_conform.specs.Ranges.{most_charge};
 ghost use Rattle.afdx_frame.specs.Times.{latest_listed};
@@ -21,5 +21,6 @@ pub struct Arrived {
     pub charge: u64,
     pub ghost listed: { time ≤ latest_listed },
     pub ghost short: { length bytes.items ≤ most_bytes },
+    pub ghost some: { 0 < charge },
     pub ghost charged: { charge ≤ most_charge },
 }

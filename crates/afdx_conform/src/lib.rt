@@ -5,8 +5,13 @@
 #![tactic(auto)]
 
 mod arrived;
+mod bounds;
 mod cases;
+mod deviate;
+mod deviating;
 mod finding;
+mod fronts;
+mod leading;
 pub mod laws;
 mod leeway;
 mod levels;
@@ -15,6 +20,7 @@ mod naming;
 mod states;
 
 pub use arrived::Arrived;
+pub use bounds::Bounds;
 pub use cases::cases_of;
 pub use finding::{Deviation, Finding, Mark, Strangeness};
 pub use leeway::Leeway;
