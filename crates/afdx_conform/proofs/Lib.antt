@@ -23,3 +23,7 @@ pub mod LeadLemmas
 pub mod DeviationLemmas
 pub mod DeviateLemmas
 pub mod DeviateSteps
+pub mod ClosingLemmas
+pub mod ArrivalLemmas
+pub mod SkipLemmas
+pub mod ArrivalSteps

@@ -14,6 +14,8 @@ pub mod Findings
 pub mod Marks
 pub mod Naming
 pub mod Bounds
+pub mod Testing
+pub mod Judging
 pub mod FindingLaws
 pub mod Thinned
 pub mod Right

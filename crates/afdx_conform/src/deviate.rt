@@ -35,7 +35,7 @@ pub(crate) struct Outcome {
 }
 
 /// Whether there is a state.
-fn has_any(held: &[Held]) -> bool
+pub(crate) fn has_any(held: &[Held]) -> bool
     ensures left { IsTrue result → ¬ (held.now ≡ []) }
     ensures none { result ≡ false → held.now ≡ [] }
 {

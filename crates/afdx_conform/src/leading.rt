@@ -26,9 +26,9 @@ use std::alloc::{AllocError, Global};
 /// When an arrival comes: so many ns after the one before it. `is_open` says whether what the
 /// switch makes of it may leave unseen.
 #[derive(Clone, Copy, Debug)]
-pub(crate) struct Moment {
-    pub(crate) ns: u64,
-    pub(crate) is_open: bool,
+pub struct Moment {
+    pub ns: u64,
+    pub is_open: bool,
 }
 
 /// The states to which an arrival leads from these. Fails only out of memory.

@@ -5,12 +5,14 @@
 #![tactic(auto)]
 
 mod arrived;
+mod arriving;
 mod bounds;
 mod cases;
 mod deviate;
 mod deviating;
 mod finding;
 mod fronts;
+mod judging;
 mod leading;
 pub mod laws;
 mod leeway;
@@ -18,11 +20,15 @@ mod levels;
 mod limits;
 mod naming;
 mod states;
+mod testing;
 
 pub use arrived::Arrived;
+pub use arriving::judge_arrival;
 pub use bounds::Bounds;
 pub use cases::cases_of;
 pub use finding::{Deviation, Finding, Mark, Strangeness};
+pub use judging::{Judging, judge_closing};
+pub use leading::Moment;
 pub use leeway::Leeway;
 pub use levels::{Levels, Rates};
 pub use limits::{Frame, Limits};

@@ -230,6 +230,9 @@ pub fn close(held: &mut Vec<Held>, passed: usize)
         AreClosed time passed ys →
         AreKept z ys before (map (state_of ys) held.old.items) →
         AreKept z ys (Closing time ∷ before) (map (state_of ys) held.new.items) }
+    ensures within { (rates : Rates) (frames count : ℕ) →
+        All (λ h. IsWithin rates frames count h) held.old.items →
+        All (λ h. IsWithin rates frames count h) held.new.items }
 {
     held.retain(|state| passed <= state.passed);
 }
