@@ -26,8 +26,12 @@ use Rattle.afdx_conform.proofs.HeldLemmas.{if-false}
 abbrev pub mark-by : Bool → Option Reason
 mark-by b = if b then None else Some OverRate
 
-abbrev one_of : Bool → ℕ
+abbrev pub one_of : Bool → ℕ
 one_of u = if u then 1 else 0
+
+pub one-less : (u : Bool) → one_of u ≤ 1
+one-less true = omega arith
+one-less false = omega arith
 
 one-is : (z : Terms) (u : Bool) → one_if z u ≡ one_of u
 one-is z true = refl
@@ -71,7 +75,8 @@ module _ (z : Terms) (behind : List Arrival) (last : ℕ) (x : Arrival) (j : Jud
       ∙ ap (λ (m : ℕ). judged_with (map (state_of ys) few) k.arrivals k.findings k.frames (k.uncertain + n) (nat_lt most_states m))
       (length-map few (state_of ys))
 
-  pub came-whole : (ys : List Gone) (mid few : List Held) (found : List Finding) (arrivals : List Marked) (reason : Option Reason) (u : Bool)
+  pub came-whole : (ys : List Gone) (mid few : List Held) (found : List Finding) (arrivals : List Marked) (reason : Option Reason) (u :
+      Bool)
       → j.is_unsure ≡ false → fault_of (Some z.rule) x.port x.bytes ≡ None
       → answered_by z behind last x Led j ≡ with_states (map (state_of ys) mid) (told x.time found arrivals j)
       → map (state_of ys) few ≡ thinned_onto [] (map (state_of ys) mid)
@@ -83,12 +88,14 @@ module _ (z : Terms) (behind : List Arrival) (last : ℕ) (x : Arrival) (j : Jud
       came-is sure fault
       ∙ ap (λ (k : Judged). with_mark x (rate_mark z last x j.states) (few_of z (one_if z (is_uncertain z last x j.states)) k)) answered
       ∙ ap (λ (k : Judged). with_mark x (rate_mark z last x j.states) k)
-      (few-is ys few (one_if z (is_uncertain z last x j.states)) (with_states (map (state_of ys) mid) (told x.time found arrivals j)) thin)
+      (few-is ys few (one_if z (is_uncertain z last x j.states)) (with_states (map (state_of ys) mid) (told x.time found arrivals j))
+      thin)
       ∙ ap (λ (n : ℕ). judged_with (map (state_of ys) few) (arrivals ++ (marked x (rate_mark z last x j.states) false ∷ []))
       (told x.time found arrivals j).findings (told x.time found arrivals j).frames (j.uncertain + n)
       (nat_lt most_states (length few))) (one-is z (is_uncertain z last x j.states))
       ∙ ap (λ (o : Option Reason). judged_with (map (state_of ys) few) (arrivals ++ (marked x o false ∷ []))
-      (told x.time found arrivals j).findings (told x.time found arrivals j).frames (j.uncertain + one_of (is_uncertain z last x j.states))
+      (told x.time found arrivals j).findings (told x.time found arrivals j).frames (j.uncertain + one_of (is_uncertain z last x
+      j.states))
       (nat_lt most_states (length few))) (sym mark)
       ∙ ap (λ (b : Bool). judged_with (map (state_of ys) few) (arrivals ++ (marked x reason false ∷ []))
       (told x.time found arrivals j).findings (told x.time found arrivals j).frames (j.uncertain + one_of b)
@@ -119,19 +126,23 @@ module _ (rates : Rates) (fs : List Frame) (xs : List Arrived) (z : Terms) (behi
       → new.uncertain ≡ old.uncertain + one_of u
       → new.is_unsure ≡ nat_lt most_states (length new.held.items)
       → All (λ h. IsWithin rates (length fs) (length new.marks.items) h) new.held.items
-      → StandsFor rates fs xs (came_to z behind last (arrival_of a) j) new × AreFound a.time found j (came_to z behind last (arrival_of a) j)
+      → StandsFor rates fs xs (came_to z behind last (arrival_of a) j) new × AreFound a.time found j (came_to z behind last (arrival_of
+      a) j)
   stands-arrival ms mid found reason u sure fault answered thin mark unc len nm nu nn within =
-      let whole = came-whole z behind last (arrival_of a) j (map gone_of fs) mid new.held.items found (marked_all xs ms) reason u sure fault
+      let whole = came-whole z behind last (arrival_of a) j (map gone_of fs) mid new.held.items found (marked_all xs ms) reason u sure
+      fault
       answered thin mark unc in
       let marks = ap (λ (l : List Mark). marked_all xs l) nm
       ∙ pushed-marks ms (record { reason = reason; is_named = false }) len in
-      subst (λ (k : Judged). StandsFor rates fs xs k new × AreFound a.time found j k) (sym whole)
-      (
+      subst (λ (k : Judged). StandsFor rates fs xs k new × AreFound a.time found j k) (sym whole) (
         record {
           states = refl;
           within = within;
           marks = marks;
           uncertain = nu ∙ ap (λ (n : ℕ). n + one_of u) s.uncertain;
+          counted = (let c = s.counted in let o = one-less u in
+              let n = ap (λ (l : List Mark). length l) nm ∙ length_push ms (record { reason = reason; is_named = false }) in
+              omega (arith, c, o, n, nu, len));
           unsure = nn;
         },
         record { findings = refl; frames = refl },
@@ -143,11 +154,11 @@ module _ (rates : Rates) (fs : List Frame) (xs : List Arrived) (z : Terms) (behi
       → new.marks.items ≡ old.marks.items ++ (record { reason = Some fault; is_named = false } ∷ [])
       → new.uncertain ≡ old.uncertain → new.is_unsure ≡ old.is_unsure
       → All (λ h. IsWithin rates (length fs) (length new.marks.items) h) new.held.items
-      → StandsFor rates fs xs (came_to z behind last (arrival_of a) j) new × AreFound a.time found j (came_to z behind last (arrival_of a) j)
+      → StandsFor rates fs xs (came_to z behind last (arrival_of a) j) new × AreFound a.time found j (came_to z behind last (arrival_of
+      a) j)
   stands-fault fault found nothing sure e held nm nu nn within =
       let whole = came-fault z behind last (arrival_of a) j fault sure e in
-      subst (λ (k : Judged). StandsFor rates fs xs k new × AreFound a.time found j k) (sym whole)
-      (
+      subst (λ (k : Judged). StandsFor rates fs xs k new × AreFound a.time found j k) (sym whole) (
         record {
           states = ap (λ (l : List Held). map (state_of (map gone_of fs)) l) held ∙ s.states;
           within = within;
@@ -155,6 +166,10 @@ module _ (rates : Rates) (fs : List Frame) (xs : List Arrived) (z : Terms) (behi
               ∙ pushed-marks old.marks.items (record { reason = Some fault; is_named = false }) refl
               ∙ ap (λ (l : List Marked). l ++ (marked_of a (record { reason = Some fault; is_named = false }) ∷ [])) s.marks;
           uncertain = nu ∙ s.uncertain;
+          counted = (let c = s.counted in
+              let n = ap (λ (l : List Mark). length l) nm ∙ length_push old.marks.items (record { reason = Some fault; is_named = false
+              }) in
+              omega (arith, c, n, nu));
           unsure = nn ∙ s.unsure;
         },
         record {

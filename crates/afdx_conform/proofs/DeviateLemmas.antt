@@ -152,7 +152,8 @@ module _ (z : Terms) (x : Arrival) where
       ++ (state_with (drop h.passed ys) (charged (link z) z.by (charge z x) (levels_then z h.levels last x)) h.waiting ∷ [])
   accepted-more last ys [] h = refl
   accepted-more last ys (k ∷ held) h =
-      ap (λ (l : List State). state_with (drop k.passed ys) (charged (link z) z.by (charge z x) (levels_then z k.levels last x)) k.waiting ∷ l)
+      ap (λ (l : List State). state_with (drop k.passed ys) (charged (link z) z.by (charge z x) (levels_then z k.levels last x))
+      k.waiting ∷ l)
       (accepted-more last ys held h)
 
   pub accepted-rest : (rest : List Gone) (states : List State)

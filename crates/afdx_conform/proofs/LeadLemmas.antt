@@ -72,7 +72,8 @@ module _ (ys : List Gone) where
   front-drop (k ∷ held) f none within greatest (inr (h, c, e)) is =
       let states = map (state_of ys) (k ∷ held) in
       let o = front-of held k f greatest in
-      let shortest = All-contains (λ (m : Held). length (front_rest (map (state_of ys) (k ∷ held))) ≤ length (drop m.passed ys)) (k ∷ held) h
+      let shortest = All-contains (λ (m : Held). length (front_rest (map (state_of ys) (k ∷ held))) ≤ length (drop m.passed ys)) (k ∷
+      held) h
       (All-from_recursion (λ (m : Held). length (front_rest (map (state_of ys) (k ∷ held))) ≤ length (drop m.passed ys)) (k ∷ held)
       (rests-of (length (front_rest (map (state_of ys) (k ∷ held)))) (k ∷ held) (least (map (state_of ys) (k ∷ held))))) c in
       let inside = All-contains (λ (m : Held). m.passed ≤ length ys) (k ∷ held) h within c in
@@ -124,7 +125,8 @@ module _ (ys : List Gone) where
       (λ h w. same-test h.passed f (length (front_rest (map (state_of ys) held))) w hf
       (ap (λ (l : List Gone). length l) (sym front) ∙ length-drop f ys)) held within
 
-  pub past-is : (to : ℕ) (held : List Held) → map (state_of ys) (map (λ h. past to h) held) ≡ with_rest (drop to ys) (map (state_of ys) held)
+  pub past-is : (to : ℕ) (held : List Held) → map (state_of ys) (map (λ h. past to h) held) ≡ with_rest (drop to ys) (map (state_of ys)
+      held)
   past-is to [] = refl
   past-is to (h ∷ held) = ap (λ (l : List State). state_with (drop to ys) h.levels h.waiting ∷ l) (past-is to held)
 

@@ -27,3 +27,6 @@ pub mod ClosingLemmas
 pub mod ArrivalLemmas
 pub mod SkipLemmas
 pub mod ArrivalSteps
+pub mod FirstLemmas
+pub mod CourseLemmas
+pub mod StreamLemmas

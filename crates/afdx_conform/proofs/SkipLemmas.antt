@@ -29,11 +29,18 @@ pub stands-after : (rates : Rates) (fs : List Frame) (arrivals : List Arrived) (
     → k ≡ with_states (map (state_of (map gone_of fs)) new.held.items) (told t found (marked_all arrivals new.marks.items) j)
     → new.uncertain ≡ old.uncertain → new.is_unsure ≡ old.is_unsure
     → All (λ h. IsWithin rates (length fs) (length new.marks.items) h) new.held.items
+    → length new.marks.items ≡ length old.marks.items
     → StandsFor rates fs arrivals k new × AreFound t found j k
-stands-after rates fs arrivals j k old new found t s e u n within =
-    subst (λ (v : Judged). StandsFor rates fs arrivals v new × AreFound t found j v) (sym e)
-    (
-      record { states = refl; within = within; marks = refl; uncertain = u ∙ s.uncertain; unsure = n ∙ s.unsure },
+stands-after rates fs arrivals j k old new found t s e u n within len =
+    subst (λ (v : Judged). StandsFor rates fs arrivals v new × AreFound t found j v) (sym e) (
+      record {
+        states = refl;
+        within = within;
+        marks = refl;
+        uncertain = u ∙ s.uncertain;
+        counted = (let c = s.counted in omega (arith, c, u, len));
+        unsure = n ∙ s.unsure;
+      },
       record { findings = refl; frames = refl },
     )
 

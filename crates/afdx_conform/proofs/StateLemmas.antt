@@ -13,7 +13,6 @@ use Rattle.afdx_conform.specs.Explanations.{Answered, answered, accepted_in, arr
 use Rattle.afdx_conform.specs.Laws.{IsSomeState, StatesAreExplanations}
 use Rattle.afdx_conform.specs.States.{Event, Came, Closing, State, state_with, arrivals_came, are_behind, first_states, accepted_states, states_at, states_after, IsBehindClosings, AreInOrder}
 use Rattle.afdx_conform.proofs.AmongLemmas.{Among, among-some, some-among, among-left, among-right, among-cases, led-among, led-from, kept-among, kept-from}
-
 use Rattle.afdx_conform.proofs.ReachedLemmas.{first-among, reached, turn-cons}
 
 -- ---- from what explains a stream to a state

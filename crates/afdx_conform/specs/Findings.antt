@@ -260,7 +260,8 @@ module _ (z : Terms) where
   abbrev pub asked : Arrival → List Gone → List State → List State
   asked x rest states = led_by (λ s. states_at z x s.levels s) (with_rest rest (lead states))
 
-  abbrev pub deviates_by : Deviation → Arrival → List State → Gone → List Gone → Judged → Judged → Judged
+  abbrev pub deviates_by : Deviation → Arrival → List State → Gone → List Gone → Judged → Judged
+      → Judged
   deviates_by deviation.Stopped x states y rest j again = stopped x states j
   deviates_by (deviation.Took finding) x states y rest j again = took x finding states rest j
   deviates_by deviation.Other x states y rest j again =
@@ -268,7 +269,7 @@ module _ (z : Terms) where
       then with_states (asked x rest states) (unexplained x.time y j)
       else again
 
-  -- no state is left: what the switch did. `states` are those when the arrival comes, and `rest` are
+  -- no state is left: what the switch did. `states` are those when the arrival comes, and `rest`
   -- the frames that are left in the front.
   unfoldable pub deviates : List Arrival → Arrival → List State → List Gone → Judged → Judged
   deviates behind x states [] j = stopped x states j

@@ -13,10 +13,14 @@ use Rattle.afdx_conform.specs.declared.finding.Mark.{Mark}
 abbrev pub arrival_of : Arrived → Arrival
 arrival_of a = arrival_with a.number a.time a.side a.port a.bytes.items
 
--- what it says of its shape and its charge is so, by the rule of a stream
+-- it is charged so, by the rule of a stream
+pub record IsCharged (z : Terms) (a : Arrived) : Type 0 where
+  pub charge : a.charge ≡ charge z (arrival_of a)
+
+-- what it says of its shape is so, and of its charge if its shape is right
 pub record IsJudged (z : Terms) (a : Arrived) : Type 0 where
   pub fault : a.fault ≡ fault_of (Some z.rule) a.port a.bytes.items
-  pub charge : a.charge ≡ charge z (arrival_of a)
+  pub charged : a.fault ≡ None → IsCharged z a
 
 -- an arrival with its mark
 abbrev pub marked_of : Arrived → Mark → Marked

@@ -11,7 +11,8 @@ pub record IsNoneNamed (z : Terms) (y : Gone) (l : List Marked) : Type 0 where
   pub same : once_named z y l ≡ l
 
 -- the one at this place is, for this reason
-pub record IsNamedAt (z : Terms) (y : Gone) (l : List Marked) (place : ℕ) (reason : Reason) : Type 0 where
+pub record IsNamedAt (z : Terms) (y : Gone) (l : List Marked) (place : ℕ)
+    (reason : Reason) : Type 0 where
   pub at : Marked
   pub behind : List Marked
   pub here : drop place l ≡ at ∷ behind

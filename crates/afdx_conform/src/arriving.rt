@@ -2,7 +2,9 @@
 
 ghost use Rattle.std.specs.Prelude.{◌≡◌, ◌≤◌, ◌<◌, ◌-◌, ◌+◌, ◌++◌, ◌∷◌, [], ℕ, List, false, nat_lt};
 ghost use Rattle.std.specs.Prelude.{if◌then◌else◌, length, map, drop, get_or, All, IfOk, OnOk, OnErr};
+ghost use Rattle.afdx_frame.specs.Regulation.{Regulation};
 ghost use Rattle.afdx_conform.specs.Accounts.{AreLevels, AreRates};
+ghost use Rattle.afdx_conform.specs.Leeway.{Leeway as By};
 ghost use Rattle.afdx_conform.specs.Bounds.{AreBounds};
 ghost use Rattle.afdx_conform.specs.Explanations.{link, levels_then};
 ghost use Rattle.afdx_conform.specs.Findings.{Judged, came_to, thinned_onto, most_states, rate_mark};
@@ -10,7 +12,7 @@ ghost use Rattle.afdx_conform.specs.Findings.{is_uncertain as uncertain_of};
 ghost use Rattle.afdx_conform.specs.HeldStates.{IsWithin, state_of};
 ghost use Rattle.afdx_conform.specs.Judging.{StandsFor, AreFound, IsUnchanged};
 ghost use Rattle.afdx_conform.specs.Limits.{gone_of};
-ghost use Rattle.afdx_conform.specs.Marks.{IsJudged, arrival_of};
+ghost use Rattle.afdx_conform.specs.Marks.{IsCharged, IsJudged, arrival_of};
 ghost use Rattle.afdx_conform.specs.Ranges.{most_held};
 ghost use Rattle.afdx_conform.specs.States.{led_by, states_at};
 ghost use Rattle.afdx_conform.specs.Streams.{Gone, Terms, is_open as is_open_by};
@@ -43,7 +45,7 @@ struct Tested {
 fn refusal(rates: &Rates, held: &[Held], arrived: &Arrived, ns: u64) -> Option<Reason>
     requires { All (λ h. AreLevels rates.now h.levels) held.now }
     ensures { (z : Terms) (ys : List Gone) (last : ℕ) →
-        AreRates (link z) z.by rates.now → IsJudged z arrived.now →
+        AreRates (link z) z.by rates.now → IsCharged z arrived.now →
         ns ≡ arrived.now.time - last → result
         ≡ rate_mark z last (arrival_of arrived.now) (map (state_of ys) held.now) }
 {
@@ -58,11 +60,11 @@ fn refusal(rates: &Rates, held: &[Held], arrived: &Arrived, ns: u64) -> Option<R
 fn test_arrival(rates: &Rates, held: &[Held], arrived: &Arrived, ns: u64) -> Tested
     requires { All (λ h. AreLevels rates.now h.levels) held.now }
     ensures reason { (z : Terms) (ys : List Gone) (last : ℕ) →
-        AreRates (link z) z.by rates.now → IsJudged z arrived.now →
+        AreRates (link z) z.by rates.now → IsCharged z arrived.now →
         ns ≡ arrived.now.time - last → result.reason
         ≡ rate_mark z last (arrival_of arrived.now) (map (state_of ys) held.now) }
     ensures uncertain { (z : Terms) (ys : List Gone) (last : ℕ) →
-        AreRates (link z) z.by rates.now → IsJudged z arrived.now →
+        AreRates (link z) z.by rates.now → IsCharged z arrived.now →
         ns ≡ arrived.now.time - last → result.is_uncertain
         ≡ uncertain_of z last (arrival_of arrived.now) (map (state_of ys) held.now) }
 {
@@ -154,11 +156,21 @@ fn go_wrong(
         × AreFound arrived.now.time found.items j
         (came_to z (map arrival_of (drop (length judging.old.marks.items + 1) arrivals.now)) last
         (arrival_of arrived.now) j)) }
+    ensures marks { OnOk result
+        (length judging.new.marks.items ≡ length judging.old.marks.items + 1) }
+    ensures counted { OnOk result (judging.new.uncertain ≤ judging.old.uncertain + 1) }
+    ensures within { (l : Regulation) (by : By) (count : ℕ) → AreRates l by bounds.now.rates →
+        All (λ h. IsWithin bounds.now.rates (length frames.now) count h)
+        judging.old.held.items →
+        OnOk result (All (λ h. IsWithin bounds.now.rates (length frames.now) (count + 1) h)
+        judging.new.held.items) }
     ensures refused { OnErr result (IsUnchanged judging.old judging.new) }
 {
     let mut marks = Vec::from_slice(alloc, judging.marks.as_slice())?;
     let held = Vec::from_slice(alloc, judging.held.as_slice())?;
-    let outcome = deviate(alloc, bounds, held, frames, arrivals, &mut marks, arrived, moment)?;
+    let outcome = deviate(
+        alloc, bounds, held, frames, arrivals, &mut marks, arrived, moment,
+    )?;
     let few = thinned(alloc, outcome.held.as_slice())?;
     marks.push(Mark {
         reason: tested.reason,
@@ -198,6 +210,14 @@ pub fn judge_arrival(
         × AreFound arrived.now.time found.items j
         (came_to z (map arrival_of (drop (length judging.old.marks.items + 1) arrivals.now)) last
         (arrival_of arrived.now) j)) }
+    ensures marks { OnOk result
+        (length judging.new.marks.items ≡ length judging.old.marks.items + 1) }
+    ensures counted { OnOk result (judging.new.uncertain ≤ judging.old.uncertain + 1) }
+    ensures within { (l : Regulation) (by : By) (count : ℕ) → AreRates l by bounds.now.rates →
+        All (λ h. IsWithin bounds.now.rates (length frames.now) count h)
+        judging.old.held.items →
+        OnOk result (All (λ h. IsWithin bounds.now.rates (length frames.now) (count + 1) h)
+        judging.new.held.items) }
     ensures refused { OnErr result (IsUnchanged judging.old judging.new) }
 {
     match arrived.fault {
@@ -218,5 +238,7 @@ pub fn judge_arrival(
         go_on(judging, alloc, ahead, tested)?;
         return Ok(Vec::new(alloc));
     }
-    go_wrong(judging, alloc, bounds, arrivals, frames, arrived, moment, tested)
+    go_wrong(
+        judging, alloc, bounds, arrivals, frames, arrived, moment, tested,
+    )
 }

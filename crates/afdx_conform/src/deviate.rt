@@ -10,7 +10,7 @@ ghost use Rattle.afdx_conform.specs.Findings.{Judged, with_states, aged, as_acce
 ghost use Rattle.afdx_conform.specs.HeldStates.{IsWithin, state_of};
 ghost use Rattle.afdx_conform.specs.Leeway.{Leeway as By};
 ghost use Rattle.afdx_conform.specs.Limits.{gone_of};
-ghost use Rattle.afdx_conform.specs.Marks.{IsJudged, arrival_of, marked_all, told};
+ghost use Rattle.afdx_conform.specs.Marks.{IsCharged, arrival_of, marked_all, told};
 ghost use Rattle.afdx_conform.specs.Ranges.{most_held};
 ghost use Rattle.afdx_conform.specs.States.{led_by, states_at};
 ghost use Rattle.afdx_conform.specs.Streams.{Gone, Terms, is_open as is_open_by};
@@ -55,7 +55,7 @@ fn accept_with(
 ) -> Result<Outcome, AllocError>
     requires { All (λ h. AreLevels rates.now h.levels) held.now }
     ensures defined { (z : Terms) (ys : List Gone) (last : ℕ) →
-        AreRates (link z) z.by rates.now → IsJudged z arrived.now →
+        AreRates (link z) z.by rates.now → IsCharged z arrived.now →
         ns ≡ arrived.now.time - last → All (λ h. AreNear rates.now h.levels) held.now →
         HaveToPass z last (arrival_of arrived.now) held.now →
         IfOk result (λ out. map (state_of ys) out.held.items
@@ -89,7 +89,7 @@ pub(crate) fn deviate(
     requires within { (count : ℕ) × (count < most_held)
         × All (λ h. IsWithin bounds.now.rates (length frames.now) count h) held.items }
     ensures defined { (z : Terms) (last : ℕ) (j : Judged) →
-        AreBounds z bounds.now → IsJudged z arrived.now →
+        AreBounds z bounds.now → IsCharged z arrived.now →
         moment.ns ≡ arrived.now.time - last →
         moment.is_open ≡ is_open_by z (arrival_of arrived.now) →
         j.arrivals ≡ marked_all arrivals.now marks.old.items →
@@ -120,13 +120,29 @@ pub(crate) fn deviate(
             Deviation::Stopped => {
                 let stopped = Finding::Stopped(arrived.number);
                 let states = held.as_slice();
-                return accept_with(alloc, &bounds.rates, states, found, stopped, arrived, moment.ns);
+                return accept_with(
+                    alloc,
+                    &bounds.rates,
+                    states,
+                    found,
+                    stopped,
+                    arrived,
+                    moment.ns,
+                );
             }
             Deviation::Took(finding) => {
                 let leading = held.as_slice();
                 let ahead = lead_past(alloc, leading, front, front + 1)?;
                 let taken = ahead.as_slice();
-                return accept_with(alloc, &bounds.rates, taken, found, finding, arrived, moment.ns);
+                return accept_with(
+                    alloc,
+                    &bounds.rates,
+                    taken,
+                    found,
+                    finding,
+                    arrived,
+                    moment.ns,
+                );
             }
             Deviation::Other => {}
         }
@@ -144,5 +160,13 @@ pub(crate) fn deviate(
     }
     let stopped = Finding::Stopped(arrived.number);
     let at_last = held.as_slice();
-    accept_with(alloc, &bounds.rates, at_last, found, stopped, arrived, moment.ns)
+    accept_with(
+        alloc,
+        &bounds.rates,
+        at_last,
+        found,
+        stopped,
+        arrived,
+        moment.ns,
+    )
 }

@@ -87,7 +87,10 @@ fn late_by(limits: &Limits, arrived: &Arrived, frame: &Frame) -> u64
     ensures { (z : Terms) → AreLimits z limits.now → result
         ≡ frame.now.time - arrived.now.time - latency z }
 {
-    frame.time.saturating_sub(arrived.time).saturating_sub(limits.latency)
+    frame
+        .time
+        .saturating_sub(arrived.time)
+        .saturating_sub(limits.latency)
 }
 
 /// What the switch did with an arrival, by the next frame; `behind` came after it.

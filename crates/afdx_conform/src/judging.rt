@@ -1,10 +1,10 @@
 //! How far a stream is judged: what a closing changes.
 
-ghost use Rattle.std.specs.Prelude.{◌≡◌, ◌≤◌, ◌+◌, ℕ, false, length, map, nat_le, IfOk, OnErr};
+ghost use Rattle.std.specs.Prelude.{◌≡◌, ◌≤◌, ◌+◌, ℕ, false, length, map, nat_le, All, IfOk, OnErr};
 ghost use Rattle.std.specs.List.{list_any};
 ghost use Rattle.afdx_conform.specs.Bounds.{AreBounds};
 ghost use Rattle.afdx_conform.specs.Findings.{Judged, closed_to};
-ghost use Rattle.afdx_conform.specs.HeldStates.{AreClosed};
+ghost use Rattle.afdx_conform.specs.HeldStates.{AreClosed, IsWithin};
 ghost use Rattle.afdx_conform.specs.Judging.{StandsFor, AreFound};
 ghost use Rattle.afdx_conform.specs.Leeway.{both_slacks};
 ghost use Rattle.afdx_conform.specs.Limits.{gone_of};
@@ -56,6 +56,13 @@ fn skip(
         IfOk result (λ found.
         StandsFor bounds.now.rates frames.now arrivals.now (closed_to z time j) judging.new
         × AreFound (time + both_slacks z.by) found.items j (closed_to z time j)) }
+    ensures marks { length judging.new.marks.items ≡ length judging.old.marks.items }
+    ensures uncertain { judging.new.uncertain ≡ judging.old.uncertain }
+    ensures within { (count : ℕ) →
+        All (λ h. IsWithin bounds.now.rates (length frames.now) count h)
+        judging.old.held.items →
+        All (λ h. IsWithin bounds.now.rates (length frames.now) count h)
+        judging.new.held.items }
     ensures refused { OnErr result (judging.new ≡ judging.old) }
 {
     let held = judging.held.as_slice();
@@ -88,6 +95,13 @@ pub fn judge_closing(
         IfOk result (λ found.
         StandsFor bounds.now.rates frames.now arrivals.now (closed_to z time j) judging.new
         × AreFound (time + both_slacks z.by) found.items j (closed_to z time j)) }
+    ensures marks { length judging.new.marks.items ≡ length judging.old.marks.items }
+    ensures uncertain { judging.new.uncertain ≡ judging.old.uncertain }
+    ensures within { (count : ℕ) →
+        All (λ h. IsWithin bounds.now.rates (length frames.now) count h)
+        judging.old.held.items →
+        All (λ h. IsWithin bounds.now.rates (length frames.now) count h)
+        judging.new.held.items }
     ensures refused { OnErr result (judging.new ≡ judging.old) }
 {
     if is_one_passed(judging.held.as_slice(), closed) {

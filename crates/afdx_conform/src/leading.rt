@@ -10,7 +10,7 @@ ghost use Rattle.afdx_conform.specs.Findings.{aged, as_accepted};
 ghost use Rattle.afdx_conform.specs.HeldStates.{IsSmall, IsWithin, state_of};
 ghost use Rattle.afdx_conform.specs.Leeway.{Leeway as By};
 ghost use Rattle.afdx_conform.specs.Limits.{gone_of};
-ghost use Rattle.afdx_conform.specs.Marks.{IsJudged, arrival_of};
+ghost use Rattle.afdx_conform.specs.Marks.{IsCharged, arrival_of};
 ghost use Rattle.afdx_conform.specs.Ranges.{most_charge};
 ghost use Rattle.afdx_conform.specs.States.{led_by, states_at};
 ghost use Rattle.afdx_conform.specs.Streams.{Gone, Terms, is_open as is_open_by};
@@ -42,7 +42,7 @@ pub(crate) fn led_from(
 ) -> Result<Vec<Held>, AllocError>
     requires { All (λ h. IsSmall bounds.now.rates h) held.now }
     ensures defined { (z : Terms) (last : ℕ) →
-        AreBounds z bounds.now → IsJudged z arrived.now → moment.ns ≡ arrived.now.time - last →
+        AreBounds z bounds.now → IsCharged z arrived.now → moment.ns ≡ arrived.now.time - last →
         moment.is_open ≡ is_open_by z (arrival_of arrived.now) →
         IfOk result (λ out. map (state_of (map gone_of frames.now)) out.items ≡ led_by
         (λ s. states_at z (arrival_of arrived.now)
@@ -56,8 +56,22 @@ pub(crate) fn led_from(
 {
     let bytes = arrived.bytes.as_slice();
     let limits = &bounds.limits;
-    let cases = cases_of(alloc, limits, held, frames, arrived.time, bytes, moment.is_open)?;
-    lead_all(alloc, &bounds.rates, cases.as_slice(), moment.ns, arrived.charge)
+    let cases = cases_of(
+        alloc,
+        limits,
+        held,
+        frames,
+        arrived.time,
+        bytes,
+        moment.is_open,
+    )?;
+    lead_all(
+        alloc,
+        &bounds.rates,
+        cases.as_slice(),
+        moment.ns,
+        arrived.charge,
+    )
 }
 
 /// The levels once a frame of this charge was accepted; the same where it can't have been.
@@ -87,7 +101,7 @@ pub(crate) fn accept_all(
 ) -> Result<Vec<Held>, AllocError>
     requires { All (λ h. AreLevels rates.now h.levels) held.now }
     ensures defined { (z : Terms) (ys : List Gone) (last : ℕ) →
-        AreRates (link z) z.by rates.now → IsJudged z arrived.now →
+        AreRates (link z) z.by rates.now → IsCharged z arrived.now →
         ns ≡ arrived.now.time - last → All (λ h. AreNear rates.now h.levels) held.now →
         HaveToPass z last (arrival_of arrived.now) held.now →
         IfOk result (λ out. map (state_of ys) out.items

@@ -89,7 +89,13 @@ impl Held {
 
     /// The state once an arrival of this charge, in bytes, is accepted, if it may have room.
     /// `levels` are those when it comes.
-    fn if_accepted(self, rates: &Rates, levels: Levels, charge: u64, next: NextFrame) -> Option<Held>
+    fn if_accepted(
+        self,
+        rates: &Rates,
+        levels: Levels,
+        charge: u64,
+        next: NextFrame,
+    ) -> Option<Held>
         requires passed { self.passed < most_held }
         requires waiting { self.waiting < most_held }
         requires cost { charge ≤ most_charge }

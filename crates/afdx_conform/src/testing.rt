@@ -5,7 +5,7 @@ ghost use Rattle.std.specs.List.{list_any};
 ghost use Rattle.afdx_conform.specs.Accounts.{AreRates, AreLevels};
 ghost use Rattle.afdx_conform.specs.Explanations.{link};
 ghost use Rattle.afdx_conform.specs.HeldStates.{state_of};
-ghost use Rattle.afdx_conform.specs.Marks.{IsJudged, arrival_of};
+ghost use Rattle.afdx_conform.specs.Marks.{IsCharged, arrival_of};
 ghost use Rattle.afdx_conform.specs.Streams.{Gone, Terms};
 ghost use Rattle.afdx_conform.specs.Testing.{may_go, goes_either_way};
 
@@ -17,7 +17,7 @@ use crate::states::Held;
 fn may_go_from(rates: &Rates, state: Held, arrived: &Arrived, ns: u64) -> bool
     requires { AreLevels rates.now state.levels }
     ensures { (z : Terms) (ys : List Gone) (last : ℕ) →
-        AreRates (link z) z.by rates.now → IsJudged z arrived.now →
+        AreRates (link z) z.by rates.now → IsCharged z arrived.now →
         ns ≡ arrived.now.time - last →
         result ≡ may_go z last (arrival_of arrived.now) (state_of ys state) }
 {
@@ -29,7 +29,7 @@ fn may_go_from(rates: &Rates, state: Held, arrived: &Arrived, ns: u64) -> bool
 fn goes_both_ways(rates: &Rates, state: Held, arrived: &Arrived, ns: u64) -> bool
     requires { AreLevels rates.now state.levels }
     ensures { (z : Terms) (ys : List Gone) (last : ℕ) →
-        AreRates (link z) z.by rates.now → IsJudged z arrived.now →
+        AreRates (link z) z.by rates.now → IsCharged z arrived.now →
         ns ≡ arrived.now.time - last →
         result ≡ goes_either_way z last (arrival_of arrived.now) (state_of ys state) }
 {
@@ -45,7 +45,7 @@ fn goes_both_ways(rates: &Rates, state: Held, arrived: &Arrived, ns: u64) -> boo
 pub(crate) fn may_go_once(rates: &Rates, held: &[Held], arrived: &Arrived, ns: u64) -> bool
     requires { All (λ h. AreLevels rates.now h.levels) held.now }
     ensures { (z : Terms) (ys : List Gone) (last : ℕ) →
-        AreRates (link z) z.by rates.now → IsJudged z arrived.now →
+        AreRates (link z) z.by rates.now → IsCharged z arrived.now →
         ns ≡ arrived.now.time - last → result
         ≡ list_any (λ s. may_go z last (arrival_of arrived.now) s) (map (state_of ys) held.now) }
 {
@@ -61,7 +61,7 @@ pub(crate) fn may_go_once(rates: &Rates, held: &[Held], arrived: &Arrived, ns: u
 pub(crate) fn is_uncertain(rates: &Rates, held: &[Held], arrived: &Arrived, ns: u64) -> bool
     requires { All (λ h. AreLevels rates.now h.levels) held.now }
     ensures { (z : Terms) (ys : List Gone) (last : ℕ) →
-        AreRates (link z) z.by rates.now → IsJudged z arrived.now →
+        AreRates (link z) z.by rates.now → IsCharged z arrived.now →
         ns ≡ arrived.now.time - last → result
         ≡ list_any (λ s. goes_either_way z last (arrival_of arrived.now) s)
         (map (state_of ys) held.now) }

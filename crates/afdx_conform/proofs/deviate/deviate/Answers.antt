@@ -176,7 +176,8 @@ returns-in-Took-clause-defined c z last j b k ns opens marks none =
     if-ok-two c.accept_with-in-Took.result (λ out s f.
     took-whole z last _ (arrival_of c.args.arrived.now) (map gone_of c.args.frames.now) c.args.held.items c.loop-front.held.items
     c.loop-front.front c.loop-front.found.items (marked_all c.args.arrivals.now c.loop-front.marks.items) j at
-    (gone_of c.index-frames-front.result) (drop (c.loop-front.front + 1) (map gone_of c.args.frames.now)) c.in_ok-ahead-in-Took.ahead.items
+    (gone_of c.index-frames-front.result) (drop (c.loop-front.front + 1) (map gone_of c.args.frames.now))
+    c.in_ok-ahead-in-Took.ahead.items
     out.held.items c.in-Took.finding out.found.items next (sym (c.deviation.ensures z b.limits) ∙ c.in-Took.is) moved f
     (s ∙ ap (λ (l : List Held). as_accepted z (arrival_of c.args.arrived.now) (aged z last (arrival_of c.args.arrived.now)
     (map (state_of (map gone_of c.args.frames.now)) l))) c.as_slice-taken.ensures.value)
@@ -187,7 +188,8 @@ returns-in-Took-clause-defined c z last j b k ns opens marks none =
     (All-same (λ (h : Held). AreNear c.args.bounds.now.rates h.levels) _ _ c.as_slice-taken.ensures.value
     (near-all c.args.bounds.now.rates (length c.args.frames.now) c.loop-front.invariant.bounds.0 c.in_ok-ahead-in-Took.ahead.items
     (past-within c.args.bounds.now.rates (length c.args.frames.now) c.loop-front.invariant.bounds.0 c.loop-front.front
-    (c.loop-front.front + 1) c.loop-front.held.items c.in_ok-ahead-in-Took.ahead.items (let lt = c.loop-front-test.true in omega (arith, lt))
+    (c.loop-front.front + 1) c.loop-front.held.items c.in_ok-ahead-in-Took.ahead.items (let lt = c.loop-front-test.true in omega
+    (arith, lt))
     lead_is c.loop-front.invariant.bounds.2)))
     (All-same (λ (h : Held). IsTrue (has_to_pass (link z) z.by (charge z (arrival_of c.args.arrived.now))
     (levels_then z h.levels last (arrival_of c.args.arrived.now)))) _ _ c.as_slice-taken.ensures.value
@@ -202,7 +204,8 @@ returns-in-Took-clause-within c link by count r all =
     (c.accept_with-in-Took.ensures.within link by (length c.args.frames.now) count r
     (All-same (λ (h : Held). IsWithin c.args.bounds.now.rates (length c.args.frames.now) count h) _ _ c.as_slice-taken.ensures.value
     (past-within c.args.bounds.now.rates (length c.args.frames.now) count c.loop-front.front
-    (c.loop-front.front + 1) c.loop-front.held.items c.in_ok-ahead-in-Took.ahead.items (let lt = c.loop-front-test.true in omega (arith, lt))
+    (c.loop-front.front + 1) c.loop-front.held.items c.in_ok-ahead-in-Took.ahead.items (let lt = c.loop-front-test.true in omega
+    (arith, lt))
     (c.in_ok-ahead-in-Took.ensures ∙ ap (λ (l : List Held). map (λ h. past (c.loop-front.front + 1) h)
     (filter (λ h. nat_eq h.passed c.loop-front.front) l)) c.as_slice-leading.ensures.value)
     (c.loop-front.invariant.within link by count r all))))
@@ -243,7 +246,8 @@ accept_with-requires-in-Took c =
     All-same (λ (h : Held). AreLevels c.args.bounds.now.rates h.levels) _ _ c.as_slice-taken.ensures.value
     (levels-all c.args.bounds.now.rates (length c.args.frames.now) c.loop-front.invariant.bounds.0 c.in_ok-ahead-in-Took.ahead.items
     (past-within c.args.bounds.now.rates (length c.args.frames.now) c.loop-front.invariant.bounds.0 c.loop-front.front
-    (c.loop-front.front + 1) c.loop-front.held.items c.in_ok-ahead-in-Took.ahead.items (let lt = c.loop-front-test.true in omega (arith, lt))
+    (c.loop-front.front + 1) c.loop-front.held.items c.in_ok-ahead-in-Took.ahead.items (let lt = c.loop-front-test.true in omega
+    (arith, lt))
     (c.in_ok-ahead-in-Took.ensures ∙ ap (λ (l : List Held). map (λ h. past (c.loop-front.front + 1) h)
     (filter (λ h. nat_eq h.passed c.loop-front.front) l)) c.as_slice-leading.ensures.value)
     c.loop-front.invariant.bounds.2))

@@ -8,7 +8,7 @@ use Rattle.afdx_conform.specs.Findings.{Judged}
 use Rattle.afdx_conform.specs.HeldStates.{IsWithin, state_of}
 use Rattle.afdx_conform.specs.Leeway.{Leeway}
 use Rattle.afdx_conform.specs.Limits.{gone_of}
-use Rattle.afdx_conform.specs.Marks.{IsJudged, arrival_of, marked_all, told}
+use Rattle.afdx_conform.specs.Marks.{IsCharged, arrival_of, marked_all, told}
 use Rattle.afdx_conform.specs.Ranges.{most_held}
 use Rattle.afdx_conform.specs.States.{led_by, states_at}
 use Rattle.afdx_conform.specs.Streams.{Terms, is_open}
@@ -23,7 +23,7 @@ invariant-loop-front l = record {
   within : (link : Regulation) (by : Leeway) (count : ℕ) → AreRates link by l.bounds.rates
       → All (λ h. IsWithin l.bounds.rates (length l.frames) count h) l.fn.held.items
       → All (λ h. IsWithin l.bounds.rates (length l.frames) count h) l.held.items;
-  defined : (z : Terms) (last : ℕ) (j : Judged) → AreBounds z l.bounds → IsJudged z l.arrived
+  defined : (z : Terms) (last : ℕ) (j : Judged) → AreBounds z l.bounds → IsCharged z l.arrived
       → l.moment.ns ≡ l.arrived.time - last → l.moment.is_open ≡ is_open z (arrival_of l.arrived)
       → j.arrivals ≡ marked_all l.arrivals l.fn.marks.items
       → led_by (λ s. states_at z (arrival_of l.arrived) (levels_then z s.levels last (arrival_of l.arrived)) s)

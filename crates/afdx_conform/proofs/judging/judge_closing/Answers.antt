@@ -25,9 +25,23 @@ returns-then-is_one_passed-clause-defined c z time j b closed sure s =
     stands-after c.args.bounds.now.rates c.args.frames.now c.args.arrivals.now j (closed_to z time j) c.args.judging.now _
     c.new.result.items (time + both_slacks z.by) s whole refl refl
     (c.close.ensures.within c.args.bounds.now.rates (length c.args.frames.now) (length c.args.judging.now.marks.items) s.within)
+    refl
 
 pub returns-clause-defined : goal.returns-clause-defined
 returns-clause-defined c z time j b closed sure s =
     c.skip.ensures.defined z time j b closed
     (ap (λ (l : List Held). list_any (λ h. nat_le c.args.closed h.passed) l) (sym c.as_slice.ensures.value)
     ∙ sym c.is_one_passed.ensures ∙ c.if-is_one_passed.false) sure s
+
+pub returns-then-is_one_passed-clause-marks : goal.returns-then-is_one_passed-clause-marks
+returns-then-is_one_passed-clause-marks c = refl
+
+pub returns-clause-marks : goal.returns-clause-marks
+returns-clause-marks c = c.skip.ensures.marks
+
+pub returns-then-is_one_passed-clause-within : goal.returns-then-is_one_passed-clause-within
+returns-then-is_one_passed-clause-within c count all =
+    c.close.ensures.within c.args.bounds.now.rates (length c.args.frames.now) count all
+
+pub returns-clause-within : goal.returns-clause-within
+returns-clause-within c count all = c.skip.ensures.within count all

@@ -39,3 +39,15 @@ returns-clause-defined c z time j b closed none sure s =
     (sym (c.in_ok-found.ensures.length ∙ ap (λ (l : List Mark). length l) items))
     (past-within c.args.bounds.now.rates (length c.args.frames.now) (length c.args.judging.now.marks.items) c.min-front.result
     c.args.closed c.args.judging.now.held.items c.in_ok-lead.lead.items c.requires.closed lead_is s.within))
+    (c.in_ok-found.ensures.length ∙ ap (λ (l : List Mark). length l) items)
+
+pub returns-clause-within : goal.returns-clause-within
+returns-clause-within c count all =
+    past-within c.args.bounds.now.rates (length c.args.frames.now) count c.min-front.result
+    c.args.closed c.args.judging.now.held.items c.in_ok-lead.lead.items c.requires.closed
+    (c.in_ok-lead.ensures ∙ ap (λ (l : List Held). map (λ h. past c.args.closed h)
+    (filter (λ h. nat_eq h.passed c.min-front.result) l)) c.as_slice-2.ensures.value) all
+
+pub returns-clause-marks : goal.returns-clause-marks
+returns-clause-marks c =
+    c.in_ok-found.ensures.length ∙ ap (λ (l : List Mark). length l) (c.in_ok-marks.ensures.items ∙ c.as_slice.ensures.value)

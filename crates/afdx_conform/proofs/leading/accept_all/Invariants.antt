@@ -7,13 +7,13 @@ use Rattle.afdx_conform.specs.Explanations.{link}
 use Rattle.afdx_conform.specs.Findings.{aged, as_accepted}
 use Rattle.afdx_conform.specs.HeldStates.{IsWithin, state_of}
 use Rattle.afdx_conform.specs.Leeway.{Leeway}
-use Rattle.afdx_conform.specs.Marks.{IsJudged, arrival_of}
+use Rattle.afdx_conform.specs.Marks.{IsCharged, arrival_of}
 use Rattle.afdx_conform.specs.Streams.{Gone, Terms}
 use Rattle.afdx_conform.proofs.leading.accept_all.Given as goal
 
 abbrev pub invariant-loop-state : goal.invariant-loop-state
 invariant-loop-state l =
-    ((z : Terms) (ys : List Gone) (last : ℕ) → AreRates (link z) z.by l.rates → IsJudged z l.arrived →
+    ((z : Terms) (ys : List Gone) (last : ℕ) → AreRates (link z) z.by l.rates → IsCharged z l.arrived →
     l.ns ≡ l.arrived.time - last → All (λ h. AreNear l.rates h.levels) l.held →
     HaveToPass z last (arrival_of l.arrived) l.held →
     map (state_of ys) l.out.items

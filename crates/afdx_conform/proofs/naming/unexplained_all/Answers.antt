@@ -11,7 +11,8 @@ use Rattle.afdx_conform.proofs.naming.unexplained_all.Goals as goal
 
 pub loop-frame-init : goal.loop-frame-init
 loop-frame-init c = (
-  λ z time j a e. ap (λ (l : List Finding). told time l (marked_all c.args.arrivals.now c.args.marks.now.items) j) c.new-found.ensures.items
+  λ z time j a e. ap (λ (l : List Finding). told time l (marked_all c.args.arrivals.now c.args.marks.now.items) j)
+  c.new-found.ensures.items
       ∙ told-none time (marked_all c.args.arrivals.now c.args.marks.now.items) j e
       ∙ sym (all-none z time j),
   refl,
@@ -33,7 +34,8 @@ loop-frame-preserved c = (
       (gone_of c.frame-item.result) j)
       ∙ ap (λ (l : List Gone). unexplained_all z time l j)
       (ap (λ (f : Frame). map gone_of (take c.loop-frame.frame-index c.args.frames.now) ++ (gone_of f ∷ [])) is
-      ∙ sym (ap (λ (l : List Frame). map gone_of l) (take_more c.args.frames.now c.loop-frame.frame-index c.frame-item.result c.loop-frame-test.true)
+      ∙ sym (ap (λ (l : List Frame). map gone_of l) (take_more c.args.frames.now c.loop-frame.frame-index c.frame-item.result
+      c.loop-frame-test.true)
       ∙ map-append gone_of (take c.loop-frame.frame-index c.args.frames.now)
       (get_or c.args.frames.now c.loop-frame.frame-index c.frame-item.result ∷ []))),
   c.unexplained-finding.ensures.length ∙ c.loop-frame.invariant.1,
