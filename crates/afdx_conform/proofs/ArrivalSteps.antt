@@ -167,7 +167,9 @@ module _ (rates : Rates) (fs : List Frame) (xs : List Arrived) (z : Terms) (behi
               ∙ ap (λ (l : List Marked). l ++ (marked_of a (record { reason = Some fault; is_named = false }) ∷ [])) s.marks;
           uncertain = nu ∙ s.uncertain;
           counted = (let c = s.counted in
-              let n = ap (λ (l : List Mark). length l) nm ∙ length_push old.marks.items (record { reason = Some fault; is_named = false
+              let n = ap (λ (l : List Mark). length l) nm ∙ length_push old.marks.items (record {
+                reason = Some fault;
+                is_named = false;
               }) in
               omega (arith, c, n, nu));
           unsure = nn ∙ s.unsure;

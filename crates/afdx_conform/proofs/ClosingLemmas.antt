@@ -1,9 +1,9 @@
 -- What a closing changes of how far a stream is judged.
-use Rattle.std.proofs.Common.{◌≡◌, ℕ, zero, suc, ◌+◌, ◌-◌, ◌<◌, ◌≤◌, Bool, true, false, List, [], ◌∷◌, ◌++◌, ◌⊎◌, inl, inr, map, drop, take, length, refl, sym, ap, ◌∙◌, subst, arith}
-use Rattle.std.proofs.lemmas.Bool.{lt-ltb, le-ltb, leb-true, leb-false, and_parts}
-use Rattle.std.proofs.lemmas.List.{length-drop, drop-drop, length-map}
-use Rattle.std.proofs.lemmas.List.Elements.{All-contains, All-from_recursion, recursion_from_All}
-use Rattle.std.specs.Prelude.{if◌then◌else◌, nat_lt, nat_le, ◌&&◌, ◌||◌, All, Contains}
+use Rattle.std.proofs.Common.{◌≡◌, ℕ, zero, suc, ◌+◌, ◌-◌, ◌<◌, ◌≤◌, Bool, true, false, List, [], ◌∷◌, ◌⊎◌, inl, inr, map, drop, take, length, refl, sym, ap, ◌∙◌, subst, arith}
+use Rattle.std.proofs.lemmas.Bool.{le-ltb, leb-false}
+use Rattle.std.proofs.lemmas.List.{length-drop, drop-drop}
+use Rattle.std.proofs.lemmas.List.Elements.{All-contains, All-from_recursion}
+use Rattle.std.specs.Prelude.{if◌then◌else◌, nat_le, ◌&&◌, ◌||◌, Contains}
 use Rattle.std.specs.List.{AllByRecursion, list_any}
 use Rattle.afdx_conform.specs.Findings.{Judged, with_states, has_some, lead, with_rest, front_rest, skipped, unexplained, closed_by, closed_to}
 use Rattle.afdx_conform.specs.HeldStates.{AreClosed, state_of}
@@ -12,7 +12,7 @@ use Rattle.afdx_conform.specs.Naming.{unexplained_all}
 use Rattle.afdx_conform.specs.States.{State, kept, are_behind}
 use Rattle.afdx_conform.specs.Streams.{Gone, Terms}
 use Rattle.afdx_conform.specs.declared.states.Held.{Held}
-use Rattle.afdx_conform.proofs.HeldLemmas.{if-true, if-false}
+use Rattle.afdx_conform.proofs.HeldLemmas.{if-false}
 use Rattle.afdx_conform.proofs.KeepLemmas.{closed-is}
 
 -- ---- whether a state is left

@@ -1,12 +1,9 @@
 -- What the code went through, one event more.
-use Rattle.std.proofs.Common.{◌≡◌, ℕ, zero, suc, ◌+◌, ◌<◌, ◌≤◌, Bool, true, false, List, [], ◌∷◌, ◌++◌, map, reverse, take, drop, get_or, length, refl, sym, ap, ◌∙◌, subst, arith}
-use Rattle.std.proofs.lemmas.List.{append_assoc, map-append, reverse-append, drop_more, take_more, take-map, length-map, length-take-le, get_or-take, get_or_default, drop_all}
-use Rattle.std.proofs.lemmas.List.Elements.{recursion_from_All}
+use Rattle.std.proofs.Common.{◌≡◌, ℕ, ◌+◌, ◌<◌, ◌≤◌, Bool, true, false, List, [], ◌∷◌, ◌++◌, map, reverse, take, drop, get_or, length, refl, sym, ap, ◌∙◌, subst, arith}
+use Rattle.std.proofs.lemmas.List.{map-append, reverse-append, drop_more, take_more, get_or_default}
 use Rattle.std.specs.Prelude.{if◌then◌else◌, is_none, nat_lt, IsTrue, ◌↔◌, All, Some}
-use Rattle.std.specs.List.{AllByRecursion}
 use Rattle.std.proofs.lemmas.Bool.{ltb-true, ltb-false}
 use Rattle.afdx_police.specs.Arrival.{Arrival}
-use Rattle.afdx_police.specs.Rule.{Rule}
 use Rattle.afdx_police.specs.Shape.{fault_of}
 use Rattle.afdx_conform.specs.Courses.{AreArrivals, ComeBehind, Follows, IsSafe, findings_in, judged_from}
 use Rattle.afdx_conform.specs.Explanations.{last_time}
@@ -17,8 +14,8 @@ use Rattle.afdx_conform.specs.Judging.{StandsFor, AreFound}
 use Rattle.afdx_conform.specs.Leeway.{both_slacks}
 use Rattle.afdx_conform.specs.Limits.{gone_of}
 use Rattle.afdx_conform.specs.Marks.{IsJudged, arrival_of}
-use Rattle.afdx_conform.specs.States.{Event, Came, Closing, arrivals_came, are_behind, AreInOrder, IsBehindClosings}
-use Rattle.afdx_conform.specs.Streams.{Gone, Terms}
+use Rattle.afdx_conform.specs.States.{Event, Came, Closing, arrivals_came, AreInOrder, IsBehindClosings}
+use Rattle.afdx_conform.specs.Streams.{Terms}
 use Rattle.afdx_conform.specs.declared.arrived.Arrived.{Arrived}
 use Rattle.afdx_conform.specs.declared.bounds.Bounds.{Bounds}
 use Rattle.afdx_conform.specs.declared.course.Course.{Course}

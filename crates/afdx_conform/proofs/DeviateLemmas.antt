@@ -1,22 +1,22 @@
 -- Step by step through what is found where an arrival leads to no state.
-use Rattle.std.proofs.Common.{◌≡◌, ℕ, zero, suc, ◌+◌, ◌<◌, ◌≤◌, Bool, true, false, List, [], ◌∷◌, ◌++◌, map, drop, get_or, length, refl, sym, ap, ◌∙◌, subst, arith}
-use Rattle.std.proofs.lemmas.List.{drop_more, drop_all, length-map, length-drop}
+use Rattle.std.proofs.Common.{◌≡◌, ℕ, zero, suc, ◌+◌, ◌<◌, ◌≤◌, Bool, true, false, List, [], ◌∷◌, ◌++◌, map, drop, get_or, length, refl, sym, ap, ◌∙◌, arith}
+use Rattle.std.proofs.lemmas.List.{drop_all, length-map}
 use Rattle.std.proofs.lemmas.List.Elements.{All-from_recursion, recursion_from_All, All-weaker, All-same, All-map, All-filter}
 use Rattle.std.proofs.lemmas.Bool.{leb-true, eq-eqb}
 use Rattle.std.specs.Prelude.{if◌then◌else◌, nat_lt, nat_eq, IsTrue, All}
 use Rattle.std.specs.List.{AllByRecursion, filter}
 use Rattle.afdx_frame.specs.Regulation.{Regulation}
 use Rattle.afdx_police.specs.Arrival.{Arrival}
-use Rattle.afdx_conform.specs.Accounts.{AreRates, AreLevels, AreNear, HasRoom, HasToPass}
+use Rattle.afdx_conform.specs.Accounts.{AreRates, AreNear, HasRoom}
 use Rattle.afdx_conform.specs.Bounds.{HaveToPass}
 use Rattle.afdx_conform.specs.Explanations.{link, charge, levels_then}
 use Rattle.afdx_conform.specs.Leeway.{Leeway}
-use Rattle.afdx_conform.specs.Findings.{Judged, judged_with, with_states, front_rest, lead, with_rest, has_some, aged, as_accepted, asked, stopped, took, unexplained, deviation_of, deviates_by, deviates, Finding}
+use Rattle.afdx_conform.specs.Findings.{Judged, with_states, front_rest, lead, with_rest, has_some, aged, as_accepted, asked, stopped, took, unexplained, deviation_of, deviates_by, deviates, Finding}
 use Rattle.afdx_conform.specs.HeldStates.{state_of, IsWithin, IsSmall, past}
 use Rattle.afdx_conform.specs.Levels.{Levels, charged, may_pass, has_to_pass, refused, cost, full}
 use Rattle.afdx_conform.specs.Limits.{gone_of}
 use Rattle.afdx_conform.specs.Ranges.{most_held}
-use Rattle.afdx_conform.specs.States.{State, state_with, kept, led_by, states_at, accepted_states}
+use Rattle.afdx_conform.specs.States.{State, state_with, led_by, states_at, accepted_states}
 use Rattle.afdx_conform.specs.Streams.{Gone, Terms}
 use Rattle.afdx_conform.specs.declared.finding.Deviation.{Deviation}
 use Rattle.afdx_conform.specs.declared.finding.Deviation.TheVariants as deviation

@@ -23,7 +23,7 @@ use Rattle.afdx_conform.specs.declared.finding.Deviation.TheVariants as deviatio
 use Rattle.afdx_conform.specs.declared.finding.Finding.TheVariants.{Stopped}
 use Rattle.afdx_conform.specs.declared.states.Held.{Held}
 use Rattle.afdx_conform.proofs.DeviateLemmas.{gone-at, on-stopped, on-took, on-led, on-other, on-none, lead-some, front-on, accepted-rest}
-use Rattle.afdx_conform.proofs.LeadLemmas.{front-drop, lead-past, aged-lead, aged-rest, aged-led}
+use Rattle.afdx_conform.proofs.LeadLemmas.{front-drop, aged-lead, aged-rest, aged-led}
 use Rattle.afdx_conform.proofs.NamingLemmas.{told-more, told-none}
 
 -- a frame that is found early or late is one frame

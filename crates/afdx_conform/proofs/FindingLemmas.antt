@@ -1,8 +1,6 @@
 -- A finding is given exactly where no state is left.
-use Rattle.std.proofs.Common.{◌≡◌, ℕ, Bool, true, false, ◌&&◌, Option, List, [], ◌∷◌, ◌⊎◌, inl, inr, length, refl, sym, ap, ◌∙◌, subst}
+use Rattle.std.proofs.Common.{◌≡◌, ℕ, Bool, true, false, Option, List, [], ◌∷◌, ◌⊎◌, inl, inr, length, refl, sym, ap, ◌∙◌, subst}
 use Rattle.std.specs.Prelude.{if◌then◌else◌, nat_lt, is_none, Some, None, ◌↔◌}
-use Rattle.std.specs.List.{list_any}
-use Rattle.std.specs.Str.{bytes_eq}
 use Rattle.afdx_police.specs.Arrival.{Arrival}
 use Rattle.afdx_police.specs.Shape.{fault_of}
 use Rattle.afdx_police.specs.declared.shape.Reason.{Reason}
@@ -14,7 +12,7 @@ use Rattle.afdx_conform.specs.declared.finding.Deviation.TheVariants as deviatio
 use Rattle.afdx_conform.specs.FindingLaws.{FoundWhereNoneIsLeft, NothingFoundIsExplained}
 use Rattle.afdx_conform.specs.Laws.{IsSomeState}
 use Rattle.afdx_conform.specs.States.{Event, Came, Closing, State, arrivals_came, led_by, kept, are_behind, first_states, states_at, states_after}
-use Rattle.afdx_conform.specs.Streams.{Gone, Terms, fits}
+use Rattle.afdx_conform.specs.Streams.{Gone, Terms}
 use Rattle.afdx_conform.specs.Thinned.{AreEnough}
 use Rattle.afdx_conform.proofs.AmongLemmas.{Among, among-some, some-among, kept-among}
 use Rattle.afdx_conform.proofs.FrontLemmas.{thinned-enough}

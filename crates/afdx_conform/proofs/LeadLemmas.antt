@@ -1,6 +1,6 @@
 -- The front of a stream's states, as the code finds it.
-use Rattle.std.proofs.Common.{◌≡◌, ℕ, zero, suc, ◌+◌, ◌-◌, ◌<◌, ◌≤◌, Bool, true, false, List, [], ◌∷◌, ◌++◌, ◌⊎◌, inl, inr, map, drop, length, refl, sym, ap, ◌∙◌, subst, arith}
-use Rattle.std.proofs.lemmas.Bool.{ltb-true, ltb-false, eqb-true, eqb-false, eq-eqb}
+use Rattle.std.proofs.Common.{◌≡◌, ℕ, ◌-◌, ◌≤◌, Bool, true, false, List, [], ◌∷◌, ◌++◌, ◌⊎◌, inl, inr, map, drop, length, refl, sym, ap, ◌∙◌, arith}
+use Rattle.std.proofs.lemmas.Bool.{ltb-true, ltb-false, eqb-true, eqb-false}
 use Rattle.std.proofs.lemmas.List.{length-drop, drop_all}
 use Rattle.std.proofs.lemmas.List.Elements.{All-from_recursion, All-contains, All-head, All-tail}
 use Rattle.std.specs.Prelude.{if◌then◌else◌, nat_lt, nat_eq, All, Contains}
@@ -12,7 +12,6 @@ use Rattle.afdx_conform.specs.HeldStates.{state_of, past}
 use Rattle.afdx_conform.specs.States.{State, state_with, kept, led_by, states_at}
 use Rattle.afdx_conform.specs.Streams.{Gone, Terms}
 use Rattle.afdx_conform.specs.declared.states.Held.{Held}
-use Rattle.afdx_conform.proofs.HeldLemmas.{if-true, if-false}
 
 -- no state has fewer frames left than the front
 least : (states : List State) → AllByRecursion (λ s. length (front_rest states) ≤ length s.rest) states

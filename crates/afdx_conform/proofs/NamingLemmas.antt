@@ -1,7 +1,7 @@
 -- The first arrival that the finding of a frame may name.
-use Rattle.std.proofs.Common.{◌≡◌, ℕ, zero, suc, ◌+◌, ◌<◌, ◌≤◌, Bool, true, false, ◌&&◌, List, [], ◌∷◌, ◌++◌, map, reverse, take, drop, get_or, set, length, refl, sym, ap, ◌∙◌, subst, arith}
-use Rattle.std.proofs.lemmas.List.{append_assoc, append-nil, map-append, reverse-append, take_more, drop_more, take_all, drop_all, set_split}
-use Rattle.std.specs.Prelude.{if◌then◌else◌, not, ◌||◌, is_none, Option, Some, None}
+use Rattle.std.proofs.Common.{◌≡◌, ℕ, zero, suc, ◌+◌, ◌<◌, ◌≤◌, Bool, true, false, ◌&&◌, List, [], ◌∷◌, ◌++◌, map, reverse, take, drop, get_or, set, length, refl, sym, ap, ◌∙◌, arith}
+use Rattle.std.proofs.lemmas.List.{append_assoc, append-nil, reverse-append, take_all, drop_all}
+use Rattle.std.specs.Prelude.{if◌then◌else◌, not, ◌||◌, Option, Some, None}
 use Rattle.std.specs.List.{list_any}
 use Rattle.afdx_police.specs.declared.shape.Reason.{Reason}
 use Rattle.afdx_conform.specs.Findings.{Finding, Found, Marked, marked, Judged, judged_with, found_at, frames_of, frames_in, names_it, passed_or, named_or, first_named, once_named, finding_or, damaged_or, damage, is_of_right, strangeness, unexplained}

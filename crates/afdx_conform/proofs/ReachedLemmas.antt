@@ -1,18 +1,14 @@
 -- From states to explanations.
-use Rattle.std.proofs.Common.{◌≡◌, ℕ, ◌+◌, ◌<◌, ◌≤◌, Bool, true, false, ◌&&◌, List, [], ◌∷◌, ◌++◌, ◌⊎◌, inl, inr, length, reverse, refl, sym, ap, ◌∙◌, subst, arith}
-use Rattle.std.proofs.lemmas.List.{reverse-append, reverse-reverse, append_assoc, append-nil}
-use Rattle.std.proofs.lemmas.Bool.{ltb-true, lt-ltb, leb-true, and_from, and_parts}
-use Rattle.std.specs.Prelude.{IsTrue, if◌then◌else◌, nat_lt}
+use Rattle.std.proofs.Common.{◌≡◌, ◌+◌, Bool, true, false, List, [], ◌∷◌, ◌++◌, ◌⊎◌, inl, inr, length, reverse, refl, sym, ap, ◌∙◌, subst, arith}
+use Rattle.std.proofs.lemmas.List.{reverse-append, append_assoc}
+use Rattle.std.specs.Prelude.{IsTrue, if◌then◌else◌}
 use Rattle.std.specs.List.{AllByRecursion}
-use Rattle.std.specs.Str.{bytes_eq}
 use Rattle.afdx_police.specs.Arrival.{Arrival}
-use Rattle.afdx_conform.specs.Leeway.{both_slacks}
 use Rattle.afdx_conform.specs.Levels.{Levels, first_levels, may_pass, has_to_pass, charged, refused}
-use Rattle.afdx_conform.specs.Streams.{Gone, Terms, fits, is_open, is_begun, is_no_sooner, is_in_time, wire_time}
-use Rattle.afdx_conform.specs.Explanations.{Answered, answered, accepted_in, arrivals_in, last_time, link, charge, levels_then, levels_after, AreAllowed, ArePairs, Explains}
-use Rattle.afdx_conform.specs.Laws.{IsSomeState, StatesAreExplanations}
-use Rattle.afdx_conform.specs.States.{Event, Came, Closing, State, state_with, arrivals_came, are_behind, first_states, accepted_states, states_at, states_after, IsBehindClosings, AreInOrder}
-use Rattle.afdx_conform.proofs.AmongLemmas.{Among, among-some, some-among, among-left, among-right, among-cases, led-among, led-from, kept-among, kept-from}
+use Rattle.afdx_conform.specs.Streams.{Gone, Terms, fits, is_open, is_begun}
+use Rattle.afdx_conform.specs.Explanations.{Answered, answered, accepted_in, arrivals_in, last_time, link, charge, levels_then, levels_after, AreAllowed, ArePairs}
+use Rattle.afdx_conform.specs.States.{Event, Came, Closing, State, state_with, arrivals_came, are_behind, first_states, accepted_states, states_at, states_after}
+use Rattle.afdx_conform.proofs.AmongLemmas.{Among, among-cases, led-from, kept-from}
 
 -- the next frame passes
 pub turn-cons : (y : Gone) (passed rest : List Gone) → reverse (y ∷ passed) ++ rest ≡ reverse passed ++ (y ∷ rest)

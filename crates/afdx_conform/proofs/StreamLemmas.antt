@@ -1,24 +1,22 @@
 -- Through all events of a stream.
-use Rattle.std.proofs.Common.{◌≡◌, ℕ, zero, suc, ◌+◌, ◌<◌, ◌≤◌, ◌⊎◌, inl, inr, Bool, true, false, List, [], ◌∷◌, ◌++◌, map, reverse, take, drop, get_or, length, refl, sym, ap, ◌∙◌, subst, arith}
+use Rattle.std.proofs.Common.{◌≡◌, ℕ, zero, suc, ◌+◌, ◌<◌, ◌≤◌, ◌⊎◌, inl, inr, Bool, true, false, List, [], ◌∷◌, map, reverse, take, drop, get_or, length, refl, sym, ap, ◌∙◌, subst, arith}
 use Rattle.std.proofs.lemmas.Bool.{lt-ltb, ltb-true, ltb-false, and_from}
 use Rattle.std.proofs.lemmas.List.{get_or_default, get_or-take, get_or-drop, length-map, length-take-le, length-drop, take-map, take_all, drop_all, reverse-reverse}
 use Rattle.std.proofs.lemmas.List.Elements.{recursion_from_All}
-use Rattle.std.specs.Prelude.{nat_lt, ◌&&◌, IsTrue, All, ◌↔◌, Result, Ok, Err, OnOk}
+use Rattle.std.specs.Prelude.{nat_lt, IsTrue, All, ◌↔◌, Result, Ok, Err, OnOk}
 use Rattle.std.specs.List.{AllByRecursion}
 use Rattle.afdx_frame.specs.Times.{latest_listed}
 use Rattle.afdx_police.specs.Arrival.{Arrival}
-use Rattle.afdx_conform.specs.Bounds.{AreBounds}
-use Rattle.afdx_conform.specs.Courses.{AreArrivals, AreFrames, ComeBehind, Follows, findings_in, judged_from}
+use Rattle.afdx_conform.specs.Courses.{AreArrivals, AreFrames, ComeBehind, Follows, findings_in}
 use Rattle.afdx_conform.specs.Explanations.{Explains, from_time, link}
 use Rattle.afdx_conform.specs.Findings.{Finding, Found, Judged, judged_after, sound_events}
 use Rattle.afdx_conform.specs.Headline.{sound_of}
 use Rattle.afdx_conform.specs.HeldStates.{AreClosed, IsWithin, state_of}
-use Rattle.afdx_conform.specs.Judging.{StandsFor}
 use Rattle.afdx_conform.specs.Leeway.{both_slacks}
 use Rattle.afdx_conform.specs.Levels.{first_levels}
 use Rattle.afdx_conform.specs.Limits.{gone_of}
 use Rattle.afdx_conform.specs.Marks.{arrival_of, marked_all}
-use Rattle.afdx_conform.specs.States.{Event, Closing, arrivals_came, are_behind, first_states, AreInOrder, IsBehindClosings}
+use Rattle.afdx_conform.specs.States.{Event, Closing, are_behind, first_states, AreInOrder, IsBehindClosings}
 use Rattle.afdx_conform.specs.Streams.{Gone, Terms}
 use Rattle.afdx_conform.specs.declared.arrived.Arrived.{Arrived}
 use Rattle.afdx_conform.specs.declared.bounds.Bounds.{Bounds}

@@ -1,7 +1,5 @@
 -- How the code goes through the events of a stream.
 use Rattle.std.specs.Prelude.{◌≡◌, ℕ, ◌+◌, ◌<◌, ◌≤◌, List, map, take, drop, get_or, length, reverse, All}
-use Rattle.afdx_police.specs.Arrival.{Arrival}
-use Rattle.afdx_conform.specs.Bounds.{AreBounds}
 use Rattle.afdx_conform.specs.Explanations.{last_time}
 use Rattle.afdx_conform.specs.Findings.{Finding, Found, Judged, judged_after, sound_events}
 use Rattle.afdx_conform.specs.Headline.{sound_of}
@@ -11,7 +9,7 @@ use Rattle.afdx_conform.specs.Leeway.{both_slacks}
 use Rattle.afdx_conform.specs.Limits.{gone_of}
 use Rattle.afdx_conform.specs.Marks.{IsJudged, arrival_of}
 use Rattle.afdx_conform.specs.States.{Event, arrivals_came, AreInOrder, IsBehindClosings}
-use Rattle.afdx_conform.specs.Streams.{Gone, Terms}
+use Rattle.afdx_conform.specs.Streams.{Terms}
 use Rattle.afdx_conform.specs.declared.arrived.Arrived.{Arrived}
 use Rattle.afdx_conform.specs.declared.bounds.Bounds.{Bounds}
 use Rattle.afdx_conform.specs.declared.course.Course.{Course}

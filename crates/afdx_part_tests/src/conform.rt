@@ -131,7 +131,11 @@ fn what_stands_next(rt: HostRuntime) -> Result<(), Fail> {
     let [late, open, over] = nexts.map(|cases| cases.first().map(|case| case.next));
     equal(
         (late, open, over),
-        (Some(NextFrame::Other), Some(NextFrame::Open), Some(NextFrame::Over)),
+        (
+            Some(NextFrame::Other),
+            Some(NextFrame::Open),
+            Some(NextFrame::Over),
+        ),
     )
 }
 

@@ -11,8 +11,8 @@ use std::test::Fail;
 /// A whole frame of link 1, with the message `hello`.
 const BYTES: [u8; 64] = [
     3, 0, 0, 0, 0, 1, 2, 0, 0, 0, 1, 32, 8, 0, 69, 0, 0, 33, 0, 0, 0, 0, 1, 17, 205, 234, 10, 0, 1,
-    1, 224, 224, 0, 1, 3, 232, 3, 232, 0, 13, 0, 0, 104, 101, 108, 108, 111, 0, 0, 0, 0, 0, 0, 0, 0,
-    0, 0, 0, 0, 0, 149, 23, 139, 81,
+    1, 224, 224, 0, 1, 3, 232, 3, 232, 0, 13, 0, 0, 104, 101, 108, 108, 111, 0, 0, 0, 0, 0, 0, 0,
+    0, 0, 0, 0, 0, 0, 149, 23, 139, 81,
 ];
 
 /// The arrivals of such frames at these times.
@@ -159,7 +159,13 @@ fn from_a_start(rt: HostRuntime) -> Result<(), Fail> {
         (from_first, 17_000, &[], &[17_000], no_arrival),
         // Nothing is known of the account before.
         (from_later, 2_000_000, &[1_000_004], &[], &[]),
-        (from_later, 2_000_000, &[1_000_005], &[], &[Finding::Stopped(1)]),
+        (
+            from_later,
+            2_000_000,
+            &[1_000_005],
+            &[],
+            &[Finding::Stopped(1)],
+        ),
         // The second had room for sure, the third too.
         (
             (1_000, 0, 0, 0, None),

@@ -1,19 +1,17 @@
-use Rattle.std.proofs.Common.{◌≡◌, ℕ, ◌+◌, Bool, List, [], ◌∷◌, ◌++◌, map, drop, length, true, false, refl, sym, ap, ◌∙◌, subst, arith}
+use Rattle.std.proofs.Common.{ℕ, ◌+◌, List, [], map, drop, length, sym, ap, ◌∙◌, arith}
 use Rattle.std.proofs.lemmas.List.{length_push}
 use Rattle.std.proofs.lemmas.List.Elements.{All-same}
-use Rattle.std.specs.Prelude.{All, nat_lt}
-use Rattle.afdx_police.specs.declared.shape.Reason.{Reason}
+use Rattle.std.specs.Prelude.{nat_lt}
 use Rattle.afdx_conform.specs.Explanations.{link, levels_then}
-use Rattle.afdx_conform.specs.Findings.{Finding, Judged, aged, deviates, front_rest, most_states, thinned_onto, with_states}
+use Rattle.afdx_conform.specs.Findings.{aged, deviates, front_rest, most_states, thinned_onto}
 use Rattle.afdx_conform.specs.HeldStates.{IsWithin, state_of}
 use Rattle.afdx_conform.specs.Limits.{gone_of}
-use Rattle.afdx_conform.specs.Marks.{arrival_of, marked_all, told}
+use Rattle.afdx_conform.specs.Marks.{arrival_of, marked_all}
 use Rattle.afdx_conform.specs.States.{State, led_by, states_at}
 use Rattle.afdx_conform.specs.declared.finding.Mark.{Mark}
 use Rattle.afdx_conform.specs.declared.states.Held.{Held}
-use Rattle.afdx_conform.proofs.ArrivalSteps.{stands-arrival, stands-fault, answered-led, answered-none, more-marks, one-less}
-use Rattle.afdx_conform.proofs.DeviateSteps.{some-held, within-frames, within-more}
-use Rattle.afdx_conform.proofs.NamingLemmas.{told-none}
+use Rattle.afdx_conform.proofs.ArrivalSteps.{stands-arrival, answered-none, more-marks, one-less}
+use Rattle.afdx_conform.proofs.DeviateSteps.{within-frames}
 use Rattle.afdx_conform.proofs.arriving.go_wrong.Goals as goal
 
 pub returns-clause-defined : goal.returns-clause-defined

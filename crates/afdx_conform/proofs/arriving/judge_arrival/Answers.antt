@@ -1,17 +1,15 @@
-use Rattle.std.proofs.Common.{◌≡◌, ℕ, ◌+◌, Bool, List, [], ◌∷◌, ◌++◌, map, drop, length, true, false, refl, sym, ap, ◌∙◌, subst, arith}
+use Rattle.std.proofs.Common.{◌+◌, List, [], map, drop, length, refl, sym, ap, ◌∙◌, arith}
 use Rattle.std.proofs.lemmas.List.{length_push}
 use Rattle.std.proofs.lemmas.List.Elements.{All-same}
-use Rattle.std.specs.Prelude.{All, Option}
-use Rattle.afdx_police.specs.declared.shape.Reason.{Reason}
 use Rattle.afdx_conform.specs.Explanations.{link, levels_then}
-use Rattle.afdx_conform.specs.Findings.{Finding, Judged, aged, deviates, front_rest, is_uncertain, rate_mark, thinned_onto, with_states}
+use Rattle.afdx_conform.specs.Findings.{Finding, Judged, is_uncertain, rate_mark, thinned_onto, with_states}
 use Rattle.afdx_conform.specs.HeldStates.{IsWithin, state_of}
 use Rattle.afdx_conform.specs.Limits.{gone_of}
 use Rattle.afdx_conform.specs.Marks.{arrival_of, marked_all, told}
 use Rattle.afdx_conform.specs.States.{State, led_by, states_at}
 use Rattle.afdx_conform.specs.declared.finding.Mark.{Mark}
 use Rattle.afdx_conform.specs.declared.states.Held.{Held}
-use Rattle.afdx_conform.proofs.ArrivalSteps.{stands-arrival, stands-fault, answered-led, answered-none, more-marks, one-less}
+use Rattle.afdx_conform.proofs.ArrivalSteps.{stands-arrival, stands-fault, answered-led, more-marks, one-less}
 use Rattle.afdx_conform.proofs.DeviateSteps.{some-held, within-frames, within-more}
 use Rattle.afdx_conform.proofs.NamingLemmas.{told-none}
 use Rattle.afdx_conform.proofs.arriving.judge_arrival.Goals as goal

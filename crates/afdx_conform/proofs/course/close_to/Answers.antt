@@ -1,6 +1,4 @@
-use Rattle.std.proofs.Common.{◌≡◌, ◌++◌, List, refl, sym, ap, ◌∙◌, arith}
-use Rattle.std.proofs.lemmas.List.Elements.{All-same}
-use Rattle.std.specs.Prelude.{All}
+use Rattle.std.proofs.Common.{◌++◌, List, refl, sym, ap, ◌∙◌}
 use Rattle.afdx_conform.specs.Courses.{judged_from}
 use Rattle.afdx_conform.specs.Findings.{Finding}
 use Rattle.afdx_conform.proofs.CourseLemmas.{follows-closing, safe-closing}

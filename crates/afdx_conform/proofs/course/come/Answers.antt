@@ -1,12 +1,9 @@
-use Rattle.std.proofs.Common.{rules, ◌≡◌, ℕ, ◌-◌, ◌∷◌, ◌++◌, List, length, get_or, refl, sym, ap, ◌∙◌, subst, arith}
-use Rattle.std.proofs.lemmas.List.{get_or_default}
+use Rattle.std.proofs.Common.{rules, ◌≡◌, ℕ, ◌-◌, ◌++◌, List, length, get_or, refl, sym, ap, ◌∙◌}
 use Rattle.std.specs.Prelude.{is_none, Option, if◌then◌else◌}
 use Rattle.afdx_police.specs.declared.shape.Reason.{Reason}
-use Rattle.afdx_conform.specs.Courses.{Follows, judged_from}
+use Rattle.afdx_conform.specs.Courses.{judged_from}
 use Rattle.afdx_conform.specs.Findings.{Finding}
-use Rattle.afdx_conform.specs.Marks.{arrival_of, IsJudged}
-use Rattle.afdx_conform.specs.States.{Came}
-use Rattle.afdx_conform.specs.declared.arrived.Arrived.{Arrived}
+use Rattle.afdx_conform.specs.Marks.{arrival_of}
 use Rattle.afdx_conform.proofs.CourseLemmas.{came-same, follows-came, safe-came, same-arrived, judged-at}
 use Rattle.afdx_conform.proofs.course.come.Goals as goal
 

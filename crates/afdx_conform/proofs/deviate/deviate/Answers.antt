@@ -1,7 +1,7 @@
-use Rattle.std.proofs.Common.{rules, ◌≡◌, ℕ, ◌+◌, ◌<◌, ◌≤◌, List, [], ◌∷◌, ◌++◌, map, drop, get_or, length, false, refl, sym, ap, ◌∙◌, subst, arith}
+use Rattle.std.proofs.Common.{rules, ◌≡◌, ℕ, ◌+◌, List, [], map, drop, get_or, length, refl, sym, ap, ◌∙◌, arith}
 use Rattle.std.proofs.lemmas.List.{length-map, take_rest}
 use Rattle.std.proofs.lemmas.List.Elements.{All-same}
-use Rattle.std.specs.Prelude.{All, IsTrue, nat_eq}
+use Rattle.std.specs.Prelude.{IsTrue, nat_eq}
 use Rattle.std.specs.List.{filter}
 use Rattle.afdx_conform.specs.Accounts.{AreLevels, AreNear}
 use Rattle.afdx_conform.specs.Explanations.{link, charge, levels_then}
@@ -10,9 +10,8 @@ use Rattle.afdx_conform.specs.HeldStates.{IsWithin, IsSmall, past, state_of}
 use Rattle.afdx_conform.specs.Levels.{has_to_pass}
 use Rattle.afdx_conform.specs.Limits.{gone_of}
 use Rattle.afdx_conform.specs.Marks.{arrival_of, marked_all, told}
-use Rattle.afdx_conform.specs.States.{State, led_by, states_at}
+use Rattle.afdx_conform.specs.States.{led_by, states_at}
 use Rattle.afdx_conform.specs.declared.arrived.Arrived.{Arrived}
-use Rattle.afdx_conform.specs.declared.finding.Deviation.{Deviation}
 use Rattle.afdx_conform.specs.declared.states.Held.{Held}
 use Rattle.afdx_conform.proofs.DeviateLemmas.{have-to-pass, past-within, small-all, gone-past}
 use Rattle.afdx_conform.proofs.DeviateSteps.{at-start, at-same, at-end, at-stop, at-led, at-next, stopped-whole, took-whole, if-ok-two, within-frames, near-all, levels-all, within-more, front-start, gone-here, some-held, past-passes}

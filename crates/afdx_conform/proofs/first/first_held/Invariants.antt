@@ -1,10 +1,8 @@
 use Rattle.std.proofs.Common.{◌≡◌, map, length}
 use Rattle.std.specs.Prelude.{All}
 use Rattle.afdx_conform.specs.Bounds.{AreBounds}
-use Rattle.afdx_conform.specs.Explanations.{link}
 use Rattle.afdx_conform.specs.HeldStates.{IsWithin}
 use Rattle.afdx_conform.specs.LeewayOf.{leeway_of}
-use Rattle.afdx_conform.specs.Levels.{first_levels}
 use Rattle.afdx_conform.specs.Limits.{gone_of}
 use Rattle.afdx_conform.specs.Streams.{Terms}
 use Rattle.afdx_conform.proofs.FirstLemmas.{AreFirst}

@@ -1,4 +1,4 @@
-use Rattle.std.proofs.Common.{◌≡◌, ℕ, ◌+◌, List, map, length, true, false, refl, sym, ap, ◌∙◌}
+use Rattle.std.proofs.Common.{◌+◌, List, map, length, refl, sym, ap, ◌∙◌}
 use Rattle.std.specs.Prelude.{nat_le}
 use Rattle.std.specs.List.{list_any}
 use Rattle.afdx_conform.specs.Findings.{Finding, Judged, closed_to, with_states}

@@ -1,10 +1,9 @@
-use Rattle.std.proofs.Common.{◌≡◌, ℕ, ◌+◌, ◌⊎◌, [], List, map, length, refl, sym, ap, ◌∙◌, subst}
+use Rattle.std.proofs.Common.{◌≡◌, ◌+◌, ◌⊎◌, [], List, map, length, refl, sym, ap, ◌∙◌, subst}
 use Rattle.std.specs.Prelude.{Contains, nat_eq}
 use Rattle.std.specs.List.{filter}
 use Rattle.afdx_conform.specs.Findings.{closed_to}
 use Rattle.afdx_conform.specs.HeldStates.{past}
 use Rattle.afdx_conform.specs.Leeway.{both_slacks}
-use Rattle.afdx_conform.specs.Limits.{gone_of}
 use Rattle.afdx_conform.specs.Marks.{marked_all}
 use Rattle.afdx_conform.specs.declared.finding.Mark.{Mark}
 use Rattle.afdx_conform.specs.declared.states.Held.{Held}

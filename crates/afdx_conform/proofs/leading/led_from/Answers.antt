@@ -1,6 +1,5 @@
-use Rattle.std.proofs.Common.{◌≡◌, ℕ, length, List, map, drop, refl, sym, ap, ◌∙◌}
+use Rattle.std.proofs.Common.{length, List, map, drop, refl, sym, ap, ◌∙◌}
 use Rattle.std.proofs.lemmas.List.Elements.{All-same}
-use Rattle.std.specs.Prelude.{All}
 use Rattle.afdx_conform.specs.Explanations.{link, levels_then}
 use Rattle.afdx_conform.specs.HeldStates.{IsNext, IsSmall, IsCaseWithin, state_of}
 use Rattle.afdx_conform.specs.Limits.{gone_of}

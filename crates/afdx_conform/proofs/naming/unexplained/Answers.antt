@@ -1,4 +1,4 @@
-use Rattle.std.proofs.Common.{rules, ◌<◌, ◌≤◌, List, length, subst}
+use Rattle.std.proofs.Common.{rules, ◌<◌, List, length, subst}
 use Rattle.afdx_conform.specs.Findings.{strangeness}
 use Rattle.afdx_conform.specs.declared.finding.Finding.TheVariants.{Strange}
 use Rattle.afdx_conform.specs.declared.finding.Mark.{Mark}

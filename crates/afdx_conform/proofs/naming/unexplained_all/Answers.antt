@@ -1,4 +1,4 @@
-use Rattle.std.proofs.Common.{rules, ◌≡◌, ◌+◌, List, ◌++◌, [], ◌∷◌, map, take, get_or, refl, sym, ap, ◌∙◌, arith}
+use Rattle.std.proofs.Common.{rules, ◌≡◌, List, ◌++◌, [], ◌∷◌, map, take, get_or, refl, sym, ap, ◌∙◌, arith}
 use Rattle.std.proofs.lemmas.List.{map-append, take_more, take_all}
 use Rattle.afdx_conform.specs.Findings.{Finding, Judged, unexplained}
 use Rattle.afdx_conform.specs.Limits.{gone_of}
@@ -12,7 +12,7 @@ use Rattle.afdx_conform.proofs.naming.unexplained_all.Goals as goal
 pub loop-frame-init : goal.loop-frame-init
 loop-frame-init c = (
   λ z time j a e. ap (λ (l : List Finding). told time l (marked_all c.args.arrivals.now c.args.marks.now.items) j)
-  c.new-found.ensures.items
+      c.new-found.ensures.items
       ∙ told-none time (marked_all c.args.arrivals.now c.args.marks.now.items) j e
       ∙ sym (all-none z time j),
   refl,

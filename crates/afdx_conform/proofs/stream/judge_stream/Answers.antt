@@ -1,4 +1,4 @@
-use Rattle.std.proofs.Common.{◌∷◌, [], length, refl, arith}
+use Rattle.std.proofs.Common.{◌∷◌, [], length, refl}
 use Rattle.afdx_police.specs.Rule.{regulation_of}
 use Rattle.afdx_police.specs.RuleOf.{rule_of}
 use Rattle.afdx_conform.specs.LeewayOf.{leeway_of}

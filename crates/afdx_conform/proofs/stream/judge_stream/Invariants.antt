@@ -1,4 +1,4 @@
-use Rattle.std.proofs.Common.{ℕ, ◌+◌, ◌-◌, List, length}
+use Rattle.std.proofs.Common.{◌+◌, ◌-◌, List, length}
 use Rattle.afdx_conform.specs.Courses.{AreArrivals, AreFrames, Follows, IsSafe}
 use Rattle.afdx_conform.specs.States.{Event}
 use Rattle.afdx_conform.specs.TermsOf.{terms_of}

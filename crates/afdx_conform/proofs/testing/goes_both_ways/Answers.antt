@@ -1,4 +1,4 @@
-use Rattle.std.proofs.Common.{◌≡◌, ℕ, Bool, true, false, refl, sym, ap, ◌∙◌}
+use Rattle.std.proofs.Common.{ℕ, Bool, sym, ap, ◌∙◌}
 use Rattle.std.specs.Prelude.{not, ◌&&◌}
 use Rattle.afdx_conform.specs.Explanations.{link, charge, levels_then}
 use Rattle.afdx_conform.specs.Levels.{Levels, later, may_pass, has_to_pass}

@@ -1,4 +1,4 @@
-use Rattle.std.proofs.Common.{ℕ, ◌+◌, List, ◌++◌, map, drop, sym, ap, ◌∙◌}
+use Rattle.std.proofs.Common.{◌+◌, List, ◌++◌, map, drop, sym, ap, ◌∙◌}
 use Rattle.std.proofs.lemmas.List.{map-append}
 use Rattle.std.specs.Option.{option_to_list}
 use Rattle.afdx_conform.specs.HeldStates.{state_of, states_if_refused, IsWithin}
