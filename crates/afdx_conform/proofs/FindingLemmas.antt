@@ -1,18 +1,18 @@
 -- A finding is given exactly where no state is left.
-use Rattle.std.proofs.Common.{◌≡◌, ℕ, Bool, true, false, ◌&&◌, Option, List, [], ◌∷◌, ◌⊎◌, inl, inr, length, refl, sym, ap, ◌∙◌, subst}
+use Rattle.std.proofs.Common.{◌≡◌, ℕ, Bool, true, false, Option, List, [], ◌∷◌, ◌⊎◌, inl, inr, length, refl, sym, ap, ◌∙◌, subst}
 use Rattle.std.specs.Prelude.{if◌then◌else◌, nat_lt, is_none, Some, None, ◌↔◌}
-use Rattle.std.specs.List.{list_any}
-use Rattle.std.specs.Str.{bytes_eq}
 use Rattle.afdx_police.specs.Arrival.{Arrival}
 use Rattle.afdx_police.specs.Shape.{fault_of}
 use Rattle.afdx_police.specs.declared.shape.Reason.{Reason}
 use Rattle.afdx_conform.specs.Explanations.{link, last_time, levels_then}
 use Rattle.afdx_conform.specs.Levels.{Levels, first_levels}
-use Rattle.afdx_conform.specs.Findings.{Found, Judged, lead, with_rest, has_some, front_rest, unexplained, skipped, closed_by, closed_to, is_far, is_early, is_late, deviates, answered_by, few_of, with_mark, came_by, came_to, rate_mark, is_uncertain, one_if, sound_events, judged_after, thinned_onto}
+use Rattle.afdx_conform.specs.Findings.{Found, Judged, lead, with_rest, has_some, front_rest, unexplained, skipped, closed_by, closed_to, with_states, asked, deviation_of, deviates_by, deviates, answered_by, few_of, with_mark, came_by, came_to, rate_mark, is_uncertain, one_if, sound_events, judged_after, thinned_onto}
+use Rattle.afdx_conform.specs.declared.finding.Deviation.{Deviation}
+use Rattle.afdx_conform.specs.declared.finding.Deviation.TheVariants as deviation
 use Rattle.afdx_conform.specs.FindingLaws.{FoundWhereNoneIsLeft, NothingFoundIsExplained}
 use Rattle.afdx_conform.specs.Laws.{IsSomeState}
 use Rattle.afdx_conform.specs.States.{Event, Came, Closing, State, arrivals_came, led_by, kept, are_behind, first_states, states_at, states_after}
-use Rattle.afdx_conform.specs.Streams.{Gone, Terms, fits}
+use Rattle.afdx_conform.specs.Streams.{Gone, Terms}
 use Rattle.afdx_conform.specs.Thinned.{AreEnough}
 use Rattle.afdx_conform.proofs.AmongLemmas.{Among, among-some, some-among, kept-among}
 use Rattle.afdx_conform.proofs.FrontLemmas.{thinned-enough}
@@ -51,14 +51,16 @@ deviates-finds : (z : Terms) (behind : List Arrival) (x : Arrival) (states : Lis
 unfolding deviates unexplained
 deviates-finds z behind x states [] j = tt
 deviates-finds z behind x states (y ∷ rest) j =
-    let more = deviates-finds z behind x (with_rest rest (lead states)) rest (unexplained z x.time y j) in
-    if-both (λ (r : Judged). IsFound r.findings) (is_far z x y) _ _ tt
-    (if-both (λ (r : Judged). IsFound r.findings) (is_early z x y) _ _ tt
-    (if-both (λ (r : Judged). IsFound r.findings) (list_any (λ w. fits z w y) behind) _ _ tt
-    (if-both (λ (r : Judged). IsFound r.findings) (bytes_eq x.bytes y.bytes && is_late z x y) _ _ tt
-    (if-both (λ (r : Judged). IsFound r.findings) (is_late z x y) _ _ tt
-    (if-both (λ (r : Judged). IsFound r.findings)
-    (has_some (led_by (λ s. states_at z x s.levels s) (with_rest rest (lead states)))) _ _ tt more)))))
+    by (deviation_of z behind x y) (deviates-finds z behind x (with_rest rest (lead states)) rest (unexplained z x.time y j))
+  where
+    by : (d : Deviation) → IsFound (deviates z behind x (with_rest rest (lead states)) rest (unexplained z x.time y j)).findings
+        → IsFound (deviates_by z d x states y rest j
+        (deviates z behind x (with_rest rest (lead states)) rest (unexplained z x.time y j))).findings
+    by deviation.Stopped more = tt
+    by (deviation.Took finding) more = tt
+    by deviation.Other more =
+        if-both (λ (r : Judged). IsFound r.findings) (has_some (asked z x rest states))
+        (with_states (asked z x rest states) (unexplained z x.time y j)) _ tt more
 
 -- ---- where states are left
 
@@ -77,12 +79,12 @@ enough-some all few h some =
     let one = some-among few some in
     among-some one.0 all (h.among one.0 one.1)
 
-record IsFront (states : List State) : Type 0 where
+pub record IsFront (states : List State) : Type 0 where
   pub of : State
   pub among : Among of states
   pub rest : of.rest ≡ front_rest states
 
-front-is : (states : List State) → IsSomeState states → IsFront states
+pub front-is : (states : List State) → IsSomeState states → IsFront states
 unfolding front_rest
 front-is [] h = absurd h
 front-is (s ∷ []) h = record { of = s; among = inl refl; rest = refl }

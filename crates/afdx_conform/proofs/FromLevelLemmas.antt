@@ -103,7 +103,8 @@ module _ (rule : Rule) (latency_ns byte_ns inner until start : ℕ) where
       let so_far = wide before allowed.1 in
       let order = so_far.order in
       let most = so_far.most in
-      step-wide x.accepted x.arrival (now before x.arrival) (record { order = omega (arith, order); most = omega (arith, most) }) allowed.0
+      step-wide x.accepted x.arrival (now before x.arrival) (record { order = omega (arith, order); most = omega (arith, most) })
+      allowed.0
 
   some-first : (answers : List Answered) → AreAllowed z answers → (level : ℕ) → IsIn level (levels_after z answers)
       → (first : ℕ) × (first ≤ full (link z) z.by) × Leads z first answers level

@@ -1,15 +1,17 @@
 -- Where an arrival leads to from a state that the code holds.
-use Rattle.std.proofs.Common.{◌≡◌, ℕ, zero, suc, ◌+◌, Bool, true, false, List, [], ◌∷◌, ◌++◌, map, drop, take, get_or, length, ◌<◌, refl, sym, ap, ◌∙◌, arith}
+use Rattle.std.proofs.Common.{◌≡◌, ℕ, zero, suc, ◌+◌, Bool, true, false, List, [], ◌∷◌, ◌++◌, map, drop, take, get_or, length, ◌<◌, ◌≤◌, refl, sym, ap, ◌∙◌, subst, arith}
 use Rattle.std.proofs.lemmas.List.{map-append, take_more, append_assoc, append-nil}
-use Rattle.std.specs.Prelude.{if◌then◌else◌}
+use Rattle.std.specs.Prelude.{if◌then◌else◌, Option, Some, None, IfSome}
+use Rattle.afdx_conform.specs.Accounts.{AreLevels, AreNear}
+use Rattle.afdx_conform.specs.declared.levels.Rates.{Rates}
 use Rattle.afdx_police.specs.Arrival.{Arrival}
 use Rattle.afdx_conform.specs.Levels.{Levels}
 use Rattle.afdx_conform.specs.Streams.{Gone, Terms, fits, is_open}
 use Rattle.afdx_conform.specs.States.{State, state_with, accepted_states, led_by}
 use Rattle.afdx_conform.specs.declared.states.Case.{Case}
 use Rattle.afdx_conform.specs.declared.states.Held.{Held}
-use Rattle.afdx_conform.specs.HeldStates.{IsNext}
-use Rattle.afdx_conform.specs.declared.states.Next.TheVariants.{Fits, Other, Open, Over}
+use Rattle.afdx_conform.specs.HeldStates.{IsNext, IsWithin}
+use Rattle.afdx_conform.specs.declared.states.NextFrame.TheVariants.{Fits, Other, Open, Over}
 
 pub if-true : {X : Type 0} (b : Bool) (u v : X) → b ≡ true → (if b then u else v) ≡ u
 if-true true u v e = refl
@@ -79,8 +81,24 @@ one-more f g xs i d h =
     ∙ led-append f (map g (take i xs)) (g (get_or xs i d) ∷ [])
     ∙ ap (λ (l : List State). led_by f (map g (take i xs)) ++ l) (led-one f (g (get_or xs i d)))
 
+pub two-pushed : (out one two a b : List Held) → one ≡ out ++ a → two ≡ one ++ b → two ≡ out ++ (a ++ b)
+two-pushed out one two a b e k = k ∙ ap (λ (l : List Held). l ++ b) e ∙ append_assoc out a b
+
 pub pushed : (g : Held → State) (out one two a b : List Held) → one ≡ out ++ a → two ≡ one ++ b
     → map g two ≡ map g out ++ map g (a ++ b)
 pushed g out one two a b e k =
-    ap (λ (l : List Held). map g l) (k ∙ ap (λ (l : List Held). l ++ b) e ∙ append_assoc out a b)
+    ap (λ (l : List Held). map g l) (two-pushed out one two a b e k)
     ∙ map-append g out (a ++ b)
+
+-- what an arrival that is accepted leads to is within bounds
+pub accepted-within : (rates : Rates) (frames count waiting : ℕ) (levels : Levels) (held : Option Held)
+    → IfSome held (λ h. h.levels ≡ levels) → IfSome held (λ h. h.waiting ≤ waiting + 1) → waiting ≤ count
+    → IfSome held (λ h. h.passed ≤ frames) → AreLevels rates levels → AreNear rates levels
+    → IfSome held (λ h. IsWithin rates frames (count + 1) h)
+accepted-within rates frames count waiting levels None e w le p bounded near = tt
+accepted-within rates frames count waiting levels (Some h) e w le p bounded near = record {
+  passed = p;
+  waiting = omega (arith, w, le);
+  levels = subst (λ (l : Levels). AreLevels rates l) (sym e) bounded;
+  near = subst (λ (l : Levels). AreNear rates l) (sym e) near;
+}

@@ -2,8 +2,10 @@
 use Rattle.std.proofs.Common.{◌≡◌, ℕ, zero, suc, ◌+◌, ◌≤◌, ◌<◌, Bool, true, false, ◌&&◌, List, [], ◌∷◌, ◌++◌, map, drop, take, length, refl, sym, ap, ◌∙◌, subst, ◌⊎◌, inl, inr, get_or, arith}
 use Rattle.std.proofs.lemmas.List.{map-append, take_more}
 use Rattle.std.proofs.lemmas.Bool.{eqb-true, leb-true, leb-false, and_parts, le-ltb}
-use Rattle.std.specs.Prelude.{if◌then◌else◌, nat_le, nat_lt, nat_eq, not, ◌||◌, Result, Ok, Err, IfOk}
+use Rattle.std.specs.Prelude.{if◌then◌else◌, nat_le, nat_lt, nat_eq, not, ◌||◌, Result, Ok, Err, IfOk, Option, Some, None, IfSome, All}
+use Rattle.std.proofs.lemmas.List.Elements.{All-nil, All-cons, All-push, All-filter}
 use Rattle.std.specs.List.{AllByRecursion, filter, list_any}
+use Rattle.std.specs.Option.{option_to_list}
 use Rattle.afdx_conform.proofs.HeldLemmas.{if-true, if-false}
 use Rattle.afdx_conform.specs.Streams.{Gone, Terms}
 use Rattle.afdx_conform.specs.States.{Event, Came, Closing, State, arrivals_came, led_by, kept, are_behind, states_at}
@@ -304,6 +306,19 @@ none-stays s (x ∷ xs) = by (outdoes s x) refl (none-stays s xs)
 pub all-with : (P : Held → Type 0) (xs : List Held) (s : Held) → AllByRecursion P xs → P s → AllByRecursion P (xs ++ (s ∷ []))
 all-with P [] s all h = (h, tt)
 all-with P (x ∷ xs) s all h = (all.0, all-with P xs s all.1 h)
+
+-- what is true of those that are kept and of one more is true of what is kept then
+pub kept-all : (P : Held → Type 0) (s : Held) (xs : List Held) → All P xs → P s → All P (kept_with s xs)
+unfolding kept_with
+kept-all P s xs all h = by (list_any (λ x. outdoes x s) xs)
+  where
+    by : (b : Bool) → All P (if b then xs else filter (λ x. not (outdoes s x)) xs ++ (s ∷ []))
+    by true = all
+    by false = All-push P (filter (λ x. not (outdoes s x)) xs) s (All-filter (λ x. not (outdoes s x)) P xs all) h
+
+pub all-option : (P : Held → Type 0) (held : Option Held) → IfSome held P → All P (option_to_list held)
+all-option P None h = All-nil P
+all-option P (Some x) h = All-cons P x [] h (All-nil P)
 
 front-with : (s : Held) (xs : List Held) → AreFront xs → AllByRecursion (λ x. outdoes x s ≡ false) xs
     → AllByRecursion (λ x. outdoes s x ≡ false) xs → AreFront (xs ++ (s ∷ []))

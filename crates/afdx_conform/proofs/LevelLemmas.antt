@@ -4,9 +4,9 @@ use Rattle.std.proofs.Math.Nat.{mul-le-mul_left, le-mul_of_pos_right}
 use Rattle.std.specs.Prelude.{IsTrue, zero, suc, ◌/◌}
 use Rattle.afdx_police.proofs.AccountLemmas.{is_bag-divides, factor_positive}
 use Rattle.afdx_frame.specs.Regulation.{Regulation, bag, is_bag}
-use Rattle.afdx_conform.specs.Accounts.{AreRates}
+use Rattle.afdx_conform.specs.Accounts.{AreRates, AreNear}
 use Rattle.afdx_conform.specs.Leeway.{Leeway}
-use Rattle.afdx_conform.specs.Levels.{levels_with, cost}
+use Rattle.afdx_conform.specs.Levels.{Levels, levels_with, later, cost, fastest, slowest}
 use Rattle.afdx_conform.specs.Ranges.{AreInRange}
 use Rattle.afdx_conform.specs.declared.levels.Rates.{Rates}
 
@@ -54,3 +54,15 @@ bag-high ms h =
 pub bag-low : (ms : ℕ) → IsTrue (is_bag ms) → 0 < ms
 bag-low zero h = let e = is_bag-divides 0 h in absurd (omega (arith, e))
 bag-low (suc ms) h = omega arith
+
+near-less : (lo hi slip a b : ℕ) → b ≤ a → lo ≤ hi + slip → lo - a ≤ hi - b + slip
+near-less lo hi slip a b h k = omega (arith, h, k)
+
+-- the bounds come no further apart with time
+pub near-later : (link : Regulation) (by : Leeway) (rates : Rates) (levels : Levels) (ns : ℕ) → AreRates link by rates
+    → AreNear rates levels → AreNear rates (later link by ns levels)
+near-later link by rates levels ns r near =
+    let slower : slowest link by ≤ fastest link by = mul-le-mul_left link.smax (omega arith) in
+    let same : ns ≤ ns = omega arith in
+    near-less levels.lo levels.hi rates.fast_slip (fastest link by * ns) (slowest link by * ns)
+    (product (slowest link by) ns (fastest link by) ns slower same) near

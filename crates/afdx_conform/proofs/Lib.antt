@@ -1,4 +1,5 @@
 pub mod AmongLemmas
+pub mod ReachedLemmas
 pub mod StateLemmas
 pub mod ExactLemmas
 pub mod HeadlineLemmas
@@ -17,3 +18,15 @@ pub mod FindingLemmas
 pub mod LimitLemmas
 pub mod RowLemmas
 pub mod FewLemmas
+pub mod NamingLemmas
+pub mod LeadLemmas
+pub mod DeviationLemmas
+pub mod DeviateLemmas
+pub mod DeviateSteps
+pub mod ClosingLemmas
+pub mod ArrivalLemmas
+pub mod SkipLemmas
+pub mod ArrivalSteps
+pub mod FirstLemmas
+pub mod CourseLemmas
+pub mod StreamLemmas

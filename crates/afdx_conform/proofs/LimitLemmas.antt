@@ -9,7 +9,7 @@ use Rattle.afdx_conform.specs.Levels.{parts}
 use Rattle.afdx_conform.specs.Limits.{AreLimits, gone_of}
 use Rattle.afdx_conform.specs.HeldStates.{IsNext}
 use Rattle.afdx_conform.specs.declared.limits.Frame.{Frame}
-use Rattle.afdx_conform.specs.declared.states.Next.TheVariants.{Fits, Other}
+use Rattle.afdx_conform.specs.declared.states.NextFrame.TheVariants.{Fits, Other}
 use Rattle.afdx_conform.specs.Streams.{Gone, Terms, fits, is_open, latency, wire_time}
 use Rattle.afdx_conform.specs.declared.limits.Limits.{Limits}
 

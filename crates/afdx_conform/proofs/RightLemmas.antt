@@ -287,7 +287,8 @@ module _ (z : Terms) (is : IsTrue (is_bag z.rule.bag_ms)) where
   unfolding GoByClock accepted_after answers_of levels_after AreAllowed arrivals_in
   answers-first first moment clock x is_first go =
       let stands = stands-first z.by.start first moment clock x is_first go.0 (near z.by x go.1) go.2 in
-      let answer = answered-so first x (later (link z) z.by (x.arrival.time - from_time z.by.start) (first_levels (link z) z.by z.by.start))
+      let answer = answered-so first x (later (link z) z.by (x.arrival.time - from_time z.by.start) (first_levels (link z) z.by
+      z.by.start))
       (near z.by x go.1) stands (is_accepted z first [] x) refl in
       record { stands = answer.0; allowed = (answer.1, tt) }
 

@@ -19,6 +19,14 @@ pub record AreLevels (rates : Rates) (levels : Levels) : Type 0 where
   pub lo : levels.lo ≤ rates.full + rates.fast_slip
   pub hi : levels.hi ≤ rates.full + rates.slow_slip
 
+-- the bounds are no further apart than the clocks and stamps allow
+abbrev pub AreNear : Rates → Levels → Type 0
+AreNear rates levels = levels.lo ≤ levels.hi + rates.fast_slip
+
+-- a frame of this charge has to pass at these levels
+abbrev pub HasToPass : Rates → Levels → ℕ → Type 0
+HasToPass rates levels charge = levels.hi + rates.byte_cost * charge ≤ rates.full
+
 -- a frame of this charge may have room at these levels
 abbrev pub HasRoom : Rates → Levels → ℕ → Type 0
 HasRoom rates levels charge = levels.lo + rates.byte_cost * charge ≤ rates.full + rates.fast_slip

@@ -10,27 +10,17 @@ use Rattle.afdx_police.specs.Arrival.{Arrival}
 use Rattle.afdx_police.specs.Shape.{fault_of, first_of}
 use Rattle.afdx_police.specs.declared.shape.Reason.{Reason}
 use Rattle.afdx_police.specs.declared.shape.Reason.TheVariants.{TooShort, TooLong, BadFcs, OverRate}
+pub use Rattle.afdx_conform.specs.declared.finding.Finding.{Finding}
+use Rattle.afdx_conform.specs.declared.finding.Finding.TheVariants.{Strange, Passed, Stopped, Late, Early}
+pub use Rattle.afdx_conform.specs.declared.finding.Strangeness.{Strangeness}
+use Rattle.afdx_conform.specs.declared.finding.Strangeness.TheVariants.{Damaged, OutOfTurn, NoArrival}
+use Rattle.afdx_conform.specs.declared.finding.Deviation.{Deviation}
+use Rattle.afdx_conform.specs.declared.finding.Deviation.TheVariants as deviation
 use Rattle.afdx_conform.specs.Explanations.{link, charge, last_time, levels_then}
 use Rattle.afdx_conform.specs.Leeway.{both_slacks}
 use Rattle.afdx_conform.specs.Levels.{first_levels, charged, may_pass, has_to_pass}
 use Rattle.afdx_conform.specs.States.{Event, Came, Closing, State, state_with, arrivals_came, led_by, kept, are_behind, first_states, states_at}
 use Rattle.afdx_conform.specs.Streams.{Gone, Terms, fits, is_no_sooner, latency, wire_time}
-
--- what is wrong with a frame that no arrival explains
-pub data Strangeness : Type 0 where
-  Damaged : Reason → Strangeness
-  OutOfTurn : Strangeness
-  NoArrival : Strangeness
-
--- what is wrong with the frame of this number; or of the arrival of this number, why the rule
--- refuses it, of which a frame left; that none left; or by how many ns it left too late, or too
--- early
-pub data Finding : Type 0 where
-  Strange : ℕ → Strangeness → Finding
-  Passed : ℕ → Reason → Finding
-  Stopped : ℕ → Finding
-  Late : ℕ → ℕ → Finding
-  Early : ℕ → ℕ → Finding
 
 -- found, at this event's time
 pub record Found : Type 0 where
@@ -39,6 +29,18 @@ pub record Found : Type 0 where
 
 abbrev pub found_at : ℕ → Finding → Found
 found_at time finding = record { time = time; finding = finding }
+
+-- how many frames are in findings: one is in each but that of an arrival that was stopped
+abbrev pub frames_of : Finding → ℕ
+frames_of (Strange m strangeness) = 1
+frames_of (Passed n reason) = 1
+frames_of (Stopped n) = 0
+frames_of (Late n by) = 1
+frames_of (Early n by) = 1
+
+unfoldable pub frames_in : List Finding → ℕ
+frames_in [] = 0
+frames_in (finding ∷ more) = frames_of finding + frames_in more
 
 -- an arrival whose event is over, why the rule refuses it, if it does so after each state, and
 -- whether a finding named it
@@ -139,49 +141,52 @@ lead states = kept (λ s. nat_eq (length s.rest) (length (front_rest states))) s
 abbrev pub with_rest : List Gone → List State → List State
 with_rest rest states = map (λ s. state_with rest s.levels s.waiting) states
 
-module _ (z : Terms) where
-  -- ---- a frame that no arrival explains
+-- ---- a frame that no arrival explains
 
+abbrev pub passed_or : Option Reason → ℕ → Option Finding → Option Finding
+passed_or None n others = others
+passed_or (Some reason) n others = Some (Passed n reason)
+
+abbrev pub named_or : Option Reason → Marked → List Marked → List Marked → List Marked
+named_or None m more others = m ∷ others
+named_or (Some reason) m more others = marked m.arrival m.mark true ∷ more
+
+abbrev pub damaged_or : Option Reason → Strangeness → Strangeness
+damaged_or None others = others
+damaged_or (Some reason) others = Damaged reason
+
+-- the first that is true of the frame
+abbrev pub damage : List ℕ → Option Reason
+damage bytes = first_of ((nat_lt (length bytes) least_frame, TooShort)
+    ∷ (nat_lt greatest_frame (length bytes), TooLong)
+    ∷ (not (is_sealed bytes), BadFcs) ∷ [])
+
+abbrev pub finding_or : Option Finding → Finding → Finding
+finding_or None others = others
+finding_or (Some finding) others = finding
+
+module _ (z : Terms) where
   -- the reason by which a finding may name the arrival
   abbrev pub names_it : Gone → Marked → Option Reason
   names_it y m = if fits z m.arrival y && not m.is_named then m.mark else None
-
-  abbrev pub passed_or : Option Reason → ℕ → Option Finding → Option Finding
-  passed_or None n others = others
-  passed_or (Some reason) n others = Some (Passed n reason)
 
   -- the first that it may name
   unfoldable pub first_named : Gone → List Marked → Option Finding
   first_named y [] = None
   first_named y (m ∷ more) = passed_or (names_it y m) m.arrival.tag (first_named y more)
 
-  abbrev pub named_or : Option Reason → Marked → List Marked → List Marked → List Marked
-  named_or None m more others = m ∷ others
-  named_or (Some reason) m more others = marked m.arrival m.mark true ∷ more
-
   -- the arrivals where it is named
   unfoldable pub once_named : Gone → List Marked → List Marked
   once_named y [] = []
   once_named y (m ∷ more) = named_or (names_it y m) m more (once_named y more)
 
-  abbrev pub damaged_or : Option Reason → Strangeness → Strangeness
-  damaged_or None others = others
-  damaged_or (Some reason) others = Damaged reason
-
-  -- the first that is true of the frame
-  abbrev pub damage : List ℕ → Option Reason
-  damage bytes = first_of ((nat_lt (length bytes) least_frame, TooShort)
-      ∷ (nat_lt greatest_frame (length bytes), TooLong)
-      ∷ (not (is_sealed bytes), BadFcs) ∷ [])
+  -- the frame fits the arrival, which isn't refused
+  abbrev pub is_of_right : Gone → Marked → Bool
+  is_of_right y m = fits z m.arrival y && is_none m.mark
 
   unfoldable pub strangeness : List Marked → Gone → Strangeness
   strangeness arrivals y = damaged_or (damage y.bytes)
-      (if list_any (λ m. fits z m.arrival y && is_none m.mark) arrivals then OutOfTurn
-      else NoArrival)
-
-  abbrev pub finding_or : Option Finding → Finding → Finding
-  finding_or None others = others
-  finding_or (Some finding) others = finding
+      (if list_any (λ m. is_of_right y m) arrivals then OutOfTurn else NoArrival)
 
   -- the finding, at an event of this time
   unfoldable pub unexplained : ℕ → Gone → Judged → Judged
@@ -239,22 +244,38 @@ module _ (z : Terms) where
   abbrev pub is_far : Arrival → Gone → Bool
   is_far x y = nat_lt (x.time + latency z + latency z + both_slacks z.by) y.time
 
-  -- no state is left: what the switch did. `behind` came after it, `states` are those when it
-  -- comes, and `rest` are the frames that are left in the front.
+  -- what the switch did with the arrival, by the next frame; `behind` came after it
+  abbrev pub deviation_of : List Arrival → Arrival → Gone → Deviation
+  deviation_of behind x y =
+      if is_far x y then deviation.Stopped
+      else if is_early x y
+      then deviation.Took (Early x.tag (x.time + wire_time z x.bytes - y.time))
+      else if list_any (λ w. fits z w y) behind then deviation.Stopped
+      else if bytes_eq x.bytes y.bytes && is_late x y
+      then deviation.Took (Late x.tag (y.time - x.time - latency z))
+      else if is_late x y then deviation.Stopped
+      else deviation.Other
+
+  -- where the arrival leads to, once the next frame is unexplained
+  abbrev pub asked : Arrival → List Gone → List State → List State
+  asked x rest states = led_by (λ s. states_at z x s.levels s) (with_rest rest (lead states))
+
+  abbrev pub deviates_by : Deviation → Arrival → List State → Gone → List Gone → Judged → Judged
+      → Judged
+  deviates_by deviation.Stopped x states y rest j again = stopped x states j
+  deviates_by (deviation.Took finding) x states y rest j again = took x finding states rest j
+  deviates_by deviation.Other x states y rest j again =
+      if has_some (asked x rest states)
+      then with_states (asked x rest states) (unexplained x.time y j)
+      else again
+
+  -- no state is left: what the switch did. `states` are those when the arrival comes, and `rest`
+  -- the frames that are left in the front.
   unfoldable pub deviates : List Arrival → Arrival → List State → List Gone → Judged → Judged
   deviates behind x states [] j = stopped x states j
   deviates behind x states (y ∷ rest) j =
-      if is_far x y then stopped x states j
-      else if is_early x y
-      then took x (Early x.tag (x.time + wire_time z x.bytes - y.time)) states rest j
-      else if list_any (λ w. fits z w y) behind then stopped x states j
-      else if bytes_eq x.bytes y.bytes && is_late x y
-      then took x (Late x.tag (y.time - x.time - latency z)) states rest j
-      else if is_late x y then stopped x states j
-      else if has_some (led_by (λ s. states_at z x s.levels s) (with_rest rest (lead states)))
-      then with_states (led_by (λ s. states_at z x s.levels s) (with_rest rest (lead states)))
-      (unexplained x.time y j)
-      else deviates behind x (with_rest rest (lead states)) rest (unexplained x.time y j)
+      deviates_by (deviation_of behind x y) x states y rest j
+      (deviates behind x (with_rest rest (lead states)) rest (unexplained x.time y j))
 
   abbrev pub answered_by : List Arrival → ℕ → Arrival → List State → Judged → Judged
   answered_by behind last x [] j =

@@ -7,18 +7,23 @@ use Rattle.afdx_conform.specs.Explanations.{link, charge}
 use Rattle.afdx_conform.specs.Levels.{Levels, may_pass, has_to_pass, charged, refused}
 use Rattle.afdx_conform.specs.States.{State, state_with, accepted_states, are_behind}
 use Rattle.afdx_conform.specs.Streams.{Gone, Terms, fits, is_open}
-use Rattle.afdx_conform.specs.Accounts.{AreLevels}
+use Rattle.afdx_conform.specs.Accounts.{AreLevels, AreNear}
 use Rattle.afdx_conform.specs.declared.levels.Rates.{Rates}
+use Rattle.afdx_conform.specs.declared.states.Case.{Case}
 use Rattle.afdx_conform.specs.declared.states.Held.{Held}
-use Rattle.afdx_conform.specs.declared.states.Next.{Next}
-use Rattle.afdx_conform.specs.declared.states.Next.TheVariants.{Fits, Other, Open, Over}
+use Rattle.afdx_conform.specs.declared.states.NextFrame.{NextFrame}
+use Rattle.afdx_conform.specs.declared.states.NextFrame.TheVariants.{Fits, Other, Open, Over}
 
 -- of these frames, of which some are explained
 abbrev pub state_of : List Gone → Held → State
 state_of ys held = state_with (drop held.passed ys) held.levels held.waiting
 
+-- the same, where so many frames are explained
+abbrev pub past : ℕ → Held → Held
+past passed held = record { passed = passed; levels = held.levels; waiting = held.waiting }
+
 -- that is what stands next for an arrival
-abbrev pub IsNext : Terms → Arrival → List Gone → Next → Type 0
+abbrev pub IsNext : Terms → Arrival → List Gone → NextFrame → Type 0
 IsNext z x [] Fits = ⊥
 IsNext z x [] Other = ⊥
 IsNext z x [] Open = IsTrue (is_open z x)
@@ -44,6 +49,18 @@ pub record IsSmall (rates : Rates) (held : Held) : Type 0 where
   pub passed : held.passed < most_held
   pub waiting : held.waiting < most_held
   pub levels : AreLevels rates held.levels
+
+-- a state of so many frames at most, and so many arrivals
+pub record IsWithin (rates : Rates) (frames count : ℕ) (held : Held) : Type 0 where
+  pub passed : held.passed ≤ frames
+  pub waiting : held.waiting ≤ count
+  pub levels : AreLevels rates held.levels
+  pub near : AreNear rates held.levels
+
+-- with what stands next in it: a frame that fits is one of these
+pub record IsCaseWithin (rates : Rates) (frames count : ℕ) (case : Case) : Type 0 where
+  pub held : IsWithin rates frames count case.held
+  pub left : case.next ≡ Fits → case.held.passed < frames
 
 -- so many frames are of this time or before, the others behind it
 pub record AreClosed (time passed : ℕ) (ys : List Gone) : Type 0 where

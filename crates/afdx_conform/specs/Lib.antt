@@ -11,6 +11,13 @@ pub mod LimitRanges
 pub mod Limits
 pub mod HeldStates
 pub mod Findings
+pub mod Marks
+pub mod Naming
+pub mod Bounds
+pub mod Testing
+pub mod Judging
+pub mod Courses
+pub mod TermsOf
 pub mod FindingLaws
 pub mod Thinned
 pub mod Right

@@ -6,8 +6,9 @@ use Rattle.afdx_frame.specs.declared.link.Side.TheVariants.{A}
 use Rattle.afdx_police.specs.Arrival.{arrival_with}
 use Rattle.afdx_police.specs.Rule.{rule_with}
 use Rattle.afdx_police.specs.declared.shape.Reason.TheVariants.{OverRate}
-use Rattle.afdx_conform.specs.Findings.{Strange, Passed, Stopped, Late, Early, OutOfTurn}
-use Rattle.afdx_conform.specs.Findings.{NoArrival, Found, found_at, judged_after}
+use Rattle.afdx_conform.specs.Findings.{Found, found_at, judged_after}
+use Rattle.afdx_conform.specs.declared.finding.Finding.TheVariants.{Strange, Passed, Stopped, Late, Early}
+use Rattle.afdx_conform.specs.declared.finding.Strangeness.TheVariants.{OutOfTurn, NoArrival}
 use Rattle.afdx_conform.specs.States.{Event, Came, Closing}
 use Rattle.afdx_conform.specs.Streams.{Gone, Terms}
 

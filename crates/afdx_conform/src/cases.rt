@@ -2,7 +2,8 @@
 
 ghost use Rattle.std.specs.Prelude.{◌≡◌, ◌≤◌, ℕ, List, length, map, drop, All, IfOk};
 ghost use Rattle.afdx_police.specs.Arrival.{Arrival};
-ghost use Rattle.afdx_conform.specs.HeldStates.{IsNext};
+ghost use Rattle.afdx_conform.specs.HeldStates.{IsNext, IsWithin, IsCaseWithin};
+ghost use Rattle.afdx_conform.specs.declared.levels.Rates.{Rates};
 ghost use Rattle.afdx_conform.specs.Limits.{AreLimits, gone_of};
 ghost use Rattle.afdx_frame.specs.Times.{latest_listed};
 ghost use Rattle.afdx_conform.specs.LimitRanges.{most_bytes};
@@ -25,13 +26,15 @@ pub fn cases_of(
     is_open: bool,
 ) -> Result<Vec<Case>, AllocError>
     requires time { time ≤ latest_listed }
-    requires left { All (λ y. y.time ≤ latest_listed) frames.now }
     requires bytes { length bytes.now ≤ most_bytes }
     ensures held { IfOk result (λ out. map (λ c. c.held) out.items ≡ held.now) }
     ensures next { (z : Terms) (x : Arrival) → AreLimits z limits.now →
         x.time ≡ time → x.bytes ≡ bytes.now → is_open ≡ is_open_by z x →
         IfOk result (λ out. All
         (λ c. IsNext z x (drop c.held.passed (map gone_of frames.now)) c.next) out.items) }
+    ensures within { (rates : Rates) (count : ℕ) →
+        All (λ h. IsWithin rates (length frames.now) count h) held.now →
+        IfOk result (λ out. All (λ c. IsCaseWithin rates (length frames.now) count c) out.items) }
 {
     let mut out = Vec::new(alloc);
     for state in held {

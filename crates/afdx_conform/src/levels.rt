@@ -37,7 +37,8 @@ pub struct Rates {
 }
 
 impl Rates {
-    ghost use Rattle.afdx_conform.specs.Accounts.{AreRates, AreLevels, HasRoom};
+    ghost use Rattle.afdx_conform.specs.Accounts.{AreRates, AreLevels, AreNear};
+    ghost use Rattle.afdx_conform.specs.Accounts.{HasRoom, HasToPass};
     ghost use Rattle.afdx_conform.specs.Ranges.{most_charge};
 
     /// Those of a link of this rule, where stamps and clocks may be off so much.
@@ -64,6 +65,8 @@ impl Rates {
         ensures moved { (link : Regulation) (by : By) → AreRates link by self.now →
             result ≡ spec.later link by ns levels }
         ensures bounded { AreLevels self.now levels → AreLevels self.now result }
+        ensures near { (link : Regulation) (by : By) → AreRates link by self.now →
+            AreNear self.now levels → AreNear self.now result }
     {
         Levels {
             lo: levels.lo.saturating_sub(self.fastest.saturating_mul(ns)),
@@ -94,8 +97,9 @@ impl Rates {
     pub fn has_to_pass(&self, levels: Levels, charge: u64) -> bool
         requires cost { charge ≤ most_charge }
         requires bounded { AreLevels self.now levels }
-        ensures { (link : Regulation) (by : By) → AreRates link by self.now →
+        ensures defined { (link : Regulation) (by : By) → AreRates link by self.now →
             result ≡ spec.has_to_pass link by charge levels }
+        ensures room { IsTrue result ↔ HasToPass self.now levels charge }
     {
         levels.hi + self.cost(charge) <= self.full
     }
@@ -108,6 +112,7 @@ impl Rates {
         ensures moved { (link : Regulation) (by : By) → AreRates link by self.now →
             result ≡ spec.charged link by charge levels }
         ensures bounded { AreLevels self.now result }
+        ensures near { AreNear self.now levels → AreNear self.now result }
     {
         let cost = self.cost(charge);
         let most = self.full + self.slow_slip;
@@ -125,6 +130,8 @@ impl Rates {
         ensures moved { (link : Regulation) (by : By) → AreRates link by self.now →
             result ≡ spec.refused link by charge levels }
         ensures bounded { AreLevels self.now result }
+        ensures near { ¬ HasToPass self.now levels charge →
+            AreNear self.now levels → AreNear self.now result }
     {
         let cost = self.cost(charge);
         Levels {

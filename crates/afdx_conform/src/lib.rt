@@ -4,15 +4,38 @@
 //! A stream is one link, on one side, at one output port. Its tests are in `afdx_part_tests`.
 #![tactic(auto)]
 
+mod arrived;
+mod arriving;
+mod bounds;
 mod cases;
+mod course;
+mod deviate;
+mod deviating;
+mod finding;
+mod first;
+mod fronts;
+mod judging;
 pub mod laws;
+mod leading;
 mod leeway;
 mod levels;
 mod limits;
+mod naming;
 mod states;
+mod stream;
+mod terms;
+mod testing;
 
+pub use arrived::Arrived;
+pub use arriving::judge_arrival;
+pub use bounds::Bounds;
 pub use cases::cases_of;
+pub use finding::{Deviation, Finding, Mark, Strangeness};
+pub use judging::{Judging, judge_closing};
+pub use leading::Moment;
 pub use leeway::Leeway;
 pub use levels::{Levels, Rates};
 pub use limits::{Frame, Limits};
-pub use states::{Case, Held, Next, came, close, lead_all, thinned};
+pub use states::{Case, Held, NextFrame, came, close, lead_all, thinned};
+pub use stream::{Verdict, judge_stream};
+pub use terms::StreamTerms;

@@ -1,6 +1,6 @@
 //! Which frame may be what a switch made of an arrival.
 
-ghost use Rattle.std.specs.Prelude.{◌≡◌, ◌≤◌, ◌+◌, ◌*◌, ℕ, List, length, map, drop, All};
+ghost use Rattle.std.specs.Prelude.{◌≡◌, ◌≤◌, ◌<◌, ◌+◌, ◌*◌, ℕ, List, length, map, drop};
 ghost use Rattle.std.specs.Int.{div_ceil};
 ghost use Rattle.afdx_police.specs.Arrival.{Arrival};
 ghost use Rattle.afdx_conform.specs.HeldStates.{IsNext};
@@ -11,7 +11,7 @@ ghost use Rattle.afdx_frame.specs.Times.{latest_listed};
 ghost use Rattle.afdx_conform.specs.Streams.{Terms, fits as fits_it, is_open as is_open_by};
 
 use crate::leeway::{Leeway, PARTS};
-use crate::states::Next;
+use crate::states::NextFrame;
 
 /// A frame that left: its number, the time of its last bit in ns, its bytes.
 #[derive(Debug, Drop)]
@@ -19,6 +19,7 @@ pub struct Frame {
     pub number: u64,
     pub time: u64,
     pub bytes: Vec<u8>,
+    pub ghost listed: { time ≤ latest_listed },
 }
 
 /// What a stream's frames are held against.
@@ -67,7 +68,6 @@ impl Limits {
     /// Whether the frame may be what the switch made of an arrival of these bytes at this time.
     pub fn fits(&self, time: u64, bytes: &[u8], frame: &Frame) -> bool
         requires time { time ≤ latest_listed }
-        requires left { frame.now.time ≤ latest_listed }
         requires bytes { length bytes.now ≤ most_bytes }
         ensures { (z : Terms) (x : Arrival) → AreLimits z self.now →
             x.time ≡ time → x.bytes ≡ bytes.now →
@@ -91,24 +91,24 @@ impl Limits {
         frames: &[Frame],
         passed: usize,
         is_open: bool,
-    ) -> Next
+    ) -> NextFrame
         requires time { time ≤ latest_listed }
-        requires left { All (λ y. y.time ≤ latest_listed) frames.now }
         requires bytes { length bytes.now ≤ most_bytes }
-        ensures { (z : Terms) (x : Arrival) → AreLimits z self.now →
+        ensures defined { (z : Terms) (x : Arrival) → AreLimits z self.now →
             x.time ≡ time → x.bytes ≡ bytes.now → is_open ≡ is_open_by z x →
             IsNext z x (drop passed (map gone_of frames.now)) result }
+        ensures left { result ≡ NextFrame.Fits → passed < length frames.now }
     {
         if passed < frames.len() {
             if self.fits(time, bytes, &frames[passed]) {
-                Next::Fits
+                NextFrame::Fits
             } else {
-                Next::Other
+                NextFrame::Other
             }
         } else if is_open {
-            Next::Open
+            NextFrame::Open
         } else {
-            Next::Over
+            NextFrame::Over
         }
     }
 

@@ -1,14 +1,18 @@
 //! The states of a stream: the explanations so far.
 
 ghost use Rattle.std.specs.Prelude.{◌≡◌, ◌≤◌, ◌<◌, ◌+◌, ◌-◌, ◌++◌, ℕ, List, [], ◌∷◌};
-ghost use Rattle.std.specs.Prelude.{map, drop, length, All, IfOk, OnOk};
+ghost use Rattle.std.specs.Prelude.{map, drop, length, All, IfOk, OnOk, IfSome};
 ghost use Rattle.std.specs.List.{list_any};
 ghost use Rattle.std.specs.Option.{option_to_list};
 ghost use Rattle.afdx_police.specs.Arrival.{Arrival};
-ghost use Rattle.afdx_conform.specs.Accounts.{AreRates, AreLevels};
+ghost use Rattle.afdx_conform.specs.Accounts.{AreRates, AreLevels, AreNear};
+ghost use Rattle.afdx_frame.specs.Regulation.{Regulation};
+ghost use Rattle.afdx_conform.specs.Leeway.{Leeway as By};
+ghost use Rattle.afdx_conform.specs.declared.levels.Rates.{Rates};
 ghost use Rattle.afdx_conform.specs.Explanations.{link, charge as charge_of, last_time, levels_then};
 ghost use Rattle.afdx_conform.specs.Findings.{thinned_onto};
-ghost use Rattle.afdx_conform.specs.HeldStates.{IsNext, IsSmall, AreClosed, AreFront, state_of};
+ghost use Rattle.afdx_conform.specs.HeldStates.{IsNext, IsSmall, IsWithin, IsCaseWithin};
+ghost use Rattle.afdx_conform.specs.HeldStates.{AreClosed, AreFront, state_of};
 ghost use Rattle.afdx_conform.specs.HeldStates.{states_if_accepted, states_if_refused};
 ghost use Rattle.afdx_conform.specs.HeldStates.{outdoes, kept_with};
 ghost use Rattle.afdx_conform.specs.Ranges.{most_charge, most_held};
@@ -22,7 +26,7 @@ use std::alloc::{AllocError, Global};
 
 /// What stands next in a state for an arrival that is accepted.
 #[derive(Clone, Copy, Debug, PartialEq, Eq)]
-pub enum Next {
+pub enum NextFrame {
     /// A frame that may be what the switch made of it.
     Fits,
     /// Another frame.
@@ -55,42 +59,57 @@ impl Held {
     }
 
     /// The state once an arrival is accepted, which leaves these levels, if it can be.
-    fn accepted(self, levels: Levels, next: Next) -> Option<Held>
+    fn accepted(self, levels: Levels, next: NextFrame) -> Option<Held>
         requires passed { self.passed < most_held }
         requires waiting { self.waiting < most_held }
-        ensures { (z : Terms) (x : Arrival) (ys : List Gone) →
+        ensures defined { (z : Terms) (x : Arrival) (ys : List Gone) →
             IsNext z x (drop self.passed ys) next →
             accepted_states z x levels self.waiting (drop self.passed ys)
             ≡ map (state_of ys) (option_to_list result) }
+        ensures levels { IfSome result (λ h. h.levels ≡ levels) }
+        ensures waiting { IfSome result (λ h. h.waiting ≤ self.waiting + 1) }
+        ensures passed { (frames : ℕ) → self.passed ≤ frames →
+            (next ≡ NextFrame.Fits → self.passed < frames) →
+            IfSome result (λ h. h.passed ≤ frames) }
     {
         match next {
-            Next::Fits => Some(Held {
+            NextFrame::Fits => Some(Held {
                 passed: self.passed + 1,
                 levels,
                 waiting: self.waiting,
             }),
-            Next::Open => Some(Held {
+            NextFrame::Open => Some(Held {
                 passed: self.passed,
                 levels,
                 waiting: self.waiting + 1,
             }),
-            Next::Other | Next::Over => None,
+            NextFrame::Other | NextFrame::Over => None,
         }
     }
 
     /// The state once an arrival of this charge, in bytes, is accepted, if it may have room.
     /// `levels` are those when it comes.
-    fn if_accepted(self, rates: &Rates, levels: Levels, charge: u64, next: Next) -> Option<Held>
+    fn if_accepted(
+        self,
+        rates: &Rates,
+        levels: Levels,
+        charge: u64,
+        next: NextFrame,
+    ) -> Option<Held>
         requires passed { self.passed < most_held }
         requires waiting { self.waiting < most_held }
         requires cost { charge ≤ most_charge }
         requires bounded { AreLevels rates.now levels }
-        ensures { (z : Terms) (x : Arrival) (ys : List Gone) →
+        ensures defined { (z : Terms) (x : Arrival) (ys : List Gone) →
             AreRates (link z) z.by rates.now →
             charge ≡ charge_of z x →
             IsNext z x (drop self.passed ys) next →
             states_if_accepted z x levels self.waiting (drop self.passed ys)
             ≡ map (state_of ys) (option_to_list result) }
+        ensures within { (frames count : ℕ) →
+            self.passed ≤ frames → self.waiting ≤ count → AreNear rates.now levels →
+            (next ≡ NextFrame.Fits → self.passed < frames) →
+            IfSome result (λ h. IsWithin rates.now frames (count + 1) h) }
     {
         if rates.may_pass(levels, charge) {
             self.accepted(rates.charged(levels, charge), next)
@@ -104,11 +123,14 @@ impl Held {
         requires cost { charge ≤ most_charge }
         requires some { 0 < charge }
         requires bounded { AreLevels rates.now levels }
-        ensures { (z : Terms) (x : Arrival) (ys : List Gone) →
+        ensures defined { (z : Terms) (x : Arrival) (ys : List Gone) →
             AreRates (link z) z.by rates.now →
             charge ≡ charge_of z x →
             states_if_refused z x levels self.waiting (drop self.passed ys)
             ≡ map (state_of ys) (option_to_list result) }
+        ensures within { (frames count : ℕ) →
+            self.passed ≤ frames → self.waiting ≤ count → AreNear rates.now levels →
+            IfSome result (λ h. IsWithin rates.now frames (count + 1) h) }
     {
         if rates.has_to_pass(levels, charge) {
             None
@@ -127,19 +149,24 @@ impl Held {
         rates: &Rates,
         levels: Levels,
         charge: u64,
-        next: Next,
+        next: NextFrame,
     ) -> (Option<Held>, Option<Held>)
         requires passed { self.passed < most_held }
         requires waiting { self.waiting < most_held }
         requires cost { charge ≤ most_charge }
         requires some { 0 < charge }
         requires bounded { AreLevels rates.now levels }
-        ensures { (z : Terms) (x : Arrival) (ys : List Gone) →
+        ensures defined { (z : Terms) (x : Arrival) (ys : List Gone) →
             AreRates (link z) z.by rates.now →
             charge ≡ charge_of z x →
             IsNext z x (drop self.passed ys) next →
             states_at z x levels (state_of ys self)
             ≡ map (state_of ys) (option_to_list result.0 ++ option_to_list result.1) }
+        ensures within { (frames count : ℕ) →
+            self.passed ≤ frames → self.waiting ≤ count → AreNear rates.now levels →
+            (next ≡ NextFrame.Fits → self.passed < frames) →
+            All (λ h. IsWithin rates.now frames (count + 1) h)
+            (option_to_list result.0 ++ option_to_list result.1) }
     {
         (
             self.if_accepted(rates, levels, charge, next),
@@ -152,7 +179,7 @@ impl Held {
 #[derive(Clone, Copy, Debug, PartialEq, Eq)]
 pub struct Case {
     pub held: Held,
-    pub next: Next,
+    pub next: NextFrame,
 }
 
 /// Puts a state behind others, if there is one.
@@ -177,7 +204,7 @@ pub fn lead_all(
     requires cost { charge ≤ most_charge }
     requires some { 0 < charge }
     requires small { All (λ c. IsSmall rates.now c.held) cases.now }
-    ensures { (z : Terms) (x : Arrival) (ys : List Gone) (last : ℕ) →
+    ensures defined { (z : Terms) (x : Arrival) (ys : List Gone) (last : ℕ) →
         AreRates (link z) z.by rates.now →
         charge ≡ charge_of z x →
         ns ≡ x.time - last →
@@ -185,6 +212,10 @@ pub fn lead_all(
         IfOk result (λ out. map (state_of ys) out.items
         ≡ led_by (λ s. states_at z x (levels_then z s.levels last x) s)
         (map (λ c. state_of ys c.held) cases.now)) }
+    ensures within { (link : Regulation) (by : By) (frames count : ℕ) →
+        AreRates link by rates.now →
+        All (λ c. IsCaseWithin rates.now frames count c) cases.now →
+        IfOk result (λ out. All (λ h. IsWithin rates.now frames (count + 1) h) out.items) }
 {
     let mut out = Vec::new(alloc);
     for case in cases {
@@ -205,6 +236,9 @@ pub fn close(held: &mut Vec<Held>, passed: usize)
         AreClosed time passed ys →
         AreKept z ys before (map (state_of ys) held.old.items) →
         AreKept z ys (Closing time ∷ before) (map (state_of ys) held.new.items) }
+    ensures within { (rates : Rates) (frames count : ℕ) →
+        All (λ h. IsWithin rates frames count h) held.old.items →
+        All (λ h. IsWithin rates frames count h) held.new.items }
 {
     held.retain(|state| passed <= state.passed);
 }
@@ -236,6 +270,9 @@ pub fn thinned(alloc: Global, held: &[Held]) -> Result<Vec<Held>, AllocError>
         IfOk result (λ out.
         map (state_of ys) out.items ≡ thinned_onto [] (map (state_of ys) held.now)) }
     ensures front { IfOk result (λ out. AreFront out.items) }
+    ensures within { (rates : Rates) (frames count : ℕ) →
+        All (λ h. IsWithin rates frames count h) held.now →
+        IfOk result (λ out. All (λ h. IsWithin rates frames count h) out.items) }
 {
     let mut out = Vec::new(alloc);
     for state in held {
@@ -264,6 +301,10 @@ pub fn came(
         AreKept z ys before (map (λ c. state_of ys c.held) cases.now) →
         IfOk result (λ out. AreKept z ys (Came x ∷ before) (map (state_of ys) out.items)) }
     ensures front { IfOk result (λ out. AreFront out.items) }
+    ensures within { (link : Regulation) (by : By) (frames count : ℕ) →
+        AreRates link by rates.now →
+        All (λ c. IsCaseWithin rates.now frames count c) cases.now →
+        IfOk result (λ out. All (λ h. IsWithin rates.now frames (count + 1) h) out.items) }
 {
     let led = lead_all(alloc, rates, cases, ns, charge)?;
     thinned(alloc, led.as_slice())

@@ -1,11 +1,10 @@
 //! Leeways, limits and states with known answers, of a link with frames of 64 bytes, a BAG of 1 ms,
 //! a jitter of 500 us and a latency of 17 us, at a port of 100 Mbit/s.
 
-ghost use Rattle.std.specs.Prelude.{◌≡◌, IfOk};
 ghost use Rattle.afdx_conform.specs.Accounts.{AreLevels};
 
 use afdx_conform::{
-    Case, Frame, Held, Leeway, Levels, Limits, Next, Rates, came, cases_of, close, laws,
+    Case, Frame, Held, Leeway, Levels, Limits, NextFrame, Rates, came, cases_of, close, laws,
 };
 use afdx_frame::{Policing, VlId};
 use afdx_police::LinkRule;
@@ -45,14 +44,12 @@ fn leeways_in_range() -> Result<(), Fail> {
 const BYTES: [u8; 64] = [7; 64];
 
 /// A frame of these bytes that left at this time.
-fn frame(alloc: Global, time: u64) -> Result<Frame, AllocError>
-    ensures { IfOk result (λ frame. frame.time ≡ time) }
-{
+fn frame(alloc: Global, time: u32) -> Result<Frame, AllocError> {
     let mut bytes = Vec::new(alloc);
     bytes.extend_from_slice(&BYTES)?;
     Ok(Frame {
         number: 1,
-        time,
+        time: time.into(),
         bytes,
     })
 }
@@ -70,7 +67,7 @@ type Left = (u64, u32, bool);
 /// The first of the rows that is otherwise.
 fn otherwise_fitting(alloc: Global, rows: &[Left]) -> Result<Option<Left>, AllocError> {
     for (slack, time, wanted) in rows {
-        let frame = frame(alloc, *time as u64)?;
+        let frame = frame(alloc, *time)?;
         let fits = limits(*slack).map(|limits| limits.fits(0, &BYTES, &frame));
         if fits != Some(*wanted) {
             return Ok(Some((*slack, *time, *wanted)));
@@ -134,7 +131,11 @@ fn what_stands_next(rt: HostRuntime) -> Result<(), Fail> {
     let [late, open, over] = nexts.map(|cases| cases.first().map(|case| case.next));
     equal(
         (late, open, over),
-        (Some(Next::Other), Some(Next::Open), Some(Next::Over)),
+        (
+            Some(NextFrame::Other),
+            Some(NextFrame::Open),
+            Some(NextFrame::Over),
+        ),
     )
 }
 
@@ -163,7 +164,7 @@ fn states_after(
     rates: &Rates,
     levels: Levels,
     ns: u64,
-    next: Next,
+    next: NextFrame,
     closed: usize,
 ) -> Result<Vec<Held>, AllocError>
     requires { AreLevels rates.now levels }
@@ -176,7 +177,7 @@ fn states_after(
 
 /// What stands next, how many frames are closed then, and the states: of each how many frames are
 /// explained and how many arrivals wait.
-type Row<'a> = (u64, Next, usize, &'a [(usize, u64)]);
+type Row<'a> = (u64, NextFrame, usize, &'a [(usize, u64)]);
 
 /// The first of the rows that is otherwise, of a second arrival so many ns behind the first.
 fn otherwise_led(alloc: Global, rows: &[Row]) -> Result<Option<usize>, AllocError> {
@@ -200,14 +201,14 @@ fn a_second_arrival(rt: HostRuntime) -> Result<(), Fail> {
     laws::found_where_none_is_left();
     let rows = [
         // The account has room again from 500 us on.
-        (500_000, Next::Fits, 1, [(1, 0)].as_slice()),
-        (499_999, Next::Fits, 0, [(0, 0)].as_slice()),
+        (500_000, NextFrame::Fits, 1, [(1, 0)].as_slice()),
+        (499_999, NextFrame::Fits, 0, [(0, 0)].as_slice()),
         // A frame of an arrival that has to be refused: no state is left.
-        (499_999, Next::Fits, 1, [].as_slice()),
+        (499_999, NextFrame::Fits, 1, [].as_slice()),
         // The frame of one that has to pass may leave unseen, and not be missing.
-        (500_000, Next::Open, 0, [(0, 1)].as_slice()),
-        (500_000, Next::Over, 0, [].as_slice()),
-        (500_000, Next::Other, 0, [].as_slice()),
+        (500_000, NextFrame::Open, 0, [(0, 1)].as_slice()),
+        (500_000, NextFrame::Over, 0, [].as_slice()),
+        (500_000, NextFrame::Other, 0, [].as_slice()),
     ];
     all_right(otherwise_led(rt.alloc(), &rows)?)
 }

@@ -32,4 +32,6 @@ mod recordings;
 #[cfg(test)]
 mod solve;
 #[cfg(test)]
+mod streams;
+#[cfg(test)]
 mod text;

@@ -1,8 +1,8 @@
-use Rattle.std.proofs.Common.{ℕ, ◌++◌, List, [], ◌∷◌, map, drop, get_or, sym, ap, ◌∙◌, subst, arith}
+use Rattle.std.proofs.Common.{ℕ, length, ◌++◌, List, [], ◌∷◌, map, drop, get_or, sym, ap, ◌∙◌, subst, arith}
 use Rattle.std.proofs.lemmas.List.{map-append, take_more, take_all}
-use Rattle.std.proofs.lemmas.List.Elements.{All-push}
+use Rattle.std.proofs.lemmas.List.Elements.{All-nil, All-push}
 use Rattle.std.specs.Prelude.{All}
-use Rattle.afdx_conform.specs.HeldStates.{IsNext}
+use Rattle.afdx_conform.specs.HeldStates.{IsNext, IsCaseWithin}
 use Rattle.afdx_conform.specs.Limits.{gone_of}
 use Rattle.afdx_conform.specs.declared.states.Case.{Case}
 use Rattle.afdx_conform.specs.declared.states.Held.{Held}
@@ -16,6 +16,8 @@ loop-state-init c = (
   ap (λ (l : List Case). map (λ (d : Case). d.held) l) c.new-out.ensures.items,
   λ z x a at of opens. subst (λ (l : List Case). All (λ d. IsNext z x (drop d.held.passed (map gone_of c.args.frames.now)) d.next) l)
       (sym c.new-out.ensures.items) (λ i d lt. absurd (omega (arith, lt))),
+  λ rates count all. subst (λ (l : List Case). All (λ d. IsCaseWithin rates (length c.args.frames.now) count d) l)
+      (sym c.new-out.ensures.items) (All-nil (λ (d : Case). IsCaseWithin rates (length c.args.frames.now) count d)),
 )
 
 pub loop-state-preserved : goal.loop-state-preserved
@@ -30,7 +32,12 @@ loop-state-preserved c =
       λ z x a at of opens. subst (λ (l : List Case). All (λ d. IsNext z x (drop d.held.passed (map gone_of c.args.frames.now)) d.next) l)
           (sym c.in_ok-push.ensures.items)
           (All-push (λ (d : Case). IsNext z x (drop d.held.passed (map gone_of c.args.frames.now)) d.next) c.loop-state.out.items case
-          (c.loop-state.invariant.1 z x a at of opens) (c.next-next.ensures z x a at of opens)),
+          (c.loop-state.invariant.1 z x a at of opens) (c.next-next.ensures.defined z x a at of opens)),
+      λ rates count all. subst (λ (l : List Case). All (λ d. IsCaseWithin rates (length c.args.frames.now) count d) l)
+          (sym c.in_ok-push.ensures.items)
+          (All-push (λ (d : Case). IsCaseWithin rates (length c.args.frames.now) count d) c.loop-state.out.items case
+          (c.loop-state.invariant.2 rates count all)
+          (record { held = all c.loop-state.state-index no-held c.loop-state-test.true; left = c.next-next.ensures.left })),
     )
 
 pub returns-clause-held : goal.returns-clause-held
@@ -40,3 +47,6 @@ returns-clause-held c =
 
 pub returns-clause-next : goal.returns-clause-next
 returns-clause-next c z x a at of opens = c.loop-state.invariant.1 z x a at of opens
+
+pub returns-clause-within : goal.returns-clause-within
+returns-clause-within c rates count all = c.loop-state.invariant.2 rates count all

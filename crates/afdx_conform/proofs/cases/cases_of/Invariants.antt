@@ -1,7 +1,8 @@
-use Rattle.std.proofs.Common.{◌≡◌, map, take, drop}
+use Rattle.std.proofs.Common.{◌≡◌, ℕ, length, map, take, drop}
+use Rattle.afdx_conform.specs.declared.levels.Rates.{Rates}
 use Rattle.std.specs.Prelude.{All}
 use Rattle.afdx_police.specs.Arrival.{Arrival}
-use Rattle.afdx_conform.specs.HeldStates.{IsNext}
+use Rattle.afdx_conform.specs.HeldStates.{IsNext, IsWithin, IsCaseWithin}
 use Rattle.afdx_conform.specs.Limits.{AreLimits, gone_of}
 use Rattle.afdx_conform.specs.Streams.{Terms, is_open}
 use Rattle.afdx_conform.specs.declared.states.Case.{Case}
@@ -13,3 +14,5 @@ invariant-loop-state l =
     × ((z : Terms) (x : Arrival) → AreLimits z l.limits → x.time ≡ l.time → x.bytes ≡ l.bytes →
     l.is_open ≡ is_open z x →
     All (λ c. IsNext z x (drop c.held.passed (map gone_of l.frames)) c.next) l.out.items)
+    × ((rates : Rates) (count : ℕ) → All (λ h. IsWithin rates (length l.frames) count h) l.held
+    → All (λ c. IsCaseWithin rates (length l.frames) count c) l.out.items)

@@ -1,0 +1,253 @@
+-- How the code goes through what is found where an arrival leads to no state.
+use Rattle.std.proofs.Common.{◌≡◌, ℕ, ◌+◌, ◌<◌, ◌≤◌, ◌⊎◌, Bool, true, false, ◌&&◌, List, [], ◌∷◌, ◌++◌, map, drop, get_or, length, refl, sym, ap, ◌∙◌, subst, arith}
+use Rattle.std.proofs.lemmas.List.Elements.{All-weaker, All-same, All-map, All-filter}
+use Rattle.std.specs.Prelude.{if◌then◌else◌, nat_eq, IsTrue, All, Contains, IfOk, Result, Ok, Err}
+use Rattle.std.proofs.lemmas.List.{length-map}
+use Rattle.std.specs.List.{filter, list_any}
+use Rattle.std.specs.Str.{bytes_eq}
+use Rattle.afdx_police.specs.Arrival.{Arrival}
+use Rattle.afdx_conform.specs.Bounds.{HaveToPass}
+use Rattle.afdx_conform.specs.Explanations.{link, charge, levels_then}
+use Rattle.afdx_conform.specs.Findings.{Finding, Marked, Judged, judged_with, with_states, with_finding, found_at, frames_of, front_rest, lead, with_rest, has_some, aged, as_accepted, asked, stopped, took, unexplained, is_far, is_early, is_late, deviation_of, deviates}
+use Rattle.afdx_conform.specs.HeldStates.{state_of, past, IsWithin}
+use Rattle.afdx_conform.specs.Levels.{has_to_pass}
+use Rattle.afdx_conform.specs.Limits.{gone_of}
+use Rattle.afdx_conform.specs.Accounts.{AreLevels, AreNear}
+use Rattle.afdx_conform.specs.Marks.{told}
+use Rattle.afdx_conform.specs.declared.levels.Rates.{Rates}
+use Rattle.afdx_conform.specs.declared.limits.Frame.{Frame}
+use Rattle.afdx_conform.specs.States.{State, led_by, states_at}
+use Rattle.afdx_conform.specs.Streams.{Gone, Terms, fits}
+use Rattle.afdx_conform.specs.declared.finding.Deviation.{Deviation}
+use Rattle.afdx_conform.specs.declared.finding.Deviation.TheVariants as deviation
+use Rattle.afdx_conform.specs.declared.finding.Finding.TheVariants.{Stopped}
+use Rattle.afdx_conform.specs.declared.states.Held.{Held}
+use Rattle.afdx_conform.proofs.DeviateLemmas.{gone-at, on-stopped, on-took, on-led, on-other, on-none, lead-some, front-on, accepted-rest}
+use Rattle.afdx_conform.proofs.LeadLemmas.{front-drop, aged-lead, aged-rest, aged-led}
+use Rattle.afdx_conform.proofs.NamingLemmas.{told-more, told-none}
+
+-- a frame that is found early or late is one frame
+abbrev IsOneFrame : Deviation → Type 0
+IsOneFrame deviation.Stopped = Unit {0}
+IsOneFrame (deviation.Took f) = frames_of f ≡ 1
+IsOneFrame deviation.Other = Unit {0}
+
+either : (b : Bool) (u v : Deviation) → IsOneFrame u → IsOneFrame v → IsOneFrame (if b then u else v)
+either true u v p q = p
+either false u v p q = q
+
+pub one-frame : (z : Terms) (behind : List Arrival) (x : Arrival) (y : Gone) (f : Finding) → deviation_of z behind x y ≡ deviation.Took f
+    → frames_of f ≡ 1
+one-frame z behind x y f e =
+    subst (λ (d : Deviation). IsOneFrame d) e
+    (either (is_far z x y) _ _ tt (either (is_early z x y) _ _ refl (either (list_any (λ w. fits z w y) behind) _ _ tt
+    (either (bytes_eq x.bytes y.bytes && is_late z x y) _ _ refl (either (is_late z x y) _ _ tt tt)))))
+
+module _ (z : Terms) (last : ℕ) (behind : List Arrival) (x : Arrival) (ys : List Gone) where
+  abbrev S : List Held → List State
+  S held = map (state_of ys) held
+
+  abbrev When : List Held → List State
+  When held = aged z last x (map (state_of ys) held)
+
+  abbrev Led : List Held → List State
+  Led held = led_by (λ s. states_at z x (levels_then z s.levels last x) s) (map (state_of ys) held)
+
+  -- so far: `all` are the states and `whole` what was judged before, `held` the states, `front` their
+  -- frames and `so_far` what is judged now
+  pub record AreAt (all held : List Held) (front : ℕ) (whole so_far : Judged) : Type 0 where
+    pub same : deviates z behind x (When held) (drop front ys) so_far
+        ≡ deviates z behind x (When all) (front_rest (map (state_of ys) all)) whole
+    pub none : Led held ≡ []
+    pub at_front : drop front ys ≡ front_rest (map (state_of ys) held)
+
+  pub at-first : (held : List Held) (front : ℕ) (j : Judged) → Led held ≡ [] → drop front ys ≡ front_rest (map (state_of ys) held)
+      → AreAt held held front j j
+  at-first held front j none e = record {
+    same = ap (λ (l : List Gone). deviates z behind x (When held) l j) e;
+    none = none;
+    at_front = e;
+  }
+
+  module _ (all held : List Held) (front : ℕ) (whole so_far : Judged) (at : AreAt all held front whole so_far) where
+    abbrev Whole : Judged
+    Whole = deviates z behind x (When all) (front_rest (map (state_of ys) all)) whole
+
+    pub at-end : drop front ys ≡ [] → stopped z x (When held) so_far ≡ Whole
+    at-end e = sym (on-none z behind x (When held) so_far)
+        ∙ ap (λ (l : List Gone). deviates z behind x (When held) l so_far) (sym e) ∙ at.same
+
+    module _ (y : Gone) (rest : List Gone) (next : drop front ys ≡ y ∷ rest) where
+      here : deviates z behind x (When held) (y ∷ rest) so_far ≡ Whole
+      here = ap (λ (l : List Gone). deviates z behind x (When held) l so_far) (sym next) ∙ at.same
+
+      pub at-stop : deviation_of z behind x y ≡ deviation.Stopped → stopped z x (When held) so_far ≡ Whole
+      at-stop e = sym (on-stopped z behind x (When held) y rest so_far e) ∙ here
+
+      pub at-took : (f : Finding) → deviation_of z behind x y ≡ deviation.Took f → took z x f (When held) rest so_far ≡ Whole
+      at-took f e = sym (on-took z behind x (When held) y rest so_far f e) ∙ here
+
+      module _ (out : List Held) (moved : map (state_of ys) out ≡ with_rest rest (lead (map (state_of ys) held))) where
+        -- the lead, one frame on, when the arrival comes
+        pub lead-when : with_rest rest (lead (When held)) ≡ When out
+        lead-when = ap (λ (l : List State). with_rest rest l) (aged-lead z last x (map (state_of ys) held))
+            ∙ aged-rest z last x rest (lead (map (state_of ys) held))
+            ∙ ap (λ (l : List State). aged z last x l) (sym moved)
+
+        asked-is : asked z x rest (When held) ≡ Led out
+        asked-is = ap (λ (l : List State). led_by (λ s. states_at z x s.levels s) l) lead-when
+            ∙ aged-led z last x (map (state_of ys) out)
+
+        pub at-led : (led : List State) → deviation_of z behind x y ≡ deviation.Other → Led out ≡ led → has_some led ≡ true
+            → with_states led (unexplained z x.time y so_far) ≡ Whole
+        at-led led e is some =
+            ap (λ (l : List State). with_states l (unexplained z x.time y so_far)) (sym (asked-is ∙ is))
+            ∙ sym (on-led z behind x (When held) y rest so_far e (ap (λ (l : List State). has_some l) (asked-is ∙ is) ∙ some))
+            ∙ here
+
+        pub at-next : (further : ℕ) → deviation_of z behind x y ≡ deviation.Other → Led out ≡ [] → rest ≡ drop further ys
+            → AreAt all out further whole (unexplained z x.time y so_far)
+        at-next further e none on = record {
+          same = ap (λ (l : List Gone). deviates z behind x (When out) l (unexplained z x.time y so_far)) (sym on)
+              ∙ ap (λ (l : List State). deviates z behind x l rest (unexplained z x.time y so_far)) (sym lead-when)
+              ∙ sym (on-other z behind x (When held) y rest so_far e (ap (λ (l : List State). has_some l) (asked-is ∙ none)))
+              ∙ here;
+          none = none;
+          at_front = sym on ∙ front-on rest (lead (map (state_of ys) held)) (map (state_of ys) out) moved
+              (lead-some (map (state_of ys) held) y rest (sym at.at_front ∙ next));
+        }
+
+        -- where the frame is the arrival's
+        pub took-is : (f : Finding) (states : List State) → deviation_of z behind x y ≡ deviation.Took f
+            → states ≡ as_accepted z x (When out)
+            → with_states states (with_finding x.time f 1 so_far) ≡ Whole
+        took-is f states e is =
+            ap (λ (l : List State). with_states l (with_finding x.time f 1 so_far))
+            (is ∙ ap (λ (l : List State). as_accepted z x l) (sym lead-when)
+            ∙ sym (accepted-rest z x rest (lead (When held))))
+            ∙ at-took f e
+
+-- one finding more, of an arrival
+pub told-finding : (time : ℕ) (found : List Finding) (f : Finding) (arrivals : List Marked) (states : List State) (n : ℕ) (j : Judged)
+    → frames_of f ≡ n
+    → with_states states (told time (found ++ (f ∷ [])) arrivals j)
+    ≡ with_states states (with_finding time f n (told time found arrivals j))
+told-finding time found f arrivals states n j e =
+    ap (λ (k : Judged). with_states states k) (told-more time found f arrivals arrivals j)
+    ∙ ap (λ (m : ℕ). with_states states (judged_with j.states arrivals (found_at time f ∷ (told time found arrivals j).findings)
+    ((told time found arrivals j).frames + m) j.uncertain j.is_unsure)) e
+
+-- the lead has to let pass what all do
+pub past-passes : (z : Terms) (last : ℕ) (x : Arrival) (front to : ℕ) (held out : List Held)
+    → out ≡ map (λ h. past to h) (filter (λ h. nat_eq h.passed front) held)
+    → HaveToPass z last x held → HaveToPass z last x out
+past-passes z last x front to held out e all =
+    All-same (λ (h : Held). IsTrue (has_to_pass (link z) z.by (charge z x) (levels_then z h.levels last x))) out
+    (map (λ h. past to h) (filter (λ h. nat_eq h.passed front) held)) e
+    (All-map (λ (h : Held). IsTrue (has_to_pass (link z) z.by (charge z x) (levels_then z h.levels last x))) (λ (h : Held). past to h)
+    (filter (λ h. nat_eq h.passed front) held)
+    (All-filter (λ h. nat_eq h.passed front)
+    (λ (h : Held). IsTrue (has_to_pass (link z) z.by (charge z x) (levels_then z h.levels last x))) held all))
+
+-- ---- what is returned
+
+abbrev lead_of : List Gone → List Held → List State
+lead_of ys held = lead (map (state_of ys) held)
+
+pub if-ok-two : {X E : Type 0} {P Q R : X → Type 0} (r : Result X E) → ((x : X) → P x → Q x → R x) → IfOk r P → IfOk r Q → IfOk r R
+if-ok-two (Ok x) f p q = f x p q
+if-ok-two (Err e) f p q = p
+
+module _ (z : Terms) (last : ℕ) (behind : List Arrival) (x : Arrival) (ys : List Gone) (all held : List Held) (front : ℕ)
+    (found : List Finding) (arrivals : List Marked) (j : Judged)
+    (at : AreAt z last behind x ys all held front j (told x.time found arrivals j)) where
+  abbrev Everything : Judged
+  Everything = deviates z behind x (aged z last x (map (state_of ys) all)) (front_rest (map (state_of ys) all)) j
+
+  -- it was stopped: no frame is left in the front, or the next one isn't its own
+  pub stopped-whole : (out : List Held) (told_all : List Finding) → told_all ≡ found ++ (Stopped x.tag ∷ [])
+      → map (state_of ys) out ≡ as_accepted z x (aged z last x (map (state_of ys) held))
+      → stopped z x (aged z last x (map (state_of ys) held)) (told x.time found arrivals j) ≡ Everything
+      → with_states (map (state_of ys) out) (told x.time told_all arrivals j) ≡ Everything
+  stopped-whole out told_all f s whole =
+      ap (λ (l : List Finding). with_states (map (state_of ys) out) (told x.time l arrivals j)) f
+      ∙ told-finding x.time found (Stopped x.tag) arrivals (map (state_of ys) out) 0 j refl
+      ∙ ap (λ (l : List State). with_states l (with_finding x.time (Stopped x.tag) 0 (told x.time found arrivals j))) s
+      ∙ whole
+
+  pub took-whole : (y : Gone) (rest : List Gone) (lead out : List Held) (f : Finding) (told_all : List Finding)
+      → drop front ys ≡ y ∷ rest → deviation_of z behind x y ≡ deviation.Took f
+      → map (state_of ys) lead ≡ with_rest rest (lead_of ys held)
+      → told_all ≡ found ++ (f ∷ [])
+      → map (state_of ys) out ≡ as_accepted z x (aged z last x (map (state_of ys) lead))
+      → with_states (map (state_of ys) out) (told x.time told_all arrivals j) ≡ Everything
+  took-whole y rest lead out f told_all next e moved t s =
+      ap (λ (l : List Finding). with_states (map (state_of ys) out) (told x.time l arrivals j)) t
+      ∙ told-finding x.time found f arrivals (map (state_of ys) out) 1 j (one-frame z behind x y f e)
+      ∙ took-is z last behind x ys all held front j (told x.time found arrivals j) at y rest next lead moved f
+      (map (state_of ys) out) e s
+
+-- ---- the code's steps
+
+pub at-start : (z : Terms) (last : ℕ) (behind : List Arrival) (x : Arrival) (ys : List Gone) (held : List Held) (front : ℕ)
+    (found : List Finding) (arrivals : List Marked) (j : Judged) → found ≡ [] → j.arrivals ≡ arrivals
+    → led_by (λ s. states_at z x (levels_then z s.levels last x) s) (map (state_of ys) held) ≡ []
+    → drop front ys ≡ front_rest (map (state_of ys) held)
+    → AreAt z last behind x ys held held front j (told x.time found arrivals j)
+at-start z last behind x ys held front found arrivals j f a none e =
+    subst (λ (k : Judged). AreAt z last behind x ys held held front j k)
+    (sym (ap (λ (l : List Finding). told x.time l arrivals j) f ∙ told-none x.time arrivals j a))
+    (at-first z last behind x ys held front j none e)
+
+pub at-same : (z : Terms) (last : ℕ) (behind : List Arrival) (x : Arrival) (ys : List Gone) (all held : List Held) (front : ℕ)
+    (whole so_far same : Judged) → same ≡ so_far → AreAt z last behind x ys all held front whole so_far
+    → AreAt z last behind x ys all held front whole same
+at-same z last behind x ys all held front whole so_far same e at =
+    subst (λ (s : Judged). AreAt z last behind x ys all held front whole s) (sym e) at
+
+pub within-frames : (rates : Rates) (fs : List Frame) (count : ℕ) (held : List Held)
+    → All (λ h. IsWithin rates (length fs) count h) held → All (λ h. h.passed ≤ length (map gone_of fs)) held
+within-frames rates fs count held all =
+    All-weaker (λ (h : Held). IsWithin rates (length fs) count h) (λ (h : Held). h.passed ≤ length (map gone_of fs))
+    (λ h w. let p = w.passed in let n = length-map fs gone_of in omega (arith, p, n)) held all
+
+pub near-all : (rates : Rates) (frames count : ℕ) (held : List Held)
+    → All (λ h. IsWithin rates frames count h) held → All (λ h. AreNear rates h.levels) held
+near-all rates frames count held all =
+    All-weaker (λ (h : Held). IsWithin rates frames count h) (λ (h : Held). AreNear rates h.levels) (λ h w. w.near) held all
+
+pub levels-all : (rates : Rates) (frames count : ℕ) (held : List Held)
+    → All (λ h. IsWithin rates frames count h) held → All (λ h. AreLevels rates h.levels) held
+levels-all rates frames count held all =
+    All-weaker (λ (h : Held). IsWithin rates frames count h) (λ (h : Held). AreLevels rates h.levels) (λ h w. w.levels) held all
+
+pub within-more : (rates : Rates) (frames count : ℕ) (held : List Held)
+    → All (λ h. IsWithin rates frames count h) held → All (λ h. IsWithin rates frames (count + 1) h) held
+within-more rates frames count held all =
+    All-weaker (λ (h : Held). IsWithin rates frames count h) (λ (h : Held). IsWithin rates frames (count + 1) h)
+    (λ h w. record {
+      passed = w.passed;
+      waiting = (let n = w.waiting in omega (arith, n));
+      levels = w.levels;
+      near = w.near;
+    }) held all
+
+pub front-start : (fs : List Frame) (held slice : List Held) (f none : ℕ) → slice ≡ held
+    → All (λ h. h.passed ≤ length (map gone_of fs)) held → All (λ h. h.passed ≤ f) slice
+    → ((slice ≡ []) × (f ≡ none)) ⊎ ((h : Held) × Contains slice h × (h.passed ≡ f)) → none ≡ length fs
+    → drop f (map gone_of fs) ≡ front_rest (map (state_of (map gone_of fs)) held)
+front-start fs held slice f none value within greatest among e =
+    let n = length-map fs gone_of in
+    let len : none ≡ length (map gone_of fs) = omega (arith, n, e) in
+    front-drop (map gone_of fs) held f none within
+    (subst (λ (l : List Held). All (λ h. h.passed ≤ f) l) value greatest)
+    (subst (λ (l : List Held). ((l ≡ []) × (f ≡ none)) ⊎ ((h : Held) × Contains l h × (h.passed ≡ f))) value among) len
+
+pub gone-here : (fs : List Frame) (i : ℕ) (f : Frame) → i < length fs → f ≡ get_or fs i f
+    → drop i (map gone_of fs) ≡ gone_of f ∷ drop (i + 1) (map gone_of fs)
+gone-here fs i f lt is =
+    gone-at fs i f lt ∙ ap (λ (g : Frame). gone_of g ∷ drop (i + 1) (map gone_of fs)) (sym is)
+
+pub some-held : (ys : List Gone) (held : List Held) → ¬ (held ≡ []) → has_some (map (state_of ys) held) ≡ true
+some-held ys [] h = absurd (h refl)
+some-held ys (k ∷ held) h = refl

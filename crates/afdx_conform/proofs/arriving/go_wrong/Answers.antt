@@ -1,0 +1,83 @@
+use Rattle.std.proofs.Common.{ℕ, ◌+◌, List, [], map, drop, length, sym, ap, ◌∙◌, arith}
+use Rattle.std.proofs.lemmas.List.{length_push}
+use Rattle.std.proofs.lemmas.List.Elements.{All-same}
+use Rattle.std.specs.Prelude.{nat_lt}
+use Rattle.afdx_conform.specs.Explanations.{link, levels_then}
+use Rattle.afdx_conform.specs.Findings.{aged, deviates, front_rest, most_states, thinned_onto}
+use Rattle.afdx_conform.specs.HeldStates.{IsWithin, state_of}
+use Rattle.afdx_conform.specs.Limits.{gone_of}
+use Rattle.afdx_conform.specs.Marks.{arrival_of, marked_all}
+use Rattle.afdx_conform.specs.States.{State, led_by, states_at}
+use Rattle.afdx_conform.specs.declared.finding.Mark.{Mark}
+use Rattle.afdx_conform.specs.declared.states.Held.{Held}
+use Rattle.afdx_conform.proofs.ArrivalSteps.{stands-arrival, answered-none, more-marks, one-less}
+use Rattle.afdx_conform.proofs.DeviateSteps.{within-frames}
+use Rattle.afdx_conform.proofs.arriving.go_wrong.Goals as goal
+
+pub returns-clause-defined : goal.returns-clause-defined
+returns-clause-defined c z last j b k at ns opens mark unc fault sure none s =
+    let marks = c.in_ok-marks.ensures.items ∙ c.as_slice.ensures.value in
+    let held = c.in_ok-held.ensures.items ∙ c.as_slice-2.ensures.value in
+    let none_copied = ap (λ (l : List Held). (led_by (λ s. states_at z (arrival_of c.args.arrived.now) (levels_then z s.levels last
+    (arrival_of c.args.arrived.now)) s) (map (state_of (map gone_of c.args.frames.now)) l))) held ∙ none in
+    let none_judged = ap (λ (l : List State). (led_by (λ s. states_at z (arrival_of c.args.arrived.now) (levels_then z s.levels last
+    (arrival_of c.args.arrived.now)) s) l)) (sym s.states) ∙ none in
+    let states = ap (λ (l : List Held). map (state_of (map gone_of c.args.frames.now)) l) held ∙ s.states in
+    let whole = c.in_ok-outcome.ensures.defined z last j b (k.charged fault) ns opens
+    (sym s.marks ∙ ap (λ (l : List Mark). marked_all c.args.arrivals.now l) (sym marks)) none_copied in
+    let answered = answered-none z (map arrival_of (drop (length c.args.judging.now.marks.items + 1) c.args.arrivals.now)) last
+    (arrival_of c.args.arrived.now) j none_judged
+    ∙ ap (λ (l : List State). deviates z (map arrival_of (drop (length c.args.judging.now.marks.items + 1) c.args.arrivals.now))
+    (arrival_of c.args.arrived.now) (aged z last (arrival_of c.args.arrived.now) l) (front_rest l) j) (sym states)
+    ∙ ap (λ (n : ℕ). deviates z (map arrival_of (drop (n + 1) c.args.arrivals.now)) (arrival_of c.args.arrived.now)
+    (aged z last (arrival_of c.args.arrived.now) (map (state_of (map gone_of c.args.frames.now)) c.in_ok-held.held.items)) (front_rest
+    (map (state_of (map gone_of c.args.frames.now)) c.in_ok-held.held.items)) j)
+    (sym (ap (λ (l : List Mark). length l) marks))
+    ∙ sym whole in
+    let within = c.in_ok-outcome.ensures.within (link z) z.by (length c.args.judging.now.marks.items) b.rates
+    (All-same (λ (h : Held). IsWithin c.args.bounds.now.rates (length c.args.frames.now) (length c.args.judging.now.marks.items) h) _ _
+    held
+    s.within) in
+    let within_slice = All-same (λ (h : Held). IsWithin c.args.bounds.now.rates (length c.args.frames.now)
+    (length c.args.judging.now.marks.items + 1) h) _ _ c.as_slice-3.ensures.value within in
+    let thin = ap (λ (l : List Held). map (state_of (map gone_of c.args.frames.now)) l) c.settle.ensures.held
+    ∙ c.in_ok-few.ensures.defined (map gone_of c.args.frames.now)
+    (within-frames c.args.bounds.now.rates c.args.frames.now (length c.args.judging.now.marks.items + 1) c.as_slice-3.result.now
+    within_slice)
+    ∙ ap (λ (l : List Held). thinned_onto [] (map (state_of (map gone_of c.args.frames.now)) l)) c.as_slice-3.ensures.value in
+    let size = c.in_ok-outcome.ensures.length ∙ ap (λ (l : List Mark). length l) marks in
+    let pushed = c.settle.ensures.marks ∙ c.in_ok-push.ensures.items in
+    stands-arrival c.args.bounds.now.rates c.args.frames.now c.args.arrivals.now z (map arrival_of (drop (length
+    c.args.judging.now.marks.items + 1) c.args.arrivals.now)) last c.args.arrived.now j
+    c.args.judging.now c.settle.new.judging s c.requires.place at c.deviate.new.marks.items c.in_ok-outcome.outcome.held.items
+    c.in_ok-outcome.outcome.found.items c.args.tested.reason c.args.tested.is_uncertain sure (sym k.fault ∙ fault) answered thin mark unc
+    size pushed c.settle.ensures.uncertain
+    (c.settle.ensures.unsure ∙ ap (λ (l : List Held). nat_lt most_states (length l)) (sym c.settle.ensures.held))
+    (more-marks c.args.bounds.now.rates (length c.args.frames.now) (length c.args.judging.now.marks.items) c.deviate.new.marks.items
+    c.settle.new.judging.marks.items _ c.settle.new.judging.held.items pushed size
+    (All-same (λ (h : Held). IsWithin c.args.bounds.now.rates (length c.args.frames.now)
+    (length c.args.judging.now.marks.items + 1) h) _ _ c.settle.ensures.held
+    (c.in_ok-few.ensures.within c.args.bounds.now.rates (length c.args.frames.now) (length c.args.judging.now.marks.items + 1)
+    within_slice)))
+
+pub returns-clause-marks : goal.returns-clause-marks
+returns-clause-marks c =
+    ap (λ (l : List Mark). length l) (c.settle.ensures.marks ∙ c.in_ok-push.ensures.items)
+    ∙ length_push c.deviate.new.marks.items _
+    ∙ ap (λ (n : ℕ). n + 1) (c.in_ok-outcome.ensures.length
+    ∙ ap (λ (l : List Mark). length l) (c.in_ok-marks.ensures.items ∙ c.as_slice.ensures.value))
+
+pub returns-clause-counted : goal.returns-clause-counted
+returns-clause-counted c =
+    let o = one-less c.args.tested.is_uncertain in
+    let e = c.settle.ensures.uncertain in
+    omega (arith, e, o)
+
+pub returns-clause-within : goal.returns-clause-within
+returns-clause-within c l by count r all =
+    All-same (λ (h : Held). IsWithin c.args.bounds.now.rates (length c.args.frames.now) (count + 1) h) _ _ c.settle.ensures.held
+    (c.in_ok-few.ensures.within c.args.bounds.now.rates (length c.args.frames.now) (count + 1)
+    (All-same (λ (h : Held). IsWithin c.args.bounds.now.rates (length c.args.frames.now) (count + 1) h) _ _ c.as_slice-3.ensures.value
+    (c.in_ok-outcome.ensures.within l by count r
+    (All-same (λ (h : Held). IsWithin c.args.bounds.now.rates (length c.args.frames.now) count h) _ _
+    (c.in_ok-held.ensures.items ∙ c.as_slice-2.ensures.value) all))))

@@ -1,0 +1,9 @@
+use Rattle.afdx_conform.specs.Limits.{AreLimits, gone_of}
+use Rattle.afdx_conform.specs.Marks.{marked_all}
+use Rattle.afdx_conform.specs.Streams.{Terms}
+use Rattle.afdx_conform.proofs.NamingLemmas.{IsNamedFrom}
+use Rattle.afdx_conform.proofs.naming.first_place.Given as goal
+
+abbrev pub invariant-loop-place : goal.invariant-loop-place
+invariant-loop-place l = (z : Terms) → AreLimits z l.limits →
+    IsNamedFrom z (gone_of l.frame) (marked_all l.arrivals l.marks) l.place

@@ -1,0 +1,27 @@
+use Rattle.std.proofs.Common.{rules, ◌<◌, List, length, subst}
+use Rattle.afdx_conform.specs.Findings.{strangeness}
+use Rattle.afdx_conform.specs.declared.finding.Finding.TheVariants.{Strange}
+use Rattle.afdx_conform.specs.declared.finding.Mark.{Mark}
+use Rattle.afdx_conform.specs.Limits.{gone_of}
+use Rattle.afdx_conform.specs.Marks.{marked_all}
+use Rattle.afdx_conform.specs.Naming.{IsNamedAt}
+use Rattle.afdx_conform.proofs.NamingLemmas.{named-finding, named-marks}
+use Rattle.afdx_conform.proofs.naming.unexplained.Goals as goal
+
+pub returns-in-Some-clause-finding : goal.returns-in-Some-clause-finding
+returns-in-Some-clause-finding c z a =
+    let lt : c.in-Some.place < length c.args.marks.now.items = search rules in
+    named-finding z (gone_of c.args.frame.now) c.args.arrivals.now c.args.marks.now.items c.in-Some.place
+    c.index-arrivals-place.result c.in-Some.reason
+    (Strange c.args.frame.now.number
+    (strangeness z (marked_all c.args.arrivals.now c.args.marks.now.items) (gone_of c.args.frame.now))) lt c.requires
+    (subst (λ (l : List Mark). IsNamedAt z (gone_of c.args.frame.now) (marked_all c.args.arrivals.now l) c.in-Some.place c.in-Some.reason)
+    c.as_slice.ensures.value (c.in-Some.ensures.named z a))
+
+pub returns-in-Some-clause-named : goal.returns-in-Some-clause-named
+returns-in-Some-clause-named c z a =
+    let lt : c.in-Some.place < length c.args.marks.now.items = search rules in
+    named-marks z (gone_of c.args.frame.now) c.args.arrivals.now c.args.marks.now.items c.in-Some.place
+    c.index-arrivals-place.result c.in-Some.reason lt c.requires
+    (subst (λ (l : List Mark). IsNamedAt z (gone_of c.args.frame.now) (marked_all c.args.arrivals.now l) c.in-Some.place c.in-Some.reason)
+    c.as_slice.ensures.value (c.in-Some.ensures.named z a))

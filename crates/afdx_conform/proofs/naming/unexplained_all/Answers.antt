@@ -1,0 +1,48 @@
+use Rattle.std.proofs.Common.{rules, ◌≡◌, List, ◌++◌, [], ◌∷◌, map, take, get_or, refl, sym, ap, ◌∙◌, arith}
+use Rattle.std.proofs.lemmas.List.{map-append, take_more, take_all}
+use Rattle.afdx_conform.specs.Findings.{Finding, Judged, unexplained}
+use Rattle.afdx_conform.specs.Limits.{gone_of}
+use Rattle.afdx_conform.specs.Marks.{marked_all, told}
+use Rattle.afdx_conform.specs.Naming.{unexplained_all}
+use Rattle.afdx_conform.specs.Streams.{Gone}
+use Rattle.afdx_conform.specs.declared.limits.Frame.{Frame}
+use Rattle.afdx_conform.proofs.NamingLemmas.{told-none, told-unexplained, all-more, all-none}
+use Rattle.afdx_conform.proofs.naming.unexplained_all.Goals as goal
+
+pub loop-frame-init : goal.loop-frame-init
+loop-frame-init c = (
+  λ z time j a e. ap (λ (l : List Finding). told time l (marked_all c.args.arrivals.now c.args.marks.now.items) j)
+      c.new-found.ensures.items
+      ∙ told-none time (marked_all c.args.arrivals.now c.args.marks.now.items) j e
+      ∙ sym (all-none z time j),
+  refl,
+)
+
+pub loop-frame-preserved : goal.loop-frame-preserved
+loop-frame-preserved c = (
+  λ z time j a e.
+      let is : c.frame-item.result ≡ get_or c.args.frames.now c.loop-frame.frame-index c.frame-item.result = search rules in
+      ap (λ (l : List Finding). told time l (marked_all c.args.arrivals.now c.unexplained-finding.new.marks.items) j)
+      c.in_ok-push.ensures.items
+      ∙ told-unexplained z time c.loop-frame.found.items c.unexplained-finding.result
+      (marked_all c.args.arrivals.now c.loop-frame.marks.items) (marked_all c.args.arrivals.now c.unexplained-finding.new.marks.items)
+      (gone_of c.frame-item.result) j
+      (c.unexplained-finding.ensures.finding z a) (c.unexplained-finding.ensures.named z a)
+      ∙ ap (λ (k : Judged). unexplained z time (gone_of c.frame-item.result) k)
+      (c.loop-frame.invariant.0 z time j a e)
+      ∙ sym (all-more z time (map gone_of (take c.loop-frame.frame-index c.args.frames.now))
+      (gone_of c.frame-item.result) j)
+      ∙ ap (λ (l : List Gone). unexplained_all z time l j)
+      (ap (λ (f : Frame). map gone_of (take c.loop-frame.frame-index c.args.frames.now) ++ (gone_of f ∷ [])) is
+      ∙ sym (ap (λ (l : List Frame). map gone_of l) (take_more c.args.frames.now c.loop-frame.frame-index c.frame-item.result
+      c.loop-frame-test.true)
+      ∙ map-append gone_of (take c.loop-frame.frame-index c.args.frames.now)
+      (get_or c.args.frames.now c.loop-frame.frame-index c.frame-item.result ∷ []))),
+  c.unexplained-finding.ensures.length ∙ c.loop-frame.invariant.1,
+)
+
+pub returns-clause-found : goal.returns-clause-found
+returns-clause-found c z time j a e =
+    c.loop-frame.invariant.0 z time j a e
+    ∙ ap (λ (l : List Frame). unexplained_all z time (map gone_of l) j)
+    (take_all c.loop-frame.frame-index c.args.frames.now (let h = c.loop-frame-test.false in omega (arith, h)))

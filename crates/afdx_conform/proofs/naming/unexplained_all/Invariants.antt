@@ -1,0 +1,15 @@
+use Rattle.std.proofs.Common.{◌≡◌, ℕ, map, take, length}
+use Rattle.afdx_conform.specs.Findings.{Judged}
+use Rattle.afdx_conform.specs.Limits.{AreLimits, gone_of}
+use Rattle.afdx_conform.specs.Marks.{marked_all, told}
+use Rattle.afdx_conform.specs.Naming.{unexplained_all}
+use Rattle.afdx_conform.specs.Streams.{Terms}
+use Rattle.afdx_conform.proofs.naming.unexplained_all.Given as goal
+
+abbrev pub invariant-loop-frame : goal.invariant-loop-frame
+invariant-loop-frame l =
+    ((z : Terms) (time : ℕ) (j : Judged) → AreLimits z l.limits →
+    j.arrivals ≡ marked_all l.arrivals l.initial.marks.items →
+    told time l.found.items (marked_all l.arrivals l.marks.items) j
+    ≡ unexplained_all z time (map gone_of (take l.frame-index l.frames)) j)
+    × (length l.marks.items ≡ length l.initial.marks.items)

@@ -1,0 +1,244 @@
+//! How far a stream is judged: what an arrival changes.
+
+ghost use Rattle.std.specs.Prelude.{◌≡◌, ◌≤◌, ◌<◌, ◌-◌, ◌+◌, ◌++◌, ◌∷◌, [], ℕ, List, false, nat_lt};
+ghost use Rattle.std.specs.Prelude.{if◌then◌else◌, length, map, drop, get_or, All, IfOk, OnOk, OnErr};
+ghost use Rattle.afdx_frame.specs.Regulation.{Regulation};
+ghost use Rattle.afdx_conform.specs.Accounts.{AreLevels, AreRates};
+ghost use Rattle.afdx_conform.specs.Leeway.{Leeway as By};
+ghost use Rattle.afdx_conform.specs.Bounds.{AreBounds};
+ghost use Rattle.afdx_conform.specs.Explanations.{link, levels_then};
+ghost use Rattle.afdx_conform.specs.Findings.{Judged, came_to, thinned_onto, most_states, rate_mark};
+ghost use Rattle.afdx_conform.specs.Findings.{is_uncertain as uncertain_of};
+ghost use Rattle.afdx_conform.specs.HeldStates.{IsWithin, state_of};
+ghost use Rattle.afdx_conform.specs.Judging.{StandsFor, AreFound, IsUnchanged};
+ghost use Rattle.afdx_conform.specs.Limits.{gone_of};
+ghost use Rattle.afdx_conform.specs.Marks.{IsCharged, IsJudged, arrival_of};
+ghost use Rattle.afdx_conform.specs.Ranges.{most_held};
+ghost use Rattle.afdx_conform.specs.States.{led_by, states_at};
+ghost use Rattle.afdx_conform.specs.Streams.{Gone, Terms, is_open as is_open_by};
+
+use crate::arrived::Arrived;
+use crate::bounds::Bounds;
+use crate::deviate::{deviate, has_any};
+use crate::finding::{Finding, Mark};
+use crate::judging::Judging;
+use crate::leading::{Moment, led_from};
+use crate::levels::Rates;
+use crate::limits::Frame;
+use crate::states::{Held, thinned};
+use crate::testing::{is_uncertain, may_go_once};
+use afdx_police::Reason;
+use std::alloc::{AllocError, Global};
+
+/// The most states that are kept.
+const MOST_STATES: usize = 1_024;
+
+/// Why the rule refuses an arrival, if it does so in each state, and whether both answers were
+/// right in one.
+#[derive(Clone, Copy, Debug)]
+struct Tested {
+    reason: Option<Reason>,
+    is_uncertain: bool,
+}
+
+/// Why the rule refuses an arrival for its rate, if it does so in each of these states.
+fn refusal(rates: &Rates, held: &[Held], arrived: &Arrived, ns: u64) -> Option<Reason>
+    requires { All (λ h. AreLevels rates.now h.levels) held.now }
+    ensures { (z : Terms) (ys : List Gone) (last : ℕ) →
+        AreRates (link z) z.by rates.now → IsCharged z arrived.now →
+        ns ≡ arrived.now.time - last → result
+        ≡ rate_mark z last (arrival_of arrived.now) (map (state_of ys) held.now) }
+{
+    if may_go_once(rates, held, arrived, ns) {
+        None
+    } else {
+        Some(Reason::OverRate)
+    }
+}
+
+/// Tests an arrival in the states before it.
+fn test_arrival(rates: &Rates, held: &[Held], arrived: &Arrived, ns: u64) -> Tested
+    requires { All (λ h. AreLevels rates.now h.levels) held.now }
+    ensures reason { (z : Terms) (ys : List Gone) (last : ℕ) →
+        AreRates (link z) z.by rates.now → IsCharged z arrived.now →
+        ns ≡ arrived.now.time - last → result.reason
+        ≡ rate_mark z last (arrival_of arrived.now) (map (state_of ys) held.now) }
+    ensures uncertain { (z : Terms) (ys : List Gone) (last : ℕ) →
+        AreRates (link z) z.by rates.now → IsCharged z arrived.now →
+        ns ≡ arrived.now.time - last → result.is_uncertain
+        ≡ uncertain_of z last (arrival_of arrived.now) (map (state_of ys) held.now) }
+{
+    Tested {
+        reason: refusal(rates, held, arrived, ns),
+        is_uncertain: is_uncertain(rates, held, arrived, ns),
+    }
+}
+
+/// These are the states then; if they are too many, nothing is judged any more.
+fn settle(judging: &mut Judging, few: Vec<Held>, is_uncertain: bool)
+    requires { judging.old.uncertain < most_held }
+    ensures held { judging.new.held.items ≡ few.items }
+    ensures marks { judging.new.marks.items ≡ judging.old.marks.items }
+    ensures uncertain { judging.new.uncertain
+        ≡ judging.old.uncertain + (if is_uncertain then 1 else 0) }
+    ensures unsure { judging.new.is_unsure ≡ nat_lt most_states (length few.items) }
+{
+    if is_uncertain {
+        judging.uncertain += 1;
+    }
+    judging.is_unsure = few.len() > MOST_STATES;
+    judging.held = few;
+}
+
+/// The arrival led to these states: its mark, and those that no other outdoes, are kept.
+fn go_on(
+    judging: &mut Judging,
+    alloc: Global,
+    led: &[Held],
+    tested: Tested,
+) -> Result<(), AllocError>
+    requires { judging.old.uncertain < most_held }
+    ensures marks { OnOk result (judging.new.marks.items
+        ≡ judging.old.marks.items ++ record { reason = tested.reason; is_named = false } ∷ []) }
+    ensures uncertain { OnOk result (judging.new.uncertain
+        ≡ judging.old.uncertain + (if tested.is_uncertain then 1 else 0)) }
+    ensures unsure { OnOk result (judging.new.is_unsure
+        ≡ nat_lt most_states (length judging.new.held.items)) }
+    ensures thinned { (ys : List Gone) → All (λ h. h.passed ≤ length ys) led.now →
+        OnOk result (map (state_of ys) judging.new.held.items
+        ≡ thinned_onto [] (map (state_of ys) led.now)) }
+    ensures within { (rates : Rates) (frames count : ℕ) →
+        All (λ h. IsWithin rates frames count h) led.now →
+        OnOk result (All (λ h. IsWithin rates frames count h) judging.new.held.items) }
+    ensures refused { OnErr result (IsUnchanged judging.old judging.new) }
+{
+    let few = thinned(alloc, led)?;
+    judging.marks.push(Mark {
+        reason: tested.reason,
+        is_named: false,
+    })?;
+    settle(judging, few, tested.is_uncertain);
+    Ok(())
+}
+
+/// The arrival led to no state: what is found, in its order.
+fn go_wrong(
+    judging: &mut Judging,
+    alloc: Global,
+    bounds: &Bounds,
+    arrivals: &[Arrived],
+    frames: &[Frame],
+    arrived: &Arrived,
+    moment: Moment,
+    tested: Tested,
+) -> Result<Vec<Finding>, AllocError>
+    requires place { length judging.old.marks.items < length arrivals.now }
+    requires few { length frames.now < most_held }
+    requires counted { judging.old.uncertain < most_held }
+    requires within { (count : ℕ) × (count < most_held)
+        × All (λ h. IsWithin bounds.now.rates (length frames.now) count h)
+        judging.old.held.items }
+    ensures defined { (z : Terms) (last : ℕ) (j : Judged) →
+        AreBounds z bounds.now → IsJudged z arrived.now →
+        arrived.now ≡ get_or arrivals.now (length judging.old.marks.items) arrived.now →
+        moment.ns ≡ arrived.now.time - last →
+        moment.is_open ≡ is_open_by z (arrival_of arrived.now) →
+        tested.reason ≡ rate_mark z last (arrival_of arrived.now) j.states →
+        tested.is_uncertain ≡ uncertain_of z last (arrival_of arrived.now) j.states →
+        arrived.now.fault ≡ None → j.is_unsure ≡ false →
+        led_by (λ s. states_at z (arrival_of arrived.now)
+        (levels_then z s.levels last (arrival_of arrived.now)) s)
+        (map (state_of (map gone_of frames.now)) judging.old.held.items) ≡ [] →
+        StandsFor bounds.now.rates frames.now arrivals.now j judging.old →
+        IfOk result (λ found. StandsFor bounds.now.rates frames.now arrivals.now
+        (came_to z (map arrival_of (drop (length judging.old.marks.items + 1) arrivals.now)) last
+        (arrival_of arrived.now) j) judging.new
+        × AreFound arrived.now.time found.items j
+        (came_to z (map arrival_of (drop (length judging.old.marks.items + 1) arrivals.now)) last
+        (arrival_of arrived.now) j)) }
+    ensures marks { OnOk result
+        (length judging.new.marks.items ≡ length judging.old.marks.items + 1) }
+    ensures counted { OnOk result (judging.new.uncertain ≤ judging.old.uncertain + 1) }
+    ensures within { (l : Regulation) (by : By) (count : ℕ) → AreRates l by bounds.now.rates →
+        All (λ h. IsWithin bounds.now.rates (length frames.now) count h)
+        judging.old.held.items →
+        OnOk result (All (λ h. IsWithin bounds.now.rates (length frames.now) (count + 1) h)
+        judging.new.held.items) }
+    ensures refused { OnErr result (IsUnchanged judging.old judging.new) }
+{
+    let mut marks = Vec::from_slice(alloc, judging.marks.as_slice())?;
+    let held = Vec::from_slice(alloc, judging.held.as_slice())?;
+    let outcome = deviate(
+        alloc, bounds, held, frames, arrivals, &mut marks, arrived, moment,
+    )?;
+    let few = thinned(alloc, outcome.held.as_slice())?;
+    marks.push(Mark {
+        reason: tested.reason,
+        is_named: false,
+    })?;
+    judging.marks = marks;
+    settle(judging, few, tested.is_uncertain);
+    Ok(outcome.found)
+}
+
+/// Judges an arrival, the first without a mark: gives what is found, in its order. Fails only out
+/// of memory; then nothing has changed.
+pub fn judge_arrival(
+    judging: &mut Judging,
+    alloc: Global,
+    bounds: &Bounds,
+    arrivals: &[Arrived],
+    frames: &[Frame],
+    arrived: &Arrived,
+    moment: Moment,
+) -> Result<Vec<Finding>, AllocError>
+    requires place { length judging.old.marks.items < length arrivals.now }
+    requires few { length frames.now < most_held }
+    requires counted { judging.old.uncertain < most_held }
+    requires within { (count : ℕ) × (count < most_held)
+        × All (λ h. IsWithin bounds.now.rates (length frames.now) count h)
+        judging.old.held.items }
+    ensures defined { (z : Terms) (last : ℕ) (j : Judged) →
+        AreBounds z bounds.now → IsJudged z arrived.now →
+        arrived.now ≡ get_or arrivals.now (length judging.old.marks.items) arrived.now →
+        moment.ns ≡ arrived.now.time - last →
+        moment.is_open ≡ is_open_by z (arrival_of arrived.now) → j.is_unsure ≡ false →
+        StandsFor bounds.now.rates frames.now arrivals.now j judging.old →
+        IfOk result (λ found. StandsFor bounds.now.rates frames.now arrivals.now
+        (came_to z (map arrival_of (drop (length judging.old.marks.items + 1) arrivals.now)) last
+        (arrival_of arrived.now) j) judging.new
+        × AreFound arrived.now.time found.items j
+        (came_to z (map arrival_of (drop (length judging.old.marks.items + 1) arrivals.now)) last
+        (arrival_of arrived.now) j)) }
+    ensures marks { OnOk result
+        (length judging.new.marks.items ≡ length judging.old.marks.items + 1) }
+    ensures counted { OnOk result (judging.new.uncertain ≤ judging.old.uncertain + 1) }
+    ensures within { (l : Regulation) (by : By) (count : ℕ) → AreRates l by bounds.now.rates →
+        All (λ h. IsWithin bounds.now.rates (length frames.now) count h)
+        judging.old.held.items →
+        OnOk result (All (λ h. IsWithin bounds.now.rates (length frames.now) (count + 1) h)
+        judging.new.held.items) }
+    ensures refused { OnErr result (IsUnchanged judging.old judging.new) }
+{
+    match arrived.fault {
+        Some(fault) => {
+            judging.marks.push(Mark {
+                reason: Some(fault),
+                is_named: false,
+            })?;
+            return Ok(Vec::new(alloc));
+        }
+        None => {}
+    }
+    let states = judging.held.as_slice();
+    let tested = test_arrival(&bounds.rates, states, arrived, moment.ns);
+    let led = led_from(alloc, bounds, states, frames, arrived, moment)?;
+    let ahead = led.as_slice();
+    if has_any(ahead) {
+        go_on(judging, alloc, ahead, tested)?;
+        return Ok(Vec::new(alloc));
+    }
+    go_wrong(
+        judging, alloc, bounds, arrivals, frames, arrived, moment, tested,
+    )
+}

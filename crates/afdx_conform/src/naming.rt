@@ -1,0 +1,166 @@
+//! What is found of a frame that no arrival explains.
+
+ghost use Rattle.std.specs.Prelude.{◌≡◌, ◌≤◌, ◌<◌, ℕ, length, map, IfOk, IfSome, MatchOption};
+ghost use Rattle.std.specs.List.{list_any};
+ghost use Rattle.afdx_conform.specs.Findings.{names_it as may_name, is_of_right};
+ghost use Rattle.afdx_conform.specs.Findings.{damage as damage_of, strangeness as strangeness_of};
+ghost use Rattle.afdx_conform.specs.Findings.{first_named, once_named, finding_or, Judged};
+ghost use Rattle.afdx_conform.specs.declared.finding.Finding.TheVariants.{Strange};
+ghost use Rattle.afdx_conform.specs.Marks.{marked_of, marked_all, told};
+ghost use Rattle.afdx_conform.specs.Naming.{IsNoneNamed, IsNamedAt, unexplained_all};
+ghost use Rattle.afdx_conform.specs.Limits.{AreLimits, gone_of};
+ghost use Rattle.afdx_conform.specs.Streams.{Terms};
+
+use crate::arrived::Arrived;
+use crate::finding::{Finding, Mark, Strangeness};
+use crate::limits::{Frame, Limits};
+use afdx_frame::{GREATEST_FRAME, LEAST_FRAME, is_sealed};
+use afdx_police::Reason;
+use std::alloc::{AllocError, Global};
+
+/// The reason by which the finding of a frame may name the arrival.
+fn names_it(limits: &Limits, arrived: &Arrived, mark: Mark, frame: &Frame) -> Option<Reason>
+    ensures { (z : Terms) → AreLimits z limits.now →
+        result ≡ may_name z (gone_of frame.now) (marked_of arrived.now mark) }
+{
+    let fits = limits.fits(arrived.time, arrived.bytes.as_slice(), frame);
+    if fits && !mark.is_named {
+        mark.reason
+    } else {
+        None
+    }
+}
+
+/// The first arrival that the finding of a frame may name: its place, and the reason.
+fn first_place(
+    limits: &Limits,
+    arrivals: &[Arrived],
+    marks: &[Mark],
+    frame: &Frame,
+) -> Option<(usize, Reason)>
+    requires { length marks.now ≤ length arrivals.now }
+    ensures within { IfSome result (λ at. at.0 < length marks.now) }
+    ensures named { (z : Terms) → AreLimits z limits.now → MatchOption result
+        (IsNoneNamed z (gone_of frame.now) (marked_all arrivals.now marks.now))
+        (λ at. IsNamedAt z (gone_of frame.now) (marked_all arrivals.now marks.now) at.0 at.1) }
+{
+    for place in 0..marks.len() {
+        match names_it(limits, &arrivals[place], marks[place], frame) {
+            Some(reason) => return Some((place, reason)),
+            None => {}
+        }
+    }
+    None
+}
+
+/// Whether the frame fits the arrival, which isn't refused.
+fn fits_without_mark(limits: &Limits, arrived: &Arrived, mark: Mark, frame: &Frame) -> bool
+    ensures { (z : Terms) → AreLimits z limits.now →
+        result ≡ is_of_right z (gone_of frame.now) (marked_of arrived.now mark) }
+{
+    limits.fits(arrived.time, arrived.bytes.as_slice(), frame) && mark.reason.is_none()
+}
+
+/// Whether the frame fits an arrival that isn't refused.
+fn fits_unmarked(limits: &Limits, arrivals: &[Arrived], marks: &[Mark], frame: &Frame) -> bool
+    requires { length marks.now ≤ length arrivals.now }
+    ensures { (z : Terms) → AreLimits z limits.now → result
+        ≡ list_any (λ m. is_of_right z (gone_of frame.now) m) (marked_all arrivals.now marks.now) }
+{
+    for place in 0..marks.len() {
+        if fits_without_mark(limits, &arrivals[place], marks[place], frame) {
+            return true;
+        }
+    }
+    false
+}
+
+/// The first that is true of the bytes: too short, too long, a wrong check sequence.
+fn damage(bytes: &[u8]) -> Option<Reason>
+    ensures { result ≡ damage_of bytes.now }
+{
+    if bytes.len() < LEAST_FRAME {
+        return Some(Reason::TooShort);
+    }
+    if bytes.len() > GREATEST_FRAME {
+        return Some(Reason::TooLong);
+    }
+    if !is_sealed(bytes) {
+        return Some(Reason::BadFcs);
+    }
+    None
+}
+
+/// What is wrong with a frame that no arrival explains.
+fn strangeness(limits: &Limits, arrivals: &[Arrived], marks: &[Mark], frame: &Frame) -> Strangeness
+    requires { length marks.now ≤ length arrivals.now }
+    ensures { (z : Terms) → AreLimits z limits.now →
+        result ≡ strangeness_of z (marked_all arrivals.now marks.now) (gone_of frame.now) }
+{
+    match damage(frame.bytes.as_slice()) {
+        Some(reason) => Strangeness::Damaged(reason),
+        None => {
+            if fits_unmarked(limits, arrivals, marks, frame) {
+                Strangeness::OutOfTurn
+            } else {
+                Strangeness::NoArrival
+            }
+        }
+    }
+}
+
+/// What is found of a frame that no arrival explains. An arrival that the finding names is marked
+/// so. Marks are those of the first arrivals.
+pub(crate) fn unexplained(
+    limits: &Limits,
+    arrivals: &[Arrived],
+    marks: &mut Vec<Mark>,
+    frame: &Frame,
+) -> Finding
+    requires { length marks.old.items ≤ length arrivals.now }
+    ensures finding { (z : Terms) → AreLimits z limits.now → result
+        ≡ finding_or (first_named z (gone_of frame.now) (marked_all arrivals.now marks.old.items))
+        (Strange frame.now.number
+        (strangeness_of z (marked_all arrivals.now marks.old.items) (gone_of frame.now))) }
+    ensures named { (z : Terms) → AreLimits z limits.now → marked_all arrivals.now marks.new.items
+        ≡ once_named z (gone_of frame.now) (marked_all arrivals.now marks.old.items) }
+    ensures length { length marks.new.items ≡ length marks.old.items }
+{
+    match first_place(limits, arrivals, marks.as_slice(), frame) {
+        None => {
+            let strangeness = strangeness(limits, arrivals, marks.as_slice(), frame);
+            Finding::Strange(frame.number, strangeness)
+        }
+        Some((place, reason)) => {
+            marks[place] = Mark {
+                reason: Some(reason),
+                is_named: true,
+            };
+            Finding::Passed(arrivals[place].number, reason)
+        }
+    }
+}
+
+/// What is found of frames that no arrival explains, in their order, as `unexplained` finds it of
+/// each. Fails only out of memory.
+pub(crate) fn unexplained_all(
+    alloc: Global,
+    limits: &Limits,
+    arrivals: &[Arrived],
+    marks: &mut Vec<Mark>,
+    frames: &[Frame],
+) -> Result<Vec<Finding>, AllocError>
+    requires { length marks.old.items ≤ length arrivals.now }
+    ensures found { (z : Terms) (time : ℕ) (j : Judged) → AreLimits z limits.now →
+        j.arrivals ≡ marked_all arrivals.now marks.old.items →
+        IfOk result (λ found. told time found.items (marked_all arrivals.now marks.new.items) j
+        ≡ unexplained_all z time (map gone_of frames.now) j) }
+    ensures length { length marks.new.items ≡ length marks.old.items }
+{
+    let mut found = Vec::new(alloc);
+    for frame in frames {
+        let finding = unexplained(limits, arrivals, marks, frame);
+        found.push(finding)?;
+    }
+    Ok(found)
+}
