@@ -122,30 +122,37 @@ def measured_row(counting: Counting, vl: int, traffic: Traffic | None) -> Row:
     }
 
 
+def spread_of(path: Path) -> Row:
+    """How many frames went on a path, and the latencies of the fastest, of most, of the slowest."""
+    half, most, nearly = (path.rank(share) for share in SHARES)
+    return {
+        "frames": len(path.latencies),
+        "least_ns": int(path.latencies[0]),
+        "median_ns": half,
+        "p99_ns": most,
+        "p99.9_ns": nearly,
+        "greatest_ns": int(path.latencies[-1]),
+    }
+
+
 def latency_row(counting: Counting, checked: Checked, path: Path) -> Row:
     """The latencies of a link at a port of one side."""
     config, line = counting.config, int(counting.events.line[path.worst])
     link = config.row_at(path.link, path.port) or config.links[path.link]
-    bound, greatest = checked.bound_of(link, path.port), int(path.latencies[-1])
-    half, most, nearly = (path.rank(share) for share in SHARES)
+    bound = checked.bound_of(link, path.port)
     return {
         "link": path.link,
         "from": link.source,
         **at_port(counting, path.port),
         "side": side_name(path.side),
         "priority": link.priority,
-        "frames": len(path.latencies),
-        "least_ns": int(path.latencies[0]),
-        "median_ns": half,
-        "p99_ns": most,
-        "p99.9_ns": nearly,
-        "greatest_ns": greatest,
+        **spread_of(path),
         "at_line": named(counting, line),
         "at_ns": int(counting.events.since[path.worst]),
         "bound_ns": bound,
         "configured_ns": link.latency_ns,
         "margin_ns": None if bound is None else link.latency_ns - bound,
-        "share": greatest / link.latency_ns,
+        "share": int(path.latencies[-1]) / link.latency_ns,
         "late": path.late,
     }
 

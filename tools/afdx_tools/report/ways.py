@@ -7,10 +7,10 @@ import numpy as np
 from afdx_tools.replay.absence import Copied, number_of, side_of
 from afdx_tools.replay.checked import Checked
 from afdx_tools.replay.copies import copies_at_receivers
-from afdx_tools.replay.counting import SHARES, Counting, Path
+from afdx_tools.replay.counting import Counting, Path
 from afdx_tools.replay.events import DELIVERED, NOT_YET, REDUNDANT, side_name
 from afdx_tools.replay.traffic import grouped
-from afdx_tools.report.numbers import at_port, named, words_of
+from afdx_tools.report.numbers import at_port, named, spread_of, words_of
 from afdx_tools.tables import Row
 
 
@@ -45,9 +45,8 @@ def way_row(counting: Counting, checked: Checked, path: Path, places: Places) ->
     config, line = counting.config, int(counting.events.line[path.worst])
     row = config.row_at(path.link, path.port) or config.links[path.link]
     way = config.way_to(path.link, path.port)
-    bound, greatest = checked.bound_on(config, path.link, path.port), int(path.latencies[-1])
+    bound = checked.bound_on(config, path.link, path.port)
     configured, at = config.latency_to(path.link, path.port), at_port(counting, path.port)
-    half, most, nearly = (path.rank(share) for share in SHARES)
     copies = [places.copy_at(line, port) for port in way]
     hops = {config.switch_of(port): int(counting.latency[n]) for port, n in zip(way, copies)}
     shares = [counting.latency[n] / max(int(counting.configured[n]), 1) for n in copies]
@@ -57,12 +56,7 @@ def way_row(counting: Counting, checked: Checked, path: Path, places: Places) ->
         **at,
         "side": side_name(path.side),
         "priority": row.priority,
-        "frames": len(path.latencies),
-        "least_ns": int(path.latencies[0]),
-        "median_ns": half,
-        "p99_ns": most,
-        "p99.9_ns": nearly,
-        "greatest_ns": greatest,
+        **spread_of(path),
         "at_line": named(counting, line),
         "at_ns": int(counting.listing.time[line]),
         "hops_ns": hops,
@@ -71,7 +65,7 @@ def way_row(counting: Counting, checked: Checked, path: Path, places: Places) ->
         "configured_ns": configured,
         "promised_ns": checked.ends.get((path.link, at["system"])),
         "margin_ns": None if bound is None else configured - bound,
-        "share": greatest / configured,
+        "share": int(path.latencies[-1]) / configured,
         "late": path.late,
     }
 
