@@ -27,3 +27,8 @@ pub mod Hiding
 pub mod FromLevel
 pub mod Laws
 pub mod Worked
+pub mod Events
+pub mod Later
+pub mod EventLaws
+pub mod Forgotten
+pub mod Sure
