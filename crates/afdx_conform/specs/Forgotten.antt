@@ -19,8 +19,8 @@ with_gone gone j = judged_with j.states (gone ++ j.arrivals) j.findings j.frames
 -- an event does the same without them, and reads none of them later
 pub record IsTheSame (z : Terms) (gone : List Marked) (to : Judged → Judged) (j : Judged) : Type 0
   where
-  pub same : to (with_gone gone j) ≡ with_gone gone (to j)
-  pub unread : AreUnread z gone (to j).states
+    pub same : to (with_gone gone j) ≡ with_gone gone (to j)
+    pub unread : AreUnread z gone (to j).states
 
 -- arrivals that fit no frame that is left may be forgotten
 pub record ForgettingChangesNothing : Type 0 where

@@ -32,3 +32,5 @@ pub mod Later
 pub mod EventLaws
 pub mod Forgotten
 pub mod Sure
+pub mod Histories
+pub mod Standing
