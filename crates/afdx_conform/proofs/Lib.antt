@@ -30,3 +30,5 @@ pub mod ArrivalSteps
 pub mod FirstLemmas
 pub mod CourseLemmas
 pub mod StreamLemmas
+pub mod EveryLemmas
+pub mod EventLemmas

@@ -27,3 +27,10 @@ pub mod Hiding
 pub mod FromLevel
 pub mod Laws
 pub mod Worked
+pub mod Events
+pub mod Later
+pub mod EventLaws
+pub mod Forgotten
+pub mod Sure
+pub mod Histories
+pub mod Standing
