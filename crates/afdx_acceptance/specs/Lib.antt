@@ -1,3 +1,4 @@
 pub mod Choices
 pub mod Keys
 pub mod Awaited
+pub mod Totals

@@ -22,11 +22,7 @@ pub struct Choices {
 
 impl Choices {
     /// These; None exactly if the end is over 10^15 ns.
-    pub fn new(
-        leeway: Leeway,
-        until: Option<u64>,
-        left_out: Vec<Option<VlId>>,
-    ) -> Option<Choices>
+    pub fn new(leeway: Leeway, until: Option<u64>, left_out: Vec<Option<VlId>>) -> Option<Choices>
         ensures in_range { IsSome result ↔ IsUntil until }
         ensures given { IfSome result (λ choices. (choices.leeway ≡ leeway)
             × (choices.until ≡ until) × (choices.left_out ≡ left_out)) }

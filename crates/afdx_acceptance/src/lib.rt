@@ -6,6 +6,20 @@
 
 mod agenda;
 mod choices;
+mod command;
+mod judging;
 mod key;
+mod outlets;
+mod run;
+mod slot;
+mod strangers;
+mod streams;
+mod totals;
+mod whole;
 
+pub use afdx_conform::Leeway;
+pub use afdx_lists::{ByRole, Watched};
 pub use choices::Choices;
+pub use command::conform;
+pub use run::run_conform;
+pub use totals::Totals;
