@@ -5,7 +5,7 @@ use Rattle.std.specs.Ordering.{nat_cmp, flip_args, on}
 use Rattle.std.specs.declared.cmp.Ordering.{Ordering}
 use Rattle.afdx_acceptance.specs.declared.agenda.Entry.{Entry}
 use Rattle.afdx_acceptance.specs.declared.key.Key.{Key}
-use Rattle.afdx_acceptance.specs.Keys.{key_rank}
+use Rattle.afdx_acceptance.specs.Keys.{IsKey, key_rank}
 
 -- at this moment, something of this key
 abbrev pub awaited : ℕ → Key → Entry
@@ -33,3 +33,7 @@ IsBefore before x = is_before before x ≡ true
 -- none of them is to be told before that time
 abbrev pub AreNotBefore : Option ℕ → List Entry → Type 0
 AreNotBefore before xs = All (λ x. is_before before x ≡ false) xs
+
+-- all their keys are ones that the code can hold
+abbrev pub AreKeys : List Entry → Type 0
+AreKeys xs = All (λ x. IsKey x.key) xs

@@ -1,5 +1,6 @@
 -- Whose lines stand together, and in which order they come.
-use Rattle.std.specs.Prelude.{ℕ, ◌+◌, ◌*◌, Option, Some, None}
+use Rattle.std.specs.Prelude.{ℕ, ◌<◌, ◌+◌, ◌*◌, Option, Some, None}
+use Rattle.std.specs.Option.{ForSome}
 use Rattle.afdx_frame.specs.declared.link.Side.{Side}
 use Rattle.afdx_frame.specs.declared.link.Side.TheVariants.{A, B}
 use Rattle.afdx_acceptance.specs.declared.key.Key.{Key}
@@ -26,3 +27,8 @@ place_of side port (Some link) = 512 + link * 64 + side * 32 + port
 
 abbrev pub key_place : Key → ℕ
 key_place key = place_of (side_rank key.side) key.port key.link
+
+-- its numbers are those that the code can hold
+pub record IsKey (key : Key) : Type 0 where
+  pub port : key.port < 0x100
+  pub link : ForSome key.link (λ link. link < 0x10000)

@@ -1,4 +1,6 @@
 pub mod Choices
 pub mod Keys
 pub mod Awaited
+pub mod Waiting
 pub mod Totals
+pub mod Commands

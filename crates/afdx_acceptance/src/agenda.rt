@@ -1,6 +1,6 @@
 //! What is still to be told, by its moment.
 
-ghost use Rattle.std.specs.Prelude.{◌≡◌, ◌+◌, ◌*◌, ◌∷◌, [], List, All, IfNone, IfSome, OnOk, length};
+ghost use Rattle.std.specs.Prelude.{◌≡◌, ◌≤◌, ◌<◌, ◌+◌, ◌*◌, ◌∷◌, [], List, All, IfNone, IfSome, OnOk, length};
 ghost use Rattle.std.proofs.Common.{rules};
 ghost use Rattle.std.specs.BinaryHeap.{IsHeap, heap_items};
 ghost use Rattle.std.specs.Cmp.{partial_order_from_own_ties};
@@ -8,9 +8,9 @@ ghost use Rattle.std.specs.Cmp.Rules.{comparing};
 ghost use Rattle.std.specs.List.Sorted.{IsPermutation};
 ghost use Rattle.std.specs.Ordering.{as_partial_cmp};
 ghost use Rattle.afdx_acceptance.specs.Awaited as spec;
-ghost use Rattle.afdx_acceptance.specs.Awaited.{AreNotBefore, IsBefore, awaited};
+ghost use Rattle.afdx_acceptance.specs.Awaited.{AreKeys, AreNotBefore, IsBefore, awaited};
 
-use crate::key::Key;
+use crate::key::{Key, are_small};
 use std::alloc::{AllocError, Global};
 use std::cmp::Ordering;
 use std::collections::BinaryHeap;
@@ -98,13 +98,15 @@ pub(crate) struct Agenda {
 impl Model for Agenda {
     ghost use Rattle.std.specs.Prelude.{List};
     ghost use Rattle.std.specs.BinaryHeap.{IsHeap, heap_items};
-    ghost use Rattle.afdx_acceptance.specs.Awaited.{by_rank};
+    ghost use Rattle.afdx_acceptance.specs.Awaited.{AreKeys, by_rank};
+    ghost use Rattle.afdx_acceptance.specs.declared.agenda.Entry.{Entry as Awaited};
 
-    ghost Value = { List Entry };
+    ghost Value = { List Awaited };
 
     ghost view = { λ agenda. heap_items agenda.heap };
 
-    ghost invariant = { λ agenda. IsHeap by_rank (heap_items agenda.heap) };
+    ghost invariant = { λ agenda.
+        IsHeap by_rank (heap_items agenda.heap) × AreKeys (heap_items agenda.heap) };
 }
 
 impl Agenda {
@@ -121,6 +123,7 @@ impl Agenda {
     pub(crate) fn push(&mut self, moment: u64, key: Key) -> Result<(), AllocError>
         ensures { OnOk result (IsPermutation (awaited moment key ∷ self.old) self.new) }
     {
+        are_small(key);
         self.heap.push(Entry { moment, key })?;
         Ok(())
     }
@@ -131,6 +134,8 @@ impl Agenda {
         ensures first { IfSome result (λ x. All (λ y. spec.rank_of x ≤ spec.rank_of y) self.new) }
         ensures in_time { IfSome result (IsBefore before) }
         ensures rest { IfSome result (λ x. IsPermutation self.old (x ∷ self.new)) }
+        ensures fewer { IfSome result (λ x. length self.new < length self.old) }
+        ensures keys { AreKeys self.old }
         ensures none { IfNone result (AreNotBefore before self.old) }
         ensures same { IfNone result (self.new ≡ self.old) }
     {

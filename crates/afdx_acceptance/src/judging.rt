@@ -94,6 +94,7 @@ impl<'a> Judging<'a> {
         ensures failed { O.failed output.new ≡ is_failed_write result }
         ensures fault { IfErr result IsOfOutput }
         ensures settings { O.settings output.new ≡ O.settings output.old }
+        ensures streams { self.new.streams ≡ self.old.streams }
     {
         for line in lines {
             output.put(&OutLine::Conform(*line))?;
@@ -117,14 +118,14 @@ impl<'a> Judging<'a> {
         Ok(())
     }
 
-    /// The recordings end at this time, in ns, up to which all is told.
+    /// The recordings end at this time, in ns, before which all is told.
     fn close<O: Sink>(&mut self, until: u64, output: &mut O) -> Result<(), RunFault>
         requires sound { O.failed output.old ≡ false }
         ensures failed { O.failed output.new ≡ is_failed_write result }
         ensures fault { IfErr result IsOfOutput }
         ensures settings { O.settings output.new ≡ O.settings output.old }
     {
-        self.tell_due(Some(until.saturating_add(1)), output)?;
+        self.tell_due(Some(until), output)?;
         self.streams.end(until);
         self.is_over = true;
         Ok(())

@@ -9,10 +9,21 @@ use afdx_frame::Side;
 /// A link's frames on a side at an output port; without a link the frames there that are of no
 /// stream. The link is its place in the tables.
 #[derive(Clone, Copy, Debug, PartialEq, Eq)]
-pub(crate) struct Key {
-    pub(crate) side: Side,
-    pub(crate) port: u8,
-    pub(crate) link: Option<u16>,
+pub struct Key {
+    pub side: Side,
+    pub port: u8,
+    pub link: Option<u16>,
+}
+
+/// The numbers of a key are those that its types hold.
+pub(crate) fn are_small(key: Key)
+    ensures { spec.IsKey key }
+{
+    let Key {
+        side: _,
+        port: _,
+        link: _,
+    } = key;
 }
 
 /// The number of a side, in its order.

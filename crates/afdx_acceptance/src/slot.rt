@@ -1,5 +1,9 @@
 //! What is kept of a key: a stream, or frames of none; and the lines that are told of it.
 
+ghost use Rattle.std.specs.Prelude.{◌≡◌, ◌<◌, ℕ, OnOk, Some, length};
+ghost use Rattle.afdx_conform.specs.Standing.{due_of, undecided_in};
+ghost use Rattle.afdx_acceptance.specs.Waiting.{first_time, slot_due, slot_left};
+
 use crate::key::Key;
 use crate::strangers::{Stranger, Strangers};
 use afdx_conform::{Arrived, Finding, Frame, Strangeness, Stream};
@@ -19,7 +23,10 @@ pub(crate) enum Slot {
 
 impl Slot {
     /// The moment of what is to be told next, in ns.
-    pub(crate) fn due(&self) -> Option<u64> {
+    #[tactic(auto, unfolding(crate::specs::Waiting::slot_due))]
+    pub(crate) fn due(&self) -> Option<u64>
+        ensures { result ≡ slot_due self.now }
+    {
         match self {
             Slot::Nothing => None,
             Slot::Strangers(strangers) => strangers.due(),
@@ -129,7 +136,10 @@ fn step_stream(
     alloc: Global,
     key: Key,
     ended: Option<u64>,
-) -> Result<Vec<ConformLine>, AllocError> {
+) -> Result<Vec<ConformLine>, AllocError>
+    ensures less { (m : ℕ) → due_of stream.old ≡ Some m →
+        OnOk result (undecided_in stream.new < undecided_in stream.old) }
+{
     let found = stream.decide(alloc, ended)?;
     let mut lines = lines_of(alloc, key, found.as_slice())?;
     if let Some(n) = stream.unsure_behind() {
@@ -144,7 +154,11 @@ fn step_strangers(
     strangers: &mut Strangers,
     alloc: Global,
     key: Key,
-) -> Result<Vec<ConformLine>, AllocError> {
+) -> Result<Vec<ConformLine>, AllocError>
+    ensures less { (m : ℕ) → first_time strangers.old.waiting.items ≡ Some m →
+        OnOk result
+        (length strangers.new.waiting.items < length strangers.old.waiting.items) }
+{
     let mut lines = Vec::new(alloc);
     if let Some(stranger) = strangers.take_first() {
         lines.push(ConformLine::Strange {
@@ -159,12 +173,16 @@ fn step_strangers(
 
 /// The lines of what is due, which is over then. `ended` is the time in ns at which the recordings
 /// end, once it is known.
+#[tactic(auto, unfolding(crate::specs::Waiting::slot_due, crate::specs::Waiting::slot_left))]
 pub(crate) fn step(
     at: &mut Slot,
     alloc: Global,
     key: Key,
     ended: Option<u64>,
-) -> Result<Vec<ConformLine>, AllocError> {
+) -> Result<Vec<ConformLine>, AllocError>
+    ensures less { (m : ℕ) → slot_due at.old ≡ Some m →
+        OnOk result (slot_left at.new < slot_left at.old) }
+{
     match at {
         Slot::Nothing => Ok(Vec::new(alloc)),
         Slot::Strangers(strangers) => step_strangers(strangers, alloc, key),

@@ -1,5 +1,8 @@
 //! Frames that left and are of no stream.
 
+ghost use Rattle.std.specs.Prelude.{◌≡◌, ◌<◌, IsSome, length};
+ghost use Rattle.afdx_acceptance.specs.Waiting.{first_time};
+
 use afdx_frame::{Checked, MacView};
 use afdx_police::Reason;
 use afdx_text::StrangeReason;
@@ -43,7 +46,9 @@ impl Strangers {
     }
 
     /// When the first of them left.
-    pub(crate) fn due(&self) -> Option<u64> {
+    pub(crate) fn due(&self) -> Option<u64>
+        ensures { result ≡ first_time self.now.waiting.items }
+    {
         match self.waiting.front() {
             Some(first) => Some(first.time),
             None => None,
@@ -57,7 +62,10 @@ impl Strangers {
     }
 
     /// Takes the first out.
-    pub(crate) fn take_first(&mut self) -> Option<Stranger> {
+    pub(crate) fn take_first(&mut self) -> Option<Stranger>
+        ensures less { IsSome (first_time self.old.waiting.items) →
+            length self.new.waiting.items < length self.old.waiting.items }
+    {
         self.waiting.pop_front()
     }
 }

@@ -1,6 +1,7 @@
 //! All streams of the tables, and what is to be told of them.
 
-ghost use Rattle.std.specs.Prelude.{◌≡◌, ◌≤◌, ◌<◌, IfOk, IfSome, length};
+ghost use Rattle.std.specs.Prelude.{◌≡◌, ◌≤◌, ◌<◌, IfOk, IsSome, IsTrue, OnOk, length};
+ghost use Rattle.afdx_acceptance.specs.Waiting.{IsDue, left_in};
 ghost use Rattle.afdx_conform.specs.LimitRanges.{most_bytes};
 ghost use Rattle.afdx_frame.specs.Seals.{IsSealedAs};
 ghost use Rattle.afdx_frame.specs.Times.{latest_listed};
@@ -45,7 +46,9 @@ fn new_slots(alloc: Global, count: usize) -> Result<Vec<Slot>, AllocError> {
 }
 
 /// Whether that is what is due there.
-fn is_due(slots: &[Slot], entry: &Entry) -> bool {
+fn is_due(slots: &[Slot], entry: &Entry) -> bool
+    ensures { IsTrue result → IsDue slots.now entry.now }
+{
     let place = entry.key.place();
     if place >= slots.len() {
         return false;
@@ -72,7 +75,10 @@ impl<'a> Streams<'a> {
     }
 
     /// At this moment something is to be told of the key, if there is one.
-    fn await_due(&mut self, due: Option<u64>, key: Key) -> Result<(), AllocError> {
+    fn await_due(&mut self, due: Option<u64>, key: Key) -> Result<(), AllocError>
+        ensures slots { self.new.slots ≡ self.old.slots }
+        ensures tables { self.new.tables ≡ self.old.tables }
+    {
         match due {
             Some(moment) => self.agenda.push(moment, key),
             None => Ok(()),
@@ -83,6 +89,7 @@ impl<'a> Streams<'a> {
     fn stream_to(&mut self, link: usize, system: SystemId, side: Side) -> Result<Key, AllocError>
         requires link { link < length self.old.tables.now.links }
         requires system { system.0 < length self.old.tables.now.systems }
+        ensures tables { self.new.tables ≡ self.old.tables }
     {
         let key = Key {
             side,
@@ -110,6 +117,7 @@ impl<'a> Streams<'a> {
         requires system { system.0 < length self.old.tables.now.systems }
         requires time { heading.now.time ≤ latest_listed }
         requires short { length bytes.now ≤ most_bytes }
+        ensures tables { self.new.tables ≡ self.old.tables }
     {
         let key = self.stream_to(link, system, heading.side)?;
         let rule = rule_at(self.tables, link);
@@ -229,7 +237,10 @@ impl<'a> Streams<'a> {
     pub(crate) fn take_before(
         &mut self,
         before: Option<u64>,
-    ) -> Result<Option<Vec<ConformLine>>, AllocError> {
+    ) -> Result<Option<Vec<ConformLine>>, AllocError>
+        ensures less { IfOk result (λ lines. IsSome lines →
+            left_in self.new.slots.items < left_in self.old.slots.items) }
+    {
         while let Some(entry) = self.agenda.take_before(before) {
             if is_due(self.slots.as_slice(), &entry) {
                 let lines = self.step(&entry)?;
@@ -240,11 +251,11 @@ impl<'a> Streams<'a> {
     }
 
     /// The lines of what is due.
-    fn step(&mut self, entry: &Entry) -> Result<Vec<ConformLine>, AllocError> {
+    fn step(&mut self, entry: &Entry) -> Result<Vec<ConformLine>, AllocError>
+        requires { IsDue self.old.slots.items entry.now }
+        ensures less { OnOk result (left_in self.new.slots.items < left_in self.old.slots.items) }
+    {
         let place = entry.key.place();
-        if place >= self.slots.len() {
-            return Ok(Vec::new(self.alloc));
-        }
         let lines = step(&mut self.slots[place], self.alloc, entry.key, self.ended)?;
         let due = self.slots[place].due();
         self.await_due(due, entry.key)?;

@@ -43,7 +43,7 @@ impl Totals {
         if let Slot::Stream(stream) = slot {
             let counts = stream.counts();
             self.explained = self.explained.saturating_add(counts.explained);
-            self.waiting = self.waiting.saturating_add(counts.open);
+            self.waiting = self.waiting.saturating_add(counts.waiting);
             self.uncertain = self.uncertain.saturating_add(counts.uncertain);
             if stream.unsure_behind().is_some() {
                 self.is_unsure = true;

@@ -21,6 +21,7 @@ fn seal_wrongly(bytes: &mut Vec<u8>) -> Result<(), AllocError>
 
 /// The bytes of a frame with this message, sealed like this. A message of over 65,531 bytes, which
 /// no list has, is refused as want of memory.
+#[tactic(auto, unfolding(afdx_frame::specs::Seals::whole))]
 pub(crate) fn whole_frame(
     alloc: Global,
     sealing: Seal,

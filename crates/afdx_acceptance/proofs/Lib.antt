@@ -1,0 +1,3 @@
+pub mod AgendaLemmas
+pub mod OutletLemmas
+pub mod WaitingLemmas
