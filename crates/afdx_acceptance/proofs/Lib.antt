@@ -1,3 +1,4 @@
 pub mod AgendaLemmas
 pub mod OutletLemmas
 pub mod WaitingLemmas
+pub mod TellingLemmas

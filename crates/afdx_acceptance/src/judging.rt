@@ -1,7 +1,12 @@
 //! The machine of a run: each frame goes to its streams, and what is found there is told at its
 //! moment.
 
-ghost use Rattle.std.specs.Prelude.{◌≡◌, ◌≤◌, IfErr, false};
+ghost use Rattle.std.specs.Prelude.{◌≡◌, ◌≤◌, ◌+◌, IfErr, OnErr, OnOk, false, min};
+ghost use Rattle.std.specs.Io.KnownBytes.{Appends};
+ghost use Rattle.afdx_acceptance.specs.Judging.{IsSameButFindings};
+ghost use Rattle.afdx_acceptance.specs.Telling as spec;
+ghost use Rattle.afdx_lists.specs.Calls.{AppendsFront};
+ghost use Rattle.afdx_text.specs.ConformLines.{conform_text};
 ghost use Rattle.afdx_frame.specs.Seals.{IsSealedAs};
 ghost use Rattle.afdx_frame.specs.Times.{latest_listed};
 ghost use Rattle.afdx_lists.specs.Calls.{is_failed_write};
@@ -33,11 +38,43 @@ pub(crate) struct Judging<'a> {
 }
 
 /// Whether a line says what the switch did wrong.
-fn is_finding(line: &ConformLine) -> bool {
+fn is_finding(line: &ConformLine) -> bool
+    ensures { result ≡ spec.is_finding line.now }
+{
     match line {
-        ConformLine::Unsure { .. } => false,
+        ConformLine::Unsure { .. } | ConformLine::Judged { .. } => false,
         _ => true,
     }
+}
+
+/// How many lines say so.
+fn findings_in(lines: &[ConformLine]) -> u64
+    ensures { result ≡ min (spec.findings_in lines.now) spec.most_counted }
+{
+    let mut count: u64 = 0;
+    for line in lines {
+        if is_finding(line) {
+            count = count.saturating_add(1);
+        }
+    }
+    count
+}
+
+/// Puts some lines.
+fn put_lines<O: Sink>(lines: &[ConformLine], output: &mut O) -> Result<(), RunFault>
+    requires sound { O.failed output.old ≡ false }
+    ensures failed { O.failed output.new ≡ is_failed_write result }
+    ensures fault { IfErr result IsOfOutput }
+    ensures settings { O.settings output.new ≡ O.settings output.old }
+    ensures told { OnOk result (Appends (O.written output.old) (O.written output.new)
+        (spec.lines_text lines.now)) }
+    ensures begun { OnErr result (AppendsFront (O.written output.old) (O.written output.new)
+        (spec.lines_text lines.now)) }
+{
+    for line in lines {
+        output.put(&OutLine::Conform(*line))?;
+    }
+    Ok(())
 }
 
 /// Whether a line of this time is passed over, since it lies before the start or behind the end.
@@ -94,14 +131,16 @@ impl<'a> Judging<'a> {
         ensures failed { O.failed output.new ≡ is_failed_write result }
         ensures fault { IfErr result IsOfOutput }
         ensures settings { O.settings output.new ≡ O.settings output.old }
-        ensures streams { self.new.streams ≡ self.old.streams }
+        ensures others { IsSameButFindings self.old self.new }
+        ensures counted { OnOk result (self.new.findings
+            ≡ min (self.old.findings + spec.findings_in lines.now) spec.most_counted) }
+        ensures told { OnOk result (Appends (O.written output.old) (O.written output.new)
+            (spec.lines_text lines.now)) }
+        ensures begun { OnErr result (AppendsFront (O.written output.old) (O.written output.new)
+            (spec.lines_text lines.now)) }
     {
-        for line in lines {
-            output.put(&OutLine::Conform(*line))?;
-            if is_finding(line) {
-                self.findings = self.findings.saturating_add(1);
-            }
-        }
+        put_lines(lines, output)?;
+        self.findings = self.findings.saturating_add(findings_in(lines));
         Ok(())
     }
 

@@ -1,4 +1,5 @@
 //! Whether a recorded switch did what its tables say: the run over what came and what left, its
+//! text, and the command `conform`.
 //!
 //! Its tests are in `afdx_run_tests`.
 #![tactic(auto)]

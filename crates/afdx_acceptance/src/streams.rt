@@ -24,6 +24,9 @@ const OF_LINK: usize = 64;
 
 const OF_STRANGERS: usize = 512;
 
+/// The most bytes of an arrival that is judged. No list has one of more.
+const MOST_BYTES: usize = 65_535;
+
 /// What is kept of each key of the tables, what is to be told of it, and the time in ns at which
 /// the recordings end, once it is known.
 #[derive(Drop)]
@@ -140,11 +143,13 @@ impl<'a> Streams<'a> {
         bytes: &[u8],
     ) -> Result<(), AllocError>
         requires time { heading.now.time ≤ latest_listed }
-        requires short { length bytes.now ≤ most_bytes }
     {
         let Some(link) = link_named(self.tables, vl) else {
             return Ok(());
         };
+        if bytes.len() > MOST_BYTES {
+            return Ok(());
+        }
         for rank in 0..self.tables.link(link).to.len() {
             let system = receiver(self.tables, link, rank);
             self.came_to(link, system, n, heading, bytes)?;

@@ -1,15 +1,11 @@
 //! All bytes of a frame.
 
-ghost use Rattle.std.specs.Prelude.{◌≡◌, ◌≤◌, ◌+◌, IfOk, OnOk, length};
-ghost use Rattle.afdx_conform.specs.LimitRanges.{most_bytes};
+ghost use Rattle.std.specs.Prelude.{◌≡◌, IfOk, OnOk};
 ghost use Rattle.afdx_frame.specs.Sealing.{sealed_wrongly};
 ghost use Rattle.afdx_frame.specs.Seals.{whole};
 
 use afdx_frame::{Seal, fcs, seal};
 use std::alloc::{AllocError, Global};
-
-/// The most bytes of a message: with four more there are fewer than 2^16.
-const MOST_OF_MESSAGE: usize = 65_531;
 
 /// Appends the complement of the check sequence.
 fn seal_wrongly(bytes: &mut Vec<u8>) -> Result<(), AllocError>
@@ -19,20 +15,15 @@ fn seal_wrongly(bytes: &mut Vec<u8>) -> Result<(), AllocError>
     bytes.extend_from_slice(&sequence.to_le_bytes())
 }
 
-/// The bytes of a frame with this message, sealed like this. A message of over 65,531 bytes, which
-/// no list has, is refused as want of memory.
+/// The bytes of a frame with this message, sealed like this.
 #[tactic(auto, unfolding(afdx_frame::specs::Seals::whole))]
 pub(crate) fn whole_frame(
     alloc: Global,
     sealing: Seal,
     message: &[u8],
 ) -> Result<Vec<u8>, AllocError>
-    ensures whole { IfOk result (λ bytes. bytes.items ≡ whole sealing message.now) }
-    ensures short { IfOk result (λ bytes. length bytes.items ≤ most_bytes) }
+    ensures { IfOk result (λ bytes. bytes.items ≡ whole sealing message.now) }
 {
-    if message.len() > MOST_OF_MESSAGE {
-        return Err(AllocError);
-    }
     let mut bytes = Vec::from_slice(alloc, message)?;
     match sealing {
         Seal::Right => seal(&mut bytes)?,
