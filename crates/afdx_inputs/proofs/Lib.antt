@@ -14,5 +14,7 @@ pub mod JoinLemmas
 pub mod TwoListsLemmas
 pub mod ListedLemmas
 pub mod FaultLemmas
+pub mod HeadedLemmas
+pub mod BothAskedLemmas
 pub mod TwoListsRunLemmas
 pub mod JoinLawLemmas

@@ -1,28 +1,21 @@
 -- What a run over two lists answers, from what it hands from them to its machine.
-use Rattle.std.proofs.Common.{◌≡◌, ℕ, ◌+◌, ◌≤◌, List, [], ◌∷◌, ◌++◌, length, reverse, append-nil, append_assoc, refl, ap, sym, ◌∙◌, subst, arith}
-use Rattle.std.proofs.Common.{Option, Some, None, Result, Ok, Err, Bool, true, false, ◌||◌, ◌⊎◌, inl, inr}
+use Rattle.std.proofs.Common.{◌≡◌, ℕ, List, [], ◌∷◌, ◌++◌, length, reverse, append-nil, append_assoc, refl, ap, sym, ◌∙◌, subst, arith}
+use Rattle.std.proofs.Common.{Option, Some, None, Result, Ok, Err, ◌⊎◌, inl, inr}
 use Rattle.afdx_police.specs.Arrival.{Arrival}
 use Rattle.afdx_lists.specs.Calls.{is_read}
 use Rattle.afdx_lists.specs.Faults.{fault_of_list}
-use Rattle.afdx_lists.specs.FrameLines.{listed_frame}
-use Rattle.afdx_lists.specs.Lines.{left, lines_of, lines_taken, most_reads}
+use Rattle.afdx_lists.specs.Lines.{lines_of, lines_taken}
 use Rattle.afdx_lists.specs.declared.fault.RunFault.{RunFault}
 use Rattle.afdx_lists.specs.declared.fault.RunFault.TheVariants as run
 use Rattle.afdx_lists.specs.declared.frame_line.Heading.{Heading}
 use Rattle.afdx_lists.specs.declared.role.ByRole.{ByRole}
-use Rattle.afdx_lists.specs.declared.role.Role.{Role}
 use Rattle.afdx_lists.specs.declared.role.Role.TheVariants.{Came, Left}
 use Rattle.afdx_lists.specs.declared.watched.Watched.{Watched}
 use Rattle.afdx_text.specs.Sinks.{IsOfOutput}
 use Rattle.afdx_engine.specs.Causes.{Cause, cause_of, FailedRead, FailedWrite, NoMemory, BadInput}
-use Rattle.afdx_engine.specs.Engine.{Item, Runs, without_newest}
+use Rattle.afdx_engine.specs.Engine.{Item, without_newest}
 use Rattle.afdx_engine.specs.Items.{arrivals}
-use Rattle.afdx_engine.specs.Listed as listed
-use Rattle.afdx_engine.specs.ListSource.{HasEnded, HasGiven, HasStopped, IsUnread, item_given}
-use Rattle.afdx_engine.specs.declared.listed.FrameLines.{FrameLines}
-use Rattle.afdx_engine.specs.declared.read_list.ReadList.{ReadList}
-use Rattle.afdx_engine.proofs.ListRunLemmas.{not_read}
-use Rattle.afdx_engine.proofs.ListSourceLemmas.{gave-start}
+use Rattle.afdx_engine.specs.ListSource.{item_given}
 use Rattle.afdx_inputs.specs.declared.headed.ListHead.{ListHead}
 use Rattle.afdx_inputs.specs.declared.headed.ListHead.TheVariants as head
 use Rattle.afdx_inputs.specs.declared.seen.Seen.{Seen}
@@ -30,13 +23,14 @@ use Rattle.afdx_inputs.specs.declared.two_lists.TwoLists.{TwoLists}
 use Rattle.afdx_inputs.specs.Joining.{Coming, Frame, Joined, ListsTo, arrival_of, first_of, frame_of, frames_of, join, joined, joined_as}
 use Rattle.afdx_inputs.specs.Seeing.{latest_seen}
 use Rattle.afdx_inputs.specs.TwoListsRun.{AreListed, HoldsOfFirst, IfBothGiven, TwoListsAnswer, TwoListsStop}
-use Rattle.afdx_inputs.specs.TwoListsSource.{CanBe, Frames, IsAhead, IsAheadBy, IsJoined, IsJoinedToEnd, IsKnown}
-use Rattle.afdx_inputs.specs.TwoListsSource.{StopsAtCame, StopsAtLeft, StopsJoining}
-use Rattle.afdx_inputs.proofs.FaultLemmas.{named-cause, named-read, read-cause}
-use Rattle.afdx_inputs.proofs.JoinLemmas.{EndsIn, join-end, join-extends, join-fault-came, join-fault-left, reverse-taken}
+use Rattle.afdx_inputs.specs.TwoListsSource.{CanBe, Frames, IsAhead, IsKnown}
+use Rattle.afdx_inputs.specs.TwoListsSource.{StopsAtCame, StopsAtLeft}
+use Rattle.afdx_inputs.proofs.FaultLemmas.{named-cause, read-cause}
+use Rattle.afdx_inputs.proofs.JoinLemmas.{EndsIn, join-end, join-extends, join-fault-came, join-fault-left}
 use Rattle.afdx_inputs.proofs.PairAnswerLemmas.{if-both}
-use Rattle.afdx_inputs.proofs.PairRunLemmas.{either-false, either-left, either-right}
-use Rattle.afdx_inputs.proofs.ListedLemmas.{Behind, StoppedBy, all-come, behind-come, continues, stopped-so}
+use Rattle.afdx_inputs.proofs.ListedLemmas.{Behind, StoppedBy, continues}
+use Rattle.afdx_inputs.proofs.HeadedLemmas.{Comes, FrameList, Given, GivenAll, StoppedList, comes-by, given-all, stopped-list}
+use Rattle.afdx_inputs.proofs.BothAskedLemmas.{Ended, Gave, RunsTwo, Stopped}
 
 -- a fault of what left, once the other head is known
 left-stops : (past : List Frame) (x : Item Heading) (hx : ListHead) (xs : List Arrival) (fx : Option RunFault)
@@ -47,447 +41,247 @@ left-stops past x (head.Frame time) xs fx fault known can =
 left-stops past x head.Over xs fx fault known can =
     let none = can.0 in let well = can.1 in rw (none, well) (join-end past (Some fault))
 
-abbrev FrameList : Type 0
-FrameList = ReadList FrameLines Heading
-
 module _ {R : Type 0} (remaining : R → Option (List ℕ)) where
-  -- ---- one of the two
+  module _ (start inputs : ByRole (Watched R)) (lists : TwoLists FrameList)
+      (done told begins : List (Item Seen) → Type 0) where
+    -- ---- what is answered, where the bytes of both are known
+    module _ (bytes_came bytes_left : List ℕ) (known_came : remaining start.came.inner ≡ Some bytes_came)
+        (known_left : remaining start.left.inner ≡ Some bytes_left) where
+      abbrev Stop : RunFault → Cause → Type 0
+      Stop fault cause = TwoListsStop remaining bytes_came bytes_left inputs done told begins fault cause
 
-  abbrev pub Given : Watched R → FrameList → Watched R → Frames → Type 0
-  Given start list input past =
-      HasGiven (λ (form : FrameLines). Unit {0}) (λ (form : FrameLines). listed.frames) listed_frame
-      (λ (heading : Heading). heading.time) remaining start list input past
+      abbrev pub Answer : Result (ByRole ℕ) RunFault → Type 0
+      Answer result = TwoListsAnswer remaining bytes_came bytes_left inputs done told begins result
 
-  abbrev pub GivenAll : Watched R → FrameList → Watched R → Frames → Type 0
-  GivenAll start list input past =
-      HasEnded (λ (form : FrameLines). listed.frames) listed_frame
-      (λ (heading : Heading). heading.time) remaining start list input past
+      came-comes : (latest : ℕ) (taken : Frames)
+          → IsAhead item_given (Given remaining) (GivenAll remaining) latest start.came lists.came inputs.came taken
+          → Comes remaining start.came inputs.came lists.came.source Came bytes_came known_came lists.came.head taken
+      came-comes latest taken h =
+          comes-by remaining start.came inputs.came lists.came.source Came bytes_came known_came lists.came.head taken h.known
 
-  abbrev pub StoppedList : Watched R → FrameList → Watched R → Frames → RunFault → Type 0
-  StoppedList start list input past fault =
-      HasStopped (λ (form : FrameLines). listed.frames) listed_frame remaining start list input past fault
+      left-comes : (latest : ℕ) (taken : Frames)
+          → IsAhead item_given (Given remaining) (GivenAll remaining) latest start.left lists.left inputs.left taken
+          → Comes remaining start.left inputs.left lists.left.source Left bytes_left known_left lists.left.head taken
+      left-comes latest taken h =
+          comes-by remaining start.left inputs.left lists.left.source Left bytes_left known_left lists.left.head taken h.known
 
-  -- whether its device failed, and how often it was asked
-  pub record Asked (failed : Bool) (start input : Watched R) : Type 0 where
-    pub failed_is : input.failed ≡ failed
-    pub calls : input.calls ≤ start.calls + most_reads
+      -- these are the first frames of all that come
+      pub record AreFirst (past : List (Item Seen)) : Type 0 where
+        pub came : Coming
+        pub left : Coming
+        pub listed_so : AreListed remaining bytes_came bytes_left inputs came left
+        pub ends : EndsIn (frames_of past) (joined came left).frames
 
-  module _ (start input : Watched R) (list : FrameList) where
-    abbrev AheadBy : ListHead → Frames → Type 0
-    AheadBy hd taken = IsAheadBy (Given start list input) (GivenAll start list input) (item_given list) hd taken
-
-    given-asked : (taken : Frames) → Given start list input taken → Asked false start input
-    given-asked taken h =
-        let calls = h.gave.calls in
-        let few = h.gave.few in
-        record { failed_is = h.gave.sound; calls = omega (arith, calls, few) }
-
-    ahead-asked : (hd : ListHead) (taken : Frames) → AheadBy hd taken → Asked false start input
-    ahead-asked head.Unknown taken h = given-asked taken h
-    ahead-asked (head.Frame time) taken h = given-asked (item_given list ∷ taken) h.0
-    ahead-asked head.Over taken h = record { failed_is = h.sound; calls = h.calls }
-
-    module _ (role : Role) (bytes : List ℕ) (known : remaining start.inner ≡ Some bytes) where
-      -- what comes of it, by its head
-      pub record Comes (hd : ListHead) (taken : Frames) : Type 0 where
-        pub next : List Arrival
-        pub fault : Option RunFault
-        pub can : CanBe (item_given list) hd next fault
-        pub listed_so : ListsTo role bytes (reverse (arrivals taken) ++ next) fault
-
-      given-behind : (taken : Frames) → Given start list input taken → Behind role bytes (arrivals taken)
-      given-behind taken h =
-          behind-come role bytes (arrivals taken) list.head.time (lines_taken list.reader) (remaining start.inner)
-          (left remaining list.reader input) known h.gave.come
-
-      given-all : (taken : Frames) → GivenAll start list input taken
-          → ListsTo role bytes (reverse (arrivals taken)) None × (lines_taken list.reader ≡ length (lines_of bytes))
-      given-all taken h =
-          all-come role bytes (arrivals taken) list.head.time (lines_taken list.reader) (remaining start.inner)
-          h.rest known h.come h.done
-
-      comes-by : (hd : ListHead) (taken : Frames) → AheadBy hd taken → Comes hd taken
-      comes-by head.Unknown taken h =
-          let b = given-behind taken h in
-          record { next = b.next; fault = b.fault; can = tt; listed_so = b.listed }
-      comes-by (head.Frame time) taken h =
-          let b = given-behind (item_given list ∷ taken) h.0 in record {
-            next = arrival_of (item_given list) ∷ b.next;
-            fault = b.fault;
-            can = (b.next, refl);
-            listed_so = subst (λ (l : List Arrival). ListsTo role bytes l b.fault)
-                (reverse-taken (arrival_of (item_given list)) (arrivals taken) b.next) b.listed;
+      first-by : (past : List (Item Seen)) (xs ys rest_x rest_y : List Arrival) (fx fy : Option RunFault)
+          → ListsTo Came bytes_came xs fx → ListsTo Left bytes_left ys fy
+          → join [] xs fx ys fy ≡ join (frames_of past) rest_x fx rest_y fy → AreFirst past
+      first-by past xs ys rest_x rest_y fx fy lists_x lists_y is =
+          let e = join-extends (frames_of past) rest_x fx rest_y fy in record {
+            came = record { next = xs; fault = fx };
+            left = record { next = ys; fault = fy };
+            listed_so = (lists_x, lists_y);
+            ends = (e.0, ap (λ (j : Joined). j.frames) is ∙ e.1);
           }
-      comes-by head.Over taken h = record {
-        next = [];
-        fault = None;
-        can = (refl, refl);
-        listed_so = subst (λ (l : List Arrival). ListsTo role bytes l None)
-            (sym (append-nil (reverse (arrivals taken)))) (given-all taken h).0;
+
+      gave-first : (past : List (Item Seen)) → Gave remaining start inputs lists past → AreFirst past
+      gave-first past h =
+          let a = came-comes (latest_seen past) h.taken_came h.came in
+          let b = left-comes (latest_seen past) h.taken_left h.left in
+          first-by past _ _ a.next b.next a.fault b.fault a.listed_so b.listed_so
+          (h.joins a.next b.next a.fault b.fault a.can b.can)
+
+      came-all : (taken : Frames) → GivenAll remaining start.came lists.came.source inputs.came taken
+          → ListsTo Came bytes_came (reverse (arrivals taken)) None
+          × (lines_taken lists.came.source.reader ≡ length (lines_of bytes_came))
+      came-all taken h = given-all remaining start.came inputs.came lists.came.source Came bytes_came known_came taken h
+
+      left-all : (taken : Frames) → GivenAll remaining start.left lists.left.source inputs.left taken
+          → ListsTo Left bytes_left (reverse (arrivals taken)) None
+          × (lines_taken lists.left.source.reader ≡ length (lines_of bytes_left))
+      left-all taken h = given-all remaining start.left inputs.left lists.left.source Left bytes_left known_left taken h
+
+      ended-first : (past : List (Item Seen)) → Ended remaining start inputs lists past → AreFirst past
+      ended-first past h = record {
+        came = record { next = reverse (arrivals h.taken_came); fault = None };
+        left = record { next = reverse (arrivals h.taken_left); fault = None };
+        listed_so = ((came-all h.taken_came h.ended_came).0, (left-all h.taken_left h.ended_left).0);
+        ends = ([], ap (λ (j : Joined). j.frames) h.joined_is);
       }
 
-      stopped-list : (taken : Frames) (own : RunFault) → StoppedList start list input taken own
-          → StoppedBy role bytes (arrivals taken) (remaining input.inner) own (cause_of own)
-      stopped-list taken own h =
-          stopped-so role bytes (arrivals taken) (remaining start.inner) (remaining input.inner) own known h.stops
+      -- of some first frames a beginning is told
+      abbrev Begun : Type 0
+      Begun =
+          (came : Coming) × (left : Coming) × AreListed remaining bytes_came bytes_left inputs came left
+          × HoldsOfFirst came left (λ items. told items ⊎ begins items)
 
-  -- ---- both
+      begun-all : (past : List (Item Seen)) → AreFirst past → told past ⊎ begins past → Begun
+      begun-all past f t = (f.came, f.left, f.listed_so, (past, f.ends.0, f.ends.1, t))
 
-  module _ (start inputs : ByRole (Watched R)) (lists : TwoLists FrameList) where
-    abbrev pub Gave : List (Item Seen) → Type 0
-    Gave past = IsJoined item_given Given GivenAll start lists inputs past
+      begun-some : (past : List (Item Seen)) → AreFirst past → begins past ⊎ begins (without_newest past) → Begun
+      begun-some past f (inl b) = begun-all past f (inr b)
+      begun-some [] f (inr b) = begun-all [] f (inr b)
+      begun-some (x ∷ past) f (inr b) = (
+        f.came,
+        f.left,
+        f.listed_so,
+        (
+          past,
+          f.ends.0 ++ (frame_of x ∷ []),
+          f.ends.1 ∙ sym (append_assoc f.ends.0 (frame_of x ∷ []) (frames_of past)),
+          inr b,
+        ),
+      )
 
-    abbrev pub Ended : List (Item Seen) → Type 0
-    Ended past = IsJoinedToEnd item_given Given GivenAll start lists inputs past
+      output-stop : (fault : RunFault) → IsOfOutput fault → Begun → Stop fault (cause_of fault)
+      output-stop fault (inl e) h = rw e h
+      output-stop fault (inr e) h = rw e h
 
-    abbrev pub Stopped : List (Item Seen) → RunFault → Type 0
-    Stopped past fault = StopsJoining item_given Given GivenAll StoppedList start lists inputs past fault
+      -- ---- the list of what came in stopped
 
-    -- whether a device failed, and how often each was asked
-    pub record BothAsked (failed : Bool) : Type 0 where
-      pub failed_is : (inputs.came.failed || inputs.left.failed) ≡ failed
-      pub calls_came : inputs.came.calls ≤ start.came.calls + most_reads
-      pub calls_left : inputs.left.calls ≤ start.left.calls + most_reads
+      module _ (past : List (Item Seen)) (fault : RunFault)
+          (s : StopsAtCame item_given (Given remaining) (GivenAll remaining) (StoppedList remaining) start lists
+          inputs past fault) (t : told past) where
+        came-joined : (ys : List Arrival) (fy : Option RunFault) (any : RunFault)
+            → CanBe (item_given lists.left.source) lists.left.head ys fy → fault ≡ any
+            → join [] (reverse (arrivals s.taken_came)) (Some any) (reverse (arrivals s.taken_left) ++ ys) fy
+            ≡ joined_as (frames_of past) (Some fault)
+        came-joined ys fy any can is =
+            ap (λ (all : List Arrival). join [] all (Some any) (reverse (arrivals s.taken_left) ++ ys) fy)
+            (sym (append-nil (reverse (arrivals s.taken_came))))
+            ∙ s.joins [] ys (Some any) fy tt can
+            ∙ join-fault-came (frames_of past) any ys fy
+            ∙ ap (λ (f : RunFault). joined_as (frames_of past) (Some f)) (sym is)
 
-    both-asked : (a b c : Bool) → Asked a start.came inputs.came → Asked b start.left inputs.left
-        → ((inputs.came.failed ≡ a) → (inputs.left.failed ≡ b) → (inputs.came.failed || inputs.left.failed) ≡ c)
-        → BothAsked c
-    both-asked a b c came left is = record {
-      failed_is = is came.failed_is left.failed_is;
-      calls_came = came.calls;
-      calls_left = left.calls;
-    }
+        came-begun : Behind Came bytes_came (arrivals s.taken_came) → Begun
+        came-begun h =
+            let b = left-comes (latest_seen past) s.taken_left s.left in
+            begun-all past (first-by past _ _ h.next b.next h.fault b.fault h.listed b.listed_so
+            (s.joins h.next b.next h.fault b.fault tt b.can)) (inl t)
 
-    came-asked : (latest : ℕ) (taken : Frames)
-        → IsAhead item_given Given GivenAll latest start.came lists.came inputs.came taken
-        → Asked false start.came inputs.came
-    came-asked latest taken h =
-        ahead-asked start.came inputs.came lists.came.source lists.came.head taken h.known
-
-    left-asked : (latest : ℕ) (taken : Frames)
-        → IsAhead item_given Given GivenAll latest start.left lists.left inputs.left taken
-        → Asked false start.left inputs.left
-    left-asked latest taken h =
-        ahead-asked start.left inputs.left lists.left.source lists.left.head taken h.known
-
-    gave-asked : (past : List (Item Seen)) → Gave past → BothAsked false
-    gave-asked past h =
-        both-asked false false false (came-asked (latest_seen past) h.taken_came h.came)
-        (left-asked (latest_seen past) h.taken_left h.left)
-        (λ e f. either-false inputs.came.failed inputs.left.failed e f)
-
-    ended-asked : (past : List (Item Seen)) → Ended past → BothAsked false
-    ended-asked past h =
-        let came = h.ended_came in
-        let left = h.ended_left in record {
-          failed_is = either-false inputs.came.failed inputs.left.failed came.sound left.sound;
-          calls_came = came.calls;
-          calls_left = left.calls;
-        }
-
-    stopped-asked : (past : List (Item Seen)) (fault : RunFault) → Stopped past fault → BothAsked (is_read fault)
-    stopped-asked past fault (inl s) =
-        let own = s.stopped_came in
-        let left = left-asked (latest_seen past) s.taken_left s.left in record {
-          failed_is = either-left inputs.came.failed inputs.left.failed (is_read fault)
-              (own.failed ∙ sym (named-read Came s.own) ∙ sym (ap is_read s.fault_is)) left.failed_is;
-          calls_came = own.calls;
-          calls_left = left.calls;
-        }
-    stopped-asked past fault (inr s) =
-        let own = s.stopped_left in
-        let came = came-asked (latest_seen past) s.taken_came s.came in record {
-          failed_is = either-right inputs.came.failed inputs.left.failed (is_read fault) came.failed_is
-              (own.failed ∙ sym (named-read Left s.own) ∙ sym (ap is_read s.fault_is));
-          calls_came = came.calls;
-          calls_left = own.calls;
-        }
-
-    module _ (done told begins : List (Item Seen) → Type 0) where
-      abbrev pub RunsTwo : Result (Unit {0}) RunFault → Type 0
-      RunsTwo result = Runs Gave Ended done told begins Stopped result
-
-      pub err-asked : (fault : RunFault) → RunsTwo (Err fault) → BothAsked (is_read fault)
-      err-asked fault (past, inl (s, t)) = stopped-asked past fault s
-      err-asked fault (past, inr (is, inl g, b)) =
-          subst (λ (c : Bool). BothAsked c) (sym (not_read fault is)) (gave-asked past g)
-      err-asked fault (past, inr (is, inr e, b)) =
-          subst (λ (c : Bool). BothAsked c) (sym (not_read fault is)) (ended-asked past e)
-
-      pub ok-asked : RunsTwo (Ok tt) → BothAsked false
-      ok-asked (past, e, d) = ended-asked past e
-
-      pub ok-ended : RunsTwo (Ok tt) → (inputs.came.ended ≡ true) × (inputs.left.ended ≡ true)
-      ok-ended (past, e, d) = (e.ended_came.ended, e.ended_left.ended)
-
-      -- ---- what is answered, where the bytes of both are known
-      module _ (bytes_came bytes_left : List ℕ) (known_came : remaining start.came.inner ≡ Some bytes_came)
-          (known_left : remaining start.left.inner ≡ Some bytes_left) where
-        abbrev Stop : RunFault → Cause → Type 0
-        Stop fault cause = TwoListsStop remaining bytes_came bytes_left inputs done told begins fault cause
-
-        abbrev pub Answer : Result (ByRole ℕ) RunFault → Type 0
-        Answer result = TwoListsAnswer remaining bytes_came bytes_left inputs done told begins result
-
-        came-comes : (latest : ℕ) (taken : Frames)
-            → IsAhead item_given Given GivenAll latest start.came lists.came inputs.came taken
-            → Comes start.came inputs.came lists.came.source Came bytes_came known_came lists.came.head taken
-        came-comes latest taken h =
-            comes-by start.came inputs.came lists.came.source Came bytes_came known_came lists.came.head taken h.known
-
-        left-comes : (latest : ℕ) (taken : Frames)
-            → IsAhead item_given Given GivenAll latest start.left lists.left inputs.left taken
-            → Comes start.left inputs.left lists.left.source Left bytes_left known_left lists.left.head taken
-        left-comes latest taken h =
-            comes-by start.left inputs.left lists.left.source Left bytes_left known_left lists.left.head taken h.known
-
-        -- these are the first frames of all that come
-        pub record AreFirst (past : List (Item Seen)) : Type 0 where
-          pub came : Coming
-          pub left : Coming
-          pub listed_so : AreListed remaining bytes_came bytes_left inputs came left
-          pub ends : EndsIn (frames_of past) (joined came left).frames
-
-        first-by : (past : List (Item Seen)) (xs ys rest_x rest_y : List Arrival) (fx fy : Option RunFault)
-            → ListsTo Came bytes_came xs fx → ListsTo Left bytes_left ys fy
-            → join [] xs fx ys fy ≡ join (frames_of past) rest_x fx rest_y fy → AreFirst past
-        first-by past xs ys rest_x rest_y fx fy lists_x lists_y is =
-            let e = join-extends (frames_of past) rest_x fx rest_y fy in record {
-              came = record { next = xs; fault = fx };
-              left = record { next = ys; fault = fy };
-              listed_so = (lists_x, lists_y);
-              ends = (e.0, ap (λ (j : Joined). j.frames) is ∙ e.1);
-            }
-
-        gave-first : (past : List (Item Seen)) → Gave past → AreFirst past
-        gave-first past h =
-            let a = came-comes (latest_seen past) h.taken_came h.came in
-            let b = left-comes (latest_seen past) h.taken_left h.left in
-            first-by past _ _ a.next b.next a.fault b.fault a.listed_so b.listed_so
-            (h.joins a.next b.next a.fault b.fault a.can b.can)
-
-        came-all : (taken : Frames) → GivenAll start.came lists.came.source inputs.came taken
-            → ListsTo Came bytes_came (reverse (arrivals taken)) None
-            × (lines_taken lists.came.source.reader ≡ length (lines_of bytes_came))
-        came-all taken h = given-all start.came inputs.came lists.came.source Came bytes_came known_came taken h
-
-        left-all : (taken : Frames) → GivenAll start.left lists.left.source inputs.left taken
-            → ListsTo Left bytes_left (reverse (arrivals taken)) None
-            × (lines_taken lists.left.source.reader ≡ length (lines_of bytes_left))
-        left-all taken h = given-all start.left inputs.left lists.left.source Left bytes_left known_left taken h
-
-        ended-first : (past : List (Item Seen)) → Ended past → AreFirst past
-        ended-first past h = record {
-          came = record { next = reverse (arrivals h.taken_came); fault = None };
-          left = record { next = reverse (arrivals h.taken_left); fault = None };
-          listed_so = ((came-all h.taken_came h.ended_came).0, (left-all h.taken_left h.ended_left).0);
-          ends = ([], ap (λ (j : Joined). j.frames) h.joined_is);
-        }
-
-        -- of some first frames a beginning is told
-        abbrev Begun : Type 0
-        Begun =
-            (came : Coming) × (left : Coming) × AreListed remaining bytes_came bytes_left inputs came left
-            × HoldsOfFirst came left (λ items. told items ⊎ begins items)
-
-        begun-all : (past : List (Item Seen)) → AreFirst past → told past ⊎ begins past → Begun
-        begun-all past f t = (f.came, f.left, f.listed_so, (past, f.ends.0, f.ends.1, t))
-
-        begun-some : (past : List (Item Seen)) → AreFirst past → begins past ⊎ begins (without_newest past) → Begun
-        begun-some past f (inl b) = begun-all past f (inr b)
-        begun-some [] f (inr b) = begun-all [] f (inr b)
-        begun-some (x ∷ past) f (inr b) = (
-          f.came,
-          f.left,
-          f.listed_so,
-          (
-            past,
-            f.ends.0 ++ (frame_of x ∷ []),
-            f.ends.1 ∙ sym (append_assoc f.ends.0 (frame_of x ∷ []) (frames_of past)),
-            inr b,
-          ),
-        )
-
-        output-stop : (fault : RunFault) → IsOfOutput fault → Begun → Stop fault (cause_of fault)
-        output-stop fault (inl e) h = rw e h
-        output-stop fault (inr e) h = rw e h
-
-        -- ---- the list of what came in stopped
-
-        module _ (past : List (Item Seen)) (fault : RunFault)
-            (s : StopsAtCame item_given Given GivenAll StoppedList start lists inputs past fault) (t : told past) where
-          came-joined : (ys : List Arrival) (fy : Option RunFault) (any : RunFault)
-              → CanBe (item_given lists.left.source) lists.left.head ys fy → fault ≡ any
-              → join [] (reverse (arrivals s.taken_came)) (Some any) (reverse (arrivals s.taken_left) ++ ys) fy
-              ≡ joined_as (frames_of past) (Some fault)
-          came-joined ys fy any can is =
-              ap (λ (all : List Arrival). join [] all (Some any) (reverse (arrivals s.taken_left) ++ ys) fy)
-              (sym (append-nil (reverse (arrivals s.taken_came))))
-              ∙ s.joins [] ys (Some any) fy tt can
-              ∙ join-fault-came (frames_of past) any ys fy
-              ∙ ap (λ (f : RunFault). joined_as (frames_of past) (Some f)) (sym is)
-
-          came-begun : Behind Came bytes_came (arrivals s.taken_came) → Begun
-          came-begun h =
-              let b = left-comes (latest_seen past) s.taken_left s.left in
-              begun-all past (first-by past _ _ h.next b.next h.fault b.fault h.listed b.listed_so
-              (s.joins h.next b.next h.fault b.fault tt b.can)) (inl t)
-
-          came-by : (cause : Cause) → cause_of s.own ≡ cause
-              → StoppedBy Came bytes_came (arrivals s.taken_came) (remaining inputs.came.inner) s.own cause
-              → Stop fault cause
-          came-by FailedRead e h =
-              let own = read-cause s.own e in
-              let b = left-comes (latest_seen past) s.taken_left s.left in (
-                record { next = reverse (arrivals s.taken_came); fault = Some run.Read },
-                record { next = reverse (arrivals s.taken_left) ++ b.next; fault = b.fault },
-                inl (s.stopped_came.failed ∙ ap is_read own, h, b.listed_so),
-                (
-                  past,
-                  came-joined b.next b.fault run.Read b.can
-                      (s.fault_is ∙ ap (λ (f : RunFault). fault_of_list Came f) own),
-                  t,
-                ),
-              )
-          came-by BadInput e h =
-              let b = left-comes (latest_seen past) s.taken_left s.left in (
-                record { next = reverse (arrivals s.taken_came); fault = Some (fault_of_list Came s.own) },
-                record { next = reverse (arrivals s.taken_left) ++ b.next; fault = b.fault },
-                (h, b.listed_so),
-                (past, came-joined b.next b.fault (fault_of_list Came s.own) b.can s.fault_is, t),
-              )
-          came-by FailedWrite e h = came-begun h
-          came-by NoMemory e h = came-begun h
-
-        -- ---- that of what left did
-
-        module _ (past : List (Item Seen)) (fault : RunFault)
-            (s : StopsAtLeft item_given Given GivenAll StoppedList start lists inputs past fault) (t : told past) where
-          left-joined : (xs : List Arrival) (fx : Option RunFault) (any : RunFault)
-              → CanBe (item_given lists.came.source) lists.came.head xs fx → fault ≡ any
-              → join [] (reverse (arrivals s.taken_came) ++ xs) fx (reverse (arrivals s.taken_left)) (Some any)
-              ≡ joined_as (frames_of past) (Some fault)
-          left-joined xs fx any can is =
-              ap (λ (all : List Arrival). join [] (reverse (arrivals s.taken_came) ++ xs) fx all (Some any))
-              (sym (append-nil (reverse (arrivals s.taken_left))))
-              ∙ s.joins xs [] fx (Some any) can tt
-              ∙ left-stops (frames_of past) (item_given lists.came.source) lists.came.head xs fx any s.known can
-              ∙ ap (λ (f : RunFault). joined_as (frames_of past) (Some f)) (sym is)
-
-          left-begun : Behind Left bytes_left (arrivals s.taken_left) → Begun
-          left-begun h =
-              let a = came-comes (latest_seen past) s.taken_came s.came in
-              begun-all past (first-by past _ _ a.next h.next a.fault h.fault a.listed_so h.listed
-              (s.joins a.next h.next a.fault h.fault a.can tt)) (inl t)
-
-          left-cause : (cause : Cause) → cause_of s.own ≡ cause
-              → StoppedBy Left bytes_left (arrivals s.taken_left) (remaining inputs.left.inner) s.own cause
-              → Stop fault cause
-          left-cause FailedRead e h =
-              let own = read-cause s.own e in
-              let a = came-comes (latest_seen past) s.taken_came s.came in (
-                record { next = reverse (arrivals s.taken_came) ++ a.next; fault = a.fault },
-                record { next = reverse (arrivals s.taken_left); fault = Some run.Read },
-                inr (s.stopped_left.failed ∙ ap is_read own, a.listed_so, h),
-                (
-                  past,
-                  left-joined a.next a.fault run.Read a.can
-                      (s.fault_is ∙ ap (λ (f : RunFault). fault_of_list Left f) own),
-                  t,
-                ),
-              )
-          left-cause BadInput e h =
-              let a = came-comes (latest_seen past) s.taken_came s.came in (
-                record { next = reverse (arrivals s.taken_came) ++ a.next; fault = a.fault },
-                record { next = reverse (arrivals s.taken_left); fault = Some (fault_of_list Left s.own) },
-                (a.listed_so, h),
-                (past, left-joined a.next a.fault (fault_of_list Left s.own) a.can s.fault_is, t),
-              )
-          left-cause FailedWrite e h = left-begun h
-          left-cause NoMemory e h = left-begun h
-
-        -- ---- all cases
-
-        stop-answer : (past : List (Item Seen)) (fault : RunFault) → Stopped past fault → told past
-            → Stop fault (cause_of fault)
-        stop-answer past fault (inl s) t =
-            let h = stopped-list start.came inputs.came lists.came.source Came bytes_came known_came s.taken_came s.own
-            s.stopped_came in
-            subst (λ (c : Cause). Stop fault c) (sym (ap cause_of s.fault_is ∙ named-cause Came s.own))
-            (came-by past fault s t (cause_of s.own) refl h)
-        stop-answer past fault (inr s) t =
-            let h = stopped-list start.left inputs.left lists.left.source Left bytes_left known_left s.taken_left s.own
-            s.stopped_left in
-            subst (λ (c : Cause). Stop fault c) (sym (ap cause_of s.fault_is ∙ named-cause Left s.own))
-            (left-cause past fault s t (cause_of s.own) refl h)
-
-        pub err-answer : (fault : RunFault) → RunsTwo (Err fault) → Answer (Err fault)
-        err-answer fault (past, inl (s, t)) = stop-answer past fault s t
-        err-answer fault (past, inr (is, inl g, b)) = output-stop fault is (begun-some past (gave-first past g) b)
-        err-answer fault (past, inr (is, inr e, b)) = output-stop fault is (begun-some past (ended-first past e) b)
-
-        pub ok-answer : (n : ByRole ℕ) → n.came ≡ lines_taken lists.came.source.reader
-            → n.left ≡ lines_taken lists.left.source.reader → RunsTwo (Ok tt) → Answer (Ok n)
-        ok-answer n is_came is_left (past, e, d) =
-            let came = came-all e.taken_came e.ended_came in
-            let left = left-all e.taken_left e.ended_left in (
-              record { next = reverse (arrivals e.taken_came); fault = None },
-              record { next = reverse (arrivals e.taken_left); fault = None },
-              (came.0, left.0),
-              (past, e.joined_is, d),
-              is_came ∙ came.1,
-              is_left ∙ left.1,
+        came-by : (cause : Cause) → cause_of s.own ≡ cause
+            → StoppedBy Came bytes_came (arrivals s.taken_came) (remaining inputs.came.inner) s.own cause
+            → Stop fault cause
+        came-by FailedRead e h =
+            let own = read-cause s.own e in
+            let b = left-comes (latest_seen past) s.taken_left s.left in (
+              record { next = reverse (arrivals s.taken_came); fault = Some run.Read },
+              record { next = reverse (arrivals s.taken_left) ++ b.next; fault = b.fault },
+              inl (s.stopped_came.failed ∙ ap is_read own, h, b.listed_so),
+              (
+                past,
+                came-joined b.next b.fault run.Read b.can
+                    (s.fault_is ∙ ap (λ (f : RunFault). fault_of_list Came f) own),
+                t,
+              ),
             )
+        came-by BadInput e h =
+            let b = left-comes (latest_seen past) s.taken_left s.left in (
+              record { next = reverse (arrivals s.taken_came); fault = Some (fault_of_list Came s.own) },
+              record { next = reverse (arrivals s.taken_left) ++ b.next; fault = b.fault },
+              (h, b.listed_so),
+              (past, came-joined b.next b.fault (fault_of_list Came s.own) b.can s.fault_is, t),
+            )
+        came-by FailedWrite e h = came-begun h
+        came-by NoMemory e h = came-begun h
 
-      -- the same, where they are known
-      pub err-answers : (fault : RunFault) → RunsTwo (Err fault)
-          → IfBothGiven remaining start (λ came left.
-          TwoListsAnswer remaining came left inputs done told begins (Err fault))
-      err-answers fault h =
-          if-both (remaining start.came.inner) (remaining start.left.inner)
-          (λ came left. TwoListsAnswer remaining came left inputs done told begins (Err fault))
-          (λ came left known_came known_left. err-answer came left known_came known_left fault h)
+      -- ---- that of what left did
 
-      pub ok-answers : (n : ByRole ℕ) → n.came ≡ lines_taken lists.came.source.reader
-          → n.left ≡ lines_taken lists.left.source.reader → RunsTwo (Ok tt)
-          → IfBothGiven remaining start (λ came left.
-          TwoListsAnswer remaining came left inputs done told begins (Ok n))
-      ok-answers n is_came is_left h =
-          if-both (remaining start.came.inner) (remaining start.left.inner)
-          (λ came left. TwoListsAnswer remaining came left inputs done told begins (Ok n))
-          (λ came left known_came known_left. ok-answer came left known_came known_left n is_came is_left h)
+      module _ (past : List (Item Seen)) (fault : RunFault)
+          (s : StopsAtLeft item_given (Given remaining) (GivenAll remaining) (StoppedList remaining) start lists
+          inputs past fault) (t : told past) where
+        left-joined : (xs : List Arrival) (fx : Option RunFault) (any : RunFault)
+            → CanBe (item_given lists.came.source) lists.came.head xs fx → fault ≡ any
+            → join [] (reverse (arrivals s.taken_came) ++ xs) fx (reverse (arrivals s.taken_left)) (Some any)
+            ≡ joined_as (frames_of past) (Some fault)
+        left-joined xs fx any can is =
+            ap (λ (all : List Arrival). join [] (reverse (arrivals s.taken_came) ++ xs) fx all (Some any))
+            (sym (append-nil (reverse (arrivals s.taken_left))))
+            ∙ s.joins xs [] fx (Some any) can tt
+            ∙ left-stops (frames_of past) (item_given lists.came.source) lists.came.head xs fx any s.known can
+            ∙ ap (λ (f : RunFault). joined_as (frames_of past) (Some f)) (sym is)
 
-  -- ---- before the first read
+        left-begun : Behind Left bytes_left (arrivals s.taken_left) → Begun
+        left-begun h =
+            let a = came-comes (latest_seen past) s.taken_came s.came in
+            begun-all past (first-by past _ _ a.next h.next a.fault h.fault a.listed_so h.listed
+            (s.joins a.next h.next a.fault h.fault a.can tt)) (inl t)
 
-  start-one : (input : Watched R) (list : FrameList) → IsUnread list.reader list.head.time → input.failed ≡ false
-      → input.ended ≡ false → Given input list input []
-  start-one input list new sound unended = record {
-    form = tt;
-    gave = gave-start listed.frames arrival_of remaining input list.reader list.head.time new sound unended;
-  }
+        left-cause : (cause : Cause) → cause_of s.own ≡ cause
+            → StoppedBy Left bytes_left (arrivals s.taken_left) (remaining inputs.left.inner) s.own cause
+            → Stop fault cause
+        left-cause FailedRead e h =
+            let own = read-cause s.own e in
+            let a = came-comes (latest_seen past) s.taken_came s.came in (
+              record { next = reverse (arrivals s.taken_came) ++ a.next; fault = a.fault },
+              record { next = reverse (arrivals s.taken_left); fault = Some run.Read },
+              inr (s.stopped_left.failed ∙ ap is_read own, a.listed_so, h),
+              (
+                past,
+                left-joined a.next a.fault run.Read a.can
+                    (s.fault_is ∙ ap (λ (f : RunFault). fault_of_list Left f) own),
+                t,
+              ),
+            )
+        left-cause BadInput e h =
+            let a = came-comes (latest_seen past) s.taken_came s.came in (
+              record { next = reverse (arrivals s.taken_came) ++ a.next; fault = a.fault },
+              record { next = reverse (arrivals s.taken_left); fault = Some (fault_of_list Left s.own) },
+              (a.listed_so, h),
+              (past, left-joined a.next a.fault (fault_of_list Left s.own) a.can s.fault_is, t),
+            )
+        left-cause FailedWrite e h = left-begun h
+        left-cause NoMemory e h = left-begun h
 
-  -- nothing was given of both
-  pub start-joined : (inputs : ByRole (Watched R)) (lists : TwoLists FrameList) → lists.came.head ≡ head.Unknown
-      → lists.left.head ≡ head.Unknown → IsUnread lists.came.source.reader lists.came.source.head.time
-      → IsUnread lists.left.source.reader lists.left.source.head.time → inputs.came.failed ≡ false
-      → inputs.left.failed ≡ false → inputs.came.ended ≡ false → inputs.left.ended ≡ false
-      → IsJoined item_given Given GivenAll inputs lists inputs []
-  start-joined inputs lists e f new_came new_left sound_came sound_left unended_came unended_left = record {
-    taken_came = [];
-    taken_left = [];
-    came = record {
-      known = rw e (start-one inputs.came lists.came.source new_came sound_came unended_came);
-      order = rw e (omega arith);
-      few = omega arith;
-    };
-    left = record {
-      known = rw f (start-one inputs.left lists.left.source new_left sound_left unended_left);
-      order = rw f (omega arith);
-      few = omega arith;
-    };
-    sum = refl;
-    joins = λ xs ys fx fy can_x can_y. refl;
-  }
+      -- ---- all cases
+
+      stop-answer : (past : List (Item Seen)) (fault : RunFault) → Stopped remaining start inputs lists past fault → told past
+          → Stop fault (cause_of fault)
+      stop-answer past fault (inl s) t =
+          let h = stopped-list remaining start.came inputs.came lists.came.source Came bytes_came known_came s.taken_came s.own
+          s.stopped_came in
+          subst (λ (c : Cause). Stop fault c) (sym (ap cause_of s.fault_is ∙ named-cause Came s.own))
+          (came-by past fault s t (cause_of s.own) refl h)
+      stop-answer past fault (inr s) t =
+          let h = stopped-list remaining start.left inputs.left lists.left.source Left bytes_left known_left s.taken_left s.own
+          s.stopped_left in
+          subst (λ (c : Cause). Stop fault c) (sym (ap cause_of s.fault_is ∙ named-cause Left s.own))
+          (left-cause past fault s t (cause_of s.own) refl h)
+
+      pub err-answer : (fault : RunFault) → RunsTwo remaining start inputs lists done told begins (Err fault) → Answer (Err fault)
+      err-answer fault (past, inl (s, t)) = stop-answer past fault s t
+      err-answer fault (past, inr (is, inl g, b)) = output-stop fault is (begun-some past (gave-first past g) b)
+      err-answer fault (past, inr (is, inr e, b)) = output-stop fault is (begun-some past (ended-first past e) b)
+
+      pub ok-answer : (n : ByRole ℕ) → n.came ≡ lines_taken lists.came.source.reader
+          → n.left ≡ lines_taken lists.left.source.reader → RunsTwo remaining start inputs lists done told begins (Ok tt) → Answer (Ok n)
+      ok-answer n is_came is_left (past, e, d) =
+          let came = came-all e.taken_came e.ended_came in
+          let left = left-all e.taken_left e.ended_left in (
+            record { next = reverse (arrivals e.taken_came); fault = None },
+            record { next = reverse (arrivals e.taken_left); fault = None },
+            (came.0, left.0),
+            (past, e.joined_is, d),
+            is_came ∙ came.1,
+            is_left ∙ left.1,
+          )
+
+    -- the same, where they are known
+    pub err-answers : (fault : RunFault) → RunsTwo remaining start inputs lists done told begins (Err fault)
+        → IfBothGiven remaining start (λ came left.
+        TwoListsAnswer remaining came left inputs done told begins (Err fault))
+    err-answers fault h =
+        if-both (remaining start.came.inner) (remaining start.left.inner)
+        (λ came left. TwoListsAnswer remaining came left inputs done told begins (Err fault))
+        (λ came left known_came known_left. err-answer came left known_came known_left fault h)
+
+    pub ok-answers : (n : ByRole ℕ) → n.came ≡ lines_taken lists.came.source.reader
+        → n.left ≡ lines_taken lists.left.source.reader → RunsTwo remaining start inputs lists done told begins (Ok tt)
+        → IfBothGiven remaining start (λ came left.
+        TwoListsAnswer remaining came left inputs done told begins (Ok n))
+    ok-answers n is_came is_left h =
+        if-both (remaining start.came.inner) (remaining start.left.inner)
+        (λ came left. TwoListsAnswer remaining came left inputs done told begins (Ok n))
+        (λ came left known_came known_left. ok-answer came left known_came known_left n is_came is_left h)
 
   -- there was no memory
   module _ (inputs : ByRole (Watched R)) (done told begins : List (Item Seen) → Type 0) where

@@ -102,7 +102,8 @@ module _ {S I : Type 0} (current : S → Item Heading) (gave ended : I → S →
       pub taken_left : Frames
       pub ended_came : ended start.came lists.came.source inputs.came taken_came
       pub ended_left : ended start.left lists.left.source inputs.left taken_left
-      pub joined_is : join [] (reverse (arrivals taken_came)) None (reverse (arrivals taken_left)) None
+      pub joined_is : join [] (reverse (arrivals taken_came)) None
+          (reverse (arrivals taken_left)) None
           ≡ joined_as (frames_of past) None
 
     module _ (stopped : I → S → I → Frames → RunFault → Type 0) where
