@@ -8,7 +8,8 @@ use Rattle.afdx_lists.specs.declared.role.Role.TheVariants.{Came, Left}
 use Rattle.afdx_inputs.specs.Joining.{Frame, Joined, at_came, behind_came, frame_with, join, joined_as, rest_of_left}
 
 -- one taken is in front of what comes
-pub reverse-taken : (x : Arrival) (taken rest : List Arrival) → reverse (x ∷ taken) ++ rest ≡ reverse taken ++ (x ∷ rest)
+pub reverse-taken : (x : Arrival) (taken rest : List Arrival)
+    → reverse (x ∷ taken) ++ rest ≡ reverse taken ++ (x ∷ rest)
 reverse-taken x taken rest =
     ap (λ (l : List Arrival). l ++ rest) (reverse-append (x ∷ []) taken) ∙ append_assoc (reverse taken) (x ∷ []) rest
 

@@ -57,13 +57,15 @@ module _ {R : Type 0} (remaining : R → Option (List ℕ)) where
           → IsAhead item_given (Given remaining) (GivenAll remaining) latest start.came lists.came inputs.came taken
           → Comes remaining start.came inputs.came lists.came.source Came bytes_came known_came lists.came.head taken
       came-comes latest taken h =
-          comes-by remaining start.came inputs.came lists.came.source Came bytes_came known_came lists.came.head taken h.known
+          comes-by remaining start.came inputs.came lists.came.source Came bytes_came known_came lists.came.head taken
+          h.known
 
       left-comes : (latest : ℕ) (taken : Frames)
           → IsAhead item_given (Given remaining) (GivenAll remaining) latest start.left lists.left inputs.left taken
           → Comes remaining start.left inputs.left lists.left.source Left bytes_left known_left lists.left.head taken
       left-comes latest taken h =
-          comes-by remaining start.left inputs.left lists.left.source Left bytes_left known_left lists.left.head taken h.known
+          comes-by remaining start.left inputs.left lists.left.source Left bytes_left known_left lists.left.head taken
+          h.known
 
       -- these are the first frames of all that come
       pub record AreFirst (past : List (Item Seen)) : Type 0 where
@@ -234,26 +236,31 @@ module _ {R : Type 0} (remaining : R → Option (List ℕ)) where
 
       -- ---- all cases
 
-      stop-answer : (past : List (Item Seen)) (fault : RunFault) → Stopped remaining start inputs lists past fault → told past
+      stop-answer : (past : List (Item Seen)) (fault : RunFault) → Stopped remaining start inputs lists past fault
+          → told past
           → Stop fault (cause_of fault)
       stop-answer past fault (inl s) t =
-          let h = stopped-list remaining start.came inputs.came lists.came.source Came bytes_came known_came s.taken_came s.own
+          let h = stopped-list remaining start.came inputs.came lists.came.source Came bytes_came known_came s.taken_came
+          s.own
           s.stopped_came in
           subst (λ (c : Cause). Stop fault c) (sym (ap cause_of s.fault_is ∙ named-cause Came s.own))
           (came-by past fault s t (cause_of s.own) refl h)
       stop-answer past fault (inr s) t =
-          let h = stopped-list remaining start.left inputs.left lists.left.source Left bytes_left known_left s.taken_left s.own
+          let h = stopped-list remaining start.left inputs.left lists.left.source Left bytes_left known_left s.taken_left
+          s.own
           s.stopped_left in
           subst (λ (c : Cause). Stop fault c) (sym (ap cause_of s.fault_is ∙ named-cause Left s.own))
           (left-cause past fault s t (cause_of s.own) refl h)
 
-      pub err-answer : (fault : RunFault) → RunsTwo remaining start inputs lists done told begins (Err fault) → Answer (Err fault)
+      pub err-answer : (fault : RunFault) → RunsTwo remaining start inputs lists done told begins (Err fault)
+          → Answer (Err fault)
       err-answer fault (past, inl (s, t)) = stop-answer past fault s t
       err-answer fault (past, inr (is, inl g, b)) = output-stop fault is (begun-some past (gave-first past g) b)
       err-answer fault (past, inr (is, inr e, b)) = output-stop fault is (begun-some past (ended-first past e) b)
 
       pub ok-answer : (n : ByRole ℕ) → n.came ≡ lines_taken lists.came.source.reader
-          → n.left ≡ lines_taken lists.left.source.reader → RunsTwo remaining start inputs lists done told begins (Ok tt) → Answer (Ok n)
+          → n.left ≡ lines_taken lists.left.source.reader
+          → RunsTwo remaining start inputs lists done told begins (Ok tt) → Answer (Ok n)
       ok-answer n is_came is_left (past, e, d) =
           let came = came-all e.taken_came e.ended_came in
           let left = left-all e.taken_left e.ended_left in (
@@ -292,7 +299,8 @@ module _ {R : Type 0} (remaining : R → Option (List ℕ)) where
         let b = continues Left bytes_left 0 (omega arith) (λ i less. absurd (omega (arith, less))) in
         let came : Coming = record { next = reverse (first_of bytes_came 0) ++ a.next; fault = a.fault } in
         let left : Coming = record { next = reverse (first_of bytes_left 0) ++ b.next; fault = b.fault } in
-        (came, left, (a.listed, b.listed), ([], (joined came left).frames, sym (append-nil (joined came left).frames), inl t))
+        let all = (joined came left).frames in
+        (came, left, (a.listed, b.listed), ([], all, sym (append-nil all), inl t))
 
     pub memory-answer : told [] → IfBothGiven remaining inputs (λ came left.
         TwoListsAnswer remaining came left inputs done told begins (Err run.Memory))
