@@ -32,3 +32,6 @@ pub mod CourseLemmas
 pub mod StreamLemmas
 pub mod EveryLemmas
 pub mod EventLemmas
+pub mod LaterStates
+pub mod SomeLemmas
+pub mod LaterLemmas

@@ -30,5 +30,5 @@ pub mod Worked
 pub mod Events
 pub mod Later
 pub mod EventLaws
-pub mod Forgotten
+pub mod Forgetting
 pub mod Sure
