@@ -35,3 +35,5 @@ pub mod EventLemmas
 pub mod LaterStates
 pub mod SomeLemmas
 pub mod LaterLemmas
+pub mod LaterArrivals
+pub mod LaterEnd
