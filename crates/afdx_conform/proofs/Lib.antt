@@ -37,3 +37,4 @@ pub mod SomeLemmas
 pub mod LaterLemmas
 pub mod LaterArrivals
 pub mod LaterEnd
+pub mod StaysLemmas
