@@ -38,3 +38,4 @@ pub mod LaterLemmas
 pub mod LaterArrivals
 pub mod LaterEnd
 pub mod StaysLemmas
+pub mod ForgettingLemmas
