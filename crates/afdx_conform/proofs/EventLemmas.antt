@@ -37,7 +37,7 @@ module _ (z : Terms) where
   if-cons true e f l l' m m' r p q = ap (λ (k : List Event). e ∷ k) p
   if-cons false e f l l' m m' r p q = ap (λ (k : List Event). f ∷ k) q
 
-  join : (xs behind : List Arrival) (ys left : List Gone) → AllByRecursion (BeforeAll behind) ys → AllByRecursion (NotBefore left) xs
+  pub join : (xs behind : List Arrival) (ys left : List Gone) → AllByRecursion (BeforeAll behind) ys → AllByRecursion (NotBefore left) xs
       → events_of z (xs ++ behind) (ys ++ left) ≡ events_of z xs ys ++ events_of z behind left
   unfolding events_of up_to
   join [] behind [] left closed came = refl

@@ -39,3 +39,4 @@ pub mod LaterArrivals
 pub mod LaterEnd
 pub mod StaysLemmas
 pub mod ForgettingLemmas
+pub mod OverLemmas

@@ -1,0 +1,5 @@
+use Rattle.afdx_conform.proofs.OverLemmas.{over_stays}
+use Rattle.afdx_conform.proofs.laws.what_is_over_stays.Goals as goal
+
+pub returns : goal.returns
+returns c = over_stays
