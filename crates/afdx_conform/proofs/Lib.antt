@@ -40,3 +40,5 @@ pub mod LaterEnd
 pub mod StaysLemmas
 pub mod ForgettingLemmas
 pub mod OverLemmas
+pub mod RestLemmas
+pub mod WholeLemmas

@@ -78,12 +78,12 @@ filter-all : {X : Type 0} (test : X → Bool) (xs : List X) → AllByRecursion (
 filter-all test [] h = refl
 filter-all test (x ∷ xs) h = rw (h.0) (ap (λ l. x ∷ l) (filter-all test xs h.1))
 
-came-append : (a b : List Event) → arrivals_came (a ++ b) ≡ arrivals_came a ++ arrivals_came b
+pub came-append : (a b : List Event) → arrivals_came (a ++ b) ≡ arrivals_came a ++ arrivals_came b
 came-append [] b = refl
 came-append (Came x ∷ a) b = ap (λ (l : List Arrival). x ∷ l) (came-append a b)
 came-append (Closing time ∷ a) b = came-append a b
 
-came-reverse : (l : List Event) → arrivals_came (reverse l) ≡ reverse (arrivals_came l)
+pub came-reverse : (l : List Event) → arrivals_came (reverse l) ≡ reverse (arrivals_came l)
 came-reverse [] = refl
 came-reverse (Came x ∷ l) =
     ap (λ (k : List Event). arrivals_came k) (reverse-append (Came x ∷ []) l) ∙ came-append (reverse l) (Came x ∷ [])
