@@ -42,3 +42,4 @@ pub mod ForgettingLemmas
 pub mod OverLemmas
 pub mod RestLemmas
 pub mod WholeLemmas
+pub mod SureLemmas
