@@ -43,3 +43,4 @@ pub mod OverLemmas
 pub mod RestLemmas
 pub mod WholeLemmas
 pub mod SureLemmas
+pub mod KnownLemmas

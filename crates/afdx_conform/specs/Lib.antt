@@ -32,3 +32,4 @@ pub mod Later
 pub mod EventLaws
 pub mod Forgetting
 pub mod Sure
+pub mod SomeKnown
