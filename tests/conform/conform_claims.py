@@ -2,6 +2,7 @@
 from __future__ import annotations
 
 import random
+import threading
 from typing import NamedTuple
 
 import tables as made
@@ -9,13 +10,19 @@ from conform import Judging, Taken, conform
 from conform_explains import is_explained, is_right
 from conform_terms import Options
 from one_switch import MS
-from program import Answer, Program, answers, must
+from program import Answer, Program, Wrong, answers, must
 from recorded_switch import Recorded, RecordedSwitch, Told, lines_of
 from rows import CONFIGS, ROWS, Row, list_of
 from small_cases import Pair, small_pair
 from traffic_made import bench_tables, traffic
 
 NAMES = {"slack": "--slack", "drift": "--drift", "inner": "--inner", "asked": "--asked"}
+FILES = ("config", "came", "left")  # the inputs of a judge
+# options that change nothing of an answer, and the list that is read as standard input
+WAYS: tuple[tuple[tuple[str, ...], str], ...] = (
+    ((), ""), (("--line-buffered",), ""), (("--progress",), "came"), (("--summary",), "left"),
+    (("--explain=never", "--line-buffered"), "came"),
+)
 
 
 class Judge:
@@ -24,14 +31,18 @@ class Judge:
     def __init__(self, program: Program | None = None) -> None:
         self.program = program
 
-    def answer(self, pair: Pair) -> Answer:
-        """What it answers."""
+    def answer(self, pair: Pair, *more: str, standard: str = "") -> Answer:
+        """What it answers, with more options; the list of that name is its standard input."""
         if self.program is None:
             return conform(*pair)
-        program = self.program.apart()
-        paths = [program.write(name, text)
-                 for name, text in zip(("config", "came", "left"), pair[:3])]
-        return program.run("conform", *pair.words, *paths)
+        given, inputs = b"", []
+        for name, text in zip(FILES, pair[:3]):
+            if name == standard:
+                given = text
+            is_given = name == standard
+            name = f"{name}-{threading.get_ident()}"  # until this thread writes its next one
+            inputs.append("-" if is_given else self.program.write(name, text))
+        return self.program.run("conform", *more, *pair.words, *inputs, given=given)
 
 
 JUDGED = Judge()
@@ -50,6 +61,16 @@ def row_holds(judge: Judge, row: Row) -> None:
     """It answers as the row spells out."""
     wanted = row.answer()
     answers(judge.answer(pair_of(row)), wanted.status, wanted.out, wanted.err)
+
+
+def rows_are_explained(judge: Judge) -> None:
+    """With --explain more stands behind a fault's line, and nothing else is other."""
+    for row in ROWS:
+        wanted, found = row.answer(), judge.answer(pair_of(row), "--explain")
+        front = found.err[: len(wanted.err)]
+        answers(found._replace(err=front), wanted.status, wanted.out, wanted.err)
+        more = found.err[len(wanted.err):]
+        must((more != b"") == (wanted.err != b""), f"{row.name}: explained by {more!r}")
 
 
 def bodies_are_refused(body: type[Judging]) -> None:
@@ -109,11 +130,15 @@ def told_early(judge: Judge, seed: int, count: int) -> None:
 
 
 def judged_alike(judge: Judge, seed: int, count: int) -> None:
-    """It answers what is computed here."""
+    """It answers what is computed here, with any of the options that change nothing."""
     for case in range(count):
         pair = small_pair(random.Random(f"{seed} {case} alike"), faulty=0.15)
-        wanted = conform(*pair)
-        answers(judge.answer(pair), wanted.status, wanted.out, wanted.err)
+        wanted, (more, standard) = conform(*pair), WAYS[case % len(WAYS)]
+        found = judge.answer(pair, *more, standard=standard)
+        try:
+            answers(found, wanted.status, wanted.out, wanted.err)
+        except Wrong as wrong:
+            raise Wrong(f"case {case} of seed {seed}, {(*more, *pair.words)}: {wrong}") from None
 
 
 # ---- right switches ------------------------------------------------------------------------------

@@ -30,3 +30,17 @@ pub mod ArrivalSteps
 pub mod FirstLemmas
 pub mod CourseLemmas
 pub mod StreamLemmas
+pub mod EveryLemmas
+pub mod EventLemmas
+pub mod LaterStates
+pub mod SomeLemmas
+pub mod LaterLemmas
+pub mod LaterArrivals
+pub mod LaterEnd
+pub mod StaysLemmas
+pub mod ForgettingLemmas
+pub mod OverLemmas
+pub mod RestLemmas
+pub mod WholeLemmas
+pub mod SureLemmas
+pub mod KnownLemmas

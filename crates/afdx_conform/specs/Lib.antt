@@ -27,3 +27,9 @@ pub mod Hiding
 pub mod FromLevel
 pub mod Laws
 pub mod Worked
+pub mod Events
+pub mod Later
+pub mod EventLaws
+pub mod Forgetting
+pub mod Sure
+pub mod SomeKnown
