@@ -232,8 +232,8 @@ pub fn print_lists(rt: &HostRuntime) -> io::Result<()> {
     print_run_faults(rt)?;
     print_recording_faults(rt)?;
     print_faults(rt)?;
-    print_conform_lines(rt)?;
-    print_lines(rt)
+    print_lines(rt)?;
+    print_conform_lines(rt)
 }
 
 /// Where a configuration stops being TOML, and why.

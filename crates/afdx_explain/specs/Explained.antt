@@ -1,6 +1,6 @@
 -- What the lines of the program mean: each list stands in the table beside its type.
 use Rattle.std.specs.Prelude.{ℕ, ◌-◌, Bool, ◌||◌, if◌then◌else◌, List, length, Option, Some, None}
-use Rattle.std.specs.Prelude.{codes, map, take, drop}
+use Rattle.std.specs.Prelude.{codes, map, take, drop, nat_eq}
 use Rattle.std.specs.List.{starts_with}
 use Rattle.std.specs.Str.{bytes_eq}
 use Rattle.afdx_frame.specs.declared.fault.TheConstants.{MAC_FAULTS, IP_FAULTS}
@@ -40,7 +40,8 @@ run_fault line = text_among (map (λ entry. (entry.0.now, entry.1.now)) RUN_FAUL
 
 -- how the fault of one of two lists begins
 abbrev pub is_of_two : List ℕ → Bool
-is_of_two line = starts_with nat_eq line (codes "list came ") || starts_with nat_eq line (codes "list left ")
+is_of_two line =
+    starts_with nat_eq line (codes "list came ") || starts_with nat_eq line (codes "list left ")
 
 -- the fault of one of two lists: the fault of a list, behind the word for which list it is
 unfoldable pub list_fault : List ℕ → Option (List ℕ)

@@ -8,15 +8,13 @@ pub const CONFORM_LINES: [Entry; 9] = [
         "strange",
         "\
 strange m side port WORD: the frame of line m of LEFT left that output port, and nothing explains
-it. The word says why: too-short, too-long, bad-fcs, bad-address, unknown-link, not-its-port,
-out-of-turn or no-arrival.",
+it. WORD says why; 'afdx explain --list' has each.",
     ),
     (
         "passed",
         "\
-passed n side port WORD: the switch sent the frame of line n of CAME to that output port, though
-it had to drop it. The word says why: too-short, too-long, bad-fcs, wrong-port, over-lmax,
-under-lmin or over-rate.",
+passed n side port WORD: the frame of line n of CAME left that output port, and had to be dropped.
+WORD says why; 'afdx explain --list' has each.",
     ),
     (
         "\

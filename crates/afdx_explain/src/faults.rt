@@ -23,10 +23,11 @@ its own interface K: K=A and K=B may both be given, but K=-, which is for both, 
     (
         "words BadNumber",
         "\
-The number of --origin is over 2^63 - 1, or that of --reorder is over 100,000. --origin is the
-moment that is time 0, in ns since 1970; --reorder is by how many arrivals times may go back.
-Or, with 'conform', --slack, --inner or --asked is over 1,000,000 ns, --drift over 1,000 millionths,
-or --from or --until over 10^15 ns.",
+The number of --origin is over 2^63 - 1, that of --reorder over 100,000, or one of 'conform' out of
+its range.
+--origin is the moment that is time 0, in ns since 1970; --reorder is by how many arrivals times
+may go back. --slack, --inner and --asked are at most 1,000,000 ns, --drift 1,000 millionths,
+--from and --until 10^15 ns; --leave-out is 0 to 65535, or the word other.",
     ),
     (
         "words SameInput",

@@ -1,6 +1,7 @@
 //! Lines that are put into a text, written and held, and faults that are told.
 
 mod check_lines;
+mod conform_lines;
 mod digits;
 mod faults;
 mod sites;
