@@ -4,7 +4,7 @@ use Rattle.std.proofs.lemmas.Bool.{ltb-true, ltb-false}
 use Rattle.std.specs.Prelude.{⊤, if◌then◌else◌}
 use Rattle.std.specs.List.{AllByRecursion}
 use Rattle.afdx_police.specs.Arrival.{Arrival}
-use Rattle.afdx_conform.specs.EventLaws.{ComeFirst, EventsJoin, EventsAreWhole}
+use Rattle.afdx_conform.specs.EventLaws.{EventsJoin, EventsAreWhole}
 use Rattle.afdx_conform.specs.Events.{GoUp, arrival_times, frame_times, closings_in, closes_before, up_to, events_of, event_time}
 use Rattle.afdx_conform.specs.Leeway.{both_slacks}
 use Rattle.afdx_conform.specs.States.{Event, Came, Closing, arrivals_came, IsBehindClosings, AreInOrder}

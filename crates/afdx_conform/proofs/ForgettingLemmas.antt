@@ -1,7 +1,7 @@
 -- Arrivals that fit no frame that is left may be forgotten.
 use Rattle.std.proofs.Common.{◌≡◌, ℕ, ◌+◌, Bool, true, false, ◌&&◌, Option, List, [], ◌∷◌, ◌++◌, length, refl, ap, ◌∙◌, arith}
 use Rattle.std.proofs.lemmas.List.{append_assoc}
-use Rattle.std.specs.Prelude.{if◌then◌else◌, not, nat_lt, is_none, Some, None}
+use Rattle.std.specs.Prelude.{if◌then◌else◌, not, nat_lt, Some, None}
 use Rattle.std.specs.List.{AllByRecursion, list_any}
 use Rattle.afdx_police.specs.Arrival.{Arrival}
 use Rattle.afdx_police.specs.Shape.{fault_of}

@@ -1,5 +1,5 @@
 -- What is over stays, whatever comes later.
-use Rattle.std.proofs.Common.{◌≡◌, ℕ, ◌+◌, ◌<◌, ◌≤◌, Bool, true, false, List, [], ◌∷◌, ◌++◌, ◌⊎◌, inl, inr, map, reverse, refl, sym, ap, ◌∙◌, subst, arith}
+use Rattle.std.proofs.Common.{◌≡◌, ℕ, ◌+◌, ◌<◌, ◌≤◌, Bool, true, false, List, [], ◌∷◌, ◌++◌, inl, inr, map, reverse, refl, sym, ap, ◌∙◌, subst, arith}
 use Rattle.std.proofs.lemmas.Bool.{lt-ltb, le-ltb, ltb-true, ltb-false}
 use Rattle.std.proofs.lemmas.List.{map-append, append-nil, append_assoc, reverse-append, reverse-reverse}
 use Rattle.std.proofs.lemmas.List.Elements.{filter-append}
@@ -10,12 +10,12 @@ use Rattle.afdx_conform.specs.Ahead.{until_then, NoneIsOpen}
 use Rattle.afdx_conform.specs.EventLaws.{IsTimeOf, AreKnownAt, WhatIsOverStays}
 use Rattle.afdx_conform.specs.Events.{GoUp, arrival_times, frame_times, closes_before, up_to, events_of, event_time, moment_at, judged_whole, found_before}
 use Rattle.afdx_conform.specs.Findings.{Found, Judged, is_far, judged_after}
-use Rattle.afdx_conform.specs.Later.{AreFar, ComeLater, judged_more}
+use Rattle.afdx_conform.specs.Later.{AreFar, ComeLater}
 use Rattle.afdx_conform.specs.Leeway.{both_slacks}
 use Rattle.afdx_conform.specs.States.{Event, Came, Closing, arrivals_came}
 use Rattle.afdx_conform.specs.Streams.{Gone, Terms, is_open, is_begun, latency}
 use Rattle.afdx_conform.proofs.EventLemmas.{join, every-event, came-all}
-use Rattle.afdx_conform.proofs.EveryLemmas.{every-append, every-left, every-on, every-all, every-map, every-unmap, every-reverse}
+use Rattle.afdx_conform.proofs.EveryLemmas.{every-append, every-left, every-on, every-map, every-unmap, every-reverse}
 use Rattle.afdx_conform.proofs.LaterArrivals.{arrivals_later}
 use Rattle.afdx_conform.proofs.LaterEnd.{end_later}
 use Rattle.afdx_conform.proofs.LaterLemmas.{frames_later}

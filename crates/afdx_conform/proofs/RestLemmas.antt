@@ -1,8 +1,8 @@
 -- What the frames that are left after an event have in common.
-use Rattle.std.proofs.Common.{◌≡◌, ℕ, ◌+◌, ◌<◌, Bool, true, false, Option, List, [], ◌∷◌, ◌++◌, ◌⊎◌, inl, inr, map, refl, sym, ap, subst}
+use Rattle.std.proofs.Common.{◌≡◌, ℕ, ◌+◌, ◌<◌, Bool, true, false, Option, List, [], ◌∷◌, ◌++◌, inl, inr, map, refl, sym, subst}
 use Rattle.std.proofs.lemmas.Bool.{ltb-true, and_parts}
-use Rattle.std.specs.Prelude.{⊤, if◌then◌else◌, ◌&&◌, nat_eq, nat_lt, not, Some, None}
-use Rattle.std.specs.List.{AllByRecursion, list_all, list_any, filter}
+use Rattle.std.specs.Prelude.{if◌then◌else◌, nat_lt, not, Some, None}
+use Rattle.std.specs.List.{AllByRecursion, list_all, filter}
 use Rattle.afdx_police.specs.Arrival.{Arrival}
 use Rattle.afdx_police.specs.Shape.{fault_of}
 use Rattle.afdx_police.specs.declared.shape.Reason.{Reason}
@@ -14,7 +14,7 @@ use Rattle.afdx_conform.specs.States.{Event, Came, Closing, State, state_with, a
 use Rattle.afdx_conform.specs.Streams.{Gone, Terms, fits, is_open, is_begun}
 use Rattle.afdx_conform.specs.declared.finding.Deviation.{Deviation}
 use Rattle.afdx_conform.specs.declared.finding.Deviation.TheVariants as deviation
-use Rattle.afdx_conform.proofs.EveryLemmas.{every-append, every-on}
+use Rattle.afdx_conform.proofs.EveryLemmas.{every-append}
 use Rattle.afdx_conform.proofs.FindingLemmas.{if-both}
 use Rattle.afdx_conform.proofs.AmongLemmas.{Among}
 use Rattle.afdx_conform.proofs.HeldLemmas.{if-false}

@@ -1,5 +1,5 @@
 -- With exact stamps and clocks, from a reset on, there is always one state.
-use Rattle.std.proofs.Common.{◌≡◌, ℕ, ◌+◌, ◌*◌, ◌-◌, ◌<◌, ◌≤◌, Bool, true, false, ◌&&◌, Option, List, [], ◌∷◌, ◌++◌, ◌⊎◌, inl, inr, map, length, refl, sym, ap, ◌∙◌, subst, arith}
+use Rattle.std.proofs.Common.{◌≡◌, ℕ, ◌+◌, ◌*◌, ◌-◌, Bool, true, false, ◌&&◌, Option, List, [], ◌∷◌, ◌++◌, ◌⊎◌, inl, inr, length, refl, sym, ap, ◌∙◌, subst, arith}
 use Rattle.std.proofs.lemmas.Bool.{leb-true, leb-false, eq-eqb}
 use Rattle.std.proofs.lemmas.List.{append-nil}
 use Rattle.std.specs.Prelude.{if◌then◌else◌, ◌||◌, nat_eq, nat_le, nat_lt, not, Some, None}
@@ -11,10 +11,10 @@ use Rattle.afdx_conform.specs.Explanations.{link, charge, last_time, levels_then
 use Rattle.afdx_conform.specs.Findings.{Judged, lead, with_rest, has_some, front_rest, unexplained, skipped, closed_by, closed_to, with_states, aged, as_accepted, asked, deviation_of, deviates_by, deviates, answered_by, few_of, most_states, came_by, came_to, is_uncertain, one_if, sound_events, judged_after, one_more, thinned_onto}
 use Rattle.afdx_conform.specs.Headline.{IsExact}
 use Rattle.afdx_conform.specs.Leeway.{Leeway, account_slip, both_slacks}
-use Rattle.afdx_conform.specs.Levels.{Levels, levels_with, parts, fastest, slowest, full, cost, fast_slip, slow_slip, first_levels, later, charged, refused, may_pass, has_to_pass}
+use Rattle.afdx_conform.specs.Levels.{Levels, parts, fastest, slowest, full, cost, fast_slip, first_levels, later, charged, refused, may_pass, has_to_pass}
 use Rattle.afdx_conform.specs.States.{Event, Came, Closing, State, state_with, arrivals_came, led_by, kept, are_behind, first_states, accepted_states, states_at}
 use Rattle.afdx_conform.specs.Streams.{Gone, Terms, fits, is_open, is_begun, is_begun_by}
-use Rattle.afdx_conform.specs.Sure.{IsSure, ExactIsSure}
+use Rattle.afdx_conform.specs.Sure.{ExactIsSure}
 use Rattle.afdx_conform.specs.declared.finding.Deviation.{Deviation}
 use Rattle.afdx_conform.specs.declared.finding.Deviation.TheVariants as deviation
 use Rattle.afdx_conform.proofs.FindingLemmas.{if-both}

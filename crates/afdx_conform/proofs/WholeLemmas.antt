@@ -1,14 +1,12 @@
 -- Once all events are over, nothing is found exactly where something explains the stream.
-use Rattle.std.proofs.Common.{◌≡◌, ℕ, ◌+◌, ◌<◌, ◌≤◌, Bool, true, false, Option, List, [], ◌∷◌, ◌++◌, ◌⊎◌, inl, inr, map, reverse, refl, sym, ap, ◌∙◌, subst, arith}
+use Rattle.std.proofs.Common.{◌≡◌, ℕ, ◌+◌, ◌≤◌, Bool, true, false, List, [], ◌∷◌, ◌++◌, ◌⊎◌, inl, inr, reverse, refl, sym, ap, ◌∙◌, subst, arith}
 use Rattle.std.proofs.lemmas.List.{reverse-append, reverse-reverse, append-nil}
-use Rattle.std.specs.Prelude.{⊤, if◌then◌else◌, is_none, Some, None, ◌↔◌}
+use Rattle.std.specs.Prelude.{if◌then◌else◌, is_none, Some}
 use Rattle.std.specs.List.{AllByRecursion}
 use Rattle.afdx_police.specs.Arrival.{Arrival}
-use Rattle.afdx_police.specs.Rule.{Rule}
 use Rattle.afdx_police.specs.Shape.{fault_of}
-use Rattle.afdx_police.specs.declared.shape.Reason.{Reason}
 use Rattle.afdx_conform.specs.EventLaws.{AllEventsAreExplained}
-use Rattle.afdx_conform.specs.Events.{GoUp, closings_in, frame_times, events_of, judged_whole}
+use Rattle.afdx_conform.specs.Events.{closings_in, frame_times, events_of, judged_whole}
 use Rattle.afdx_conform.specs.Explanations.{Explains, last_time}
 use Rattle.afdx_conform.specs.Findings.{Judged, judged_with, came_by, came_to, closed_by, closed_to, sound_events, judged_after}
 use Rattle.afdx_conform.specs.Headline.{sound_of}
