@@ -121,12 +121,12 @@ module _ (z : Terms) where
   by-time [] [] p q = tt
   by-time [] (y ∷ ys) p q = (
     every-map (λ other. y.time + both_slacks z.by ≤ other) (event_time z) (events_of z [] ys)
-    (every-event (NotBelow (y.time + both_slacks z.by)) [] ys tt (from-frames y.time ys q.0)),
+        (every-event (NotBelow (y.time + both_slacks z.by)) [] ys tt (from-frames y.time ys q.0)),
     by-time [] ys p q.1,
   )
   by-time (x ∷ xs) [] p q = (
     every-map (λ other. x.time ≤ other) (event_time z) (events_of z xs [])
-    (every-event (NotBelow x.time) xs [] (from-arrivals x.time xs p.0) tt),
+        (every-event (NotBelow x.time) xs [] (from-arrivals x.time xs p.0) tt),
     by-time xs [] p.1 q,
   )
   by-time (x ∷ xs) (y ∷ ys) p q =
@@ -136,22 +136,24 @@ module _ (z : Terms) where
       if-of (λ l. GoUp (map (event_time z) l)) (closes_before z y x) (Closing y.time ∷ events_of z (x ∷ xs) ys)
       (Came x ∷ events_of z xs (y ∷ ys))
       (λ e.
-      let lt = ltb-true (y.time + both_slacks z.by) x.time e in
-      (
+      let lt = ltb-true (y.time + both_slacks z.by) x.time e in (
         every-map (λ other. y.time + both_slacks z.by ≤ other) (event_time z) (events_of z (x ∷ xs) ys)
-        (every-event (NotBelow (y.time + both_slacks z.by)) (x ∷ xs) ys
-        (omega (arith, lt), every-on (λ w. x.time ≤ w.time) (λ w. NotBelow (y.time + both_slacks z.by) (Came w))
-        (λ w le. omega (arith, le, lt)) xs (from-arrivals x.time xs p.0))
-        (from-frames y.time ys q.0)),
+            (every-event (NotBelow (y.time + both_slacks z.by)) (x ∷ xs) ys (
+              omega (arith, lt),
+              every-on (λ w. x.time ≤ w.time) (λ w. NotBelow (y.time + both_slacks z.by) (Came w))
+                  (λ w le. omega (arith, le, lt)) xs (from-arrivals x.time xs p.0),
+            )
+            (from-frames y.time ys q.0)),
         one,
       ))
       (λ e.
-      let le = ltb-false (y.time + both_slacks z.by) x.time e in
-      (
+      let le = ltb-false (y.time + both_slacks z.by) x.time e in (
         every-map (λ other. x.time ≤ other) (event_time z) (events_of z xs (y ∷ ys))
-        (every-event (NotBelow x.time) xs (y ∷ ys) (from-arrivals x.time xs p.0)
-        (le, every-on (λ w. NotBelow (y.time + both_slacks z.by) (Closing w.time)) (λ w. NotBelow x.time (Closing w.time))
-        (λ w k. omega (arith, k, le)) ys (from-frames y.time ys q.0))),
+            (every-event (NotBelow x.time) xs (y ∷ ys) (from-arrivals x.time xs p.0) (
+              le,
+              every-on (λ w. NotBelow (y.time + both_slacks z.by) (Closing w.time)) (λ w. NotBelow x.time (Closing w.time))
+                  (λ w k. omega (arith, k, le)) ys (from-frames y.time ys q.0),
+            )),
         two,
       ))
 
@@ -210,9 +212,11 @@ module _ (z : Terms) where
       order-first (Closing y.time) (events_of z (x ∷ xs) ys)
       (order-closing y.time (reverse (events_of z (x ∷ xs) ys))
       (every-reverse (ComesBehind y.time) (events_of z (x ∷ xs) ys)
-      (every-event (ComesBehind y.time) (x ∷ xs) ys
-      (lt, every-on (λ w. x.time ≤ w.time) (λ w. ComesBehind y.time (Came w)) (λ w le. omega (arith, le, lt)) xs
-      (from-arrivals x.time xs p.0))
+      (every-event (ComesBehind y.time) (x ∷ xs) ys (
+        lt,
+        every-on (λ w. x.time ≤ w.time) (λ w. ComesBehind y.time (Came w)) (λ w le. omega (arith, le, lt)) xs
+            (from-arrivals x.time xs p.0),
+      )
       (every-all (λ v. ⊤) (λ v. tt) ys)))
       one))
       (λ e. order-first (Came x) (events_of z xs (y ∷ ys)) (order-came x (reverse (events_of z xs (y ∷ ys))) two))

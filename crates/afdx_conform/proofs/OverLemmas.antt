@@ -50,8 +50,11 @@ cut time bound (x ∷ xs) h = by (nat_lt (time x) bound) refl (cut time bound xs
           behind = x ∷ xs;
           same = refl;
           below = tt;
-          above = (le, every-on (λ w. time x ≤ time w) (λ w. bound ≤ time w) (λ w k. omega (arith, le, k)) xs
-              (every-unmap (λ other. time x ≤ other) time xs h.0));
+          above = (
+            le,
+            every-on (λ w. time x ≤ time w) (λ w. bound ≤ time w) (λ w k. omega (arith, le, k)) xs
+                (every-unmap (λ other. time x ≤ other) time xs h.0),
+          );
         }
 
 up-left : (xs ys : List ℕ) → GoUp (xs ++ ys) → GoUp xs
@@ -65,8 +68,8 @@ unfolding GoUp
 up-on time f goes [] h = tt
 up-on time f goes (x ∷ xs) h = (
   every-map (λ other. f (time x) ≤ other) (λ w. f (time w)) xs
-  (every-on (λ w. time x ≤ time w) (λ w. f (time x) ≤ f (time w)) (λ w k. goes (time x) (time w) k) xs
-  (every-unmap (λ other. time x ≤ other) time xs h.0)),
+      (every-on (λ w. time x ≤ time w) (λ w. f (time x) ≤ f (time w)) (λ w k. goes (time x) (time w) k) xs
+      (every-unmap (λ other. time x ≤ other) time xs h.0)),
   up-on time f goes xs h.1,
 )
 
@@ -126,16 +129,14 @@ module _ (z : Terms) (moment : ℕ) where
   unfolding AreFar is_open
   far-from more [] end late begun h = begun
   far-from more (Came x ∷ events) end late begun h =
-      let k = h.0 in
-      (
+      let k = h.0 in (
         le-ltb z.until (x.time + latency z + both_slacks z.by + both_slacks z.by) (omega (arith, k, end)),
         every-on (λ y. moment ≤ y.time + both_slacks z.by) (λ y. is_far z x y ≡ true)
-        (λ y l. lt-ltb (x.time + latency z + latency z + both_slacks z.by) y.time (omega (arith, k, l))) more late,
+            (λ y l. lt-ltb (x.time + latency z + latency z + both_slacks z.by) y.time (omega (arith, k, l))) more late,
         far-from more events end late begun h.1,
       )
   far-from more (Closing time ∷ events) end late begun h =
-      let k = h.0 in
-      (
+      let k = h.0 in (
         every-on (λ y. moment ≤ y.time + both_slacks z.by) (λ y. time < y.time) (λ y l. omega (arith, k, l)) more late,
         far-from more events end late begun h.1,
       )
@@ -145,8 +146,7 @@ module _ (z : Terms) (moment : ℕ) where
   unfolding ComeLater
   later-than more [] late h = tt
   later-than more (Came x ∷ events) late h =
-      let k = h.0 in
-      (
+      let k = h.0 in (
         every-on (λ w. moment ≤ w.time) (λ w. moment_at z x.time < w.time) (λ w l. omega (arith, k, l)) more late,
         later-than more events late h.1,
       )
@@ -228,8 +228,8 @@ module _ (z : Terms) (moment : ℕ) where
     first-before =
         let s = found_stays z All (behind ++ later) (reverse Before) [] in
         let same : First.findings ≡ s.found =
-            ap (λ (l : List Event). (judged_after z All (behind ++ later) l).findings) (sym (append-nil (reverse Before)))
-            ∙ s.added ∙ none-at-first z All s.found (reverse (arrivals_came (reverse Before)) ++ (behind ++ later)) in
+        ap (λ (l : List Event). (judged_after z All (behind ++ later) l).findings) (sym (append-nil (reverse Before)))
+        ∙ s.added ∙ none-at-first z All s.found (reverse (arrivals_came (reverse Before)) ++ (behind ++ later)) in
         subst (λ (l : List Found). AllByRecursion (λ f. nat_lt (moment_at z f.time) moment ≡ true) l) (sym same)
         (every-on (λ f. IsBefore f.time) (λ f. nat_lt (moment_at z f.time) moment ≡ true)
         (λ f h. lt-ltb (moment_at z f.time) moment h) s.found (at-times z IsBefore (reverse Before) s.found before-all s.at_events))

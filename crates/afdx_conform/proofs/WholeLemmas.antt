@@ -43,11 +43,10 @@ past-after z ys behind (Came x ∷ before) h =
     (λ t k. holds-came (IsPast t) z behind last x j k) (closings_in before) (past-after z ys (x ∷ behind) before sure)
 past-after z ys behind (Closing time ∷ before) h =
     let j = judged_after z ys behind before in
-    let sure = if-sure j.is_unsure j (closed_by z time (kept (λ s. are_behind time s.rest) j.states) j) refl h in
-    (
+    let sure = if-sure j.is_unsure j (closed_by z time (kept (λ s. are_behind time s.rest) j.states) j) refl h in (
       past-closed z time j sure,
       every-on (λ t. Holds (IsPast t) j.states) (λ t. Holds (IsPast t) (closed_to z time j).states)
-      (λ t k. holds-closed (IsPast t) z time j k) (closings_in before) (past-after z ys behind before sure),
+          (λ t k. holds-closed (IsPast t) z time j k) (closings_in before) (past-after z ys behind before sure),
     )
 
 closings-append : (a b : List Event) → closings_in (a ++ b) ≡ closings_in a ++ closings_in b
@@ -92,7 +91,7 @@ none-are-left ys [] m h = tt
 none-are-left ys (s ∷ states) m h = (
   none-left ys s.rest m.0 (every-on (λ y. Holds (IsPast y.time) (s ∷ states)) (λ y. AllByRecursion (IsPast y.time) s.rest) (λ y k. k.0) ys h),
   none-are-left ys states m.1
-  (every-on (λ y. Holds (IsPast y.time) (s ∷ states)) (λ y. Holds (IsPast y.time) states) (λ y k. k.1) ys h),
+      (every-on (λ y. Holds (IsPast y.time) (s ∷ states)) (λ y. Holds (IsPast y.time) states) (λ y k. k.1) ys h),
 )
 
 -- ---- and another closing does nothing
@@ -177,8 +176,7 @@ all_explained z xs ys p q sure =
     (ap (λ (k : Judged). k.is_unsure) same ∙ sure) in
     let came : arrivals_came (sound_events z events) ≡ sound_of z.rule (reverse xs) =
     sound-came z events ∙ ap (λ (l : List Arrival). sound_of z.rule l)
-    (came-reverse (events_of z xs ys) ∙ ap (λ (l : List Arrival). reverse l) (came-all z xs ys)) in
-    (
+    (came-reverse (events_of z xs ys) ∙ ap (λ (l : List Arrival). reverse l) (came-all z xs ys)) in (
       λ e. subst (λ (l : List Arrival). Explains z l (reverse ys)) came (two.0 (ap (λ (k : Judged). k.findings) same ∙ e)),
       λ e. sym (ap (λ (k : Judged). k.findings) same) ∙ two.1 (subst (λ (l : List Arrival). Explains z l (reverse ys)) (sym came) e),
     )
