@@ -73,7 +73,8 @@ up-on time f goes (x ∷ xs) h = (
   up-on time f goes xs h.1,
 )
 
-filter-none : {X : Type 0} (test : X → Bool) (xs : List X) → AllByRecursion (λ x. test x ≡ false) xs → filter test xs ≡ []
+filter-none : {X : Type 0} (test : X → Bool) (xs : List X) → AllByRecursion (λ x. test x ≡ false) xs
+    → filter test xs ≡ []
 filter-none test [] h = refl
 filter-none test (x ∷ xs) h = rw (h.0) (filter-none test xs h.1)
 
@@ -92,18 +93,21 @@ came-reverse (Came x ∷ l) =
     ap (λ (k : List Event). arrivals_came k) (reverse-append (Came x ∷ []) l) ∙ came-append (reverse l) (Came x ∷ [])
     ∙ ap (λ (k : List Arrival). k ++ (x ∷ [])) (came-reverse l) ∙ sym (reverse-append (x ∷ []) (arrivals_came l))
 came-reverse (Closing time ∷ l) =
-    ap (λ (k : List Event). arrivals_came k) (reverse-append (Closing time ∷ []) l) ∙ came-append (reverse l) (Closing time ∷ [])
+    ap (λ (k : List Event). arrivals_came k) (reverse-append (Closing time ∷ []) l)
+    ∙ came-append (reverse l) (Closing time ∷ [])
     ∙ append-nil (arrivals_came (reverse l)) ∙ came-reverse l
 
 -- ---- what is found at some events
 
-at-time : (z : Terms) (P : ℕ → Type 0) (events : List Event) (time : ℕ) → AllByRecursion (λ e. P (event_time z e)) events
+at-time : (z : Terms) (P : ℕ → Type 0) (events : List Event) (time : ℕ)
+    → AllByRecursion (λ e. P (event_time z e)) events
     → IsTimeOf z time events → P time
 at-time z P [] time h k = absurd k
 at-time z P (e ∷ events) time h (inl same) = subst (λ t. P t) same h.0
 at-time z P (e ∷ events) time h (inr k) = at-time z P events time h.1 k
 
-at-times : (z : Terms) (P : ℕ → Type 0) (events : List Event) (found : List Found) → AllByRecursion (λ e. P (event_time z e)) events
+at-times : (z : Terms) (P : ℕ → Type 0) (events : List Event) (found : List Found)
+    → AllByRecursion (λ e. P (event_time z e)) events
     → AllByRecursion (λ f. IsTimeOf z f.time events) found → AllByRecursion (λ f. P f.time) found
 at-times z P events found h k =
     every-on (λ f. IsTimeOf z f.time events) (λ f. P f.time) (λ f t. at-time z P events f.time h t) found k
@@ -152,20 +156,24 @@ module _ (z : Terms) (moment : ℕ) where
       )
   later-than more (Closing time ∷ events) late h = later-than more events late h.1
 
-  none-open : (until : ℕ) (events : List Event) → moment ≤ until → AllByRecursion (λ e. IsBefore (event_time z e)) events
+  none-open : (until : ℕ) (events : List Event) → moment ≤ until
+      → AllByRecursion (λ e. IsBefore (event_time z e)) events
       → NoneIsOpen (until_then until z) events
   unfolding NoneIsOpen is_open
   none-open until [] end h = tt
   none-open until (Came x ∷ events) end h =
-      let k = h.0 in
-      (le-ltb until (x.time + latency z + both_slacks z.by + both_slacks z.by) (omega (arith, k, end)), none-open until events end h.1)
+      let k = h.0 in (
+        le-ltb until (x.time + latency z + both_slacks z.by + both_slacks z.by) (omega (arith, k, end)),
+        none-open until events end h.1,
+      )
   none-open until (Closing time ∷ events) end h = none-open until events end h.1
 
   -- ---- the events before the moment
 
   module _ (first behind later : List Arrival) (closed left more : List Gone)
       (known : AreKnownAt z moment (first ++ behind) later (closed ++ left) more)
-      (came-first : AllByRecursion (λ x. IsBefore x.time) first) (came-behind : AllByRecursion (λ x. IsBehind x.time) behind)
+      (came-first : AllByRecursion (λ x. IsBefore x.time) first)
+      (came-behind : AllByRecursion (λ x. IsBehind x.time) behind)
       (left-first : AllByRecursion (λ y. IsBefore (y.time + both_slacks z.by)) closed)
       (left-behind : AllByRecursion (λ y. IsBehind (y.time + both_slacks z.by)) left) where
     abbrev Before : List Event
@@ -187,13 +195,15 @@ module _ (z : Terms) (moment : ℕ) where
     closed-before = every-on (λ y. IsBefore (y.time + both_slacks z.by))
         (λ y. AllByRecursion (λ x. closes_before z y x ≡ true) (behind ++ later))
         (λ y h. every-on (λ x. IsBehind x.time) (λ x. closes_before z y x ≡ true)
-        (λ x k. lt-ltb (y.time + both_slacks z.by) x.time (omega (arith, h, k))) (behind ++ later) all-behind) closed left-first
+        (λ x k. lt-ltb (y.time + both_slacks z.by) x.time (omega (arith, h, k)))
+        (behind ++ later) all-behind) closed left-first
 
     came-before : AllByRecursion (λ x. AllByRecursion (λ y. closes_before z y x ≡ false) (left ++ more)) first
     came-before = every-on (λ x. IsBefore x.time)
         (λ x. AllByRecursion (λ y. closes_before z y x ≡ false) (left ++ more))
         (λ x h. every-on (λ y. IsBehind (y.time + both_slacks z.by)) (λ y. closes_before z y x ≡ false)
-        (λ y k. le-ltb (y.time + both_slacks z.by) x.time (omega (arith, h, k))) (left ++ more) all-left) first came-first
+        (λ y k. le-ltb (y.time + both_slacks z.by) x.time (omega (arith, h, k)))
+        (left ++ more) all-left) first came-first
 
     before-all : AllByRecursion (λ e. IsBefore (event_time z e)) (reverse Before)
     before-all = every-reverse (λ e. IsBefore (event_time z e)) Before
@@ -210,7 +220,8 @@ module _ (z : Terms) (moment : ℕ) where
     events-are =
         ap (λ (l : List Arrival). reverse (events_of z l All)) (append_assoc first behind later)
         ∙ ap (λ (l : List Gone). reverse (events_of z (first ++ (behind ++ later)) l)) (append_assoc closed left more)
-        ∙ ap (λ (l : List Event). reverse l) (join z first (behind ++ later) closed (left ++ more) closed-before came-before)
+        ∙ ap (λ (l : List Event). reverse l)
+        (join z first (behind ++ later) closed (left ++ more) closed-before came-before)
         ∙ reverse-append Before After
 
     came-of : reverse (arrivals_came (reverse After)) ++ [] ≡ behind ++ later
@@ -232,23 +243,27 @@ module _ (z : Terms) (moment : ℕ) where
         ∙ s.added ∙ none-at-first z All s.found (reverse (arrivals_came (reverse Before)) ++ (behind ++ later)) in
         subst (λ (l : List Found). AllByRecursion (λ f. nat_lt (moment_at z f.time) moment ≡ true) l) (sym same)
         (every-on (λ f. IsBefore f.time) (λ f. nat_lt (moment_at z f.time) moment ≡ true)
-        (λ f h. lt-ltb (moment_at z f.time) moment h) s.found (at-times z IsBefore (reverse Before) s.found before-all s.at_events))
+        (λ f h. lt-ltb (moment_at z f.time) moment h) s.found
+        (at-times z IsBefore (reverse Before) s.found before-all s.at_events))
 
     whole-is : found_before z moment (judged_whole z ((first ++ behind) ++ later) All).findings ≡ First.findings
     whole-is =
         let s = found_stays z All [] (reverse After) (reverse Before) in
         ap (λ (l : List Event). found_before z moment (judged_after z All [] l).findings) events-are
         ∙ ap (λ (l : List Found). found_before z moment l) s.added
-        ∙ ap (λ (l : List Arrival). found_before z moment (s.found ++ (judged_after z All l (reverse Before)).findings)) came-of
+        ∙ ap (λ (l : List Arrival). found_before z moment
+        (s.found ++ (judged_after z All l (reverse Before)).findings)) came-of
         ∙ filter-append (λ f. nat_lt (moment_at z f.time) moment) s.found First.findings
         ∙ ap (λ (l : List Found). l ++ found_before z moment First.findings)
         (filter-none (λ f. nat_lt (moment_at z f.time) moment) s.found
         (every-on (λ f. IsBehind f.time) (λ f. nat_lt (moment_at z f.time) moment ≡ false)
-        (λ f h. le-ltb (moment_at z f.time) moment h) s.found (at-times z IsBehind (reverse After) s.found after-all s.at_events)))
+        (λ f h. le-ltb (moment_at z f.time) moment h) s.found
+        (at-times z IsBehind (reverse After) s.found after-all s.at_events)))
         ∙ filter-all (λ f. nat_lt (moment_at z f.time) moment) First.findings first-before
 
     begun-not : AllByRecursion (λ y. is_begun z y ≡ false) more
-    begun-not = every-on (λ y. moment ≤ y.time + both_slacks z.by) (λ y. is_begun z y ≡ false) (λ y h. known.begun y h) more known.leave_later
+    begun-not = every-on (λ y. moment ≤ y.time + both_slacks z.by) (λ y. is_begun z y ≡ false)
+        (λ y h. known.begun y h) more known.leave_later
 
     -- it is what was found of the lines that are known
     pub over-is : found_before z moment (judged_whole z ((first ++ behind) ++ later) All).findings
@@ -256,7 +271,8 @@ module _ (z : Terms) (moment : ℕ) where
     over-is =
         whole-is
         ∙ ap (λ (j : Judged). j.findings)
-        (arrivals_later z All behind later (reverse Before) (later-than later (reverse Before) known.come_later before-all)
+        (arrivals_later z All behind later (reverse Before)
+        (later-than later (reverse Before) known.come_later before-all)
         ∙ frames_later z (closed ++ left) more behind (reverse Before)
         (far-from more (reverse Before) known.end known.leave_later begun-not before-all))
 
@@ -268,7 +284,8 @@ unfolding events_of up_to
 until-events z until [] ys = refl
 until-events z until (x ∷ xs) [] = ap (λ (l : List Event). Came x ∷ l) (until-events z until xs [])
 until-events z until (x ∷ xs) (y ∷ ys) =
-    ap (λ (l : List Event). if closes_before z y x then Closing y.time ∷ l else Came x ∷ events_of (until_then until z) xs (y ∷ ys))
+    ap (λ (l : List Event). if closes_before z y x then Closing y.time ∷ l
+    else Came x ∷ events_of (until_then until z) xs (y ∷ ys))
     (until-events z until (x ∷ xs) ys)
     ∙ ap (λ (l : List Event). if closes_before z y x then Closing y.time ∷ events_of z (x ∷ xs) ys else Came x ∷ l)
     (until-events z until xs (y ∷ ys))
@@ -280,7 +297,8 @@ over-cut : (z : Terms) (until moment : ℕ) (first behind later others : List Ar
     → AllByRecursion (λ y. IsBefore z moment (y.time + both_slacks z.by)) closed
     → AllByRecursion (λ y. IsBehind z moment (y.time + both_slacks z.by)) left
     → found_before z moment (judged_whole z ((first ++ behind) ++ later) ((closed ++ left) ++ more)).findings
-    ≡ found_before z moment (judged_whole (until_then until z) ((first ++ behind) ++ others) ((closed ++ left) ++ rest)).findings
+    ≡ found_before z moment
+    (judged_whole (until_then until z) ((first ++ behind) ++ others) ((closed ++ left) ++ rest)).findings
 over-cut z until moment first behind later others closed left more rest p q a b c d =
     let over = before-all z moment first behind later closed left more p a b c d in
     over-is z moment first behind later closed left more p a b c d
@@ -305,7 +323,8 @@ over_stays z until moment xs later others ys more rest p q =
     subst (λ l. found_before z moment (judged_whole z (l ++ later) (ys ++ more)).findings
     ≡ found_before z moment (judged_whole (until_then until z) (l ++ others) (ys ++ rest)).findings) (sym c.same)
     (subst (λ l. found_before z moment (judged_whole z ((c.first ++ c.behind) ++ later) (l ++ more)).findings
-    ≡ found_before z moment (judged_whole (until_then until z) ((c.first ++ c.behind) ++ others) (l ++ rest)).findings) (sym d.same)
+    ≡ found_before z moment (judged_whole (until_then until z) ((c.first ++ c.behind) ++ others) (l ++ rest)).findings)
+    (sym d.same)
     (over-cut z until moment c.first c.behind later others d.first d.behind more rest
     (subst (λ l. AreKnownAt z moment l later (d.first ++ d.behind) more) c.same
     (subst (λ l. AreKnownAt z moment xs later l more) d.same p))

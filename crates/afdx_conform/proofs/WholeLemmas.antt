@@ -60,7 +60,8 @@ closings-reverse (Came x ∷ l) =
     ap (λ (k : List Event). closings_in k) (reverse-append (Came x ∷ []) l) ∙ closings-append (reverse l) (Came x ∷ [])
     ∙ append-nil (closings_in (reverse l)) ∙ closings-reverse l
 closings-reverse (Closing time ∷ l) =
-    ap (λ (k : List Event). closings_in k) (reverse-append (Closing time ∷ []) l) ∙ closings-append (reverse l) (Closing time ∷ [])
+    ap (λ (k : List Event). closings_in k) (reverse-append (Closing time ∷ []) l)
+    ∙ closings-append (reverse l) (Closing time ∷ [])
     ∙ ap (λ (k : List ℕ). k ++ (time ∷ [])) (closings-reverse l) ∙ sym (reverse-append (time ∷ []) (closings_in l))
 
 -- ---- so none is left
@@ -89,7 +90,9 @@ none-are-left : (ys : List Gone) (states : List State) → Holds (λ y. IsOneOf 
     → AllByRecursion (λ y. Holds (IsPast y.time) states) ys → AllByRecursion (λ s. s.rest ≡ []) states
 none-are-left ys [] m h = tt
 none-are-left ys (s ∷ states) m h = (
-  none-left ys s.rest m.0 (every-on (λ y. Holds (IsPast y.time) (s ∷ states)) (λ y. AllByRecursion (IsPast y.time) s.rest) (λ y k. k.0) ys h),
+  none-left ys s.rest m.0
+      (every-on (λ y. Holds (IsPast y.time) (s ∷ states)) (λ y. AllByRecursion (IsPast y.time) s.rest)
+      (λ y k. k.0) ys h),
   none-are-left ys states m.1
       (every-on (λ y. Holds (IsPast y.time) (s ∷ states)) (λ y. Holds (IsPast y.time) states) (λ y k. k.1) ys h),
 )
@@ -115,11 +118,13 @@ closed-none z end j sure some h =
   where
     by : (l : List State) → j.states ≡ l → IsSomeState l → closed_by z end l j ≡ j
     by [] e k = absurd k
-    by (s ∷ l) e k = ap (λ (m : List State). judged_with m j.arrivals j.findings j.frames j.uncertain j.is_unsure) (sym e)
+    by (s ∷ l) e k = ap (λ (m : List State). judged_with m j.arrivals j.findings j.frames j.uncertain j.is_unsure)
+        (sym e)
 
 -- ---- the events of the right shape
 
-sound-behind : (z : Terms) (x : Arrival) (l : List Event) → IsBehindClosings z x l → IsBehindClosings z x (sound_events z l)
+sound-behind : (z : Terms) (x : Arrival) (l : List Event) → IsBehindClosings z x l
+    → IsBehindClosings z x (sound_events z l)
 unfolding sound_events IsBehindClosings
 sound-behind z x [] h = tt
 sound-behind z x (Came w ∷ l) h =
@@ -177,6 +182,8 @@ all_explained z xs ys p q sure =
     let came : arrivals_came (sound_events z events) ≡ sound_of z.rule (reverse xs) =
     sound-came z events ∙ ap (λ (l : List Arrival). sound_of z.rule l)
     (came-reverse (events_of z xs ys) ∙ ap (λ (l : List Arrival). reverse l) (came-all z xs ys)) in (
-      λ e. subst (λ (l : List Arrival). Explains z l (reverse ys)) came (two.0 (ap (λ (k : Judged). k.findings) same ∙ e)),
-      λ e. sym (ap (λ (k : Judged). k.findings) same) ∙ two.1 (subst (λ (l : List Arrival). Explains z l (reverse ys)) (sym came) e),
+      λ e. subst (λ (l : List Arrival). Explains z l (reverse ys)) came
+          (two.0 (ap (λ (k : Judged). k.findings) same ∙ e)),
+      λ e. sym (ap (λ (k : Judged). k.findings) same)
+          ∙ two.1 (subst (λ (l : List Arrival). Explains z l (reverse ys)) (sym came) e),
     )
