@@ -39,7 +39,7 @@ pub mod LaterArrivals
 pub mod LaterEnd
 pub mod StaysLemmas
 pub mod ForgettingLemmas
-pub mod OverLemmas
+pub mod MomentLemmas
 pub mod RestLemmas
 pub mod WholeLemmas
 pub mod SureLemmas

@@ -17,7 +17,7 @@ use Rattle.afdx_conform.proofs.EventLemmas.{came-all, closed-all, in-order}
 use Rattle.afdx_conform.proofs.EveryLemmas.{every-on, every-unmap, every-reverse}
 use Rattle.afdx_conform.proofs.FindingLemmas.{found_explained, if-both}
 use Rattle.afdx_conform.proofs.HeldLemmas.{if-false}
-use Rattle.afdx_conform.proofs.OverLemmas.{came-reverse}
+use Rattle.afdx_conform.proofs.MomentLemmas.{came-reverse}
 use Rattle.afdx_conform.proofs.RestLemmas.{Holds, IsPast, holds-came, holds-closed, holds-after, past-closed}
 use Rattle.afdx_conform.proofs.SomeLemmas.{some-after}
 
