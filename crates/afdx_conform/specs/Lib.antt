@@ -31,6 +31,7 @@ pub mod Events
 pub mod Later
 pub mod EventLaws
 pub mod Forgotten
+pub mod Forgetting
 pub mod Sure
 pub mod Histories
 pub mod Standing

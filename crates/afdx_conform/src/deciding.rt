@@ -1,5 +1,18 @@
 //! The next event of a stream is judged.
 
+ghost use Rattle.std.specs.Prelude.{◌≡◌, ◌≤◌, ◌<◌, ◌+◌, ℕ, List, min, length, get_or, true, false};
+ghost use Rattle.std.specs.Prelude.{IfOk, OnOk, OnErr, Some};
+ghost use Rattle.afdx_police.specs.Arrival.{Arrival};
+ghost use Rattle.afdx_conform.specs.Findings.{frames_in as frames_of};
+ghost use Rattle.afdx_conform.specs.Histories.{coming, next_of, unclosed};
+ghost use Rattle.afdx_conform.specs.Limits.{gone_of};
+ghost use Rattle.afdx_conform.specs.Marks.{arrival_of};
+ghost use Rattle.afdx_conform.specs.Standing.{Decides, IsAfter, IsKnownBy, IsReady, IsSame};
+ghost use Rattle.afdx_conform.specs.Standing.{IsSound, most_found};
+ghost use Rattle.afdx_conform.specs.States.{Event, Came, Closing};
+ghost use Rattle.afdx_conform.specs.Streams.{Gone, Terms};
+
+use crate::arrived::Arrived;
 use crate::arriving::judge_arrival;
 use crate::course::{closed_by, last_after};
 use crate::finding::Finding;
@@ -7,16 +20,26 @@ use crate::first::first_held;
 use crate::growth::Growth;
 use crate::judging::judge_closing;
 use crate::leading::Moment;
+use crate::limits::Frame;
 use crate::upcoming::Upcoming;
 use std::alloc::{AllocError, Global};
 
+/// Whether the finding is of a frame.
+fn is_of_frame(finding: &Finding) -> bool {
+    match finding {
+        Finding::Stopped(_) => false,
+        _ => true,
+    }
+}
+
 /// How many of these findings are of a frame.
-fn frames_in(found: &[Finding]) -> u64 {
+fn frames_in(found: &[Finding]) -> u64
+    ensures { result ≡ min (frames_of found.now) most_found }
+{
     let mut frames = 0_u64;
     for finding in found {
-        match finding {
-            Finding::Stopped(_) => {}
-            _ => frames = frames.saturating_add(1),
+        if is_of_frame(finding) {
+            frames = frames.saturating_add(1);
         }
     }
     frames
@@ -25,7 +48,14 @@ fn frames_in(found: &[Finding]) -> u64 {
 impl Growth {
     /// Before the first event: its states are those of all frames that may be of arrivals before
     /// the start. Fails only out of memory; then nothing has changed.
-    fn start(&mut self, alloc: Global) -> Result<(), AllocError> {
+    fn start(&mut self, alloc: Global) -> Result<(), AllocError>
+        requires sound { IsSound self.old }
+        ensures sound { IsSound self.new }
+        ensures ready { (z : Terms) (xs : List Arrival) (ys : List Gone) (cut : ℕ)
+            (over : List Event) → IsAfter z xs ys cut over self.old →
+            self.old.judging.is_unsure ≡ false → OnOk result (IsReady z xs ys cut over self.new) }
+        ensures same { IsSame self.old self.new }
+    {
         if self.is_started {
             return Ok(());
         }
@@ -34,15 +64,40 @@ impl Growth {
         Ok(())
     }
 
+    /// Counts what was found at an event.
+    fn count(&mut self, found: &[Finding])
+        ensures { self.new ≡ record self.old {
+          is_started = true;
+          found = min (self.old.found + frames_of found.now) most_found;
+        } }
+    {
+        self.is_started = true;
+        self.found = self.found.saturating_add(frames_in(found));
+    }
+
     /// The event of an arrival. Fails only out of memory; then nothing has changed.
-    fn come(&mut self, alloc: Global, end: Option<u64>) -> Result<Vec<Finding>, AllocError> {
+    fn come(&mut self, alloc: Global, end: Option<u64>) -> Result<Vec<Finding>, AllocError>
+        requires sound { IsSound self.old }
+        requires place { length self.old.judging.marks.items < length self.old.arrivals.items }
+        ensures sound { IsSound self.new }
+        ensures decides { (z : Terms) (xs : List Arrival) (ys : List Gone) (cut : ℕ)
+            (over : List Event) (a : Arrived) → self.old.judging.is_unsure ≡ false →
+            a ≡ get_or self.old.arrivals.items (length self.old.judging.marks.items) a →
+            next_of z (coming xs over) (unclosed ys over) ≡ Some (Came (arrival_of a)) →
+            IsKnownBy z end (Came (arrival_of a)) → IsReady z xs ys cut over self.old →
+            IfOk result (λ found.
+            Decides z xs ys cut over self.new (Came (arrival_of a)) found.items) }
+        ensures refused { OnErr result (IsSame self.old self.new) }
+    {
         let arrived = &self.arrivals[self.judging.marks.len()];
+        let number = arrived.number;
         let is_open = match end {
             None => false,
             Some(until) => self.bounds.limits.is_open(arrived.time, until),
         };
         let ns = arrived.time.saturating_sub(self.last);
         let moment = Moment { ns, is_open };
+        let last = last_after(arrived, self.last);
         let found = judge_arrival(
             &mut self.judging,
             alloc,
@@ -53,14 +108,27 @@ impl Growth {
             moment,
         )?;
         if self.judging.is_unsure {
-            self.unsure = Some(arrived.number);
+            self.unsure = Some(number);
         }
-        self.last = last_after(arrived, self.last);
+        self.last = last;
+        self.count(found.as_slice());
         Ok(found)
     }
 
     /// The closing of a frame. Fails only out of memory; then nothing has changed.
-    fn close(&mut self, alloc: Global) -> Result<Vec<Finding>, AllocError> {
+    fn close(&mut self, alloc: Global) -> Result<Vec<Finding>, AllocError>
+        requires sound { IsSound self.old }
+        requires place { self.old.closed < length self.old.frames.items }
+        ensures sound { IsSound self.new }
+        ensures decides { (z : Terms) (xs : List Arrival) (ys : List Gone) (cut : ℕ)
+            (over : List Event) (f : Frame) → self.old.judging.is_unsure ≡ false →
+            f ≡ get_or self.old.frames.items self.old.closed f →
+            next_of z (coming xs over) (unclosed ys over) ≡ Some (Closing f.time) →
+            IsReady z xs ys cut over self.old →
+            IfOk result (λ found.
+            Decides z xs ys cut over self.new (Closing f.time) found.items) }
+        ensures refused { OnErr result (IsSame self.old self.new) }
+    {
         let time = self.frames[self.closed].time;
         let to = closed_by(self.frames.as_slice(), self.closed + 1, time);
         let found = judge_closing(
@@ -72,6 +140,7 @@ impl Growth {
             to,
         )?;
         self.closed += 1;
+        self.count(found.as_slice());
         Ok(found)
     }
 
@@ -82,7 +151,16 @@ impl Growth {
         &mut self,
         alloc: Global,
         end: Option<u64>,
-    ) -> Result<Vec<Finding>, AllocError> {
+    ) -> Result<Vec<Finding>, AllocError>
+        requires sound { IsSound self.old }
+        ensures sound { IsSound self.new }
+        ensures decides { (z : Terms) (xs : List Arrival) (ys : List Gone) (cut : ℕ)
+            (over : List Event) (e : Event) → self.old.judging.is_unsure ≡ false →
+            next_of z (coming xs over) (unclosed ys over) ≡ Some e → IsKnownBy z end e →
+            IsAfter z xs ys cut over self.old →
+            IfOk result (λ found. Decides z xs ys cut over self.new e found.items) }
+        ensures refused { OnErr result (IsSame self.old self.new) }
+    {
         if self.judging.is_unsure {
             return Ok(Vec::new(alloc));
         }
@@ -94,8 +172,6 @@ impl Growth {
             Upcoming::Arrival => self.come(alloc, end)?,
             Upcoming::Closing => self.close(alloc)?,
         };
-        self.is_started = true;
-        self.found = self.found.saturating_add(frames_in(found.as_slice()));
         self.forget();
         Ok(found)
     }
