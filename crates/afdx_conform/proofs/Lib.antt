@@ -32,3 +32,10 @@ pub mod CourseLemmas
 pub mod StreamLemmas
 pub mod EveryLemmas
 pub mod EventLemmas
+pub mod LaterStates
+pub mod SomeLemmas
+pub mod LaterLemmas
+pub mod LaterArrivals
+pub mod LaterEnd
+pub mod StaysLemmas
+pub mod ForgettingLemmas

@@ -7,8 +7,8 @@ ghost use Rattle.afdx_conform.specs.Findings.{frames_in as frames_of};
 ghost use Rattle.afdx_conform.specs.Histories.{coming, next_of, unclosed};
 ghost use Rattle.afdx_conform.specs.Limits.{gone_of};
 ghost use Rattle.afdx_conform.specs.Marks.{arrival_of};
-ghost use Rattle.afdx_conform.specs.Standing.{Decides, IsAfter, IsKnownBy, IsReady, IsSame};
-ghost use Rattle.afdx_conform.specs.Standing.{IsSound, most_found};
+ghost use Rattle.afdx_conform.specs.Growing.{Decides, IsAfter, IsKnownBy, IsReady, IsSame};
+ghost use Rattle.afdx_conform.specs.Growing.{IsSound, most_found};
 ghost use Rattle.afdx_conform.specs.States.{Event, Came, Closing};
 ghost use Rattle.afdx_conform.specs.Streams.{Gone, Terms};
 

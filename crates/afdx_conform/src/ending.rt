@@ -6,7 +6,7 @@ ghost use Rattle.afdx_police.specs.Arrival.{Arrival};
 ghost use Rattle.afdx_conform.specs.HeldStates.{state_of};
 ghost use Rattle.afdx_conform.specs.Histories.{AreOver, coming, counts_by, judged_by};
 ghost use Rattle.afdx_conform.specs.Histories.{least_waiting as least_of, next_of, uncut, unclosed};
-ghost use Rattle.afdx_conform.specs.Standing.{IsAfter, IsDueLater, IsSound, due_by};
+ghost use Rattle.afdx_conform.specs.Growing.{IsAfter, IsDueLater, IsSound, due_by};
 ghost use Rattle.afdx_conform.specs.States.{Event};
 ghost use Rattle.afdx_conform.specs.Streams.{Gone, Terms};
 

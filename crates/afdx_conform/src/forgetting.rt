@@ -5,7 +5,7 @@ ghost use Rattle.std.specs.Prelude.{drop, length, map, false};
 ghost use Rattle.afdx_police.specs.Arrival.{Arrival};
 ghost use Rattle.afdx_conform.specs.HeldStates.{past};
 ghost use Rattle.afdx_conform.specs.Histories.{AreOver};
-ghost use Rattle.afdx_conform.specs.Standing.{IsAfter, IsSound, due_by};
+ghost use Rattle.afdx_conform.specs.Growing.{IsAfter, IsSound, due_by};
 ghost use Rattle.afdx_conform.specs.States.{Event};
 ghost use Rattle.afdx_conform.specs.Streams.{Gone, Terms};
 

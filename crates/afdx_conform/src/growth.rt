@@ -8,8 +8,8 @@ ghost use Rattle.afdx_conform.specs.Histories.{AreOver};
 ghost use Rattle.afdx_conform.specs.LeewayOf.{leeway_of};
 ghost use Rattle.afdx_conform.specs.Limits.{gone_of};
 ghost use Rattle.afdx_conform.specs.Marks.{IsJudged, arrival_of};
-ghost use Rattle.afdx_conform.specs.Standing.{IsAfter, IsSame, IsSameOrLater, IsSound};
-ghost use Rattle.afdx_conform.specs.Standing.{MayCome, MayLeave, due_by};
+ghost use Rattle.afdx_conform.specs.Growing.{IsAfter, IsSame, IsSameOrLater, IsSound};
+ghost use Rattle.afdx_conform.specs.Growing.{MayCome, MayLeave, due_by};
 ghost use Rattle.afdx_conform.specs.States.{Event};
 ghost use Rattle.afdx_conform.specs.Streams.{Gone, Terms};
 

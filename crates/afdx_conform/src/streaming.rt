@@ -1,19 +1,6 @@
 //! One stream, judged while its arrivals and frames come.
 
-ghost use Rattle.std.specs.Prelude.{◌≡◌, ◌≤◌, ◌<◌, ◌*◌, ◌++◌, ◌∷◌, [], ℕ, List};
-ghost use Rattle.std.specs.Prelude.{Some, None, OnOk, OnErr, IfOk};
-ghost use Rattle.afdx_frame.specs.Regulation.{greatest_delay, slowest_byte};
-ghost use Rattle.afdx_police.specs.Arrival.{Arrival};
-ghost use Rattle.afdx_police.specs.RuleOf.{rule_of};
-ghost use Rattle.afdx_conform.specs.Findings.{Judged};
-ghost use Rattle.afdx_conform.specs.Histories.{counts_of, judged_of, nothing_judged, shown};
-ghost use Rattle.afdx_conform.specs.Histories.{time_of, unsure_in};
-ghost use Rattle.afdx_conform.specs.LeewayOf.{leeway_of};
-ghost use Rattle.afdx_conform.specs.Limits.{gone_of};
-ghost use Rattle.afdx_conform.specs.Marks.{IsJudged, arrival_of};
-ghost use Rattle.afdx_conform.specs.Standing.{Finds, IsDueLater, IsEnding, IsSameOrLater, IsSound};
-ghost use Rattle.afdx_conform.specs.Standing.{MayCome, MayLeave, StandsFor, due_of};
-ghost use Rattle.afdx_conform.specs.Streams.{Gone, Terms};
+ghost use Rattle.afdx_conform.specs.Growing.{IsSound};
 
 use crate::arrived::Arrived;
 use crate::bounds::Bounds;
@@ -39,6 +26,21 @@ pub struct Stream {
 }
 
 impl Stream {
+    ghost use Rattle.std.specs.Prelude.{◌≡◌, ◌≤◌, ◌<◌, ◌*◌, ◌++◌, ◌∷◌, [], ℕ, List};
+    ghost use Rattle.std.specs.Prelude.{Some, None, OnOk, OnErr, IfOk};
+    ghost use Rattle.afdx_frame.specs.Regulation.{greatest_delay, slowest_byte};
+    ghost use Rattle.afdx_police.specs.Arrival.{Arrival};
+    ghost use Rattle.afdx_police.specs.RuleOf.{rule_of};
+    ghost use Rattle.afdx_conform.specs.Findings.{Judged};
+    ghost use Rattle.afdx_conform.specs.Growing.{IsDueLater, IsSameOrLater, MayCome, MayLeave};
+    ghost use Rattle.afdx_conform.specs.Histories.{counts_of, judged_of, nothing_judged, shown};
+    ghost use Rattle.afdx_conform.specs.Histories.{unsure_in};
+    ghost use Rattle.afdx_conform.specs.LeewayOf.{leeway_of};
+    ghost use Rattle.afdx_conform.specs.Limits.{gone_of};
+    ghost use Rattle.afdx_conform.specs.Marks.{IsJudged, arrival_of};
+    ghost use Rattle.afdx_conform.specs.Standing.{Finds, IsEnding, StandsFor, due_of, undecided_in};
+    ghost use Rattle.afdx_conform.specs.Streams.{Gone, Terms};
+
     /// A stream of which nothing came, of a link of this rule and latency, at a port on whose line
     /// a byte lasts so long, both in ns.
     pub fn new(alloc: Global, rule: &LinkRule, latency_ns: u64, byte_ns: u64, by: Leeway) -> Stream
@@ -117,6 +119,8 @@ impl Stream {
         ensures refused_then { (z : Terms) (xs : List Arrival) (ys : List Gone) (j : Judged) →
             IsEnding z xs ys j self.old → OnErr result (IsEnding z xs ys j self.new) }
         ensures due_then { OnErr result (due_of self.new ≡ due_of self.old) }
+        ensures less { (moment : ℕ) → due_of self.old ≡ Some moment →
+            OnOk result (undecided_in self.new < undecided_in self.old) }
     {
         self.growth.decide(alloc, end)
     }

@@ -2,7 +2,7 @@
 
 ghost use Rattle.std.specs.Prelude.{◌≡◌, ◌≤◌, ◌<◌, ◌+◌, IsTrue, ◌↔◌, length, get_or};
 ghost use Rattle.std.specs.Prelude.{Some, None};
-ghost use Rattle.afdx_conform.specs.Standing.{IsSound, due_at, due_by};
+ghost use Rattle.afdx_conform.specs.Growing.{IsSound, due_at, due_by};
 
 use crate::arrived::Arrived;
 use crate::growth::Growth;
