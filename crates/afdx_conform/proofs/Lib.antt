@@ -30,6 +30,7 @@ pub mod ArrivalSteps
 pub mod FirstLemmas
 pub mod CourseLemmas
 pub mod StreamLemmas
+pub mod HistoryLemmas
 pub mod EveryLemmas
 pub mod EventLemmas
 pub mod LaterStates

@@ -1,0 +1,1 @@
+use Rattle.afdx_conform.proofs.HistoryLemmas.{events-came}
