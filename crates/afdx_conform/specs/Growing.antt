@@ -1,5 +1,5 @@
 -- What the code keeps of a stream while its arrivals and frames come.
-use Rattle.std.specs.Prelude.{◌≡◌, ℕ, ◌+◌, ◌-◌, ◌<◌, ◌≤◌, ◌⊎◌, true, false, min, nat_lt, List, [], ◌∷◌, ◌++◌, drop, length, map, All, Option, Some, None, if◌then◌else◌}
+use Rattle.std.specs.Prelude.{◌≡◌, ℕ, ◌+◌, ◌-◌, ◌<◌, ◌≤◌, ◌⊎◌, Bool, true, false, min, nat_lt, List, [], ◌∷◌, ◌++◌, drop, length, map, All, Option, Some, None, if◌then◌else◌}
 use Rattle.std.specs.List.{AllByRecursion}
 use Rattle.afdx_police.specs.Arrival.{Arrival}
 use Rattle.afdx_conform.specs.Bounds.{AreBounds}
@@ -90,6 +90,11 @@ pub record AreTold (z : Terms) (xs : List Arrival) (ys : List Gone) : Type 0 whe
   pub start : AllByRecursion (λ x. from_time z.by.start ≤ x.time) xs
   pub begun : AllByRecursion (λ y. from_time z.by.start ≤ y.time + both_slacks z.by) ys
 
+-- an event is over
+abbrev pub is_some : List Event → Bool
+is_some [] = false
+is_some (e ∷ before) = true
+
 -- it holds the arrivals but those that are forgotten, and the frames but those that are closed and
 -- explained in each state: no frame that it holds fits a forgotten arrival
 pub record IsKept (z : Terms) (xs : List Arrival) (ys : List Gone) (cut : ℕ) (over : List Event)
@@ -105,7 +110,8 @@ pub record IsKept (z : Terms) (xs : List Arrival) (ys : List Gone) (cut : ℕ) (
   pub frames : s.left ≡ length ys
   pub cut_off : s.cut ≡ cut
   -- before the first event its states aren't known
-  pub at_first : s.is_started ≡ false → over ≡ []
+  pub started : s.is_started ≡ is_some over
+  pub certain : over ≡ [] → s.judging.uncertain ≡ 0
 
 -- its states are those, but for the arrivals that are forgotten
 pub record Continues (z : Terms) (xs : List Arrival) (ys : List Gone) (over : List Event)
