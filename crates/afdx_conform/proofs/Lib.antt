@@ -30,6 +30,12 @@ pub mod ArrivalSteps
 pub mod FirstLemmas
 pub mod CourseLemmas
 pub mod StreamLemmas
+pub mod HistoryLemmas
+pub mod OverLemmas
+pub mod GrowthLemmas
+pub mod DueLemmas
+pub mod GrowthFrames
+pub mod GrowthStarts
 pub mod EveryLemmas
 pub mod EventLemmas
 pub mod LaterStates
