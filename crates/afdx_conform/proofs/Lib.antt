@@ -50,3 +50,4 @@ pub mod RestLemmas
 pub mod WholeLemmas
 pub mod SureLemmas
 pub mod KnownLemmas
+pub mod ForgetLemmas
