@@ -133,11 +133,11 @@ module _ (more : List Gone) where
   front-more (s ∷ t ∷ l) h =
       let behind = front-more (t ∷ l) tt in
       let lengths : nat_lt (length (s.rest ++ more)) (length (front_rest (M (t ∷ l))))
-          ≡ nat_lt (length s.rest) (length (front_rest (t ∷ l))) =
-          ap (λ (k : List Gone). nat_lt (length (s.rest ++ more)) (length k)) behind
-          ∙ ap (λ (n : ℕ). nat_lt n (length (front_rest (t ∷ l) ++ more))) (length-append s.rest more)
-          ∙ ap (λ (n : ℕ). nat_lt (length s.rest + length more) n) (length-append (front_rest (t ∷ l)) more)
-          ∙ lt-more (length s.rest) (length (front_rest (t ∷ l))) (length more) in
+      ≡ nat_lt (length s.rest) (length (front_rest (t ∷ l))) =
+      ap (λ (k : List Gone). nat_lt (length (s.rest ++ more)) (length k)) behind
+      ∙ ap (λ (n : ℕ). nat_lt n (length (front_rest (t ∷ l) ++ more))) (length-append s.rest more)
+      ∙ ap (λ (n : ℕ). nat_lt (length s.rest + length more) n) (length-append (front_rest (t ∷ l)) more)
+      ∙ lt-more (length s.rest) (length (front_rest (t ∷ l))) (length more) in
       ap (λ (b : Bool). if b then s.rest ++ more else front_rest (M (t ∷ l))) lengths
       ∙ by (nat_lt (length s.rest) (length (front_rest (t ∷ l)))) behind
     where

@@ -115,8 +115,8 @@ unfolding judged_after
 found_stays z ys behind [] before = record { found = []; added = refl; at_events = tt }
 found_stays z ys behind (Came x ∷ more) before =
     let same : reverse (x ∷ arrivals_came more) ++ behind ≡ reverse (arrivals_came more) ++ (x ∷ behind) =
-        ap (λ (l : List Arrival). l ++ behind) (reverse-first x (arrivals_came more))
-        ∙ append_assoc (reverse (arrivals_came more)) (x ∷ []) behind in
+    ap (λ (l : List Arrival). l ++ behind) (reverse-first x (arrivals_came more))
+    ∙ append_assoc (reverse (arrivals_came more)) (x ∷ []) behind in
     subst (λ (l : List Arrival). AddsFound z (Came x ∷ more) (judged_after z ys l before).findings
     (came_to z behind (last_time z.by (arrivals_came (sound_events z (more ++ before)))) x
     (judged_after z ys (x ∷ behind) (more ++ before))).findings) (sym same)

@@ -3,7 +3,7 @@
 ghost use Rattle.std.specs.Prelude.{◌≡◌, ◌≤◌, ◌<◌, ◌+◌, ℕ, List, min, length, get_or, true, false};
 ghost use Rattle.std.specs.Prelude.{IfOk, OnOk, OnErr, Some};
 ghost use Rattle.afdx_police.specs.Arrival.{Arrival};
-ghost use Rattle.afdx_conform.specs.Findings.{frames_in as frames_of};
+ghost use Rattle.afdx_conform.specs.Findings.{frames_in, frames_of};
 ghost use Rattle.afdx_conform.specs.Histories.{coming, next_of, unclosed};
 ghost use Rattle.afdx_conform.specs.Limits.{gone_of};
 ghost use Rattle.afdx_conform.specs.Marks.{arrival_of};
@@ -24,23 +24,24 @@ use crate::limits::Frame;
 use crate::upcoming::Upcoming;
 use std::alloc::{AllocError, Global};
 
-/// Whether the finding is of a frame.
-fn is_of_frame(finding: &Finding) -> bool {
+/// How many frames are in the finding.
+fn count_of(finding: &Finding) -> u64
+    ensures { result ≡ frames_of finding.now }
+{
     match finding {
-        Finding::Stopped(_) => false,
-        _ => true,
+        Finding::Stopped(_) => 0,
+        Finding::Strange(_, _) | Finding::Passed(_, _) => 1,
+        Finding::Late(_, _) | Finding::Early(_, _) => 1,
     }
 }
 
-/// How many of these findings are of a frame.
-fn frames_in(found: &[Finding]) -> u64
-    ensures { result ≡ min (frames_of found.now) most_found }
+/// How many frames are in these findings.
+fn count_all(found: &[Finding]) -> u64
+    ensures { result ≡ min (frames_in found.now) most_found }
 {
     let mut frames = 0_u64;
     for finding in found {
-        if is_of_frame(finding) {
-            frames = frames.saturating_add(1);
-        }
+        frames = frames.saturating_add(count_of(finding));
     }
     frames
 }
@@ -68,11 +69,11 @@ impl Growth {
     fn count(&mut self, found: &[Finding])
         ensures { self.new ≡ record self.old {
           is_started = true;
-          found = min (self.old.found + frames_of found.now) most_found;
+          found = min (self.old.found + frames_in found.now) most_found;
         } }
     {
         self.is_started = true;
-        self.found = self.found.saturating_add(frames_in(found));
+        self.found = self.found.saturating_add(count_all(found));
     }
 
     /// The event of an arrival. Fails only out of memory; then nothing has changed.

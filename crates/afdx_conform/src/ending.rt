@@ -49,7 +49,7 @@ fn least_waiting(held: &[Held]) -> u64
         return 0;
     }
     let mut least = held[0].waiting;
-    for state in &held[1..] {
+    for state in held {
         least = least.min(state.waiting);
     }
     least
