@@ -103,9 +103,9 @@ module _ (z : Terms) where
           subst (λ (l : List Gone). FitNone z l gone) (sym frames-of)
           (every-append (λ y. AllByRecursion (λ w. fits z w.arrival y ≡ false) gone) (map gone_of old.frames.items) One k.unread (
             every-on (λ w. moment_at z w.arrival.time < time) (λ w. fits z w.arrival (gone_of f) ≡ false)
-            (λ w lt. fits-not z w.arrival (gone_of f) time lt (late m).0) gone
-            (gone-over z xs (map arrival_of old.arrivals.items) ys gone time over events k.came
-            (let n = k.marks in omega (arith, n)) o),
+                (λ w lt. fits-not z w.arrival (gone_of f) time lt (late m).0) gone
+                (gone-over z xs (map arrival_of old.arrivals.items) ys gone time over events k.came
+                (let n = k.marks in omega (arith, n)) o),
             tt,
           ))
 

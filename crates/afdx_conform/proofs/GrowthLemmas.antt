@@ -76,6 +76,7 @@ prefix-all {X = X} P (g ∷ gs) rest (r ∷ rs) others e le h =
   where
     first : g ∷ (gs ++ rest) ≡ r ∷ (rs ++ others) → g ≡ r
     first k = cc
+
     more : g ∷ (gs ++ rest) ≡ r ∷ (rs ++ others) → gs ++ rest ≡ rs ++ others
     more k = cc
 

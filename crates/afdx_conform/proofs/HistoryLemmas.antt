@@ -146,7 +146,7 @@ module _ (z : Terms) where
   events-came xs ys x time (e ∷ before) le o h =
       let lt = o.0 in (
         ap (λ (l : List Arrival). next_of z l (unclosed ys before)) (coming-more xs ys x before h.1)
-        ∙ with-arrival (coming xs before) (unclosed ys before) x e (omega (arith, lt, le)) h.0,
+            ∙ with-arrival (coming xs before) (unclosed ys before) x e (omega (arith, lt, le)) h.0,
         events-came xs ys x time before le o.1 h.1,
       )
 
@@ -157,8 +157,8 @@ module _ (z : Terms) where
   events-left xs ys y time (e ∷ before) le o h =
       let lt = o.0 in (
         ap (λ (l : List Gone). next_of z (coming xs before) l)
-        (unclosed-more xs ys (y ∷ []) before (closed-within xs ys before h.1))
-        ∙ with-frame (coming xs before) (unclosed ys before) y e (omega (arith, lt, le)) h.0,
+            (unclosed-more xs ys (y ∷ []) before (closed-within xs ys before h.1))
+            ∙ with-frame (coming xs before) (unclosed ys before) y e (omega (arith, lt, le)) h.0,
         events-left xs ys y time before le o.1 h.1,
       )
 
@@ -168,14 +168,14 @@ module _ (z : Terms) where
   events-cut xs ys cut [] le h = tt
   events-cut xs ys cut (Came x ∷ before) le h = (
     cut-came (coming xs before) (unclosed ys before) cut x
-    (ap (λ (l : List Gone). next_of z (coming xs before) l) (sym (unclosed-more xs ys cut before le)) ∙ h.0),
+        (ap (λ (l : List Gone). next_of z (coming xs before) l) (sym (unclosed-more xs ys cut before le)) ∙ h.0),
     events-cut xs ys cut before le h.1,
   )
   events-cut xs ys cut (Closing time ∷ before) le h =
       let less : length (closings_in before) ≤ length ys = omega (arith, le) in
       let size = length-drop (length (closings_in before)) ys in (
         cut-closing (coming xs before) (unclosed ys before) cut time (omega (arith, le, size))
-        (ap (λ (l : List Gone). next_of z (coming xs before) l) (sym (unclosed-more xs ys cut before less)) ∙ h.0),
+            (ap (λ (l : List Gone). next_of z (coming xs before) l) (sym (unclosed-more xs ys cut before less)) ∙ h.0),
         events-cut xs ys cut before less h.1,
       )
 

@@ -36,6 +36,7 @@ pub mod GrowthLemmas
 pub mod DueLemmas
 pub mod GrowthFrames
 pub mod GrowthStarts
+pub mod LoopLemmas
 pub mod EveryLemmas
 pub mod EventLemmas
 pub mod LaterStates

@@ -48,8 +48,8 @@ module _ (z : Terms) where
   are-far more time (Came w ∷ before) until late begun o = (
     not-open w time o.0 until,
     every-on (λ y. time ≤ y.time + both_slacks z.by)
-    (λ y. nat_lt (w.time + latency z + latency z + both_slacks z.by) y.time ≡ true)
-    (λ y le. lt-ltb (w.time + latency z + latency z + both_slacks z.by) y.time (let lt = o.0 in omega (arith, lt, le))) more late,
+        (λ y. nat_lt (w.time + latency z + latency z + both_slacks z.by) y.time ≡ true)
+        (λ y le. lt-ltb (w.time + latency z + latency z + both_slacks z.by) y.time (let lt = o.0 in omega (arith, lt, le))) more late,
     are-far more time before until late begun o.1,
   )
   are-far more time (Closing t ∷ before) until late begun o = (

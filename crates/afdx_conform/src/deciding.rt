@@ -1,16 +1,16 @@
 //! The next event of a stream is judged.
 
 ghost use Rattle.std.specs.Prelude.{◌≡◌, ◌≤◌, ◌<◌, ◌+◌, ℕ, List, min, length, get_or, true, false};
-ghost use Rattle.std.specs.Prelude.{IfOk, OnOk, OnErr, Some};
+ghost use Rattle.std.specs.Prelude.{IfOk, OnOk, OnErr, Some, None, if◌then◌else◌};
 ghost use Rattle.afdx_police.specs.Arrival.{Arrival};
-ghost use Rattle.afdx_conform.specs.Findings.{frames_in as frames_of};
+ghost use Rattle.afdx_conform.specs.Findings.{frames_in, frames_of};
 ghost use Rattle.afdx_conform.specs.Histories.{coming, next_of, unclosed};
-ghost use Rattle.afdx_conform.specs.Limits.{gone_of};
+ghost use Rattle.afdx_conform.specs.Limits.{AreLimits};
 ghost use Rattle.afdx_conform.specs.Marks.{arrival_of};
 ghost use Rattle.afdx_conform.specs.Growing.{Decides, IsAfter, IsKnownBy, IsReady, IsSame};
 ghost use Rattle.afdx_conform.specs.Growing.{IsSound, most_found};
 ghost use Rattle.afdx_conform.specs.States.{Event, Came, Closing};
-ghost use Rattle.afdx_conform.specs.Streams.{Gone, Terms};
+ghost use Rattle.afdx_conform.specs.Streams.{Gone, Terms, is_open};
 
 use crate::arrived::Arrived;
 use crate::arriving::judge_arrival;
@@ -20,29 +20,49 @@ use crate::first::first_held;
 use crate::growth::Growth;
 use crate::judging::judge_closing;
 use crate::leading::Moment;
-use crate::limits::Frame;
+use crate::limits::{Frame, Limits};
 use crate::upcoming::Upcoming;
 use std::alloc::{AllocError, Global};
 
-/// Whether the finding is of a frame.
-fn is_of_frame(finding: &Finding) -> bool {
+/// How many frames are in the finding.
+fn count_of(finding: &Finding) -> u64
+    ensures { result ≡ frames_of finding.now }
+{
     match finding {
-        Finding::Stopped(_) => false,
-        _ => true,
+        Finding::Stopped(_) => 0,
+        Finding::Strange(_, _) | Finding::Passed(_, _) => 1,
+        Finding::Late(_, _) | Finding::Early(_, _) => 1,
     }
 }
 
-/// How many of these findings are of a frame.
-fn frames_in(found: &[Finding]) -> u64
-    ensures { result ≡ min (frames_of found.now) most_found }
+/// How many frames are in these findings.
+fn count_all(found: &[Finding]) -> u64
+    ensures { result ≡ min (frames_in found.now) most_found }
 {
     let mut frames = 0_u64;
     for finding in found {
-        if is_of_frame(finding) {
-            frames = frames.saturating_add(1);
-        }
+        frames = frames.saturating_add(count_of(finding));
     }
     frames
+}
+
+/// Whether the arrival is open: before the end is known none is whose event is decided.
+fn is_open_by(limits: &Limits, arrived: &Arrived, end: Option<u64>) -> bool
+    ensures { (z : Terms) → AreLimits z limits.now →
+        IsKnownBy z end (Came (arrival_of arrived.now)) →
+        result ≡ is_open z (arrival_of arrived.now) }
+{
+    match end {
+        None => false,
+        Some(until) => limits.is_open(arrived.time, until),
+    }
+}
+
+/// The number, if it is asked for.
+fn number_if(is_asked: bool, number: u64) -> Option<u64>
+    ensures { result ≡ (if is_asked then Some number else None) }
+{
+    if is_asked { Some(number) } else { None }
 }
 
 impl Growth {
@@ -68,11 +88,11 @@ impl Growth {
     fn count(&mut self, found: &[Finding])
         ensures { self.new ≡ record self.old {
           is_started = true;
-          found = min (self.old.found + frames_of found.now) most_found;
+          found = min (self.old.found + frames_in found.now) most_found;
         } }
     {
         self.is_started = true;
-        self.found = self.found.saturating_add(frames_in(found));
+        self.found = self.found.saturating_add(count_all(found));
     }
 
     /// The event of an arrival. Fails only out of memory; then nothing has changed.
@@ -91,10 +111,7 @@ impl Growth {
     {
         let arrived = &self.arrivals[self.judging.marks.len()];
         let number = arrived.number;
-        let is_open = match end {
-            None => false,
-            Some(until) => self.bounds.limits.is_open(arrived.time, until),
-        };
+        let is_open = is_open_by(&self.bounds.limits, arrived, end);
         let ns = arrived.time.saturating_sub(self.last);
         let moment = Moment { ns, is_open };
         let last = last_after(arrived, self.last);
@@ -107,9 +124,7 @@ impl Growth {
             arrived,
             moment,
         )?;
-        if self.judging.is_unsure {
-            self.unsure = Some(number);
-        }
+        self.unsure = number_if(self.judging.is_unsure, number);
         self.last = last;
         self.count(found.as_slice());
         Ok(found)

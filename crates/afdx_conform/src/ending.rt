@@ -1,7 +1,8 @@
 //! The end of a stream: what is cut off there, and what is counted.
 
 ghost use Rattle.std.specs.Prelude.{◌≡◌, ◌≤◌, ◌<◌, ◌+◌, ◌-◌, ℕ, List, IsTrue, ◌↔◌, length, map};
-ghost use Rattle.std.specs.Prelude.{get_or, None};
+ghost use Rattle.std.specs.Prelude.{get_or, None, ◌⊎◌};
+ghost use Rattle.std.specs.List.{AllByRecursion};
 ghost use Rattle.afdx_police.specs.Arrival.{Arrival};
 ghost use Rattle.afdx_conform.specs.HeldStates.{state_of};
 ghost use Rattle.afdx_conform.specs.Histories.{AreOver, coming, counts_by, judged_by};
@@ -49,7 +50,7 @@ fn least_waiting(held: &[Held]) -> u64
         return 0;
     }
     let mut least = held[0].waiting;
-    for state in &held[1..] {
+    for state in held {
         least = least.min(state.waiting);
     }
     least
@@ -66,6 +67,10 @@ impl Growth {
             IsAfter z xs ys 0 over self.old → IsAfter z xs (uncut z ys)
             (length ys - length (uncut z ys)) over self.new }
         ensures due { IsDueLater (due_by self.old) (due_by self.new) }
+        ensures due_same { (z : Terms) (xs : List Arrival) (ys : List Gone) (over : List Event) →
+            z.until ≡ until → AllByRecursion (λ x. x.time ≤ until) xs →
+            IsAfter z xs ys 0 over self.old →
+            (due_by self.new ≡ due_by self.old) ⊎ (due_by self.new ≡ None) }
     {
         if self.judging.is_unsure {
             return;

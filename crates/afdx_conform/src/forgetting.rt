@@ -29,20 +29,18 @@ fn passed_by_all(held: &[Held], most: usize) -> usize
     ensures most { result ≤ most }
     ensures all { All (λ h. result ≤ h.passed) held.now }
 {
-    let mut passed = most;
-    for state in held {
-        passed = passed.min(state.passed);
+    match held.iter().min_by_key(|state| state.passed) {
+        Some(state) => state.passed.min(most),
+        None => most,
     }
-    passed
 }
 
 /// The same states, where the first `count` frames are forgotten.
 fn without_first(held: &mut Vec<Held>, count: usize)
-    requires { All (λ h. count ≤ h.passed) held.old.items }
     ensures { held.new.items ≡ map (λ h. past (h.passed - count) h) held.old.items }
 {
     for place in 0..held.len() {
-        held[place].passed -= count;
+        held[place].passed = held[place].passed.saturating_sub(count);
     }
 }
 

@@ -27,7 +27,8 @@ pub struct Stream {
 
 impl Stream {
     ghost use Rattle.std.specs.Prelude.{◌≡◌, ◌≤◌, ◌<◌, ◌*◌, ◌++◌, ◌∷◌, [], ℕ, List};
-    ghost use Rattle.std.specs.Prelude.{Some, None, OnOk, OnErr, IfOk};
+    ghost use Rattle.std.specs.Prelude.{Some, None, OnOk, OnErr, IfOk, ◌⊎◌};
+    ghost use Rattle.std.specs.List.{AllByRecursion};
     ghost use Rattle.afdx_frame.specs.Regulation.{greatest_delay, slowest_byte};
     ghost use Rattle.afdx_police.specs.Arrival.{Arrival};
     ghost use Rattle.afdx_police.specs.RuleOf.{rule_of};
@@ -132,6 +133,10 @@ impl Stream {
             (time : ℕ) → z.until ≡ until → time ≤ until → StandsFor z xs ys j time self.old →
             IsEnding z xs ys j self.new }
         ensures due { IsDueLater (due_of self.old) (due_of self.new) }
+        ensures due_same { (z : Terms) (xs : List Arrival) (ys : List Gone) (j : Judged)
+            (time : ℕ) → z.until ≡ until → time ≤ until →
+            AllByRecursion (λ x. x.time ≤ until) xs → StandsFor z xs ys j time self.old →
+            (due_of self.new ≡ due_of self.old) ⊎ (due_of self.new ≡ None) }
     {
         self.growth.end(until);
     }
