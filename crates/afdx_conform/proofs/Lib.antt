@@ -30,6 +30,13 @@ pub mod ArrivalSteps
 pub mod FirstLemmas
 pub mod CourseLemmas
 pub mod StreamLemmas
+pub mod HistoryLemmas
+pub mod OverLemmas
+pub mod GrowthLemmas
+pub mod DueLemmas
+pub mod GrowthFrames
+pub mod GrowthStarts
+pub mod LoopLemmas
 pub mod EveryLemmas
 pub mod EventLemmas
 pub mod LaterStates
@@ -39,8 +46,9 @@ pub mod LaterArrivals
 pub mod LaterEnd
 pub mod StaysLemmas
 pub mod ForgettingLemmas
-pub mod OverLemmas
+pub mod MomentLemmas
 pub mod RestLemmas
 pub mod WholeLemmas
 pub mod SureLemmas
 pub mod KnownLemmas
+pub mod ForgetLemmas

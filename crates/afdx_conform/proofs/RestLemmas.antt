@@ -1,8 +1,8 @@
 -- What the frames that are left after an event have in common.
-use Rattle.std.proofs.Common.{◌≡◌, ℕ, ◌+◌, ◌<◌, Bool, true, false, Option, List, [], ◌∷◌, ◌++◌, ◌⊎◌, inl, inr, map, refl, sym, ap, subst}
+use Rattle.std.proofs.Common.{◌≡◌, ℕ, ◌+◌, ◌<◌, Bool, true, false, Option, List, [], ◌∷◌, ◌++◌, inl, inr, map, refl, sym, subst}
 use Rattle.std.proofs.lemmas.Bool.{ltb-true, and_parts}
-use Rattle.std.specs.Prelude.{⊤, if◌then◌else◌, ◌&&◌, nat_eq, nat_lt, not, Some, None}
-use Rattle.std.specs.List.{AllByRecursion, list_all, list_any, filter}
+use Rattle.std.specs.Prelude.{if◌then◌else◌, nat_lt, not, Some, None}
+use Rattle.std.specs.List.{AllByRecursion, list_all, filter}
 use Rattle.afdx_police.specs.Arrival.{Arrival}
 use Rattle.afdx_police.specs.Shape.{fault_of}
 use Rattle.afdx_police.specs.declared.shape.Reason.{Reason}
@@ -14,7 +14,7 @@ use Rattle.afdx_conform.specs.States.{Event, Came, Closing, State, state_with, a
 use Rattle.afdx_conform.specs.Streams.{Gone, Terms, fits, is_open, is_begun}
 use Rattle.afdx_conform.specs.declared.finding.Deviation.{Deviation}
 use Rattle.afdx_conform.specs.declared.finding.Deviation.TheVariants as deviation
-use Rattle.afdx_conform.proofs.EveryLemmas.{every-append, every-on}
+use Rattle.afdx_conform.proofs.EveryLemmas.{every-append}
 use Rattle.afdx_conform.proofs.FindingLemmas.{if-both}
 use Rattle.afdx_conform.proofs.AmongLemmas.{Among}
 use Rattle.afdx_conform.proofs.HeldLemmas.{if-false}
@@ -36,14 +36,17 @@ module _ (R : Gone → Type 0) where
   unfolding kept
   holds-kept test [] h = tt
   holds-kept test (s ∷ l) h =
-      if-both (λ (k : List State). Holds k) (test s) (s ∷ kept test l) (kept test l) (h.0, holds-kept test l h.1) (holds-kept test l h.1)
+      if-both (λ (k : List State). Holds k) (test s) (s ∷ kept test l) (kept test l) (h.0, holds-kept test l h.1)
+      (holds-kept test l h.1)
 
   holds-filter : (test : State → Bool) (l : List State) → Holds l → Holds (filter test l)
   holds-filter test [] h = tt
   holds-filter test (s ∷ l) h =
-      if-both (λ (k : List State). Holds k) (test s) (s ∷ filter test l) (filter test l) (h.0, holds-filter test l h.1) (holds-filter test l h.1)
+      if-both (λ (k : List State). Holds k) (test s) (s ∷ filter test l) (filter test l) (h.0, holds-filter test l h.1)
+      (holds-filter test l h.1)
 
-  holds-led : (to : State → List State) → ((s : State) → Has s → Holds (to s)) → (l : List State) → Holds l → Holds (led_by to l)
+  holds-led : (to : State → List State) → ((s : State) → Has s → Holds (to s)) → (l : List State) → Holds l
+      → Holds (led_by to l)
   unfolding led_by
   holds-led to goes [] h = tt
   holds-led to goes (s ∷ l) h = every-append Has (to s) (led_by to l) (goes s h.0) (holds-led to goes l h.1)
@@ -60,12 +63,14 @@ module _ (R : Gone → Type 0) where
   unfolding front_rest
   front-has [] h = tt
   front-has (s ∷ []) h = h.0
-  front-has (s ∷ t ∷ l) h = if-both (λ (r : List Gone). AllByRecursion R r) _ s.rest (front_rest (t ∷ l)) h.0 (front-has (t ∷ l) h.1)
+  front-has (s ∷ t ∷ l) h =
+      if-both (λ (r : List Gone). AllByRecursion R r) _ s.rest (front_rest (t ∷ l)) h.0 (front-has (t ∷ l) h.1)
 
   holds-one : (s : State) (l : List State) → Has s → Holds l → Holds (one_more s l)
   unfolding one_more
   holds-one s l a h = if-both (λ (k : List State). Holds k) _ l (filter (λ x. not (does_more s x)) l ++ (s ∷ [])) h
-      (every-append Has (filter (λ x. not (does_more s x)) l) (s ∷ []) (holds-filter (λ x. not (does_more s x)) l h) (a, tt))
+      (every-append Has (filter (λ x. not (does_more s x)) l) (s ∷ []) (holds-filter (λ x. not (does_more s x)) l h)
+      (a, tt))
 
   holds-thinned : (few l : List State) → Holds few → Holds l → Holds (thinned_onto few l)
   unfolding thinned_onto
@@ -103,7 +108,8 @@ module _ (R : Gone → Type 0) where
     holds-aged last x l h = holds-map (λ s. state_with s.rest (levels_then z s.levels last x) s.waiting) (λ s a. a) l h
 
     holds-accepted : (x : Arrival) (l : List State) → Holds l → Holds (as_accepted z x l)
-    holds-accepted x l h = holds-map (λ s. state_with s.rest (charged (link z) z.by (charge z x) s.levels) s.waiting) (λ s a. a) l h
+    holds-accepted x l h =
+        holds-map (λ s. state_with s.rest (charged (link z) z.by (charge z x) s.levels) s.waiting) (λ s a. a) l h
 
     holds-skipped : (time : ℕ) (front : List State) (rest : List Gone) (j : Judged) → AllByRecursion R rest
         → Holds (skipped z time front rest j).states
@@ -130,7 +136,8 @@ module _ (R : Gone → Type 0) where
     holds-deviates behind x l [] j h r = holds-accepted x l h
     holds-deviates behind x l (y ∷ rest) j h r =
         by (deviation_of z behind x y)
-        (holds-deviates behind x (with_rest rest (lead l)) rest (unexplained z x.time y j) (holds-rest rest r.1 (lead l)) r.1)
+        (holds-deviates behind x (with_rest rest (lead l)) rest (unexplained z x.time y j)
+        (holds-rest rest r.1 (lead l)) r.1)
       where
         next : Judged
         next = deviates z behind x (with_rest rest (lead l)) rest (unexplained z x.time y j)
@@ -168,7 +175,8 @@ module _ (R : Gone → Type 0) where
     unfolding judged_after
     holds-after ys behind [] h = holds-first (first_levels (link z) z.by z.by.start) ys h
     holds-after ys behind (Came x ∷ before) h =
-        holds-came behind (last_time z.by (arrivals_came (sound_events z before))) x (judged_after z ys (x ∷ behind) before)
+        holds-came behind (last_time z.by (arrivals_came (sound_events z before))) x
+        (judged_after z ys (x ∷ behind) before)
         (holds-after ys (x ∷ behind) before h)
     holds-after ys behind (Closing time ∷ before) h =
         holds-closed time (judged_after z ys behind before) (holds-after ys behind before h)
@@ -191,7 +199,8 @@ past-kept time [] = tt
 past-kept time (s ∷ l) = by (are_behind time s.rest) refl (past-kept time l)
   where
     by : (b : Bool) → are_behind time s.rest ≡ b → Holds (IsPast time) (kept (λ s. are_behind time s.rest) l)
-        → Holds (IsPast time) (if b then s ∷ kept (λ s. are_behind time s.rest) l else kept (λ s. are_behind time s.rest) l)
+        → Holds (IsPast time)
+        (if b then s ∷ kept (λ s. are_behind time s.rest) l else kept (λ s. are_behind time s.rest) l)
     by true e more = (past-all time s.rest e, more)
     by false e more = more
 
@@ -206,11 +215,13 @@ past-skipped z time front (y ∷ rest) j =
     next = unexplained z (time + both_slacks z.by) y j
 
     by : (b : Bool) → are_behind time rest ≡ b → Holds (IsPast time) (skipped z time front rest next).states
-        → Holds (IsPast time) (if b then with_states (with_rest rest front) next else skipped z time front rest next).states
+        → Holds (IsPast time)
+        (if b then with_states (with_rest rest front) next else skipped z time front rest next).states
     by true e more = holds-rest (IsPast time) rest (past-all time rest e) front
     by false e more = more
 
-pub past-closed : (z : Terms) (time : ℕ) (j : Judged) → j.is_unsure ≡ false → Holds (IsPast time) (closed_to z time j).states
+pub past-closed : (z : Terms) (time : ℕ) (j : Judged) → j.is_unsure ≡ false
+    → Holds (IsPast time) (closed_to z time j).states
 unfolding closed_to
 past-closed z time j sure =
     subst (λ (k : Judged). Holds (IsPast time) k.states)

@@ -1,5 +1,5 @@
 -- With exact stamps and clocks, from a reset on, there is always one state.
-use Rattle.std.proofs.Common.{◌≡◌, ℕ, ◌+◌, ◌*◌, ◌-◌, ◌<◌, ◌≤◌, Bool, true, false, ◌&&◌, Option, List, [], ◌∷◌, ◌++◌, ◌⊎◌, inl, inr, map, length, refl, sym, ap, ◌∙◌, subst, arith}
+use Rattle.std.proofs.Common.{◌≡◌, ℕ, ◌+◌, ◌*◌, ◌-◌, Bool, true, false, ◌&&◌, Option, List, [], ◌∷◌, ◌++◌, ◌⊎◌, inl, inr, length, refl, sym, ap, ◌∙◌, subst, arith}
 use Rattle.std.proofs.lemmas.Bool.{leb-true, leb-false, eq-eqb}
 use Rattle.std.proofs.lemmas.List.{append-nil}
 use Rattle.std.specs.Prelude.{if◌then◌else◌, ◌||◌, nat_eq, nat_le, nat_lt, not, Some, None}
@@ -11,10 +11,10 @@ use Rattle.afdx_conform.specs.Explanations.{link, charge, last_time, levels_then
 use Rattle.afdx_conform.specs.Findings.{Judged, lead, with_rest, has_some, front_rest, unexplained, skipped, closed_by, closed_to, with_states, aged, as_accepted, asked, deviation_of, deviates_by, deviates, answered_by, few_of, most_states, came_by, came_to, is_uncertain, one_if, sound_events, judged_after, one_more, thinned_onto}
 use Rattle.afdx_conform.specs.Headline.{IsExact}
 use Rattle.afdx_conform.specs.Leeway.{Leeway, account_slip, both_slacks}
-use Rattle.afdx_conform.specs.Levels.{Levels, levels_with, parts, fastest, slowest, full, cost, fast_slip, slow_slip, first_levels, later, charged, refused, may_pass, has_to_pass}
+use Rattle.afdx_conform.specs.Levels.{Levels, parts, fastest, slowest, full, cost, fast_slip, first_levels, later, charged, refused, may_pass, has_to_pass}
 use Rattle.afdx_conform.specs.States.{Event, Came, Closing, State, state_with, arrivals_came, led_by, kept, are_behind, first_states, accepted_states, states_at}
 use Rattle.afdx_conform.specs.Streams.{Gone, Terms, fits, is_open, is_begun, is_begun_by}
-use Rattle.afdx_conform.specs.Sure.{IsSure, ExactIsSure}
+use Rattle.afdx_conform.specs.Sure.{ExactIsSure}
 use Rattle.afdx_conform.specs.declared.finding.Deviation.{Deviation}
 use Rattle.afdx_conform.specs.declared.finding.Deviation.TheVariants as deviation
 use Rattle.afdx_conform.proofs.FindingLemmas.{if-both}
@@ -41,15 +41,18 @@ module _ (l : Regulation) (by : Leeway) (slack : by.slack ≡ 0) (drift : by.dri
   same-tests c levels e =
       let none = no-slip (fastest l by) in
       let same : full l by + fast_slip l by ≡ full l by = omega (arith, none) in
-      ap (λ n. nat_le (n + cost l by c) (full l by + fast_slip l by)) e ∙ ap (λ n. nat_le (levels.hi + cost l by c) n) same
+      ap (λ n. nat_le (n + cost l by c) (full l by + fast_slip l by)) e
+      ∙ ap (λ n. nat_le (levels.hi + cost l by c) n) same
 
-  charged-even : (c : ℕ) (levels : Levels) → AreEven levels → has_to_pass l by c levels ≡ true → AreEven (charged l by c levels)
+  charged-even : (c : ℕ) (levels : Levels) → AreEven levels → has_to_pass l by c levels ≡ true
+      → AreEven (charged l by c levels)
   charged-even c levels e h =
       let none = no-slip (slowest l by) in
       let room = leb-true (levels.hi + cost l by c) (full l by) h in
       omega (arith, none, room, e)
 
-  refused-even : (c : ℕ) (levels : Levels) → AreEven levels → has_to_pass l by c levels ≡ false → AreEven (refused l by c levels)
+  refused-even : (c : ℕ) (levels : Levels) → AreEven levels → has_to_pass l by c levels ≡ false
+      → AreEven (refused l by c levels)
   refused-even c levels e h =
       let over = leb-false (levels.hi + cost l by c) (full l by) h in
       omega (arith, over, e)
@@ -79,14 +82,25 @@ module _ (z : Terms) (e : IsExact z) where
       accepts : (rest : List Gone) → has_to_pass (link z) z.by (charge z x) levels ≡ true
           → IsLed x levels (accepted_states z x (charged (link z) z.by (charge z x) levels) s.waiting rest ++ [])
       accepts [] h = if-both (λ (l : List State). IsLed x levels (l ++ [])) (is_open z x) (_ ∷ []) []
-          (inl (record { of = _; is = refl; even = charged-even (link z) z.by e.slack e.drift e.asked (charge z x) levels even h }))
+          (inl (record {
+            of = _;
+            is = refl;
+            even =
+                charged-even (link z) z.by e.slack e.drift e.asked (charge z x) levels even h;
+          }))
           (inr (refl, h))
       accepts (y ∷ rest) h = if-both (λ (l : List State). IsLed x levels (l ++ [])) (fits z x y) (_ ∷ []) []
-          (inl (record { of = _; is = refl; even = charged-even (link z) z.by e.slack e.drift e.asked (charge z x) levels even h }))
+          (inl (record {
+            of = _;
+            is = refl;
+            even =
+                charged-even (link z) z.by e.slack e.drift e.asked (charge z x) levels even h;
+          }))
           (inr (refl, h))
 
       by : (b c : Bool) → has_to_pass (link z) z.by (charge z x) levels ≡ c → b ≡ c
-          → IsLed x levels ((if b then accepted_states z x (charged (link z) z.by (charge z x) levels) s.waiting s.rest else [])
+          → IsLed x levels ((if b then accepted_states z x (charged (link z) z.by (charge z x) levels) s.waiting s.rest
+          else [])
           ++ (if c then [] else state_with s.rest (refused (link z) z.by (charge z x) levels) s.waiting ∷ []))
       by true true h same = accepts s.rest h
       by false false h same = inl (record {
@@ -110,7 +124,8 @@ module _ (z : Terms) (e : IsExact z) where
   abbrev HasTo : Arrival → State → Type 0
   HasTo x s = has_to_pass (link z) z.by (charge z x) s.levels ≡ true
 
-  deviates-one : (behind : List Arrival) (x : Arrival) (s : State) (l : List State) (rest : List Gone) (j : Judged) → l ≡ s ∷ []
+  deviates-one : (behind : List Arrival) (x : Arrival) (s : State) (l : List State) (rest : List Gone) (j : Judged)
+      → l ≡ s ∷ []
       → AreEven s.levels → HasTo x s → IsOne (deviates z behind x l rest j).states
   unfolding deviates
   deviates-one behind x s l [] j is even h = record {
@@ -120,10 +135,12 @@ module _ (z : Terms) (e : IsExact z) where
   }
   deviates-one behind x s l (y ∷ rest) j is even h =
       by (deviation_of z behind x y)
-      (deviates-one behind x (state_with rest s.levels s.waiting) (with_rest rest (lead l)) rest (unexplained z x.time y j) leads even h)
+      (deviates-one behind x (state_with rest s.levels s.waiting) (with_rest rest (lead l)) rest
+      (unexplained z x.time y j) leads even h)
     where
       leads : with_rest rest (lead l) ≡ state_with rest s.levels s.waiting ∷ []
-      leads = ap (λ (k : List State). with_rest rest (lead k)) is ∙ ap (λ (k : List State). with_rest rest k) (lead-one s)
+      leads = ap (λ (k : List State). with_rest rest (lead k)) is
+          ∙ ap (λ (k : List State). with_rest rest k) (lead-one s)
 
       next : Judged
       next = deviates z behind x (with_rest rest (lead l)) rest (unexplained z x.time y j)
@@ -184,7 +201,8 @@ module _ (z : Terms) (e : IsExact z) where
 
   few-even : (n : ℕ) (j : Judged) → IsOne j.states → j.uncertain + n ≡ 0 → IsEven (few_of z n j)
   few-even n j o c =
-      let is : thinned_onto [] j.states ≡ o.of ∷ [] = ap (λ (l : List State). thinned_onto [] l) o.is ∙ thinned-one o.of in
+      let is : thinned_onto [] j.states ≡ o.of ∷ [] = ap (λ (l : List State). thinned_onto [] l) o.is
+      ∙ thinned-one o.of in
       record {
         one = record { of = o.of; is = is; even = o.even };
         certain = c;
@@ -196,7 +214,8 @@ module _ (z : Terms) (e : IsExact z) where
   not-both false c h = refl
   not-both true false h = absurd (cc)
 
-  came-even : (behind : List Arrival) (last : ℕ) (x : Arrival) (j : Judged) → IsEven j → IsEven (came_to z behind last x j)
+  came-even : (behind : List Arrival) (last : ℕ) (x : Arrival) (j : Judged) → IsEven j
+      → IsEven (came_to z behind last x j)
   unfolding came_to
   came-even behind last x j v =
       subst (λ (k : Judged). IsEven k)
@@ -221,7 +240,8 @@ module _ (z : Terms) (e : IsExact z) where
       answered : (l : List State) → IsLed x at l → IsOne (answered_by z behind last x l j).states
       answered [] (inl o) = absurd (let none = o.is in cc)
       answered [] (inr h) =
-          deviates-one behind x (state_with v.one.of.rest at v.one.of.waiting) (aged z last x j.states) (front_rest j.states) j
+          deviates-one behind x (state_with v.one.of.rest at v.one.of.waiting) (aged z last x j.states)
+          (front_rest j.states) j
           (ap (λ (k : List State). aged z last x k) v.one.is) even h.1
       answered (s ∷ l) (inl o) = o
       answered (s ∷ l) (inr h) = absurd (let none = h.0 in cc)
@@ -232,19 +252,23 @@ module _ (z : Terms) (e : IsExact z) where
 
       none-uncertain : is_uncertain z last x j.states ≡ false
       none-uncertain = ap (λ (k : List State). is_uncertain z last x k) v.one.is
-          ∙ ap (λ (b : Bool). b || false) (not-both (may_pass (link z) z.by (charge z x) at) (has_to_pass (link z) z.by (charge z x) at)
+          ∙ ap (λ (b : Bool). b || false)
+          (not-both (may_pass (link z) z.by (charge z x) at) (has_to_pass (link z) z.by (charge z x) at)
           (same-tests (link z) z.by e.slack e.drift e.asked (charge z x) at even))
 
       by : (fault : Option Reason) → IsEven (came_by z behind last x fault j)
       by None =
           let count = same-count led in
           let none = v.certain in
-          let f = few-even (one_if z (is_uncertain z last x j.states)) (answered_by z behind last x led j) (answered led led-is)
-          (ap (λ (b : Bool). (answered_by z behind last x led j).uncertain + one_if z b) none-uncertain ∙ omega (arith, count, none)) in
+          let f = few-even (one_if z (is_uncertain z last x j.states)) (answered_by z behind last x led j)
+          (answered led led-is)
+          (ap (λ (b : Bool). (answered_by z behind last x led j).uncertain + one_if z b) none-uncertain
+          ∙ omega (arith, count, none)) in
           record { one = f.one; certain = f.certain; sure = f.sure }
       by (Some reason) = record { one = v.one; certain = v.certain; sure = v.sure }
 
-  skipped-even : (time : ℕ) (s : State) (front : List State) (rest : List Gone) (j : Judged) → front ≡ s ∷ [] → AreEven s.levels
+  skipped-even : (time : ℕ) (s : State) (front : List State) (rest : List Gone) (j : Judged) → front ≡ s ∷ []
+      → AreEven s.levels
       → j.uncertain ≡ 0 → j.is_unsure ≡ false → IsEven (skipped z time front rest j)
   unfolding skipped unexplained
   skipped-even time s front [] j is even c sure = record {
@@ -268,10 +292,16 @@ module _ (z : Terms) (e : IsExact z) where
       subst (λ (k : Judged). IsEven k)
       (sym (if-false j.is_unsure j (closed_by z time (kept (λ s. are_behind time s.rest) j.states) j) v.sure))
       (subst (λ (l : List State). IsEven (closed_by z time l j))
-      (sym (ap (λ (l : List State). kept (λ s. are_behind time s.rest) l) v.one.is)) (by (are_behind time v.one.of.rest)))
+      (sym (ap (λ (l : List State). kept (λ s. are_behind time s.rest) l) v.one.is))
+      (by (are_behind time v.one.of.rest)))
     where
       by : (b : Bool) → IsEven (closed_by z time (if b then v.one.of ∷ [] else []) j)
-      by true = record { one = record { of = v.one.of; is = refl; even = v.one.even }; certain = v.certain; sure = v.sure }
+      by true = record {
+        one = record { of = v.one.of; is = refl; even = v.one.even };
+        certain = v.certain;
+        sure =
+            v.sure;
+      }
       by false = skipped-even time v.one.of (lead j.states) (front_rest j.states) j
           (ap (λ (l : List State). lead l) v.one.is ∙ lead-one v.one.of) v.one.even v.certain v.sure
 
@@ -280,7 +310,8 @@ module _ (z : Terms) (e : IsExact z) where
   first-one levels [] even = record { of = _; is = refl; even = even }
   first-one levels (y ∷ ys) even = record {
     of = _;
-    is = ap (λ (o : Option ℕ). state_with (y ∷ ys) levels 0 ∷ (if is_begun_by z o y then first_states z levels ys else [])) e.start;
+    is = ap (λ (o : Option ℕ). state_with (y ∷ ys) levels 0 ∷
+        (if is_begun_by z o y then first_states z levels ys else [])) e.start;
     even = even;
   }
 
@@ -293,7 +324,8 @@ module _ (z : Terms) (e : IsExact z) where
     sure = refl;
   }
   even-after ys behind (Came x ∷ before) =
-      came-even behind (last_time z.by (arrivals_came (sound_events z before))) x (judged_after z ys (x ∷ behind) before)
+      came-even behind (last_time z.by (arrivals_came (sound_events z before))) x
+      (judged_after z ys (x ∷ behind) before)
       (even-after ys (x ∷ behind) before)
   even-after ys behind (Closing time ∷ before) =
       closed-even time (judged_after z ys behind before) (even-after ys behind before)

@@ -1,14 +1,12 @@
 -- Once all events are over, nothing is found exactly where something explains the stream.
-use Rattle.std.proofs.Common.{◌≡◌, ℕ, ◌+◌, ◌<◌, ◌≤◌, Bool, true, false, Option, List, [], ◌∷◌, ◌++◌, ◌⊎◌, inl, inr, map, reverse, refl, sym, ap, ◌∙◌, subst, arith}
+use Rattle.std.proofs.Common.{◌≡◌, ℕ, ◌+◌, ◌≤◌, Bool, true, false, List, [], ◌∷◌, ◌++◌, ◌⊎◌, inl, inr, reverse, refl, sym, ap, ◌∙◌, subst, arith}
 use Rattle.std.proofs.lemmas.List.{reverse-append, reverse-reverse, append-nil}
-use Rattle.std.specs.Prelude.{⊤, if◌then◌else◌, is_none, Some, None, ◌↔◌}
+use Rattle.std.specs.Prelude.{if◌then◌else◌, is_none, Some}
 use Rattle.std.specs.List.{AllByRecursion}
 use Rattle.afdx_police.specs.Arrival.{Arrival}
-use Rattle.afdx_police.specs.Rule.{Rule}
 use Rattle.afdx_police.specs.Shape.{fault_of}
-use Rattle.afdx_police.specs.declared.shape.Reason.{Reason}
 use Rattle.afdx_conform.specs.EventLaws.{AllEventsAreExplained}
-use Rattle.afdx_conform.specs.Events.{GoUp, closings_in, frame_times, events_of, judged_whole}
+use Rattle.afdx_conform.specs.Events.{closings_in, frame_times, events_of, judged_whole}
 use Rattle.afdx_conform.specs.Explanations.{Explains, last_time}
 use Rattle.afdx_conform.specs.Findings.{Judged, judged_with, came_by, came_to, closed_by, closed_to, sound_events, judged_after}
 use Rattle.afdx_conform.specs.Headline.{sound_of}
@@ -19,7 +17,7 @@ use Rattle.afdx_conform.proofs.EventLemmas.{came-all, closed-all, in-order}
 use Rattle.afdx_conform.proofs.EveryLemmas.{every-on, every-unmap, every-reverse}
 use Rattle.afdx_conform.proofs.FindingLemmas.{found_explained, if-both}
 use Rattle.afdx_conform.proofs.HeldLemmas.{if-false}
-use Rattle.afdx_conform.proofs.OverLemmas.{came-reverse}
+use Rattle.afdx_conform.proofs.MomentLemmas.{came-reverse}
 use Rattle.afdx_conform.proofs.RestLemmas.{Holds, IsPast, holds-came, holds-closed, holds-after, past-closed}
 use Rattle.afdx_conform.proofs.SomeLemmas.{some-after}
 
@@ -45,11 +43,10 @@ past-after z ys behind (Came x ∷ before) h =
     (λ t k. holds-came (IsPast t) z behind last x j k) (closings_in before) (past-after z ys (x ∷ behind) before sure)
 past-after z ys behind (Closing time ∷ before) h =
     let j = judged_after z ys behind before in
-    let sure = if-sure j.is_unsure j (closed_by z time (kept (λ s. are_behind time s.rest) j.states) j) refl h in
-    (
+    let sure = if-sure j.is_unsure j (closed_by z time (kept (λ s. are_behind time s.rest) j.states) j) refl h in (
       past-closed z time j sure,
       every-on (λ t. Holds (IsPast t) j.states) (λ t. Holds (IsPast t) (closed_to z time j).states)
-      (λ t k. holds-closed (IsPast t) z time j k) (closings_in before) (past-after z ys behind before sure),
+          (λ t k. holds-closed (IsPast t) z time j k) (closings_in before) (past-after z ys behind before sure),
     )
 
 closings-append : (a b : List Event) → closings_in (a ++ b) ≡ closings_in a ++ closings_in b
@@ -63,7 +60,8 @@ closings-reverse (Came x ∷ l) =
     ap (λ (k : List Event). closings_in k) (reverse-append (Came x ∷ []) l) ∙ closings-append (reverse l) (Came x ∷ [])
     ∙ append-nil (closings_in (reverse l)) ∙ closings-reverse l
 closings-reverse (Closing time ∷ l) =
-    ap (λ (k : List Event). closings_in k) (reverse-append (Closing time ∷ []) l) ∙ closings-append (reverse l) (Closing time ∷ [])
+    ap (λ (k : List Event). closings_in k) (reverse-append (Closing time ∷ []) l)
+    ∙ closings-append (reverse l) (Closing time ∷ [])
     ∙ ap (λ (k : List ℕ). k ++ (time ∷ [])) (closings-reverse l) ∙ sym (reverse-append (time ∷ []) (closings_in l))
 
 -- ---- so none is left
@@ -92,9 +90,11 @@ none-are-left : (ys : List Gone) (states : List State) → Holds (λ y. IsOneOf 
     → AllByRecursion (λ y. Holds (IsPast y.time) states) ys → AllByRecursion (λ s. s.rest ≡ []) states
 none-are-left ys [] m h = tt
 none-are-left ys (s ∷ states) m h = (
-  none-left ys s.rest m.0 (every-on (λ y. Holds (IsPast y.time) (s ∷ states)) (λ y. AllByRecursion (IsPast y.time) s.rest) (λ y k. k.0) ys h),
+  none-left ys s.rest m.0
+      (every-on (λ y. Holds (IsPast y.time) (s ∷ states)) (λ y. AllByRecursion (IsPast y.time) s.rest)
+      (λ y k. k.0) ys h),
   none-are-left ys states m.1
-  (every-on (λ y. Holds (IsPast y.time) (s ∷ states)) (λ y. Holds (IsPast y.time) states) (λ y k. k.1) ys h),
+      (every-on (λ y. Holds (IsPast y.time) (s ∷ states)) (λ y. Holds (IsPast y.time) states) (λ y k. k.1) ys h),
 )
 
 -- ---- and another closing does nothing
@@ -118,11 +118,13 @@ closed-none z end j sure some h =
   where
     by : (l : List State) → j.states ≡ l → IsSomeState l → closed_by z end l j ≡ j
     by [] e k = absurd k
-    by (s ∷ l) e k = ap (λ (m : List State). judged_with m j.arrivals j.findings j.frames j.uncertain j.is_unsure) (sym e)
+    by (s ∷ l) e k = ap (λ (m : List State). judged_with m j.arrivals j.findings j.frames j.uncertain j.is_unsure)
+        (sym e)
 
 -- ---- the events of the right shape
 
-sound-behind : (z : Terms) (x : Arrival) (l : List Event) → IsBehindClosings z x l → IsBehindClosings z x (sound_events z l)
+sound-behind : (z : Terms) (x : Arrival) (l : List Event) → IsBehindClosings z x l
+    → IsBehindClosings z x (sound_events z l)
 unfolding sound_events IsBehindClosings
 sound-behind z x [] h = tt
 sound-behind z x (Came w ∷ l) h =
@@ -179,8 +181,9 @@ all_explained z xs ys p q sure =
     (ap (λ (k : Judged). k.is_unsure) same ∙ sure) in
     let came : arrivals_came (sound_events z events) ≡ sound_of z.rule (reverse xs) =
     sound-came z events ∙ ap (λ (l : List Arrival). sound_of z.rule l)
-    (came-reverse (events_of z xs ys) ∙ ap (λ (l : List Arrival). reverse l) (came-all z xs ys)) in
-    (
-      λ e. subst (λ (l : List Arrival). Explains z l (reverse ys)) came (two.0 (ap (λ (k : Judged). k.findings) same ∙ e)),
-      λ e. sym (ap (λ (k : Judged). k.findings) same) ∙ two.1 (subst (λ (l : List Arrival). Explains z l (reverse ys)) (sym came) e),
+    (came-reverse (events_of z xs ys) ∙ ap (λ (l : List Arrival). reverse l) (came-all z xs ys)) in (
+      λ e. subst (λ (l : List Arrival). Explains z l (reverse ys)) came
+          (two.0 (ap (λ (k : Judged). k.findings) same ∙ e)),
+      λ e. sym (ap (λ (k : Judged). k.findings) same)
+          ∙ two.1 (subst (λ (l : List Arrival). Explains z l (reverse ys)) (sym came) e),
     )

@@ -15,10 +15,10 @@ use Rattle.afdx_conform.specs.Streams.{Gone, Terms, is_begun}
 -- arrivals first
 pub record AreWhole (z : Terms) (xs : List Arrival) (ys : List Gone) (events : List Event) : Type 0
   where
-  pub came : arrivals_came events ≡ xs
-  pub closed : closings_in events ≡ frame_times ys
-  pub by_time : GoUp (map (event_time z) events)
-  pub in_order : AreInOrder z (reverse events)
+    pub came : arrivals_came events ≡ xs
+    pub closed : closings_in events ≡ frame_times ys
+    pub by_time : GoUp (map (event_time z) events)
+    pub in_order : AreInOrder z (reverse events)
 
 -- where arrivals and frames go by time
 abbrev pub EventsAreWhole : Type 0

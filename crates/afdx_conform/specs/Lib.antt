@@ -33,3 +33,6 @@ pub mod EventLaws
 pub mod Forgetting
 pub mod Sure
 pub mod SomeKnown
+pub mod Histories
+pub mod Growing
+pub mod Standing
