@@ -16,9 +16,14 @@ from program import Answer, Program, answers, must
 from rows import CONFIGS, ROWS, list_of
 from small_cases import Pair
 
+LISTS = ("CAME", "LEFT")
 SOON = 20  # seconds
-BESIDE = (list_of("0 / 20000", "came"), list_of("6720 / 60000", "left"))  # a list that isn't tried
-CUT = ("all orders at one moment", "times that go back", "a frame twice", "told before what is passed over")
+# a list that isn't tried
+BESIDE = list_of("0 / 20000", "came"), list_of("6720 / 60000", "left")
+CUT = (  # rows
+    "all orders at one moment", "times that go back", "a frame twice",
+    "told before what is passed over",
+)
 SHORT, ODD_TIMES = b"R 0 A 1 -\n", (0, 1, MS, LATEST - 1, LATEST)
 FRAME = 132  # bytes of a line with a frame, beside its time and port
 
@@ -59,7 +64,7 @@ class OneList:
 def one_list_commands(program: Program) -> dict[str, OneList]:
     """By their names."""
     judge = Judge(program)
-    return {f"conform, {name}": OneList(judge, place) for place, name in enumerate(("CAME", "LEFT"))}
+    return {f"conform, {name}": OneList(judge, place) for place, name in enumerate(LISTS)}
 
 
 def same_as_computed(judge: Judge, pair: Pair) -> None:
@@ -71,9 +76,9 @@ def same_as_computed(judge: Judge, pair: Pair) -> None:
 def cut_lists(judge: Judge, pair: Pair, seed: int) -> None:
     """Each of the two lists cut at each byte, and some of both."""
     chance, (_, came, left, _) = random.Random(seed), pair
-    for text, name in ((came, "came"), (left, "left")):
+    for place, text in enumerate((came, left)):
         for count in range(max(0, len(text) - 5 * FRAME), len(text)):
-            same_as_computed(judge, pair._replace(**{name: text[:count]}))
+            same_as_computed(judge, pair.with_list(place, text[:count]))
     for _ in range(100):
         counts = chance.randrange(len(came) + 1), chance.randrange(len(left) + 1)
         same_as_computed(judge, pair._replace(came=came[: counts[0]], left=left[: counts[1]]))
@@ -84,17 +89,17 @@ def most_lines(judge: Judge) -> None:
     base, full = Pair(CONFIGS["base"], b"", b"", ()), SHORT * 1_000_000
     last = b"undecided explained 0 open 0 uncertain 0 left-out 0 unseen 0\n"
     answers(judged_soon(judge, base._replace(came=full)), 3, last, b"")
-    for name in ("came", "left"):
-        one = base._replace(**{name: full + SHORT})
-        answers(judged_soon(judge, one), 3, b"", b"list %s TooManyLines\n" % name.encode())
+    for place, name in enumerate(LISTS):
+        one = base.with_list(place, full + SHORT)
+        answers(judged_soon(judge, one), 3, b"", b"list %s TooManyLines\n" % name.lower().encode())
     told = b"".join(b"strange %d A 1 too-short\n" % n for n in range(1, 1_000_001))
     told += b"deviates 1000000" + last.removeprefix(b"undecided")
     answers(judged_soon(judge, base._replace(left=full)), 5, told, b"")
 
 
 def equal_times(judge: Judge) -> None:
-    """5,000 equal frames come at one moment, and leave at one: one is right, and each other one that
-    came has passed."""
+    """5,000 equal frames come at one moment, and leave at one: one is right, and each other one
+    that came has passed."""
     count = 5_000
     came, left = list_of("0", "came") * count, list_of("6720", "left") * count
     found = judged_soon(judge, Pair(CONFIGS["base"], came, left, ()))

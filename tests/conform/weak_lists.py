@@ -5,12 +5,12 @@ from collections.abc import Iterator
 
 from conform import conform
 from conform_claims import pair_of
+from hostile_lists import LISTS
 from program import Program
 from rows import CONFIGS, ROWS, list_of
 from small_cases import Pair
 from weak import BEYOND, Call, WeakOfTwo, large_texts, many_writes, weak_devices
 
-LISTS = ("CAME", "LEFT")
 TRIED = (  # rows of each ending, with lines that are told before the end and at it
     "two, of which one is over-rate", "nothing has left yet", "a nanosecond late",
     "over twice the latency", "frames of no stream", "an account too large",
@@ -67,5 +67,6 @@ def weak_lists(program: Program) -> Iterator[tuple]:
             given = program, pair_of(rows[name]), place, by_path
             yield f"conform, {side} is weak: {name}", weak_list, *given
         by_path = not by_path
-    yield "conform: more than 1,000 writes", many_writes, WeakList(program, many_lines(60), 1, False)
-    yield "conform: more than a buffer", large_texts, WeakList(program, many_lines(9_000), 1, True)
+    many, large = WeakList(program, many_lines(60), 1, False), many_lines(9_000)
+    yield "conform: more than 1,000 writes", many_writes, many
+    yield "conform: more than a buffer", large_texts, WeakList(program, large, 1, True)

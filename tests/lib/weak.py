@@ -77,8 +77,8 @@ class Weak:
         return [Call(kind, int(asked), int(answer)) for kind, asked, answer in calls]
 
     def failed_write(self, at_once: bool) -> tuple[int, bytes]:
-        """How a run ends where a write fails. Where the text comes at the end, a status that isn't 0
-        stands."""
+        """How a run ends where a write fails. Where the text comes at the end, a status that isn't
+        0 stands."""
         whole = self.whole.status, self.whole.err
         return WRITE if at_once or whole[0] == 0 else whole
 
