@@ -12,6 +12,7 @@ use std::io::Read;
 use std::test::Fail;
 
 /// Tells each frame by two lines: its list and its number, and the frame itself.
+#[derive(Drop)]
 struct Noting;
 
 impl Machine<Seen> for Noting {
@@ -68,8 +69,9 @@ fn told<R: Read + Drop>(
         came: Watched::new(came),
         left: Watched::new(left),
     };
+    let mut machine = Noting;
     let mut output = Output::new(alloc, 0, Vec::new(alloc))?;
-    let answer = match run_two_lists(alloc, &mut Noting, &mut inputs, &mut output) {
+    let answer = match run_two_lists(alloc, &mut machine, &mut inputs, &mut output) {
         Ok(lines) => Ok((lines.came, lines.left)),
         Err(fault) => Err(fault),
     };
