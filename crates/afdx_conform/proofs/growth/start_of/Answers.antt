@@ -1,3 +1,1 @@
-use Rattle.afdx_conform.proofs.HistoryLemmas.{events-came}
-use Rattle.afdx_conform.proofs.OverLemmas.{come-later}
-use Rattle.afdx_conform.proofs.GrowthLemmas.{up-more}
+use Rattle.afdx_conform.proofs.GrowthDecides.{drop-map}
