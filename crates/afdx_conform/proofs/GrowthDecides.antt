@@ -21,6 +21,7 @@ use Rattle.afdx_conform.specs.Streams.{Gone, Terms, fits}
 use Rattle.afdx_conform.specs.declared.arrived.Arrived.{Arrived}
 use Rattle.afdx_conform.specs.declared.growth.Growth.{Growth}
 use Rattle.afdx_conform.specs.declared.judging.Judging.{Judging}
+use Rattle.afdx_conform.specs.declared.limits.Frame.{Frame}
 use Rattle.afdx_conform.specs.declared.states.Held.{Held}
 use Rattle.afdx_conform.proofs.ForgettingLemmas.{forgetting_nothing}
 use Rattle.afdx_conform.proofs.GrowthLemmas.{true-false}
@@ -73,6 +74,29 @@ module _ (z : Terms) where
       by : (fault : Option Reason) → IsLast x (came_by z behind last x fault j).arrivals
       by None = record { before = _; one = _; is = refl; arrival = refl }
       by (Some reason) = record { before = _; one = _; is = refl; arrival = refl }
+
+  pub outcome-of : (over : List Event) (a : Arrived) (old : Growth) (judging' : Judging) (found : List Finding) (j : Judged)
+      (xs' : List Arrived) (fs : List Frame) → xs' ≡ old.arrivals.items → fs ≡ old.frames.items
+      → StandsFor old.bounds.rates fs xs' (came_to z (map arrival_of (drop (length old.judging.marks.items + 1) xs'))
+      (last_time z.by (arrivals_came (sound_events z over))) (arrival_of a) j) judging'
+      × AreFound a.time found j (came_to z (map arrival_of (drop (length old.judging.marks.items + 1) xs'))
+      (last_time z.by (arrivals_came (sound_events z over))) (arrival_of a) j)
+      → StandsFor old.bounds.rates old.frames.items old.arrivals.items (came_to z (map arrival_of
+      (drop (length old.judging.marks.items + 1) old.arrivals.items))
+      (last_time z.by (arrivals_came (sound_events z over))) (arrival_of a) j) judging'
+      × AreFound a.time found j (came_to z (map arrival_of (drop (length old.judging.marks.items + 1) old.arrivals.items))
+      (last_time z.by (arrivals_came (sound_events z over))) (arrival_of a) j)
+  outcome-of over a old judging' found j xs' fs e g out =
+      subst (λ (l : List Arrived). StandsFor old.bounds.rates old.frames.items l (came_to z (map arrival_of
+      (drop (length old.judging.marks.items + 1) l))
+      (last_time z.by (arrivals_came (sound_events z over))) (arrival_of a) j) judging'
+      × AreFound a.time found j (came_to z (map arrival_of (drop (length old.judging.marks.items + 1) l))
+      (last_time z.by (arrivals_came (sound_events z over))) (arrival_of a) j)) e
+      (subst (λ (l : List Frame). StandsFor old.bounds.rates l xs' (came_to z (map arrival_of
+      (drop (length old.judging.marks.items + 1) xs'))
+      (last_time z.by (arrivals_came (sound_events z over))) (arrival_of a) j) judging'
+      × AreFound a.time found j (came_to z (map arrival_of (drop (length old.judging.marks.items + 1) xs'))
+      (last_time z.by (arrivals_came (sound_events z over))) (arrival_of a) j)) g out)
 
   -- ---- an arrival
 

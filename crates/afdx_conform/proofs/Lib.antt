@@ -38,6 +38,7 @@ pub mod GrowthFrames
 pub mod GrowthStarts
 pub mod LoopLemmas
 pub mod GrowthDecides
+pub mod GrowthCloses
 pub mod EveryLemmas
 pub mod EventLemmas
 pub mod LaterStates

@@ -39,6 +39,7 @@ pub record IsSound (s : Growth) : Type 0 where
   pub places : length s.judging.marks.items ≤ length s.arrivals.items
   pub uncertain : s.judging.uncertain + length s.arrivals.items
       ≤ s.came + length s.judging.marks.items
+  pub arrivals : length s.arrivals.items ≤ s.came
   pub came : s.came < most_held
   pub frames : length s.frames.items ≤ s.left
   pub left : s.left + s.cut < most_held

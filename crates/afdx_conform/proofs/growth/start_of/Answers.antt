@@ -1,1 +1,2 @@
 use Rattle.afdx_conform.proofs.GrowthDecides.{drop-map}
+use Rattle.afdx_conform.proofs.GrowthCloses.{are-frames}
