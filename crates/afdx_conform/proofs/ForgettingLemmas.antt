@@ -1,7 +1,7 @@
 -- Arrivals that fit no frame that is left may be forgotten.
 use Rattle.std.proofs.Common.{◌≡◌, ℕ, ◌+◌, Bool, true, false, ◌&&◌, Option, List, [], ◌∷◌, ◌++◌, length, refl, ap, ◌∙◌, arith}
 use Rattle.std.proofs.lemmas.List.{append_assoc}
-use Rattle.std.specs.Prelude.{if◌then◌else◌, not, nat_lt, is_none, Some, None}
+use Rattle.std.specs.Prelude.{if◌then◌else◌, not, nat_lt, Some, None}
 use Rattle.std.specs.List.{AllByRecursion, list_any}
 use Rattle.afdx_police.specs.Arrival.{Arrival}
 use Rattle.afdx_police.specs.Shape.{fault_of}
@@ -25,14 +25,17 @@ module _ (z : Terms) where
   unfolding first_named
   same-named y [] l h = refl
   same-named y (m ∷ gone) l h =
-      ap (λ (b : Bool). passed_or (if b && not m.is_named then m.mark else None) m.arrival.tag (first_named z y (gone ++ l))) h.0
+      ap (λ (b : Bool). passed_or (if b && not m.is_named then m.mark else None) m.arrival.tag
+      (first_named z y (gone ++ l))) h.0
       ∙ same-named y gone l h.1
 
-  same-once : (y : Gone) (gone l : List Marked) → NoneFits y gone → once_named z y (gone ++ l) ≡ gone ++ once_named z y l
+  same-once : (y : Gone) (gone l : List Marked) → NoneFits y gone
+      → once_named z y (gone ++ l) ≡ gone ++ once_named z y l
   unfolding once_named
   same-once y [] l h = refl
   same-once y (m ∷ gone) l h =
-      ap (λ (b : Bool). named_or (if b && not m.is_named then m.mark else None) m (gone ++ l) (once_named z y (gone ++ l))) h.0
+      ap (λ (b : Bool). named_or (if b && not m.is_named then m.mark else None) m (gone ++ l)
+      (once_named z y (gone ++ l))) h.0
       ∙ ap (λ (k : List Marked). m ∷ k) (same-once y gone l h.1)
 
   same-right : (y : Gone) (gone l : List Marked) → NoneFits y gone
@@ -49,11 +52,13 @@ module _ (z : Terms) where
     abbrev G : Judged → Judged
     G j = with_gone gone u j
 
-    same-unexplained : (time : ℕ) (y : Gone) (j : Judged) → NoneFits y gone → unexplained z time y (G j) ≡ G (unexplained z time y j)
+    same-unexplained : (time : ℕ) (y : Gone) (j : Judged) → NoneFits y gone
+        → unexplained z time y (G j) ≡ G (unexplained z time y j)
     unfolding unexplained
     same-unexplained time y j h =
         ap (λ (l : List Marked). judged_with j.states l
-        (found_at time (finding_or (first_named z y (gone ++ j.arrivals)) (Strange y.number (strangeness z (gone ++ j.arrivals) y)))
+        (found_at time (finding_or (first_named z y (gone ++ j.arrivals))
+        (Strange y.number (strangeness z (gone ++ j.arrivals) y)))
         ∷ j.findings) (j.frames + 1) (u + j.uncertain) j.is_unsure) (same-once y gone j.arrivals h)
         ∙ ap (λ (o : Option Finding). judged_with j.states (gone ++ once_named z y j.arrivals)
         (found_at time (finding_or o (Strange y.number (strangeness z (gone ++ j.arrivals) y))) ∷ j.findings)
@@ -67,7 +72,8 @@ module _ (z : Terms) where
     unfolding skipped
     same-skipped time front [] j h = refl
     same-skipped time front (y ∷ rest) j h =
-        ap (λ (k : Judged). if are_behind time rest then with_states (with_rest rest front) k else skipped z time front rest k)
+        ap (λ (k : Judged). if are_behind time rest then with_states (with_rest rest front) k
+        else skipped z time front rest k)
         (same-unexplained (time + both_slacks z.by) y j h.0)
         ∙ by (are_behind time rest) (same-skipped time front rest (unexplained z (time + both_slacks z.by) y j) h.1)
       where
@@ -80,11 +86,13 @@ module _ (z : Terms) where
         by true e = refl
         by false e = e
 
-    closing : (time : ℕ) (j : Judged) → FitNone z (front_rest j.states) gone → closed_to z time (G j) ≡ G (closed_to z time j)
+    closing : (time : ℕ) (j : Judged) → FitNone z (front_rest j.states) gone
+        → closed_to z time (G j) ≡ G (closed_to z time j)
     unfolding closed_to
     closing time j h = by j.is_unsure (kept (λ s. are_behind time s.rest) j.states)
       where
-        by : (b : Bool) (l : List State) → (if b then G j else closed_by z time l (G j)) ≡ G (if b then j else closed_by z time l j)
+        by : (b : Bool) (l : List State)
+            → (if b then G j else closed_by z time l (G j)) ≡ G (if b then j else closed_by z time l j)
         by true l = refl
         by false [] = same-skipped time (lead j.states) (front_rest j.states) j h
         by false (s ∷ l) = refl
@@ -99,7 +107,8 @@ module _ (z : Terms) where
           (deviates z behind x (with_rest rest (lead l)) rest k)) (same-unexplained x.time y j h.0)
           ∙ ap (λ (k : Judged). deviates_by z (deviation_of z behind x y) x l y rest (G j) k)
           (same-deviates (with_rest rest (lead l)) rest (unexplained z x.time y j) h.1)
-          ∙ by (deviation_of z behind x y) (deviates z behind x (with_rest rest (lead l)) rest (unexplained z x.time y j))
+          ∙ by (deviation_of z behind x y)
+          (deviates z behind x (with_rest rest (lead l)) rest (unexplained z x.time y j))
         where
           asks : (b : Bool) (next : Judged)
               → (if b then with_states (asked z x rest l) (G (unexplained z x.time y j)) else G next)
@@ -143,7 +152,8 @@ module _ (z : Terms) where
               ≡ G (if b then j else came_by z behind last x fault j)
           by true fault = refl
           by false None =
-              ap (λ (k : Judged). with_mark x (rate_mark z last x j.states) (few_of z (one_if z (is_uncertain z last x j.states)) k))
+              ap (λ (k : Judged). with_mark x (rate_mark z last x j.states)
+              (few_of z (one_if z (is_uncertain z last x j.states)) k))
               (answered led)
               ∙ ap (λ (k : Judged). with_mark x (rate_mark z last x j.states) k)
               (same-few (one_if z (is_uncertain z last x j.states)) (answered_by z behind last x led j))

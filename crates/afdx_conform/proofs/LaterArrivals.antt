@@ -1,6 +1,6 @@
 -- Arrivals that come behind the moments of those before change nothing of what is found.
-use Rattle.std.proofs.Common.{◌≡◌, ℕ, ◌+◌, ◌-◌, ◌<◌, ◌≤◌, Bool, true, false, ◌&&◌, Option, List, [], ◌∷◌, ◌++◌, map, refl, ap, ◌∙◌, arith, inl, inr}
-use Rattle.std.proofs.lemmas.Bool.{ltb-false, leb-true, lt-leb, and_parts}
+use Rattle.std.proofs.Common.{◌≡◌, ℕ, ◌+◌, ◌-◌, ◌<◌, Bool, true, false, ◌&&◌, Option, List, [], ◌∷◌, ◌++◌, refl, ap, ◌∙◌, arith}
+use Rattle.std.proofs.lemmas.Bool.{ltb-false, leb-true}
 use Rattle.std.proofs.lemmas.List.Folds.{list_any-append}
 use Rattle.std.specs.Prelude.{if◌then◌else◌, ◌||◌, Some, None}
 use Rattle.std.specs.List.{AllByRecursion, list_any}
@@ -23,7 +23,8 @@ or-false : (a b : Bool) → b ≡ false → (a || b) ≡ a
 or-false true b e = refl
 or-false false b e = e
 
-module _ (z : Terms) (behind more : List Arrival) (x : Arrival) (later : AllByRecursion (λ w. moment_at z x.time < w.time) more) where
+module _ (z : Terms) (behind more : List Arrival) (x : Arrival)
+    (later : AllByRecursion (λ w. moment_at z x.time < w.time) more) where
   too-soon : (w : Arrival) (y : Gone) → y.time + both_slacks z.by < w.time → fits z w y ≡ false
   unfolding fits
   too-soon w y h = by (bytes_eq w.bytes y.bytes) (is_no_sooner z w y) (is_in_time z w y) refl
@@ -31,9 +32,11 @@ module _ (z : Terms) (behind more : List Arrival) (x : Arrival) (later : AllByRe
       by : (a b c : Bool) → is_no_sooner z w y ≡ b → (a && b && c) ≡ false
       by false b c e = refl
       by true false c e = refl
-      by true true c e = absurd (let k = leb-true (w.time + wire_time z w.bytes) (y.time + both_slacks z.by) e in omega (arith, k, h))
+      by true true c e = absurd
+          (let k = leb-true (w.time + wire_time z w.bytes) (y.time + both_slacks z.by) e in omega (arith, k, h))
 
-  none-fits : (y : Gone) → is_far z x y ≡ false → (ws : List Arrival) → AllByRecursion (λ w. moment_at z x.time < w.time) ws
+  none-fits : (y : Gone) → is_far z x y ≡ false → (ws : List Arrival)
+      → AllByRecursion (λ w. moment_at z x.time < w.time) ws
       → list_any (λ w. fits z w y) ws ≡ false
   none-fits y near [] h = refl
   none-fits y near (w ∷ ws) h =
@@ -48,18 +51,21 @@ module _ (z : Terms) (behind more : List Arrival) (x : Arrival) (later : AllByRe
           → (if b then deviation.Stopped
           else if is_early z x y then deviation.Took (Early x.tag (x.time + wire_time z x.bytes - y.time))
           else if list_any (λ w. fits z w y) (behind ++ more) then deviation.Stopped
-          else if bytes_eq x.bytes y.bytes && is_late z x y then deviation.Took (Late x.tag (y.time - x.time - latency z))
+          else if bytes_eq x.bytes y.bytes && is_late z x y then deviation.Took
+          (Late x.tag (y.time - x.time - latency z))
           else if is_late z x y then deviation.Stopped else deviation.Other)
           ≡ (if b then deviation.Stopped
           else if is_early z x y then deviation.Took (Early x.tag (x.time + wire_time z x.bytes - y.time))
           else if list_any (λ w. fits z w y) behind then deviation.Stopped
-          else if bytes_eq x.bytes y.bytes && is_late z x y then deviation.Took (Late x.tag (y.time - x.time - latency z))
+          else if bytes_eq x.bytes y.bytes && is_late z x y then deviation.Took
+          (Late x.tag (y.time - x.time - latency z))
           else if is_late z x y then deviation.Stopped else deviation.Other)
       by true e = refl
       by false e =
           ap (λ (b : Bool). if is_early z x y then deviation.Took (Early x.tag (x.time + wire_time z x.bytes - y.time))
           else if b then deviation.Stopped
-          else if bytes_eq x.bytes y.bytes && is_late z x y then deviation.Took (Late x.tag (y.time - x.time - latency z))
+          else if bytes_eq x.bytes y.bytes && is_late z x y then deviation.Took
+          (Late x.tag (y.time - x.time - latency z))
           else if is_late z x y then deviation.Stopped else deviation.Other)
           (list_any-append (λ w. fits z w y) behind more
           ∙ or-false (list_any (λ w. fits z w y) behind) (list_any (λ w. fits z w y) more) (none-fits y e more later))
@@ -85,7 +91,8 @@ module _ (z : Terms) (behind more : List Arrival) (x : Arrival) (later : AllByRe
       by : (b : Bool) (fault : Option Reason) → (if b then j else came_by z (behind ++ more) last x fault j)
           ≡ (if b then j else came_by z behind last x fault j)
       by true fault = refl
-      by false None = ap (λ (k : Judged). with_mark x (rate_mark z last x j.states) (few_of z (one_if z (is_uncertain z last x j.states)) k))
+      by false None = ap (λ (k : Judged). with_mark x (rate_mark z last x j.states)
+          (few_of z (one_if z (is_uncertain z last x j.states)) k))
           (answered (led_by (λ s. states_at z x (levels_then z s.levels last x) s) j.states))
       by false (Some reason) = refl
 
@@ -95,6 +102,7 @@ arrivals_later z ys behind more [] h = refl
 arrivals_later z ys behind more (Came x ∷ before) h =
     ap (λ (j : Judged). came_to z (behind ++ more) (last_time z.by (arrivals_came (sound_events z before))) x j)
     (arrivals_later z ys (x ∷ behind) more before h.1)
-    ∙ came-same z behind more x h.0 (last_time z.by (arrivals_came (sound_events z before))) (judged_after z ys (x ∷ behind) before)
+    ∙ came-same z behind more x h.0 (last_time z.by (arrivals_came (sound_events z before)))
+    (judged_after z ys (x ∷ behind) before)
 arrivals_later z ys behind more (Closing time ∷ before) h =
     ap (λ (j : Judged). closed_to z time j) (arrivals_later z ys behind more before h)

@@ -1,7 +1,6 @@
 -- While no arrival is open, the end changes nothing of what is found.
-use Rattle.std.proofs.Common.{◌≡◌, ℕ, ◌+◌, Bool, true, false, Option, List, [], ◌∷◌, ◌++◌, map, refl, ap, ◌∙◌}
+use Rattle.std.proofs.Common.{◌≡◌, ℕ, ◌+◌, Bool, true, false, Option, List, [], ◌∷◌, refl, ap, ◌∙◌}
 use Rattle.std.specs.Prelude.{if◌then◌else◌, Some, None}
-use Rattle.std.specs.List.{list_any}
 use Rattle.afdx_police.specs.Arrival.{Arrival}
 use Rattle.afdx_police.specs.Shape.{fault_of}
 use Rattle.afdx_police.specs.declared.shape.Reason.{Reason}
@@ -11,7 +10,7 @@ use Rattle.afdx_conform.specs.Findings.{Finding, Judged, Marked, judged_with, fo
 use Rattle.afdx_conform.specs.Later.{EndFindsNothing}
 use Rattle.afdx_conform.specs.Leeway.{both_slacks}
 use Rattle.afdx_conform.specs.Levels.{first_levels}
-use Rattle.afdx_conform.specs.States.{Event, Came, Closing, State, state_with, arrivals_came, led_by, kept, are_behind, first_states, states_at}
+use Rattle.afdx_conform.specs.States.{Event, Came, Closing, State, arrivals_came, led_by, kept, are_behind, states_at}
 use Rattle.afdx_conform.specs.Streams.{Gone, Terms, fits, is_open}
 use Rattle.afdx_conform.specs.declared.finding.Deviation.{Deviation}
 use Rattle.afdx_conform.specs.declared.finding.Deviation.TheVariants as deviation
@@ -36,7 +35,8 @@ module _ (z : Terms) (until : ℕ) where
   unfolding unexplained strangeness fits
   same-unexplained time y j =
       ap (λ (l : List Marked). judged_with j.states l
-      (found_at time (finding_or (first_named w y j.arrivals) (Strange y.number (strangeness z j.arrivals y))) ∷ j.findings)
+      (found_at time (finding_or (first_named w y j.arrivals)
+      (Strange y.number (strangeness z j.arrivals y))) ∷ j.findings)
       (j.frames + 1) j.uncertain j.is_unsure) (same-once y j.arrivals)
       ∙ ap (λ (o : Option Finding). judged_with j.states (once_named z y j.arrivals)
       (found_at time (finding_or o (Strange y.number (strangeness z j.arrivals y))) ∷ j.findings)
@@ -47,7 +47,8 @@ module _ (z : Terms) (until : ℕ) where
   unfolding skipped
   same-skipped time front [] j = refl
   same-skipped time front (y ∷ rest) j =
-      ap (λ (k : Judged). if are_behind time rest then with_states (with_rest rest front) k else skipped w time front rest k)
+      ap (λ (k : Judged). if are_behind time rest then with_states (with_rest rest front) k
+      else skipped w time front rest k)
       (same-unexplained (time + both_slacks z.by) y j)
       ∙ ap (λ (k : Judged). if are_behind time rest
       then with_states (with_rest rest front) (unexplained z (time + both_slacks z.by) y j) else k)
@@ -55,13 +56,15 @@ module _ (z : Terms) (until : ℕ) where
 
   same-closed : (time : ℕ) (j : Judged) → closed_to w time j ≡ closed_to z time j
   unfolding closed_to
-  same-closed time j = ap (λ (k : Judged). if j.is_unsure then j else k) (by (kept (λ s. are_behind time s.rest) j.states))
+  same-closed time j =
+      ap (λ (k : Judged). if j.is_unsure then j else k) (by (kept (λ s. are_behind time s.rest) j.states))
     where
       by : (l : List State) → closed_by w time l j ≡ closed_by z time l j
       by [] = same-skipped time (lead j.states) (front_rest j.states) j
       by (s ∷ l) = refl
 
-  same-deviation : (behind : List Arrival) (x : Arrival) (y : Gone) → deviation_of w behind x y ≡ deviation_of z behind x y
+  same-deviation : (behind : List Arrival) (x : Arrival) (y : Gone)
+      → deviation_of w behind x y ≡ deviation_of z behind x y
   unfolding fits
   same-deviation behind x y = refl
 
@@ -70,7 +73,8 @@ module _ (z : Terms) (until : ℕ) where
     same-asked rest l = led-same (λ s. states_at w x s.levels s) (λ s. states_at z x s.levels s)
         (λ s. same-at z until x s.levels s here there) (with_rest rest (lead l))
 
-    same-deviates : (l : List State) (rest : List Gone) (j : Judged) → deviates w behind x l rest j ≡ deviates z behind x l rest j
+    same-deviates : (l : List State) (rest : List Gone) (j : Judged)
+        → deviates w behind x l rest j ≡ deviates z behind x l rest j
     unfolding deviates
     same-deviates l [] j = refl
     same-deviates l (y ∷ rest) j =
@@ -86,7 +90,8 @@ module _ (z : Terms) (until : ℕ) where
         by deviation.Stopped next = refl
         by (deviation.Took finding) next = refl
         by deviation.Other next =
-            ap (λ (k : List State). if has_some k then with_states k (unexplained w x.time y j) else next) (same-asked rest l)
+            ap (λ (k : List State). if has_some k then with_states k (unexplained w x.time y j) else next)
+            (same-asked rest l)
             ∙ ap (λ (k : Judged). if has_some (asked z x rest l) then with_states (asked z x rest l) k else next)
             (same-unexplained x.time y j)
 
@@ -102,11 +107,14 @@ module _ (z : Terms) (until : ℕ) where
             ≡ (if b then j else came_by z behind last x fault j)
         by true fault = refl
         by false None =
-            ap (λ (l : List State). with_mark x (rate_mark z last x j.states) (few_of z (one_if z (is_uncertain z last x j.states))
+            ap (λ (l : List State). with_mark x (rate_mark z last x j.states)
+            (few_of z (one_if z (is_uncertain z last x j.states))
             (answered_by w behind last x l j)))
-            (led-same (λ s. states_at w x (levels_then z s.levels last x) s) (λ s. states_at z x (levels_then z s.levels last x) s)
+            (led-same (λ s. states_at w x (levels_then z s.levels last x) s)
+            (λ s. states_at z x (levels_then z s.levels last x) s)
             (λ s. same-at z until x (levels_then z s.levels last x) s here there) j.states)
-            ∙ ap (λ (k : Judged). with_mark x (rate_mark z last x j.states) (few_of z (one_if z (is_uncertain z last x j.states)) k))
+            ∙ ap (λ (k : Judged). with_mark x (rate_mark z last x j.states)
+            (few_of z (one_if z (is_uncertain z last x j.states)) k))
             (answered (led_by (λ s. states_at z x (levels_then z s.levels last x) s) j.states))
         by false (Some reason) = refl
 
@@ -119,11 +127,13 @@ module _ (z : Terms) (until : ℕ) where
 pub end_later : EndFindsNothing
 unfolding judged_after NoneIsOpen
 end_later z until ys behind [] a b =
-    ap (λ (l : List State). judged_with l [] [] 0 0 false) (same-first z until (first_levels (link z) z.by z.by.start) ys)
+    ap (λ (l : List State). judged_with l [] [] 0 0 false)
+    (same-first z until (first_levels (link z) z.by z.by.start) ys)
 end_later z until ys behind (Came x ∷ before) a b =
     ap (λ (l : List Event). came_to (until_then until z) behind (last_time z.by (arrivals_came l)) x
     (judged_after (until_then until z) ys (x ∷ behind) before)) (same-sound z until before)
-    ∙ ap (λ (j : Judged). came_to (until_then until z) behind (last_time z.by (arrivals_came (sound_events z before))) x j)
+    ∙ ap (λ (j : Judged). came_to (until_then until z) behind
+    (last_time z.by (arrivals_came (sound_events z before))) x j)
     (end_later z until ys (x ∷ behind) before a.1 b.1)
     ∙ same-came z until behind x a.0 b.0 (last_time z.by (arrivals_came (sound_events z before)))
     (judged_after z ys (x ∷ behind) before)

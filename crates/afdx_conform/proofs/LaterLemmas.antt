@@ -1,5 +1,5 @@
 -- Frames that left far behind change nothing of what is found.
-use Rattle.std.proofs.Common.{◌≡◌, ℕ, ◌+◌, ◌-◌, ◌<◌, Bool, true, false, ◌&&◌, Option, List, [], ◌∷◌, ◌++◌, map, length, refl, sym, ap, ◌∙◌, subst, arith}
+use Rattle.std.proofs.Common.{◌≡◌, ℕ, ◌+◌, ◌-◌, ◌<◌, Bool, true, false, ◌&&◌, Option, List, [], ◌∷◌, ◌++◌, map, length, refl, ap, ◌∙◌, subst, arith}
 use Rattle.std.proofs.lemmas.List.{length-map}
 use Rattle.std.proofs.lemmas.Bool.{ltb-true}
 use Rattle.std.specs.Prelude.{if◌then◌else◌, not, nat_lt, Some, None}
@@ -54,13 +54,15 @@ module _ (z : Terms) (more : List Gone) where
       if-equal (are_behind time more) true _ _ _ (behind-same time [] more h)
       (ap (λ (l : List State). with_states l (unexplained z (time + both_slacks z.by) y j)) (rest-more more [] front))
   skipped-more time front y (w ∷ rest) j h =
-      if-equal (are_behind time (w ∷ (rest ++ more))) (are_behind time (w ∷ rest)) _ _ _ (behind-same time (w ∷ rest) more h)
+      if-equal (are_behind time (w ∷ (rest ++ more))) (are_behind time (w ∷ rest)) _ _ _
+      (behind-same time (w ∷ rest) more h)
       (by (are_behind time (w ∷ rest)) (skipped-more time front w rest (unexplained z (time + both_slacks z.by) y j) h))
     where
       next : Judged
       next = unexplained z (time + both_slacks z.by) y j
 
-      by : (b : Bool) → skipped z time (M front) (w ∷ (rest ++ more)) (J next) ≡ J (skipped z time front (w ∷ rest) next)
+      by : (b : Bool) → skipped z time (M front) (w ∷ (rest ++ more)) (J next)
+          ≡ J (skipped z time front (w ∷ rest) next)
           → (if b then with_states (with_rest (w ∷ (rest ++ more)) (M front)) (J next)
           else skipped z time (M front) (w ∷ (rest ++ more)) (J next))
           ≡ J (if b then with_states (with_rest (w ∷ rest) front) next else skipped z time front (w ∷ rest) next)
@@ -70,7 +72,8 @@ module _ (z : Terms) (more : List Gone) where
   abbrev Stays : ℕ → State → Bool
   Stays time s = are_behind time s.rest
 
-  front-left : (time : ℕ) (l : List State) (rest : List Gone) → front_rest l ≡ rest → IsSomeState l → kept (Stays time) l ≡ []
+  front-left : (time : ℕ) (l : List State) (rest : List Gone) → front_rest l ≡ rest → IsSomeState l
+      → kept (Stays time) l ≡ []
       → (j : Judged) → Behind time
       → skipped z time (M (lead l)) (rest ++ more) (J j) ≡ J (skipped z time (lead l) rest j)
   unfolding are_behind
@@ -80,7 +83,8 @@ module _ (z : Terms) (more : List Gone) where
       (kept-among (Stays time) l f.of f.among (ap (λ (r : List Gone). are_behind time r) (f.rest ∙ e))))
   front-left time l (y ∷ rest) e some none j h = skipped-more time (lead l) y rest j h
 
-  closed-more : (time : ℕ) (j : Judged) → IsSomeState j.states → Behind time → closed_to z time (J j) ≡ J (closed_to z time j)
+  closed-more : (time : ℕ) (j : Judged) → IsSomeState j.states → Behind time
+      → closed_to z time (J j) ≡ J (closed_to z time j)
   unfolding closed_to
   closed-more time j some h =
       ap (λ (l : List State). if j.is_unsure then J j else closed_by z time l (J j))
@@ -105,11 +109,14 @@ module _ (z : Terms) (more : List Gone) where
       (far : AllByRecursion (λ y. is_far z x y ≡ true) more) where
     late : AllByRecursion (λ y. x.time + latency z + both_slacks z.by < y.time) more
     late = every-on (λ y. is_far z x y ≡ true) (λ y. x.time + latency z + both_slacks z.by < y.time)
-        (λ y e. let h = ltb-true (x.time + latency z + latency z + both_slacks z.by) y.time e in omega (arith, h)) more far
+        (λ y e. let h = ltb-true (x.time + latency z + latency z + both_slacks z.by) y.time e in omega
+        (arith, h)) more far
 
-    asked-more : (rest : List Gone) (l : List State) → IsSomeState l → asked z x (rest ++ more) (M l) ≡ M (asked z x rest l)
+    asked-more : (rest : List Gone) (l : List State) → IsSomeState l
+        → asked z x (rest ++ more) (M l) ≡ M (asked z x rest l)
     asked-more rest l some =
-        ap (λ (k : List State). led_by (λ s. states_at z x s.levels s) (with_rest (rest ++ more) k)) (lead-more more l some)
+        ap (λ (k : List State). led_by (λ s. states_at z x s.levels s) (with_rest (rest ++ more) k))
+        (lead-more more l some)
         ∙ ap (λ (k : List State). led_by (λ s. states_at z x s.levels s) k) (rest-more more rest (lead l))
         ∙ led-map (with_more more) (λ s. states_at z x s.levels s) (λ s. states_at z x s.levels s)
         (λ s. at-more z x s.levels more opens late s) (with_rest rest (lead l))
@@ -118,7 +125,8 @@ module _ (z : Terms) (more : List Gone) where
     Once l rest j = deviates z behind x (M l) (rest ++ more) (J j) ≡ J (deviates z behind x l rest j)
 
     stopped-more : (l : List State) (j : Judged) → stopped z x (M l) (J j) ≡ J (stopped z x l j)
-    stopped-more l j = ap (λ (k : List State). with_states k (with_finding x.time (Stopped x.tag) 0 j)) (accepted-more more z x l)
+    stopped-more l j = ap (λ (k : List State). with_states k (with_finding x.time (Stopped x.tag) 0 j))
+        (accepted-more more z x l)
 
     took-more : (finding : Finding) (l : List State) (rest : List Gone) (j : Judged) → IsSomeState l
         → took z x finding (M l) (rest ++ more) (J j) ≡ J (took z x finding l rest j)
@@ -157,7 +165,8 @@ module _ (z : Terms) (more : List Gone) where
             → deviates z behind x (with_rest (rest ++ more) (lead (M l))) (rest ++ more) (unexplained z x.time y (J j))
             ≡ J (deviates z behind x (with_rest rest (lead l)) rest next)
         again once =
-            ap (λ (k : List State). deviates z behind x (with_rest (rest ++ more) k) (rest ++ more) (J next)) (lead-more more l some)
+            ap (λ (k : List State). deviates z behind x (with_rest (rest ++ more) k) (rest ++ more) (J next))
+            (lead-more more l some)
             ∙ ap (λ (k : List State). deviates z behind x k (rest ++ more) (J next)) (rest-more more rest (lead l))
             ∙ once
 
@@ -168,7 +177,8 @@ module _ (z : Terms) (more : List Gone) where
         other false k = refl
 
         by : (d : Deviation)
-            → deviates_by z d x (M l) y (rest ++ more) (J j) (J (deviates z behind x (with_rest rest (lead l)) rest next))
+            → deviates_by z d x (M l) y (rest ++ more) (J j)
+            (J (deviates z behind x (with_rest rest (lead l)) rest next))
             ≡ J (deviates_by z d x l y rest j (deviates z behind x (with_rest rest (lead l)) rest next))
         by deviation.Stopped = stopped-more l j
         by (deviation.Took finding) = took-more finding l rest j some
@@ -182,12 +192,15 @@ module _ (z : Terms) (more : List Gone) where
       To s = states_at z x (levels_then z s.levels last x) s
 
       led-more : led_by To (M j.states) ≡ M (led_by To j.states)
-      led-more = led-map (with_more more) To To (λ s. at-more z x (levels_then z s.levels last x) more opens late s) j.states
+      led-more = led-map (with_more more) To To
+          (λ s. at-more z x (levels_then z s.levels last x) more opens late s) j.states
 
       answered-more : (l : List State) → answered_by z behind last x (M l) (J j) ≡ J (answered_by z behind last x l j)
       answered-more [] =
-          ap (λ (k : List State). deviates z behind x k (front_rest (M j.states)) (J j)) (aged-more more z last x j.states)
-          ∙ ap (λ (r : List Gone). deviates z behind x (M (aged z last x j.states)) r (J j)) (front-more more j.states some)
+          ap (λ (k : List State). deviates z behind x k (front_rest (M j.states)) (J j))
+          (aged-more more z last x j.states)
+          ∙ ap (λ (r : List Gone). deviates z behind x (M (aged z last x j.states)) r (J j))
+          (front-more more j.states some)
           ∙ deviates-more (aged z last x j.states) (front_rest j.states) j
           (map-some (λ s. state_with s.rest (levels_then z s.levels last x) s.waiting) j.states some)
       answered-more (s ∷ l) = refl
@@ -195,19 +208,23 @@ module _ (z : Terms) (more : List Gone) where
       rate-more : rate_mark z last x (M j.states) ≡ rate_mark z last x j.states
       rate-more = ap (λ (b : Bool). if b then None else Some OverRate)
           (any-through (λ s. may_pass (link z) z.by (charge z x) (levels_then z s.levels last x))
-          (λ s. may_pass (link z) z.by (charge z x) (levels_then z s.levels last x)) (with_more more) (λ s. refl) j.states)
+          (λ s. may_pass (link z) z.by (charge z x) (levels_then z s.levels last x)) (with_more more)
+          (λ s. refl) j.states)
 
       uncertain-more : is_uncertain z last x (M j.states) ≡ is_uncertain z last x j.states
       uncertain-more = any-through (λ s. may_pass (link z) z.by (charge z x) (levels_then z s.levels last x)
           && not (has_to_pass (link z) z.by (charge z x) (levels_then z s.levels last x)))
           (λ s. may_pass (link z) z.by (charge z x) (levels_then z s.levels last x)
-          && not (has_to_pass (link z) z.by (charge z x) (levels_then z s.levels last x))) (with_more more) (λ s. refl) j.states
+          && not (has_to_pass (link z) z.by (charge z x) (levels_then z s.levels last x))) (with_more more)
+          (λ s. refl) j.states
 
       few-more : (n : ℕ) (k : Judged) → few_of z n (J k) ≡ J (few_of z n k)
       few-more n k =
-          ap (λ (l : List State). judged_with l k.arrivals k.findings k.frames (k.uncertain + n) (nat_lt most_states (length l)))
+          ap (λ (l : List State). judged_with l k.arrivals k.findings k.frames (k.uncertain + n)
+          (nat_lt most_states (length l)))
           (thinned-same more [] k.states)
-          ∙ ap (λ (m : ℕ). judged_with (M (thinned_onto [] k.states)) k.arrivals k.findings k.frames (k.uncertain + n) (nat_lt most_states m))
+          ∙ ap (λ (m : ℕ). judged_with (M (thinned_onto [] k.states)) k.arrivals k.findings k.frames (k.uncertain + n)
+          (nat_lt most_states m))
           (length-map (thinned_onto [] k.states) (with_more more))
 
       sound-more : sound_came z behind last x (J j) ≡ J (sound_came z behind last x j)
@@ -216,9 +233,11 @@ module _ (z : Terms) (more : List Gone) where
           (answered_by z behind last x (led_by To (M j.states)) (J j)))) rate-more
           ∙ ap (λ (b : Bool). with_mark x (rate_mark z last x j.states) (few_of z (one_if z b)
           (answered_by z behind last x (led_by To (M j.states)) (J j)))) uncertain-more
-          ∙ ap (λ (l : List State). with_mark x (rate_mark z last x j.states) (few_of z (one_if z (is_uncertain z last x j.states))
+          ∙ ap (λ (l : List State). with_mark x (rate_mark z last x j.states)
+          (few_of z (one_if z (is_uncertain z last x j.states))
           (answered_by z behind last x l (J j)))) led-more
-          ∙ ap (λ (k : Judged). with_mark x (rate_mark z last x j.states) (few_of z (one_if z (is_uncertain z last x j.states)) k))
+          ∙ ap (λ (k : Judged). with_mark x (rate_mark z last x j.states)
+          (few_of z (one_if z (is_uncertain z last x j.states)) k))
           (answered-more (led_by To j.states))
           ∙ ap (λ (k : Judged). with_mark x (rate_mark z last x j.states) k)
           (few-more (one_if z (is_uncertain z last x j.states)) (answered_by z behind last x (led_by To j.states) j))
@@ -236,7 +255,8 @@ module _ (z : Terms) (more : List Gone) where
 pub frames_later : LaterFramesFindNothing
 unfolding judged_after AreFar
 frames_later z ys more behind [] h =
-    ap (λ (l : List State). judged_with l [] [] 0 0 false) (first-more z (first_levels (link z) z.by z.by.start) ys more h)
+    ap (λ (l : List State). judged_with l [] [] 0 0 false)
+    (first-more z (first_levels (link z) z.by z.by.start) ys more h)
 frames_later z ys more behind (Came x ∷ before) h =
     ap (λ (j : Judged). came_to z behind (last_time z.by (arrivals_came (sound_events z before))) x j)
     (frames_later z ys more (x ∷ behind) before h.2)

@@ -1,5 +1,5 @@
 -- States where more frames left later, and that one is always left.
-use Rattle.std.proofs.Common.{◌≡◌, ℕ, ◌+◌, ◌<◌, ◌≤◌, Bool, true, false, ◌&&◌, List, [], ◌∷◌, ◌++◌, map, length, refl, sym, ap, ◌∙◌, subst, arith}
+use Rattle.std.proofs.Common.{◌≡◌, ℕ, ◌+◌, Bool, true, false, ◌&&◌, List, [], ◌∷◌, ◌++◌, map, length, refl, sym, ap, ◌∙◌, subst, arith}
 use Rattle.std.proofs.lemmas.Bool.{lt-ltb, le-ltb, ltb-true, ltb-false, eq-eqb, eqb-true}
 use Rattle.std.proofs.lemmas.List.{length-append, append_cancel_right}
 use Rattle.std.proofs.lemmas.Slice.Eq.{bytes_eq-Decides}
@@ -41,31 +41,36 @@ eq-more a b n = by (nat_eq a b) refl (nat_eq (a + n) (b + n)) refl
 
 -- ---- maps
 
-pub any-through : (test told : State → Bool) (g : State → State) → ((s : State) → test (g s) ≡ told s) → (l : List State)
+pub any-through : (test told : State → Bool) (g : State → State) → ((s : State) → test (g s) ≡ told s)
+    → (l : List State)
     → list_any test (map g l) ≡ list_any told l
 any-through test told g same [] = refl
 any-through test told g same (s ∷ l) = rw (same s, any-through test told g same l) refl
 
-pub filter-through : (test told : State → Bool) (g : State → State) → ((s : State) → test (g s) ≡ told s) → (l : List State)
+pub filter-through : (test told : State → Bool) (g : State → State) → ((s : State) → test (g s) ≡ told s)
+    → (l : List State)
     → filter test (map g l) ≡ map g (filter told l)
 filter-through test told g same [] = refl
 filter-through test told g same (s ∷ l) = by (test (g s)) (told s) (same s) (filter-through test told g same l)
   where
     by : (c d : Bool) → c ≡ d → filter test (map g l) ≡ map g (filter told l)
-        → (if c then g s ∷ filter test (map g l) else filter test (map g l)) ≡ map g (if d then s ∷ filter told l else filter told l)
+        → (if c then g s ∷ filter test (map g l) else filter test (map g l))
+        ≡ map g (if d then s ∷ filter told l else filter told l)
     by true true e h = ap (λ (k : List State). g s ∷ k) h
     by false false e h = h
     by true false e h = absurd (cc)
     by false true e h = absurd (cc)
 
-pub kept-through : (test told : State → Bool) (g : State → State) → ((s : State) → test (g s) ≡ told s) → (l : List State)
+pub kept-through : (test told : State → Bool) (g : State → State) → ((s : State) → test (g s) ≡ told s)
+    → (l : List State)
     → kept test (map g l) ≡ map g (kept told l)
 unfolding kept
 kept-through test told g same [] = refl
 kept-through test told g same (s ∷ l) = by (test (g s)) (told s) (same s) (kept-through test told g same l)
   where
     by : (c d : Bool) → c ≡ d → kept test (map g l) ≡ map g (kept told l)
-        → (if c then g s ∷ kept test (map g l) else kept test (map g l)) ≡ map g (if d then s ∷ kept told l else kept told l)
+        → (if c then g s ∷ kept test (map g l) else kept test (map g l))
+        ≡ map g (if d then s ∷ kept told l else kept told l)
     by true true e h = ap (λ (k : List State). g s ∷ k) h
     by false false e h = h
     by true false e h = absurd (cc)
@@ -77,12 +82,14 @@ same-itself : (xs : List Gone) → are_same xs xs ≡ true
 unfolding are_same
 same-itself [] = refl
 same-itself (x ∷ xs) =
-    rw (eq-eqb x.number x.number refl, eq-eqb x.time x.time refl, (bytes_eq-Decides x.bytes x.bytes).1 refl) (same-itself xs)
+    rw (eq-eqb x.number x.number refl, eq-eqb x.time x.time refl, (bytes_eq-Decides x.bytes x.bytes).1 refl)
+    (same-itself xs)
 
 same-more : (xs ys more : List Gone) → are_same (xs ++ more) (ys ++ more) ≡ are_same xs ys
 same-more xs ys more = by (are_same xs ys) refl (are_same (xs ++ more) (ys ++ more)) refl
   where
-    by : (c : Bool) → are_same xs ys ≡ c → (d : Bool) → are_same (xs ++ more) (ys ++ more) ≡ d → are_same (xs ++ more) (ys ++ more) ≡ c
+    by : (c : Bool) → are_same xs ys ≡ c → (d : Bool) → are_same (xs ++ more) (ys ++ more) ≡ d
+        → are_same (xs ++ more) (ys ++ more) ≡ c
     by true e d k =
         subst (λ (l : List Gone). are_same (xs ++ more) (l ++ more) ≡ true) (same-is xs ys e) (same-itself (xs ++ more))
     by false e true k =
@@ -98,13 +105,14 @@ module _ (more : List Gone) where
   does-same : (a b : State) → does_more (with_more more a) (with_more more b) ≡ does_more a b
   unfolding does_more
   does-same a b =
-      ap (λ (c : Bool). c && nat_le a.levels.lo b.levels.lo && nat_le b.levels.hi a.levels.hi && nat_le a.waiting b.waiting)
-      (same-more a.rest b.rest more)
+      ap (λ (c : Bool). c && nat_le a.levels.lo b.levels.lo && nat_le b.levels.hi a.levels.hi
+      && nat_le a.waiting b.waiting) (same-more a.rest b.rest more)
 
   one-same : (s : State) (l : List State) → one_more (with_more more s) (M l) ≡ M (one_more s l)
   unfolding one_more
   one-same s l =
-      ap (λ (c : Bool). if c then M l else filter (λ x. not (does_more (with_more more s) x)) (M l) ++ (with_more more s ∷ []))
+      ap (λ (c : Bool). if c then M l
+      else filter (λ x. not (does_more (with_more more s) x)) (M l) ++ (with_more more s ∷ []))
       (any-through (λ x. does_more x (with_more more s)) (λ x. does_more x s) (with_more more) (λ x. does-same x s) l)
       ∙ by (list_any (λ x. does_more x s) l)
     where
@@ -148,7 +156,8 @@ module _ (more : List Gone) where
 
   pub lead-more : (l : List State) → IsSomeState l → lead (M l) ≡ M (lead l)
   lead-more l h =
-      kept-through (λ s. nat_eq (length s.rest) (length (front_rest (M l)))) (λ s. nat_eq (length s.rest) (length (front_rest l)))
+      kept-through (λ s. nat_eq (length s.rest) (length (front_rest (M l))))
+      (λ s. nat_eq (length s.rest) (length (front_rest l)))
       (with_more more)
       (λ s. ap (λ (k : List Gone). nat_eq (length (s.rest ++ more)) (length k)) (front-more l h)
       ∙ ap (λ (n : ℕ). nat_eq n (length (front_rest l ++ more))) (length-append s.rest more)
@@ -166,7 +175,8 @@ module _ (more : List Gone) where
   pub aged-more : (z : Terms) (last : ℕ) (x : Arrival) (l : List State) → aged z last x (M l) ≡ M (aged z last x l)
   aged-more z last x [] = refl
   aged-more z last x (s ∷ l) =
-      ap (λ (k : List State). state_with (s.rest ++ more) (levels_then z s.levels last x) s.waiting ∷ k) (aged-more z last x l)
+      ap (λ (k : List State). state_with (s.rest ++ more) (levels_then z s.levels last x) s.waiting ∷ k)
+      (aged-more z last x l)
 
   pub accepted-more : (z : Terms) (x : Arrival) (l : List State) → as_accepted z x (M l) ≡ M (as_accepted z x l)
   accepted-more z x [] = refl

@@ -48,3 +48,9 @@ pub mod LaterArrivals
 pub mod LaterEnd
 pub mod StaysLemmas
 pub mod ForgettingLemmas
+pub mod MomentLemmas
+pub mod RestLemmas
+pub mod WholeLemmas
+pub mod SureLemmas
+pub mod KnownLemmas
+pub mod ForgetLemmas

@@ -1,5 +1,5 @@
 -- A state is always left.
-use Rattle.std.proofs.Common.{◌≡◌, ℕ, ◌+◌, Bool, true, false, Option, List, [], ◌∷◌, ◌++◌, map, refl, ap, subst, inl}
+use Rattle.std.proofs.Common.{◌≡◌, ℕ, ◌+◌, Bool, true, false, Option, List, [], ◌∷◌, refl}
 use Rattle.std.specs.Prelude.{if◌then◌else◌, Some, None}
 use Rattle.afdx_police.specs.Arrival.{Arrival}
 use Rattle.afdx_police.specs.Shape.{fault_of}
@@ -39,7 +39,8 @@ module _ (z : Terms) where
   pub closed-some : (time : ℕ) (j : Judged) → IsSomeState j.states → IsSomeState (closed_to z time j).states
   unfolding closed_to
   closed-some time j h =
-      if-both (λ (r : Judged). IsSomeState r.states) j.is_unsure j _ h (by (kept (λ s. are_behind time s.rest) j.states))
+      if-both (λ (r : Judged). IsSomeState r.states) j.is_unsure j _ h
+      (by (kept (λ s. are_behind time s.rest) j.states))
     where
       by : (l : List State) → IsSomeState (closed_by z time l j).states
       by [] = skipped-some time (lead j.states) (front_rest j.states) j (lead-some j.states h)
@@ -51,7 +52,8 @@ module _ (z : Terms) where
   deviates-some behind x l [] j h = accepted-some x l h
   deviates-some behind x l (y ∷ rest) j h =
       by (deviation_of z behind x y)
-      (deviates-some behind x (with_rest rest (lead l)) rest (unexplained z x.time y j) (rest-some rest (lead l) (lead-some l h)))
+      (deviates-some behind x (with_rest rest (lead l)) rest (unexplained z x.time y j)
+      (rest-some rest (lead l) (lead-some l h)))
     where
       next : Judged
       next = deviates z behind x (with_rest rest (lead l)) rest (unexplained z x.time y j)
@@ -63,7 +65,8 @@ module _ (z : Terms) where
 
       by : (d : Deviation) → IsSomeState next.states → IsSomeState (deviates_by z d x l y rest j next).states
       by deviation.Stopped k = accepted-some x l h
-      by (deviation.Took finding) k = rest-some rest (as_accepted z x (lead l)) (accepted-some x (lead l) (lead-some l h))
+      by (deviation.Took finding) k =
+          rest-some rest (as_accepted z x (lead l)) (accepted-some x (lead l) (lead-some l h))
       by deviation.Other k = asks (has_some (asked z x rest l)) refl k
 
   thinned-some : (l : List State) → IsSomeState l → IsSomeState (thinned_onto [] l)
@@ -90,7 +93,8 @@ pub some-after : (z : Terms) (ys : List Gone) (behind : List Arrival) (events : 
 unfolding judged_after
 some-after z ys behind [] = first-some z (first_levels (link z) z.by z.by.start) ys
 some-after z ys behind (Came x ∷ before) =
-    came-some z behind (last_time z.by (arrivals_came (sound_events z before))) x (judged_after z ys (x ∷ behind) before)
+    came-some z behind (last_time z.by (arrivals_came (sound_events z before))) x
+    (judged_after z ys (x ∷ behind) before)
     (some-after z ys (x ∷ behind) before)
 some-after z ys behind (Closing time ∷ before) =
     closed-some z time (judged_after z ys behind before) (some-after z ys behind before)

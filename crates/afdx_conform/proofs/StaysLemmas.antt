@@ -1,7 +1,7 @@
 -- Later events take back nothing of what was found.
-use Rattle.std.proofs.Common.{◌≡◌, ℕ, ◌+◌, Bool, true, false, Option, List, [], ◌∷◌, ◌++◌, ◌⊎◌, inl, inr, reverse, refl, sym, ap, ◌∙◌, subst}
+use Rattle.std.proofs.Common.{◌≡◌, ℕ, ◌+◌, Option, List, [], ◌∷◌, ◌++◌, inl, inr, reverse, refl, sym, ap, ◌∙◌, subst}
 use Rattle.std.proofs.lemmas.List.{append_assoc}
-use Rattle.std.specs.Prelude.{if◌then◌else◌, Some, None}
+use Rattle.std.specs.Prelude.{Some, None}
 use Rattle.std.specs.List.{AllByRecursion}
 use Rattle.afdx_police.specs.Arrival.{Arrival}
 use Rattle.afdx_police.specs.Shape.{fault_of}
@@ -87,7 +87,8 @@ module _ (z : Terms) where
   came-adds : (behind : List Arrival) (last : ℕ) (x : Arrival) (j : Judged) → Adds x.time j (came_to z behind last x j)
   unfolding came_to
   came-adds behind last x j =
-      if-both (λ (r : Judged). Adds x.time j r) j.is_unsure j (came_by z behind last x (fault_of (Some z.rule) x.port x.bytes) j)
+      if-both (λ (r : Judged). Adds x.time j r) j.is_unsure j
+      (came_by z behind last x (fault_of (Some z.rule) x.port x.bytes) j)
       (adds-none x.time j j refl) (by (fault_of (Some z.rule) x.port x.bytes))
     where
       answered : (l : List State) → Adds x.time j (answered_by z behind last x l j)
@@ -100,7 +101,8 @@ module _ (z : Terms) where
           record { found = a.found; added = a.added; at_time = a.at_time }
       by (Some reason) = adds-none x.time j _ refl
 
-  stays-on : (e : Event) (more : List Event) (before : List Found) (mid after : Judged) → AddsFound z more before mid.findings
+  stays-on : (e : Event) (more : List Event) (before : List Found) (mid after : Judged)
+      → AddsFound z more before mid.findings
       → Adds (event_time z e) mid after → AddsFound z (e ∷ more) before after.findings
   stays-on e more before mid after a b = record {
     found = b.found ++ a.found;

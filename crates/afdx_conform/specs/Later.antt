@@ -4,7 +4,7 @@ use Rattle.std.specs.List.{AllByRecursion}
 use Rattle.afdx_police.specs.Arrival.{Arrival}
 use Rattle.afdx_conform.specs.Ahead.{NoneIsOpen, until_then, with_more}
 use Rattle.afdx_conform.specs.Events.{moment_at}
-use Rattle.afdx_conform.specs.Findings.{Found, Judged, is_far, judged_after, with_states}
+use Rattle.afdx_conform.specs.Findings.{Judged, is_far, judged_after, with_states}
 use Rattle.afdx_conform.specs.States.{Event, Came, Closing}
 use Rattle.afdx_conform.specs.Streams.{Gone, Terms, is_begun, is_open}
 

@@ -32,6 +32,7 @@ pub mod Later
 pub mod EventLaws
 pub mod Forgetting
 pub mod Sure
+pub mod SomeKnown
 pub mod Histories
 pub mod Growing
 pub mod Standing

@@ -11,6 +11,7 @@ ghost use Rattle.afdx_conform.specs.Laws.{StatesAreExplanations, ExactIsTheHeadl
 ghost use Rattle.afdx_conform.specs.Later.{EndFindsNothing, LaterArrivalsFindNothing};
 ghost use Rattle.afdx_conform.specs.Later.{LaterFramesFindNothing};
 ghost use Rattle.afdx_conform.specs.Right.{RightIsExplained, SomeIsRight};
+ghost use Rattle.afdx_conform.specs.SomeKnown.{SomeIsKnown};
 ghost use Rattle.afdx_conform.specs.Sure.{ExactIsSure};
 ghost use Rattle.afdx_conform.specs.Thinned.{KeptAreEnough};
 ghost use Rattle.afdx_conform.specs.Worked.{WorkedRows};
@@ -86,9 +87,10 @@ pub fn later_changes_no_finding()
 {}
 
 /// What is found of moments before one is the same whatever comes at it or later, and whenever the
-/// recordings end.
+/// recordings end. There is such a stream.
 pub fn what_is_over_stays()
-    ensures { WhatIsOverStays }
+    ensures all { WhatIsOverStays }
+    ensures some { SomeIsKnown }
 {}
 
 /// Arrivals that fit no frame that is left may be forgotten: no later event reads them.
