@@ -34,6 +34,9 @@ drop-map f zero xs = refl
 drop-map f (suc n) [] = refl
 drop-map f (suc n) (x ∷ xs) = drop-map f n xs
 
+pub forgot : {P Q R : Type 0} → (P → Q) → P × R → Q × R
+forgot f both = (f both.0, both.1)
+
 pub of-both : {X : Type 0} (P : X → Type 0) (b : Bool) (u v : X) → P u → P v → P (if b then u else v)
 of-both P true u v p q = p
 of-both P false u v p q = q

@@ -14,12 +14,13 @@ use Rattle.afdx_conform.specs.declared.finding.Finding.{Finding}
 use Rattle.afdx_conform.specs.declared.growth.Growth.{Growth}
 use Rattle.afdx_conform.specs.declared.limits.Frame.{Frame}
 use Rattle.afdx_conform.proofs.CourseLemmas.{same-frame}
+use Rattle.afdx_conform.proofs.GrowthDecides.{forgot}
 use Rattle.afdx_conform.proofs.GrowthCloses.{Close, after-close, closed-of, frames-held}
 use Rattle.afdx_conform.proofs.StreamLemmas.{closes}
 use Rattle.afdx_conform.proofs.growth.Growth.close.Goals as goal
 
-pub returns-clause-sound : goal.returns-clause-sound
-returns-clause-sound c =
+pub forget-requires : goal.forget-requires
+forget-requires c =
     let s = c.requires.sound in
     let marks = c.in_ok-found.ensures.marks in
     let within = c.in_ok-found.ensures.within (length c.args.self.now.judging.marks.items)
@@ -64,13 +65,13 @@ returns-clause-decides c z xs ys cut over f sure at next r =
     let held = closed-of z c.index.result.now c.args.self.now c.judge_closing.new.judging r.continues.j
     c.as_slice-2.result.now c.as_slice-3.result.now c.as_slice-2.ensures.value c.as_slice-3.ensures.value out.0 in
     let next' = subst (λ (v : Frame). next_of z (coming xs over) (unclosed ys over) ≡ Some (Closing v.time)) (sym same) next in
-    subst (λ (v : Frame). IsAfter z xs ys cut (Closing v.time ∷ over) c.count.new.self
+    subst (λ (v : Frame). IsAfter z xs ys cut (Closing v.time ∷ over) c.forget.new.self
     × AreFound (v.time + both_slacks z.by) c.in_ok-found.found.items (judged_by z xs ys over)
     (judged_by z xs ys (Closing v.time ∷ over))) same
-    (subst (λ (s : Growth). IsAfter z xs ys cut (Closing c.index.result.now.time ∷ over) s
+    (forgot (c.forget.ensures.after z xs ys cut (Closing c.index.result.now.time ∷ over)) (subst (λ (s : Growth). IsAfter z xs ys cut (Closing c.index.result.now.time ∷ over) s
     × AreFound (c.index.result.now.time + both_slacks z.by) c.in_ok-found.found.items (judged_by z xs ys over)
     (judged_by z xs ys (Closing c.index.result.now.time ∷ over))) (sym (c.count.ensures
     ∙ ap (λ (l : List Finding). Close z xs ys cut over c.index.result.now c.args.self.now c.judge_closing.new.judging l)
     c.as_slice-4.ensures.value))
     (after-close z xs ys cut over c.index.result.now c.args.self.now c.judge_closing.new.judging c.in_ok-found.found.items
-    r.gone r.past r.kept r.continues sure held out.1 c.in_ok-found.ensures.marks r.after next'))
+    r.gone r.past r.kept r.continues sure held out.1 c.in_ok-found.ensures.marks r.after next')))

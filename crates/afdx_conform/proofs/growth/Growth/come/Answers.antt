@@ -13,7 +13,7 @@ use Rattle.afdx_conform.specs.declared.arrived.Arrived.{Arrived}
 use Rattle.afdx_conform.specs.declared.growth.Growth.{Growth}
 use Rattle.afdx_conform.specs.declared.limits.Frame.{Frame}
 use Rattle.afdx_conform.proofs.CourseLemmas.{same-arrived}
-use Rattle.afdx_conform.proofs.GrowthDecides.{Come, after-come, outcome-of}
+use Rattle.afdx_conform.proofs.GrowthDecides.{Come, forgot, after-come, outcome-of}
 use Rattle.afdx_conform.proofs.growth.Growth.come.Goals as goal
 
 pub judge_arrival-requires-clause-within : goal.judge_arrival-requires-clause-within
@@ -25,8 +25,8 @@ judge_arrival-requires-clause-within c = (
       (sym c.as_slice-2.ensures.value) c.requires.sound.within,
 )
 
-pub returns-clause-sound : goal.returns-clause-sound
-returns-clause-sound c =
+pub forget-requires : goal.forget-requires
+forget-requires c =
     let s = c.requires.sound in
     let marks = c.in_ok-found.ensures.marks in
     let within = c.in_ok-found.ensures.within s.link s.leeway (length c.args.self.now.judging.marks.items) s.rates
@@ -73,13 +73,13 @@ returns-clause-decides c z xs ys cut over a sure at next known r =
     (c.is_open_by-is_open.ensures z r.after.bounds.limits known') sure' given in
     let held = outcome-of z over c.index-arrived.result.now c.args.self.now c.judge_arrival.new.judging c.in_ok-found.found.items
     r.continues.j c.as_slice.result.now c.as_slice-2.result.now c.as_slice.ensures.value c.as_slice-2.ensures.value out in
-    subst (λ (v : Arrived). IsAfter z xs ys cut (Came (arrival_of v) ∷ over) c.count.new.self
+    subst (λ (v : Arrived). IsAfter z xs ys cut (Came (arrival_of v) ∷ over) c.forget.new.self
     × AreFound v.time c.in_ok-found.found.items (judged_by z xs ys over) (judged_by z xs ys (Came (arrival_of v) ∷ over))) same
-    (subst (λ (s : Growth). IsAfter z xs ys cut (Came (arrival_of c.index-arrived.result.now) ∷ over) s
+    (forgot (c.forget.ensures.after z xs ys cut (Came (arrival_of c.index-arrived.result.now) ∷ over)) (subst (λ (s : Growth). IsAfter z xs ys cut (Came (arrival_of c.index-arrived.result.now) ∷ over) s
     × AreFound c.index-arrived.result.now.time c.in_ok-found.found.items (judged_by z xs ys over)
     (judged_by z xs ys (Came (arrival_of c.index-arrived.result.now) ∷ over))) (sym (c.count.ensures
     ∙ ap (λ (l : List Finding). Come z xs ys cut over a c.args.self.now c.judge_arrival.new.judging c.number_if-self.result
     c.last_after-last.result l) c.as_slice-3.ensures.value))
     (after-come z xs ys cut over c.index-arrived.result.now c.args.self.now c.judge_arrival.new.judging c.number_if-self.result
     c.last_after-last.result c.in_ok-found.found.items r.gone r.past r.kept c.requires.place here r.continues judged sure
-    held.0 held.1 c.in_ok-found.ensures.marks c.last_after-last.ensures c.number_if-self.ensures r.after next'))
+    held.0 held.1 c.in_ok-found.ensures.marks c.last_after-last.ensures c.number_if-self.ensures r.after next')))
