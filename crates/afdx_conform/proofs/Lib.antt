@@ -39,6 +39,7 @@ pub mod GrowthStarts
 pub mod LoopLemmas
 pub mod GrowthDecides
 pub mod GrowthCloses
+pub mod GrowthNext
 pub mod EveryLemmas
 pub mod EventLemmas
 pub mod LaterStates
