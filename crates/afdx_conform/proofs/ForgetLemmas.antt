@@ -181,8 +181,6 @@ sound-frames old count frames' held' items states closed s =
     let c = s.closed in
     let f = s.frames in
     record {
-      link = s.link;
-      leeway = s.leeway;
       rates = s.rates;
       within = within-frames old.bounds.rates old.frames.items frames'.items (length old.judging.marks.items) count
           old.judging.held.items held'.items items states s.within;

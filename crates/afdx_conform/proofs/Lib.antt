@@ -40,6 +40,7 @@ pub mod LoopLemmas
 pub mod GrowthDecides
 pub mod GrowthCloses
 pub mod GrowthNext
+pub mod StandingLemmas
 pub mod EveryLemmas
 pub mod EventLemmas
 pub mod LaterStates

@@ -36,7 +36,7 @@ module _ (z : Terms) where
   abbrev pub AreLate : ℕ → List Gone → Type 0
   AreLate time more = AllByRecursion (λ y. time ≤ y.time + both_slacks z.by) more
 
-  not-open : (w : Arrival) (time : ℕ) → moment_at z w.time < time → time ≤ z.until → is_open z w ≡ false
+  pub not-open : (w : Arrival) (time : ℕ) → moment_at z w.time < time → time ≤ z.until → is_open z w ≡ false
   unfolding is_open
   not-open w time lt le =
       le-ltb z.until (w.time + latency z + both_slacks z.by + both_slacks z.by) (omega (arith, lt, le))
@@ -58,7 +58,7 @@ module _ (z : Terms) where
   )
 
   -- an event isn't before the start
-  from-start : (xs : List Arrival) (ys : List Gone) (e : Event) (before : List Event) → AreTold z xs ys
+  pub from-start : (xs : List Arrival) (ys : List Gone) (e : Event) (before : List Event) → AreTold z xs ys
       → next_of z (coming xs before) (unclosed ys before) ≡ Some e → from_time z.by.start ≤ event_time z e
   from-start xs ys (Came x) before told h =
       let first = next-came z (coming xs before) (unclosed ys before) x h in

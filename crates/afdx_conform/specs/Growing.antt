@@ -1,8 +1,9 @@
 -- What the code keeps of a stream while its arrivals and frames come.
 use Rattle.std.specs.Prelude.{◌≡◌, ℕ, ◌+◌, ◌-◌, ◌<◌, ◌≤◌, ◌⊎◌, Bool, true, false, min, nat_lt, List, [], ◌∷◌, ◌++◌, drop, length, map, All, Option, Some, None, if◌then◌else◌}
 use Rattle.std.specs.List.{AllByRecursion}
-use Rattle.afdx_frame.specs.Regulation.{Regulation}
 use Rattle.afdx_police.specs.Arrival.{Arrival}
+use Rattle.afdx_police.specs.Rule.{regulation_of}
+use Rattle.afdx_police.specs.RuleOf.{rule_of}
 use Rattle.afdx_conform.specs.Accounts.{AreRates}
 use Rattle.afdx_conform.specs.Bounds.{AreBounds}
 use Rattle.afdx_conform.specs.Events.{GoUp, arrival_times, closings_in, event_time, frame_times, moment_at}
@@ -12,7 +13,7 @@ use Rattle.afdx_conform.specs.Forgetting.{FitNone, with_gone}
 use Rattle.afdx_conform.specs.HeldStates.{IsWithin}
 use Rattle.afdx_conform.specs.Histories.{AreEvents, AreOver, judged_by, unsure_in}
 use Rattle.afdx_conform.specs.Judging as judging
-use Rattle.afdx_conform.specs.Leeway.{Leeway, both_slacks}
+use Rattle.afdx_conform.specs.Leeway.{both_slacks}
 use Rattle.afdx_conform.specs.LeewayOf.{leeway_of}
 use Rattle.afdx_conform.specs.Limits.{gone_of}
 use Rattle.afdx_conform.specs.Marks.{IsJudged, arrival_of}
@@ -30,9 +31,7 @@ most_found = 0xffffffffffffffff
 
 -- its numbers are within bounds
 pub record IsSound (s : Growth) : Type 0 where
-  pub link : Regulation
-  pub leeway : Leeway
-  pub rates : AreRates link leeway s.bounds.rates
+  pub rates : AreRates (regulation_of (rule_of s.rule)) (leeway_of s.by) s.bounds.rates
   pub within : All (λ h. IsWithin s.bounds.rates (length s.frames.items)
       (length s.judging.marks.items) h) s.judging.held.items
   pub closed : s.closed ≤ length s.frames.items

@@ -27,8 +27,6 @@ forget-requires c =
     (subst (λ (fs : List Frame). All (λ h. IsWithin c.args.self.now.bounds.rates (length fs)
     (length c.args.self.now.judging.marks.items) h) c.args.self.now.judging.held.items) (sym c.as_slice-3.ensures.value) s.within) in
     subst (λ (g : Growth). IsSound g) (sym c.count.ensures) (record {
-      link = s.link;
-      leeway = s.leeway;
       rates = s.rates;
       within = subst (λ (n : ℕ). All (λ h. IsWithin c.args.self.now.bounds.rates (length c.args.self.now.frames.items) n h)
           c.judge_closing.new.judging.held.items) (sym marks)

@@ -1,5 +1,7 @@
 use Rattle.std.proofs.Common.{rules, ◌≡◌, ℕ, ◌+◌, ◌-◌, ◌∷◌, List, get_or, length, sym, ap, ◌∙◌, subst, arith}
 use Rattle.std.specs.Prelude.{All, Some}
+use Rattle.afdx_police.specs.Rule.{regulation_of}
+use Rattle.afdx_police.specs.RuleOf.{rule_of}
 use Rattle.afdx_conform.specs.Explanations.{last_time}
 use Rattle.afdx_conform.specs.Findings.{sound_events}
 use Rattle.afdx_conform.specs.declared.finding.Finding.{Finding}
@@ -7,6 +9,7 @@ use Rattle.afdx_conform.specs.Growing.{IsAfter, IsKnownBy, IsSound}
 use Rattle.afdx_conform.specs.HeldStates.{IsWithin}
 use Rattle.afdx_conform.specs.Histories.{coming, judged_by, next_of, unclosed}
 use Rattle.afdx_conform.specs.Judging.{AreFound, StandsFor}
+use Rattle.afdx_conform.specs.LeewayOf.{leeway_of}
 use Rattle.afdx_conform.specs.Marks.{IsJudged, arrival_of}
 use Rattle.afdx_conform.specs.States.{Came, arrivals_came}
 use Rattle.afdx_conform.specs.declared.arrived.Arrived.{Arrived}
@@ -29,12 +32,10 @@ pub forget-requires : goal.forget-requires
 forget-requires c =
     let s = c.requires.sound in
     let marks = c.in_ok-found.ensures.marks in
-    let within = c.in_ok-found.ensures.within s.link s.leeway (length c.args.self.now.judging.marks.items) s.rates
+    let within = c.in_ok-found.ensures.within (regulation_of (rule_of c.args.self.now.rule)) (leeway_of c.args.self.now.by) (length c.args.self.now.judging.marks.items) s.rates
     (subst (λ (fs : List Frame). All (λ h. IsWithin c.args.self.now.bounds.rates (length fs)
     (length c.args.self.now.judging.marks.items) h) c.args.self.now.judging.held.items) (sym c.as_slice-2.ensures.value) s.within) in
     subst (λ (g : Growth). IsSound g) (sym c.count.ensures) (record {
-      link = s.link;
-      leeway = s.leeway;
       rates = s.rates;
       within = subst (λ (n : ℕ). All (λ h. IsWithin c.args.self.now.bounds.rates (length c.args.self.now.frames.items) n h)
           c.judge_arrival.new.judging.held.items) (sym marks)
