@@ -52,3 +52,6 @@ pub mod WholeLemmas
 pub mod SureLemmas
 pub mod KnownLemmas
 pub mod ForgetLemmas
+pub mod CuttingLemmas
+pub mod EndingLemmas
+pub mod EndDueLemmas
