@@ -181,11 +181,15 @@ sound-frames old count frames' held' items states closed s =
     let c = s.closed in
     let f = s.frames in
     record {
+      link = s.link;
+      leeway = s.leeway;
+      rates = s.rates;
       within = within-frames old.bounds.rates old.frames.items frames'.items (length old.judging.marks.items) count
           old.judging.held.items held'.items items states s.within;
       closed = omega (arith, size, c, closed);
       places = s.places;
       uncertain = s.uncertain;
+      arrivals = s.arrivals;
       came = s.came;
       frames = omega (arith, size, f);
       left = s.left;

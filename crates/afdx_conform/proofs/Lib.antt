@@ -37,6 +37,9 @@ pub mod DueLemmas
 pub mod GrowthFrames
 pub mod GrowthStarts
 pub mod LoopLemmas
+pub mod GrowthDecides
+pub mod GrowthCloses
+pub mod GrowthNext
 pub mod EveryLemmas
 pub mod EventLemmas
 pub mod LaterStates

@@ -8,7 +8,7 @@ use Rattle.afdx_police.specs.Arrival.{Arrival}
 use Rattle.afdx_conform.specs.Events.{GoUp, arrival_times, closes_before, closings_in, event_time, events_of, frame_times, judged_whole, moment_at}
 use Rattle.afdx_conform.specs.Explanations.{from_time}
 use Rattle.afdx_conform.specs.Findings.{Judged, Marked, came_to, closed_to, judged_after}
-use Rattle.afdx_conform.specs.Growing.{AreTold}
+use Rattle.afdx_conform.specs.Growing.{AreTold, IsKnownBy}
 use Rattle.afdx_conform.specs.Histories.{AreEvents, AreOver, coming, judged_by, next_of, unclosed}
 use Rattle.afdx_conform.specs.Later.{AreFar, ComeLater}
 use Rattle.afdx_conform.specs.Leeway.{both_slacks}
@@ -82,6 +82,13 @@ module _ (z : Terms) where
       let from = from-start xs ys e before told events.0 in
       every-on (λ y. time ≤ y.time + both_slacks z.by) (λ y. is_begun_by z z.by.start y ≡ false)
       (λ y le. begun-not z.by.start y (let lt = o.0 in omega (arith, lt, le, from))) more late
+
+  -- an arrival isn't open where its moment lies before the end
+  pub known-closed : (x : Arrival) (end : Option ℕ) → end ≡ None → IsKnownBy z end (Came x) → false ≡ is_open z x
+  unfolding is_open
+  known-closed x end none known =
+      let le = subst (λ (o : Option ℕ). IsKnownBy z o (Came x)) none known in
+      sym (le-ltb z.until (x.time + latency z + both_slacks z.by + both_slacks z.by) (omega (arith, le)))
 
   -- ---- forgotten arrivals
 

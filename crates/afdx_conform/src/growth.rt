@@ -1,10 +1,13 @@
 //! What is kept of a stream while its arrivals and frames come.
 
 ghost use Rattle.std.specs.Prelude.{◌≡◌, ◌≤◌, ◌++◌, ◌∷◌, [], ℕ, List, OnOk, OnErr};
+ghost use Rattle.afdx_frame.specs.Regulation.{Regulation};
 ghost use Rattle.afdx_police.specs.Arrival.{Arrival};
+ghost use Rattle.afdx_conform.specs.Accounts.{AreRates};
 ghost use Rattle.afdx_conform.specs.Bounds.{AreBounds};
 ghost use Rattle.afdx_conform.specs.Explanations.{from_time};
 ghost use Rattle.afdx_conform.specs.Histories.{AreOver};
+ghost use Rattle.afdx_conform.specs.Leeway.{Leeway as By};
 ghost use Rattle.afdx_conform.specs.LeewayOf.{leeway_of};
 ghost use Rattle.afdx_conform.specs.Limits.{gone_of};
 ghost use Rattle.afdx_conform.specs.Marks.{IsJudged, arrival_of};
@@ -60,6 +63,7 @@ fn start_of(by: &Leeway) -> u64
 impl Growth {
     /// Before anything came.
     pub(crate) fn new(alloc: Global, bounds: Bounds, by: Leeway) -> Growth
+        requires { (link : Regulation) × (leeway : By) × AreRates link leeway bounds.rates }
         ensures sound { IsSound result }
         ensures after { (z : Terms) → AreBounds z bounds → z.by ≡ leeway_of by →
             IsAfter z [] [] 0 [] result }

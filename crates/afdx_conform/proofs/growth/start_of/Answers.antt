@@ -1,3 +1,3 @@
-use Rattle.afdx_conform.proofs.HistoryLemmas.{events-came}
-use Rattle.afdx_conform.proofs.OverLemmas.{come-later}
-use Rattle.afdx_conform.proofs.GrowthLemmas.{up-more}
+use Rattle.afdx_conform.proofs.GrowthDecides.{drop-map}
+use Rattle.afdx_conform.proofs.GrowthCloses.{are-frames}
+use Rattle.afdx_conform.proofs.GrowthNext.{none-at}

@@ -18,11 +18,11 @@ returns-clause-after c z xs ys cut over f =
     (subst (λ (l : List Held). All (λ h. h.waiting ≡ 0) l) c.as_slice.ensures.value
     (c.none_waits.ensures c.if-not-none_waits.false)) in
     elim c.if-not-is_empty.branch [
-      then-not-is_empty+else-not-is_too_late w ↦ after
+      | then-not-is_empty+else-not-is_too_late w ↦ after
           (λ h. early-arrivals z xs ys cut over c.args.self.now c.div_ceil-count.result w.index-last.result.now w.index.result.now
           f.bounds f.told some (omega (arith, less, places)) w.index-last.ensures w.index.ensures
           (w.is_too_late.ensures w.if-not-is_too_late.false) h) f
-    | else-not-is_empty w ↦ after
+      | else-not-is_empty w ↦ after
           (λ h. none-early z c.args.self.now c.div_ceil-count.result
           (let none = (Decides-eqb (vec_len c.args.self.now.frames) 0).0 (sym c.is_empty.ensures ∙ w.if-not-is_empty.false) in
           let ok = c.args.self.now.frames.ok in omega (arith, none, ok))) f
