@@ -58,3 +58,4 @@ pub mod ForgetLemmas
 pub mod CuttingLemmas
 pub mod EndingLemmas
 pub mod EndDueLemmas
+pub mod CountLemmas
