@@ -56,3 +56,7 @@ pub mod WholeLemmas
 pub mod SureLemmas
 pub mod KnownLemmas
 pub mod ForgetLemmas
+pub mod CuttingLemmas
+pub mod EndingLemmas
+pub mod EndDueLemmas
+pub mod CountLemmas
