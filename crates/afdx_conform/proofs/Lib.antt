@@ -41,6 +41,7 @@ pub mod GrowthDecides
 pub mod GrowthCloses
 pub mod GrowthNext
 pub mod StandingLemmas
+pub mod StandingDecides
 pub mod EveryLemmas
 pub mod EventLemmas
 pub mod LaterStates
