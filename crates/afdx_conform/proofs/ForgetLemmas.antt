@@ -11,7 +11,7 @@ use Rattle.afdx_conform.specs.Bounds.{AreBounds}
 use Rattle.afdx_conform.specs.Events.{GoUp}
 use Rattle.afdx_conform.specs.Findings.{Judged, Marked, judged_with}
 use Rattle.afdx_conform.specs.Forgetting.{FitNone, with_gone}
-use Rattle.afdx_conform.specs.Growing.{AreTold, Continues, IsAfter, IsHeld, IsKept, due_by, due_in}
+use Rattle.afdx_conform.specs.Growing.{AreTold, Continues, IsAfter, IsHeld, IsKept, IsSound, due_by, due_in}
 use Rattle.afdx_conform.specs.HeldStates.{IsWithin, past, state_of}
 use Rattle.afdx_conform.specs.Histories.{judged_by}
 use Rattle.afdx_conform.specs.Leeway.{both_slacks}
@@ -30,7 +30,7 @@ use Rattle.afdx_conform.proofs.EveryLemmas.{every-append, every-on, every-right,
 
 -- ---- frames
 
-map-drop : {X Y : Type 0} (f : X → Y) (n : ℕ) (xs : List X) → map f (drop n xs) ≡ drop n (map f xs)
+pub map-drop : {X Y : Type 0} (f : X → Y) (n : ℕ) (xs : List X) → map f (drop n xs) ≡ drop n (map f xs)
 map-drop f zero xs = refl
 map-drop f (suc n) [] = refl
 map-drop f (suc n) (x ∷ xs) = map-drop f n xs
@@ -170,6 +170,28 @@ due-frames old count frames' held' items closed =
     else due_in old.bounds.limits (drop (length old.judging.marks.items) old.arrivals.items) l)
     (ap (λ (l : List Frame). drop (old.closed - count) l) items
     ∙ drop-drop (old.closed - count) count old.frames.items ∙ ap (λ (n : ℕ). drop n old.frames.items) same)
+
+pub sound-frames : (old : Growth) (count : ℕ) (frames' : Vec Frame) (held' : Vec Held)
+    → frames'.items ≡ drop count old.frames.items
+    → held'.items ≡ map (λ h. past (h.passed - count) h) old.judging.held.items → count ≤ old.closed → IsSound old
+    → IsSound (without_frames old count frames' held')
+sound-frames old count frames' held' items states closed s =
+    let size : length frames'.items ≡ length old.frames.items - count =
+    ap (λ (l : List Frame). length l) items ∙ length-drop count old.frames.items in
+    let c = s.closed in
+    let f = s.frames in
+    record {
+      rates = s.rates;
+      within = within-frames old.bounds.rates old.frames.items frames'.items (length old.judging.marks.items) count
+          old.judging.held.items held'.items items states s.within;
+      closed = omega (arith, size, c, closed);
+      places = s.places;
+      uncertain = s.uncertain;
+      arrivals = s.arrivals;
+      came = s.came;
+      frames = omega (arith, size, f);
+      left = s.left;
+    }
 
 -- ---- arrivals
 
@@ -398,3 +420,36 @@ module _ (z : Terms) (xs : List Arrival) (ys : List Gone) (cut : ℕ) (over : Li
       (let same = ap (λ (v : Arrived). v.time) at in omega (arith, k, same, le, late, lat, slip)))
       (take (suc n) old.arrivals.items) (no-later old.arrivals.items n a come-up lt)))
       (map gone_of (f ∷ rest)) frames-late)
+
+-- the first of them are, up to the last one that is looked at
+pub early-arrivals : (z : Terms) (xs : List Arrival) (ys : List Gone) (cut : ℕ) (over : List Event) (old : Growth) (count : ℕ)
+    (a : Arrived) (f : Frame) → AreBounds z old.bounds → AreTold z xs ys → 0 < count → count ≤ length old.arrivals.items
+    → a ≡ get_or old.arrivals.items (count - 1) a → f ≡ get_or old.frames.items 0 f
+    → a.time + old.bounds.limits.latency + old.bounds.limits.slacks < f.time → IsHeld z xs ys cut over old
+    → FitNone z (map gone_of old.frames.items)
+    (marked_all (take count old.arrivals.items) (take count old.judging.marks.items))
+early-arrivals z xs ys cut over old count a f bounds told some le at first late held =
+    by old.frames.items refl first
+  where
+    same : suc (count - 1) ≡ count
+    same = omega (arith, some)
+
+    by : (fs : List Frame) → old.frames.items ≡ fs → f ≡ get_or fs 0 f → FitNone z (map gone_of old.frames.items)
+        (marked_all (take count old.arrivals.items) (take count old.judging.marks.items))
+    by [] is e = subst (λ (l : List Frame). FitNone z (map gone_of l)
+        (marked_all (take count old.arrivals.items) (take count old.judging.marks.items))) (sym is) tt
+    by (g ∷ rest) is e =
+        subst (λ (n : ℕ). FitNone z (map gone_of old.frames.items)
+        (marked_all (take n old.arrivals.items) (take n old.judging.marks.items))) same
+        (too-early z xs ys cut over old (count - 1) a f rest bounds told (omega (arith, some, le)) at
+        (is ∙ ap (λ (h : Frame). h ∷ rest) (sym e)) late held)
+
+pub none-early : (z : Terms) (old : Growth) (count : ℕ) → length old.frames.items ≡ 0
+    → FitNone z (map gone_of old.frames.items)
+    (marked_all (take count old.arrivals.items) (take count old.judging.marks.items))
+none-early z old count e = by old.frames.items e
+  where
+    by : (fs : List Frame) → length fs ≡ 0 → FitNone z (map gone_of fs)
+        (marked_all (take count old.arrivals.items) (take count old.judging.marks.items))
+    by [] h = tt
+    by (g ∷ rest) h = absurd (omega (arith, h))

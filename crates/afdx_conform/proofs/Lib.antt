@@ -37,6 +37,11 @@ pub mod DueLemmas
 pub mod GrowthFrames
 pub mod GrowthStarts
 pub mod LoopLemmas
+pub mod GrowthDecides
+pub mod GrowthCloses
+pub mod GrowthNext
+pub mod StandingLemmas
+pub mod StandingDecides
 pub mod EveryLemmas
 pub mod EventLemmas
 pub mod LaterStates
@@ -52,3 +57,7 @@ pub mod WholeLemmas
 pub mod SureLemmas
 pub mod KnownLemmas
 pub mod ForgetLemmas
+pub mod CuttingLemmas
+pub mod EndingLemmas
+pub mod EndDueLemmas
+pub mod CountLemmas

@@ -57,7 +57,7 @@ cut time bound (x ∷ xs) h = by (nat_lt (time x) bound) refl (cut time bound xs
           );
         }
 
-up-left : (xs ys : List ℕ) → GoUp (xs ++ ys) → GoUp xs
+pub up-left : (xs ys : List ℕ) → GoUp (xs ++ ys) → GoUp xs
 unfolding GoUp
 up-left [] ys h = tt
 up-left (x ∷ xs) ys h = (every-left (λ other. x ≤ other) xs ys h.0, up-left xs ys h.1)

@@ -8,7 +8,7 @@ use Rattle.afdx_police.specs.Arrival.{Arrival}
 use Rattle.afdx_conform.specs.Events.{GoUp, arrival_times, closes_before, closings_in, event_time, events_of, frame_times, judged_whole, moment_at}
 use Rattle.afdx_conform.specs.Explanations.{from_time}
 use Rattle.afdx_conform.specs.Findings.{Judged, Marked, came_to, closed_to, judged_after}
-use Rattle.afdx_conform.specs.Growing.{AreTold}
+use Rattle.afdx_conform.specs.Growing.{AreTold, IsKnownBy}
 use Rattle.afdx_conform.specs.Histories.{AreEvents, AreOver, coming, judged_by, next_of, unclosed}
 use Rattle.afdx_conform.specs.Later.{AreFar, ComeLater}
 use Rattle.afdx_conform.specs.Leeway.{both_slacks}
@@ -36,7 +36,7 @@ module _ (z : Terms) where
   abbrev pub AreLate : ℕ → List Gone → Type 0
   AreLate time more = AllByRecursion (λ y. time ≤ y.time + both_slacks z.by) more
 
-  not-open : (w : Arrival) (time : ℕ) → moment_at z w.time < time → time ≤ z.until → is_open z w ≡ false
+  pub not-open : (w : Arrival) (time : ℕ) → moment_at z w.time < time → time ≤ z.until → is_open z w ≡ false
   unfolding is_open
   not-open w time lt le =
       le-ltb z.until (w.time + latency z + both_slacks z.by + both_slacks z.by) (omega (arith, lt, le))
@@ -58,7 +58,7 @@ module _ (z : Terms) where
   )
 
   -- an event isn't before the start
-  from-start : (xs : List Arrival) (ys : List Gone) (e : Event) (before : List Event) → AreTold z xs ys
+  pub from-start : (xs : List Arrival) (ys : List Gone) (e : Event) (before : List Event) → AreTold z xs ys
       → next_of z (coming xs before) (unclosed ys before) ≡ Some e → from_time z.by.start ≤ event_time z e
   from-start xs ys (Came x) before told h =
       let first = next-came z (coming xs before) (unclosed ys before) x h in
@@ -82,6 +82,13 @@ module _ (z : Terms) where
       let from = from-start xs ys e before told events.0 in
       every-on (λ y. time ≤ y.time + both_slacks z.by) (λ y. is_begun_by z z.by.start y ≡ false)
       (λ y le. begun-not z.by.start y (let lt = o.0 in omega (arith, lt, le, from))) more late
+
+  -- an arrival isn't open where its moment lies before the end
+  pub known-closed : (x : Arrival) (end : Option ℕ) → end ≡ None → IsKnownBy z end (Came x) → false ≡ is_open z x
+  unfolding is_open
+  known-closed x end none known =
+      let le = subst (λ (o : Option ℕ). IsKnownBy z o (Came x)) none known in
+      sym (le-ltb z.until (x.time + latency z + both_slacks z.by + both_slacks z.by) (omega (arith, le)))
 
   -- ---- forgotten arrivals
 

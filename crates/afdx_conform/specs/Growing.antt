@@ -2,6 +2,9 @@
 use Rattle.std.specs.Prelude.{◌≡◌, ℕ, ◌+◌, ◌-◌, ◌<◌, ◌≤◌, ◌⊎◌, Bool, true, false, min, nat_lt, List, [], ◌∷◌, ◌++◌, drop, length, map, All, Option, Some, None, if◌then◌else◌}
 use Rattle.std.specs.List.{AllByRecursion}
 use Rattle.afdx_police.specs.Arrival.{Arrival}
+use Rattle.afdx_police.specs.Rule.{regulation_of}
+use Rattle.afdx_police.specs.RuleOf.{rule_of}
+use Rattle.afdx_conform.specs.Accounts.{AreRates}
 use Rattle.afdx_conform.specs.Bounds.{AreBounds}
 use Rattle.afdx_conform.specs.Events.{GoUp, arrival_times, closings_in, event_time, frame_times, moment_at}
 use Rattle.afdx_conform.specs.Explanations.{from_time, last_time}
@@ -28,12 +31,14 @@ most_found = 0xffffffffffffffff
 
 -- its numbers are within bounds
 pub record IsSound (s : Growth) : Type 0 where
+  pub rates : AreRates (regulation_of (rule_of s.rule)) (leeway_of s.by) s.bounds.rates
   pub within : All (λ h. IsWithin s.bounds.rates (length s.frames.items)
       (length s.judging.marks.items) h) s.judging.held.items
   pub closed : s.closed ≤ length s.frames.items
   pub places : length s.judging.marks.items ≤ length s.arrivals.items
   pub uncertain : s.judging.uncertain + length s.arrivals.items
       ≤ s.came + length s.judging.marks.items
+  pub arrivals : length s.arrivals.items ≤ s.came
   pub came : s.came < most_held
   pub frames : length s.frames.items ≤ s.left
   pub left : s.left + s.cut < most_held

@@ -127,6 +127,7 @@ impl Growth {
         self.unsure = number_if(self.judging.is_unsure, number);
         self.last = last;
         self.count(found.as_slice());
+        self.forget();
         Ok(found)
     }
 
@@ -156,6 +157,7 @@ impl Growth {
         )?;
         self.closed += 1;
         self.count(found.as_slice());
+        self.forget();
         Ok(found)
     }
 
@@ -183,11 +185,9 @@ impl Growth {
             return Ok(Vec::new(alloc));
         };
         self.start(alloc)?;
-        let found = match upcoming {
-            Upcoming::Arrival => self.come(alloc, end)?,
-            Upcoming::Closing => self.close(alloc)?,
-        };
-        self.forget();
-        Ok(found)
+        match upcoming {
+            Upcoming::Arrival => self.come(alloc, end),
+            Upcoming::Closing => self.close(alloc),
+        }
     }
 }

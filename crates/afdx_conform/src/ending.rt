@@ -1,6 +1,6 @@
 //! The end of a stream: what is cut off there, and what is counted.
 
-ghost use Rattle.std.specs.Prelude.{◌≡◌, ◌≤◌, ◌<◌, ◌+◌, ◌-◌, ℕ, List, IsTrue, ◌↔◌, length, map};
+ghost use Rattle.std.specs.Prelude.{◌≡◌, [], if◌then◌else◌, ◌≤◌, ◌<◌, ◌+◌, ◌-◌, ℕ, List, IsTrue, ◌↔◌, length, map};
 ghost use Rattle.std.specs.Prelude.{get_or, None, ◌⊎◌};
 ghost use Rattle.std.specs.List.{AllByRecursion};
 ghost use Rattle.afdx_police.specs.Arrival.{Arrival};
@@ -42,6 +42,15 @@ fn kept_until(limits: &Limits, frames: &[Frame], from: usize, until: u64) -> usi
     frames.len()
 }
 
+/// Before the first event no state is known.
+fn known_states(held: &mut Vec<Held>, is_started: bool)
+    ensures { held.new.items ≡ (if is_started then held.old.items else []) }
+{
+    if !is_started {
+        held.truncate(0);
+    }
+}
+
 /// The least number that waits in one of these states; without states 0.
 fn least_waiting(held: &[Held]) -> u64
     ensures { (ys : List Gone) → result ≡ least_of (map (state_of ys) held.now) }
@@ -75,6 +84,7 @@ impl Growth {
         if self.judging.is_unsure {
             return;
         }
+        known_states(&mut self.judging.held, self.is_started);
         let front = front_of(self.judging.held.as_slice(), 0).max(self.closed);
         let kept = kept_until(&self.bounds.limits, self.frames.as_slice(), front, until);
         let cut = (self.frames.len() - kept) as u64;

@@ -2,6 +2,9 @@
 
 ghost use Rattle.std.specs.Prelude.{◌≡◌, ◌≤◌, ◌++◌, ◌∷◌, [], ℕ, List, OnOk, OnErr};
 ghost use Rattle.afdx_police.specs.Arrival.{Arrival};
+ghost use Rattle.afdx_police.specs.Rule.{regulation_of};
+ghost use Rattle.afdx_police.specs.RuleOf.{rule_of};
+ghost use Rattle.afdx_conform.specs.Accounts.{AreRates};
 ghost use Rattle.afdx_conform.specs.Bounds.{AreBounds};
 ghost use Rattle.afdx_conform.specs.Explanations.{from_time};
 ghost use Rattle.afdx_conform.specs.Histories.{AreOver};
@@ -18,6 +21,7 @@ use crate::bounds::Bounds;
 use crate::judging::Judging;
 use crate::leeway::Leeway;
 use crate::limits::Frame;
+use afdx_police::LinkRule;
 use std::alloc::{AllocError, Global};
 
 /// More arrivals, and frames, than a stream is told.
@@ -32,6 +36,7 @@ const MOST_HELD: u64 = 1 << 48;
 /// frames are in findings. `unsure` is the arrival behind which there were too many states.
 #[derive(Drop)]
 pub(crate) struct Growth {
+    pub(crate) rule: LinkRule,
     pub(crate) bounds: Bounds,
     pub(crate) by: Leeway,
     pub(crate) arrivals: Vec<Arrived>,
@@ -59,7 +64,8 @@ fn start_of(by: &Leeway) -> u64
 
 impl Growth {
     /// Before anything came.
-    pub(crate) fn new(alloc: Global, bounds: Bounds, by: Leeway) -> Growth
+    pub(crate) fn new(alloc: Global, rule: &LinkRule, bounds: Bounds, by: Leeway) -> Growth
+        requires { AreRates (regulation_of (rule_of rule.now)) (leeway_of by) bounds.rates }
         ensures sound { IsSound result }
         ensures after { (z : Terms) → AreBounds z bounds → z.by ≡ leeway_of by →
             IsAfter z [] [] 0 [] result }
@@ -72,6 +78,7 @@ impl Growth {
         };
         let last = start_of(&by);
         Growth {
+            rule: *rule,
             bounds,
             by,
             arrivals: Vec::new(alloc),

@@ -53,7 +53,7 @@ impl Stream {
     {
         let rates = Rates::new(rule, &by);
         let limits = Limits::new(latency_ns, byte_ns, &by);
-        let growth = Growth::new(alloc, Bounds { rates, limits }, by);
+        let growth = Growth::new(alloc, rule, Bounds { rates, limits }, by);
         Stream { growth }
     }
 

@@ -1,3 +1,2 @@
-use Rattle.afdx_conform.proofs.HistoryLemmas.{events-came}
-use Rattle.afdx_conform.proofs.OverLemmas.{come-later}
-use Rattle.afdx_conform.proofs.GrowthLemmas.{up-more}
+use Rattle.afdx_conform.proofs.StandingLemmas.{on-err}
+use Rattle.afdx_conform.proofs.StandingDecides.{in-order}
