@@ -112,10 +112,11 @@ def account_words(totals: Row) -> str:
     if not totals.get("explained"):
         return "nothing was shown, as no frame is explained"
     uncertain, explained = totals["uncertain"], totals["explained"]
+    frames = "1 explained frame" if explained == 1 else f"{explained:,} explained frames"
     if not uncertain:
-        return f"no answer was left open beside {explained:,} explained frames"
+        return f"no answer was left open beside {frames}"
     share = percent(uncertain / explained)
     answers = "1 answer was" if uncertain == 1 else f"{uncertain:,} answers were"
-    words = f"{answers} left open beside {explained:,} explained frames ({share}), where both "
+    words = f"{answers} left open beside {frames} ({share}), where both "
     words += "would have been right"
     return words + ("; so little was shown" if 2 * uncertain > explained else "")
