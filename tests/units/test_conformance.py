@@ -6,7 +6,7 @@ import unittest
 from typing import Iterator
 
 from afdx_tools.conformance.judging import Deviation, judged_of
-from afdx_tools.conformance.measuring import Measured, Pair, Stream
+from afdx_tools.conformance.measuring import Measured, Named, Pair, Stream
 from afdx_tools.conformance.numbers import Numbers, account_words, rank, totals_of
 from afdx_tools.conformance.options import Options, add_conform_words, conform_options, vl_or_other
 from afdx_tools.faults import Refused
@@ -37,7 +37,8 @@ def left(time: int, number: int, vl: int = 10, side: str = "A") -> str:
 
 def measured(came: list[str], gone: list[str], options: Options = Options()) -> Measured:
     """What is measured of two lists; what the third line of LEFT has is strange."""
-    return Measured(CONFIG, options, lines(*came), lines(*gone), {3})
+    found = judged_of(["late 1 A 3 17", "stopped 2 A 3", "strange 3 A 3 out-of-turn"]).deviations
+    return Measured(CONFIG, options, lines(*came), lines(*gone), found)
 
 
 class Lines(unittest.TestCase):
@@ -96,7 +97,8 @@ class Measuring(unittest.TestCase):
             [left(79, 1), left(80, 2), left(90_001, 3)],
             options,
         )
-        self.assertEqual(found.times, {False: {2: 100}, True: {2: 80}})
+        self.assertEqual([found.pairs(each) for each in found.streams()], [[]])
+        self.assertEqual(found.named, {False: {2: Named(100, 10)}, True: {}})
 
 
 class Rows(unittest.TestCase):
@@ -105,8 +107,9 @@ class Rows(unittest.TestCase):
     def numbers(self) -> Numbers:
         """Of three frames that came, two that left, one of them late."""
         came = [arrival(time, "A", 10, time) for time in (0, 1, 2)]
-        found = measured(came, [left(60_000, 0), left(100_018, 1)])
         judged = judged_of(["late 2 A 3 17", "stopped 3 A 3", *OUT[4:]])
+        gone = lines(left(60_000, 0), left(100_018, 1))
+        found = Measured(CONFIG, Options(), lines(*came), gone, judged.deviations)
         return Numbers(CONFIG, checked_of(["P 3 70000 - 300", "ok"]), judged, found)
 
     def test_a_stream(self) -> None:

@@ -4,9 +4,10 @@ from __future__ import annotations
 
 import hashlib
 from collections import defaultdict, deque
-from typing import Iterable, NamedTuple
+from typing import Iterable, NamedTuple, Sequence
 
 from afdx_tools.config import MOST_PORTS, Config, Link
+from afdx_tools.conformance.judging import Deviation
 from afdx_tools.conformance.options import Options
 from afdx_tools.lists import Listed, sealed
 
@@ -15,14 +16,13 @@ BEFORE_FRAME = 8  # bytes of the line: preamble and delimiter
 
 
 class Seen(NamedTuple):
-    """A frame as a list has it: its line, its time, what stands for its bytes, how many these are,
-    and its link."""
+    """A frame as a list has it: its line, its time, what stands for its bytes, and how many these
+    are."""
 
     line: int
     time: int
     bytes: bytes
     length: int
-    vl: int | None
 
 
 class Stream(NamedTuple):
@@ -55,12 +55,19 @@ def seen_of(listed: Listed) -> Seen:
     """A line of a list."""
     content = sealed(listed)
     key = hashlib.blake2b(content, digest_size=16).digest()
-    return Seen(listed.line, listed.time, key, len(content), listed.vl)
+    return Seen(listed.line, listed.time, key, len(content))
+
+
+class Named(NamedTuple):
+    """A frame that a finding names: its time, and its link, None where its address is of none."""
+
+    time: int
+    vl: int | None
 
 
 class Measured:
     """Two lists, of which the lines that aren't passed over are taken: of each stream what came,
-    what left, and the pairs."""
+    what left, and the pairs; and the frames that the findings name, of CAME and of LEFT."""
 
     def __init__(
         self,
@@ -68,15 +75,15 @@ class Measured:
         options: Options,
         came: Iterable[Listed],
         left: Iterable[Listed],
-        strange: set[int],
+        found: Sequence[Deviation],
     ) -> None:
         self.options = options
         self.first, self.links = links_at(config, options.switch)
         self.by_port = config.by_port()
-        self.strange = strange  # lines of LEFT that are of no arrival
-        # by line, of CAME and of LEFT
-        self.times: dict[bool, dict[int, int]] = {False: {}, True: {}}
-        self.vls: dict[bool, dict[int, int | None]] = {False: {}, True: {}}
+        numbers = {is_left: {each.number for each in found if each.is_left == is_left}
+                   for is_left in (False, True)}
+        self.numbers, self.strange = numbers, numbers[True]
+        self.named: dict[bool, dict[int, Named]] = {False: {}, True: {}}
         self.came: dict[tuple[str, int], list[Seen]] = defaultdict(list)
         self.left: dict[Stream, list[Seen]] = defaultdict(list)
         for listed in self.taken(came, False):
@@ -92,8 +99,8 @@ class Measured:
         """The lines that aren't passed over."""
         for listed in lines:
             if self.options.is_taken(listed.time, listed.vl, is_left):
-                self.times[is_left][listed.line] = listed.time
-                self.vls[is_left][listed.line] = listed.vl
+                if listed.line in self.numbers[is_left]:
+                    self.named[is_left][listed.line] = Named(listed.time, listed.vl)
                 yield listed
 
     def streams(self) -> list[Stream]:

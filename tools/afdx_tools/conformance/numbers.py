@@ -6,7 +6,7 @@ from typing import Sequence
 
 from afdx_tools.config import Config
 from afdx_tools.conformance.judging import FINDINGS, Deviation, Judged
-from afdx_tools.conformance.measuring import Measured, Stream
+from afdx_tools.conformance.measuring import Measured, Named, Stream
 from afdx_tools.replay.checked import Checked
 from afdx_tools.tables import Row, percent
 
@@ -38,12 +38,13 @@ class Numbers:
         self.pairs = {stream: measured.pairs(stream) for stream in measured.streams()}
         self.found: dict[tuple[str, int | None, int], Counter[str]] = {}
         for each in judged.deviations:
-            key = each.side, self.vl_of(each), each.port
+            frame = self.frame_of(each)
+            key = each.side, frame.vl if frame else None, each.port
             self.found.setdefault(key, Counter())[each.word] += 1
 
-    def vl_of(self, deviation: Deviation) -> int | None:
-        """The link of the frame that a line names, None where that is of none."""
-        return self.measured.vls[deviation.is_left].get(deviation.number)
+    def frame_of(self, deviation: Deviation) -> Named | None:
+        """The frame that a line names, None where nothing was measured."""
+        return self.measured.named[deviation.is_left].get(deviation.number)
 
     def streams(self) -> list[Row]:
         """A row for each stream: what came and left, what was found, what was measured of it beside
@@ -82,12 +83,13 @@ class Numbers:
     def deviation(self, each: Deviation) -> Row:
         """A line's row."""
         port = self.measured.by_port.get(self.measured.first + each.port)
+        frame = self.frame_of(each)
         return {
             "what": each.word,
             "list": "LEFT" if each.is_left else "CAME",
             "line": each.number,
-            "time_ns": self.measured.times[each.is_left].get(each.number),
-            "link": self.vl_of(each),
+            "time_ns": frame.time if frame else None,
+            "link": frame.vl if frame else None,
             "side": each.side,
             "port": each.port,
             "system": port.name if port else None,
@@ -110,10 +112,11 @@ def account_words(totals: Row) -> str:
     if not totals.get("explained"):
         return "nothing was shown, as no frame is explained"
     uncertain, explained = totals["uncertain"], totals["explained"]
+    frames = "1 explained frame" if explained == 1 else f"{explained:,} explained frames"
     if not uncertain:
-        return f"no answer was left open beside {explained:,} explained frames"
+        return f"no answer was left open beside {frames}"
     share = percent(uncertain / explained)
     answers = "1 answer was" if uncertain == 1 else f"{uncertain:,} answers were"
-    words = f"{answers} left open beside {explained:,} explained frames ({share}), where both "
+    words = f"{answers} left open beside {frames} ({share}), where both "
     words += "would have been right"
     return words + ("; so little was shown" if 2 * uncertain > explained else "")

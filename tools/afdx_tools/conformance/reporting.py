@@ -53,11 +53,10 @@ def measured_of(
     paths: list[str], options: Options, judged: Judged, progress: Progress
 ) -> Measured:
     """What is measured; nothing where a fault ended the run."""
-    strange = {each.number for each in judged.deviations if each.is_left}
     nothing: Iterator[Listed] = iter(())
     came, left = (nothing if judged.fault else read_list(path) for path in paths[1:])
     progress.report("measuring")
-    return Measured(read_config(paths[0]), options, came, left, strange)
+    return Measured(read_config(paths[0]), options, came, left, judged.deviations)
 
 
 def made_by(
