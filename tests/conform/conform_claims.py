@@ -35,14 +35,17 @@ class Judge:
         """What it answers, with more options; the list of that name is its standard input."""
         if self.program is None:
             return conform(*pair)
-        given, inputs = b"", []
-        for name, text in zip(FILES, pair[:3]):
-            if name == standard:
-                given = text
-            is_given = name == standard
-            name = f"{name}-{threading.get_ident()}"  # until this thread writes its next one
-            inputs.append("-" if is_given else self.program.write(name, text))
-        return self.program.run("conform", *more, *pair.words, *inputs, given=given)
+        return self.run((*more, *pair.words), dict(zip(FILES, pair[:3])), standard)
+
+    def run(self, words: tuple[str, ...], inputs: dict[str, bytes], standard: str = "") -> Answer:
+        """What the program answers to these options and inputs, by their names."""
+        assert self.program is not None
+        paths = []
+        for name, text in inputs.items():
+            # until this thread writes its next one
+            path = self.program.write(f"{name}-{threading.get_ident()}", text)
+            paths.append("-" if name == standard else path)
+        return self.program.run("conform", *words, *paths, given=inputs.get(standard, b""))
 
 
 JUDGED = Judge()
@@ -129,9 +132,9 @@ def told_early(judge: Judge, seed: int, count: int) -> None:
     must(told, "nothing was told before a fault")
 
 
-def judged_alike(judge: Judge, seed: int, count: int) -> None:
+def judged_alike(judge: Judge, seed: int, count: int, first: int = 0) -> None:
     """It answers what is computed here, with any of the options that change nothing."""
-    for case in range(count):
+    for case in range(first, first + count):
         pair = small_pair(random.Random(f"{seed} {case} alike"), faulty=0.15)
         wanted, (more, standard) = conform(*pair), WAYS[case % len(WAYS)]
         found = judge.answer(pair, *more, standard=standard)

@@ -6,7 +6,7 @@ import random
 from conform import conform
 from conform_claims import Judge
 from conform_recorded import conform_recordings
-from program import Answer, Program, Wrong, answers, must, same_text
+from program import Answer, Wrong, answers, must, same_text
 from recorded_cases import RecordedCase, Seen, as_recordings, seen_in, small_recordings
 from recorded_rows import RecordedRow
 from rows import CONFIGS
@@ -17,9 +17,8 @@ def answer_to(judge: Judge, case: RecordedCase) -> Answer:
     """What it answers."""
     if judge.program is None:
         return conform_recordings(*case)
-    program: Program = judge.program.apart()
-    paths = [program.write(f"input-{place}", data) for place, data in enumerate(case.data)]
-    return program.run("conform", *case.words, program.write("config", case.config), *paths)
+    inputs = {f"input-{place}": data for place, data in enumerate(case.data)}
+    return judge.run(case.words, {"config": case.config} | inputs)
 
 
 def recorded_row_holds(judge: Judge, row: RecordedRow) -> None:
@@ -63,9 +62,9 @@ def recorded_as_lists(judge: Judge, seed: int, count: int) -> None:
     must(tried > count // 10, "too few cases")
 
 
-def recorded_alike(judge: Judge, seed: int, count: int) -> None:
+def recorded_alike(judge: Judge, seed: int, count: int, first: int = 0) -> None:
     """It answers what is computed here."""
-    for case in range(count):
+    for case in range(first, first + count):
         made = small_recordings(random.Random(f"{seed} {case} recordings"))
         wanted = conform_recordings(*made)
         try:
