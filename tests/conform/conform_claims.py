@@ -10,7 +10,7 @@ from conform import Judging, Taken, conform
 from conform_explains import is_explained, is_right
 from conform_terms import Options
 from one_switch import MS
-from program import Answer, Program, Wrong, answers, must
+from program import Answer, Program, Wrong, answers, least_room, must
 from recorded_switch import Recorded, RecordedSwitch, Told, lines_of
 from rows import CONFIGS, ROWS, Row, list_of
 from small_cases import Pair, small_pair
@@ -18,6 +18,7 @@ from traffic_made import bench_tables, traffic
 
 NAMES = {"slack": "--slack", "drift": "--drift", "inner": "--inner", "asked": "--asked"}
 FILES = ("config", "came", "left")  # the inputs of a judge
+SHORT = 5_000  # frames of which it holds what it holds of any number
 # options that change nothing of an answer, and the list that is read as standard input
 WAYS: tuple[tuple[tuple[str, ...], str], ...] = (
     ((), ""), (("--line-buffered",), ""), (("--progress",), "came"), (("--summary",), "left"),
@@ -262,6 +263,24 @@ def long_run_conforms(judge: Judge, count: int) -> None:
     pair = Pair(made.text_of(tables), lines_of(switch.came), lines_of(switch.left),
                 words_of(options))
     nothing_found(judge, pair)
+
+
+def steady_lists(program: Program, count: int) -> list[str]:
+    """Files of a configuration, of so many frames that came, a BAG apart, and of them as they left.
+    """
+    texts = [list_of(" / ".join(str(place * MS + more) for place in range(count)), name)
+             for name, more in (("came", 0), ("left", 6_720))]
+    every = zip(FILES, (CONFIGS["base"], *texts))
+    return [program.write(f"{name}-{count}", text) for name, text in every]
+
+
+def steady_memory(program: Program, frames: int) -> None:
+    """So many frames take no more memory than a few, up to 64 KiB."""
+    program = program.apart()
+    short, long = (steady_lists(program, count) for count in (SHORT, frames))
+    room = least_room(lambda room: program.run_limited(room, "conform", *short).status == 0)
+    last = b"conforms explained %d open 0 uncertain 0 left-out 0 unseen 0\n" % frames
+    answers(program.run_limited(room + 64, "conform", *long), 0, last, b"")
 
 
 # ---- wrong switches ------------------------------------------------------------------------------

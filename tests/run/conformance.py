@@ -32,7 +32,7 @@ from conform_claims import JUDGED, Judge  # noqa: E402
 from conform_claims import are_explained, bodies_are_refused, judged_alike  # noqa: E402
 from conform_claims import anywhere_conform, left_out_conform, long_run_conforms  # noqa: E402
 from conform_claims import right_conform, row_holds, rows_are_explained  # noqa: E402
-from conform_claims import told_early, wrong_are_found  # noqa: E402
+from conform_claims import steady_memory, told_early, wrong_are_found  # noqa: E402
 from program import Program, try_both  # noqa: E402
 from recorded_claims import recorded_alike, recorded_as_lists, recorded_row_holds  # noqa: E402
 from recorded_rows import RECORDED_ROWS  # noqa: E402
@@ -90,6 +90,7 @@ def judged_cases(judge: Judge, given: argparse.Namespace) -> list[tuple]:
     """What is tried with a program that judges."""
     cases = cases_of(judge, "program", given)
     cases.append(("what is explained", rows_are_explained, judge))
+    cases.append(("memory of 100,000 frames", steady_memory, judge.program, 100_000))
     for seed in range(given.seed, given.seed + SEEDS):
         cases.append((f"cases made at random, {seed}", judged_alike, judge, seed, given.count))
     return cases
