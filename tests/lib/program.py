@@ -89,6 +89,19 @@ class Program:
         return Answer(done.returncode, done.stdout, done.stderr)
 
 
+def least_room(runs_in: Callable[[int], bool]) -> int:
+    """The least address space, in KiB and to the nearest 64, in which something runs."""
+    low, high = 0, 1 << 20
+    while high - low > 64:
+        middle = (low + high) // 2
+        if runs_in(middle):
+            high = middle
+        else:
+            low = middle
+    must(high < 1 << 20, "it takes a GiB")
+    return high
+
+
 def text_within(pipe: int, size: int, seconds: float) -> bytes:
     """So many bytes of a pipe, or those that come in so many seconds."""
     text = b""

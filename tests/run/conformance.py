@@ -10,7 +10,9 @@ and by exact stamps exactly where the frames are those that the window rule acce
 is never accused, whatever its clock, its stamps, its asking and its delays inside; a wrong one is
 found at each frame with which it is amiss. What a replay says to leave conforms. With PROGRAM so
 does what the program replays, and where it has `conform` it must answer as is computed here, byte
-for byte, from files and standard input, with each option that changes nothing.
+for byte, from files and standard input, with each option that changes nothing. Where its help has
+`--left`, recordings are judged too: those that are spelled out in tests/conform/recorded_rows.py,
+small cases as recorders would write them, and such that are cut, changed or of other options.
 N small cases (100 where it isn't given) are tried for each of the seeds S to S + 3 (0 to 3): N of
 25000 tries 100,000 on the program. The long run is of F frames of each side (1,500).
 Prints `ok NAME` or `FAILED NAME` for each case, then `N passed, M failed`; ends with status 1 if a
@@ -24,13 +26,16 @@ import sys
 
 sys.dont_write_bytecode = True
 TESTS = os.path.join(os.path.dirname(os.path.abspath(__file__)), "..")
-sys.path[:0] = [os.path.join(TESTS, name) for name in ("lib", "conform", "cascades", "fuzzing")]
+PARTS = ("lib", "conform", "cascades", "fuzzing", "recordings")
+sys.path[:0] = [os.path.join(TESTS, name) for name in PARTS]
 from conform_claims import JUDGED, Judge  # noqa: E402
 from conform_claims import are_explained, bodies_are_refused, judged_alike  # noqa: E402
 from conform_claims import anywhere_conform, left_out_conform, long_run_conforms  # noqa: E402
 from conform_claims import right_conform, row_holds, rows_are_explained  # noqa: E402
-from conform_claims import told_early, wrong_are_found  # noqa: E402
+from conform_claims import steady_memory, told_early, wrong_are_found  # noqa: E402
 from program import Program, try_both  # noqa: E402
+from recorded_claims import recorded_alike, recorded_as_lists, recorded_row_holds  # noqa: E402
+from recorded_rows import RECORDED_ROWS  # noqa: E402
 from replay_claims import cascades_conform, computed_replay, examples_conform  # noqa: E402
 from replay_claims import replay_of, stored_conform  # noqa: E402
 from rows import ROWS  # noqa: E402
@@ -55,11 +60,23 @@ def cases_of(judge: Judge, who: str, given: argparse.Namespace) -> list[tuple]:
     return cases
 
 
+def recorded_cases(judge: Judge, who: str, given: argparse.Namespace) -> list[tuple]:
+    """What a judge must answer to recordings."""
+    cases: list[tuple] = [
+        (f"{who}, recorded: {row.name}", recorded_row_holds, judge, row) for row in RECORDED_ROWS
+    ]
+    for seed in range(given.seed, given.seed + SEEDS - 1):
+        name = f"{who}: recordings as the lists that say the same, {seed}"
+        cases.append((name, recorded_as_lists, judge, seed, given.count))
+    return cases
+
+
 def computed_cases(given: argparse.Namespace) -> list[tuple]:
     """What is tried without the program."""
     seeds = range(given.seed, given.seed + SEEDS - 1)
     return [
         *cases_of(JUDGED, "computed", given),
+        *recorded_cases(JUDGED, "computed", given),
         *((f"refused: {name}", bodies_are_refused, body) for name, body in wrong_bodies()),
         *((f"explained exactly where nothing is found, {seed}", are_explained, seed, given.count)
           for seed in seeds),
@@ -73,6 +90,7 @@ def judged_cases(judge: Judge, given: argparse.Namespace) -> list[tuple]:
     """What is tried with a program that judges."""
     cases = cases_of(judge, "program", given)
     cases.append(("what is explained", rows_are_explained, judge))
+    cases.append(("memory of 100,000 frames", steady_memory, judge.program, 100_000))
     for seed in range(given.seed, given.seed + SEEDS):
         cases.append((f"cases made at random, {seed}", judged_alike, judge, seed, given.count))
     return cases
@@ -85,6 +103,11 @@ def program_cases(program: Program, given: argparse.Namespace) -> list[tuple]:
     if program.knows("conform"):
         judge, who = Judge(program), "program"
         cases += judged_cases(judge, given)
+    if program.knows("conform", "--left"):
+        cases += recorded_cases(judge, who, given)
+        for seed in range(given.seed, given.seed + SEEDS):
+            cases.append((f"recordings made at random, {seed}", recorded_alike, judge, seed,
+                          given.count))
     cases.append((f"{who}: replays by the program conform", examples_conform, judge, program))
     cases.append((f"{who}: replays by the program, several switches", cascades_conform, judge,
                   replay_of(program), 8, 6))
