@@ -4,7 +4,7 @@ use Rattle.std.proofs.lemmas.Bool.{ltb-true, ltb-false}
 use Rattle.std.specs.Prelude.{⊤, if◌then◌else◌}
 use Rattle.std.specs.List.{AllByRecursion}
 use Rattle.afdx_police.specs.Arrival.{Arrival}
-use Rattle.afdx_conform.specs.EventLaws.{ComeFirst, EventsJoin, EventsAreWhole}
+use Rattle.afdx_conform.specs.EventLaws.{EventsJoin, EventsAreWhole}
 use Rattle.afdx_conform.specs.Events.{GoUp, arrival_times, frame_times, closings_in, closes_before, up_to, events_of, event_time}
 use Rattle.afdx_conform.specs.Leeway.{both_slacks}
 use Rattle.afdx_conform.specs.States.{Event, Came, Closing, arrivals_came, IsBehindClosings, AreInOrder}
@@ -23,21 +23,24 @@ module _ (z : Terms) where
   unfolding events_of up_to
   first-closed [] y left h = refl
   first-closed (x ∷ behind) y left h =
-      ap (λ (b : Bool). if b then Closing y.time ∷ events_of z (x ∷ behind) left else Came x ∷ events_of z behind (y ∷ left)) h.0
+      ap (λ (b : Bool). if b then Closing y.time ∷ events_of z (x ∷ behind) left
+      else Came x ∷ events_of z behind (y ∷ left)) h.0
 
   first-came : (x : Arrival) (xs : List Arrival) (left : List Gone) → NotBefore left x
       → events_of z (x ∷ xs) left ≡ Came x ∷ events_of z xs left
   unfolding events_of up_to
   first-came x xs [] h = refl
   first-came x xs (y ∷ left) h =
-      ap (λ (b : Bool). if b then Closing y.time ∷ events_of z (x ∷ xs) left else Came x ∷ events_of z xs (y ∷ left)) h.0
+      ap (λ (b : Bool). if b then Closing y.time ∷ events_of z (x ∷ xs) left
+      else Came x ∷ events_of z xs (y ∷ left)) h.0
 
   if-cons : (b : Bool) (e f : Event) (l l' m m' r : List Event) → l ≡ l' ++ r → m ≡ m' ++ r
       → (if b then e ∷ l else f ∷ m) ≡ (if b then e ∷ l' else f ∷ m') ++ r
   if-cons true e f l l' m m' r p q = ap (λ (k : List Event). e ∷ k) p
   if-cons false e f l l' m m' r p q = ap (λ (k : List Event). f ∷ k) q
 
-  join : (xs behind : List Arrival) (ys left : List Gone) → AllByRecursion (BeforeAll behind) ys → AllByRecursion (NotBefore left) xs
+  pub join : (xs behind : List Arrival) (ys left : List Gone) → AllByRecursion (BeforeAll behind) ys
+      → AllByRecursion (NotBefore left) xs
       → events_of z (xs ++ behind) (ys ++ left) ≡ events_of z xs ys ++ events_of z behind left
   unfolding events_of up_to
   join [] behind [] left closed came = refl
@@ -58,7 +61,8 @@ events_join z xs behind ys left h = join z xs behind ys left h.closed h.came
 -- ---- what is so of each event
 
 module _ (z : Terms) where
-  if-of : {X : Type 0} (P : X → Type 0) (b : Bool) (u v : X) → (b ≡ true → P u) → (b ≡ false → P v) → P (if b then u else v)
+  if-of : {X : Type 0} (P : X → Type 0) (b : Bool) (u v : X) → (b ≡ true → P u) → (b ≡ false → P v)
+      → P (if b then u else v)
   if-of P true u v p q = p refl
   if-of P false u v p q = q refl
 
@@ -71,7 +75,8 @@ module _ (z : Terms) where
   every-event P (x ∷ xs) (y ∷ ys) p q =
       let one = every-event P (x ∷ xs) ys p q.1 in
       let two = every-event P xs (y ∷ ys) p.1 q in
-      if-of (AllByRecursion P) (closes_before z y x) (Closing y.time ∷ events_of z (x ∷ xs) ys) (Came x ∷ events_of z xs (y ∷ ys))
+      if-of (AllByRecursion P) (closes_before z y x) (Closing y.time ∷ events_of z (x ∷ xs) ys)
+      (Came x ∷ events_of z xs (y ∷ ys))
       (λ e. (q.0, one)) (λ e. (p.0, two))
 
   pub came-all : (xs : List Arrival) (ys : List Gone) → arrivals_came (events_of z xs ys) ≡ xs
@@ -93,7 +98,8 @@ module _ (z : Terms) where
   closed-all (x ∷ xs) (y ∷ ys) =
       let one = closed-all (x ∷ xs) ys in
       let two = closed-all xs (y ∷ ys) in
-      if-of (λ l. closings_in l ≡ y.time ∷ frame_times ys) (closes_before z y x) (Closing y.time ∷ events_of z (x ∷ xs) ys)
+      if-of (λ l. closings_in l ≡ y.time ∷ frame_times ys) (closes_before z y x)
+      (Closing y.time ∷ events_of z (x ∷ xs) ys)
       (Came x ∷ events_of z xs (y ∷ ys)) (λ e. ap (λ (l : List ℕ). y.time ∷ l) one) (λ e. two)
 
   -- ---- by time
@@ -108,7 +114,8 @@ module _ (z : Terms) where
   from-frames : (time : ℕ) (ys : List Gone) → AllByRecursion (λ other. time ≤ other) (frame_times ys)
       → AllByRecursion (λ y. NotBelow (time + both_slacks z.by) (Closing y.time)) ys
   from-frames time ys h =
-      every-on (λ y. time ≤ y.time) (λ y. NotBelow (time + both_slacks z.by) (Closing y.time)) (λ y le. omega (arith, le)) ys
+      every-on (λ y. time ≤ y.time) (λ y. NotBelow (time + both_slacks z.by) (Closing y.time))
+      (λ y le. omega (arith, le)) ys
       (every-unmap (λ other. time ≤ other) (λ y. y.time) ys h)
 
   more-below : (low high : ℕ) (events : List Event) → low ≤ high → AllByRecursion (NotBelow high) events
@@ -151,7 +158,8 @@ module _ (z : Terms) where
         every-map (λ other. x.time ≤ other) (event_time z) (events_of z xs (y ∷ ys))
             (every-event (NotBelow x.time) xs (y ∷ ys) (from-arrivals x.time xs p.0) (
               le,
-              every-on (λ w. NotBelow (y.time + both_slacks z.by) (Closing w.time)) (λ w. NotBelow x.time (Closing w.time))
+              every-on (λ w. NotBelow (y.time + both_slacks z.by) (Closing w.time))
+                  (λ w. NotBelow x.time (Closing w.time))
                   (λ w k. omega (arith, k, le)) ys (from-frames y.time ys q.0),
             )),
         two,
@@ -192,13 +200,15 @@ module _ (z : Terms) where
   order-first : (e : Event) (l : List Event) → AreInOrder z (reverse l ++ (e ∷ [])) → AreInOrder z (reverse (e ∷ l))
   order-first e l h = subst (λ k. AreInOrder z k) (sym (reverse-first e l)) h
 
-  pub in-order : (xs : List Arrival) (ys : List Gone) → GoUp (arrival_times xs) → AreInOrder z (reverse (events_of z xs ys))
+  pub in-order : (xs : List Arrival) (ys : List Gone) → GoUp (arrival_times xs)
+      → AreInOrder z (reverse (events_of z xs ys))
   unfolding GoUp AreInOrder events_of up_to
   in-order [] [] p = tt
   in-order [] (y ∷ ys) p =
       order-first (Closing y.time) (events_of z [] ys)
       (order-closing y.time (reverse (events_of z [] ys))
-      (every-reverse (ComesBehind y.time) (events_of z [] ys) (every-event (ComesBehind y.time) [] ys tt (every-all (λ v. ⊤) (λ v. tt) ys)))
+      (every-reverse (ComesBehind y.time) (events_of z [] ys)
+      (every-event (ComesBehind y.time) [] ys tt (every-all (λ v. ⊤) (λ v. tt) ys)))
       (in-order [] ys p))
   in-order (x ∷ xs) [] p =
       order-first (Came x) (events_of z xs []) (order-came x (reverse (events_of z xs [])) (in-order xs [] p.1))

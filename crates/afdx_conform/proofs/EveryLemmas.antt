@@ -1,7 +1,6 @@
 -- What holds of each element of a list, newest or oldest first.
-use Rattle.std.proofs.Common.{◌≡◌, Bool, true, false, List, [], ◌∷◌, ◌++◌, map, reverse, sym, subst}
+use Rattle.std.proofs.Common.{◌≡◌, List, [], ◌∷◌, ◌++◌, map, reverse, sym, subst}
 use Rattle.std.proofs.lemmas.List.{reverse-append}
-use Rattle.std.specs.Prelude.{if◌then◌else◌}
 use Rattle.std.specs.List.{AllByRecursion}
 
 pub every-append : {X : Type 0} (P : X → Type 0) (xs ys : List X) → AllByRecursion P xs → AllByRecursion P ys
@@ -36,7 +35,8 @@ pub every-unmap : {X Y : Type 0} (P : Y → Type 0) (f : X → Y) (xs : List X) 
 every-unmap P f [] p = tt
 every-unmap P f (x ∷ xs) p = (p.0, every-unmap P f xs p.1)
 
-pub every-on : {X : Type 0} (P Q : X → Type 0) → ((x : X) → P x → Q x) → (xs : List X) → AllByRecursion P xs → AllByRecursion Q xs
+pub every-on : {X : Type 0} (P Q : X → Type 0) → ((x : X) → P x → Q x) → (xs : List X) → AllByRecursion P xs
+    → AllByRecursion Q xs
 every-on P Q to [] p = tt
 every-on P Q to (x ∷ xs) p = (to x p.0, every-on P Q to xs p.1)
 

@@ -1,5 +1,5 @@
 -- Laws over the events of a stream. Lists have the oldest first, but those of findings.
-use Rattle.std.specs.Prelude.{◌≡◌, ℕ, ◌+◌, ◌≤◌, ◌↔◌, true, false, List, [], ◌∷◌, ◌++◌, map, reverse}
+use Rattle.std.specs.Prelude.{◌≡◌, ℕ, ◌+◌, ◌≤◌, ◌↔◌, ◌⊎◌, true, false, List, [], ◌∷◌, ◌++◌, map, reverse}
 use Rattle.std.specs.List.{AllByRecursion}
 use Rattle.afdx_police.specs.Arrival.{Arrival}
 use Rattle.afdx_conform.specs.Ahead.{until_then}
@@ -41,13 +41,24 @@ EventsJoin =
     ComeFirst z xs ys behind left →
     events_of z (xs ++ behind) (ys ++ left) ≡ events_of z xs ys ++ events_of z behind left
 
+-- one of these events is at this time
+abbrev pub IsTimeOf : Terms → ℕ → List Event → Type 0
+IsTimeOf z time [] = ⊥
+IsTimeOf z time (e ∷ more) = (event_time z e ≡ time) ⊎ IsTimeOf z time more
+
+-- more was found at the times of these events
+pub record AddsFound (z : Terms) (events : List Event) (before after : List Found) : Type 0 where
+  pub found : List Found
+  pub added : after ≡ found ++ before
+  pub at_events : AllByRecursion (λ f. IsTimeOf z f.time events) found
+
 -- later events take back nothing of what was found
 abbrev pub FoundStays : Type 0
 FoundStays =
     (z : Terms) (ys : List Gone) (behind : List Arrival) (more before : List Event) →
-    (found : List Found)
-    × ((judged_after z ys behind (more ++ before)).findings
-    ≡ found ++ (judged_after z ys (reverse (arrivals_came more) ++ behind) before).findings)
+    AddsFound z more
+    (judged_after z ys (reverse (arrivals_came more) ++ behind) before).findings
+    (judged_after z ys behind (more ++ before)).findings
 
 -- arrivals and frames that go by time, of which these are known at a moment; the events of the
 -- others are at or behind it

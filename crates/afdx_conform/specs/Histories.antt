@@ -1,10 +1,10 @@
 -- How far a stream is judged while its arrivals and frames come. Lists of them have the oldest
 -- first, those of events the newest.
-use Rattle.std.specs.Prelude.{◌≡◌, ℕ, ◌+◌, ◌-◌, ◌<◌, ◌≤◌, ⊤, min, nat_le, List, [], ◌∷◌, drop, length, reverse, Option, Some, None, option_map, if◌then◌else◌}
+use Rattle.std.specs.Prelude.{◌≡◌, ℕ, ◌+◌, ◌-◌, ◌<◌, ◌≤◌, false, ⊤, min, nat_le, List, [], ◌∷◌, drop, length, reverse, Option, Some, None, option_map, if◌then◌else◌}
 use Rattle.std.specs.List.{AllByRecursion, filter}
 use Rattle.afdx_police.specs.Arrival.{Arrival}
 use Rattle.afdx_conform.specs.Events.{closes_before, closings_in, event_time, judged_whole, moment_at}
-use Rattle.afdx_conform.specs.Findings.{Judged, Marked, judged_after, with_states}
+use Rattle.afdx_conform.specs.Findings.{Judged, Marked, judged_after, judged_with, with_states}
 use Rattle.afdx_conform.specs.Leeway.{both_slacks}
 use Rattle.afdx_conform.specs.States.{Event, Came, Closing, State, arrivals_came}
 use Rattle.afdx_conform.specs.Streams.{Gone, Terms, latency}
@@ -52,6 +52,9 @@ judged_of z xs ys = judged_whole z xs (uncut z ys)
 abbrev pub shown : Judged → Judged
 shown j = with_states [] j
 
+abbrev pub nothing_judged : Judged
+nothing_judged = judged_with [] [] [] 0 0 false
+
 -- the time of the event of this moment
 abbrev pub time_of : Terms → ℕ → ℕ
 time_of z moment = moment - latency z - latency z - both_slacks z.by - both_slacks z.by
@@ -78,8 +81,8 @@ least_waiting [] = 0
 least_waiting (s ∷ more) = least_from s.waiting more
 
 abbrev pub counts_with : ℕ → ℕ → ℕ → Counts
-counts_with explained waits uncertain =
-    record { explained = explained; open = waits; uncertain = uncertain }
+counts_with explained waiting uncertain =
+    record { explained = explained; waiting = waiting; uncertain = uncertain }
 
 -- of so many frames, of which so many are cut off; nothing of a stream that is unsure
 abbrev pub counts_by : ℕ → ℕ → Judged → Counts

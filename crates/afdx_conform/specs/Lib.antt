@@ -30,7 +30,9 @@ pub mod Worked
 pub mod Events
 pub mod Later
 pub mod EventLaws
-pub mod Forgotten
+pub mod Forgetting
 pub mod Sure
+pub mod SomeKnown
 pub mod Histories
+pub mod Growing
 pub mod Standing

@@ -1,106 +1,22 @@
--- What the code keeps of a stream while its arrivals and frames come.
-use Rattle.std.specs.Prelude.{◌≡◌, ℕ, ◌+◌, ◌-◌, ◌<◌, ◌≤◌, ◌⊎◌, true, false, min, nat_lt, List, [], ◌∷◌, ◌++◌, drop, length, map, All, Option, Some, None, if◌then◌else◌}
-use Rattle.std.specs.List.{AllByRecursion}
+-- What a stream stands for while its arrivals and frames come.
+use Rattle.std.specs.Prelude.{◌≡◌, ℕ, ◌-◌, ◌≤◌, true, false, List, [], ◌∷◌, ◌++◌, length, Option}
 use Rattle.afdx_police.specs.Arrival.{Arrival}
 use Rattle.afdx_conform.specs.Ahead.{until_then}
-use Rattle.afdx_conform.specs.Bounds.{AreBounds}
-use Rattle.afdx_conform.specs.Events.{GoUp, arrival_times, closings_in, event_time, frame_times, moment_at}
-use Rattle.afdx_conform.specs.Explanations.{from_time, last_time}
-use Rattle.afdx_conform.specs.Findings.{Finding, Judged, Marked, judged_after, sound_events}
-use Rattle.afdx_conform.specs.Forgotten.{with_gone}
-use Rattle.afdx_conform.specs.HeldStates.{IsWithin}
-use Rattle.afdx_conform.specs.Histories.{AreEvents, AreOver, judged_by, shown, uncut, unsure_in}
-use Rattle.afdx_conform.specs.Judging as judging
-use Rattle.afdx_conform.specs.Leeway.{both_slacks}
-use Rattle.afdx_conform.specs.LeewayOf.{leeway_of}
-use Rattle.afdx_conform.specs.Limits.{gone_of}
-use Rattle.afdx_conform.specs.Marks.{IsJudged, arrival_of}
-use Rattle.afdx_conform.specs.Ranges.{most_held}
-use Rattle.afdx_conform.specs.States.{Event, arrivals_came}
-use Rattle.afdx_conform.specs.Streams.{Gone, Terms, fits, latency}
-use Rattle.afdx_conform.specs.declared.arrived.Arrived.{Arrived}
-use Rattle.afdx_conform.specs.declared.growth.Growth.{Growth}
-use Rattle.afdx_conform.specs.declared.limits.Frame.{Frame}
-use Rattle.afdx_conform.specs.declared.limits.Limits.{Limits}
+use Rattle.afdx_conform.specs.Findings.{Finding, Judged, Marked}
+use Rattle.afdx_conform.specs.Growing.{IsAfter, IsNoSooner, due_by, undecided_by}
+use Rattle.afdx_conform.specs.Histories.{AreOver, judged_by, shown, time_of, uncut}
+use Rattle.afdx_conform.specs.Judging.{AreFound}
+use Rattle.afdx_conform.specs.States.{Event}
+use Rattle.afdx_conform.specs.Streams.{Gone, Terms}
 use Rattle.afdx_conform.specs.declared.streaming.Stream.{Stream}
 
--- its numbers are within bounds
-pub record IsSound (s : Growth) : Type 0 where
-  pub within : All (λ h. IsWithin s.bounds.rates (length s.frames.items)
-      (length s.judging.marks.items) h) s.judging.held.items
-  pub closed : s.closed ≤ length s.frames.items
-  pub places : length s.judging.marks.items ≤ length s.arrivals.items
-  pub uncertain : s.judging.uncertain + length s.arrivals.items
-      ≤ s.came + length s.judging.marks.items
-  pub came : s.came < most_held
-  pub frames : length s.frames.items ≤ s.left
-  pub left : s.left + s.cut < most_held
-
--- ---- the next event, by what is held
-
--- the moment of an event of this time
-abbrev pub due_at : Limits → ℕ → ℕ
-due_at limits time = time + limits.latency + limits.latency + limits.slacks + limits.slacks
-
-abbrev pub due_in : Limits → List Arrived → List Frame → Option ℕ
-due_in limits [] [] = None
-due_in limits [] (f ∷ frames) = Some (due_at limits (f.time + limits.slacks))
-due_in limits (a ∷ arrivals) [] = Some (due_at limits a.time)
-due_in limits (a ∷ arrivals) (f ∷ frames) =
-    if nat_lt (f.time + limits.slacks) a.time then Some (due_at limits (f.time + limits.slacks))
-    else Some (due_at limits a.time)
-
-unfoldable pub due_by : Growth → Option ℕ
-due_by s = if s.judging.is_unsure then None
-    else due_in s.bounds.limits (drop (length s.judging.marks.items) s.arrivals.items)
-    (drop s.closed s.frames.items)
-
+-- the moment of its next event
 abbrev pub due_of : Stream → Option ℕ
 due_of s = due_by s.growth
 
--- ---- what it stands for
-
--- what was told goes by time, and nothing of it lies before the start
-pub record AreTold (z : Terms) (xs : List Arrival) (ys : List Gone) : Type 0 where
-  pub came : GoUp (arrival_times xs)
-  pub left : GoUp (frame_times ys)
-  pub start : AllByRecursion (λ x. from_time z.by.start ≤ x.time) xs
-  pub begun : AllByRecursion (λ y. from_time z.by.start ≤ y.time + both_slacks z.by) ys
-
--- it holds the arrivals but those that are forgotten, and the frames but those that are closed and
--- explained in each state: no frame that it holds fits a forgotten arrival
-pub record IsHeld (z : Terms) (xs : List Arrival) (ys : List Gone) (over : List Event)
-    (s : Growth) : Type 0 where
-  pub gone : List Marked
-  pub past : List Gone
-  pub came : xs ≡ map (λ m. m.arrival) gone ++ map arrival_of s.arrivals.items
-  pub left : ys ≡ past ++ map gone_of s.frames.items
-  pub judged : All (λ a. IsJudged z a) s.arrivals.items
-  pub marks : length (arrivals_came over) ≡ length gone + length s.judging.marks.items
-  pub closed : length (closings_in over) ≡ length past + s.closed
-  pub unread : AllByRecursion (λ y. AllByRecursion (λ m. fits z m.arrival y ≡ false) gone)
-      (map gone_of s.frames.items)
-  pub last : s.last ≡ last_time z.by (arrivals_came (sound_events z over))
-  pub found : s.found ≡ min (judged_by z xs ys over).frames 0xffffffffffffffff
-  -- before the first event the states aren't known
-  pub at_first : s.is_started ≡ false → over ≡ []
-  pub j : Judged
-  pub is_judged : s.is_started ≡ true → with_gone gone j ≡ judged_by z xs ys over
-  pub stands : s.is_started ≡ true →
-      judging.StandsFor s.bounds.rates s.frames.items s.arrivals.items j s.judging
-
--- its arrivals and frames are these, oldest first, without those that are cut off, and these of
--- their events are over
-pub record IsAfter (z : Terms) (xs : List Arrival) (ys : List Gone) (cut : ℕ)
-    (over : List Event) (s : Growth) : Type 0 where
-  pub bounds : AreBounds z s.bounds
-  pub by : z.by ≡ leeway_of s.by
-  pub told : AreTold z xs ys
-  pub events : AreEvents z xs ys over
-  pub unsure : s.judging.is_unsure ≡ (judged_by z xs ys over).is_unsure
-  pub tag : s.unsure ≡ unsure_in (judged_by z xs ys over)
-  pub sure : s.judging.is_unsure ≡ false →
-      IsHeld z xs ys over s × (s.left ≡ length ys) × (s.cut ≡ cut)
+-- how many events it was told that aren't over
+abbrev pub undecided_in : Stream → ℕ
+undecided_in s = undecided_by s.growth
 
 -- before the end is known: these arrivals and frames were told, oldest first, the moment of each
 -- event that is over lies before `time`, and so far this is judged, whatever the end will be from
@@ -120,25 +36,12 @@ pub record IsEnding (z : Terms) (xs : List Arrival) (ys : List Gone) (j : Judged
   pub is_after : IsAfter z xs (uncut z ys) (length ys - length (uncut z ys)) over s.growth
   pub judged : shown (judged_by z xs (uncut z ys) over) ≡ j
 
--- ---- what may come
-
--- an arrival no earlier than those before it, than the start and than this time
-pub record MayCome (z : Terms) (xs : List Arrival) (time : ℕ) (x : Arrival) : Type 0 where
-  pub behind : time ≤ x.time
-  pub by_time : AllByRecursion (λ w. w.time ≤ x.time) xs
-  pub start : from_time z.by.start ≤ x.time
-
--- a frame no earlier than those before it, than the start, but for the slacks, and than this time
-pub record MayLeave (z : Terms) (ys : List Gone) (time : ℕ) (y : Gone) : Type 0 where
-  pub behind : time ≤ y.time
-  pub by_time : AllByRecursion (λ w. w.time ≤ y.time) ys
-  pub start : from_time z.by.start ≤ y.time + both_slacks z.by
-
--- the next event, if there is one, has no earlier moment
-abbrev pub IsNoSooner : ℕ → Option ℕ → Type 0
-IsNoSooner moment None = Unit {0}
-IsNoSooner moment (Some due) = moment ≤ due
-
--- the next event is the same, or one of no earlier moment than this time
-abbrev pub IsSameOrLater : Option ℕ → ℕ → Option ℕ → Type 0
-IsSameOrLater before time due = (due ≡ before) ⊎ IsNoSooner time due
+-- at the event of this moment these were found: no event that is due is earlier; where the stream
+-- is unsure from there on, the arrival behind which it is is the event's own
+pub record Finds (z : Terms) (moment : ℕ) (found : List Finding) (before after : Judged)
+    (due : Option ℕ) : Type 0 where
+  pub are_found : AreFound (time_of z moment) found before after
+  pub later : IsNoSooner moment due
+  pub sure : before.is_unsure ≡ false
+  pub unsure : after.is_unsure ≡ true → (m : Marked) (more : List Marked)
+      → after.arrivals ≡ more ++ m ∷ [] → m.arrival.time ≡ time_of z moment

@@ -5,6 +5,6 @@
 #[derive(Clone, Copy, Debug, PartialEq, Eq)]
 pub struct Counts {
     pub explained: u64,
-    pub open: u64,
+    pub waiting: u64,
     pub uncertain: u64,
 }

@@ -4,12 +4,14 @@ ghost use Rattle.afdx_conform.specs.Ahead.{EndChangesNothing, LaterFramesChangeN
 ghost use Rattle.afdx_conform.specs.EventLaws.{AllEventsAreExplained, EventsAreWhole, EventsJoin};
 ghost use Rattle.afdx_conform.specs.EventLaws.{FoundStays, WhatIsOverStays};
 ghost use Rattle.afdx_conform.specs.FindingLaws.{FoundWhereNoneIsLeft, NothingFoundIsExplained};
-ghost use Rattle.afdx_conform.specs.Forgotten.{ForgettingChangesNothing};
+ghost use Rattle.afdx_conform.specs.Forgetting.{ForgettingChangesNothing};
 ghost use Rattle.afdx_conform.specs.FromLevel.{AllowedIsSomeAccount};
 ghost use Rattle.afdx_conform.specs.Hiding.{WhatPassedKeepsWindows};
 ghost use Rattle.afdx_conform.specs.Laws.{StatesAreExplanations, ExactIsTheHeadline};
-ghost use Rattle.afdx_conform.specs.Later.{LaterChangesNoFinding};
+ghost use Rattle.afdx_conform.specs.Later.{EndFindsNothing, LaterArrivalsFindNothing};
+ghost use Rattle.afdx_conform.specs.Later.{LaterFramesFindNothing};
 ghost use Rattle.afdx_conform.specs.Right.{RightIsExplained, SomeIsRight};
+ghost use Rattle.afdx_conform.specs.SomeKnown.{SomeIsKnown};
 ghost use Rattle.afdx_conform.specs.Sure.{ExactIsSure};
 ghost use Rattle.afdx_conform.specs.Thinned.{KeptAreEnough};
 ghost use Rattle.afdx_conform.specs.Worked.{WorkedRows};
@@ -74,17 +76,21 @@ pub fn events_are_whole()
     ensures join { EventsJoin }
 {}
 
-/// What comes later changes nothing of what was found, of marks and counts: frames and arrivals for
-/// which no event asks, and the end, while no arrival is open.
+/// What comes later changes nothing of what was found, of marks and counts: frames that left far
+/// behind the arrivals, arrivals behind their moments, and the end, while no arrival is open. Later
+/// events take back nothing of it.
 pub fn later_changes_no_finding()
-    ensures later { LaterChangesNoFinding }
+    ensures frames { LaterFramesFindNothing }
+    ensures arrivals { LaterArrivalsFindNothing }
+    ensures end { EndFindsNothing }
     ensures stays { FoundStays }
 {}
 
 /// What is found of moments before one is the same whatever comes at it or later, and whenever the
-/// recordings end.
+/// recordings end. There is such a stream.
 pub fn what_is_over_stays()
-    ensures { WhatIsOverStays }
+    ensures all { WhatIsOverStays }
+    ensures some { SomeIsKnown }
 {}
 
 /// Arrivals that fit no frame that is left may be forgotten: no later event reads them.

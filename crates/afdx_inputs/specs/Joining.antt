@@ -1,6 +1,6 @@
 -- The frames of two lists as one: of what came in at switches, and of what left them. The frame of
--- lesser time comes first, at one time the one that came in. The head of the list of what came in is
--- looked for first; a fault ends all as soon as it is what is found there.
+-- lesser time comes first, at one time the one that came in. The head of the list of what came in
+-- is looked for first; a fault ends all as soon as it is what is found there.
 use Rattle.std.specs.Prelude.{ℕ, ◌≡◌, List, [], ◌∷◌, reverse, length, map, nat_lt, Option, Some, None}
 use Rattle.std.specs.Prelude.{if◌then◌else◌}
 use Rattle.afdx_police.specs.Arrival.{Arrival}

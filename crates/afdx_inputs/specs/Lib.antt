@@ -9,3 +9,4 @@ pub mod Joining
 pub mod Seeing
 pub mod TwoListsSource
 pub mod TwoListsRun
+pub mod JoiningLaws

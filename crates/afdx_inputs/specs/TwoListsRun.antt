@@ -22,7 +22,8 @@ IfBothGiven remaining inputs holds =
 abbrev pub HoldsUpTo : (came left : Coming) → Option RunFault → (List (Item Seen) → Type 0) →
     Type 0
 HoldsUpTo came left fault holds =
-    (items : List (Item Seen)) × (joined came left ≡ joined_as (frames_of items) fault) × holds items
+    (items : List (Item Seen)) × (joined came left ≡ joined_as (frames_of items) fault)
+    × holds items
 
 -- this holds of some first frames of both
 abbrev pub HoldsOfFirst : (came left : Coming) → (List (Item Seen) → Type 0) → Type 0

@@ -102,11 +102,12 @@ module _ {S I : Type 0} (current : S → Item Heading) (gave ended : I → S →
       pub taken_left : Frames
       pub ended_came : ended start.came lists.came.source inputs.came taken_came
       pub ended_left : ended start.left lists.left.source inputs.left taken_left
-      pub joined_is : join [] (reverse (arrivals taken_came)) None (reverse (arrivals taken_left)) None
+      pub joined_is : join [] (reverse (arrivals taken_came)) None
+          (reverse (arrivals taken_left)) None
           ≡ joined_as (frames_of past) None
 
     module _ (stopped : I → S → I → Frames → RunFault → Type 0) where
-      -- or the list of what came in stopped; whatever comes of the other, and whatever fault it is
+      -- or the list of what came in stopped
       pub record StopsAtCame (start : ByRole I) (lists : TwoLists S) (inputs : ByRole I)
           (past : List (Item Seen)) (fault : RunFault) : Type 0 where
         pub taken_came : Frames
@@ -115,13 +116,11 @@ module _ {S I : Type 0} (current : S → Item Heading) (gave ended : I → S →
         pub stopped_came : stopped start.came lists.came.source inputs.came taken_came own
         pub fault_is : fault ≡ fault_of_list Came own
         pub left : IsAhead (latest_seen past) start.left lists.left inputs.left taken_left
-        pub joined_is : (ys : List Arrival) (fault_y : Option RunFault) (any : RunFault) →
-            CanBe (current lists.left.source) lists.left.head ys fault_y →
-            join [] (reverse (arrivals taken_came)) (Some any)
-            (reverse (arrivals taken_left) ++ ys) fault_y
-            ≡ joined_as (frames_of past) (Some any)
+        pub joins : Joins (frames_of past)
+            (current lists.came.source) head.Unknown (arrivals taken_came)
+            (current lists.left.source) lists.left.head (arrivals taken_left)
 
-      -- or that of what left; whatever comes of what came in
+      -- or that of what left, while it was known what stands at the head of the other
       pub record StopsAtLeft (start : ByRole I) (lists : TwoLists S) (inputs : ByRole I)
           (past : List (Item Seen)) (fault : RunFault) : Type 0 where
         pub taken_came : Frames
@@ -130,11 +129,10 @@ module _ {S I : Type 0} (current : S → Item Heading) (gave ended : I → S →
         pub stopped_left : stopped start.left lists.left.source inputs.left taken_left own
         pub fault_is : fault ≡ fault_of_list Left own
         pub came : IsAhead (latest_seen past) start.came lists.came inputs.came taken_came
-        pub joined_is : (xs : List Arrival) (fault_x : Option RunFault) (any : RunFault) →
-            CanBe (current lists.came.source) lists.came.head xs fault_x →
-            join [] (reverse (arrivals taken_came) ++ xs) fault_x
-            (reverse (arrivals taken_left)) (Some any)
-            ≡ joined_as (frames_of past) (Some any)
+        pub known : IsKnown lists.came.head
+        pub joins : Joins (frames_of past)
+            (current lists.came.source) lists.came.head (arrivals taken_came)
+            (current lists.left.source) head.Unknown (arrivals taken_left)
 
       abbrev pub StopsJoining : ByRole I → TwoLists S → ByRole I → List (Item Seen) → RunFault →
           Type 0

@@ -6,6 +6,7 @@
 mod arrivals;
 mod headed;
 mod input_run;
+pub mod laws;
 mod listing;
 mod over;
 mod read_pair;

@@ -10,8 +10,8 @@ use afdx_lists::{Heading, Role};
 pub struct Seen {
     /// Which of both it did.
     pub role: Role,
-    /// When, by which network and at which port, and how it is sealed. Of what left, the port is the
-    /// one at which it left.
+    /// When, by which network and at which port, and how it is sealed. Of what left, the port is
+    /// the one at which it left.
     pub heading: Heading,
 }
 

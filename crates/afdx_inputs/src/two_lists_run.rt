@@ -20,8 +20,8 @@ use std::io::Read;
 ///
 /// The first line of what came in is read, then that of what left. Then the frame of lesser time is
 /// told, at one time the one that came in, and the next line of its list is read. The whole text of
-/// a frame is handed to `output` before the next line is read. The first fault that is read ends the
-/// run; the text of the frames that were told before it stands written. A fault of a list is
+/// a frame is handed to `output` before the next line is read. The first fault that is read ends
+/// the run; the text of the frames that were told before it stands written. A fault of a list is
 /// `RunFault::ListOfCame` or `RunFault::ListOfLeft`. `RunFault::Read` and `RunFault::Write` come
 /// exactly where the device of an input, or the output's, failed; none is tried again.
 pub fn run_two_lists<R: Read, M: Machine<Seen>, O: Sink>(

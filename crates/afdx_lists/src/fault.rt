@@ -100,7 +100,7 @@ pub enum RunFault {
 
 /// Each fault of a run, in the order of `RunFault`: the form of its line (`n` is the number of a
 /// line of the list), and what it means, with what may be done. Those of a recording are
-/// `RECORDING_FAULTS`.
+/// `RECORDING_FAULTS`; one of two lists has ` came` or ` left` behind the first word.
 pub const RUN_FAULTS: [(&str, &str); 10] = [
     (
         "list BadLine n",

@@ -8,8 +8,8 @@ use afdx_config::{SystemId, Tables};
 use afdx_frame::{Policing, Side, VlId};
 use afdx_police::LinkRule;
 use afdx_replay::{
-    RecordingFault, RunFault, Summary, Watched, check, police, replay, run, run_police, run_send,
-    run_unadmitted, send,
+    ListFault, RecordingFault, RunFault, Summary, Watched, check, police, replay, run, run_police,
+    run_send, run_unadmitted, send,
 };
 use afdx_samples::{admitted, base, base_tables, equal};
 use std::alloc::Global;

@@ -40,8 +40,8 @@ If the stamps of one line go back, record with one receive queue.",
         StrangeReason::NoArrival,
         "no-arrival",
         "\
-no-arrival: no arrival has these bytes, at most its latency before. A switch makes no frame of
-its own: the recorder of CAME lost the arrival, or began later, or the frame was changed.
+no-arrival: the frame has the bytes of no arrival that came in time before it. A switch makes no
+frame of its own: the recorder of CAME lost the arrival, or began later, or the frame was changed.
 If it is so at the begin alone, give --from. If most frames have this, and 'stopped' too,
 the time inside is longer than the latency (--inner), or frames have tags or trailers.",
     ),
