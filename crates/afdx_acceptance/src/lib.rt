@@ -6,6 +6,7 @@
 
 mod agenda;
 mod choices;
+mod command;
 mod judging;
 mod key;
 mod outlets;
@@ -19,5 +20,6 @@ mod whole;
 pub use afdx_conform::Leeway;
 pub use afdx_lists::{ByRole, Watched};
 pub use choices::Choices;
+pub use command::conform;
 pub use run::run_conform;
 pub use totals::Totals;
