@@ -1,7 +1,9 @@
 pub mod Choices
+pub mod ChoicesOf
 pub mod Keys
 pub mod Awaited
 pub mod Waiting
 pub mod Totals
 pub mod Telling
 pub mod Judging
+pub mod Told

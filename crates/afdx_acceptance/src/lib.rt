@@ -5,6 +5,7 @@
 #![tactic(auto)]
 
 mod agenda;
+mod asked;
 mod choices;
 mod judging;
 mod key;
@@ -13,6 +14,7 @@ mod run;
 mod slot;
 mod strangers;
 mod streams;
+mod telling;
 mod totals;
 mod whole;
 
