@@ -2,3 +2,4 @@ pub mod AgendaLemmas
 pub mod OutletLemmas
 pub mod WaitingLemmas
 pub mod TellingLemmas
+pub mod ToldLemmas

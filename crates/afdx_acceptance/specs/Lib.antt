@@ -1,4 +1,5 @@
 pub mod Choices
+pub mod ChoicesOf
 pub mod Keys
 pub mod Awaited
 pub mod Waiting
@@ -6,3 +7,4 @@ pub mod Totals
 pub mod Commands
 pub mod Telling
 pub mod Judging
+pub mod Told

@@ -1,27 +1,33 @@
 //! The machine of a run: each frame goes to its streams, and what is found there is told at its
 //! moment.
 
-ghost use Rattle.std.specs.Prelude.{◌≡◌, ◌≤◌, ◌+◌, IfErr, OnErr, OnOk, false, min};
+ghost use Rattle.std.specs.Prelude.{◌≡◌, ◌≤◌, ◌+◌, ◌∷◌, [], ℕ, List, Option, IfErr, IfOk, OnErr};
+ghost use Rattle.std.specs.Prelude.{OnOk, false, min};
 ghost use Rattle.std.specs.Io.KnownBytes.{Appends};
-ghost use Rattle.afdx_acceptance.specs.Judging.{IsSameButFindings};
+ghost use Rattle.afdx_acceptance.specs.Choices.{Choices as Chosen, left_out_of};
+ghost use Rattle.afdx_acceptance.specs.ChoicesOf.{choices_of};
+ghost use Rattle.afdx_acceptance.specs.Judging.{IsSameButFindings, IsSameButTaken};
 ghost use Rattle.afdx_acceptance.specs.Telling as spec;
-ghost use Rattle.afdx_lists.specs.Calls.{AppendsFront};
-ghost use Rattle.afdx_text.specs.ConformLines.{conform_text};
+ghost use Rattle.afdx_acceptance.specs.Told.{BeginsLines, HasTold};
+ghost use Rattle.afdx_engine.specs.Engine.{item_of};
 ghost use Rattle.afdx_frame.specs.Seals.{IsSealedAs};
 ghost use Rattle.afdx_frame.specs.Times.{latest_listed};
-ghost use Rattle.afdx_lists.specs.Calls.{is_failed_write};
+ghost use Rattle.afdx_inputs.specs.Joining.{Frame, frame_of};
+ghost use Rattle.afdx_lists.specs.Calls.{AppendsFront, is_failed_write};
 ghost use Rattle.afdx_text.specs.Sinks.{IsOfOutput};
 
+use crate::asked::{is_in_time, is_left_out};
 use crate::choices::Choices;
 use crate::streams::Streams;
+use crate::telling::{findings_in, put_lines};
 use crate::totals::Totals;
 use crate::whole::whole_frame;
 use afdx_config::Tables;
 use afdx_engine::Machine;
-use afdx_frame::{VlId, vl_of};
+use afdx_frame::vl_of;
 use afdx_inputs::Seen;
 use afdx_lists::{Role, RunFault};
-use afdx_text::{ConformLine, OutLine, Sink};
+use afdx_text::{ConformLine, Sink};
 use std::alloc::{AllocError, Global};
 
 /// What a run works with: what is asked for, the streams, the time of the last line in ns, and how
@@ -37,75 +43,16 @@ pub(crate) struct Judging<'a> {
     is_over: bool,
 }
 
-/// Whether a line says what the switch did wrong.
-fn is_finding(line: &ConformLine) -> bool
-    ensures { result ≡ spec.is_finding line.now }
-{
-    match line {
-        ConformLine::Unsure { .. } | ConformLine::Judged { .. } => false,
-        _ => true,
-    }
-}
-
-/// How many lines say so.
-fn findings_in(lines: &[ConformLine]) -> u64
-    ensures { result ≡ min (spec.findings_in lines.now) spec.most_counted }
-{
-    let mut count: u64 = 0;
-    for line in lines {
-        if is_finding(line) {
-            count = count.saturating_add(1);
-        }
-    }
-    count
-}
-
-/// Puts some lines.
-fn put_lines<O: Sink>(lines: &[ConformLine], output: &mut O) -> Result<(), RunFault>
-    requires sound { O.failed output.old ≡ false }
-    ensures failed { O.failed output.new ≡ is_failed_write result }
-    ensures fault { IfErr result IsOfOutput }
-    ensures settings { O.settings output.new ≡ O.settings output.old }
-    ensures told { OnOk result (Appends (O.written output.old) (O.written output.new)
-        (spec.lines_text lines.now)) }
-    ensures begun { OnErr result (AppendsFront (O.written output.old) (O.written output.new)
-        (spec.lines_text lines.now)) }
-{
-    for line in lines {
-        output.put(&OutLine::Conform(*line))?;
-    }
-    Ok(())
-}
-
-/// Whether a line of this time is passed over, since it lies before the start or behind the end.
-fn is_outside(choices: &Choices, seen: &Seen) -> bool {
-    let time = seen.heading.time;
-    if let Some(until) = choices.until {
-        if time > until {
-            return true;
-        }
-    }
-    match choices.leeway.start {
-        None => false,
-        Some(start) => match seen.role {
-            Role::Came => time < start,
-            Role::Left => time < start.saturating_sub(2 * choices.leeway.slack),
-        },
-    }
-}
-
-/// Whether frames of this link, or those of none, are left out.
-fn is_left_out(choices: &Choices, vl: Option<VlId>) -> bool {
-    choices.left_out.contains(&vl)
-}
-
 impl<'a> Judging<'a> {
     /// It has told nothing yet.
     pub(crate) fn new(
         alloc: Global,
         tables: &'a Tables,
         choices: &'a Choices,
-    ) -> Result<Judging<'a>, AllocError> {
+    ) -> Result<Judging<'a>, AllocError>
+        ensures { (output : Option (List ℕ)) → IfOk result (λ judging.
+            HasTold (choices_of choices.entry.now) judging output output []) }
+    {
         let streams = Streams::new(alloc, tables, choices.leeway)?;
         Ok(Judging {
             alloc,
@@ -150,6 +97,12 @@ impl<'a> Judging<'a> {
         ensures failed { O.failed output.new ≡ is_failed_write result }
         ensures fault { IfErr result IsOfOutput }
         ensures settings { O.settings output.new ≡ O.settings output.old }
+        ensures told { (c : Chosen) (start : Option (List ℕ)) (frames : List Frame) →
+            HasTold c self.old start (O.written output.old) frames →
+            OnOk result (HasTold c self.new start (O.written output.new) frames) }
+        ensures begun { (c : Chosen) (start : Option (List ℕ)) (frames : List Frame) →
+            HasTold c self.old start (O.written output.old) frames →
+            OnErr result (BeginsLines start (O.written output.new)) }
     {
         while let Some(lines) = self.streams.take_before(before)? {
             self.tell_lines(lines.as_slice(), output)?;
@@ -163,11 +116,65 @@ impl<'a> Judging<'a> {
         ensures failed { O.failed output.new ≡ is_failed_write result }
         ensures fault { IfErr result IsOfOutput }
         ensures settings { O.settings output.new ≡ O.settings output.old }
+        ensures told { (c : Chosen) (start : Option (List ℕ)) (frames : List Frame) →
+            HasTold c self.old start (O.written output.old) frames →
+            OnOk result (HasTold c self.new start (O.written output.new) frames) }
+        ensures begun { (c : Chosen) (start : Option (List ℕ)) (frames : List Frame) →
+            HasTold c self.old start (O.written output.old) frames →
+            OnErr result (BeginsLines start (O.written output.new)) }
     {
         self.tell_due(Some(until), output)?;
         self.streams.end(until);
         self.is_over = true;
         Ok(())
+    }
+
+    /// The recordings end before a line of this time, in ns, if they do and didn't before.
+    fn close_before<O: Sink>(&mut self, time: u64, output: &mut O) -> Result<(), RunFault>
+        requires sound { O.failed output.old ≡ false }
+        ensures failed { O.failed output.new ≡ is_failed_write result }
+        ensures fault { IfErr result IsOfOutput }
+        ensures settings { O.settings output.new ≡ O.settings output.old }
+        ensures told { (c : Chosen) (start : Option (List ℕ)) (frames : List Frame) →
+            HasTold c self.old start (O.written output.old) frames →
+            OnOk result (HasTold c self.new start (O.written output.new) frames) }
+        ensures begun { (c : Chosen) (start : Option (List ℕ)) (frames : List Frame) →
+            HasTold c self.old start (O.written output.old) frames →
+            OnErr result (BeginsLines start (O.written output.new)) }
+    {
+        if self.is_over {
+            return Ok(());
+        }
+        let Some(until) = self.choices.until else {
+            return Ok(());
+        };
+        if until < time {
+            self.close(until, output)
+        } else {
+            Ok(())
+        }
+    }
+
+    /// The recordings end after the last line, if they didn't before.
+    fn close_at_end<O: Sink>(&mut self, output: &mut O) -> Result<(), RunFault>
+        requires sound { O.failed output.old ≡ false }
+        ensures failed { O.failed output.new ≡ is_failed_write result }
+        ensures fault { IfErr result IsOfOutput }
+        ensures settings { O.settings output.new ≡ O.settings output.old }
+        ensures told { (c : Chosen) (start : Option (List ℕ)) (frames : List Frame) →
+            HasTold c self.old start (O.written output.old) frames →
+            OnOk result (HasTold c self.new start (O.written output.new) frames) }
+        ensures begun { (c : Chosen) (start : Option (List ℕ)) (frames : List Frame) →
+            HasTold c self.old start (O.written output.old) frames →
+            OnErr result (BeginsLines start (O.written output.new)) }
+    {
+        if self.is_over {
+            return Ok(());
+        }
+        match self.choices.until {
+            Some(until) => self.close(until, output),
+            None => self.close(self.latest, output),
+        }
     }
 
     /// Tells what is to be told before a line of this time, in ns.
@@ -176,13 +183,14 @@ impl<'a> Judging<'a> {
         ensures failed { O.failed output.new ≡ is_failed_write result }
         ensures fault { IfErr result IsOfOutput }
         ensures settings { O.settings output.new ≡ O.settings output.old }
+        ensures told { (c : Chosen) (start : Option (List ℕ)) (frames : List Frame) →
+            HasTold c self.old start (O.written output.old) frames →
+            OnOk result (HasTold c self.new start (O.written output.new) frames) }
+        ensures begun { (c : Chosen) (start : Option (List ℕ)) (frames : List Frame) →
+            HasTold c self.old start (O.written output.old) frames →
+            OnErr result (BeginsLines start (O.written output.new)) }
     {
-        self.latest = time;
-        if let Some(until) = self.choices.until {
-            if until < time && !self.is_over {
-                self.close(until, output)?;
-            }
-        }
+        self.close_before(time, output)?;
         self.tell_due(Some(time), output)
     }
 
@@ -190,8 +198,15 @@ impl<'a> Judging<'a> {
     fn take(&mut self, n: u64, seen: &Seen, message: &[u8]) -> Result<(), AllocError>
         requires time { seen.now.heading.time ≤ latest_listed }
         requires known { IsSealedAs seen.now.heading.seal message.now }
+        ensures others { IsSameButTaken self.old self.new }
+        ensures counted { (frames : List Frame) →
+            let c = choices_of self.old.choices.now in
+            let x = frame_of (item_of n seen.now message.now) in
+            self.old.left_out ≡ min (left_out_of c frames) spec.most_counted →
+            OnOk result
+            (self.new.left_out ≡ min (left_out_of c (x ∷ frames)) spec.most_counted) }
     {
-        if is_outside(self.choices, seen) {
+        if !is_in_time(self.choices, seen) {
             return Ok(());
         }
         let bytes = whole_frame(self.alloc, seen.heading.seal, message)?;
@@ -208,15 +223,18 @@ impl<'a> Judging<'a> {
 }
 
 impl Machine<Seen> for Judging<'_> {
-    ghost Rules = { Unit {0} };
+    ghost use Rattle.afdx_acceptance.specs.Choices.{Choices as Chosen};
+    ghost use Rattle.afdx_acceptance.specs.Told.{BeginsLines, TellsItems};
+
+    ghost Rules = { Chosen };
 
     ghost Can = { λ rules item. Unit {0} };
 
-    ghost Told = { λ rules judging old new past. Unit {0} };
+    ghost Told = { TellsItems };
 
-    ghost Begins = { λ rules judging old new past. Unit {0} };
+    ghost Begins = { λ rules judging old new past. BeginsLines old new };
 
-    ghost Done = { λ rules judging old new past. Unit {0} };
+    ghost Done = { TellsItems };
 
     fn tell<O: Sink>(
         &mut self,
@@ -227,17 +245,12 @@ impl Machine<Seen> for Judging<'_> {
     ) -> Result<(), RunFault> {
         self.reach(seen.heading.time, output)?;
         self.take(n, seen, message)?;
+        self.latest = seen.heading.time;
         Ok(())
     }
 
     fn end<O: Sink>(&mut self, output: &mut O) -> Result<(), RunFault> {
-        if !self.is_over {
-            let until = match self.choices.until {
-                Some(until) => until,
-                None => self.latest,
-            };
-            self.close(until, output)?;
-        }
+        self.close_at_end(output)?;
         self.tell_due(None, output)
     }
 }

@@ -5,6 +5,7 @@
 #![tactic(auto)]
 
 mod agenda;
+mod asked;
 mod choices;
 mod command;
 mod judging;
@@ -14,6 +15,7 @@ mod run;
 mod slot;
 mod strangers;
 mod streams;
+mod telling;
 mod totals;
 mod whole;
 

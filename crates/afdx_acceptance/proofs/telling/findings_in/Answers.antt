@@ -1,7 +1,7 @@
 use Rattle.std.proofs.Common.{arith, refl, sym, ◌∙◌, ◌≡◌, true, false}
 use Rattle.afdx_acceptance.proofs.TellingLemmas.{counted-next, no-findings}
-use Rattle.afdx_acceptance.proofs.judging.findings_in.Goals as goal
-use Rattle.afdx_acceptance.proofs.judging.findings_in.Goals.{then-is_finding, else-is_finding}
+use Rattle.afdx_acceptance.proofs.telling.findings_in.Goals as goal
+use Rattle.afdx_acceptance.proofs.telling.findings_in.Goals.{then-is_finding, else-is_finding}
 
 pub loop-line-init : goal.loop-line-init
 loop-line-init c = rw no-findings refl

@@ -1,7 +1,7 @@
 use Rattle.std.proofs.Common.{◌≡◌, false, take}
 use Rattle.std.specs.Io.KnownBytes.{Appends}
 use Rattle.afdx_acceptance.specs.Telling.{lines_text}
-use Rattle.afdx_acceptance.proofs.judging.put_lines.Given as goal
+use Rattle.afdx_acceptance.proofs.telling.put_lines.Given as goal
 
 abbrev pub invariant-loop-line : goal.invariant-loop-line
 invariant-loop-line g l = record {

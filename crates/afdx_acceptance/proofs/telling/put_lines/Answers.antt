@@ -2,7 +2,7 @@ use Rattle.std.proofs.Common.{refl, ◌∙◌}
 use Rattle.std.proofs.KnownBytes.{Appends-nil}
 use Rattle.afdx_text.proofs.OutputLemmas.{on-err}
 use Rattle.afdx_acceptance.proofs.TellingLemmas.{begun-next, no-text, told-next}
-use Rattle.afdx_acceptance.proofs.judging.put_lines.Goals as goal
+use Rattle.afdx_acceptance.proofs.telling.put_lines.Goals as goal
 
 pub loop-line-init : goal.loop-line-init
 loop-line-init g c = record {
