@@ -3,3 +3,4 @@ pub mod OutletLemmas
 pub mod WaitingLemmas
 pub mod TellingLemmas
 pub mod ToldLemmas
+pub mod RanLemmas

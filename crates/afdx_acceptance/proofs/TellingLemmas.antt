@@ -27,7 +27,7 @@ text-append (x ∷ xs) ys =
     ap (λ (l : List ℕ). conform_text x ++ l) (text-append xs ys)
     ∙ sym (append_assoc (conform_text x) (lines_text xs) (lines_text ys))
 
-text-one : (x : ConformLine) → lines_text (x ∷ []) ≡ conform_text x
+pub text-one : (x : ConformLine) → lines_text (x ∷ []) ≡ conform_text x
 unfolding lines_text
 text-one x = append-nil (conform_text x)
 

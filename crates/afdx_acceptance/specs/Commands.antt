@@ -1,5 +1,5 @@
 -- What the command conform does, whatever its run answers.
-use Rattle.std.specs.Prelude.{ℕ, ◌≡◌, ◌⊎◌, List, Option, Some, None, Result, Ok, Err, OnOk, OnErr}
+use Rattle.std.specs.Prelude.{ℕ, ◌≡◌, ◌⊎◌, ◌||◌, Bool, true, List, Option, Some, None, Result, Ok, Err, OnOk, OnErr}
 use Rattle.std.specs.Prelude.{codes, option_and_then, option_map, slice_get}
 use Rattle.afdx_commands.specs.Checking.{IsRead}
 use Rattle.afdx_commands.specs.Taking.{IsUnread}
@@ -7,7 +7,10 @@ use Rattle.afdx_config.specs.Rows.{Rows}
 use Rattle.afdx_config.specs.Switches.{switch_named}
 use Rattle.afdx_config.specs.declared.describing.Described.{Described}
 use Rattle.afdx_config.specs.declared.describing.Described.TheVariants.{One, Several}
+use Rattle.afdx_lists.specs.Calls.{is_failed_read, is_failed_write}
 use Rattle.afdx_lists.specs.Faults as lists
+use Rattle.afdx_lists.specs.Watching.{has_ended, has_failed}
+use Rattle.afdx_lists.specs.declared.role.ByRole.{ByRole}
 use Rattle.afdx_lists.specs.declared.fault.RunFault.{RunFault}
 use Rattle.afdx_lists.specs.declared.watched.Watched.{Watched}
 use Rattle.afdx_text.specs.Telling.{Tells, TellsLine}
@@ -46,17 +49,25 @@ module _ {E : Type 0} (error_bytes : E → Option (List ℕ)) (old new : Watched
     pub status_is : status ≡ 2
     pub told : Tells error_bytes old new no_switch_line
 
+-- a run that answers so came to the end of both inputs, or one of its devices failed
+pub record IsRun {R : Type 0} (rest : ByRole (Watched R)) (output_failed : Bool)
+    (answer : Result Totals RunFault) : Type 0 where
+  pub ended : OnOk answer ((has_ended rest.came ≡ true) × (has_ended rest.left ≡ true))
+  pub read : (has_failed rest.came || has_failed rest.left) ≡ is_failed_read answer
+  pub write : output_failed ≡ is_failed_write answer
+
 -- what is judged, by a configuration and a name
 module _ {E : Type 0} (error_bytes : E → Option (List ℕ)) (config : List ℕ)
     (name : Option (List ℕ)) (old new : Watched E) (status : ℕ) where
-  -- a run by the tables of the switch ended the command
-  pub record IsJudged : Type 0 where
+  -- a run by the tables of the switch ended the command, of whose answer this holds
+  pub record IsJudged (ran : Result Totals RunFault → Type 0) : Type 0 where
     pub described : Described
     pub read : IsRead config described
     pub tables : Rows
     pub judged : tables_judged described name ≡ Some tables
     pub answer : Result Totals RunFault
     pub ends : EndsAs error_bytes old new status answer
+    pub runs : ran answer
 
   -- the configuration describes no such switch
   pub record HasNoSwitch : Type 0 where

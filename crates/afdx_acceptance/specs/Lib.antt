@@ -8,3 +8,4 @@ pub mod Commands
 pub mod Telling
 pub mod Judging
 pub mod Told
+pub mod Ran

@@ -2,7 +2,11 @@
 
 ghost use Rattle.std.specs.Prelude.{◌≡◌, ◌≤◌, ◌+◌, ◌||◌, ◌⊎◌, true, false, option_map};
 ghost use Rattle.afdx_acceptance.specs.Commands as spec;
-ghost use Rattle.afdx_acceptance.specs.Commands.{EndsAs, IsJudged, IsToldNoSwitch, IsUnjudged};
+ghost use Rattle.afdx_acceptance.specs.ChoicesOf.{choices_of};
+ghost use Rattle.afdx_acceptance.specs.Commands.{EndsAs, IsJudged, IsRun, IsToldNoSwitch};
+ghost use Rattle.afdx_acceptance.specs.Commands.{IsUnjudged};
+ghost use Rattle.afdx_acceptance.specs.Ran.{ConformAnswers};
+ghost use Rattle.afdx_inputs.specs.TwoListsRun.{IfBothGiven};
 ghost use Rattle.afdx_lists.specs.Lines.{most_reads};
 ghost use Rattle.afdx_lists.specs.Watching.{calls_of, has_ended, has_failed};
 
@@ -89,6 +93,10 @@ pub fn conform<R: Read, O: Sink, E: Write>(
     // read, or has no such switch: then nothing is read and nothing is written.
     ensures judges { IsJudged E.contents config.now
         (option_map (λ name. name.now) switch.entry) errors.old errors.new result
+        (λ answer. IsRun inputs.new (O.failed output.new) answer
+        × IfBothGiven R.remaining inputs.old (λ came left.
+        ConformAnswers R.remaining (choices_of choices.now) came left inputs.new
+        (O.written output.old) (O.written output.new) answer))
         ⊎ (IsUnjudged E.contents config.now
         (option_map (λ name. name.now) switch.entry) errors.old errors.new result
         × (inputs.new ≡ inputs.old) × (output.new ≡ output.old)) }

@@ -66,7 +66,11 @@ impl<'a> Judging<'a> {
     }
 
     /// What it counted.
-    pub(crate) fn totals(&self) -> Totals {
+    pub(crate) fn totals(&self) -> Totals
+        ensures findings { result.findings ≡ self.now.findings }
+        ensures left_out { result.left_out ≡ self.now.left_out }
+        ensures unseen { result.unseen ≡ 0 }
+    {
         let mut totals = Totals::new(self.findings, self.left_out);
         self.streams.count(&mut totals);
         totals

@@ -1,6 +1,9 @@
 //! A run over two lists: of what came, and of what left.
 
 ghost use Rattle.std.specs.Prelude.{◌≡◌, ◌≤◌, ◌+◌, ◌||◌, OnOk, true, false};
+ghost use Rattle.afdx_acceptance.specs.ChoicesOf.{choices_of};
+ghost use Rattle.afdx_acceptance.specs.Ran.{ConformAnswers};
+ghost use Rattle.afdx_inputs.specs.TwoListsRun.{IfBothGiven};
 ghost use Rattle.afdx_lists.specs.Calls.{is_failed_read, is_failed_write};
 ghost use Rattle.afdx_lists.specs.Lines.{most_reads};
 ghost use Rattle.afdx_lists.specs.Watching.{calls_of, has_ended, has_failed};
@@ -43,6 +46,11 @@ pub fn run_conform<R: Read, O: Sink>(
     ensures write { O.failed output.new ≡ is_failed_write result }
     ensures calls_came { calls_of inputs.new.came ≤ calls_of inputs.old.came + most_reads }
     ensures calls_left { calls_of inputs.new.left ≤ calls_of inputs.old.left + most_reads }
+
+    // Where the bytes of both are known: what is answered and written for the lists that they are.
+    ensures answer { IfBothGiven R.remaining inputs.old (λ came left.
+        ConformAnswers R.remaining (choices_of choices.now) came left inputs.new
+        (O.written output.old) (O.written output.new) result) }
 {
     let mut judging = Judging::new(alloc, tables, choices)?;
     run_two_lists(alloc, &mut judging, inputs, output)?;

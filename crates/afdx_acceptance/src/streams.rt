@@ -268,7 +268,11 @@ impl<'a> Streams<'a> {
     }
 
     /// What is counted of all streams.
-    pub(crate) fn count(&self, totals: &mut Totals) {
+    pub(crate) fn count(&self, totals: &mut Totals)
+        ensures findings { totals.new.findings ≡ totals.old.findings }
+        ensures left_out { totals.new.left_out ≡ totals.old.left_out }
+        ensures unseen { totals.new.unseen ≡ totals.old.unseen }
+    {
         for slot in self.slots.as_slice() {
             totals.add(slot);
         }

@@ -26,7 +26,11 @@ pub struct Totals {
 
 impl Totals {
     /// So many findings and lines that were left out, and no streams.
-    pub(crate) fn new(findings: u64, left_out: u64) -> Totals {
+    pub(crate) fn new(findings: u64, left_out: u64) -> Totals
+        ensures findings { result.findings ≡ findings }
+        ensures left_out { result.left_out ≡ left_out }
+        ensures unseen { result.unseen ≡ 0 }
+    {
         Totals {
             findings,
             explained: 0,
@@ -39,7 +43,11 @@ impl Totals {
     }
 
     /// What is counted of one more.
-    pub(crate) fn add(&mut self, slot: &Slot) {
+    pub(crate) fn add(&mut self, slot: &Slot)
+        ensures findings { self.new.findings ≡ self.old.findings }
+        ensures left_out { self.new.left_out ≡ self.old.left_out }
+        ensures unseen { self.new.unseen ≡ self.old.unseen }
+    {
         if let Slot::Stream(stream) = slot {
             let counts = stream.counts();
             self.explained = self.explained.saturating_add(counts.explained);
