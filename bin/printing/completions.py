@@ -32,7 +32,7 @@ KINDS: dict[str, Kind] = {
     "--keep": ("words", "jitter", "buffer", "latency", "skew"),
     "afdx list LIST": ("files", *PCAPS), "afdx-capture pcap LIST": ("files", *LISTS),
 }
-SEVERAL = ("--interface", "--sshlogin", "--link")  # may be given more than once
+SEVERAL = ("--interface", "--leave-out", "--sshlogin", "--link")  # may be given more than once
 COMMAS = ("--keep", "--fail-on")  # take several words, with commas between
 LONGEST = 50  # letters of a text that is shown whole
 
