@@ -25,6 +25,7 @@ KINDS: dict[str, Kind] = {
     "MESSAGES.csv": ("files", "csv"), "CABLES.csv": ("files", "csv"), "TAPS": ("files", "csv"),
     "RECORDING": ("files", *PCAPS),
     "LIST": ("files", *LISTS, *PCAPS), "SUBMISSIONS": ("files", *LISTS, "messages"),
+    "CAME": ("files", *LISTS), "LEFT": ("files", *LISTS),
     "DIR": ("folders",), "FOLDER": ("folders",), "SYSTEM": ("systems",),
     "BAG_MS": ("words", "1", "2", "4", "8", "16", "32", "64", "128"),
     "--taps": ("files", "csv"), "--cover": ("files", "toml"), "--junit": ("files", "xml"),
