@@ -163,8 +163,9 @@ class Cases:
 
     def skip(self, name: str, why: str) -> None:
         """A case that can't be tried here."""
-        self.skipped += 1
-        print(f"skipped {name}: {why}", flush=True)
+        with self.telling:
+            self.skipped += 1
+            print(f"skipped {name}: {why}", flush=True)
 
     def try_at_once(self, cases: list[tuple]) -> None:
         """So many cases at a time as there are processors; each is a name, a case, and what it is
