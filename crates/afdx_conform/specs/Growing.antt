@@ -83,8 +83,8 @@ due_by s = if s.judging.is_unsure then None
 -- how many events are told and aren't over
 unfoldable pub undecided_by : Growth → ℕ
 undecided_by s = if s.judging.is_unsure then 0
-    else length (drop (length s.judging.marks.items) s.arrivals.items)
-    + length (drop s.closed s.frames.items)
+    else (length s.arrivals.items - length s.judging.marks.items)
+    + (length s.frames.items - s.closed)
 
 -- ---- what it stands for
 
