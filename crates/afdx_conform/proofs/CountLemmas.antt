@@ -110,8 +110,7 @@ module _ (z : Terms) (xs : List Arrival) (ys : List Gone) (cut : ℕ) (over : Li
 
   later : (h : IsHeld z xs ys cut over g) → g.is_started ≡ true → AreTheSame
   later h e =
-      let k = h.continues e in
-      (
+      let k = h.continues e in (
         leasts (map gone_of g.frames.items)
             ∙ ap (λ (l : List State). least_waiting l) (k.stands.states ∙ ap (λ (j : Judged). j.states) k.same),
         k.stands.uncertain ∙ (let zero = ap (λ (j : Judged). j.uncertain) k.same in omega (arith, zero)),

@@ -68,8 +68,11 @@ module _ (z : Terms) where
       }
       by false e s =
           let lt = leb-false (y.time + both_slacks z.by) z.until e in
-          let all : AllByRecursion IsCutOff (y ∷ ys) = (lt, every-on (λ w. y.time ≤ w.time) IsCutOff
-          (λ w le. omega (arith, lt, le)) ys (every-unmap (λ t. y.time ≤ t) (λ (w : Gone). w.time) ys h.0)) in
+          let all : AllByRecursion IsCutOff (y ∷ ys) = (
+            lt,
+            every-on (λ w. y.time ≤ w.time) IsCutOff
+                (λ w le. omega (arith, lt, le)) ys (every-unmap (λ t. y.time ≤ t) (λ (w : Gone). w.time) ys h.0),
+          ) in
           record {
             off = y ∷ ys;
             same = ap (λ (l : List Gone). l ++ (y ∷ ys)) (sym (none-uncut (y ∷ ys) all));
@@ -133,6 +136,7 @@ module _ (z : Terms) where
     where
       rest : p ∷ (past ++ fs) ≡ u ∷ (us ++ off) → past ++ fs ≡ us ++ off
       rest k = cc
+
       heads : p ∷ (past ++ fs) ≡ u ∷ (us ++ off) → u ∷ us ≡ p ∷ us
       heads k = let same : p ≡ u = cc in ap (λ (g : Gone). g ∷ us) (sym same)
 
@@ -155,6 +159,7 @@ module _ (z : Terms) where
     where
       heads : with_more off a ∷ map (with_more off) ls ≡ with_more off b ∷ map (with_more off) ms → with_more off a ≡ with_more off b
       heads k = cc
+
       tails : with_more off a ∷ map (with_more off) ls ≡ with_more off b ∷ map (with_more off) ms
           → map (with_more off) ls ≡ map (with_more off) ms
       tails k = cc
@@ -166,16 +171,17 @@ module _ (z : Terms) where
   passed-low fs here off (h ∷ held) [] is le e = absurd (cc)
   passed-low fs here off (h ∷ held) (s ∷ states) is le e = (
     (let first = ap (λ (t : State). length t.rest) (heads e) in
-    let size = length-drop h.passed fs in
-    let more = length-append s.rest off in
-    let all = ap (λ (l : List Gone). length l) is ∙ length-append here off in
-    let low = le.0 in
-    omega (arith, first, size, more, all, low)),
+        let size = length-drop h.passed fs in
+        let more = length-append s.rest off in
+        let all = ap (λ (l : List Gone). length l) is ∙ length-append here off in
+        let low = le.0 in
+        omega (arith, first, size, more, all, low)),
     passed-low fs here off held states is le.1 (tails e),
   )
     where
       heads : state_of fs h ∷ map (state_of fs) held ≡ with_more off s ∷ map (with_more off) states → state_of fs h ≡ with_more off s
       heads k = cc
+
       tails : state_of fs h ∷ map (state_of fs) held ≡ with_more off s ∷ map (with_more off) states
           → map (state_of fs) held ≡ map (with_more off) states
       tails k = cc

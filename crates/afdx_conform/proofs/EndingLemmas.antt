@@ -79,6 +79,7 @@ first-are (f ∷ fs) (y ∷ here) off e =
   where
     heads : gone_of f ∷ map gone_of fs ≡ y ∷ (here ++ off) → gone_of f ≡ y
     heads k = cc
+
     tails : gone_of f ∷ map gone_of fs ≡ y ∷ (here ++ off) → map gone_of fs ≡ here ++ off
     tails k = cc
 

@@ -63,3 +63,4 @@ pub mod CuttingLemmas
 pub mod EndingLemmas
 pub mod EndDueLemmas
 pub mod CountLemmas
+pub mod DueNowLemmas

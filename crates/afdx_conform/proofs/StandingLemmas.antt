@@ -83,53 +83,53 @@ pub leave-for : (z : Terms) (until : ℕ) (ys : List Gone) (time : ℕ) (y : Gon
 leave-for z until ys time y m = record { behind = m.behind; by_time = m.by_time; start = m.start }
 
 module _ (z : Terms) (xs : List Arrival) (ys : List Gone) (j : Judged) (time : ℕ) (old new : Stream) (h : StandsFor z xs ys j time old)
-    where
-  pub stands-came : (a : Arrived) → IsJudged z a → MayCome z xs time (arrival_of a)
-      → ((until : ℕ) → time ≤ until → IsAfter (until_then until z) (xs ++ (arrival_of a ∷ [])) ys 0 h.over new.growth)
-      → StandsFor z (xs ++ (arrival_of a ∷ [])) ys j time new
-  stands-came a js m f = record {
-    over = h.over;
-    before = h.before;
-    is_after = f;
-    judged = λ until le.
-        ap (λ (k : Judged). shown k) (judged-came (until_then until z) xs ys 0 time h.over a old.growth old.growth.arrivals 0 m.behind
-        (over-until z until time h.over h.before) (h.is_after until le).events)
-        ∙ h.judged until le;
-  }
+  where
+    pub stands-came : (a : Arrived) → IsJudged z a → MayCome z xs time (arrival_of a)
+        → ((until : ℕ) → time ≤ until → IsAfter (until_then until z) (xs ++ (arrival_of a ∷ [])) ys 0 h.over new.growth)
+        → StandsFor z (xs ++ (arrival_of a ∷ [])) ys j time new
+    stands-came a js m f = record {
+      over = h.over;
+      before = h.before;
+      is_after = f;
+      judged = λ until le.
+          ap (λ (k : Judged). shown k) (judged-came (until_then until z) xs ys 0 time h.over a old.growth old.growth.arrivals 0 m.behind
+          (over-until z until time h.over h.before) (h.is_after until le).events)
+          ∙ h.judged until le;
+    }
 
-  pub stands-left : (y : Gone) → MayLeave z ys time y
-      → ((until : ℕ) → time ≤ until → IsAfter (until_then until z) xs (ys ++ (y ∷ [])) 0 h.over new.growth)
-      → StandsFor z xs (ys ++ (y ∷ [])) j time new
-  stands-left y m f = record {
-    over = h.over;
-    before = h.before;
-    is_after = f;
-    judged = λ until le.
-        shown-late (until_then until z) xs ys (y ∷ []) time h.over (h.is_after until le).told (h.is_after until le).events le
-        ((let b = m.behind in omega (arith, b)), tt) (over-until z until time h.over h.before)
-        ∙ h.judged until le;
-  }
+    pub stands-left : (y : Gone) → MayLeave z ys time y
+        → ((until : ℕ) → time ≤ until → IsAfter (until_then until z) xs (ys ++ (y ∷ [])) 0 h.over new.growth)
+        → StandsFor z xs (ys ++ (y ∷ [])) j time new
+    stands-left y m f = record {
+      over = h.over;
+      before = h.before;
+      is_after = f;
+      judged = λ until le.
+          shown-late (until_then until z) xs ys (y ∷ []) time h.over (h.is_after until le).told (h.is_after until le).events le
+          ((let b = m.behind in omega (arith, b)), tt) (over-until z until time h.over h.before)
+          ∙ h.judged until le;
+    }
 
-  pub stands-same : IsSame old.growth new.growth → StandsFor z xs ys j time new
-  stands-same s = record {
-    over = h.over;
-    before = h.before;
-    is_after = λ until le. after-same (until_then until z) xs ys 0 h.over old.growth new.growth s (h.is_after until le);
-    judged = h.judged;
-  }
+    pub stands-same : IsSame old.growth new.growth → StandsFor z xs ys j time new
+    stands-same s = record {
+      over = h.over;
+      before = h.before;
+      is_after = λ until le. after-same (until_then until z) xs ys 0 h.over old.growth new.growth s (h.is_after until le);
+      judged = h.judged;
+    }
 
-  over-later : (other : ℕ) (over : List Event) → time ≤ other → AreOver z time over → AreOver z other over
-  unfolding AreOver
-  over-later other [] le o = tt
-  over-later other (e ∷ before) le o = (let lt = o.0 in omega (arith, lt, le), over-later other before le o.1)
+    over-later : (other : ℕ) (over : List Event) → time ≤ other → AreOver z time over → AreOver z other over
+    unfolding AreOver
+    over-later other [] le o = tt
+    over-later other (e ∷ before) le o = (let lt = o.0 in omega (arith, lt, le), over-later other before le o.1)
 
-  pub stands-later : (other : ℕ) → time ≤ other → StandsFor z xs ys j other old
-  stands-later other le = record {
-    over = h.over;
-    before = over-later other h.over le h.before;
-    is_after = λ until more. h.is_after until (omega (arith, le, more));
-    judged = λ until more. h.judged until (omega (arith, le, more));
-  }
+    pub stands-later : (other : ℕ) → time ≤ other → StandsFor z xs ys j other old
+    stands-later other le = record {
+      over = h.over;
+      before = over-later other h.over le h.before;
+      is_after = λ until more. h.is_after until (omega (arith, le, more));
+      judged = λ until more. h.judged until (omega (arith, le, more));
+    }
 
 pub ending-same : (z : Terms) (xs : List Arrival) (ys : List Gone) (j : Judged) (old new : Stream) → IsEnding z xs ys j old
     → IsSame old.growth new.growth → IsEnding z xs ys j new
