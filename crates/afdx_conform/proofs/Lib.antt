@@ -44,6 +44,7 @@ pub mod GrowthNext
 pub mod StandingLemmas
 pub mod StandingDecides
 pub mod StandingSteps
+pub mod StandingEnds
 pub mod EveryLemmas
 pub mod EventLemmas
 pub mod LaterStates

@@ -1,2 +1,1 @@
-use Rattle.afdx_conform.proofs.StandingLemmas.{on-err}
-use Rattle.afdx_conform.proofs.StandingDecides.{in-order}
+use Rattle.afdx_conform.proofs.StandingEnds.{ends}
