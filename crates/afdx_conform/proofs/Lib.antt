@@ -45,6 +45,7 @@ pub mod StandingLemmas
 pub mod StandingDecides
 pub mod StandingSteps
 pub mod StandingEnds
+pub mod EndSoundLemmas
 pub mod EveryLemmas
 pub mod EventLemmas
 pub mod LaterStates

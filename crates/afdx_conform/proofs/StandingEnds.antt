@@ -10,7 +10,7 @@ use Rattle.afdx_conform.specs.Events.{closes_before, event_time, events_of, fram
 use Rattle.afdx_conform.specs.Explanations.{last_time}
 use Rattle.afdx_conform.specs.Findings.{Judged, came_by, came_to, closed_by, closed_to, judged_after, sound_events}
 use Rattle.afdx_conform.specs.Growing.{IsAfter, due_by}
-use Rattle.afdx_conform.specs.Histories.{AreEvents, AreOver, coming, counts_by, judged_by, next_of, shown, uncut, unclosed, unsure_in}
+use Rattle.afdx_conform.specs.Histories.{AreEvents, AreOver, coming, counts_by, counts_with, judged_by, least_waiting, next_of, nothing_judged, shown, uncut, unclosed, unsure_in}
 use Rattle.afdx_conform.specs.Limits.{AreLimits}
 use Rattle.afdx_conform.specs.Standing.{IsEnding, StandsFor, due_of}
 use Rattle.afdx_conform.specs.States.{Event, Came, Closing, State, are_behind, arrivals_came, kept}
@@ -151,3 +151,31 @@ module _ (z : Terms) where
         judged = sym (shown-late z xs (uncut z ys) s.off time h.over f.told f.events le (are-late z time s.off le s.are_off) o)
             ∙ ap (λ (l : List Gone). shown (judged_by z xs l h.over)) (sym s.same) ∙ h.judged z.until le;
       }
+
+  counts-unsure : (frames cut : ℕ) (j : Judged) → j.is_unsure ≡ true → counts_by frames cut j ≡ counts_with 0 0 0
+  counts-unsure frames cut j e =
+      ap (λ (b : Bool). if b then counts_with 0 0 0
+      else counts_with (frames - j.frames) (cut + least_waiting j.states) j.uncertain) e
+
+  pub counted : (xs : List Arrival) (ys : List Gone) (cut : ℕ) (over : List Event) (s : Growth) (result : Counts)
+      → IsAfter z xs ys cut over s → due_by s ≡ None
+      → (s.judging.is_unsure ≡ true → result ≡ counts_with 0 0 0)
+      → (next_of z (coming xs over) (unclosed ys over) ≡ None → result ≡ counts_by (length ys) cut (judged_by z xs ys over))
+      → result ≡ counts_by (length ys) cut (judged_whole z xs ys)
+  counted xs ys cut over s result f due un all =
+      by s.judging.is_unsure refl
+      ∙ ap (λ (j : Judged). counts_by (length ys) cut j) (sym (whole-is xs ys cut over s f due))
+    where
+      by : (b : Bool) → s.judging.is_unsure ≡ b → result ≡ counts_by (length ys) cut (judged_by z xs ys over)
+      by true e = un e ∙ sym (counts-unsure (length ys) cut (judged_by z xs ys over) (sym f.unsure ∙ e))
+      by false e = all (next-none xs ys cut over s f e due)
+
+pub stands-new : (z : Terms) (time : ℕ) (s : Stream) → ((until : ℕ) → IsAfter (until_then until z) [] [] 0 [] s.growth)
+    → StandsFor z [] [] nothing_judged time s
+unfolding judged_after AreOver
+stands-new z time s f = record {
+  over = [];
+  before = tt;
+  is_after = λ until le. f until;
+  judged = λ until le. refl;
+}

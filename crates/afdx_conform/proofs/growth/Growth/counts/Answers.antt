@@ -16,12 +16,12 @@ overflow_add-result c =
     let left = c.requires.left in
     omega (arith, low, places, arrivals, came, left)
 
-pub returns-then-self : goal.returns-then-self
-returns-then-self c z xs ys cut over n f =
+pub returns-then-self-clause-counted : goal.returns-then-self-clause-counted
+returns-then-self-clause-counted c z xs ys cut over n f =
     none-counted z xs ys cut over c.args.self.now f c.if-self.true
 
-pub returns : goal.returns
-returns c z xs ys cut over n f =
+pub returns-clause-counted : goal.returns-clause-counted
+returns-clause-counted c z xs ys cut over n f =
     let few = c.saturating_sub.ensures in
     ap (λ (m : ℕ). counts_with m (c.args.self.now.cut + c.least_waiting.result) c.args.self.now.judging.uncertain) few
     ∙ all-counted z xs ys cut over c.args.self.now c.least_waiting.result

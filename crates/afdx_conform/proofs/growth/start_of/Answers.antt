@@ -1,1 +1,0 @@
-use Rattle.afdx_conform.proofs.StandingEnds.{ends}
