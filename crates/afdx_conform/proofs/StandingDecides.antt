@@ -1,23 +1,22 @@
 -- What a stream stands for once its next event is over.
-use Rattle.std.proofs.Common.{◌≡◌, ℕ, zero, suc, ◌+◌, ◌-◌, ◌<◌, ◌≤◌, Bool, true, false, List, [], ◌∷◌, ◌++◌, map, drop, length, refl, sym, ap, ◌∙◌, subst, arith}
+use Rattle.std.proofs.Common.{◌≡◌, ℕ, zero, suc, ◌+◌, ◌≤◌, Bool, true, false, List, [], ◌∷◌, ◌++◌, map, drop, length, refl, sym, ap, ◌∙◌, subst, arith}
 use Rattle.std.proofs.lemmas.Bool.{ltb-true, ltb-false}
 use Rattle.std.proofs.lemmas.List.{length-append}
-use Rattle.std.specs.Prelude.{if◌then◌else◌, nat_lt, Option, Some, None, option_map}
-use Rattle.std.specs.List.{AllByRecursion}
+use Rattle.std.specs.Prelude.{if◌then◌else◌, Option, Some, None, option_map}
 use Rattle.afdx_police.specs.Arrival.{Arrival}
 use Rattle.afdx_conform.specs.Events.{GoUp, arrival_times, closes_before, closings_in, event_time, frame_times, moment_at}
 use Rattle.afdx_conform.specs.Explanations.{last_time}
-use Rattle.afdx_conform.specs.Findings.{Finding, Judged, Marked, closed_to, came_to, judged_after, sound_events}
+use Rattle.afdx_conform.specs.Findings.{Finding, Marked, judged_after, sound_events}
 use Rattle.afdx_conform.specs.Growing.{AreTold, Decides, IsAfter, IsNoSooner, due_by, due_in}
-use Rattle.afdx_conform.specs.Histories.{AreEvents, coming, judged_by, next_of, shown, time_of, unclosed}
+use Rattle.afdx_conform.specs.Histories.{coming, judged_by, next_of, shown, time_of, unclosed}
 use Rattle.afdx_conform.specs.Judging.{AreFound}
 use Rattle.afdx_conform.specs.Leeway.{both_slacks}
 use Rattle.afdx_conform.specs.Standing.{Finds}
 use Rattle.afdx_conform.specs.States.{Event, Came, Closing, arrivals_came}
-use Rattle.afdx_conform.specs.Streams.{Gone, Terms, latency}
+use Rattle.afdx_conform.specs.Streams.{Gone, Terms}
 use Rattle.afdx_conform.specs.declared.growth.Growth.{Growth}
 use Rattle.afdx_conform.proofs.GrowthCloses.{closed-unsure}
-use Rattle.afdx_conform.proofs.GrowthDecides.{IsLast, came-last}
+use Rattle.afdx_conform.proofs.GrowthDecides.{came-last}
 use Rattle.afdx_conform.proofs.GrowthLemmas.{true-false}
 use Rattle.afdx_conform.proofs.GrowthNext.{due-next, next-held}
 use Rattle.afdx_conform.proofs.HistoryLemmas.{drop-next, next-came, next-closing}

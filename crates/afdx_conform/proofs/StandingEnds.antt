@@ -1,19 +1,17 @@
 -- What a stream stands for at its end: all its events are over.
-use Rattle.std.proofs.Common.{◌≡◌, ℕ, ◌+◌, ◌-◌, ◌<◌, ◌≤◌, Bool, true, false, List, [], ◌∷◌, ◌++◌, map, reverse, length, refl, sym, ap, ◌∙◌, subst, arith}
+use Rattle.std.proofs.Common.{◌≡◌, ℕ, ◌+◌, ◌-◌, ◌≤◌, Bool, true, false, List, [], ◌∷◌, ◌++◌, reverse, length, refl, sym, ap, ◌∙◌}
 use Rattle.std.proofs.lemmas.List.{append-nil, append_assoc, reverse-append, reverse-reverse}
 use Rattle.std.specs.Prelude.{if◌then◌else◌, Option, Some, None, option_map}
 use Rattle.afdx_police.specs.Arrival.{Arrival}
 use Rattle.afdx_police.specs.Shape.{fault_of}
 use Rattle.afdx_conform.specs.Ahead.{until_then}
-use Rattle.afdx_conform.specs.Bounds.{AreBounds}
-use Rattle.afdx_conform.specs.Events.{closes_before, event_time, events_of, frame_times, GoUp, judged_whole, moment_at}
+use Rattle.afdx_conform.specs.Events.{closes_before, event_time, events_of, judged_whole, moment_at}
 use Rattle.afdx_conform.specs.Explanations.{last_time}
 use Rattle.afdx_conform.specs.Findings.{Judged, came_by, came_to, closed_by, closed_to, judged_after, sound_events}
 use Rattle.afdx_conform.specs.Growing.{IsAfter, due_by}
-use Rattle.afdx_conform.specs.Histories.{AreEvents, AreOver, coming, counts_by, counts_with, judged_by, least_waiting, next_of, nothing_judged, shown, uncut, unclosed, unsure_in}
-use Rattle.afdx_conform.specs.Limits.{AreLimits}
-use Rattle.afdx_conform.specs.Standing.{IsEnding, StandsFor, due_of}
-use Rattle.afdx_conform.specs.States.{Event, Came, Closing, State, are_behind, arrivals_came, kept}
+use Rattle.afdx_conform.specs.Histories.{AreEvents, AreOver, coming, counts_by, counts_with, judged_by, least_waiting, next_of, nothing_judged, shown, uncut, unclosed}
+use Rattle.afdx_conform.specs.Standing.{IsEnding, StandsFor}
+use Rattle.afdx_conform.specs.States.{Event, Came, Closing, are_behind, arrivals_came, kept}
 use Rattle.afdx_conform.specs.Streams.{Gone, Terms}
 use Rattle.afdx_conform.specs.declared.counts.Counts.{Counts}
 use Rattle.afdx_conform.specs.declared.growth.Growth.{Growth}

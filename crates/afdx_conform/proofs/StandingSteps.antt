@@ -1,20 +1,18 @@
 -- A stream decides its next event, before the end is known and once it is.
-use Rattle.std.proofs.Common.{◌≡◌, ℕ, ◌+◌, ◌-◌, ◌<◌, ◌≤◌, Bool, false, List, ◌∷◌, length, refl, sym, ap, ◌∙◌, subst, arith}
-use Rattle.std.specs.Prelude.{Option, Some, None, IfOk, OnOk, Result, Ok, Err}
+use Rattle.std.proofs.Common.{◌≡◌, ℕ, ◌-◌, ◌<◌, ◌≤◌, false, List, ◌∷◌, length, refl, sym, ap, ◌∙◌, subst, arith}
+use Rattle.std.specs.Prelude.{Option, Some, None, IfOk, Result, Ok, Err}
 use Rattle.afdx_police.specs.Arrival.{Arrival}
 use Rattle.afdx_conform.specs.Ahead.{until_then}
 use Rattle.afdx_conform.specs.Events.{event_time, moment_at}
 use Rattle.afdx_conform.specs.Findings.{Finding, Judged}
-use Rattle.afdx_conform.specs.Growing.{Decides, IsAfter, IsKnownBy, IsSame, due_by, undecided_by}
+use Rattle.afdx_conform.specs.Growing.{Decides, IsAfter, IsKnownBy}
 use Rattle.afdx_conform.specs.Histories.{AreOver, coming, judged_by, next_of, shown, uncut, unclosed}
-use Rattle.afdx_conform.specs.Leeway.{both_slacks}
 use Rattle.afdx_conform.specs.Standing.{Finds, IsEnding, StandsFor, due_of}
 use Rattle.afdx_conform.specs.States.{Event}
-use Rattle.afdx_conform.specs.Streams.{Gone, Terms, latency}
-use Rattle.afdx_conform.specs.declared.growth.Growth.{Growth}
+use Rattle.afdx_conform.specs.Streams.{Gone, Terms}
 use Rattle.afdx_conform.specs.declared.streaming.Stream.{Stream}
 use Rattle.afdx_conform.proofs.StandingDecides.{due-sure, finds, next-due}
-use Rattle.afdx_conform.proofs.StandingLemmas.{judged-until, next-until, over-until, time-until}
+use Rattle.afdx_conform.proofs.StandingLemmas.{judged-until, next-until, time-until}
 
 pub if-every : {X E : Type 0} {P : ℕ → X → Type 0} {Q : X → Type 0} (r : Result X E) (time : ℕ)
     → ((x : X) → ((until : ℕ) → time ≤ until → P until x) → Q x)

@@ -8,10 +8,10 @@ use Rattle.afdx_conform.specs.Accounts.{AreRates}
 use Rattle.afdx_conform.specs.Bounds.{AreBounds}
 use Rattle.afdx_conform.specs.Events.{GoUp, arrival_times, closings_in, event_time, frame_times, moment_at}
 use Rattle.afdx_conform.specs.Explanations.{from_time, last_time}
-use Rattle.afdx_conform.specs.Findings.{Finding, Judged, Marked, judged_after, sound_events}
+use Rattle.afdx_conform.specs.Findings.{Finding, Judged, Marked, sound_events}
 use Rattle.afdx_conform.specs.Forgetting.{FitNone, with_gone}
 use Rattle.afdx_conform.specs.HeldStates.{IsWithin}
-use Rattle.afdx_conform.specs.Histories.{AreEvents, AreOver, judged_by, unsure_in}
+use Rattle.afdx_conform.specs.Histories.{AreEvents, judged_by, unsure_in}
 use Rattle.afdx_conform.specs.Judging as judging
 use Rattle.afdx_conform.specs.Leeway.{both_slacks}
 use Rattle.afdx_conform.specs.LeewayOf.{leeway_of}
@@ -19,7 +19,7 @@ use Rattle.afdx_conform.specs.Limits.{gone_of}
 use Rattle.afdx_conform.specs.Marks.{IsJudged, arrival_of}
 use Rattle.afdx_conform.specs.Ranges.{most_held}
 use Rattle.afdx_conform.specs.States.{Event, arrivals_came}
-use Rattle.afdx_conform.specs.Streams.{Gone, Terms, fits, latency}
+use Rattle.afdx_conform.specs.Streams.{Gone, Terms}
 use Rattle.afdx_conform.specs.declared.arrived.Arrived.{Arrived}
 use Rattle.afdx_conform.specs.declared.growth.Growth.{Growth}
 use Rattle.afdx_conform.specs.declared.limits.Frame.{Frame}

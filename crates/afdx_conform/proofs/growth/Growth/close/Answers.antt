@@ -1,7 +1,6 @@
 use Rattle.std.proofs.Common.{rules, ◌≡◌, ℕ, ◌+◌, ◌<◌, ◌∷◌, List, get_or, length, map, sym, ap, ◌∙◌, subst, arith}
 use Rattle.std.specs.Prelude.{All, Some}
 use Rattle.afdx_conform.specs.Courses.{AreFrames}
-use Rattle.afdx_conform.specs.Findings.{closed_to}
 use Rattle.afdx_conform.specs.Growing.{IsAfter, IsSound, undecided_by}
 use Rattle.afdx_conform.specs.HeldStates.{AreClosed, IsWithin}
 use Rattle.afdx_conform.specs.Histories.{coming, judged_by, next_of, unclosed}

@@ -1,7 +1,6 @@
-use Rattle.std.proofs.Common.{◌≡◌, ℕ, ◌+◌, ◌-◌, List, [], map, sym, ap, ◌∙◌, arith}
+use Rattle.std.proofs.Common.{ℕ, ◌+◌, List, [], map, ap, ◌∙◌, arith}
 use Rattle.afdx_conform.specs.HeldStates.{state_of}
 use Rattle.afdx_conform.specs.Histories.{counts_with, least_waiting}
-use Rattle.afdx_conform.specs.Streams.{Gone}
 use Rattle.afdx_conform.specs.declared.states.Held.{Held}
 use Rattle.afdx_conform.proofs.CountLemmas.{all-counted, least-low, none-counted}
 use Rattle.afdx_conform.proofs.growth.Growth.counts.Goals as goal

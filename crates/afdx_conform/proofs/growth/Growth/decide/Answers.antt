@@ -1,15 +1,12 @@
-use Rattle.std.proofs.Common.{rules, ◌≡◌, ℕ, ◌∷◌, List, drop, get_or, length, map, refl, sym, ap, ◌∙◌, subst, arith}
+use Rattle.std.proofs.Common.{ℕ, List, get_or, length, sym, ap, ◌∙◌, subst, arith}
 use Rattle.std.specs.Prelude.{IfOk, Some}
 use Rattle.afdx_conform.specs.Growing.{Decides, IsKnownBy}
-use Rattle.afdx_conform.specs.Histories.{coming, next_of, unclosed}
-use Rattle.afdx_conform.specs.Marks.{arrival_of}
-use Rattle.afdx_conform.specs.States.{Came, Closing, Event}
+use Rattle.afdx_conform.specs.States.{Event}
 use Rattle.afdx_conform.specs.declared.arrived.Arrived.{Arrived}
 use Rattle.afdx_conform.specs.declared.finding.Mark.{Mark}
 use Rattle.afdx_conform.specs.declared.limits.Frame.{Frame}
 use Rattle.afdx_conform.specs.declared.upcoming.Upcoming.{Upcoming}
 use Rattle.afdx_conform.proofs.GrowthNext.{arrives-at, closes-at, next-held, no-event, none-at, none-of, some-frame, the-event}
-use Rattle.afdx_conform.proofs.KeepLemmas.{if-ok-on}
 use Rattle.afdx_conform.proofs.StreamLemmas.{on-ok, some-arrived}
 use Rattle.afdx_conform.proofs.GrowthLemmas.{true-false}
 use Rattle.afdx_conform.proofs.StandingDecides.{due-sure}
