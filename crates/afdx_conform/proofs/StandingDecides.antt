@@ -213,6 +213,7 @@ module _ (z : Terms) where
 
     pub finds : Finds z moment found (shown (judged_by z xs ys over)) (shown (judged_by z xs ys (e ∷ over))) (due_by new)
     finds = record {
+      is_moment = omega (arith, is);
       are_found = subst (λ (t : ℕ). AreFound t found (shown (judged_by z xs ys over)) (shown (judged_by z xs ys (e ∷ over)))) time-is
           (record { findings = d.1.findings; frames = d.1.frames });
       later = later-due;

@@ -71,7 +71,13 @@ module _ (z : Terms) (xs : List Arrival) (ys : List Gone) (j : Judged) (time mom
           judged = λ until le. ap (λ (k : Judged). shown k)
               (judged-until z xs ys time until time (event ∷ h.over) le (omega arith) before-next);
         },
-        record { are_found = two.are_found; later = two.later; sure = two.sure; unsure = two.unsure },
+        record {
+          is_moment = two.is_moment;
+          are_found = two.are_found;
+          later = two.later;
+          sure = two.sure;
+          unsure = two.unsure;
+        },
       )
 
 module _ (z : Terms) (xs : List Arrival) (ys : List Gone) (j : Judged) (moment : ℕ) (old : Stream)
@@ -96,5 +102,6 @@ module _ (z : Terms) (xs : List Arrival) (ys : List Gone) (j : Judged) (moment :
       (sym h.is_after.unsure ∙ due-sure old.growth moment due) d in (
         shown (judged_by z xs (uncut z ys) (last-event ∷ h.over)),
         record { over = last-event ∷ h.over; is_after = d.0; judged = refl },
-        subst (λ (k : Judged). Finds z moment found k (shown (judged_by z xs (uncut z ys) (last-event ∷ h.over))) (due_of new)) h.judged one,
+        subst (λ (k : Judged). Finds z moment found k (shown (judged_by z xs (uncut z ys) (last-event ∷ h.over))) (due_of new))
+            h.judged one,
       )

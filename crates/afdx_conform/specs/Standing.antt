@@ -2,6 +2,7 @@
 use Rattle.std.specs.Prelude.{◌≡◌, ℕ, ◌+◌, ◌-◌, ◌≤◌, true, false, List, [], ◌∷◌, ◌++◌, length, Option}
 use Rattle.afdx_police.specs.Arrival.{Arrival}
 use Rattle.afdx_conform.specs.Ahead.{until_then}
+use Rattle.afdx_conform.specs.Events.{moment_at}
 use Rattle.afdx_conform.specs.Findings.{Finding, Judged, Marked}
 use Rattle.afdx_conform.specs.Growing.{IsAfter, IsNoSooner, due_by, undecided_by}
 use Rattle.afdx_conform.specs.Histories.{AreOver, judged_by, shown, time_of, uncut}
@@ -44,6 +45,7 @@ pub record IsEnding (z : Terms) (xs : List Arrival) (ys : List Gone) (j : Judged
 -- is unsure from there on, the arrival behind which it is is the event's own
 pub record Finds (z : Terms) (moment : ℕ) (found : List Finding) (before after : Judged)
     (due : Option ℕ) : Type 0 where
+  pub is_moment : moment_at z (time_of z moment) ≡ moment
   pub are_found : AreFound (time_of z moment) found before after
   pub later : IsNoSooner moment due
   pub sure : before.is_unsure ≡ false

@@ -48,9 +48,10 @@ impl Stream {
     pub fn new(alloc: Global, rule: &LinkRule, latency_ns: u64, byte_ns: u64, by: Leeway) -> Stream
         requires latency { latency_ns ≤ 1000 * greatest_delay }
         requires byte { byte_ns ≤ slowest_byte }
-        ensures { (z : Terms) (time : ℕ) → z.rule ≡ rule_of rule.now →
+        ensures stands { (z : Terms) (time : ℕ) → z.rule ≡ rule_of rule.now →
             z.latency_ns ≡ latency_ns → z.byte_ns ≡ byte_ns → z.by ≡ leeway_of by →
             StandsFor z [] [] nothing_judged time result }
+        ensures due { due_of result ≡ None }
     {
         let rates = Rates::new(rule, &by);
         let limits = Limits::new(latency_ns, byte_ns, &by);

@@ -66,7 +66,8 @@ returns-clause-decides c z xs ys cut over f sure at next r =
     subst (λ (v : Frame). IsAfter z xs ys cut (Closing v.time ∷ over) c.forget.new.self
     × AreFound (v.time + both_slacks z.by) c.in_ok-found.found.items (judged_by z xs ys over)
     (judged_by z xs ys (Closing v.time ∷ over))) same
-    (forgot (c.forget.ensures.after z xs ys cut (Closing c.index.result.now.time ∷ over)) (subst (λ (s : Growth). IsAfter z xs ys cut (Closing c.index.result.now.time ∷ over) s
+    (forgot (c.forget.ensures.after z xs ys cut (Closing c.index.result.now.time ∷ over))
+    (subst (λ (s : Growth). IsAfter z xs ys cut (Closing c.index.result.now.time ∷ over) s
     × AreFound (c.index.result.now.time + both_slacks z.by) c.in_ok-found.found.items (judged_by z xs ys over)
     (judged_by z xs ys (Closing c.index.result.now.time ∷ over))) (sym (c.count.ensures
     ∙ ap (λ (l : List Finding). Close z xs ys cut over c.index.result.now c.args.self.now c.judge_closing.new.judging l)

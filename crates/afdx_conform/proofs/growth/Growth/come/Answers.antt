@@ -33,7 +33,8 @@ pub forget-requires : goal.forget-requires
 forget-requires c =
     let s = c.requires.sound in
     let marks = c.in_ok-found.ensures.marks in
-    let within = c.in_ok-found.ensures.within (regulation_of (rule_of c.args.self.now.rule)) (leeway_of c.args.self.now.by) (length c.args.self.now.judging.marks.items) s.rates
+    let within = c.in_ok-found.ensures.within (regulation_of (rule_of c.args.self.now.rule)) (leeway_of c.args.self.now.by)
+    (length c.args.self.now.judging.marks.items) s.rates
     (subst (λ (fs : List Frame). All (λ h. IsWithin c.args.self.now.bounds.rates (length fs)
     (length c.args.self.now.judging.marks.items) h) c.args.self.now.judging.held.items) (sym c.as_slice-2.ensures.value) s.within) in
     subst (λ (g : Growth). IsSound g) (sym c.count.ensures) (record {
@@ -77,7 +78,8 @@ returns-clause-decides c z xs ys cut over a sure at next known r =
     r.continues.j c.as_slice.result.now c.as_slice-2.result.now c.as_slice.ensures.value c.as_slice-2.ensures.value out in
     subst (λ (v : Arrived). IsAfter z xs ys cut (Came (arrival_of v) ∷ over) c.forget.new.self
     × AreFound v.time c.in_ok-found.found.items (judged_by z xs ys over) (judged_by z xs ys (Came (arrival_of v) ∷ over))) same
-    (forgot (c.forget.ensures.after z xs ys cut (Came (arrival_of c.index-arrived.result.now) ∷ over)) (subst (λ (s : Growth). IsAfter z xs ys cut (Came (arrival_of c.index-arrived.result.now) ∷ over) s
+    (forgot (c.forget.ensures.after z xs ys cut (Came (arrival_of c.index-arrived.result.now) ∷ over))
+    (subst (λ (s : Growth). IsAfter z xs ys cut (Came (arrival_of c.index-arrived.result.now) ∷ over) s
     × AreFound c.index-arrived.result.now.time c.in_ok-found.found.items (judged_by z xs ys over)
     (judged_by z xs ys (Came (arrival_of c.index-arrived.result.now) ∷ over))) (sym (c.count.ensures
     ∙ ap (λ (l : List Finding). Come z xs ys cut over a c.args.self.now c.judge_arrival.new.judging c.number_if-self.result

@@ -10,7 +10,8 @@ returns-clause-after c z xs ys cut over f =
     let most = c.passed_by_all-count.ensures.most in
     let closed = c.requires.closed in
     after-frames z xs ys cut over c.args.self.now c.passed_by_all-count.result c.forget_first.new.items c.without_first.new.held
-    c.forget_first.ensures c.without_first.ensures (subst (λ (l : List Held). All (λ h. c.passed_by_all-count.result ≤ h.passed) l) c.as_slice.ensures.value
+    c.forget_first.ensures c.without_first.ensures
+    (subst (λ (l : List Held). All (λ h. c.passed_by_all-count.result ≤ h.passed) l) c.as_slice.ensures.value
     c.passed_by_all-count.ensures.all) most (omega (arith, most, closed)) f
 
 pub returns-clause-due : goal.returns-clause-due
