@@ -1,5 +1,5 @@
 -- What a stream stands for while its arrivals and frames come.
-use Rattle.std.specs.Prelude.{◌≡◌, ℕ, ◌-◌, ◌≤◌, true, false, List, [], ◌∷◌, ◌++◌, length, Option}
+use Rattle.std.specs.Prelude.{◌≡◌, ℕ, ◌+◌, ◌-◌, ◌≤◌, true, false, List, [], ◌∷◌, ◌++◌, length, Option}
 use Rattle.afdx_police.specs.Arrival.{Arrival}
 use Rattle.afdx_conform.specs.Ahead.{until_then}
 use Rattle.afdx_conform.specs.Findings.{Finding, Judged, Marked}
@@ -17,6 +17,10 @@ due_of s = due_by s.growth
 -- how many events it was told that aren't over
 abbrev pub undecided_in : Stream → ℕ
 undecided_in s = undecided_by s.growth
+
+-- how many arrivals and frames it holds
+abbrev pub held_in : Stream → ℕ
+held_in s = length s.growth.arrivals.items + length s.growth.frames.items
 
 -- before the end is known: these arrivals and frames were told, oldest first, the moment of each
 -- event that is over lies before `time`, and so far this is judged, whatever the end will be from

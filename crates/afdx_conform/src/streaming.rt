@@ -39,7 +39,8 @@ impl Stream {
     ghost use Rattle.afdx_conform.specs.LeewayOf.{leeway_of};
     ghost use Rattle.afdx_conform.specs.Limits.{gone_of};
     ghost use Rattle.afdx_conform.specs.Marks.{IsJudged, arrival_of};
-    ghost use Rattle.afdx_conform.specs.Standing.{Finds, IsEnding, StandsFor, due_of, undecided_in};
+    ghost use Rattle.afdx_conform.specs.Standing.{Finds, IsEnding, StandsFor, due_of, held_in};
+    ghost use Rattle.afdx_conform.specs.Standing.{undecided_in};
     ghost use Rattle.afdx_conform.specs.Streams.{Gone, Terms};
 
     /// A stream of which nothing came, of a link of this rule and latency, at a port on whose line
@@ -165,10 +166,9 @@ impl Stream {
     }
 
     /// How many arrivals and frames it holds.
-    pub fn held(&self) -> usize {
-        self.growth
-            .arrivals
-            .len()
-            .saturating_add(self.growth.frames.len())
+    pub fn held(&self) -> usize
+        ensures { result ≡ held_in self.now }
+    {
+        self.growth.arrivals.len() + self.growth.frames.len()
     }
 }

@@ -1,11 +1,11 @@
-use Rattle.std.proofs.Common.{rules, ◌≡◌, ℕ, ◌+◌, ◌-◌, ◌∷◌, List, get_or, length, sym, ap, ◌∙◌, subst, arith}
+use Rattle.std.proofs.Common.{rules, ◌≡◌, ℕ, ◌+◌, ◌-◌, ◌<◌, ◌∷◌, List, get_or, length, sym, ap, ◌∙◌, subst, arith}
 use Rattle.std.specs.Prelude.{All, Some}
 use Rattle.afdx_police.specs.Rule.{regulation_of}
 use Rattle.afdx_police.specs.RuleOf.{rule_of}
 use Rattle.afdx_conform.specs.Explanations.{last_time}
 use Rattle.afdx_conform.specs.Findings.{sound_events}
 use Rattle.afdx_conform.specs.declared.finding.Finding.{Finding}
-use Rattle.afdx_conform.specs.Growing.{IsAfter, IsKnownBy, IsSound}
+use Rattle.afdx_conform.specs.Growing.{IsAfter, IsKnownBy, IsSound, undecided_by}
 use Rattle.afdx_conform.specs.HeldStates.{IsWithin}
 use Rattle.afdx_conform.specs.Histories.{coming, judged_by, next_of, unclosed}
 use Rattle.afdx_conform.specs.Judging.{AreFound, StandsFor}
@@ -17,6 +17,7 @@ use Rattle.afdx_conform.specs.declared.growth.Growth.{Growth}
 use Rattle.afdx_conform.specs.declared.limits.Frame.{Frame}
 use Rattle.afdx_conform.proofs.CourseLemmas.{same-arrived}
 use Rattle.afdx_conform.proofs.GrowthDecides.{Come, forgot, after-come, outcome-of}
+use Rattle.afdx_conform.proofs.UndecidedLemmas.{undecided-less}
 use Rattle.afdx_conform.proofs.growth.Growth.come.Goals as goal
 
 pub judge_arrival-requires-clause-within : goal.judge_arrival-requires-clause-within
@@ -84,3 +85,12 @@ returns-clause-decides c z xs ys cut over a sure at next known r =
     (after-come z xs ys cut over c.index-arrived.result.now c.args.self.now c.judge_arrival.new.judging c.number_if-self.result
     c.last_after-last.result c.in_ok-found.found.items r.gone r.past r.kept c.requires.place here r.continues judged sure
     held.0 held.1 c.in_ok-found.ensures.marks c.last_after-last.ensures c.number_if-self.ensures r.after next')))
+
+pub returns-clause-less : goal.returns-clause-less
+returns-clause-less c sure =
+    let marks = c.in_ok-found.ensures.marks in
+    let place = c.requires.place in
+    let less = subst (λ (s : Growth). undecided_by s < undecided_by c.args.self.now) (sym c.count.ensures)
+    (undecided-less c.args.self.now _ sure (omega (arith, marks, place))) in
+    let same = c.forget.ensures.undecided in
+    omega (arith, less, same)
