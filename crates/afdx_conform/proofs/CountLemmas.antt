@@ -1,20 +1,18 @@
 -- What is counted of a stream.
-use Rattle.std.proofs.Common.{◌≡◌, ℕ, ◌+◌, ◌-◌, ◌<◌, ◌≤◌, Bool, true, false, List, [], ◌∷◌, ◌++◌, map, length, min, refl, sym, ap, ◌∙◌, subst, arith}
+use Rattle.std.proofs.Common.{◌≡◌, ℕ, ◌+◌, ◌-◌, ◌≤◌, Bool, true, false, List, [], ◌∷◌, map, length, min, refl, sym, ap, ◌∙◌, subst, arith}
 use Rattle.std.proofs.lemmas.List.Elements.{recursion_from_All}
 use Rattle.std.specs.Prelude.{if◌then◌else◌}
 use Rattle.std.specs.List.{AllByRecursion}
 use Rattle.afdx_police.specs.Arrival.{Arrival}
 use Rattle.afdx_conform.specs.Explanations.{link}
 use Rattle.afdx_conform.specs.Findings.{Judged, judged_after}
-use Rattle.afdx_conform.specs.Growing.{IsAfter, IsHeld, IsSound, is_some, most_found}
+use Rattle.afdx_conform.specs.Growing.{IsAfter, IsHeld, IsSound, is_some}
 use Rattle.afdx_conform.specs.HeldStates.{IsWithin, state_of}
 use Rattle.afdx_conform.specs.Histories.{counts_by, counts_with, judged_by, least_from, least_waiting}
 use Rattle.afdx_conform.specs.Levels.{Levels, first_levels}
 use Rattle.afdx_conform.specs.Limits.{gone_of}
-use Rattle.afdx_conform.specs.Ranges.{most_held}
 use Rattle.afdx_conform.specs.States.{Event, arrivals_came, State, first_states}
 use Rattle.afdx_conform.specs.Streams.{Gone, Terms, is_begun}
-use Rattle.afdx_conform.specs.declared.counts.Counts.{Counts}
 use Rattle.afdx_conform.specs.declared.growth.Growth.{Growth}
 use Rattle.afdx_conform.specs.declared.states.Held.{Held}
 use Rattle.afdx_conform.proofs.EveryLemmas.{every-on}

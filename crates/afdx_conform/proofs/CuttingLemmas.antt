@@ -1,34 +1,20 @@
 -- What is cut off at the end of a stream.
-use Rattle.std.proofs.Common.{◌≡◌, ℕ, zero, suc, ◌+◌, ◌-◌, ◌<◌, ◌≤◌, Bool, true, false, List, [], ◌∷◌, ◌++◌, ◌⊎◌, inl, inr, map, take, drop, get_or, length, min, refl, sym, ap, ◌∙◌, subst, arith}
-use Rattle.std.proofs.lemmas.Bool.{ltb-true, ltb-false, leb-true, leb-false, le-leb}
-use Rattle.std.proofs.lemmas.List.{append_assoc, append-nil, append_cancel_right, map-append, length-append, length-map, length-drop, length-take-le, drop-append-le}
-use Rattle.std.proofs.lemmas.List.Elements.{All-from_recursion, recursion_from_All}
-use Rattle.std.specs.Prelude.{All, Option, Some, None, if◌then◌else◌, nat_le, nat_lt}
-use Rattle.std.specs.List.{AllByRecursion, filter}
-use Rattle.std.specs.Global.{Vec}
+use Rattle.std.proofs.Common.{◌≡◌, ℕ, suc, ◌+◌, ◌<◌, ◌≤◌, Bool, true, false, List, [], ◌∷◌, ◌++◌, map, drop, length, refl, sym, ap, ◌∙◌, subst, arith}
+use Rattle.std.proofs.lemmas.Bool.{ltb-true, ltb-false, leb-true, leb-false}
+use Rattle.std.proofs.lemmas.List.{append_cancel_right, length-append, length-drop}
+use Rattle.std.specs.Prelude.{if◌then◌else◌, nat_le, nat_lt}
+use Rattle.std.specs.List.{AllByRecursion}
 use Rattle.afdx_police.specs.Arrival.{Arrival}
 use Rattle.afdx_conform.specs.Ahead.{with_more}
 use Rattle.afdx_conform.specs.Events.{GoUp, closings_in, frame_times}
-use Rattle.afdx_conform.specs.Explanations.{from_time}
-use Rattle.afdx_conform.specs.Findings.{Judged, Marked, judged_with, with_states}
-use Rattle.afdx_conform.specs.Forgetting.{FitNone, with_gone}
-use Rattle.afdx_conform.specs.Growing.{AreTold, Continues, IsAfter, IsHeld, IsKept, is_some, most_found}
-use Rattle.afdx_conform.specs.HeldStates.{IsWithin, state_of}
-use Rattle.afdx_conform.specs.Histories.{AreEvents, AreOver, coming, judged_by, shown, uncut, unclosed, unsure_in}
-use Rattle.afdx_conform.specs.Later.{judged_more}
+use Rattle.afdx_conform.specs.HeldStates.{state_of}
+use Rattle.afdx_conform.specs.Histories.{AreEvents, AreOver, coming, uncut, unclosed}
 use Rattle.afdx_conform.specs.Leeway.{both_slacks}
-use Rattle.afdx_conform.specs.Limits.{gone_of}
 use Rattle.afdx_conform.specs.States.{Event, Came, Closing, State, state_with}
-use Rattle.afdx_conform.specs.Streams.{Gone, Terms, fits}
-use Rattle.afdx_conform.specs.declared.growth.Growth.{Growth}
-use Rattle.afdx_conform.specs.declared.levels.Rates.{Rates}
-use Rattle.afdx_conform.specs.declared.limits.Frame.{Frame}
+use Rattle.afdx_conform.specs.Streams.{Gone, Terms}
 use Rattle.afdx_conform.specs.declared.states.Held.{Held}
-use Rattle.afdx_conform.proofs.EveryLemmas.{every-left, every-on, every-unmap}
-use Rattle.afdx_conform.proofs.ForgetLemmas.{map-drop}
-use Rattle.afdx_conform.proofs.GrowthFrames.{judged-late, shown-late, states-more}
-use Rattle.afdx_conform.proofs.GrowthLemmas.{true-false}
-use Rattle.afdx_conform.proofs.HistoryLemmas.{events-cut, next-closing}
+use Rattle.afdx_conform.proofs.EveryLemmas.{every-on, every-unmap}
+use Rattle.afdx_conform.proofs.HistoryLemmas.{next-closing}
 use Rattle.afdx_conform.proofs.OverLemmas.{AreLate}
 
 module _ (z : Terms) where

@@ -1,17 +1,9 @@
 -- The moment of the next event of a stream.
-use Rattle.std.proofs.Common.{◌≡◌, ℕ, zero, suc, ◌+◌, ◌-◌, ◌<◌, ◌≤◌, ◌⊎◌, inl, inr, Bool, true, false, List, [], ◌∷◌, ◌++◌, map, take, drop, length, refl, sym, ap, ◌∙◌, subst, arith}
-use Rattle.std.proofs.lemmas.Bool.{lt-ltb, le-ltb, ltb-true, ltb-false}
-use Rattle.std.proofs.lemmas.List.{drop-append-le, length-drop, length-append}
-use Rattle.std.specs.Prelude.{if◌then◌else◌, Option, Some, None, nat_lt, option_map}
+use Rattle.std.proofs.Common.{◌≡◌, ℕ, ◌+◌, ◌≤◌, inl, inr, Bool, true, false, List, [], ◌∷◌, ◌++◌, drop, length, refl, sym, ap, ◌∙◌, subst, arith}
+use Rattle.std.proofs.lemmas.List.{drop-append-le}
+use Rattle.std.specs.Prelude.{if◌then◌else◌, Option, Some, None, nat_lt}
 use Rattle.std.specs.Global.{Vec}
-use Rattle.afdx_conform.specs.Events.{closes_before, event_time, moment_at}
-use Rattle.afdx_conform.specs.Growing.{IsDueLater, IsNoSooner, IsSame, IsSameOrLater, due_at, due_by, due_in, undecided_by}
-use Rattle.afdx_conform.specs.Histories.{next_of}
-use Rattle.afdx_conform.specs.Limits.{AreLimits, gone_of}
-use Rattle.afdx_conform.specs.Marks.{arrival_of}
-use Rattle.afdx_conform.specs.States.{Event, Came, Closing}
-use Rattle.afdx_conform.specs.Streams.{Terms, latency}
-use Rattle.afdx_conform.specs.Leeway.{both_slacks}
+use Rattle.afdx_conform.specs.Growing.{IsSame, IsSameOrLater, due_at, due_by, due_in}
 use Rattle.afdx_conform.specs.declared.arrived.Arrived.{Arrived}
 use Rattle.afdx_conform.specs.declared.growth.Growth.{Growth}
 use Rattle.afdx_conform.specs.declared.limits.Frame.{Frame}

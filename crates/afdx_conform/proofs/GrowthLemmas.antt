@@ -1,37 +1,26 @@
 -- What the code keeps of a stream, with one more arrival or frame.
-use Rattle.std.proofs.Common.{◌≡◌, ℕ, zero, suc, ◌+◌, ◌<◌, ◌≤◌, Bool, true, false, List, [], ◌∷◌, ◌++◌, map, reverse, drop, get_or, length, min, refl, sym, ap, ◌∙◌, subst, arith}
-use Rattle.std.proofs.lemmas.List.{append_assoc, drop-append-le, length-append, map-append, length-map}
+use Rattle.std.proofs.Common.{◌≡◌, ℕ, zero, suc, ◌<◌, ◌≤◌, Bool, true, false, List, [], ◌∷◌, ◌++◌, map, reverse, drop, length, min, refl, sym, ap, ◌∙◌, subst, arith}
+use Rattle.std.proofs.lemmas.List.{append_assoc, length-append, map-append, length-map}
 use Rattle.std.proofs.lemmas.List.Elements.{All-append}
-use Rattle.std.specs.Prelude.{Option, Some, None, All}
+use Rattle.std.specs.Prelude.{All}
 use Rattle.std.specs.List.{AllByRecursion}
 use Rattle.std.specs.Global.{Vec}
 use Rattle.afdx_police.specs.Arrival.{Arrival}
-use Rattle.afdx_conform.specs.Events.{GoUp, arrival_times, frame_times, moment_at}
+use Rattle.afdx_conform.specs.Events.{GoUp, moment_at}
 use Rattle.afdx_conform.specs.Explanations.{from_time}
-use Rattle.afdx_conform.specs.Findings.{Judged, Marked, judged_after, with_states}
-use Rattle.afdx_conform.specs.Forgetting.{FitNone, with_gone}
-use Rattle.afdx_conform.specs.Growing.{AreTold, Continues, IsAfter, IsHeld, IsKept, MayCome, MayLeave, is_some, most_found}
-use Rattle.afdx_conform.specs.HeldStates.{IsWithin, state_of}
-use Rattle.afdx_conform.specs.Histories.{AreEvents, AreOver, coming, judged_by, shown, unsure_in, unclosed}
-use Rattle.afdx_conform.specs.Judging.{StandsFor}
-use Rattle.afdx_conform.specs.Later.{judged_more}
-use Rattle.afdx_conform.specs.Leeway.{both_slacks}
-use Rattle.afdx_conform.specs.Limits.{gone_of}
+use Rattle.afdx_conform.specs.Findings.{Judged, Marked, judged_after}
+use Rattle.afdx_conform.specs.Growing.{AreTold, Continues, IsAfter, IsHeld, IsKept, MayCome, most_found}
+use Rattle.afdx_conform.specs.Histories.{AreEvents, AreOver, coming, judged_by, unsure_in, unclosed}
 use Rattle.afdx_conform.specs.Marks.{IsJudged, arrival_of, marked_all, marked_of}
-use Rattle.afdx_conform.specs.States.{Event, Came, Closing, State, arrivals_came, state_with}
-use Rattle.afdx_conform.specs.Ahead.{with_more}
-use Rattle.afdx_conform.specs.Streams.{Gone, Terms, fits}
+use Rattle.afdx_conform.specs.States.{Event, Came, Closing, arrivals_came}
+use Rattle.afdx_conform.specs.Streams.{Gone, Terms}
 use Rattle.afdx_conform.specs.declared.arrived.Arrived.{Arrived}
 use Rattle.afdx_conform.specs.declared.finding.Mark.{Mark}
 use Rattle.afdx_conform.specs.declared.growth.Growth.{Growth}
-use Rattle.afdx_conform.specs.declared.levels.Rates.{Rates}
-use Rattle.afdx_conform.specs.declared.limits.Frame.{Frame}
-use Rattle.afdx_conform.specs.declared.states.Held.{Held}
-use Rattle.afdx_conform.proofs.EveryLemmas.{every-append, every-left, every-on, every-reverse, reverse-first}
-use Rattle.afdx_conform.proofs.HistoryLemmas.{came-within, closed-within, coming-more, drop-next, events-came, events-left, next-came, unclosed-more}
+use Rattle.afdx_conform.proofs.EveryLemmas.{every-append, every-reverse, reverse-first}
+use Rattle.afdx_conform.proofs.HistoryLemmas.{coming-more, drop-next, events-came, next-came}
 use Rattle.afdx_conform.proofs.LaterArrivals.{arrivals_later}
-use Rattle.afdx_conform.proofs.LaterLemmas.{frames_later}
-use Rattle.afdx_conform.proofs.OverLemmas.{AreLate, are-far, come-later, fits-not, not-begun, over-arrivals}
+use Rattle.afdx_conform.proofs.OverLemmas.{come-later, over-arrivals}
 
 -- ---- lists
 

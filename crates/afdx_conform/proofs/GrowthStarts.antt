@@ -1,24 +1,21 @@
 -- What the code keeps of a stream at first, before its first event, and where nothing has changed.
-use Rattle.std.proofs.Common.{◌≡◌, ℕ, zero, suc, ◌+◌, ◌<◌, ◌≤◌, Bool, true, false, List, [], ◌∷◌, ◌++◌, map, drop, length, min, refl, sym, ap, ◌∙◌, subst, arith}
-use Rattle.std.proofs.lemmas.List.{length-map}
-use Rattle.std.specs.Prelude.{All, None, get_or}
-use Rattle.std.specs.List.{AllByRecursion}
+use Rattle.std.proofs.Common.{◌≡◌, ℕ, ◌+◌, true, false, List, [], ◌∷◌, ◌++◌, map, length, refl, sym, ap, ◌∙◌, subst, arith}
+use Rattle.std.specs.Prelude.{All, None}
 use Rattle.std.specs.Global.{Vec}
 use Rattle.afdx_police.specs.Arrival.{Arrival}
 use Rattle.afdx_conform.specs.Bounds.{AreBounds}
-use Rattle.afdx_conform.specs.Events.{GoUp, closings_in}
-use Rattle.afdx_conform.specs.Explanations.{from_time, last_time, link}
-use Rattle.afdx_conform.specs.Findings.{Judged, Marked, judged_after, judged_with, sound_events}
-use Rattle.afdx_conform.specs.Forgetting.{FitNone, with_gone}
-use Rattle.afdx_conform.specs.Growing.{AreTold, Continues, IsAfter, IsHeld, IsKept, IsReady, IsSame, is_some, most_found}
+use Rattle.afdx_conform.specs.Events.{GoUp}
+use Rattle.afdx_conform.specs.Explanations.{from_time, link}
+use Rattle.afdx_conform.specs.Findings.{Marked, judged_after, judged_with, sound_events}
+use Rattle.afdx_conform.specs.Forgetting.{FitNone}
+use Rattle.afdx_conform.specs.Growing.{Continues, IsAfter, IsHeld, IsKept, IsReady, IsSame}
 use Rattle.afdx_conform.specs.HeldStates.{IsWithin, state_of}
-use Rattle.afdx_conform.specs.Histories.{AreEvents, coming, judged_by, unsure_in}
-use Rattle.afdx_conform.specs.Judging.{StandsFor}
+use Rattle.afdx_conform.specs.Histories.{AreEvents}
 use Rattle.afdx_conform.specs.LeewayOf.{leeway_of}
 use Rattle.afdx_conform.specs.Levels.{first_levels}
 use Rattle.afdx_conform.specs.Limits.{gone_of}
 use Rattle.afdx_conform.specs.Marks.{IsJudged, arrival_of, marked_all}
-use Rattle.afdx_conform.specs.States.{Event, State, arrivals_came, first_states}
+use Rattle.afdx_conform.specs.States.{Event, first_states}
 use Rattle.afdx_conform.specs.Streams.{Gone, Terms}
 use Rattle.afdx_conform.specs.declared.arrived.Arrived.{Arrived}
 use Rattle.afdx_conform.specs.declared.bounds.Bounds.{Bounds}

@@ -1,30 +1,21 @@
 -- What a stream stands for, whatever the end will be.
-use Rattle.std.proofs.Common.{◌≡◌, ℕ, zero, suc, ◌+◌, ◌-◌, ◌<◌, ◌≤◌, Bool, true, false, List, [], ◌∷◌, ◌++◌, map, reverse, drop, length, refl, sym, ap, ◌∙◌, subst, arith}
-use Rattle.std.proofs.lemmas.Bool.{lt-leb, ltb-true, ltb-false}
-use Rattle.std.specs.Prelude.{if◌then◌else◌, Option, Some, None, option_map, OnOk, OnErr, IfOk, Result, Ok, Err}
-use Rattle.std.specs.List.{AllByRecursion}
+use Rattle.std.proofs.Common.{◌≡◌, ℕ, ◌-◌, ◌≤◌, List, [], ◌∷◌, ◌++◌, length, refl, ap, ◌∙◌, arith}
+use Rattle.std.specs.Prelude.{OnOk, OnErr, Result, Ok, Err}
 use Rattle.afdx_police.specs.Arrival.{Arrival}
 use Rattle.afdx_conform.specs.Ahead.{NoneIsOpen, until_then}
-use Rattle.afdx_conform.specs.Events.{GoUp, arrival_times, closes_before, closings_in, event_time, frame_times, moment_at}
-use Rattle.afdx_conform.specs.Findings.{Finding, Judged, Marked, judged_after}
-use Rattle.afdx_conform.specs.Growing.{AreTold, IsAfter, IsKnownBy, IsNoSooner, IsSame, MayCome, MayLeave, due_by}
-use Rattle.afdx_conform.specs.Histories.{AreEvents, AreOver, coming, judged_by, next_of, shown, time_of, uncut, unclosed, unsure_in}
-use Rattle.afdx_conform.specs.Judging.{AreFound}
+use Rattle.afdx_conform.specs.Events.{event_time}
+use Rattle.afdx_conform.specs.Findings.{Judged}
+use Rattle.afdx_conform.specs.Growing.{IsAfter, IsSame, MayCome, MayLeave}
+use Rattle.afdx_conform.specs.Histories.{AreOver, coming, judged_by, next_of, shown, uncut}
 use Rattle.afdx_conform.specs.Marks.{IsJudged, arrival_of}
-use Rattle.afdx_conform.specs.Standing.{Finds, IsEnding, StandsFor, due_of}
-use Rattle.afdx_conform.specs.States.{Event, Came, Closing, arrivals_came}
-use Rattle.afdx_conform.specs.Streams.{Gone, Terms, is_open, latency}
-use Rattle.afdx_conform.specs.Leeway.{both_slacks}
+use Rattle.afdx_conform.specs.Standing.{IsEnding, StandsFor}
+use Rattle.afdx_conform.specs.States.{Event, Came, Closing}
+use Rattle.afdx_conform.specs.Streams.{Gone, Terms}
 use Rattle.afdx_conform.specs.declared.arrived.Arrived.{Arrived}
-use Rattle.afdx_conform.specs.declared.growth.Growth.{Growth}
 use Rattle.afdx_conform.specs.declared.streaming.Stream.{Stream}
-use Rattle.afdx_conform.proofs.GrowthCloses.{closed-unsure}
-use Rattle.afdx_conform.proofs.GrowthDecides.{came-last, IsLast}
 use Rattle.afdx_conform.proofs.GrowthFrames.{shown-late}
-use Rattle.afdx_conform.proofs.GrowthLemmas.{judged-came, true-false}
-use Rattle.afdx_conform.proofs.GrowthNext.{due-next, next-held}
+use Rattle.afdx_conform.proofs.GrowthLemmas.{judged-came}
 use Rattle.afdx_conform.proofs.GrowthStarts.{after-same}
-use Rattle.afdx_conform.proofs.HistoryLemmas.{drop-next, every-drop, next-came, next-closing}
 use Rattle.afdx_conform.proofs.LaterEnd.{end_later}
 use Rattle.afdx_conform.proofs.OverLemmas.{not-open}
 

@@ -8,10 +8,10 @@ use Rattle.afdx_conform.specs.Accounts.{AreRates}
 use Rattle.afdx_conform.specs.Bounds.{AreBounds}
 use Rattle.afdx_conform.specs.Events.{GoUp, arrival_times, closings_in, event_time, frame_times, moment_at}
 use Rattle.afdx_conform.specs.Explanations.{from_time, last_time}
-use Rattle.afdx_conform.specs.Findings.{Finding, Judged, Marked, judged_after, sound_events}
+use Rattle.afdx_conform.specs.Findings.{Finding, Judged, Marked, sound_events}
 use Rattle.afdx_conform.specs.Forgetting.{FitNone, with_gone}
 use Rattle.afdx_conform.specs.HeldStates.{IsWithin}
-use Rattle.afdx_conform.specs.Histories.{AreEvents, AreOver, judged_by, unsure_in}
+use Rattle.afdx_conform.specs.Histories.{AreEvents, judged_by, unsure_in}
 use Rattle.afdx_conform.specs.Judging as judging
 use Rattle.afdx_conform.specs.Leeway.{both_slacks}
 use Rattle.afdx_conform.specs.LeewayOf.{leeway_of}
@@ -19,7 +19,7 @@ use Rattle.afdx_conform.specs.Limits.{gone_of}
 use Rattle.afdx_conform.specs.Marks.{IsJudged, arrival_of}
 use Rattle.afdx_conform.specs.Ranges.{most_held}
 use Rattle.afdx_conform.specs.States.{Event, arrivals_came}
-use Rattle.afdx_conform.specs.Streams.{Gone, Terms, fits, latency}
+use Rattle.afdx_conform.specs.Streams.{Gone, Terms}
 use Rattle.afdx_conform.specs.declared.arrived.Arrived.{Arrived}
 use Rattle.afdx_conform.specs.declared.growth.Growth.{Growth}
 use Rattle.afdx_conform.specs.declared.limits.Frame.{Frame}
@@ -83,8 +83,8 @@ due_by s = if s.judging.is_unsure then None
 -- how many events are told and aren't over
 unfoldable pub undecided_by : Growth → ℕ
 undecided_by s = if s.judging.is_unsure then 0
-    else length (drop (length s.judging.marks.items) s.arrivals.items)
-    + length (drop s.closed s.frames.items)
+    else (length s.arrivals.items - length s.judging.marks.items)
+    + (length s.frames.items - s.closed)
 
 -- ---- what it stands for
 

@@ -1,6 +1,6 @@
 //! What is kept of a stream while its arrivals and frames come.
 
-ghost use Rattle.std.specs.Prelude.{◌≡◌, ◌≤◌, ◌++◌, ◌∷◌, [], ℕ, List, OnOk, OnErr};
+ghost use Rattle.std.specs.Prelude.{◌≡◌, ◌≤◌, ◌++◌, ◌∷◌, [], ℕ, List, OnOk, OnErr, None};
 ghost use Rattle.afdx_police.specs.Arrival.{Arrival};
 ghost use Rattle.afdx_police.specs.Rule.{regulation_of};
 ghost use Rattle.afdx_police.specs.RuleOf.{rule_of};
@@ -30,10 +30,11 @@ const MOST_HELD: u64 = 1 << 48;
 /// What is kept of a stream: what it is judged by, the arrivals and frames that are held and how
 /// far they are judged, and what is counted of all of them.
 ///
-/// `closed` of the frames that are held are closed; `last` is when the last arrival of the right
-/// shape came, or the start. `is_started` says whether an event is over. `came` arrivals and `left`
-/// frames were told, without the `cut` that left where the recordings had ended; `found` of the
-/// frames are in findings. `unsure` is the arrival behind which there were too many states.
+/// `rule` is that of its link. `closed` of the frames that are held are closed; `last` is when the
+/// last arrival of the right shape came, or the start. `is_started` says whether an event is over.
+/// `came` arrivals and `left` frames were told, without the `cut` that left where the recordings
+/// had ended; `found` of the frames are in findings. `unsure` is the arrival behind which there
+/// were too many states.
 #[derive(Drop)]
 pub(crate) struct Growth {
     pub(crate) rule: LinkRule,
@@ -53,7 +54,7 @@ pub(crate) struct Growth {
 }
 
 /// From when on arrivals are known: the start, or the reset.
-fn start_of(by: &Leeway) -> u64
+pub(crate) fn start_of(by: &Leeway) -> u64
     ensures { (z : Terms) → z.by ≡ leeway_of by.now → result ≡ from_time z.by.start }
 {
     match by.start {
@@ -69,6 +70,7 @@ impl Growth {
         ensures sound { IsSound result }
         ensures after { (z : Terms) → AreBounds z bounds → z.by ≡ leeway_of by →
             IsAfter z [] [] 0 [] result }
+        ensures due { due_by result ≡ None }
     {
         let judging = Judging {
             held: Vec::new(alloc),

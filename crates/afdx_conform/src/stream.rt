@@ -6,7 +6,7 @@ ghost use Rattle.afdx_frame.specs.Regulation.{Regulation};
 ghost use Rattle.afdx_conform.specs.Accounts.{AreRates};
 ghost use Rattle.afdx_conform.specs.Bounds.{AreBounds};
 ghost use Rattle.afdx_conform.specs.Courses.{AreArrivals, AreFrames, Follows, IsSafe};
-ghost use Rattle.afdx_conform.specs.Explanations.{Explains, from_time};
+ghost use Rattle.afdx_conform.specs.Explanations.{Explains};
 ghost use Rattle.afdx_conform.specs.Headline.{sound_of};
 ghost use Rattle.afdx_conform.specs.Leeway.{Leeway as By};
 ghost use Rattle.afdx_conform.specs.LeewayOf.{leeway_of};
@@ -22,6 +22,7 @@ use crate::bounds::Bounds;
 use crate::course::{Course, close_to, closed_by, come};
 use crate::finding::Finding;
 use crate::first::first_held;
+use crate::growth::start_of;
 use crate::judging::Judging;
 use crate::leeway::Leeway;
 use crate::levels::Rates;
@@ -40,16 +41,6 @@ pub struct Verdict {
     pub found: Vec<Finding>,
     pub uncertain: u64,
     pub is_unsure: bool,
-}
-
-/// From when on arrivals are known: the start, or the reset.
-fn start_of(by: &Leeway) -> u64
-    ensures { (z : Terms) → z.by ≡ leeway_of by.now → result ≡ from_time z.by.start }
-{
-    match by.start {
-        None => 0,
-        Some(start) => start,
-    }
 }
 
 /// Before the first event. Fails only out of memory.

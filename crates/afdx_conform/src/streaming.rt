@@ -39,7 +39,8 @@ impl Stream {
     ghost use Rattle.afdx_conform.specs.LeewayOf.{leeway_of};
     ghost use Rattle.afdx_conform.specs.Limits.{gone_of};
     ghost use Rattle.afdx_conform.specs.Marks.{IsJudged, arrival_of};
-    ghost use Rattle.afdx_conform.specs.Standing.{Finds, IsEnding, StandsFor, due_of, undecided_in};
+    ghost use Rattle.afdx_conform.specs.Standing.{Finds, IsEnding, StandsFor, due_of, held_in};
+    ghost use Rattle.afdx_conform.specs.Standing.{undecided_in};
     ghost use Rattle.afdx_conform.specs.Streams.{Gone, Terms};
 
     /// A stream of which nothing came, of a link of this rule and latency, at a port on whose line
@@ -47,9 +48,10 @@ impl Stream {
     pub fn new(alloc: Global, rule: &LinkRule, latency_ns: u64, byte_ns: u64, by: Leeway) -> Stream
         requires latency { latency_ns ≤ 1000 * greatest_delay }
         requires byte { byte_ns ≤ slowest_byte }
-        ensures { (z : Terms) (time : ℕ) → z.rule ≡ rule_of rule.now →
+        ensures stands { (z : Terms) (time : ℕ) → z.rule ≡ rule_of rule.now →
             z.latency_ns ≡ latency_ns → z.byte_ns ≡ byte_ns → z.by ≡ leeway_of by →
             StandsFor z [] [] nothing_judged time result }
+        ensures due { due_of result ≡ None }
     {
         let rates = Rates::new(rule, &by);
         let limits = Limits::new(latency_ns, byte_ns, &by);
@@ -165,10 +167,9 @@ impl Stream {
     }
 
     /// How many arrivals and frames it holds.
-    pub fn held(&self) -> usize {
-        self.growth
-            .arrivals
-            .len()
-            .saturating_add(self.growth.frames.len())
+    pub fn held(&self) -> usize
+        ensures { result ≡ held_in self.now }
+    {
+        self.growth.arrivals.len() + self.growth.frames.len()
     }
 }

@@ -1,6 +1,5 @@
-use Rattle.std.proofs.Common.{◌≡◌, ℕ, ◌+◌, List, length, get_or, ap, ◌∙◌, subst, arith}
+use Rattle.std.proofs.Common.{◌≡◌, ℕ, length, get_or, ap, ◌∙◌, arith}
 use Rattle.std.specs.Prelude.{Some}
-use Rattle.afdx_conform.specs.declared.arrived.Arrived.{Arrived}
 use Rattle.afdx_conform.specs.declared.upcoming.Upcoming.{Upcoming}
 use Rattle.afdx_conform.proofs.DueNowLemmas.{due-arrival, due-closing, due-over, due-unsure}
 use Rattle.afdx_conform.proofs.growth.Growth.due.Goals as goal
