@@ -82,7 +82,8 @@ module _ (z : Terms) (xs : List Arrival) (ys : List Gone) (cut : ℕ) (over : Li
 
   none-waits : (l : List Gone) → least_waiting (judged_by z xs l []).states ≡ 0
   unfolding judged_after
-  none-waits l = least-none (first_states z (first_levels (link z) z.by z.by.start) l) (first-none z (first_levels (link z) z.by z.by.start) l)
+  none-waits l = least-none (first_states z (first_levels (link z) z.by z.by.start) l)
+      (first-none z (first_levels (link z) z.by z.by.start) l)
 
   none-uncertain : (l : List Gone) → (judged_by z xs l []).uncertain ≡ 0
   unfolding judged_after
