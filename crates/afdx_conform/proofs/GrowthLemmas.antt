@@ -184,7 +184,8 @@ module _ (z : Terms) where
         continues = λ s. continues-came h.gone le (h.continues s);
       }
 
-    pub after-came : arrivals'.items ≡ old.arrivals.items ++ (a ∷ []) → count ≡ old.came + 1 → IsJudged z a → MayCome z xs time (arrival_of a)
+    pub after-came : arrivals'.items ≡ old.arrivals.items ++ (a ∷ []) → count ≡ old.came + 1
+        → IsJudged z a → MayCome z xs time (arrival_of a)
         → AreOver z time over → length old.judging.marks.items ≤ length old.arrivals.items
         → IsAfter z xs ys cut over old → IsAfter z (xs ++ One) ys cut over With
     after-came items counts j m o le f =
