@@ -7,7 +7,7 @@ use crate::telling::{error_lines, memory};
 use afdx_acceptance::{ByRole, Choices, Leeway, conform};
 use afdx_frame::BySide;
 use afdx_replay::{Ended, InputEnded, Output, Watched};
-use afdx_words::{Refused, STANDARD_INPUT, conform_words};
+use afdx_words::{Refused, STANDARD_INPUT, conform_options};
 use clap::ArgMatches;
 use std::alloc::Global;
 
@@ -17,7 +17,7 @@ fn choices_in(
     matches: &ArgMatches<'_>,
     lists: &ByRole<&str>,
 ) -> Result<Choices, Refused> {
-    let said = conform_words(alloc, matches)?;
+    let said = conform_options(alloc, matches)?;
     let Some(leeway) = Leeway::new(said.slack, said.drift, said.inner, said.asked, said.from) else {
         return Err(Refused::BadNumber);
     };

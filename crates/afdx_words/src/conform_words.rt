@@ -136,7 +136,7 @@ pub fn conform_command<'a>(alloc: Global) -> Result<Command<'a>, AllocError> {
 /// What the words of `conform` ask for, in whole ns, and the drift in millionths; but for those of
 /// `left_out` each number is as it was given, also if it is out of its range.
 #[derive(Debug, Drop)]
-pub struct Asked {
+pub struct ConformOptions {
     pub slack: u64,
     pub drift: u64,
     pub inner: u64,
@@ -162,15 +162,17 @@ fn link_in(word: &str) -> Result<Option<VlId>, Refused> {
 fn links_in(alloc: Global, words: &[&str]) -> Result<Vec<Option<VlId>>, Refused> {
     let mut links = Vec::new(alloc);
     for word in words {
-        links.push(link_in(word)?)?;
+        if links.push(link_in(word)?).is_err() {
+            return Err(Refused::Memory);
+        }
     }
     Ok(links)
 }
 
 /// What the words of `conform` ask for, if those of `--leave-out` are taken.
-pub fn conform_words(alloc: Global, matches: &ArgMatches<'_>) -> Result<Asked, Refused> {
+pub fn conform_options(alloc: Global, matches: &ArgMatches<'_>) -> Result<ConformOptions, Refused> {
     let words = matches.get_strs("leave-out").unwrap_or(&[]);
-    Ok(Asked {
+    Ok(ConformOptions {
         slack: matches.get_one::<u64>("slack").unwrap_or(0),
         drift: matches.get_one::<u64>("drift").unwrap_or(0),
         inner: matches.get_one::<u64>("inner").unwrap_or(0),

@@ -8,6 +8,6 @@ mod recording_words;
 mod solve_words;
 mod words;
 
-pub use conform_words::{Asked, conform_words};
+pub use conform_words::{ConformOptions, conform_options};
 pub use recording_words::{Refused, STANDARD_INPUT, pair_options, recording_options};
 pub use words::afdx_command;
