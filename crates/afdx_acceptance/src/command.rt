@@ -62,12 +62,12 @@ fn status_of<E: Write>(answer: Result<Totals, RunFault>, errors: &mut Watched<E>
 
 /// Judges whether the switch of a configuration did what its tables say, by a list of the frames
 /// that came to it and one of those that left it. Where the configuration describes several
-/// switches, `switch` is the name of the one that is judged. The lines go to `output`, a fault's one
-/// line to `errors`.
+/// switches, `switch` is the name of the one that is judged. The lines go to `output`, the one line
+/// of a fault to `errors`.
 ///
 /// Nothing of the inputs is read before the tables are taken. The exit status is 0 conforms, 5
-/// deviates, 3 undecided or a fault of a list, 1 a fault of the configuration, 2 no such switch, 4 a
-/// device or memory.
+/// deviates, 3 undecided or a fault of a list, 1 a fault of the configuration, 2 no such switch, or
+/// 4 a device or memory.
 pub fn conform<R: Read, O: Sink, E: Write>(
     alloc: Global,
     choices: &Choices,
