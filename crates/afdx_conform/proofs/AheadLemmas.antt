@@ -13,11 +13,11 @@ use Rattle.afdx_conform.specs.Explanations.{link, charge, last_time, levels_then
 use Rattle.afdx_conform.specs.States.{Came, Closing, State, state_with, arrivals_came, led_by, kept, are_behind, first_states, accepted_states, states_at, states_after}
 use Rattle.afdx_conform.specs.Ahead.{with_more, AreBeyond, LaterFramesChangeNothing}
 
-map-joined : (f : State → State) (xs ys : List State) → map f (xs ++ ys) ≡ map f xs ++ map f ys
+pub map-joined : (f : State → State) (xs ys : List State) → map f (xs ++ ys) ≡ map f xs ++ map f ys
 map-joined f [] ys = refl
 map-joined f (x ∷ xs) ys = ap (λ (l : List State). f x ∷ l) (map-joined f xs ys)
 
-led-map : (f : State → State) (lead on : State → List State) → ((s : State) → on (f s) ≡ map f (lead s))
+pub led-map : (f : State → State) (lead on : State → List State) → ((s : State) → on (f s) ≡ map f (lead s))
     → (xs : List State) → led_by on (map f xs) ≡ map f (led_by lead xs)
 unfolding led_by
 led-map f lead on same [] = refl
@@ -26,7 +26,7 @@ led-map f lead on same (x ∷ xs) =
     ∙ ap (λ (l : List State). map f (lead x) ++ l) (led-map f lead on same xs)
     ∙ sym (map-joined f (lead x) (led_by lead xs))
 
-kept-map : (f : State → State) (test : State → Bool) → ((s : State) → test (f s) ≡ test s)
+pub kept-map : (f : State → State) (test : State → Bool) → ((s : State) → test (f s) ≡ test s)
     → (xs : List State) → kept test (map f xs) ≡ map f (kept test xs)
 unfolding kept
 kept-map f test same [] = refl
@@ -39,7 +39,7 @@ kept-map f test same (x ∷ xs) =
     by true e = ap (λ (l : List State). f x ∷ l) e
     by false e = e
 
-behind-more : (time : ℕ) (more : List Gone) → AllByRecursion (λ y. time < y.time) more
+pub behind-more : (time : ℕ) (more : List Gone) → AllByRecursion (λ y. time < y.time) more
     → list_all (λ (y : Gone). nat_lt time y.time) more ≡ true
 behind-more time [] all = refl
 behind-more time (y ∷ more) all = rw (lt-ltb time y.time all.0) (behind-more time more all.1)
@@ -48,7 +48,7 @@ and-true : (a b : Bool) → b ≡ true → (a && b) ≡ a
 and-true true b e = e
 and-true false b e = refl
 
-behind-same : (time : ℕ) (rest more : List Gone) → AllByRecursion (λ y. time < y.time) more
+pub behind-same : (time : ℕ) (rest more : List Gone) → AllByRecursion (λ y. time < y.time) more
     → are_behind time (rest ++ more) ≡ are_behind time rest
 unfolding are_behind
 behind-same time rest more all =
@@ -64,12 +64,12 @@ and-false true b e = e
 and-false false b e = refl
 
 module _ (z : Terms) where
-  too-late : (x : Arrival) (y : Gone) → x.time + latency z + both_slacks z.by < y.time → fits z x y ≡ false
+  pub too-late : (x : Arrival) (y : Gone) → x.time + latency z + both_slacks z.by < y.time → fits z x y ≡ false
   unfolding fits
   too-late x y h = and-false (bytes_eq x.bytes y.bytes && is_no_sooner z x y) (is_in_time z x y)
       (lt-leb y.time (x.time + latency z + both_slacks z.by) h)
 
-  first-more : (levels : Levels) (ys more : List Gone) → AllByRecursion (λ y. is_begun z y ≡ false) more
+  pub first-more : (levels : Levels) (ys more : List Gone) → AllByRecursion (λ y. is_begun z y ≡ false) more
       → first_states z levels (ys ++ more) ≡ map (with_more more) (first_states z levels ys)
   unfolding first_states
   first-more levels [] [] all = refl
@@ -102,7 +102,7 @@ module _ (z : Terms) where
       by true = refl
       by false = refl
 
-  at-more : (x : Arrival) (levels : Levels) (more : List Gone) → is_open z x ≡ false
+  pub at-more : (x : Arrival) (levels : Levels) (more : List Gone) → is_open z x ≡ false
       → AllByRecursion (λ y. x.time + latency z + both_slacks z.by < y.time) more
       → (s : State) → states_at z x levels (with_more more s) ≡ map (with_more more) (states_at z x levels s)
   unfolding states_at

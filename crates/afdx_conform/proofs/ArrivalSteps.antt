@@ -140,9 +140,6 @@ module _ (rates : Rates) (fs : List Frame) (xs : List Arrived) (z : Terms) (behi
           within = within;
           marks = marks;
           uncertain = nu ∙ ap (λ (n : ℕ). n + one_of u) s.uncertain;
-          counted = (let c = s.counted in let o = one-less u in
-              let n = ap (λ (l : List Mark). length l) nm ∙ length_push ms (record { reason = reason; is_named = false }) in
-              omega (arith, c, o, n, nu, len));
           unsure = nn;
         },
         record { findings = refl; frames = refl },
@@ -166,12 +163,6 @@ module _ (rates : Rates) (fs : List Frame) (xs : List Arrived) (z : Terms) (behi
               ∙ pushed-marks old.marks.items (record { reason = Some fault; is_named = false }) refl
               ∙ ap (λ (l : List Marked). l ++ (marked_of a (record { reason = Some fault; is_named = false }) ∷ [])) s.marks;
           uncertain = nu ∙ s.uncertain;
-          counted = (let c = s.counted in
-              let n = ap (λ (l : List Mark). length l) nm ∙ length_push old.marks.items (record {
-                reason = Some fault;
-                is_named = false;
-              }) in
-              omega (arith, c, n, nu));
           unsure = nn ∙ s.unsure;
         },
         record {

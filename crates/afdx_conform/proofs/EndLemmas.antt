@@ -8,7 +8,7 @@ use Rattle.afdx_conform.specs.Streams.{Gone, Terms, fits, is_open, is_begun}
 use Rattle.afdx_conform.specs.Explanations.{link, charge, last_time, levels_then}
 use Rattle.afdx_conform.specs.States.{Came, Closing, State, state_with, arrivals_came, led_by, kept, are_behind, first_states, accepted_states, states_at, states_after}
 
-led-same : (f g : State → List State) → ((s : State) → f s ≡ g s) → (xs : List State) → led_by f xs ≡ led_by g xs
+pub led-same : (f g : State → List State) → ((s : State) → f s ≡ g s) → (xs : List State) → led_by f xs ≡ led_by g xs
 unfolding led_by
 led-same f g same [] = refl
 led-same f g same (x ∷ xs) =
@@ -30,7 +30,7 @@ module _ (z : Terms) (until : ℕ) where
       ∙ sym (if-false (is_open z x) (state_with [] levels (n + 1) ∷ []) [] a)
   same-accepted x levels n (y ∷ rest) a b = refl
 
-  same-at : (x : Arrival) (levels : Levels) (s : State) → is_open z x ≡ false → is_open w x ≡ false
+  pub same-at : (x : Arrival) (levels : Levels) (s : State) → is_open z x ≡ false → is_open w x ≡ false
       → states_at w x levels s ≡ states_at z x levels s
   unfolding states_at
   same-at x levels s a b =
@@ -39,7 +39,7 @@ module _ (z : Terms) (until : ℕ) where
       else state_with s.rest (refused (link z) z.by (charge z x) levels) s.waiting ∷ []))
       (same-accepted x (charged (link z) z.by (charge z x) levels) s.waiting s.rest a b)
 
-  same-first : (levels : Levels) (ys : List Gone) → first_states w levels ys ≡ first_states z levels ys
+  pub same-first : (levels : Levels) (ys : List Gone) → first_states w levels ys ≡ first_states z levels ys
   unfolding first_states is_begun
   same-first levels [] = refl
   same-first levels (y ∷ ys) =

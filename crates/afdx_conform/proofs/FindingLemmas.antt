@@ -25,7 +25,7 @@ abbrev IsFound : List Found → Type 0
 IsFound [] = ⊥
 IsFound (f ∷ more) = Unit {0}
 
-if-both : {X : Type 0} (P : X → Type 0) (b : Bool) (u v : X) → P u → P v → P (if b then u else v)
+pub if-both : {X : Type 0} (P : X → Type 0) (b : Bool) (u v : X) → P u → P v → P (if b then u else v)
 if-both P true u v p q = p
 if-both P false u v p q = q
 
@@ -68,7 +68,7 @@ none-enough : (all : List State) → AreEnough all [] → all ≡ []
 none-enough [] h = refl
 none-enough (s ∷ all) h = absurd ((h.outdone s (inl refl)).among)
 
-some-enough : (all few : List State) → AreEnough all few → IsSomeState all → IsSomeState few
+pub some-enough : (all few : List State) → AreEnough all few → IsSomeState all → IsSomeState few
 some-enough all few h some =
     let one = some-among all some in
     let o = h.outdone one.0 one.1 in
@@ -186,7 +186,7 @@ module _ (z : Terms) (time : ℕ) (all : List State) (j : Judged) where
 
 -- ---- all of them
 
-first-some : (z : Terms) (levels : Levels) (ys : List Gone) → IsSomeState (first_states z levels ys)
+pub first-some : (z : Terms) (levels : Levels) (ys : List Gone) → IsSomeState (first_states z levels ys)
 unfolding first_states
 first-some z levels [] = tt
 first-some z levels (y ∷ ys) = tt

@@ -38,7 +38,6 @@ stands-after rates fs arrivals j k old new found t s e u n within len =
         within = within;
         marks = refl;
         uncertain = u ∙ s.uncertain;
-        counted = (let c = s.counted in omega (arith, c, u, len));
         unsure = n ∙ s.unsure;
       },
       record { findings = refl; frames = refl },

@@ -179,7 +179,6 @@ follows-none z xs fs bounds c states within marks uncertain sure found closed la
         within = subst (λ (n : ℕ). All (λ h. IsWithin bounds.rates (length fs) n h) c.judging.held.items) size within;
         marks = ap (λ (l : List Mark). marked_all xs l) marks ∙ no-marks xs;
         uncertain = uncertain;
-        counted = omega (arith, uncertain);
         unsure = sure;
       };
       found = sym (ap (λ (l : List Finding). reverse l) found);

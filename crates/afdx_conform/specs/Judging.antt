@@ -1,5 +1,5 @@
 -- What the code keeps of how far a stream is judged.
-use Rattle.std.specs.Prelude.{◌≡◌, ◌≤◌, ℕ, ◌+◌, List, ◌++◌, length, map, reverse, All}
+use Rattle.std.specs.Prelude.{◌≡◌, ℕ, ◌+◌, List, ◌++◌, length, map, reverse, All}
 use Rattle.afdx_conform.specs.Findings.{Finding, Judged, found_at, frames_in}
 use Rattle.afdx_conform.specs.HeldStates.{IsWithin, state_of}
 use Rattle.afdx_conform.specs.Limits.{gone_of}
@@ -16,7 +16,6 @@ pub record StandsFor (rates : Rates) (frames : List Frame) (arrivals : List Arri
   pub within : All (λ h. IsWithin rates (length frames) (length g.marks.items) h) g.held.items
   pub marks : marked_all arrivals g.marks.items ≡ j.arrivals
   pub uncertain : g.uncertain ≡ j.uncertain
-  pub counted : g.uncertain ≤ length g.marks.items
   pub unsure : g.is_unsure ≡ j.is_unsure
 
 -- these are the findings of the second that the first doesn't have, at one time, in their order

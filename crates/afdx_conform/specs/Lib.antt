@@ -27,3 +27,12 @@ pub mod Hiding
 pub mod FromLevel
 pub mod Laws
 pub mod Worked
+pub mod Events
+pub mod Later
+pub mod EventLaws
+pub mod Forgetting
+pub mod Sure
+pub mod SomeKnown
+pub mod Histories
+pub mod Growing
+pub mod Standing

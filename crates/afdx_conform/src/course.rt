@@ -59,7 +59,7 @@ pub(crate) fn closed_by(frames: &[Frame], from: usize, time: u64) -> usize
 }
 
 /// When the last arrival of the right shape came, once this one did.
-fn last_after(arrived: &Arrived, last: u64) -> u64
+pub(crate) fn last_after(arrived: &Arrived, last: u64) -> u64
     ensures { result ≡ (if is_none arrived.now.fault then arrived.now.time else last) }
 {
     if arrived.fault.is_none() {

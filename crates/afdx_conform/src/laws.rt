@@ -1,11 +1,18 @@
 //! Laws over the definitions.
 
 ghost use Rattle.afdx_conform.specs.Ahead.{EndChangesNothing, LaterFramesChangeNothing};
+ghost use Rattle.afdx_conform.specs.EventLaws.{AllEventsAreExplained, EventsAreWhole, EventsJoin};
+ghost use Rattle.afdx_conform.specs.EventLaws.{FoundStays, WhatIsOverStays};
 ghost use Rattle.afdx_conform.specs.FindingLaws.{FoundWhereNoneIsLeft, NothingFoundIsExplained};
+ghost use Rattle.afdx_conform.specs.Forgetting.{ForgettingChangesNothing};
 ghost use Rattle.afdx_conform.specs.FromLevel.{AllowedIsSomeAccount};
 ghost use Rattle.afdx_conform.specs.Hiding.{WhatPassedKeepsWindows};
 ghost use Rattle.afdx_conform.specs.Laws.{StatesAreExplanations, ExactIsTheHeadline};
+ghost use Rattle.afdx_conform.specs.Later.{EndFindsNothing, LaterArrivalsFindNothing};
+ghost use Rattle.afdx_conform.specs.Later.{LaterFramesFindNothing};
 ghost use Rattle.afdx_conform.specs.Right.{RightIsExplained, SomeIsRight};
+ghost use Rattle.afdx_conform.specs.SomeKnown.{SomeIsKnown};
+ghost use Rattle.afdx_conform.specs.Sure.{ExactIsSure};
 ghost use Rattle.afdx_conform.specs.Thinned.{KeptAreEnough};
 ghost use Rattle.afdx_conform.specs.Worked.{WorkedRows};
 
@@ -60,4 +67,45 @@ pub fn found_where_none_is_left()
 /// and none where all is right.
 pub fn rows_are_worked()
     ensures { WorkedRows }
+{}
+
+/// The events of a stream are its arrivals and a closing for each frame, by time. Those of its
+/// first arrivals and frames come first.
+pub fn events_are_whole()
+    ensures whole { EventsAreWhole }
+    ensures join { EventsJoin }
+{}
+
+/// What comes later changes nothing of what was found, of marks and counts: frames that left far
+/// behind the arrivals, arrivals behind their moments, and the end, while no arrival is open. Later
+/// events take back nothing of it.
+pub fn later_changes_no_finding()
+    ensures frames { LaterFramesFindNothing }
+    ensures arrivals { LaterArrivalsFindNothing }
+    ensures end { EndFindsNothing }
+    ensures stays { FoundStays }
+{}
+
+/// What is found of moments before one is the same whatever comes at it or later, and whenever the
+/// recordings end. There is such a stream.
+pub fn what_is_over_stays()
+    ensures all { WhatIsOverStays }
+    ensures some { SomeIsKnown }
+{}
+
+/// Arrivals that fit no frame that is left may be forgotten: no later event reads them.
+pub fn forgetting_changes_nothing()
+    ensures { ForgettingChangesNothing }
+{}
+
+/// Once all events are over, nothing is found exactly where something explains the stream, unless
+/// there were too many states.
+pub fn all_events_are_explained()
+    ensures { AllEventsAreExplained }
+{}
+
+/// With exact stamps and clocks, from a reset on, there is always one state: a stream is never
+/// unsure.
+pub fn exact_is_sure()
+    ensures { ExactIsSure }
 {}

@@ -1,0 +1,112 @@
+-- What comes later is far behind the events that are over; these go by time.
+use Rattle.std.proofs.Common.{◌≡◌, ℕ, zero, suc, ◌+◌, ◌<◌, ◌≤◌, Bool, true, false, List, [], ◌∷◌, ◌++◌, map, reverse, drop, length, refl, sym, ap, ◌∙◌, subst, arith}
+use Rattle.std.proofs.lemmas.Bool.{lt-ltb, le-ltb, ltb-true, ltb-false}
+use Rattle.std.proofs.lemmas.List.{append_assoc, reverse-append, reverse-reverse}
+use Rattle.std.specs.Prelude.{if◌then◌else◌, Option, Some, None, nat_lt}
+use Rattle.std.specs.List.{AllByRecursion}
+use Rattle.afdx_police.specs.Arrival.{Arrival}
+use Rattle.afdx_conform.specs.Events.{GoUp, arrival_times, closes_before, closings_in, event_time, events_of, frame_times, judged_whole, moment_at}
+use Rattle.afdx_conform.specs.Explanations.{from_time}
+use Rattle.afdx_conform.specs.Findings.{Judged, Marked, came_to, closed_to, judged_after}
+use Rattle.afdx_conform.specs.Growing.{AreTold, IsKnownBy}
+use Rattle.afdx_conform.specs.Histories.{AreEvents, AreOver, coming, judged_by, next_of, unclosed}
+use Rattle.afdx_conform.specs.Later.{AreFar, ComeLater}
+use Rattle.afdx_conform.specs.Leeway.{both_slacks}
+use Rattle.afdx_conform.specs.States.{Event, Came, Closing, arrivals_came}
+use Rattle.afdx_conform.specs.Streams.{Gone, Terms, fits, is_begun, is_begun_by, is_open, latency}
+use Rattle.afdx_conform.proofs.AheadLemmas.{too-late}
+use Rattle.afdx_conform.proofs.EventLemmas.{came-all}
+use Rattle.afdx_conform.proofs.EveryLemmas.{every-map, every-on, every-unmap, reverse-first}
+use Rattle.afdx_conform.proofs.HistoryLemmas.{came-within, drop-less, drop-next, every-drop, events-so-far, next-came, next-closing}
+
+module _ (z : Terms) where
+  -- ---- far behind what is over
+
+  pub come-later : (x : Arrival) (time : ℕ) (over : List Event) → time ≤ x.time → AreOver z time over
+      → ComeLater z (x ∷ []) over
+  unfolding AreOver ComeLater
+  come-later x time [] le o = tt
+  come-later x time (Came w ∷ before) le o = (
+    ((let lt = o.0 in omega (arith, lt, le)), tt),
+    come-later x time before le o.1,
+  )
+  come-later x time (Closing t ∷ before) le o = come-later x time before le o.1
+
+  -- frames no earlier than a time, but for the slacks
+  abbrev pub AreLate : ℕ → List Gone → Type 0
+  AreLate time more = AllByRecursion (λ y. time ≤ y.time + both_slacks z.by) more
+
+  pub not-open : (w : Arrival) (time : ℕ) → moment_at z w.time < time → time ≤ z.until → is_open z w ≡ false
+  unfolding is_open
+  not-open w time lt le =
+      le-ltb z.until (w.time + latency z + both_slacks z.by + both_slacks z.by) (omega (arith, lt, le))
+
+  pub are-far : (more : List Gone) (time : ℕ) (over : List Event) → time ≤ z.until → AreLate time more
+      → AllByRecursion (λ y. is_begun z y ≡ false) more → AreOver z time over → AreFar z more over
+  unfolding AreOver AreFar
+  are-far more time [] until late begun o = begun
+  are-far more time (Came w ∷ before) until late begun o = (
+    not-open w time o.0 until,
+    every-on (λ y. time ≤ y.time + both_slacks z.by)
+        (λ y. nat_lt (w.time + latency z + latency z + both_slacks z.by) y.time ≡ true)
+        (λ y le. lt-ltb (w.time + latency z + latency z + both_slacks z.by) y.time (let lt = o.0 in omega (arith, lt, le))) more late,
+    are-far more time before until late begun o.1,
+  )
+  are-far more time (Closing t ∷ before) until late begun o = (
+    every-on (λ y. time ≤ y.time + both_slacks z.by) (λ y. t < y.time) (λ y le. (let lt = o.0 in omega (arith, lt, le))) more late,
+    are-far more time before until late begun o.1,
+  )
+
+  -- an event isn't before the start
+  pub from-start : (xs : List Arrival) (ys : List Gone) (e : Event) (before : List Event) → AreTold z xs ys
+      → next_of z (coming xs before) (unclosed ys before) ≡ Some e → from_time z.by.start ≤ event_time z e
+  from-start xs ys (Came x) before told h =
+      let first = next-came z (coming xs before) (unclosed ys before) x h in
+      (subst (λ (l : List Arrival). AllByRecursion (λ w. from_time z.by.start ≤ w.time) l) first.1
+      (every-drop (λ w. from_time z.by.start ≤ w.time) (length (arrivals_came before)) xs told.start)).0
+  from-start xs ys (Closing t) before told h =
+      let first = next-closing z (coming xs before) (unclosed ys before) t h in
+      let le = (subst (λ (l : List Gone). AllByRecursion (λ w. from_time z.by.start ≤ w.time + both_slacks z.by) l) first.2
+      (every-drop (λ w. from_time z.by.start ≤ w.time + both_slacks z.by) (length (closings_in before)) ys told.begun)).0 in
+      let is = first.3 in omega (arith, le, is)
+
+  begun-not : (start : Option ℕ) (y : Gone) → from_time start + latency z + both_slacks z.by ≤ y.time → is_begun_by z start y ≡ false
+  begun-not None y le = refl
+  begun-not (Some start) y le = le-ltb y.time (start + latency z + both_slacks z.by) le
+
+  pub not-begun : (xs : List Arrival) (ys more : List Gone) (time : ℕ) (e : Event) (before : List Event) → AreTold z xs ys
+      → AreEvents z xs ys (e ∷ before) → AreOver z time (e ∷ before) → AreLate time more
+      → AllByRecursion (λ y. is_begun z y ≡ false) more
+  unfolding AreEvents AreOver is_begun
+  not-begun xs ys more time e before told events o late =
+      let from = from-start xs ys e before told events.0 in
+      every-on (λ y. time ≤ y.time + both_slacks z.by) (λ y. is_begun_by z z.by.start y ≡ false)
+      (λ y le. begun-not z.by.start y (let lt = o.0 in omega (arith, lt, le, from))) more late
+
+  -- an arrival isn't open where its moment lies before the end
+  pub known-closed : (x : Arrival) (end : Option ℕ) → end ≡ None → IsKnownBy z end (Came x) → false ≡ is_open z x
+  unfolding is_open
+  known-closed x end none known =
+      let le = subst (λ (o : Option ℕ). IsKnownBy z o (Came x)) none known in
+      sym (le-ltb z.until (x.time + latency z + both_slacks z.by + both_slacks z.by) (omega (arith, le)))
+
+  -- ---- forgotten arrivals
+
+  pub over-arrivals : (time : ℕ) (over : List Event) → AreOver z time over
+      → AllByRecursion (λ x. moment_at z x.time < time) (arrivals_came over)
+  unfolding AreOver
+  over-arrivals time [] o = tt
+  over-arrivals time (Came x ∷ before) o = (o.0, over-arrivals time before o.1)
+  over-arrivals time (Closing t ∷ before) o = over-arrivals time before o.1
+
+  pub fits-not : (x : Arrival) (y : Gone) (time : ℕ) → moment_at z x.time < time → time ≤ y.time + both_slacks z.by
+      → fits z x y ≡ false
+  fits-not x y time lt le = too-late z x y (omega (arith, lt, le))
+
+  -- ---- by time
+
+  up-tail : (n : ℕ) (times : List ℕ) → GoUp times → GoUp (drop n times)
+  unfolding GoUp
+  up-tail zero times h = h
+  up-tail (suc n) [] h = h
+  up-tail (suc n) (t ∷ times) h = up-tail n times h.1

@@ -1,0 +1,86 @@
+use Rattle.std.proofs.Common.{rules, ◌≡◌, ℕ, ◌+◌, ◌-◌, ◌∷◌, List, get_or, length, sym, ap, ◌∙◌, subst, arith}
+use Rattle.std.specs.Prelude.{All, Some}
+use Rattle.afdx_police.specs.Rule.{regulation_of}
+use Rattle.afdx_police.specs.RuleOf.{rule_of}
+use Rattle.afdx_conform.specs.Explanations.{last_time}
+use Rattle.afdx_conform.specs.Findings.{sound_events}
+use Rattle.afdx_conform.specs.declared.finding.Finding.{Finding}
+use Rattle.afdx_conform.specs.Growing.{IsAfter, IsKnownBy, IsSound}
+use Rattle.afdx_conform.specs.HeldStates.{IsWithin}
+use Rattle.afdx_conform.specs.Histories.{coming, judged_by, next_of, unclosed}
+use Rattle.afdx_conform.specs.Judging.{AreFound, StandsFor}
+use Rattle.afdx_conform.specs.LeewayOf.{leeway_of}
+use Rattle.afdx_conform.specs.Marks.{IsJudged, arrival_of}
+use Rattle.afdx_conform.specs.States.{Came, arrivals_came}
+use Rattle.afdx_conform.specs.declared.arrived.Arrived.{Arrived}
+use Rattle.afdx_conform.specs.declared.growth.Growth.{Growth}
+use Rattle.afdx_conform.specs.declared.limits.Frame.{Frame}
+use Rattle.afdx_conform.proofs.CourseLemmas.{same-arrived}
+use Rattle.afdx_conform.proofs.GrowthDecides.{Come, forgot, after-come, outcome-of}
+use Rattle.afdx_conform.proofs.growth.Growth.come.Goals as goal
+
+pub judge_arrival-requires-clause-within : goal.judge_arrival-requires-clause-within
+judge_arrival-requires-clause-within c = (
+  length c.args.self.now.judging.marks.items,
+  (let p = c.requires.sound.places in let a = c.requires.sound.arrivals in let n = c.requires.sound.came in omega (arith, p, a, n)),
+  subst (λ (fs : List Frame). All (λ h. IsWithin c.args.self.now.bounds.rates (length fs)
+      (length c.args.self.now.judging.marks.items) h) c.args.self.now.judging.held.items)
+      (sym c.as_slice-2.ensures.value) c.requires.sound.within,
+)
+
+pub forget-requires : goal.forget-requires
+forget-requires c =
+    let s = c.requires.sound in
+    let marks = c.in_ok-found.ensures.marks in
+    let within = c.in_ok-found.ensures.within (regulation_of (rule_of c.args.self.now.rule)) (leeway_of c.args.self.now.by) (length c.args.self.now.judging.marks.items) s.rates
+    (subst (λ (fs : List Frame). All (λ h. IsWithin c.args.self.now.bounds.rates (length fs)
+    (length c.args.self.now.judging.marks.items) h) c.args.self.now.judging.held.items) (sym c.as_slice-2.ensures.value) s.within) in
+    subst (λ (g : Growth). IsSound g) (sym c.count.ensures) (record {
+      rates = s.rates;
+      within = subst (λ (n : ℕ). All (λ h. IsWithin c.args.self.now.bounds.rates (length c.args.self.now.frames.items) n h)
+          c.judge_arrival.new.judging.held.items) (sym marks)
+          (subst (λ (fs : List Frame). All (λ h. IsWithin c.args.self.now.bounds.rates (length fs)
+          (length c.args.self.now.judging.marks.items + 1) h) c.judge_arrival.new.judging.held.items)
+          c.as_slice-2.ensures.value within);
+      closed = s.closed;
+      places = (let p = c.requires.place in omega (arith, p, marks));
+      uncertain = (let u = s.uncertain in let m = c.in_ok-found.ensures.counted in omega (arith, u, m, marks));
+      arrivals = s.arrivals;
+      came = s.came;
+      frames = s.frames;
+      left = s.left;
+    })
+
+pub returns-clause-decides : goal.returns-clause-decides
+returns-clause-decides c z xs ys cut over a sure at next known r =
+    let len : c.len.result ≡ length c.args.self.now.judging.marks.items = search rules in
+    let is : c.index-arrived.result.now ≡ get_or c.args.self.now.arrivals.items c.len.result c.index-arrived.result.now = search rules in
+    let here = is ∙ ap (λ (n : ℕ). get_or c.args.self.now.arrivals.items n c.index-arrived.result.now) len in
+    let same = same-arrived c.args.self.now.arrivals.items (length c.args.self.now.judging.marks.items) a
+    c.index-arrived.result.now c.requires.place at here in
+    let js = r.kept.judged (length c.args.self.now.judging.marks.items) c.index-arrived.result.now c.requires.place in
+    let judged = subst (λ (v : Arrived). IsJudged z v) (sym here) js in
+    let sure' = sym r.continues.stands.unsure ∙ sure in
+    let known' = subst (λ (v : Arrived). IsKnownBy z c.args.end (Came (arrival_of v))) (sym same) known in
+    let next' = subst (λ (v : Arrived). next_of z (coming xs over) (unclosed ys over) ≡ Some (Came (arrival_of v))) (sym same) next in
+    let there = here ∙ ap (λ (l : List Arrived). get_or l (length c.args.self.now.judging.marks.items) c.index-arrived.result.now)
+    (sym c.as_slice.ensures.value) in
+    let given = subst (λ (l : List Arrived). StandsFor c.args.self.now.bounds.rates c.as_slice-2.result.now l r.continues.j
+    c.args.self.now.judging) (sym c.as_slice.ensures.value)
+    (subst (λ (l : List Frame). StandsFor c.args.self.now.bounds.rates l c.args.self.now.arrivals.items r.continues.j
+    c.args.self.now.judging) (sym c.as_slice-2.ensures.value) r.continues.stands) in
+    let out = c.in_ok-found.ensures.defined z (last_time z.by (arrivals_came (sound_events z over))) r.continues.j r.after.bounds judged
+    there (c.saturating_sub-ns.ensures ∙ ap (λ (n : ℕ). c.index-arrived.result.now.time - n) r.kept.last)
+    (c.is_open_by-is_open.ensures z r.after.bounds.limits known') sure' given in
+    let held = outcome-of z over c.index-arrived.result.now c.args.self.now c.judge_arrival.new.judging c.in_ok-found.found.items
+    r.continues.j c.as_slice.result.now c.as_slice-2.result.now c.as_slice.ensures.value c.as_slice-2.ensures.value out in
+    subst (λ (v : Arrived). IsAfter z xs ys cut (Came (arrival_of v) ∷ over) c.forget.new.self
+    × AreFound v.time c.in_ok-found.found.items (judged_by z xs ys over) (judged_by z xs ys (Came (arrival_of v) ∷ over))) same
+    (forgot (c.forget.ensures.after z xs ys cut (Came (arrival_of c.index-arrived.result.now) ∷ over)) (subst (λ (s : Growth). IsAfter z xs ys cut (Came (arrival_of c.index-arrived.result.now) ∷ over) s
+    × AreFound c.index-arrived.result.now.time c.in_ok-found.found.items (judged_by z xs ys over)
+    (judged_by z xs ys (Came (arrival_of c.index-arrived.result.now) ∷ over))) (sym (c.count.ensures
+    ∙ ap (λ (l : List Finding). Come z xs ys cut over a c.args.self.now c.judge_arrival.new.judging c.number_if-self.result
+    c.last_after-last.result l) c.as_slice-3.ensures.value))
+    (after-come z xs ys cut over c.index-arrived.result.now c.args.self.now c.judge_arrival.new.judging c.number_if-self.result
+    c.last_after-last.result c.in_ok-found.found.items r.gone r.past r.kept c.requires.place here r.continues judged sure
+    held.0 held.1 c.in_ok-found.ensures.marks c.last_after-last.ensures c.number_if-self.ensures r.after next')))

@@ -1,0 +1,35 @@
+use Rattle.std.proofs.Common.{◌≡◌, ◌<◌, ◌≤◌, List, length, sym, ◌∙◌, subst, arith}
+use Rattle.std.proofs.lemmas.Bool.Decides.{Decides-eqb}
+use Rattle.std.specs.Prelude.{All}
+use Rattle.std.specs.Vec.{vec_len}
+use Rattle.afdx_conform.specs.declared.states.Held.{Held}
+use Rattle.afdx_conform.proofs.ForgetLemmas.{after-arrivals, due-arrivals, early-arrivals, none-early}
+use Rattle.afdx_conform.proofs.growth.Growth.forget_arrivals.Goals as goal
+use Rattle.afdx_conform.proofs.growth.Growth.forget_arrivals.Goals.{then-not-is_empty+else-not-is_too_late, else-not-is_empty}
+
+pub returns-clause-after : goal.returns-clause-after
+returns-clause-after c z xs ys cut over f =
+    let less : c.div_ceil-count.result ≤ length c.args.self.now.judging.marks.items =
+    (let n = c.if-count-len.false in omega (arith, n)) in
+    let places = c.requires.places in
+    let some : 0 < c.div_ceil-count.result = (let n = c.if-count-eq0.false in omega (arith, n)) in
+    let after = after-arrivals z xs ys cut over c.args.self.now c.div_ceil-count.result c.forget_first.new.items
+    c.forget_first-2.new.items c.forget_first.ensures c.forget_first-2.ensures less places
+    (subst (λ (l : List Held). All (λ h. h.waiting ≡ 0) l) c.as_slice.ensures.value
+    (c.none_waits.ensures c.if-not-none_waits.false)) in
+    elim c.if-not-is_empty.branch [
+      | then-not-is_empty+else-not-is_too_late w ↦ after
+          (λ h. early-arrivals z xs ys cut over c.args.self.now c.div_ceil-count.result w.index-last.result.now w.index.result.now
+          f.bounds f.told some (omega (arith, less, places)) w.index-last.ensures w.index.ensures
+          (w.is_too_late.ensures w.if-not-is_too_late.false) h) f
+      | else-not-is_empty w ↦ after
+          (λ h. none-early z c.args.self.now c.div_ceil-count.result
+          (let none = (Decides-eqb (vec_len c.args.self.now.frames) 0).0 (sym c.is_empty.ensures ∙ w.if-not-is_empty.false) in
+          let ok = c.args.self.now.frames.ok in omega (arith, none, ok))) f
+    ]
+
+pub returns-clause-due : goal.returns-clause-due
+returns-clause-due c =
+    let less = c.if-count-len.false in
+    due-arrivals c.args.self.now c.div_ceil-count.result c.forget_first.new.items c.forget_first-2.new.items
+    c.forget_first.ensures c.forget_first-2.ensures (omega (arith, less))

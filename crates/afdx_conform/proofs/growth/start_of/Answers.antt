@@ -1,0 +1,2 @@
+use Rattle.afdx_conform.proofs.StandingLemmas.{on-err}
+use Rattle.afdx_conform.proofs.StandingDecides.{in-order}

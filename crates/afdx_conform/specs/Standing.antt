@@ -1,0 +1,47 @@
+-- What a stream stands for while its arrivals and frames come.
+use Rattle.std.specs.Prelude.{◌≡◌, ℕ, ◌-◌, ◌≤◌, true, false, List, [], ◌∷◌, ◌++◌, length, Option}
+use Rattle.afdx_police.specs.Arrival.{Arrival}
+use Rattle.afdx_conform.specs.Ahead.{until_then}
+use Rattle.afdx_conform.specs.Findings.{Finding, Judged, Marked}
+use Rattle.afdx_conform.specs.Growing.{IsAfter, IsNoSooner, due_by, undecided_by}
+use Rattle.afdx_conform.specs.Histories.{AreOver, judged_by, shown, time_of, uncut}
+use Rattle.afdx_conform.specs.Judging.{AreFound}
+use Rattle.afdx_conform.specs.States.{Event}
+use Rattle.afdx_conform.specs.Streams.{Gone, Terms}
+use Rattle.afdx_conform.specs.declared.streaming.Stream.{Stream}
+
+-- the moment of its next event
+abbrev pub due_of : Stream → Option ℕ
+due_of s = due_by s.growth
+
+-- how many events it was told that aren't over
+abbrev pub undecided_in : Stream → ℕ
+undecided_in s = undecided_by s.growth
+
+-- before the end is known: these arrivals and frames were told, oldest first, the moment of each
+-- event that is over lies before `time`, and so far this is judged, whatever the end will be from
+-- that time on
+pub record StandsFor (z : Terms) (xs : List Arrival) (ys : List Gone) (j : Judged) (time : ℕ)
+    (s : Stream) : Type 0 where
+  pub over : List Event
+  pub before : AreOver z time over
+  pub is_after : (until : ℕ) → time ≤ until → IsAfter (until_then until z) xs ys 0 over s.growth
+  pub judged : (until : ℕ) → time ≤ until →
+      shown (judged_by (until_then until z) xs ys over) ≡ j
+
+-- once it is known: of the frames some are cut off
+pub record IsEnding (z : Terms) (xs : List Arrival) (ys : List Gone) (j : Judged) (s : Stream)
+    : Type 0 where
+  pub over : List Event
+  pub is_after : IsAfter z xs (uncut z ys) (length ys - length (uncut z ys)) over s.growth
+  pub judged : shown (judged_by z xs (uncut z ys) over) ≡ j
+
+-- at the event of this moment these were found: no event that is due is earlier; where the stream
+-- is unsure from there on, the arrival behind which it is is the event's own
+pub record Finds (z : Terms) (moment : ℕ) (found : List Finding) (before after : Judged)
+    (due : Option ℕ) : Type 0 where
+  pub are_found : AreFound (time_of z moment) found before after
+  pub later : IsNoSooner moment due
+  pub sure : before.is_unsure ≡ false
+  pub unsure : after.is_unsure ≡ true → (m : Marked) (more : List Marked)
+      → after.arrivals ≡ more ++ m ∷ [] → m.arrival.time ≡ time_of z moment

@@ -1,0 +1,19 @@
+-- What is so of every stream whose stamps and clocks are exact, from a reset on.
+use Rattle.std.specs.Prelude.{◌≡◌, false, List, length}
+use Rattle.afdx_police.specs.Arrival.{Arrival}
+use Rattle.afdx_conform.specs.Findings.{Judged, judged_after}
+use Rattle.afdx_conform.specs.Headline.{IsExact}
+use Rattle.afdx_conform.specs.States.{Event}
+use Rattle.afdx_conform.specs.Streams.{Gone, Terms}
+
+-- there is one state, and of no arrival both answers were right
+pub record IsSure (j : Judged) : Type 0 where
+  pub one : length j.states ≡ 1
+  pub certain : j.uncertain ≡ 0
+  pub sure : j.is_unsure ≡ false
+
+abbrev pub ExactIsSure : Type 0
+ExactIsSure =
+    (z : Terms) (ys : List Gone) (behind : List Arrival) (events : List Event) →
+    IsExact z →
+    IsSure (judged_after z ys behind events)

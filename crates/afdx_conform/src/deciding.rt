@@ -1,0 +1,193 @@
+//! The next event of a stream is judged.
+
+ghost use Rattle.std.specs.Prelude.{◌≡◌, ◌≤◌, ◌<◌, ◌+◌, ℕ, List, min, length, get_or, true, false};
+ghost use Rattle.std.specs.Prelude.{IfOk, OnOk, OnErr, Some, None, if◌then◌else◌};
+ghost use Rattle.afdx_police.specs.Arrival.{Arrival};
+ghost use Rattle.afdx_conform.specs.Findings.{frames_in, frames_of};
+ghost use Rattle.afdx_conform.specs.Histories.{coming, next_of, unclosed};
+ghost use Rattle.afdx_conform.specs.Limits.{AreLimits};
+ghost use Rattle.afdx_conform.specs.Marks.{arrival_of};
+ghost use Rattle.afdx_conform.specs.Growing.{Decides, IsAfter, IsKnownBy, IsReady, IsSame};
+ghost use Rattle.afdx_conform.specs.Growing.{IsSound, most_found};
+ghost use Rattle.afdx_conform.specs.States.{Event, Came, Closing};
+ghost use Rattle.afdx_conform.specs.Streams.{Gone, Terms, is_open};
+
+use crate::arrived::Arrived;
+use crate::arriving::judge_arrival;
+use crate::course::{closed_by, last_after};
+use crate::finding::Finding;
+use crate::first::first_held;
+use crate::growth::Growth;
+use crate::judging::judge_closing;
+use crate::leading::Moment;
+use crate::limits::{Frame, Limits};
+use crate::upcoming::Upcoming;
+use std::alloc::{AllocError, Global};
+
+/// How many frames are in the finding.
+fn count_of(finding: &Finding) -> u64
+    ensures { result ≡ frames_of finding.now }
+{
+    match finding {
+        Finding::Stopped(_) => 0,
+        Finding::Strange(_, _) | Finding::Passed(_, _) => 1,
+        Finding::Late(_, _) | Finding::Early(_, _) => 1,
+    }
+}
+
+/// How many frames are in these findings.
+fn count_all(found: &[Finding]) -> u64
+    ensures { result ≡ min (frames_in found.now) most_found }
+{
+    let mut frames = 0_u64;
+    for finding in found {
+        frames = frames.saturating_add(count_of(finding));
+    }
+    frames
+}
+
+/// Whether the arrival is open: before the end is known none is whose event is decided.
+fn is_open_by(limits: &Limits, arrived: &Arrived, end: Option<u64>) -> bool
+    ensures { (z : Terms) → AreLimits z limits.now →
+        IsKnownBy z end (Came (arrival_of arrived.now)) →
+        result ≡ is_open z (arrival_of arrived.now) }
+{
+    match end {
+        None => false,
+        Some(until) => limits.is_open(arrived.time, until),
+    }
+}
+
+/// The number, if it is asked for.
+fn number_if(is_asked: bool, number: u64) -> Option<u64>
+    ensures { result ≡ (if is_asked then Some number else None) }
+{
+    if is_asked { Some(number) } else { None }
+}
+
+impl Growth {
+    /// Before the first event: its states are those of all frames that may be of arrivals before
+    /// the start. Fails only out of memory; then nothing has changed.
+    fn start(&mut self, alloc: Global) -> Result<(), AllocError>
+        requires sound { IsSound self.old }
+        ensures sound { IsSound self.new }
+        ensures ready { (z : Terms) (xs : List Arrival) (ys : List Gone) (cut : ℕ)
+            (over : List Event) → IsAfter z xs ys cut over self.old →
+            self.old.judging.is_unsure ≡ false → OnOk result (IsReady z xs ys cut over self.new) }
+        ensures same { IsSame self.old self.new }
+    {
+        if self.is_started {
+            return Ok(());
+        }
+        let held = first_held(alloc, &self.bounds, &self.by, self.frames.as_slice())?;
+        self.judging.held = held;
+        Ok(())
+    }
+
+    /// Counts what was found at an event.
+    fn count(&mut self, found: &[Finding])
+        ensures { self.new ≡ record self.old {
+          is_started = true;
+          found = min (self.old.found + frames_in found.now) most_found;
+        } }
+    {
+        self.is_started = true;
+        self.found = self.found.saturating_add(count_all(found));
+    }
+
+    /// The event of an arrival. Fails only out of memory; then nothing has changed.
+    fn come(&mut self, alloc: Global, end: Option<u64>) -> Result<Vec<Finding>, AllocError>
+        requires sound { IsSound self.old }
+        requires place { length self.old.judging.marks.items < length self.old.arrivals.items }
+        ensures sound { IsSound self.new }
+        ensures decides { (z : Terms) (xs : List Arrival) (ys : List Gone) (cut : ℕ)
+            (over : List Event) (a : Arrived) → self.old.judging.is_unsure ≡ false →
+            a ≡ get_or self.old.arrivals.items (length self.old.judging.marks.items) a →
+            next_of z (coming xs over) (unclosed ys over) ≡ Some (Came (arrival_of a)) →
+            IsKnownBy z end (Came (arrival_of a)) → IsReady z xs ys cut over self.old →
+            IfOk result (λ found.
+            Decides z xs ys cut over self.new (Came (arrival_of a)) found.items) }
+        ensures refused { OnErr result (IsSame self.old self.new) }
+    {
+        let arrived = &self.arrivals[self.judging.marks.len()];
+        let number = arrived.number;
+        let is_open = is_open_by(&self.bounds.limits, arrived, end);
+        let ns = arrived.time.saturating_sub(self.last);
+        let moment = Moment { ns, is_open };
+        let last = last_after(arrived, self.last);
+        let found = judge_arrival(
+            &mut self.judging,
+            alloc,
+            &self.bounds,
+            self.arrivals.as_slice(),
+            self.frames.as_slice(),
+            arrived,
+            moment,
+        )?;
+        self.unsure = number_if(self.judging.is_unsure, number);
+        self.last = last;
+        self.count(found.as_slice());
+        self.forget();
+        Ok(found)
+    }
+
+    /// The closing of a frame. Fails only out of memory; then nothing has changed.
+    fn close(&mut self, alloc: Global) -> Result<Vec<Finding>, AllocError>
+        requires sound { IsSound self.old }
+        requires place { self.old.closed < length self.old.frames.items }
+        ensures sound { IsSound self.new }
+        ensures decides { (z : Terms) (xs : List Arrival) (ys : List Gone) (cut : ℕ)
+            (over : List Event) (f : Frame) → self.old.judging.is_unsure ≡ false →
+            f ≡ get_or self.old.frames.items self.old.closed f →
+            next_of z (coming xs over) (unclosed ys over) ≡ Some (Closing f.time) →
+            IsReady z xs ys cut over self.old →
+            IfOk result (λ found.
+            Decides z xs ys cut over self.new (Closing f.time) found.items) }
+        ensures refused { OnErr result (IsSame self.old self.new) }
+    {
+        let time = self.frames[self.closed].time;
+        let to = closed_by(self.frames.as_slice(), self.closed + 1, time);
+        let found = judge_closing(
+            &mut self.judging,
+            alloc,
+            &self.bounds,
+            self.arrivals.as_slice(),
+            self.frames.as_slice(),
+            to,
+        )?;
+        self.closed += 1;
+        self.count(found.as_slice());
+        self.forget();
+        Ok(found)
+    }
+
+    /// The next event, if there is one: what is found there, in its order. `end` is the time at
+    /// which the recordings end, once it is known; before, the next arrival can't be open. Fails
+    /// only out of memory; then nothing has changed.
+    pub(crate) fn decide(
+        &mut self,
+        alloc: Global,
+        end: Option<u64>,
+    ) -> Result<Vec<Finding>, AllocError>
+        requires sound { IsSound self.old }
+        ensures sound { IsSound self.new }
+        ensures decides { (z : Terms) (xs : List Arrival) (ys : List Gone) (cut : ℕ)
+            (over : List Event) (e : Event) → self.old.judging.is_unsure ≡ false →
+            next_of z (coming xs over) (unclosed ys over) ≡ Some e → IsKnownBy z end e →
+            IsAfter z xs ys cut over self.old →
+            IfOk result (λ found. Decides z xs ys cut over self.new e found.items) }
+        ensures refused { OnErr result (IsSame self.old self.new) }
+    {
+        if self.judging.is_unsure {
+            return Ok(Vec::new(alloc));
+        }
+        let Some(upcoming) = self.upcoming() else {
+            return Ok(Vec::new(alloc));
+        };
+        self.start(alloc)?;
+        match upcoming {
+            Upcoming::Arrival => self.come(alloc, end),
+            Upcoming::Closing => self.close(alloc),
+        }
+    }
+}

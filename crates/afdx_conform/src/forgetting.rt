@@ -1,0 +1,120 @@
+//! What is decided of a stream is let go of.
+
+ghost use Rattle.std.specs.Prelude.{◌≡◌, ◌≤◌, ◌<◌, ◌+◌, ◌-◌, ℕ, List, IsTrue, ◌↔◌, All};
+ghost use Rattle.std.specs.Prelude.{drop, length, map, false};
+ghost use Rattle.afdx_police.specs.Arrival.{Arrival};
+ghost use Rattle.afdx_conform.specs.HeldStates.{past};
+ghost use Rattle.afdx_conform.specs.Histories.{AreOver};
+ghost use Rattle.afdx_conform.specs.Growing.{IsAfter, IsSound, due_by};
+ghost use Rattle.afdx_conform.specs.States.{Event};
+ghost use Rattle.afdx_conform.specs.Streams.{Gone, Terms};
+
+use crate::arrived::Arrived;
+use crate::growth::Growth;
+use crate::limits::{Frame, Limits};
+use crate::states::Held;
+
+/// Lets go of the first `count` items.
+fn forget_first<T: Drop>(items: &mut Vec<T>, count: usize)
+    requires { count ≤ length items.old.items }
+    ensures { items.new.items ≡ drop count items.old.items }
+{
+    let left = items.len() - count;
+    items.as_mut_slice().rotate_left(count);
+    items.truncate(left);
+}
+
+/// How many frames, of `most` at most, are explained in each state.
+fn passed_by_all(held: &[Held], most: usize) -> usize
+    ensures most { result ≤ most }
+    ensures all { All (λ h. result ≤ h.passed) held.now }
+{
+    match held.iter().min_by_key(|state| state.passed) {
+        Some(state) => state.passed.min(most),
+        None => most,
+    }
+}
+
+/// The same states, where the first `count` frames are forgotten.
+fn without_first(held: &mut Vec<Held>, count: usize)
+    ensures { held.new.items ≡ map (λ h. past (h.passed - count) h) held.old.items }
+{
+    for place in 0..held.len() {
+        held[place].passed = held[place].passed.saturating_sub(count);
+    }
+}
+
+/// Whether none of these waits.
+fn none_waits(held: &[Held]) -> bool
+    ensures { IsTrue result → All (λ h. h.waiting ≡ 0) held.now }
+{
+    held.iter().all(|state| state.waiting == 0)
+}
+
+/// Whether the frame left too late to fit the arrival, or any before it.
+fn is_too_late(limits: &Limits, arrived: &Arrived, frame: &Frame) -> bool
+    ensures { IsTrue result → arrived.now.time + limits.now.latency + limits.now.slacks
+        < frame.now.time }
+{
+    arrived.time + limits.latency + limits.slacks < frame.time
+}
+
+impl Growth {
+    /// Lets go of frames that are closed and explained in each state, once they are half of those
+    /// that are held.
+    fn forget_frames(&mut self)
+        requires { IsSound self.old }
+        ensures sound { IsSound self.new }
+        ensures after { (z : Terms) (xs : List Arrival) (ys : List Gone) (cut : ℕ)
+            (over : List Event) → IsAfter z xs ys cut over self.old →
+            IsAfter z xs ys cut over self.new }
+        ensures due { due_by self.new ≡ due_by self.old }
+    {
+        let count = passed_by_all(self.judging.held.as_slice(), self.closed);
+        if count == 0 || count < self.frames.len() - count {
+            return;
+        }
+        forget_first(&mut self.frames, count);
+        without_first(&mut self.judging.held, count);
+        self.closed -= count;
+    }
+
+    /// Lets go of the first half of the arrivals, once no frame fits them that is held.
+    fn forget_arrivals(&mut self)
+        requires { IsSound self.old }
+        ensures sound { IsSound self.new }
+        ensures after { (z : Terms) (xs : List Arrival) (ys : List Gone) (cut : ℕ)
+            (over : List Event) → IsAfter z xs ys cut over self.old →
+            IsAfter z xs ys cut over self.new }
+        ensures due { due_by self.new ≡ due_by self.old }
+    {
+        let count = self.arrivals.len().div_ceil(2);
+        if count == 0 || count > self.judging.marks.len() {
+            return;
+        }
+        if !none_waits(self.judging.held.as_slice()) {
+            return;
+        }
+        if !self.frames.is_empty() {
+            let last = &self.arrivals[count - 1];
+            if !is_too_late(&self.bounds.limits, last, &self.frames[0]) {
+                return;
+            }
+        }
+        forget_first(&mut self.arrivals, count);
+        forget_first(&mut self.judging.marks, count);
+    }
+
+    /// Lets go of what no later event asks for.
+    pub(crate) fn forget(&mut self)
+        requires { IsSound self.old }
+        ensures sound { IsSound self.new }
+        ensures after { (z : Terms) (xs : List Arrival) (ys : List Gone) (cut : ℕ)
+            (over : List Event) → IsAfter z xs ys cut over self.old →
+            IsAfter z xs ys cut over self.new }
+        ensures due { due_by self.new ≡ due_by self.old }
+    {
+        self.forget_frames();
+        self.forget_arrivals();
+    }
+}
