@@ -87,6 +87,10 @@ fault_case 'CONFIG that is a folder' 4 'device Config' "$work" "$none" "$none"
 fault_case 'CAME before numbers' 4 'device List' --slack 1000001 "$wrong" "$none" -
 fault_case 'LEFT before numbers' 4 'device List' --slack 1000001 "$wrong" - "$none"
 fault_case 'numbers before one input' 2 'words BadNumber' --drift 1001 "$wrong" - -
+for word in all -1 65536 '' Other; do
+    fault_case "numbers before one input, --leave-out=$word" 2 'words BadNumber' \
+        "--leave-out=$word" "$wrong" - -
+done
 fault_case 'one input before the configuration' 2 'words SameInput' "$wrong" - -
 fault_case 'the configuration before its switch' 1 'config BadProfile' --switch k "$wrong" - "$base"
 fault_case 'the switch before the lists' 2 'words NoSuchSwitch' \
@@ -117,7 +121,7 @@ text_case 'conform in the help' 0 out conform --help
 text_case 'conform without LEFT' 2 err LEFT conform "$base" - # a recording may do later
 text_case 'a third list is too many for conform' 2 err third conform "$base" one two third
 for word in --slack=x --drift=-1 --inner= --asked=1e3 --from=0x1 --until=99999999999999999999999 \
-    --leave-out=all --leave-out=-1 --jitter=1; do
+    --jitter=1; do
     text_case "conform $word" 2 err "${word%%=*}" conform "$word" "$base" "${lists[@]}"
 done
 case_of 'an argument of conform that is no text' 2 '' $'words NotText\n' \

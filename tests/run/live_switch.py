@@ -6,10 +6,10 @@
 Three systems send to a switch in Python over cables of a network of their own
 (tests/conform/live_bench.py), and `dumpcap` records at each port what comes in and what leaves. The
 right switch conforms; of each wrong one is found exactly what it was amiss with. The recording is
-judged as two lists by tests/lib/conform.py, and by PROGRAM if that has `conform`, which must answer
-the same; once it takes recordings, the recording itself is given to it, too. NAME is right, drops,
-delays, doubles, reorders or leaks: all at once where none is given, for N seconds (4). FOLDER keeps
-the configuration, and of each switch its recording and lists.
+judged as two lists by tests/lib/conform.py, and as it is by tests/lib/conform_recorded.py. PROGRAM
+must answer the same, of what its `conform` takes. NAME is right, drops, delays, doubles, reorders
+or leaks: all at once where none is given, for N seconds (4). FOLDER keeps the configuration, and of
+each switch its recording and lists.
 
 Prints `ok NAME`, `FAILED NAME` or `skipped NAME: why` for each case, then `N passed, M failed`;
 ends with status 1 if a case failed. Needs Python 3.11, ip, unshare and dumpcap, and that it may
@@ -31,6 +31,7 @@ sys.dont_write_bytecode = True
 TESTS = os.path.join(os.path.dirname(os.path.abspath(__file__)), "..")
 sys.path[:0] = [os.path.join(TESTS, name) for name in ("lib", "conform")]
 from conform import conform  # noqa: E402
+from conform_recorded import conform_recordings  # noqa: E402
 from live_switches import FROM, LATENCY, PORT, SLACK, SWITCHES, SYSTEMS, TABLES  # noqa: E402
 from one_switch import MS  # noqa: E402
 from program import Answer, Cases, Program, Wrong, must, same_text  # noqa: E402
@@ -147,24 +148,31 @@ def same_answer(program: Program, run: Run, wanted: Answer) -> None:
     must(found == wanted, f"status {found.status}, {found.err!r}")
 
 
-def places() -> list[str]:
-    """Where the interfaces of the recording were, for the program."""
-    words = []
+def recording_words() -> list[str]:
+    """The options of the recording: where its interfaces were, too."""
+    words = [*OPTIONS, "--fcs", "no"]
     for place, system in enumerate(SYSTEMS):
         words += ["--interface", f"{2 * place}=A:{system['port']}"]
         words += ["--left", f"{2 * place + 1}=A:{system['port']}"]
     return words
 
 
-def recording_judged(program: Program, run: Run, wanted: Answer) -> None:
-    """The program answers of the recording as of the lists, but for the numbers of frames."""
-    apart = program.apart()
-    path, config = apart.write("run.pcapng", run.recording), apart.write("c", text_of(TABLES))
-    found = apart.run("conform", *OPTIONS, "--fcs", "no", *places(), config, path)
-    must(found.status == wanted.status, f"status {found.status}: {found.err.decode()}")
+def recording_judged(of_lists: Answer, answer: Answer) -> None:
+    """The answer of the recording is that of its lists, but for the numbers of frames."""
+    must(answer.status == of_lists.status, f"status {answer.status}: {answer.err.decode()}")
     words = [sorted(line.split(b" ")[0] for line in each.out.splitlines())
-             for each in (found, wanted)]
+             for each in (answer, of_lists)]
     must(words[0] == words[1], f"found {words[0]}, wanted {words[1]}")
+
+
+def same_of_recording(program: Program, run: Run, wanted: Answer) -> None:
+    """The program answers of the recording what is computed."""
+    apart = program.apart()
+    path = apart.write("run.pcapng", run.recording)
+    config = apart.write("bench.toml", text_of(TABLES))
+    found = apart.run("conform", *recording_words(), config, path)
+    same_text("standard output", wanted.out, found.out)
+    must(found == wanted, f"status {found.status}, {found.err!r}")
 
 
 class Judge(NamedTuple):
@@ -207,10 +215,13 @@ def try_switch(cases: Cases, judge: Judge, name: str, seconds: int, kept: str) -
             file.write(text)
     answer = conform(text_of(TABLES), run.came, run.left, OPTIONS)
     cases.try_case(f"{name}, as two lists", is_judged, name, run, answer)
+    whole = conform_recordings(text_of(TABLES), (run.recording,), tuple(recording_words()))
+    cases.try_case(f"{name}, as a recording", recording_judged, answer, whole)
     if judge.program:
         cases.try_case(f"{name}, by the program", same_answer, judge.program, run, answer)
     if judge.program and judge.is_recorded:
-        cases.try_case(f"{name}, as a recording", recording_judged, judge.program, run, answer)
+        cases.try_case(f"{name}, as a recording, by the program", same_of_recording,
+                       judge.program, run, whole)
 
 
 def taken_words() -> argparse.Namespace:

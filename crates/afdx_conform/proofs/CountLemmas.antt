@@ -1,20 +1,18 @@
 -- What is counted of a stream.
-use Rattle.std.proofs.Common.{◌≡◌, ℕ, ◌+◌, ◌-◌, ◌<◌, ◌≤◌, Bool, true, false, List, [], ◌∷◌, ◌++◌, map, length, min, refl, sym, ap, ◌∙◌, subst, arith}
+use Rattle.std.proofs.Common.{◌≡◌, ℕ, ◌+◌, ◌-◌, ◌≤◌, Bool, true, false, List, [], ◌∷◌, map, length, min, refl, sym, ap, ◌∙◌, subst, arith}
 use Rattle.std.proofs.lemmas.List.Elements.{recursion_from_All}
 use Rattle.std.specs.Prelude.{if◌then◌else◌}
 use Rattle.std.specs.List.{AllByRecursion}
 use Rattle.afdx_police.specs.Arrival.{Arrival}
 use Rattle.afdx_conform.specs.Explanations.{link}
 use Rattle.afdx_conform.specs.Findings.{Judged, judged_after}
-use Rattle.afdx_conform.specs.Growing.{IsAfter, IsHeld, IsSound, is_some, most_found}
+use Rattle.afdx_conform.specs.Growing.{IsAfter, IsHeld, IsSound, is_some}
 use Rattle.afdx_conform.specs.HeldStates.{IsWithin, state_of}
 use Rattle.afdx_conform.specs.Histories.{counts_by, counts_with, judged_by, least_from, least_waiting}
 use Rattle.afdx_conform.specs.Levels.{Levels, first_levels}
 use Rattle.afdx_conform.specs.Limits.{gone_of}
-use Rattle.afdx_conform.specs.Ranges.{most_held}
 use Rattle.afdx_conform.specs.States.{Event, arrivals_came, State, first_states}
 use Rattle.afdx_conform.specs.Streams.{Gone, Terms, is_begun}
-use Rattle.afdx_conform.specs.declared.counts.Counts.{Counts}
 use Rattle.afdx_conform.specs.declared.growth.Growth.{Growth}
 use Rattle.afdx_conform.specs.declared.states.Held.{Held}
 use Rattle.afdx_conform.proofs.EveryLemmas.{every-on}
@@ -84,7 +82,8 @@ module _ (z : Terms) (xs : List Arrival) (ys : List Gone) (cut : ℕ) (over : Li
 
   none-waits : (l : List Gone) → least_waiting (judged_by z xs l []).states ≡ 0
   unfolding judged_after
-  none-waits l = least-none (first_states z (first_levels (link z) z.by z.by.start) l) (first-none z (first_levels (link z) z.by z.by.start) l)
+  none-waits l = least-none (first_states z (first_levels (link z) z.by z.by.start) l)
+      (first-none z (first_levels (link z) z.by z.by.start) l)
 
   none-uncertain : (l : List Gone) → (judged_by z xs l []).uncertain ≡ 0
   unfolding judged_after
@@ -110,8 +109,7 @@ module _ (z : Terms) (xs : List Arrival) (ys : List Gone) (cut : ℕ) (over : Li
 
   later : (h : IsHeld z xs ys cut over g) → g.is_started ≡ true → AreTheSame
   later h e =
-      let k = h.continues e in
-      (
+      let k = h.continues e in (
         leasts (map gone_of g.frames.items)
             ∙ ap (λ (l : List State). least_waiting l) (k.stands.states ∙ ap (λ (j : Judged). j.states) k.same),
         k.stands.uncertain ∙ (let zero = ap (λ (j : Judged). j.uncertain) k.same in omega (arith, zero)),

@@ -1,34 +1,20 @@
 -- What is cut off at the end of a stream.
-use Rattle.std.proofs.Common.{◌≡◌, ℕ, zero, suc, ◌+◌, ◌-◌, ◌<◌, ◌≤◌, Bool, true, false, List, [], ◌∷◌, ◌++◌, ◌⊎◌, inl, inr, map, take, drop, get_or, length, min, refl, sym, ap, ◌∙◌, subst, arith}
-use Rattle.std.proofs.lemmas.Bool.{ltb-true, ltb-false, leb-true, leb-false, le-leb}
-use Rattle.std.proofs.lemmas.List.{append_assoc, append-nil, append_cancel_right, map-append, length-append, length-map, length-drop, length-take-le, drop-append-le}
-use Rattle.std.proofs.lemmas.List.Elements.{All-from_recursion, recursion_from_All}
-use Rattle.std.specs.Prelude.{All, Option, Some, None, if◌then◌else◌, nat_le, nat_lt}
-use Rattle.std.specs.List.{AllByRecursion, filter}
-use Rattle.std.specs.Global.{Vec}
+use Rattle.std.proofs.Common.{◌≡◌, ℕ, suc, ◌+◌, ◌<◌, ◌≤◌, Bool, true, false, List, [], ◌∷◌, ◌++◌, map, drop, length, refl, sym, ap, ◌∙◌, subst, arith}
+use Rattle.std.proofs.lemmas.Bool.{ltb-true, ltb-false, leb-true, leb-false}
+use Rattle.std.proofs.lemmas.List.{append_cancel_right, length-append, length-drop}
+use Rattle.std.specs.Prelude.{if◌then◌else◌, nat_le, nat_lt}
+use Rattle.std.specs.List.{AllByRecursion}
 use Rattle.afdx_police.specs.Arrival.{Arrival}
 use Rattle.afdx_conform.specs.Ahead.{with_more}
 use Rattle.afdx_conform.specs.Events.{GoUp, closings_in, frame_times}
-use Rattle.afdx_conform.specs.Explanations.{from_time}
-use Rattle.afdx_conform.specs.Findings.{Judged, Marked, judged_with, with_states}
-use Rattle.afdx_conform.specs.Forgetting.{FitNone, with_gone}
-use Rattle.afdx_conform.specs.Growing.{AreTold, Continues, IsAfter, IsHeld, IsKept, is_some, most_found}
-use Rattle.afdx_conform.specs.HeldStates.{IsWithin, state_of}
-use Rattle.afdx_conform.specs.Histories.{AreEvents, AreOver, coming, judged_by, shown, uncut, unclosed, unsure_in}
-use Rattle.afdx_conform.specs.Later.{judged_more}
+use Rattle.afdx_conform.specs.HeldStates.{state_of}
+use Rattle.afdx_conform.specs.Histories.{AreEvents, AreOver, coming, uncut, unclosed}
 use Rattle.afdx_conform.specs.Leeway.{both_slacks}
-use Rattle.afdx_conform.specs.Limits.{gone_of}
 use Rattle.afdx_conform.specs.States.{Event, Came, Closing, State, state_with}
-use Rattle.afdx_conform.specs.Streams.{Gone, Terms, fits}
-use Rattle.afdx_conform.specs.declared.growth.Growth.{Growth}
-use Rattle.afdx_conform.specs.declared.levels.Rates.{Rates}
-use Rattle.afdx_conform.specs.declared.limits.Frame.{Frame}
+use Rattle.afdx_conform.specs.Streams.{Gone, Terms}
 use Rattle.afdx_conform.specs.declared.states.Held.{Held}
-use Rattle.afdx_conform.proofs.EveryLemmas.{every-left, every-on, every-unmap}
-use Rattle.afdx_conform.proofs.ForgetLemmas.{map-drop}
-use Rattle.afdx_conform.proofs.GrowthFrames.{judged-late, shown-late, states-more}
-use Rattle.afdx_conform.proofs.GrowthLemmas.{true-false}
-use Rattle.afdx_conform.proofs.HistoryLemmas.{events-cut, next-closing}
+use Rattle.afdx_conform.proofs.EveryLemmas.{every-on, every-unmap}
+use Rattle.afdx_conform.proofs.HistoryLemmas.{next-closing}
 use Rattle.afdx_conform.proofs.OverLemmas.{AreLate}
 
 module _ (z : Terms) where
@@ -68,8 +54,11 @@ module _ (z : Terms) where
       }
       by false e s =
           let lt = leb-false (y.time + both_slacks z.by) z.until e in
-          let all : AllByRecursion IsCutOff (y ∷ ys) = (lt, every-on (λ w. y.time ≤ w.time) IsCutOff
-          (λ w le. omega (arith, lt, le)) ys (every-unmap (λ t. y.time ≤ t) (λ (w : Gone). w.time) ys h.0)) in
+          let all : AllByRecursion IsCutOff (y ∷ ys) = (
+            lt,
+            every-on (λ w. y.time ≤ w.time) IsCutOff
+                (λ w le. omega (arith, lt, le)) ys (every-unmap (λ t. y.time ≤ t) (λ (w : Gone). w.time) ys h.0),
+          ) in
           record {
             off = y ∷ ys;
             same = ap (λ (l : List Gone). l ++ (y ∷ ys)) (sym (none-uncut (y ∷ ys) all));
@@ -133,6 +122,7 @@ module _ (z : Terms) where
     where
       rest : p ∷ (past ++ fs) ≡ u ∷ (us ++ off) → past ++ fs ≡ us ++ off
       rest k = cc
+
       heads : p ∷ (past ++ fs) ≡ u ∷ (us ++ off) → u ∷ us ≡ p ∷ us
       heads k = let same : p ≡ u = cc in ap (λ (g : Gone). g ∷ us) (sym same)
 
@@ -155,6 +145,7 @@ module _ (z : Terms) where
     where
       heads : with_more off a ∷ map (with_more off) ls ≡ with_more off b ∷ map (with_more off) ms → with_more off a ≡ with_more off b
       heads k = cc
+
       tails : with_more off a ∷ map (with_more off) ls ≡ with_more off b ∷ map (with_more off) ms
           → map (with_more off) ls ≡ map (with_more off) ms
       tails k = cc
@@ -166,16 +157,17 @@ module _ (z : Terms) where
   passed-low fs here off (h ∷ held) [] is le e = absurd (cc)
   passed-low fs here off (h ∷ held) (s ∷ states) is le e = (
     (let first = ap (λ (t : State). length t.rest) (heads e) in
-    let size = length-drop h.passed fs in
-    let more = length-append s.rest off in
-    let all = ap (λ (l : List Gone). length l) is ∙ length-append here off in
-    let low = le.0 in
-    omega (arith, first, size, more, all, low)),
+        let size = length-drop h.passed fs in
+        let more = length-append s.rest off in
+        let all = ap (λ (l : List Gone). length l) is ∙ length-append here off in
+        let low = le.0 in
+        omega (arith, first, size, more, all, low)),
     passed-low fs here off held states is le.1 (tails e),
   )
     where
       heads : state_of fs h ∷ map (state_of fs) held ≡ with_more off s ∷ map (with_more off) states → state_of fs h ≡ with_more off s
       heads k = cc
+
       tails : state_of fs h ∷ map (state_of fs) held ≡ with_more off s ∷ map (with_more off) states
           → map (state_of fs) held ≡ map (with_more off) states
       tails k = cc

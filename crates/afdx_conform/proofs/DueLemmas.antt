@@ -1,17 +1,9 @@
 -- The moment of the next event of a stream.
-use Rattle.std.proofs.Common.{◌≡◌, ℕ, zero, suc, ◌+◌, ◌-◌, ◌<◌, ◌≤◌, ◌⊎◌, inl, inr, Bool, true, false, List, [], ◌∷◌, ◌++◌, map, take, drop, length, refl, sym, ap, ◌∙◌, subst, arith}
-use Rattle.std.proofs.lemmas.Bool.{lt-ltb, le-ltb, ltb-true, ltb-false}
-use Rattle.std.proofs.lemmas.List.{drop-append-le, length-drop, length-append}
-use Rattle.std.specs.Prelude.{if◌then◌else◌, Option, Some, None, nat_lt, option_map}
+use Rattle.std.proofs.Common.{◌≡◌, ℕ, ◌+◌, ◌≤◌, inl, inr, Bool, true, false, List, [], ◌∷◌, ◌++◌, drop, length, refl, sym, ap, ◌∙◌, subst, arith}
+use Rattle.std.proofs.lemmas.List.{drop-append-le}
+use Rattle.std.specs.Prelude.{if◌then◌else◌, Option, Some, None, nat_lt}
 use Rattle.std.specs.Global.{Vec}
-use Rattle.afdx_conform.specs.Events.{closes_before, event_time, moment_at}
-use Rattle.afdx_conform.specs.Growing.{IsDueLater, IsNoSooner, IsSame, IsSameOrLater, due_at, due_by, due_in, undecided_by}
-use Rattle.afdx_conform.specs.Histories.{next_of}
-use Rattle.afdx_conform.specs.Limits.{AreLimits, gone_of}
-use Rattle.afdx_conform.specs.Marks.{arrival_of}
-use Rattle.afdx_conform.specs.States.{Event, Came, Closing}
-use Rattle.afdx_conform.specs.Streams.{Terms, latency}
-use Rattle.afdx_conform.specs.Leeway.{both_slacks}
+use Rattle.afdx_conform.specs.Growing.{IsSame, IsSameOrLater, due_at, due_by, due_in}
 use Rattle.afdx_conform.specs.declared.arrived.Arrived.{Arrived}
 use Rattle.afdx_conform.specs.declared.growth.Growth.{Growth}
 use Rattle.afdx_conform.specs.declared.limits.Frame.{Frame}
@@ -75,6 +67,13 @@ due-left old f frames' count items le =
     (drop (length old.judging.marks.items) old.arrivals.items) l))
     (sym (ap (λ (l : List Frame). drop old.closed l) items ∙ drop-append-le old.closed old.frames.items (f ∷ []) le))
     (by-unsure old.judging.is_unsure f.time _ _ (in-left old.bounds.limits cs fs f))
+
+-- nothing is judged any more
+pub due-many : (old new : Growth) (time : ℕ) → new.judging.is_unsure ≡ true → IsSameOrLater (due_by old) time (due_by new)
+unfolding due_by
+due-many old new time e =
+    subst (λ (b : Bool). IsSameOrLater (due_by old) time (if b then None else due_in new.bounds.limits
+    (drop (length new.judging.marks.items) new.arrivals.items) (drop new.closed new.frames.items))) (sym e) (inr tt)
 
 -- ---- nothing has changed
 

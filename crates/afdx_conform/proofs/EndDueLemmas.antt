@@ -1,14 +1,12 @@
 -- When the next event of a stream is due, once its recordings end.
-use Rattle.std.proofs.Common.{◌≡◌, ℕ, zero, suc, ◌+◌, ◌-◌, ◌<◌, ◌≤◌, Bool, true, false, List, [], ◌∷◌, ◌++◌, ◌⊎◌, inl, inr, map, take, drop, get_or, length, max, refl, sym, ap, ◌∙◌, subst, arith}
+use Rattle.std.proofs.Common.{◌≡◌, ℕ, zero, suc, ◌+◌, ◌-◌, ◌<◌, ◌≤◌, Bool, true, false, List, [], ◌∷◌, ◌⊎◌, inl, inr, map, take, drop, get_or, length, refl, sym, ap, ◌∙◌, subst, arith}
 use Rattle.std.proofs.lemmas.Bool.{ltb-true, le-ltb}
 use Rattle.std.proofs.lemmas.List.{drop-take, length-drop}
-use Rattle.std.proofs.lemmas.List.Elements.{recursion_from_All}
-use Rattle.std.specs.Prelude.{All, if◌then◌else◌, nat_lt, Option, Some, None}
+use Rattle.std.specs.Prelude.{if◌then◌else◌, nat_lt, Option, Some, None}
 use Rattle.std.specs.List.{AllByRecursion}
 use Rattle.std.specs.Global.{Vec}
 use Rattle.afdx_police.specs.Arrival.{Arrival}
-use Rattle.afdx_conform.specs.Findings.{Marked}
-use Rattle.afdx_conform.specs.Growing.{IsAfter, IsDueLater, IsNoSooner, due_at, due_by, due_in}
+use Rattle.afdx_conform.specs.Growing.{IsAfter, IsDueLater, due_at, due_by, due_in}
 use Rattle.afdx_conform.specs.Marks.{arrival_of}
 use Rattle.afdx_conform.specs.States.{Event}
 use Rattle.afdx_conform.specs.Streams.{Gone, Terms}
@@ -19,7 +17,6 @@ use Rattle.afdx_conform.specs.declared.limits.Limits.{Limits}
 use Rattle.afdx_conform.specs.declared.states.Held.{Held}
 use Rattle.afdx_conform.proofs.EndingLemmas.{ended}
 use Rattle.afdx_conform.proofs.EveryLemmas.{every-right, every-unmap}
-use Rattle.afdx_conform.proofs.ForgetLemmas.{map-drop}
 use Rattle.afdx_conform.proofs.HistoryLemmas.{every-drop}
 
 due-itself : (due : Option ℕ) → IsDueLater due due

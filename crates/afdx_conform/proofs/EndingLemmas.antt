@@ -1,7 +1,7 @@
 -- What is kept of a stream once its recordings end.
-use Rattle.std.proofs.Common.{◌≡◌, ℕ, zero, suc, ◌+◌, ◌-◌, ◌<◌, ◌≤◌, Bool, true, false, List, [], ◌∷◌, ◌++◌, ◌⊎◌, inl, inr, map, take, drop, get_or, length, min, max, refl, sym, ap, ◌∙◌, subst, arith}
+use Rattle.std.proofs.Common.{◌≡◌, ℕ, zero, suc, ◌+◌, ◌-◌, ◌<◌, ◌≤◌, Bool, true, false, List, [], ◌∷◌, ◌++◌, ◌⊎◌, inl, inr, map, take, get_or, length, min, max, refl, sym, ap, ◌∙◌, subst, arith}
 use Rattle.std.proofs.lemmas.Bool.{ltb-true, ltb-false}
-use Rattle.std.proofs.lemmas.List.{append_assoc, map-append, length-append, length-map, length-take-le}
+use Rattle.std.proofs.lemmas.List.{map-append, length-append, length-map}
 use Rattle.std.proofs.lemmas.List.Elements.{All-contains, All-from_recursion, recursion_from_All}
 use Rattle.std.specs.Prelude.{All, Contains, if◌then◌else◌, nat_lt}
 use Rattle.std.specs.List.{AllByRecursion}
@@ -10,18 +10,17 @@ use Rattle.afdx_police.specs.Arrival.{Arrival}
 use Rattle.afdx_conform.specs.Ahead.{with_more}
 use Rattle.afdx_conform.specs.Events.{GoUp, closings_in, frame_times}
 use Rattle.afdx_conform.specs.Explanations.{from_time}
-use Rattle.afdx_conform.specs.Findings.{Judged, Marked, judged_with, with_states}
-use Rattle.afdx_conform.specs.Forgetting.{FitNone, with_gone}
+use Rattle.afdx_conform.specs.Findings.{Judged, with_states}
+use Rattle.afdx_conform.specs.Forgetting.{FitNone}
 use Rattle.afdx_conform.specs.Growing.{AreTold, Continues, IsAfter, IsHeld, IsKept, is_some, most_found}
 use Rattle.afdx_conform.specs.HeldStates.{IsWithin, state_of}
 use Rattle.afdx_conform.specs.Histories.{AreEvents, AreOver, judged_by, shown, uncut, unsure_in}
 use Rattle.afdx_conform.specs.Later.{judged_more}
 use Rattle.afdx_conform.specs.Leeway.{both_slacks}
 use Rattle.afdx_conform.specs.Limits.{gone_of}
-use Rattle.afdx_conform.specs.States.{Event, State, state_with}
+use Rattle.afdx_conform.specs.States.{Event}
 use Rattle.afdx_conform.specs.Streams.{Gone, Terms, fits}
 use Rattle.afdx_conform.specs.declared.growth.Growth.{Growth}
-use Rattle.afdx_conform.specs.declared.levels.Rates.{Rates}
 use Rattle.afdx_conform.specs.declared.limits.Frame.{Frame}
 use Rattle.afdx_conform.specs.declared.states.Held.{Held}
 use Rattle.afdx_conform.proofs.CuttingLemmas.{IsCutOff, IsShown, IsCommon, IsSplit, all-same, all-shown, are-late, closed-shown, common, passed-low, split}
@@ -79,6 +78,7 @@ first-are (f ∷ fs) (y ∷ here) off e =
   where
     heads : gone_of f ∷ map gone_of fs ≡ y ∷ (here ++ off) → gone_of f ≡ y
     heads k = cc
+
     tails : gone_of f ∷ map gone_of fs ≡ y ∷ (here ++ off) → map gone_of fs ≡ here ++ off
     tails k = cc
 
@@ -260,6 +260,7 @@ module _ (z : Terms) (xs : List Arrival) (us off : List Gone) (time : ℕ) (over
           let k = kept-here in
           let s = fs-size in
           omega (arith, n, l, k, s, counted));
+      arrivals = h.kept.arrivals;
       cut_off = (let n = h.kept.cut_off in let k = kept-here in let s = fs-size in omega (arith, n, k, s, counted, all));
       started = h.kept.started;
       certain = h.kept.certain;

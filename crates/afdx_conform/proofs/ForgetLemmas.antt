@@ -1,24 +1,22 @@
 -- What is let go of, of what is kept of a stream.
-use Rattle.std.proofs.Common.{◌≡◌, ℕ, zero, suc, ◌+◌, ◌-◌, ◌<◌, ◌≤◌, Bool, true, false, List, [], ◌∷◌, ◌++◌, map, take, drop, get_or, length, refl, sym, ap, ◌∙◌, subst, arith}
+use Rattle.std.proofs.Common.{◌≡◌, ℕ, zero, suc, ◌+◌, ◌-◌, ◌<◌, ◌≤◌, false, List, [], ◌∷◌, ◌++◌, map, take, drop, get_or, length, refl, sym, ap, ◌∙◌, subst, arith}
 use Rattle.std.proofs.lemmas.List.{append_assoc, map-append, length-append, length-map, length-drop, length-take-le, drop-drop, take-append-drop}
 use Rattle.std.proofs.lemmas.Simd.{map-map}
 use Rattle.std.proofs.lemmas.List.Elements.{All-from_recursion, recursion_from_All}
-use Rattle.std.specs.Prelude.{All, Option, Some, None, if◌then◌else◌}
+use Rattle.std.specs.Prelude.{All, None, if◌then◌else◌}
 use Rattle.std.specs.List.{AllByRecursion}
 use Rattle.std.specs.Global.{Vec}
 use Rattle.afdx_police.specs.Arrival.{Arrival}
 use Rattle.afdx_conform.specs.Bounds.{AreBounds}
 use Rattle.afdx_conform.specs.Events.{GoUp}
-use Rattle.afdx_conform.specs.Findings.{Judged, Marked, judged_with}
-use Rattle.afdx_conform.specs.Forgetting.{FitNone, with_gone}
+use Rattle.afdx_conform.specs.Findings.{Marked, judged_with}
+use Rattle.afdx_conform.specs.Forgetting.{FitNone}
 use Rattle.afdx_conform.specs.Growing.{AreTold, Continues, IsAfter, IsHeld, IsKept, IsSound, due_by, due_in}
 use Rattle.afdx_conform.specs.HeldStates.{IsWithin, past, state_of}
-use Rattle.afdx_conform.specs.Histories.{judged_by}
-use Rattle.afdx_conform.specs.Leeway.{both_slacks}
 use Rattle.afdx_conform.specs.Limits.{gone_of}
 use Rattle.afdx_conform.specs.Marks.{IsJudged, arrival_of, marked_all, marked_of}
 use Rattle.afdx_conform.specs.States.{Event, State, state_with}
-use Rattle.afdx_conform.specs.Streams.{Gone, Terms, fits, latency}
+use Rattle.afdx_conform.specs.Streams.{Gone, Terms, fits}
 use Rattle.afdx_conform.specs.declared.arrived.Arrived.{Arrived}
 use Rattle.afdx_conform.specs.declared.finding.Mark.{Mark}
 use Rattle.afdx_conform.specs.declared.growth.Growth.{Growth}
@@ -117,6 +115,7 @@ module _ (z : Terms) (xs : List Arrival) (ys : List Gone) (cut : ℕ) (over : Li
           (subst (λ (l : List Gone). FitNone z l gone) (map-split gone_of count old.frames.items) k.unread));
       last = k.last;
       found = k.found;
+      arrivals = k.arrivals;
       frames = k.frames;
       cut_off = k.cut_off;
       started = k.started;
@@ -298,6 +297,7 @@ module _ (z : Terms) (xs : List Arrival) (ys : List Gone) (cut : ℕ) (over : Li
     unread = every-both gone More (map gone_of old.frames.items) k.unread fit;
     last = k.last;
     found = k.found;
+    arrivals = k.arrivals;
     frames = k.frames;
     cut_off = k.cut_off;
     started = k.started;

@@ -1,22 +1,21 @@
 -- What the code keeps of a stream once the closing of a frame is over.
 use Rattle.std.proofs.Common.{◌≡◌, ℕ, zero, suc, ◌+◌, ◌<◌, ◌≤◌, Bool, true, false, List, [], ◌∷◌, ◌++◌, map, drop, get_or, length, min, refl, sym, ap, ◌∙◌, subst, arith}
 use Rattle.std.proofs.Math.Seq.{drop-append-add}
-use Rattle.std.proofs.lemmas.List.{drop_more, length-map, get_or_default}
-use Rattle.std.specs.Prelude.{if◌then◌else◌, Option, Some, None}
+use Rattle.std.proofs.lemmas.List.{drop_more}
+use Rattle.std.specs.Prelude.{if◌then◌else◌, Some, None}
 use Rattle.std.specs.List.{AllByRecursion}
 use Rattle.afdx_police.specs.Arrival.{Arrival}
 use Rattle.afdx_conform.specs.Courses.{AreFrames}
 use Rattle.afdx_conform.specs.Events.{GoUp, closings_in, frame_times}
-use Rattle.afdx_conform.specs.Findings.{Finding, Judged, Marked, closed_by, closed_to, frames_in, front_rest, judged_after, lead, skipped, sound_events, unexplained, with_states}
+use Rattle.afdx_conform.specs.Findings.{Finding, Judged, Marked, closed_by, closed_to, frames_in, front_rest, judged_after, lead, skipped, sound_events, unexplained}
 use Rattle.afdx_conform.specs.Forgetting.{FitNone, with_gone}
-use Rattle.afdx_conform.specs.Growing.{Continues, IsAfter, IsHeld, IsKept, most_found}
-use Rattle.afdx_conform.specs.HeldStates.{state_of}
+use Rattle.afdx_conform.specs.Growing.{Continues, IsAfter, IsKept, most_found}
 use Rattle.afdx_conform.specs.Histories.{AreEvents, coming, judged_by, newest_tag, next_of, unclosed, unsure_in}
 use Rattle.afdx_conform.specs.Judging.{StandsFor, AreFound}
 use Rattle.afdx_conform.specs.Leeway.{both_slacks}
 use Rattle.afdx_conform.specs.Limits.{gone_of}
 use Rattle.afdx_conform.specs.States.{Event, Closing, State, are_behind, kept}
-use Rattle.afdx_conform.specs.Streams.{Gone, Terms, fits}
+use Rattle.afdx_conform.specs.Streams.{Gone, Terms}
 use Rattle.afdx_conform.specs.declared.arrived.Arrived.{Arrived}
 use Rattle.afdx_conform.specs.declared.growth.Growth.{Growth}
 use Rattle.afdx_conform.specs.declared.judging.Judging.{Judging}
@@ -138,6 +137,7 @@ module _ (z : Terms) where
           unread = k.unread;
           last = k.last;
           found = (let g = k.found in let n = found-close.frames in omega (arith, g, n));
+          arrivals = k.arrivals;
           frames = k.frames;
           cut_off = k.cut_off;
           started = refl;

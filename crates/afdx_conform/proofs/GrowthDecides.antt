@@ -1,5 +1,5 @@
 -- What the code keeps of a stream once the event of an arrival is over.
-use Rattle.std.proofs.Common.{◌≡◌, ℕ, zero, suc, ◌+◌, ◌<◌, ◌≤◌, Bool, true, false, List, [], ◌∷◌, ◌++◌, map, drop, get_or, length, min, refl, sym, ap, ◌∙◌, subst, arith}
+use Rattle.std.proofs.Common.{◌≡◌, ℕ, zero, suc, ◌+◌, ◌<◌, Bool, true, false, List, [], ◌∷◌, ◌++◌, map, drop, get_or, length, min, refl, sym, ap, ◌∙◌, subst, arith}
 use Rattle.std.proofs.Math.Seq.{drop-append-add}
 use Rattle.std.proofs.lemmas.List.{append_assoc, drop_more, length-map}
 use Rattle.std.specs.Prelude.{if◌then◌else◌, is_none, nat_lt, Option, Some, None}
@@ -10,7 +10,7 @@ use Rattle.afdx_police.specs.declared.shape.Reason.{Reason}
 use Rattle.afdx_conform.specs.Explanations.{last_time}
 use Rattle.afdx_conform.specs.Findings.{Finding, Judged, Marked, came_by, came_to, frames_in, front_rest, judged_after, sound_events}
 use Rattle.afdx_conform.specs.Forgetting.{FitNone, with_gone}
-use Rattle.afdx_conform.specs.Growing.{Continues, IsAfter, IsHeld, IsKept, IsReady, most_found}
+use Rattle.afdx_conform.specs.Growing.{Continues, IsAfter, IsKept, most_found}
 use Rattle.afdx_conform.specs.HeldStates.{state_of}
 use Rattle.afdx_conform.specs.Histories.{AreEvents, coming, judged_by, newest_tag, next_of, unclosed, unsure_in}
 use Rattle.afdx_conform.specs.Judging.{StandsFor, AreFound}
@@ -24,7 +24,6 @@ use Rattle.afdx_conform.specs.declared.judging.Judging.{Judging}
 use Rattle.afdx_conform.specs.declared.limits.Frame.{Frame}
 use Rattle.afdx_conform.specs.declared.states.Held.{Held}
 use Rattle.afdx_conform.proofs.ForgettingLemmas.{forgetting_nothing}
-use Rattle.afdx_conform.proofs.GrowthLemmas.{true-false}
 use Rattle.afdx_conform.proofs.HistoryLemmas.{drop-next, every-drop}
 
 -- ---- lists
@@ -188,6 +187,7 @@ module _ (z : Terms) where
           unread = k.unread;
           last = last-next js last-is;
           found = (let f = k.found in let n = found-come.frames in omega (arith, f, n));
+          arrivals = k.arrivals;
           frames = k.frames;
           cut_off = k.cut_off;
           started = refl;

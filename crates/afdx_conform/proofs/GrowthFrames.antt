@@ -1,7 +1,7 @@
 -- What the code keeps of a stream, with one more frame.
-use Rattle.std.proofs.Common.{◌≡◌, ℕ, zero, suc, ◌+◌, ◌<◌, ◌≤◌, Bool, true, false, List, [], ◌∷◌, ◌++◌, map, drop, length, min, refl, sym, ap, ◌∙◌, subst, arith}
+use Rattle.std.proofs.Common.{◌≡◌, ℕ, suc, ◌+◌, ◌<◌, ◌≤◌, true, false, List, [], ◌∷◌, ◌++◌, map, length, min, refl, sym, ap, ◌∙◌, subst, arith}
 use Rattle.std.proofs.lemmas.List.{append_assoc, drop-append-le, length-append, length-map, map-append}
-use Rattle.std.specs.Prelude.{All, get_or}
+use Rattle.std.specs.Prelude.{All}
 use Rattle.std.specs.List.{AllByRecursion}
 use Rattle.std.specs.Global.{Vec}
 use Rattle.afdx_police.specs.Arrival.{Arrival}
@@ -13,21 +13,20 @@ use Rattle.afdx_conform.specs.Forgetting.{FitNone, with_gone}
 use Rattle.afdx_conform.specs.Growing.{AreTold, Continues, IsAfter, IsHeld, IsKept, MayLeave, is_some, most_found}
 use Rattle.afdx_conform.specs.HeldStates.{IsWithin, state_of}
 use Rattle.afdx_conform.specs.Histories.{AreEvents, AreOver, coming, judged_by, shown, unsure_in}
-use Rattle.afdx_conform.specs.Judging.{StandsFor}
 use Rattle.afdx_conform.specs.Later.{judged_more}
 use Rattle.afdx_conform.specs.Leeway.{both_slacks}
 use Rattle.afdx_conform.specs.Limits.{gone_of}
 use Rattle.afdx_conform.specs.Marks.{arrival_of}
-use Rattle.afdx_conform.specs.States.{Event, State, arrivals_came, state_with}
+use Rattle.afdx_conform.specs.Ranges.{most_held}
+use Rattle.afdx_conform.specs.States.{Event, State, state_with}
 use Rattle.afdx_conform.specs.Streams.{Gone, Terms, fits}
-use Rattle.afdx_conform.specs.declared.arrived.Arrived.{Arrived}
 use Rattle.afdx_conform.specs.declared.growth.Growth.{Growth}
 use Rattle.afdx_conform.specs.declared.levels.Rates.{Rates}
 use Rattle.afdx_conform.specs.declared.limits.Frame.{Frame}
 use Rattle.afdx_conform.specs.declared.states.Held.{Held}
 use Rattle.afdx_conform.proofs.EveryLemmas.{every-append, every-on}
 use Rattle.afdx_conform.proofs.GrowthLemmas.{gone-over, times-up, true-false}
-use Rattle.afdx_conform.proofs.HistoryLemmas.{came-within, events-left}
+use Rattle.afdx_conform.proofs.HistoryLemmas.{events-left}
 use Rattle.afdx_conform.proofs.LaterLemmas.{frames_later}
 use Rattle.afdx_conform.proofs.OverLemmas.{AreLate, are-far, fits-not, not-begun}
 
@@ -121,6 +120,7 @@ module _ (z : Terms) where
         unread = unread-more gone past k;
         last = k.last;
         found = k.found ∙ ap (λ (j : Judged). min j.frames most_found) (sym same-shown);
+        arrivals = k.arrivals;
         frames = (let n = k.frames in let l = length-append ys One in omega (arith, n, l, counted));
         cut_off = k.cut_off;
         started = k.started;
@@ -195,3 +195,12 @@ module _ (z : Terms) where
           tag = g.tag ∙ ap (λ (k : Judged). unsure_in k) (sym same);
           sure = λ s. absurd (true-false un s);
         }
+
+    -- there aren't so many
+    pub not-many-left : MayLeave z ys time (gone_of f) → old.judging.is_unsure ≡ false → cut ≡ 0
+        → most_held ≤ old.left + old.cut + 1 → IsAfter z xs ys cut over old → ⊥
+    not-many-left m sure none le g =
+        let few = m.few in
+        let is = (g.sure sure).kept.frames in
+        let off = (g.sure sure).kept.cut_off in
+        absurd (omega (arith, few, is, off, none, le))

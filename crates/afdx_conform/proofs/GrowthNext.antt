@@ -1,5 +1,5 @@
 -- Which event of a stream is the next.
-use Rattle.std.proofs.Common.{◌≡◌, ◌≢◌, ℕ, zero, suc, ◌+◌, ◌<◌, ◌≤◌, Bool, true, false, List, [], ◌∷◌, ◌++◌, map, drop, get_or, length, refl, sym, ap, ◌∙◌, subst, arith}
+use Rattle.std.proofs.Common.{◌≡◌, ◌≢◌, ℕ, zero, suc, ◌+◌, ◌<◌, ◌≤◌, Bool, true, false, List, [], ◌∷◌, ◌++◌, map, drop, get_or, length, refl, sym, ap, ◌∙◌, arith}
 use Rattle.std.proofs.Math.Seq.{drop-append-add}
 use Rattle.std.proofs.lemmas.Bool.{lt-ltb, le-ltb}
 use Rattle.std.proofs.lemmas.List.{get_or-drop, length-drop, length-map}
@@ -7,13 +7,13 @@ use Rattle.std.specs.Prelude.{if◌then◌else◌, nat_lt, Option, Some, None, o
 use Rattle.afdx_police.specs.Arrival.{Arrival}
 use Rattle.afdx_conform.specs.Events.{closings_in, event_time, moment_at}
 use Rattle.afdx_conform.specs.Findings.{Marked}
-use Rattle.afdx_conform.specs.Growing.{IsKept, due_at, due_by, due_in}
+use Rattle.afdx_conform.specs.Growing.{IsKept, due_at, due_in}
 use Rattle.afdx_conform.specs.Histories.{coming, next_of, unclosed}
 use Rattle.afdx_conform.specs.Leeway.{both_slacks}
 use Rattle.afdx_conform.specs.Limits.{AreLimits, gone_of}
 use Rattle.afdx_conform.specs.Marks.{arrival_of}
 use Rattle.afdx_conform.specs.States.{Event, Came, Closing, arrivals_came}
-use Rattle.afdx_conform.specs.Streams.{Gone, Terms, latency}
+use Rattle.afdx_conform.specs.Streams.{Gone, Terms}
 use Rattle.afdx_conform.specs.declared.arrived.Arrived.{Arrived}
 use Rattle.afdx_conform.specs.declared.growth.Growth.{Growth}
 use Rattle.afdx_conform.specs.declared.limits.Frame.{Frame}

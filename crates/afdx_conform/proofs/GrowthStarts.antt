@@ -1,24 +1,21 @@
 -- What the code keeps of a stream at first, before its first event, and where nothing has changed.
-use Rattle.std.proofs.Common.{◌≡◌, ℕ, zero, suc, ◌+◌, ◌<◌, ◌≤◌, Bool, true, false, List, [], ◌∷◌, ◌++◌, map, drop, length, min, refl, sym, ap, ◌∙◌, subst, arith}
-use Rattle.std.proofs.lemmas.List.{length-map}
-use Rattle.std.specs.Prelude.{All, None, get_or}
-use Rattle.std.specs.List.{AllByRecursion}
+use Rattle.std.proofs.Common.{◌≡◌, ℕ, ◌+◌, true, false, List, [], ◌∷◌, ◌++◌, map, length, refl, sym, ap, ◌∙◌, subst, arith}
+use Rattle.std.specs.Prelude.{All, None}
 use Rattle.std.specs.Global.{Vec}
 use Rattle.afdx_police.specs.Arrival.{Arrival}
 use Rattle.afdx_conform.specs.Bounds.{AreBounds}
-use Rattle.afdx_conform.specs.Events.{GoUp, closings_in}
-use Rattle.afdx_conform.specs.Explanations.{from_time, last_time, link}
-use Rattle.afdx_conform.specs.Findings.{Judged, Marked, judged_after, judged_with, sound_events}
-use Rattle.afdx_conform.specs.Forgetting.{FitNone, with_gone}
-use Rattle.afdx_conform.specs.Growing.{AreTold, Continues, IsAfter, IsHeld, IsKept, IsReady, IsSame, is_some, most_found}
+use Rattle.afdx_conform.specs.Events.{GoUp}
+use Rattle.afdx_conform.specs.Explanations.{from_time, link}
+use Rattle.afdx_conform.specs.Findings.{Marked, judged_after, judged_with, sound_events}
+use Rattle.afdx_conform.specs.Forgetting.{FitNone}
+use Rattle.afdx_conform.specs.Growing.{Continues, IsAfter, IsHeld, IsKept, IsReady, IsSame}
 use Rattle.afdx_conform.specs.HeldStates.{IsWithin, state_of}
-use Rattle.afdx_conform.specs.Histories.{AreEvents, coming, judged_by, unsure_in}
-use Rattle.afdx_conform.specs.Judging.{StandsFor}
+use Rattle.afdx_conform.specs.Histories.{AreEvents}
 use Rattle.afdx_conform.specs.LeewayOf.{leeway_of}
 use Rattle.afdx_conform.specs.Levels.{first_levels}
 use Rattle.afdx_conform.specs.Limits.{gone_of}
 use Rattle.afdx_conform.specs.Marks.{IsJudged, arrival_of, marked_all}
-use Rattle.afdx_conform.specs.States.{Event, State, arrivals_came, first_states}
+use Rattle.afdx_conform.specs.States.{Event, first_states}
 use Rattle.afdx_conform.specs.Streams.{Gone, Terms}
 use Rattle.afdx_conform.specs.declared.arrived.Arrived.{Arrived}
 use Rattle.afdx_conform.specs.declared.bounds.Bounds.{Bounds}
@@ -44,6 +41,7 @@ module _ (z : Terms) (xs : List Arrival) (ys : List Gone) (cut : ℕ) (over : Li
       unread = subst (λ (l : List Frame). FitNone z (map gone_of l) gone) (sym s.frames) k.unread;
       last = s.last ∙ k.last;
       found = s.found ∙ k.found;
+      arrivals = s.came ∙ k.arrivals;
       frames = s.left ∙ k.frames;
       cut_off = s.cut ∙ k.cut_off;
       started = s.started ∙ k.started;
@@ -107,10 +105,10 @@ no-length (x ∷ xs) e = absurd (omega (arith, e))
 
 pub after-none : (z : Terms) (g : Growth) → AreBounds z g.bounds → z.by ≡ leeway_of g.by → g.arrivals.items ≡ []
     → g.frames.items ≡ [] → g.judging.marks.items ≡ [] → g.judging.uncertain ≡ 0 → g.judging.is_unsure ≡ false → g.closed ≡ 0
-    → g.last ≡ from_time z.by.start → g.is_started ≡ false → g.left ≡ 0 → g.cut ≡ 0 → g.found ≡ 0 → g.unsure ≡ None
+    → g.last ≡ from_time z.by.start → g.is_started ≡ false → g.came ≡ 0 → g.left ≡ 0 → g.cut ≡ 0 → g.found ≡ 0 → g.unsure ≡ None
     → IsAfter z [] [] 0 [] g
 unfolding judged_after sound_events AreEvents GoUp
-after-none z g bounds by arrivals frames marks uncertain sure closed last started left cut found tag = record {
+after-none z g bounds by arrivals frames marks uncertain sure closed last started came left cut found tag = record {
   bounds = bounds;
   by = by;
   told = record { came = tt; left = tt; start = tt; begun = tt };
@@ -129,6 +127,7 @@ after-none z g bounds by arrivals frames marks uncertain sure closed last starte
       unread = subst (λ (l : List Frame). FitNone z (map gone_of l) []) (sym frames) tt;
       last = last;
       found = found;
+      arrivals = came;
       frames = left;
       cut_off = cut;
       started = started;
@@ -161,6 +160,7 @@ module _ (z : Terms) (xs : List Arrival) (ys : List Gone) (cut : ℕ) (g : Growt
     unread = k.unread;
     last = k.last;
     found = k.found;
+    arrivals = k.arrivals;
     frames = k.frames;
     cut_off = k.cut_off;
     started = k.started;

@@ -34,6 +34,7 @@ pub mod HistoryLemmas
 pub mod OverLemmas
 pub mod GrowthLemmas
 pub mod DueLemmas
+pub mod UndecidedLemmas
 pub mod GrowthFrames
 pub mod GrowthStarts
 pub mod LoopLemmas
@@ -42,6 +43,9 @@ pub mod GrowthCloses
 pub mod GrowthNext
 pub mod StandingLemmas
 pub mod StandingDecides
+pub mod StandingSteps
+pub mod StandingEnds
+pub mod EndSoundLemmas
 pub mod EveryLemmas
 pub mod EventLemmas
 pub mod LaterStates
@@ -61,3 +65,4 @@ pub mod CuttingLemmas
 pub mod EndingLemmas
 pub mod EndDueLemmas
 pub mod CountLemmas
+pub mod DueNowLemmas

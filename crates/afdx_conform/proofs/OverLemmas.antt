@@ -1,23 +1,20 @@
 -- What comes later is far behind the events that are over; these go by time.
-use Rattle.std.proofs.Common.{◌≡◌, ℕ, zero, suc, ◌+◌, ◌<◌, ◌≤◌, Bool, true, false, List, [], ◌∷◌, ◌++◌, map, reverse, drop, length, refl, sym, ap, ◌∙◌, subst, arith}
-use Rattle.std.proofs.lemmas.Bool.{lt-ltb, le-ltb, ltb-true, ltb-false}
-use Rattle.std.proofs.lemmas.List.{append_assoc, reverse-append, reverse-reverse}
-use Rattle.std.specs.Prelude.{if◌then◌else◌, Option, Some, None, nat_lt}
+use Rattle.std.proofs.Common.{◌≡◌, ℕ, zero, suc, ◌+◌, ◌<◌, ◌≤◌, true, false, List, [], ◌∷◌, drop, length, refl, sym, subst, arith}
+use Rattle.std.proofs.lemmas.Bool.{lt-ltb, le-ltb}
+use Rattle.std.specs.Prelude.{Option, Some, None, nat_lt}
 use Rattle.std.specs.List.{AllByRecursion}
 use Rattle.afdx_police.specs.Arrival.{Arrival}
-use Rattle.afdx_conform.specs.Events.{GoUp, arrival_times, closes_before, closings_in, event_time, events_of, frame_times, judged_whole, moment_at}
+use Rattle.afdx_conform.specs.Events.{GoUp, closings_in, event_time, moment_at}
 use Rattle.afdx_conform.specs.Explanations.{from_time}
-use Rattle.afdx_conform.specs.Findings.{Judged, Marked, came_to, closed_to, judged_after}
 use Rattle.afdx_conform.specs.Growing.{AreTold, IsKnownBy}
-use Rattle.afdx_conform.specs.Histories.{AreEvents, AreOver, coming, judged_by, next_of, unclosed}
+use Rattle.afdx_conform.specs.Histories.{AreEvents, AreOver, coming, next_of, unclosed}
 use Rattle.afdx_conform.specs.Later.{AreFar, ComeLater}
 use Rattle.afdx_conform.specs.Leeway.{both_slacks}
 use Rattle.afdx_conform.specs.States.{Event, Came, Closing, arrivals_came}
 use Rattle.afdx_conform.specs.Streams.{Gone, Terms, fits, is_begun, is_begun_by, is_open, latency}
 use Rattle.afdx_conform.proofs.AheadLemmas.{too-late}
-use Rattle.afdx_conform.proofs.EventLemmas.{came-all}
-use Rattle.afdx_conform.proofs.EveryLemmas.{every-map, every-on, every-unmap, reverse-first}
-use Rattle.afdx_conform.proofs.HistoryLemmas.{came-within, drop-less, drop-next, every-drop, events-so-far, next-came, next-closing}
+use Rattle.afdx_conform.proofs.EveryLemmas.{every-on}
+use Rattle.afdx_conform.proofs.HistoryLemmas.{every-drop, next-came, next-closing}
 
 module _ (z : Terms) where
   -- ---- far behind what is over

@@ -1,22 +1,22 @@
 -- What a stream stands for once its next event is over.
-use Rattle.std.proofs.Common.{◌≡◌, ℕ, zero, suc, ◌+◌, ◌-◌, ◌<◌, ◌≤◌, Bool, true, false, List, [], ◌∷◌, ◌++◌, map, drop, length, refl, sym, ap, ◌∙◌, subst, arith}
+use Rattle.std.proofs.Common.{◌≡◌, ℕ, zero, suc, ◌+◌, ◌≤◌, Bool, true, false, List, [], ◌∷◌, ◌++◌, map, drop, length, refl, sym, ap, ◌∙◌, subst, arith}
 use Rattle.std.proofs.lemmas.Bool.{ltb-true, ltb-false}
-use Rattle.std.specs.Prelude.{if◌then◌else◌, nat_lt, Option, Some, None, option_map}
-use Rattle.std.specs.List.{AllByRecursion}
+use Rattle.std.proofs.lemmas.List.{length-append}
+use Rattle.std.specs.Prelude.{if◌then◌else◌, Option, Some, None, option_map}
 use Rattle.afdx_police.specs.Arrival.{Arrival}
 use Rattle.afdx_conform.specs.Events.{GoUp, arrival_times, closes_before, closings_in, event_time, frame_times, moment_at}
 use Rattle.afdx_conform.specs.Explanations.{last_time}
-use Rattle.afdx_conform.specs.Findings.{Finding, Judged, Marked, closed_to, came_to, judged_after, sound_events}
+use Rattle.afdx_conform.specs.Findings.{Finding, Marked, judged_after, sound_events}
 use Rattle.afdx_conform.specs.Growing.{AreTold, Decides, IsAfter, IsNoSooner, due_by, due_in}
-use Rattle.afdx_conform.specs.Histories.{AreEvents, coming, judged_by, next_of, shown, time_of, unclosed}
+use Rattle.afdx_conform.specs.Histories.{coming, judged_by, next_of, shown, time_of, unclosed}
 use Rattle.afdx_conform.specs.Judging.{AreFound}
 use Rattle.afdx_conform.specs.Leeway.{both_slacks}
 use Rattle.afdx_conform.specs.Standing.{Finds}
 use Rattle.afdx_conform.specs.States.{Event, Came, Closing, arrivals_came}
-use Rattle.afdx_conform.specs.Streams.{Gone, Terms, latency}
+use Rattle.afdx_conform.specs.Streams.{Gone, Terms}
 use Rattle.afdx_conform.specs.declared.growth.Growth.{Growth}
 use Rattle.afdx_conform.proofs.GrowthCloses.{closed-unsure}
-use Rattle.afdx_conform.proofs.GrowthDecides.{IsLast, came-last}
+use Rattle.afdx_conform.proofs.GrowthDecides.{came-last}
 use Rattle.afdx_conform.proofs.GrowthLemmas.{true-false}
 use Rattle.afdx_conform.proofs.GrowthNext.{due-next, next-held}
 use Rattle.afdx_conform.proofs.HistoryLemmas.{drop-next, next-came, next-closing}
@@ -111,3 +111,112 @@ module _ (z : Terms) where
       (sym (drop-next (length (closings_in over)) ys first.0 first.1 first.2)) ∙ there) in
       let same = first.3 in
       omega (arith, le, same)
+
+-- ---- the last of a list
+
+cons-rest : {X : Type 0} (x w : X) (xs ws : List X) → x ∷ xs ≡ w ∷ ws → xs ≡ ws
+cons-rest x w xs ws e = cc
+
+last-same : {X : Type 0} (xs ws : List X) (x w : X) → xs ++ (x ∷ []) ≡ ws ++ (w ∷ []) → x ≡ w
+last-same [] [] x w e = cc
+last-same {X = X} [] (v ∷ ws) x w e =
+    let n = ap (λ (l : List X). length l) e in
+    let k = length-append ws (w ∷ []) in
+    absurd (omega (arith, n, k))
+last-same {X = X} (v ∷ xs) [] x w e =
+    let n = ap (λ (l : List X). length l) e in
+    let k = length-append xs (x ∷ []) in
+    absurd (omega (arith, n, k))
+last-same (v ∷ xs) (u ∷ ws) x w e = last-same xs ws x w (cons-rest v u (xs ++ (x ∷ [])) (ws ++ (w ∷ [])) e)
+
+-- ---- what is due
+
+pub due-sure : (s : Growth) (moment : ℕ) → due_by s ≡ Some moment → s.judging.is_unsure ≡ false
+unfolding due_by
+due-sure s moment h = by s.judging.is_unsure refl h
+  where
+    by : (b : Bool) → s.judging.is_unsure ≡ b → (if b then None else due_in s.bounds.limits
+        (drop (length s.judging.marks.items) s.arrivals.items) (drop s.closed s.frames.items)) ≡ Some moment
+        → s.judging.is_unsure ≡ false
+    by true e k = absurd (cc)
+    by false e k = e
+
+due-unsure : (s : Growth) → s.judging.is_unsure ≡ true → due_by s ≡ None
+unfolding due_by
+due-unsure s e = ap (λ (b : Bool). if b then None else due_in s.bounds.limits
+    (drop (length s.judging.marks.items) s.arrivals.items) (drop s.closed s.frames.items)) e
+
+module _ (z : Terms) where
+  abbrev MomentOf : Event → ℕ
+  MomentOf e = moment_at z (event_time z e)
+
+  pub due-is : (xs : List Arrival) (ys : List Gone) (cut : ℕ) (over : List Event) (s : Growth) → IsAfter z xs ys cut over s
+      → s.judging.is_unsure ≡ false → due_by s ≡ option_map MomentOf (next_of z (coming xs over) (unclosed ys over))
+  unfolding due_by
+  due-is xs ys cut over s f sure =
+      let h = f.sure sure in
+      ap (λ (b : Bool). if b then None else due_in s.bounds.limits
+      (drop (length s.judging.marks.items) s.arrivals.items) (drop s.closed s.frames.items)) sure
+      ∙ due-next z s.bounds.limits (drop (length s.judging.marks.items) s.arrivals.items) (drop s.closed s.frames.items)
+      f.bounds.limits
+      ∙ ap (λ (o : Option Event). option_map MomentOf o) (sym (next-held z xs ys cut over h.gone h.past s h.kept))
+
+  event-due : (o : Option Event) (moment : ℕ) → option_map MomentOf o ≡ Some moment
+      → (e : Event) × (o ≡ Some e) × (MomentOf e ≡ moment)
+  event-due None moment h = absurd (cc)
+  event-due (Some e) moment h = (e, refl, cc)
+
+  -- the next event, by what is due
+  pub next-due : (xs : List Arrival) (ys : List Gone) (cut : ℕ) (over : List Event) (s : Growth) (moment : ℕ)
+      → IsAfter z xs ys cut over s → due_by s ≡ Some moment
+      → (e : Event) × (next_of z (coming xs over) (unclosed ys over) ≡ Some e) × (MomentOf e ≡ moment)
+  next-due xs ys cut over s moment f due =
+      event-due (next_of z (coming xs over) (unclosed ys over)) moment
+      (sym (due-is xs ys cut over s f (due-sure s moment due)) ∙ due)
+
+  later-of : (moment : ℕ) (o : Option Event) → ((n : Event) → o ≡ Some n → moment ≤ MomentOf n)
+      → IsNoSooner moment (option_map MomentOf o)
+  later-of moment None h = tt
+  later-of moment (Some n) h = h n refl
+
+  module _ (xs : List Arrival) (ys : List Gone) (cut : ℕ) (over : List Event) (e : Event) (moment : ℕ) (new : Growth)
+      (found : List Finding) (told : AreTold z xs ys)
+      (next : next_of z (coming xs over) (unclosed ys over) ≡ Some e) (is : MomentOf e ≡ moment)
+      (sure : (judged_by z xs ys over).is_unsure ≡ false) (d : Decides z xs ys cut over new e found) where
+    later-due : IsNoSooner moment (due_by new)
+    later-due = by new.judging.is_unsure refl
+      where
+        by : (b : Bool) → new.judging.is_unsure ≡ b → IsNoSooner moment (due_by new)
+        by true u = subst (λ (o : Option ℕ). IsNoSooner moment o) (sym (due-unsure new u)) tt
+        by false u =
+            subst (λ (o : Option ℕ). IsNoSooner moment o) (sym (due-is xs ys cut (e ∷ over) new d.0 u))
+            (later-of moment (next_of z (coming xs (e ∷ over)) (unclosed ys (e ∷ over)))
+            (λ n h. (let le = in-order z xs ys over e n told next h in omega (arith, le, is))))
+
+    time-is : event_time z e ≡ time_of z moment
+    time-is = omega (arith, is)
+
+    newest-of : (v : Event) → next_of z (coming xs over) (unclosed ys over) ≡ Some v
+        → (judged_by z xs ys (v ∷ over)).is_unsure ≡ true → (m : Marked) (more : List Marked)
+        → (judged_by z xs ys (v ∷ over)).arrivals ≡ more ++ (m ∷ []) → m.arrival.time ≡ event_time z v
+    unfolding judged_after
+    newest-of (Closing t) here un m more at =
+        absurd (true-false un (closed-unsure z t (judged_by z xs ys over) ∙ sure))
+    newest-of (Came x) here un m more at =
+        let first = next-came z (coming xs over) (unclosed ys over) x here in
+        let same = ap (λ (l : List Arrival). x ∷ l) (drop-next (length (arrivals_came over)) xs x first.0 first.1) ∙ sym first.1 in
+        let newest = came-last z (coming xs (Came x ∷ over)) (last_time z.by (arrivals_came (sound_events z over))) x
+        (judged_after z ys (x ∷ coming xs (Came x ∷ over)) over)
+        (ap (λ (l : List Arrival). (judged_after z ys l over).is_unsure) same ∙ sure) in
+        ap (λ (v : Marked). v.arrival.time) (last-same more newest.before m newest.one (sym at ∙ newest.is))
+        ∙ ap (λ (v : Arrival). v.time) newest.arrival
+
+    pub finds : Finds z moment found (shown (judged_by z xs ys over)) (shown (judged_by z xs ys (e ∷ over))) (due_by new)
+    finds = record {
+      is_moment = omega (arith, is);
+      are_found = subst (λ (t : ℕ). AreFound t found (shown (judged_by z xs ys over)) (shown (judged_by z xs ys (e ∷ over)))) time-is
+          (record { findings = d.1.findings; frames = d.1.frames });
+      later = later-due;
+      sure = sure;
+      unsure = λ un m more at. newest-of e next un m more at ∙ time-is;
+    }

@@ -1,30 +1,21 @@
 -- What a stream stands for, whatever the end will be.
-use Rattle.std.proofs.Common.{◌≡◌, ℕ, zero, suc, ◌+◌, ◌-◌, ◌<◌, ◌≤◌, Bool, true, false, List, [], ◌∷◌, ◌++◌, map, reverse, drop, length, refl, sym, ap, ◌∙◌, subst, arith}
-use Rattle.std.proofs.lemmas.Bool.{lt-leb, ltb-true, ltb-false}
-use Rattle.std.specs.Prelude.{if◌then◌else◌, Option, Some, None, option_map, OnOk, OnErr, IfOk, Result, Ok, Err}
-use Rattle.std.specs.List.{AllByRecursion}
+use Rattle.std.proofs.Common.{◌≡◌, ℕ, ◌-◌, ◌≤◌, List, [], ◌∷◌, ◌++◌, length, refl, ap, ◌∙◌, arith}
+use Rattle.std.specs.Prelude.{OnOk, OnErr, Result, Ok, Err}
 use Rattle.afdx_police.specs.Arrival.{Arrival}
 use Rattle.afdx_conform.specs.Ahead.{NoneIsOpen, until_then}
-use Rattle.afdx_conform.specs.Events.{GoUp, arrival_times, closes_before, closings_in, event_time, frame_times, moment_at}
-use Rattle.afdx_conform.specs.Findings.{Finding, Judged, Marked, judged_after}
-use Rattle.afdx_conform.specs.Growing.{AreTold, IsAfter, IsKnownBy, IsNoSooner, IsSame, MayCome, MayLeave, due_by}
-use Rattle.afdx_conform.specs.Histories.{AreEvents, AreOver, coming, judged_by, next_of, shown, time_of, uncut, unclosed, unsure_in}
-use Rattle.afdx_conform.specs.Judging.{AreFound}
+use Rattle.afdx_conform.specs.Events.{event_time}
+use Rattle.afdx_conform.specs.Findings.{Judged}
+use Rattle.afdx_conform.specs.Growing.{IsAfter, IsSame, MayCome, MayLeave}
+use Rattle.afdx_conform.specs.Histories.{AreOver, coming, judged_by, next_of, shown, uncut}
 use Rattle.afdx_conform.specs.Marks.{IsJudged, arrival_of}
-use Rattle.afdx_conform.specs.Standing.{Finds, IsEnding, StandsFor, due_of}
-use Rattle.afdx_conform.specs.States.{Event, Came, Closing, arrivals_came}
-use Rattle.afdx_conform.specs.Streams.{Gone, Terms, is_open, latency}
-use Rattle.afdx_conform.specs.Leeway.{both_slacks}
+use Rattle.afdx_conform.specs.Standing.{IsEnding, StandsFor}
+use Rattle.afdx_conform.specs.States.{Event, Came, Closing}
+use Rattle.afdx_conform.specs.Streams.{Gone, Terms}
 use Rattle.afdx_conform.specs.declared.arrived.Arrived.{Arrived}
-use Rattle.afdx_conform.specs.declared.growth.Growth.{Growth}
 use Rattle.afdx_conform.specs.declared.streaming.Stream.{Stream}
-use Rattle.afdx_conform.proofs.GrowthCloses.{closed-unsure}
-use Rattle.afdx_conform.proofs.GrowthDecides.{came-last, IsLast}
 use Rattle.afdx_conform.proofs.GrowthFrames.{shown-late}
-use Rattle.afdx_conform.proofs.GrowthLemmas.{judged-came, true-false}
-use Rattle.afdx_conform.proofs.GrowthNext.{due-next, next-held}
+use Rattle.afdx_conform.proofs.GrowthLemmas.{judged-came}
 use Rattle.afdx_conform.proofs.GrowthStarts.{after-same}
-use Rattle.afdx_conform.proofs.HistoryLemmas.{drop-next, every-drop, next-came, next-closing}
 use Rattle.afdx_conform.proofs.LaterEnd.{end_later}
 use Rattle.afdx_conform.proofs.OverLemmas.{not-open}
 
@@ -76,60 +67,60 @@ judged-for z until a j = record { fault = j.fault; charged = λ e. record { char
 
 pub come-for : (z : Terms) (until : ℕ) (xs : List Arrival) (time : ℕ) (x : Arrival) → MayCome z xs time x
     → MayCome (until_then until z) xs time x
-come-for z until xs time x m = record { behind = m.behind; by_time = m.by_time; start = m.start }
+come-for z until xs time x m = record { behind = m.behind; by_time = m.by_time; start = m.start; few = m.few }
 
 pub leave-for : (z : Terms) (until : ℕ) (ys : List Gone) (time : ℕ) (y : Gone) → MayLeave z ys time y
     → MayLeave (until_then until z) ys time y
-leave-for z until ys time y m = record { behind = m.behind; by_time = m.by_time; start = m.start }
+leave-for z until ys time y m = record { behind = m.behind; by_time = m.by_time; start = m.start; few = m.few }
 
 module _ (z : Terms) (xs : List Arrival) (ys : List Gone) (j : Judged) (time : ℕ) (old new : Stream) (h : StandsFor z xs ys j time old)
-    where
-  pub stands-came : (a : Arrived) → IsJudged z a → MayCome z xs time (arrival_of a)
-      → ((until : ℕ) → time ≤ until → IsAfter (until_then until z) (xs ++ (arrival_of a ∷ [])) ys 0 h.over new.growth)
-      → StandsFor z (xs ++ (arrival_of a ∷ [])) ys j time new
-  stands-came a js m f = record {
-    over = h.over;
-    before = h.before;
-    is_after = f;
-    judged = λ until le.
-        ap (λ (k : Judged). shown k) (judged-came (until_then until z) xs ys 0 time h.over a old.growth old.growth.arrivals 0 m.behind
-        (over-until z until time h.over h.before) (h.is_after until le).events)
-        ∙ h.judged until le;
-  }
+  where
+    pub stands-came : (a : Arrived) → IsJudged z a → MayCome z xs time (arrival_of a)
+        → ((until : ℕ) → time ≤ until → IsAfter (until_then until z) (xs ++ (arrival_of a ∷ [])) ys 0 h.over new.growth)
+        → StandsFor z (xs ++ (arrival_of a ∷ [])) ys j time new
+    stands-came a js m f = record {
+      over = h.over;
+      before = h.before;
+      is_after = f;
+      judged = λ until le.
+          ap (λ (k : Judged). shown k) (judged-came (until_then until z) xs ys 0 time h.over a old.growth old.growth.arrivals 0 m.behind
+          (over-until z until time h.over h.before) (h.is_after until le).events)
+          ∙ h.judged until le;
+    }
 
-  pub stands-left : (y : Gone) → MayLeave z ys time y
-      → ((until : ℕ) → time ≤ until → IsAfter (until_then until z) xs (ys ++ (y ∷ [])) 0 h.over new.growth)
-      → StandsFor z xs (ys ++ (y ∷ [])) j time new
-  stands-left y m f = record {
-    over = h.over;
-    before = h.before;
-    is_after = f;
-    judged = λ until le.
-        shown-late (until_then until z) xs ys (y ∷ []) time h.over (h.is_after until le).told (h.is_after until le).events le
-        ((let b = m.behind in omega (arith, b)), tt) (over-until z until time h.over h.before)
-        ∙ h.judged until le;
-  }
+    pub stands-left : (y : Gone) → MayLeave z ys time y
+        → ((until : ℕ) → time ≤ until → IsAfter (until_then until z) xs (ys ++ (y ∷ [])) 0 h.over new.growth)
+        → StandsFor z xs (ys ++ (y ∷ [])) j time new
+    stands-left y m f = record {
+      over = h.over;
+      before = h.before;
+      is_after = f;
+      judged = λ until le.
+          shown-late (until_then until z) xs ys (y ∷ []) time h.over (h.is_after until le).told (h.is_after until le).events le
+          ((let b = m.behind in omega (arith, b)), tt) (over-until z until time h.over h.before)
+          ∙ h.judged until le;
+    }
 
-  pub stands-same : IsSame old.growth new.growth → StandsFor z xs ys j time new
-  stands-same s = record {
-    over = h.over;
-    before = h.before;
-    is_after = λ until le. after-same (until_then until z) xs ys 0 h.over old.growth new.growth s (h.is_after until le);
-    judged = h.judged;
-  }
+    pub stands-same : IsSame old.growth new.growth → StandsFor z xs ys j time new
+    stands-same s = record {
+      over = h.over;
+      before = h.before;
+      is_after = λ until le. after-same (until_then until z) xs ys 0 h.over old.growth new.growth s (h.is_after until le);
+      judged = h.judged;
+    }
 
-  over-later : (other : ℕ) (over : List Event) → time ≤ other → AreOver z time over → AreOver z other over
-  unfolding AreOver
-  over-later other [] le o = tt
-  over-later other (e ∷ before) le o = (let lt = o.0 in omega (arith, lt, le), over-later other before le o.1)
+    over-later : (other : ℕ) (over : List Event) → time ≤ other → AreOver z time over → AreOver z other over
+    unfolding AreOver
+    over-later other [] le o = tt
+    over-later other (e ∷ before) le o = (let lt = o.0 in omega (arith, lt, le), over-later other before le o.1)
 
-  pub stands-later : (other : ℕ) → time ≤ other → StandsFor z xs ys j other old
-  stands-later other le = record {
-    over = h.over;
-    before = over-later other h.over le h.before;
-    is_after = λ until more. h.is_after until (omega (arith, le, more));
-    judged = λ until more. h.judged until (omega (arith, le, more));
-  }
+    pub stands-later : (other : ℕ) → time ≤ other → StandsFor z xs ys j other old
+    stands-later other le = record {
+      over = h.over;
+      before = over-later other h.over le h.before;
+      is_after = λ until more. h.is_after until (omega (arith, le, more));
+      judged = λ until more. h.judged until (omega (arith, le, more));
+    }
 
 pub ending-same : (z : Terms) (xs : List Arrival) (ys : List Gone) (j : Judged) (old new : Stream) → IsEnding z xs ys j old
     → IsSame old.growth new.growth → IsEnding z xs ys j new

@@ -8,10 +8,10 @@ use Rattle.afdx_conform.specs.Accounts.{AreRates}
 use Rattle.afdx_conform.specs.Bounds.{AreBounds}
 use Rattle.afdx_conform.specs.Events.{GoUp, arrival_times, closings_in, event_time, frame_times, moment_at}
 use Rattle.afdx_conform.specs.Explanations.{from_time, last_time}
-use Rattle.afdx_conform.specs.Findings.{Finding, Judged, Marked, judged_after, sound_events}
+use Rattle.afdx_conform.specs.Findings.{Finding, Judged, Marked, sound_events}
 use Rattle.afdx_conform.specs.Forgetting.{FitNone, with_gone}
 use Rattle.afdx_conform.specs.HeldStates.{IsWithin}
-use Rattle.afdx_conform.specs.Histories.{AreEvents, AreOver, judged_by, unsure_in}
+use Rattle.afdx_conform.specs.Histories.{AreEvents, judged_by, unsure_in}
 use Rattle.afdx_conform.specs.Judging as judging
 use Rattle.afdx_conform.specs.Leeway.{both_slacks}
 use Rattle.afdx_conform.specs.LeewayOf.{leeway_of}
@@ -19,7 +19,7 @@ use Rattle.afdx_conform.specs.Limits.{gone_of}
 use Rattle.afdx_conform.specs.Marks.{IsJudged, arrival_of}
 use Rattle.afdx_conform.specs.Ranges.{most_held}
 use Rattle.afdx_conform.specs.States.{Event, arrivals_came}
-use Rattle.afdx_conform.specs.Streams.{Gone, Terms, fits, latency}
+use Rattle.afdx_conform.specs.Streams.{Gone, Terms}
 use Rattle.afdx_conform.specs.declared.arrived.Arrived.{Arrived}
 use Rattle.afdx_conform.specs.declared.growth.Growth.{Growth}
 use Rattle.afdx_conform.specs.declared.limits.Frame.{Frame}
@@ -56,6 +56,7 @@ pub record IsSame (before after : Growth) : Type 0 where
   pub closed : after.closed ≡ before.closed
   pub last : after.last ≡ before.last
   pub started : after.is_started ≡ before.is_started
+  pub came : after.came ≡ before.came
   pub left : after.left ≡ before.left
   pub cut : after.cut ≡ before.cut
   pub found : after.found ≡ before.found
@@ -83,8 +84,8 @@ due_by s = if s.judging.is_unsure then None
 -- how many events are told and aren't over
 unfoldable pub undecided_by : Growth → ℕ
 undecided_by s = if s.judging.is_unsure then 0
-    else length (drop (length s.judging.marks.items) s.arrivals.items)
-    + length (drop s.closed s.frames.items)
+    else (length s.arrivals.items - length s.judging.marks.items)
+    + (length s.frames.items - s.closed)
 
 -- ---- what it stands for
 
@@ -112,6 +113,7 @@ pub record IsKept (z : Terms) (xs : List Arrival) (ys : List Gone) (cut : ℕ) (
   pub unread : FitNone z (map gone_of s.frames.items) gone
   pub last : s.last ≡ last_time z.by (arrivals_came (sound_events z over))
   pub found : s.found ≡ min (judged_by z xs ys over).frames most_found
+  pub arrivals : s.came ≡ length xs
   pub frames : s.left ≡ length ys
   pub cut_off : s.cut ≡ cut
   -- before the first event its states aren't known
@@ -169,17 +171,21 @@ Decides z xs ys cut over s e found = IsAfter z xs ys cut (e ∷ over) s
 
 -- ---- what may come
 
--- an arrival no earlier than those before it, than the start and than this time
+-- an arrival no earlier than those before it, which aren't too many, than the start and than this
+-- time
 pub record MayCome (z : Terms) (xs : List Arrival) (time : ℕ) (x : Arrival) : Type 0 where
   pub behind : time ≤ x.time
   pub by_time : AllByRecursion (λ w. w.time ≤ x.time) xs
   pub start : from_time z.by.start ≤ x.time
+  pub few : length xs + 1 < most_held
 
--- a frame no earlier than those before it, than the start, but for the slacks, and than this time
+-- a frame no earlier than those before it, which aren't too many, than the start, but for the
+-- slacks, and than this time
 pub record MayLeave (z : Terms) (ys : List Gone) (time : ℕ) (y : Gone) : Type 0 where
   pub behind : time ≤ y.time
   pub by_time : AllByRecursion (λ w. w.time ≤ y.time) ys
   pub start : from_time z.by.start ≤ y.time + both_slacks z.by
+  pub few : length ys + 1 < most_held
 
 -- ---- what is due
 

@@ -1,7 +1,7 @@
 -- How far a stream is judged while its arrivals and frames come. Lists of them have the oldest
 -- first, those of events the newest.
-use Rattle.std.specs.Prelude.{◌≡◌, ℕ, ◌+◌, ◌-◌, ◌<◌, ◌≤◌, false, ⊤, min, nat_le, List, [], ◌∷◌, drop, length, reverse, Option, Some, None, option_map, if◌then◌else◌}
-use Rattle.std.specs.List.{AllByRecursion, filter}
+use Rattle.std.specs.Prelude.{◌≡◌, ℕ, ◌+◌, ◌-◌, ◌<◌, false, ⊤, min, nat_le, List, [], ◌∷◌, drop, length, Option, Some, None, if◌then◌else◌}
+use Rattle.std.specs.List.{filter}
 use Rattle.afdx_police.specs.Arrival.{Arrival}
 use Rattle.afdx_conform.specs.Events.{closes_before, closings_in, event_time, judged_whole, moment_at}
 use Rattle.afdx_conform.specs.Findings.{Judged, Marked, judged_after, judged_with, with_states}

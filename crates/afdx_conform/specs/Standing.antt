@@ -1,7 +1,8 @@
 -- What a stream stands for while its arrivals and frames come.
-use Rattle.std.specs.Prelude.{◌≡◌, ℕ, ◌-◌, ◌≤◌, true, false, List, [], ◌∷◌, ◌++◌, length, Option}
+use Rattle.std.specs.Prelude.{◌≡◌, ℕ, ◌+◌, ◌-◌, ◌≤◌, true, false, List, [], ◌∷◌, ◌++◌, length, Option}
 use Rattle.afdx_police.specs.Arrival.{Arrival}
 use Rattle.afdx_conform.specs.Ahead.{until_then}
+use Rattle.afdx_conform.specs.Events.{moment_at}
 use Rattle.afdx_conform.specs.Findings.{Finding, Judged, Marked}
 use Rattle.afdx_conform.specs.Growing.{IsAfter, IsNoSooner, due_by, undecided_by}
 use Rattle.afdx_conform.specs.Histories.{AreOver, judged_by, shown, time_of, uncut}
@@ -17,6 +18,10 @@ due_of s = due_by s.growth
 -- how many events it was told that aren't over
 abbrev pub undecided_in : Stream → ℕ
 undecided_in s = undecided_by s.growth
+
+-- how many arrivals and frames it holds
+abbrev pub held_in : Stream → ℕ
+held_in s = length s.growth.arrivals.items + length s.growth.frames.items
 
 -- before the end is known: these arrivals and frames were told, oldest first, the moment of each
 -- event that is over lies before `time`, and so far this is judged, whatever the end will be from
@@ -40,6 +45,7 @@ pub record IsEnding (z : Terms) (xs : List Arrival) (ys : List Gone) (j : Judged
 -- is unsure from there on, the arrival behind which it is is the event's own
 pub record Finds (z : Terms) (moment : ℕ) (found : List Finding) (before after : Judged)
     (due : Option ℕ) : Type 0 where
+  pub is_moment : moment_at z (time_of z moment) ≡ moment
   pub are_found : AreFound (time_of z moment) found before after
   pub later : IsNoSooner moment due
   pub sure : before.is_unsure ≡ false

@@ -8,7 +8,7 @@ ghost use Rattle.afdx_conform.specs.Histories.{coming, next_of, unclosed};
 ghost use Rattle.afdx_conform.specs.Limits.{AreLimits};
 ghost use Rattle.afdx_conform.specs.Marks.{arrival_of};
 ghost use Rattle.afdx_conform.specs.Growing.{Decides, IsAfter, IsKnownBy, IsReady, IsSame};
-ghost use Rattle.afdx_conform.specs.Growing.{IsSound, most_found};
+ghost use Rattle.afdx_conform.specs.Growing.{IsSound, due_by, most_found, undecided_by};
 ghost use Rattle.afdx_conform.specs.States.{Event, Came, Closing};
 ghost use Rattle.afdx_conform.specs.Streams.{Gone, Terms, is_open};
 
@@ -107,6 +107,8 @@ impl Growth {
             IsKnownBy z end (Came (arrival_of a)) → IsReady z xs ys cut over self.old →
             IfOk result (λ found.
             Decides z xs ys cut over self.new (Came (arrival_of a)) found.items) }
+        ensures less { self.old.judging.is_unsure ≡ false →
+            OnOk result (undecided_by self.new < undecided_by self.old) }
         ensures refused { OnErr result (IsSame self.old self.new) }
     {
         let arrived = &self.arrivals[self.judging.marks.len()];
@@ -143,6 +145,8 @@ impl Growth {
             IsReady z xs ys cut over self.old →
             IfOk result (λ found.
             Decides z xs ys cut over self.new (Closing f.time) found.items) }
+        ensures less { self.old.judging.is_unsure ≡ false →
+            OnOk result (undecided_by self.new < undecided_by self.old) }
         ensures refused { OnErr result (IsSame self.old self.new) }
     {
         let time = self.frames[self.closed].time;
@@ -176,6 +180,8 @@ impl Growth {
             next_of z (coming xs over) (unclosed ys over) ≡ Some e → IsKnownBy z end e →
             IsAfter z xs ys cut over self.old →
             IfOk result (λ found. Decides z xs ys cut over self.new e found.items) }
+        ensures less { (moment : ℕ) → due_by self.old ≡ Some moment →
+            OnOk result (undecided_by self.new < undecided_by self.old) }
         ensures refused { OnErr result (IsSame self.old self.new) }
     {
         if self.judging.is_unsure {

@@ -1,11 +1,11 @@
 //! The end of a stream: what is cut off there, and what is counted.
 
 ghost use Rattle.std.specs.Prelude.{◌≡◌, [], if◌then◌else◌, ◌≤◌, ◌<◌, ◌+◌, ◌-◌, ℕ, List, IsTrue, ◌↔◌, length, map};
-ghost use Rattle.std.specs.Prelude.{get_or, None, ◌⊎◌};
+ghost use Rattle.std.specs.Prelude.{get_or, true, None, ◌⊎◌};
 ghost use Rattle.std.specs.List.{AllByRecursion};
 ghost use Rattle.afdx_police.specs.Arrival.{Arrival};
 ghost use Rattle.afdx_conform.specs.HeldStates.{state_of};
-ghost use Rattle.afdx_conform.specs.Histories.{AreOver, coming, counts_by, judged_by};
+ghost use Rattle.afdx_conform.specs.Histories.{AreOver, coming, counts_by, counts_with, judged_by};
 ghost use Rattle.afdx_conform.specs.Histories.{least_waiting as least_of, next_of, uncut, unclosed};
 ghost use Rattle.afdx_conform.specs.Growing.{IsAfter, IsDueLater, IsSound, due_by};
 ghost use Rattle.afdx_conform.specs.States.{Event};
@@ -96,7 +96,8 @@ impl Growth {
     /// What is counted of it once its events are over: of an unsure one nothing.
     pub(crate) fn counts(&self) -> Counts
         requires { IsSound self.now }
-        ensures { (z : Terms) (xs : List Arrival) (ys : List Gone) (cut : ℕ)
+        ensures unsure { self.now.judging.is_unsure ≡ true → result ≡ counts_with 0 0 0 }
+        ensures counted { (z : Terms) (xs : List Arrival) (ys : List Gone) (cut : ℕ)
             (over : List Event) → next_of z (coming xs over) (unclosed ys over) ≡ None →
             IsAfter z xs ys cut over self.now →
             result ≡ counts_by (length ys) cut (judged_by z xs ys over) }

@@ -5,7 +5,7 @@ ghost use Rattle.std.specs.Prelude.{drop, length, map, false};
 ghost use Rattle.afdx_police.specs.Arrival.{Arrival};
 ghost use Rattle.afdx_conform.specs.HeldStates.{past};
 ghost use Rattle.afdx_conform.specs.Histories.{AreOver};
-ghost use Rattle.afdx_conform.specs.Growing.{IsAfter, IsSound, due_by};
+ghost use Rattle.afdx_conform.specs.Growing.{IsAfter, IsSound, due_by, undecided_by};
 ghost use Rattle.afdx_conform.specs.States.{Event};
 ghost use Rattle.afdx_conform.specs.Streams.{Gone, Terms};
 
@@ -69,6 +69,7 @@ impl Growth {
             (over : List Event) → IsAfter z xs ys cut over self.old →
             IsAfter z xs ys cut over self.new }
         ensures due { due_by self.new ≡ due_by self.old }
+        ensures undecided { undecided_by self.new ≡ undecided_by self.old }
     {
         let count = passed_by_all(self.judging.held.as_slice(), self.closed);
         if count == 0 || count < self.frames.len() - count {
@@ -87,6 +88,7 @@ impl Growth {
             (over : List Event) → IsAfter z xs ys cut over self.old →
             IsAfter z xs ys cut over self.new }
         ensures due { due_by self.new ≡ due_by self.old }
+        ensures undecided { undecided_by self.new ≡ undecided_by self.old }
     {
         let count = self.arrivals.len().div_ceil(2);
         if count == 0 || count > self.judging.marks.len() {
@@ -113,6 +115,7 @@ impl Growth {
             (over : List Event) → IsAfter z xs ys cut over self.old →
             IsAfter z xs ys cut over self.new }
         ensures due { due_by self.new ≡ due_by self.old }
+        ensures undecided { undecided_by self.new ≡ undecided_by self.old }
     {
         self.forget_frames();
         self.forget_arrivals();

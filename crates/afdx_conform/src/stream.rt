@@ -6,7 +6,7 @@ ghost use Rattle.afdx_frame.specs.Regulation.{Regulation};
 ghost use Rattle.afdx_conform.specs.Accounts.{AreRates};
 ghost use Rattle.afdx_conform.specs.Bounds.{AreBounds};
 ghost use Rattle.afdx_conform.specs.Courses.{AreArrivals, AreFrames, Follows, IsSafe};
-ghost use Rattle.afdx_conform.specs.Explanations.{Explains, from_time};
+ghost use Rattle.afdx_conform.specs.Explanations.{Explains};
 ghost use Rattle.afdx_conform.specs.Headline.{sound_of};
 ghost use Rattle.afdx_conform.specs.Leeway.{Leeway as By};
 ghost use Rattle.afdx_conform.specs.LeewayOf.{leeway_of};
@@ -22,6 +22,7 @@ use crate::bounds::Bounds;
 use crate::course::{Course, close_to, closed_by, come};
 use crate::finding::Finding;
 use crate::first::first_held;
+use crate::growth::start_of;
 use crate::judging::Judging;
 use crate::leeway::Leeway;
 use crate::levels::Rates;
@@ -31,7 +32,7 @@ use afdx_frame::LATEST_LISTED;
 use std::alloc::{AllocError, Global};
 
 /// More arrivals, and frames, than are judged.
-const MOST_HELD: usize = 1 << 48;
+const MOST_HELD: usize = 1 << 56;
 
 /// What was found in a stream, in its order; of how many arrivals both answers were right; and
 /// whether there were more states than are kept, from where on nothing was judged.
@@ -40,16 +41,6 @@ pub struct Verdict {
     pub found: Vec<Finding>,
     pub uncertain: u64,
     pub is_unsure: bool,
-}
-
-/// From when on arrivals are known: the start, or the reset.
-fn start_of(by: &Leeway) -> u64
-    ensures { (z : Terms) → z.by ≡ leeway_of by.now → result ≡ from_time z.by.start }
-{
-    match by.start {
-        None => 0,
-        Some(start) => start,
-    }
 }
 
 /// Before the first event. Fails only out of memory.
@@ -199,7 +190,7 @@ fn finish(
 ///
 /// Nothing is found exactly where something explains the stream: where each frame may be of an
 /// arrival that the rule accepts, as far as the leeway lets tell, in order and in time, and of none
-/// that it accepts a frame is missing; unless there were more than 1,024 states, or 2^48 arrivals
+/// that it accepts a frame is missing; unless there were more than 1,024 states, or 2^56 arrivals
 /// or frames.
 pub fn judge_stream(
     alloc: Global,

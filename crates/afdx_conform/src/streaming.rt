@@ -39,7 +39,8 @@ impl Stream {
     ghost use Rattle.afdx_conform.specs.LeewayOf.{leeway_of};
     ghost use Rattle.afdx_conform.specs.Limits.{gone_of};
     ghost use Rattle.afdx_conform.specs.Marks.{IsJudged, arrival_of};
-    ghost use Rattle.afdx_conform.specs.Standing.{Finds, IsEnding, StandsFor, due_of, undecided_in};
+    ghost use Rattle.afdx_conform.specs.Standing.{Finds, IsEnding, StandsFor, due_of, held_in};
+    ghost use Rattle.afdx_conform.specs.Standing.{undecided_in};
     ghost use Rattle.afdx_conform.specs.Streams.{Gone, Terms};
 
     /// A stream of which nothing came, of a link of this rule and latency, at a port on whose line
@@ -47,9 +48,10 @@ impl Stream {
     pub fn new(alloc: Global, rule: &LinkRule, latency_ns: u64, byte_ns: u64, by: Leeway) -> Stream
         requires latency { latency_ns ≤ 1000 * greatest_delay }
         requires byte { byte_ns ≤ slowest_byte }
-        ensures { (z : Terms) (time : ℕ) → z.rule ≡ rule_of rule.now →
+        ensures stands { (z : Terms) (time : ℕ) → z.rule ≡ rule_of rule.now →
             z.latency_ns ≡ latency_ns → z.byte_ns ≡ byte_ns → z.by ≡ leeway_of by →
             StandsFor z [] [] nothing_judged time result }
+        ensures due { due_of result ≡ None }
     {
         let rates = Rates::new(rule, &by);
         let limits = Limits::new(latency_ns, byte_ns, &by);
@@ -58,7 +60,8 @@ impl Stream {
     }
 
     /// One more arrival came, of a time no earlier than that of any line before, nor than the
-    /// start. Fails only out of memory; then nothing has changed.
+    /// start. Of 2^56 arrivals or more nothing is judged any more. Fails only out of memory; then
+    /// nothing has changed.
     pub fn came(&mut self, arrived: Arrived) -> Result<(), AllocError>
         ensures stands { (z : Terms) (xs : List Arrival) (ys : List Gone) (j : Judged)
             (time : ℕ) → IsJudged z arrived → MayCome z xs time (arrival_of arrived) →
@@ -74,8 +77,8 @@ impl Stream {
         self.growth.add_arrival(arrived)
     }
 
-    /// One more frame left, at a time no earlier than that of any line before. Fails only out of
-    /// memory; then nothing has changed.
+    /// One more frame left, at a time no earlier than that of any line before. Of 2^56 frames or
+    /// more nothing is judged any more. Fails only out of memory; then nothing has changed.
     pub fn left(&mut self, frame: Frame) -> Result<(), AllocError>
         ensures stands { (z : Terms) (xs : List Arrival) (ys : List Gone) (j : Judged)
             (time : ℕ) → MayLeave z ys time (gone_of frame) → StandsFor z xs ys j time self.old →
@@ -165,10 +168,9 @@ impl Stream {
     }
 
     /// How many arrivals and frames it holds.
-    pub fn held(&self) -> usize {
-        self.growth
-            .arrivals
-            .len()
-            .saturating_add(self.growth.frames.len())
+    pub fn held(&self) -> usize
+        ensures { result ≡ held_in self.now }
+    {
+        self.growth.arrivals.len() + self.growth.frames.len()
     }
 }

@@ -22,6 +22,8 @@ mod fields;
 #[cfg(test)]
 mod frame;
 #[cfg(test)]
+mod growing;
+#[cfg(test)]
 mod lists;
 #[cfg(test)]
 mod police;

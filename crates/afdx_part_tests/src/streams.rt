@@ -1,6 +1,7 @@
 //! What is found in streams: of one link with frames of 64 bytes, a BAG of 1 ms, a jitter of 500 us
 //! and a latency of 17 us, at a port of 100 Mbit/s.
 
+use crate::growing::told_in_turn;
 use afdx_conform::{Arrived, Finding, Frame, Leeway, Strangeness, StreamTerms, judge_stream};
 use afdx_frame::{Policing, Side, VlId};
 use afdx_police::{LinkRule, Reason};
@@ -9,7 +10,7 @@ use std::alloc::{AllocError, Global};
 use std::test::Fail;
 
 /// A whole frame of link 1, with the message `hello`.
-const BYTES: [u8; 64] = [
+pub(super) const BYTES: [u8; 64] = [
     3, 0, 0, 0, 0, 1, 2, 0, 0, 0, 1, 32, 8, 0, 69, 0, 0, 33, 0, 0, 0, 0, 1, 17, 205, 234, 10, 0, 1,
     1, 224, 224, 0, 1, 3, 232, 3, 232, 0, 13, 0, 0, 104, 101, 108, 108, 111, 0, 0, 0, 0, 0, 0, 0,
     0, 0, 0, 0, 0, 0, 149, 23, 139, 81,
@@ -45,16 +46,21 @@ fn frames(alloc: Global, times: &[u32]) -> Result<Vec<Frame>, AllocError> {
 }
 
 /// A slack, a drift, an inner delay, the time until an account is asked, and a start.
-type Given = (u64, u64, u64, u64, Option<u64>);
+pub(super) type Given = (u64, u64, u64, u64, Option<u64>);
 
 /// What may be off, the end, when arrivals came and frames left, and what is found.
 type Row<'a> = (Given, u64, &'a [u32], &'a [u32], &'a [Finding]);
 
-/// Whether just this is found.
+/// Such a link.
+pub(super) fn link() -> Option<LinkRule> {
+    LinkRule::new(VlId(1), 1, 1, 64, 64, 500, Policing::Frame)
+}
+
+/// Whether just this is found, also where the lines come one after another.
 fn is_found(alloc: Global, row: &Row) -> Result<bool, AllocError> {
     let (given, until, came, left, wanted) = *row;
     let (slack, drift, inner, asked, start) = given;
-    let Some(rule) = LinkRule::new(VlId(1), 1, 1, 64, 64, 500, Policing::Frame) else {
+    let Some(rule) = link() else {
         return Ok(false);
     };
     let Some(by) = Leeway::new(slack, drift, inner, asked, start) else {
@@ -67,11 +73,14 @@ fn is_found(alloc: Global, row: &Row) -> Result<bool, AllocError> {
         by,
         until,
     };
-    let came = arrivals(alloc, &rule, came)?;
-    let left = frames(alloc, left)?;
-    let verdict = judge_stream(alloc, &terms, came.as_slice(), left.as_slice())?;
+    let arrivals = arrivals(alloc, &rule, came)?;
+    let frames = frames(alloc, left)?;
+    let verdict = judge_stream(alloc, &terms, arrivals.as_slice(), frames.as_slice())?;
     let found = verdict.found.iter().copied();
-    Ok(!verdict.is_unsure && found.eq(wanted.iter().copied()))
+    let is_whole = !verdict.is_unsure && found.eq(wanted.iter().copied());
+    let told = told_in_turn(alloc, &rule, terms.by, until, came, left)?;
+    let found = told.found.iter().copied();
+    Ok(is_whole && found.eq(wanted.iter().copied()))
 }
 
 /// The place of the first row that is otherwise.
@@ -84,7 +93,7 @@ fn otherwise_found(alloc: Global, rows: &[Row]) -> Result<Option<usize>, AllocEr
     Ok(None)
 }
 
-const EXACT: Given = (0, 0, 0, 0, None);
+pub(super) const EXACT: Given = (0, 0, 0, 0, None);
 
 #[test]
 fn with_exact_stamps(rt: HostRuntime) -> Result<(), Fail> {

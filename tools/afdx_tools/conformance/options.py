@@ -10,12 +10,11 @@ from afdx_tools.faults import Refused
 LATEST = 10**15
 OTHER = "other"  # frames that name no link
 AMOUNTS = {
-    "slack": (1_000_000, "NS", "with --conform: by how many ns a stamp may be off (0)"),
-    "drift": (1_000, "PPM", "with --conform: by how many millionths clocks may differ (0)"),
-    "inner": (1_000_000, "NS", "with --conform: what a frame may take inside beyond its latency "
-              "(0)"),
-    "asked": (1_000_000, "NS", "with --conform: by how much later the account may be asked (0)"),
-    "until": (LATEST, "NS", "with --conform: the end of the recordings (the latest time)"),
+    "slack": (1_000_000, "NS", "by how many ns a stamp may be off, with --conform (0)"),
+    "drift": (1_000, "PPM", "by how many millionths clocks may differ, with --conform (0)"),
+    "inner": (1_000_000, "NS", "what a frame may take beyond its latency, with --conform (0)"),
+    "asked": (1_000_000, "NS", "how much later the account may be asked, with --conform (0)"),
+    "until": (LATEST, "NS", "the end of the recordings, with --conform (the latest time)"),
 }  # fmt: skip
 # options of replays, which say nothing of a recorded switch, with what they are where not given
 OF_REPLAYS = {
@@ -41,12 +40,12 @@ def add_conform_words(parser: argparse.ArgumentParser) -> None:
     """Teaches a parser --conform, and the options of `afdx conform`."""
     add = parser.add_argument
     add("--conform", action="store_true",
-        help="report on a recorded switch: CONFIG CAME LEFT and all options as of afdx conform")
+        help="report on a recorded switch; CONFIG CAME LEFT and options as of afdx conform")
     for name, (most, what, words) in AMOUNTS.items():
         add(f"--{name}", type=whole(0, most), metavar=what, help=words)
     add("--leave-out", type=vl_or_other, action="append", default=[], metavar="VL",
-        help="with --conform: a link that isn't judged, or other: frames of none; several times")
-    add("--switch", metavar="NAME", help="with --conform: which of several switches is judged")
+        help="a link that isn't judged, or other, with --conform; several times")
+    add("--switch", metavar="NAME", help="which of several switches is judged, with --conform")
 
 
 @dataclass(frozen=True)

@@ -15,7 +15,8 @@ loop-state-init c ys = refl
 
 pub loop-state-preserved : goal.loop-state-preserved
 loop-state-preserved c ys =
-    least-next no-held ys c.args.held.now c.loop-state.state-index (get_or c.args.held.now 0 no-held).waiting c.loop-state.least c.min-least.result
+    least-next no-held ys c.args.held.now c.loop-state.state-index
+    (get_or c.args.held.now 0 no-held).waiting c.loop-state.least c.min-least.result
     c.loop-state-test.true (c.loop-state.invariant ys) c.min-least.ensures
 
 pub returns : goal.returns

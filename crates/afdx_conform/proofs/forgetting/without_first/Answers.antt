@@ -1,4 +1,4 @@
-use Rattle.std.proofs.Common.{rules, ◌≡◌, ◌<◌, get_or, length}
+use Rattle.std.proofs.Common.{rules, ◌<◌, length}
 use Rattle.afdx_conform.proofs.LoopLemmas.{changed-next}
 use Rattle.afdx_conform.proofs.forgetting.without_first.Goals as goal
 

@@ -1,8 +1,7 @@
 use Rattle.std.proofs.Common.{rules, ◌≡◌, ℕ, ◌+◌, ◌<◌, ◌∷◌, List, get_or, length, map, sym, ap, ◌∙◌, subst, arith}
 use Rattle.std.specs.Prelude.{All, Some}
 use Rattle.afdx_conform.specs.Courses.{AreFrames}
-use Rattle.afdx_conform.specs.Findings.{closed_to}
-use Rattle.afdx_conform.specs.Growing.{IsAfter, IsSound}
+use Rattle.afdx_conform.specs.Growing.{IsAfter, IsSound, undecided_by}
 use Rattle.afdx_conform.specs.HeldStates.{AreClosed, IsWithin}
 use Rattle.afdx_conform.specs.Histories.{coming, judged_by, next_of, unclosed}
 use Rattle.afdx_conform.specs.Judging.{AreFound, StandsFor}
@@ -17,6 +16,7 @@ use Rattle.afdx_conform.proofs.CourseLemmas.{same-frame}
 use Rattle.afdx_conform.proofs.GrowthDecides.{forgot}
 use Rattle.afdx_conform.proofs.GrowthCloses.{Close, after-close, closed-of, frames-held}
 use Rattle.afdx_conform.proofs.StreamLemmas.{closes}
+use Rattle.afdx_conform.proofs.UndecidedLemmas.{undecided-less}
 use Rattle.afdx_conform.proofs.growth.Growth.close.Goals as goal
 
 pub forget-requires : goal.forget-requires
@@ -66,10 +66,20 @@ returns-clause-decides c z xs ys cut over f sure at next r =
     subst (λ (v : Frame). IsAfter z xs ys cut (Closing v.time ∷ over) c.forget.new.self
     × AreFound (v.time + both_slacks z.by) c.in_ok-found.found.items (judged_by z xs ys over)
     (judged_by z xs ys (Closing v.time ∷ over))) same
-    (forgot (c.forget.ensures.after z xs ys cut (Closing c.index.result.now.time ∷ over)) (subst (λ (s : Growth). IsAfter z xs ys cut (Closing c.index.result.now.time ∷ over) s
+    (forgot (c.forget.ensures.after z xs ys cut (Closing c.index.result.now.time ∷ over))
+    (subst (λ (s : Growth). IsAfter z xs ys cut (Closing c.index.result.now.time ∷ over) s
     × AreFound (c.index.result.now.time + both_slacks z.by) c.in_ok-found.found.items (judged_by z xs ys over)
     (judged_by z xs ys (Closing c.index.result.now.time ∷ over))) (sym (c.count.ensures
     ∙ ap (λ (l : List Finding). Close z xs ys cut over c.index.result.now c.args.self.now c.judge_closing.new.judging l)
     c.as_slice-4.ensures.value))
     (after-close z xs ys cut over c.index.result.now c.args.self.now c.judge_closing.new.judging c.in_ok-found.found.items
     r.gone r.past r.kept r.continues sure held out.1 c.in_ok-found.ensures.marks r.after next')))
+
+pub returns-clause-less : goal.returns-clause-less
+returns-clause-less c sure =
+    let marks = c.in_ok-found.ensures.marks in
+    let place = c.requires.place in
+    let less = subst (λ (s : Growth). undecided_by s < undecided_by c.args.self.now) (sym c.count.ensures)
+    (undecided-less c.args.self.now _ sure (omega (arith, marks, place))) in
+    let same = c.forget.ensures.undecided in
+    omega (arith, less, same)

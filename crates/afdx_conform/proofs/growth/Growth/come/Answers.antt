@@ -1,11 +1,11 @@
-use Rattle.std.proofs.Common.{rules, ◌≡◌, ℕ, ◌+◌, ◌-◌, ◌∷◌, List, get_or, length, sym, ap, ◌∙◌, subst, arith}
+use Rattle.std.proofs.Common.{rules, ◌≡◌, ℕ, ◌+◌, ◌-◌, ◌<◌, ◌∷◌, List, get_or, length, sym, ap, ◌∙◌, subst, arith}
 use Rattle.std.specs.Prelude.{All, Some}
 use Rattle.afdx_police.specs.Rule.{regulation_of}
 use Rattle.afdx_police.specs.RuleOf.{rule_of}
 use Rattle.afdx_conform.specs.Explanations.{last_time}
 use Rattle.afdx_conform.specs.Findings.{sound_events}
 use Rattle.afdx_conform.specs.declared.finding.Finding.{Finding}
-use Rattle.afdx_conform.specs.Growing.{IsAfter, IsKnownBy, IsSound}
+use Rattle.afdx_conform.specs.Growing.{IsAfter, IsKnownBy, IsSound, undecided_by}
 use Rattle.afdx_conform.specs.HeldStates.{IsWithin}
 use Rattle.afdx_conform.specs.Histories.{coming, judged_by, next_of, unclosed}
 use Rattle.afdx_conform.specs.Judging.{AreFound, StandsFor}
@@ -17,6 +17,7 @@ use Rattle.afdx_conform.specs.declared.growth.Growth.{Growth}
 use Rattle.afdx_conform.specs.declared.limits.Frame.{Frame}
 use Rattle.afdx_conform.proofs.CourseLemmas.{same-arrived}
 use Rattle.afdx_conform.proofs.GrowthDecides.{Come, forgot, after-come, outcome-of}
+use Rattle.afdx_conform.proofs.UndecidedLemmas.{undecided-less}
 use Rattle.afdx_conform.proofs.growth.Growth.come.Goals as goal
 
 pub judge_arrival-requires-clause-within : goal.judge_arrival-requires-clause-within
@@ -32,7 +33,8 @@ pub forget-requires : goal.forget-requires
 forget-requires c =
     let s = c.requires.sound in
     let marks = c.in_ok-found.ensures.marks in
-    let within = c.in_ok-found.ensures.within (regulation_of (rule_of c.args.self.now.rule)) (leeway_of c.args.self.now.by) (length c.args.self.now.judging.marks.items) s.rates
+    let within = c.in_ok-found.ensures.within (regulation_of (rule_of c.args.self.now.rule)) (leeway_of c.args.self.now.by)
+    (length c.args.self.now.judging.marks.items) s.rates
     (subst (λ (fs : List Frame). All (λ h. IsWithin c.args.self.now.bounds.rates (length fs)
     (length c.args.self.now.judging.marks.items) h) c.args.self.now.judging.held.items) (sym c.as_slice-2.ensures.value) s.within) in
     subst (λ (g : Growth). IsSound g) (sym c.count.ensures) (record {
@@ -76,7 +78,8 @@ returns-clause-decides c z xs ys cut over a sure at next known r =
     r.continues.j c.as_slice.result.now c.as_slice-2.result.now c.as_slice.ensures.value c.as_slice-2.ensures.value out in
     subst (λ (v : Arrived). IsAfter z xs ys cut (Came (arrival_of v) ∷ over) c.forget.new.self
     × AreFound v.time c.in_ok-found.found.items (judged_by z xs ys over) (judged_by z xs ys (Came (arrival_of v) ∷ over))) same
-    (forgot (c.forget.ensures.after z xs ys cut (Came (arrival_of c.index-arrived.result.now) ∷ over)) (subst (λ (s : Growth). IsAfter z xs ys cut (Came (arrival_of c.index-arrived.result.now) ∷ over) s
+    (forgot (c.forget.ensures.after z xs ys cut (Came (arrival_of c.index-arrived.result.now) ∷ over))
+    (subst (λ (s : Growth). IsAfter z xs ys cut (Came (arrival_of c.index-arrived.result.now) ∷ over) s
     × AreFound c.index-arrived.result.now.time c.in_ok-found.found.items (judged_by z xs ys over)
     (judged_by z xs ys (Came (arrival_of c.index-arrived.result.now) ∷ over))) (sym (c.count.ensures
     ∙ ap (λ (l : List Finding). Come z xs ys cut over a c.args.self.now c.judge_arrival.new.judging c.number_if-self.result
@@ -84,3 +87,12 @@ returns-clause-decides c z xs ys cut over a sure at next known r =
     (after-come z xs ys cut over c.index-arrived.result.now c.args.self.now c.judge_arrival.new.judging c.number_if-self.result
     c.last_after-last.result c.in_ok-found.found.items r.gone r.past r.kept c.requires.place here r.continues judged sure
     held.0 held.1 c.in_ok-found.ensures.marks c.last_after-last.ensures c.number_if-self.ensures r.after next')))
+
+pub returns-clause-less : goal.returns-clause-less
+returns-clause-less c sure =
+    let marks = c.in_ok-found.ensures.marks in
+    let place = c.requires.place in
+    let less = subst (λ (s : Growth). undecided_by s < undecided_by c.args.self.now) (sym c.count.ensures)
+    (undecided-less c.args.self.now _ sure (omega (arith, marks, place))) in
+    let same = c.forget.ensures.undecided in
+    omega (arith, less, same)

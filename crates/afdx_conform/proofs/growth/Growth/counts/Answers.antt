@@ -1,7 +1,6 @@
-use Rattle.std.proofs.Common.{◌≡◌, ℕ, ◌+◌, ◌-◌, List, [], map, sym, ap, ◌∙◌, arith}
+use Rattle.std.proofs.Common.{ℕ, ◌+◌, List, [], map, ap, ◌∙◌, arith}
 use Rattle.afdx_conform.specs.HeldStates.{state_of}
 use Rattle.afdx_conform.specs.Histories.{counts_with, least_waiting}
-use Rattle.afdx_conform.specs.Streams.{Gone}
 use Rattle.afdx_conform.specs.declared.states.Held.{Held}
 use Rattle.afdx_conform.proofs.CountLemmas.{all-counted, least-low, none-counted}
 use Rattle.afdx_conform.proofs.growth.Growth.counts.Goals as goal
@@ -16,12 +15,12 @@ overflow_add-result c =
     let left = c.requires.left in
     omega (arith, low, places, arrivals, came, left)
 
-pub returns-then-self : goal.returns-then-self
-returns-then-self c z xs ys cut over n f =
+pub returns-then-self-clause-counted : goal.returns-then-self-clause-counted
+returns-then-self-clause-counted c z xs ys cut over n f =
     none-counted z xs ys cut over c.args.self.now f c.if-self.true
 
-pub returns : goal.returns
-returns c z xs ys cut over n f =
+pub returns-clause-counted : goal.returns-clause-counted
+returns-clause-counted c z xs ys cut over n f =
     let few = c.saturating_sub.ensures in
     ap (λ (m : ℕ). counts_with m (c.args.self.now.cut + c.least_waiting.result) c.args.self.now.judging.uncertain) few
     ∙ all-counted z xs ys cut over c.args.self.now c.least_waiting.result

@@ -1,16 +1,16 @@
-use Rattle.std.proofs.Common.{rules, ◌≡◌, ℕ, ◌∷◌, List, drop, get_or, length, map, refl, sym, ap, ◌∙◌, subst}
+use Rattle.std.proofs.Common.{ℕ, List, get_or, length, sym, ap, ◌∙◌, subst, arith}
 use Rattle.std.specs.Prelude.{IfOk, Some}
 use Rattle.afdx_conform.specs.Growing.{Decides, IsKnownBy}
-use Rattle.afdx_conform.specs.Histories.{coming, next_of, unclosed}
-use Rattle.afdx_conform.specs.Marks.{arrival_of}
-use Rattle.afdx_conform.specs.States.{Came, Closing, Event}
+use Rattle.afdx_conform.specs.States.{Event}
 use Rattle.afdx_conform.specs.declared.arrived.Arrived.{Arrived}
 use Rattle.afdx_conform.specs.declared.finding.Mark.{Mark}
 use Rattle.afdx_conform.specs.declared.limits.Frame.{Frame}
 use Rattle.afdx_conform.specs.declared.upcoming.Upcoming.{Upcoming}
 use Rattle.afdx_conform.proofs.GrowthNext.{arrives-at, closes-at, next-held, no-event, none-at, none-of, some-frame, the-event}
-use Rattle.afdx_conform.proofs.KeepLemmas.{if-ok-on}
-use Rattle.afdx_conform.proofs.StreamLemmas.{some-arrived}
+use Rattle.afdx_conform.proofs.StreamLemmas.{on-ok, some-arrived}
+use Rattle.afdx_conform.proofs.GrowthLemmas.{true-false}
+use Rattle.afdx_conform.proofs.StandingDecides.{due-sure}
+use Rattle.afdx_conform.proofs.UndecidedLemmas.{due-nothing, not-due, undecided-unchanged}
 use Rattle.afdx_conform.proofs.growth.Growth.decide.Goals as goal
 
 pub returns-in_default-clause-decides : goal.returns-in_default-clause-decides
@@ -57,3 +57,25 @@ returns-in-Closing-clause-decides c z xs ys cut over e sure next known f =
     subst (λ (v : Event). IfOk c.close.result (λ found. Decides z xs ys cut over c.close.new.self v found.items)) event
     (c.close.ensures.decides z xs ys cut over one.0 (same.is_unsure ∙ sure) at first
     (c.in_ok-start.ensures.ready z xs ys cut over f sure))
+
+pub returns-then-self-clause-less : goal.returns-then-self-clause-less
+returns-then-self-clause-less c moment due = absurd (true-false c.if-self.true (due-sure c.args.self.now moment due))
+
+pub returns-in_default-clause-less : goal.returns-in_default-clause-less
+returns-in_default-clause-less c moment due =
+    let none = c.upcoming.ensures.none (none-of c.upcoming.result c.in_default.not-Some) in
+    absurd (not-due due (due-nothing c.args.self.now none.1 none.0))
+
+pub returns-in-Arrival-clause-less : goal.returns-in-Arrival-clause-less
+returns-in-Arrival-clause-less c moment due =
+    let same = c.in_ok-start.ensures.same in
+    let equal = undecided-unchanged c.args.self.now c.start.new.self same in
+    on-ok c.come.result (λ lt. omega (arith, lt, equal))
+    (c.come.ensures.less (same.is_unsure ∙ due-sure c.args.self.now moment due))
+
+pub returns-in-Closing-clause-less : goal.returns-in-Closing-clause-less
+returns-in-Closing-clause-less c moment due =
+    let same = c.in_ok-start.ensures.same in
+    let equal = undecided-unchanged c.args.self.now c.start.new.self same in
+    on-ok c.close.result (λ lt. omega (arith, lt, equal))
+    (c.close.ensures.less (same.is_unsure ∙ due-sure c.args.self.now moment due))

@@ -1,8 +1,9 @@
-use Rattle.std.proofs.Common.{◌≡◌, ℕ, ◌+◌, ◌-◌, ◌<◌, ◌≤◌, List, [], ◌⊎◌, get_or, length, sym, ap, ◌∙◌, subst, arith}
-use Rattle.std.specs.Prelude.{Contains}
+use Rattle.std.proofs.Common.{◌≡◌, ◌≤◌, List, [], ◌⊎◌, get_or, length, sym, ap, ◌∙◌, subst, arith}
+use Rattle.std.specs.Prelude.{All, Contains}
 use Rattle.afdx_conform.specs.declared.limits.Frame.{Frame}
 use Rattle.afdx_conform.specs.declared.states.Held.{Held}
 use Rattle.afdx_conform.proofs.EndDueLemmas.{due-end, due-then}
+use Rattle.afdx_conform.proofs.EndSoundLemmas.{sound-end}
 use Rattle.afdx_conform.proofs.EndingLemmas.{after-end, end-unsure}
 use Rattle.afdx_conform.proofs.growth.Growth.end.Goals as goal
 
@@ -50,3 +51,15 @@ returns-clause-due_same c z xs ys over until all f =
     (λ g lt at. c.kept_until-kept.ensures.cut g
     (let size = ap (λ (l : List Frame). length l) frames in omega (arith, lt, size))
     (at ∙ ap (λ (l : List Frame). get_or l c.kept_until-kept.result g) (sym frames)))
+
+pub returns-clause-sound : goal.returns-clause-sound
+returns-clause-sound c =
+    let low = c.kept_until-kept.ensures.low in
+    let most = c.max-front.ensures in
+    let size = ap (λ (l : List Frame). length l) c.as_slice-2.ensures.value in
+    let high = c.kept_until-kept.ensures.high in
+    sound-end c.args.self.now c.truncate.new.self c.known_states.new.held c.front_of.result c.kept_until-kept.result c.len.result
+    c.known_states.ensures c.truncate.ensures.items
+    (subst (λ (l : List Held). All (λ h. h.passed ≤ c.front_of.result) l) c.as_slice.ensures.value c.front_of.ensures.greatest)
+    (omega (arith, low, most)) (omega (arith, low, most)) (omega (arith, high, size))
+    (let n = c.len.ensures in let ok = c.args.self.now.frames.ok in omega (arith, n, ok)) c.requires

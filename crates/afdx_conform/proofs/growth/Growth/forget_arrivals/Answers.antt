@@ -1,8 +1,9 @@
-use Rattle.std.proofs.Common.{◌≡◌, ◌<◌, ◌≤◌, List, length, sym, ◌∙◌, subst, arith}
+use Rattle.std.proofs.Common.{◌≡◌, ◌<◌, ◌≤◌, List, length, refl, sym, ◌∙◌, subst, arith}
 use Rattle.std.proofs.lemmas.Bool.Decides.{Decides-eqb}
 use Rattle.std.specs.Prelude.{All}
 use Rattle.std.specs.Vec.{vec_len}
 use Rattle.afdx_conform.specs.declared.states.Held.{Held}
+use Rattle.afdx_conform.proofs.UndecidedLemmas.{forgot-arrivals, undecided-same}
 use Rattle.afdx_conform.proofs.ForgetLemmas.{after-arrivals, due-arrivals, early-arrivals, none-early}
 use Rattle.afdx_conform.proofs.growth.Growth.forget_arrivals.Goals as goal
 use Rattle.afdx_conform.proofs.growth.Growth.forget_arrivals.Goals.{then-not-is_empty+else-not-is_too_late, else-not-is_empty}
@@ -33,3 +34,9 @@ returns-clause-due c =
     let less = c.if-count-len.false in
     due-arrivals c.args.self.now c.div_ceil-count.result c.forget_first.new.items c.forget_first-2.new.items
     c.forget_first.ensures c.forget_first-2.ensures (omega (arith, less))
+
+pub returns-clause-undecided : goal.returns-clause-undecided
+returns-clause-undecided c =
+    undecided-same c.args.self.now _ refl (forgot-arrivals c.args.self.now c.div_ceil-count.result c.forget_first.new.items.items
+    c.forget_first-2.new.items.items c.forget_first.ensures c.forget_first-2.ensures
+    (let less = c.if-count-len.false in omega (arith, less)))

@@ -1,2 +1,0 @@
-use Rattle.afdx_conform.proofs.StandingLemmas.{on-err}
-use Rattle.afdx_conform.proofs.StandingDecides.{in-order}
