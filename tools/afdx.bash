@@ -86,7 +86,7 @@ _afdx() { # TOOL
 # printed by bin/pages
 _afdx_commands_of() { # TOOL : what its first word may be
     case $1 in
-        afdx) commands=(check explain list police replay send solve) ;;
+        afdx) commands=(check conform explain list police replay send solve) ;;
         afdx-capture) commands=(list pcap annotate) ;;
     esac
 }
@@ -96,6 +96,11 @@ _afdx_takes() { # COMMAND : its options, and those that take a value
         'afdx check')
             options=(--all --margins --explain --help)
             valued=()
+            ;;
+        'afdx conform')
+            options=(--slack --drift --inner --asked --from --until --leave-out --switch \
+                --explain --line-buffered --progress --summary --help)
+            valued=(--slack --drift --inner --asked --from --until --leave-out --switch)
             ;;
         'afdx explain')
             options=(--list --help)
@@ -155,9 +160,11 @@ _afdx_takes() { # COMMAND : its options, and those that take a value
         'afdx-report')
             options=(--help --version --out --no-admission --link --from --rows --worst --compare \
                 --title --cover --json --interface --taps --fcs --origin --reorder --stamps \
-                --fail-on --junit)
+                --fail-on --junit --conform --slack --drift --inner --asked --until --leave-out \
+                --switch)
             valued=(--out --link --from --rows --worst --compare --title --cover --interface \
-                --taps --fcs --origin --reorder --stamps --fail-on --junit)
+                --taps --fcs --origin --reorder --stamps --fail-on --junit --slack --drift \
+                --inner --asked --until --leave-out --switch)
             ;;
         'afdx-taps')
             options=(--help --version --anyway)
@@ -226,6 +233,9 @@ _afdx_value() { # COMMAND OPTION, in one word
 _afdx_place() { # COMMAND NUMBER, in one word : the word of that number, from 0
     case $1 in
         'afdx check '0) _afdx_files toml ;;
+        'afdx conform '0) _afdx_files toml ;;
+        'afdx conform '1) _afdx_files list ;;
+        'afdx conform '2) _afdx_files list ;;
         'afdx list '0) _afdx_files toml ;;
         'afdx list '1) _afdx_files pcap pcapng ;;
         'afdx list '2) _afdx_files pcap pcapng ;;

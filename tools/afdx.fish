@@ -47,10 +47,10 @@ function __afdx_files --description 'Folders, and files with one of these extens
 end
 
 # printed by bin/pages
-set -g __afdx_valued --interface --fcs --origin --reorder --stamps --vl --port --lmin --policing \
-    --keep --out -j --jobs -S --sshlogin --taps --fail-on --junit --config -o --split --side \
-    --cables --profile --reserve --since --link --from --rows --worst --compare --title --cover \
-    --seconds --seed
+set -g __afdx_valued --slack --drift --inner --asked --from --until --leave-out --switch \
+    --interface --fcs --origin --reorder --stamps --vl --port --lmin --policing --keep --out -j \
+    --jobs -S --sshlogin --taps --fail-on --junit --config -o --split --side --cables --profile \
+    --reserve --since --link --rows --worst --compare --title --cover --seconds --seed
 
 complete -c afdx -f
 complete -c afdx -n '__afdx_at - 0 0' -l help -d 'Print help and leave'
@@ -64,6 +64,30 @@ complete -c afdx -n '__afdx_in check' -l explain -a 'auto always never' \
     -d 'When a fault is explained, behind its one line'
 complete -c afdx -n '__afdx_in check' -l help -d 'Print help'
 complete -c afdx -n '__afdx_at check 0 0' -a '(__afdx_files toml)'
+complete -c afdx -n '__afdx_at - 0 0' -a conform \
+    -d 'Says whether a recorded switch did what its tables say'
+complete -c afdx -n '__afdx_in conform' -x -l slack -d 'By how many ns a stamp may be off'
+complete -c afdx -n '__afdx_in conform' -x -l drift \
+    -d 'By how many millionths the rates of the switch\'s clock and of the recorders\' may differ'
+complete -c afdx -n '__afdx_in conform' -x -l inner \
+    -d 'How many ns a frame may take inside beyond its link\'s latency'
+complete -c afdx -n '__afdx_in conform' -x -l asked \
+    -d 'By how many ns later than its last bit a frame\'s account may be asked'
+complete -c afdx -n '__afdx_in conform' -x -l from -d 'There was traffic before this time, in ns'
+complete -c afdx -n '__afdx_in conform' -x -l until -d 'The end of the recordings, in ns'
+complete -c afdx -n '__afdx_in conform' -x -l leave-out -d 'The link'
+complete -c afdx -n '__afdx_in conform' -x -l switch -d 'The name of the switch that is judged'
+complete -c afdx -n '__afdx_in conform' -l explain -a 'auto always never' \
+    -d 'When a fault is explained, behind its one line'
+complete -c afdx -n '__afdx_in conform' -l line-buffered \
+    -d 'Hands the text of each line over at once'
+complete -c afdx -n '__afdx_in conform' -l progress -d 'Says after two seconds how much was read'
+complete -c afdx -n '__afdx_in conform' -l summary \
+    -d 'Prints the counts of the run on standard error'
+complete -c afdx -n '__afdx_in conform' -l help -d 'Print help'
+complete -c afdx -n '__afdx_at conform 0 0' -a '(__afdx_files toml)'
+complete -c afdx -n '__afdx_at conform 1 1' -a '(__afdx_files list)'
+complete -c afdx -n '__afdx_at conform 2 2' -a '(__afdx_files list)'
 complete -c afdx -n '__afdx_at - 0 0' -a explain \
     -d 'Says in plain words what a line of the program means'
 complete -c afdx -n '__afdx_in explain' -l list -d 'Prints each word and each form of a line'
@@ -301,6 +325,14 @@ complete -c afdx-report -x -l fail-on \
     -d 'status 6 where one of these isn\'t 0, with commas'
 complete -c afdx-report -x -l junit -a '(__afdx_files xml)' \
     -d 'write the run and each criterion as a JUnit test case'
+complete -c afdx-report -l conform -d 'report on a recorded switch'
+complete -c afdx-report -x -l slack -d 'by how many ns a stamp may be off, with --conform'
+complete -c afdx-report -x -l drift -d 'by how many millionths clocks may differ'
+complete -c afdx-report -x -l inner -d 'what a frame may take beyond its latency'
+complete -c afdx-report -x -l asked -d 'how much later the account may be asked'
+complete -c afdx-report -x -l until -d 'the end of the recordings, with --conform'
+complete -c afdx-report -x -l leave-out -d 'a link that isn\'t judged, or other, with --conform'
+complete -c afdx-report -x -l switch -d 'which of several switches is judged'
 complete -c afdx-report -n '__afdx_at - 0 0' -a '(__afdx_files toml)'
 complete -c afdx-report -n '__afdx_at - 1 1' -a '(__afdx_files list pcap pcapng)'
 complete -c afdx-report -n '__afdx_at - 2 2' -a '(__afdx_files pcap pcapng)'

@@ -30,7 +30,7 @@ _afdx_of_commands() { # TOOL COMMAND.. : the first word is one of the commands
 # printed by bin/pages
 _afdx_commands_of() { # TOOL : what its first word may be
     case $1 in
-        afdx) commands=(check explain list police replay send solve) ;;
+        afdx) commands=(check conform explain list police replay send solve) ;;
         afdx-capture) commands=(list pcap annotate) ;;
     esac
 }
@@ -43,6 +43,24 @@ _afdx_takes() { # COMMAND
             '--explain=-[When a fault is explained, behind its one line]:: :(auto always never)' \
             $help \
             ':config:_files -g "*.toml(-.)"'
+        ;;
+    'afdx conform')
+        _arguments '--slack[By how many ns a stamp may be off]:ns:' \
+            '--drift[By how many millionths the rates of the switch'\''s clock and of the recorders'\'' may differ]:ppm:' \
+            '--inner[How many ns a frame may take inside beyond its link'\''s latency]:ns:' \
+            '--asked[By how many ns later than its last bit a frame'\''s account may be asked]:ns:' \
+            '--from[There was traffic before this time, in ns]:ns:' \
+            '--until[The end of the recordings, in ns]:ns:' \
+            '*--leave-out[The link]:vl:' \
+            '--switch[The name of the switch that is judged]:name:' \
+            '--explain=-[When a fault is explained, behind its one line]:: :(auto always never)' \
+            '--line-buffered[Hands the text of each line over at once]' \
+            '--progress[Says after two seconds how much was read]' \
+            '--summary[Prints the counts of the run on standard error]' \
+            $help \
+            ':config:_files -g "*.toml(-.)"' \
+            ':came:_files -g "*.list(-.)"' \
+            ':left:_files -g "*.list(-.)"'
         ;;
     'afdx explain')
         _arguments '--list[Prints each word and each form of a line]' \
@@ -216,6 +234,14 @@ _afdx_takes() { # COMMAND
             '--stamps[whether stamps are those of a frame'\''s last bit or of its first]: :(end start)' \
             '--fail-on[status 6 where one of these isn'\''t 0, with commas]: :_values -s , word silent contradicted clock twice late full-buffer too-old dropped unequal missing refused skew jitter first-number recorder-lost left-out unused claimed lost' \
             '--junit[write the run and each criterion as a JUnit test case]:file:_files -g "*.xml(-.)"' \
+            '--conform[report on a recorded switch]' \
+            '--slack[by how many ns a stamp may be off, with --conform]:ns:' \
+            '--drift[by how many millionths clocks may differ]:ppm:' \
+            '--inner[what a frame may take beyond its latency]:ns:' \
+            '--asked[how much later the account may be asked]:ns:' \
+            '--until[the end of the recordings, with --conform]:ns:' \
+            '*--leave-out[a link that isn'\''t judged, or other, with --conform]:vl:' \
+            '--switch[which of several switches is judged]:name:' \
             ':config:_files -g "*.toml(-.)"' \
             ':list:_files -g "*.(list|pcap|pcapng)(-.)"' \
             '::list:_files -g "*.(pcap|pcapng)(-.)"'

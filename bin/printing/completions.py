@@ -89,7 +89,7 @@ def option_of(entry: Entry) -> Option:
         kind = next((KINDS[choice] for choice in choices if choice in KINDS), ())
     for word in kind[1:] if kind else ():
         checked(WORD, word)
-    text = re.split(r"[;:([]", entry.text)[0].replace("`", "").strip()
+    text = re.split(r"[;:([]|, at most ", entry.text)[0].replace("`", "").strip()
     text = re.sub(r"[^A-Za-z0-9 ,./=_'-]", "", text)
     text = text.split(",")[0] if len(text) > LONGEST else text
     value = "" if entry.words else checked(VALUE, entry.value).lower()
