@@ -1,10 +1,11 @@
-"""Measures `afdx police`, `afdx replay` and `afdx send` on long lists.
+"""Measures `afdx police`, `afdx replay`, `afdx send` and `afdx conform` on long lists.
 
     bench/run.py [PROGRAM] [--lines N] [--times T] [--only TEXT] [--baseline] [--scaling]
 
 PROGRAM is the built program, crates/afdx/out/afdx where it isn't given. The lists have N lines
 (1,000,000 where it isn't given), but at most about 500 MB, and are made in a temporary folder by
-bench/make_list.py, bench/make_network.py, bench/make_cascade.py and bench/make_messages.py. Each
+bench/make_list.py, bench/make_network.py, bench/make_cascade.py, bench/make_messages.py and, for
+`conform`, bench/make_two_lists.py, where a line is a frame that came, with those that left. Each
 list is run T times (3 where it isn't given) from a file into /dev/null. Where the program reads
 recordings, frames are also recorded, by bench/make_recording.py; each counts as a line. They stand
 in order, and none is held but in rows that say so. One table in Markdown is printed:
@@ -13,13 +14,14 @@ in order, and none is held but in rows that say so. One table in Markdown is pri
     user seconds   the least of the runs
     peak memory    the greatest of the runs
     instructions   for each line, by valgrind's callgrind, the run of 20,000 lines less that of
-                   none, where frames are held of 40,000 less that of 20,000; `-` where valgrind
-                   isn't installed
+                   none, of `conform` and where frames are held of 40,000 less that of 20,000;
+                   `-` where valgrind isn't installed
 
-MB are 1,000,000 bytes of the list. Lines below the table say what each further copy of a frame
-takes (the run in which a link goes to 23 ports less that in which it goes to one), what share of
-the instructions of its list line a recorded frame takes, and what a frame takes at each of several
-switches that it passes.
+MB are 1,000,000 bytes of the list, or of both. Lines below the table say what each further copy of
+a frame takes (the run in which a link goes to 23 ports less that in which it goes to one), what
+share of the instructions of its list line a recorded frame takes, what a frame takes at each of
+several switches that it passes, and how many times as much as lines of `police` the lines take of a
+frame that came and left.
 
 With --baseline the hand-written C program bench/handwritten/police_baseline.c is compiled by
 `cc -O2`, must print the same as `police`, and stands in the table beside it. Both run by turns, and
@@ -27,7 +29,8 @@ two more columns say how the program compares with it: the ratio of the instruct
 the user seconds, the median of the T turns. A ratio below 1 means that the program takes less.
 
 With --only the rows whose name has TEXT in it are measured. With --scaling another table is
-printed: how time and memory grow with the lines of a list and with the links of a network.
+printed: how time and memory grow with the lines of a list and with the links of a network, and for
+`conform` with the frames that came.
 
 Needs Linux and Python 3, no packages; with /usr/bin/time the figure for memory is the program's
 alone. It is a measurement and no test: it fails only where a run fails or the two programs differ.
@@ -45,6 +48,7 @@ from make_list import MOST_LINES, write_list  # noqa: E402
 from make_messages import write_messages  # noqa: E402
 from make_network import write_network  # noqa: E402
 from make_recording import write_recording  # noqa: E402
+from make_two_lists import LINKS, write_two_lists  # noqa: E402
 from measure import HERE, PROGRAM, instructions, timed  # noqa: E402
 from table import HEAD, RATIOS, Row, head, show  # noqa: E402
 
@@ -86,6 +90,10 @@ CASCADE = "replay, 8 switches a side, 984 links on ways of 1 to 4 switches"
 TENTH = "the same, a tenth of the lines"
 FURTHER = 22  # copies of a frame in the row `copies` beyond that in the row `one`
 SEND = "send, 20 links of one system"
+CONFORM = [  # and the ports of a link
+    ("conform, 400 links to one port each", 1),
+    ("conform, 400 links to four ports each", 4),
+]
 BY_HAND = "the same by hand-written C"
 GROWTH_HEAD = [
     "links",
@@ -129,11 +137,11 @@ class Bench:
             counts.append(instructions([*words, self.path("few.list")], self.folder))
         return None if None in counts else (counts[1] - counts[0]) / FEW
 
-    def rows(self, programs, count, make, first=0):
+    def rows(self, programs, count, make, first=0, beside=0):
         """A row for each program, a name and its words, on the long list of so many lines. Those of
-        the first lines don't count as instructions."""
+        the first lines don't count as instructions; so many bytes are read beside it."""
         listing = self.path("long.list")
-        size = os.path.getsize(listing)
+        size = os.path.getsize(listing) + beside
         all_runs = self.by_turns(*([*words, listing] for _, words in programs))
         return [
             Row(name, count, size, runs, self.a_line(make, words, first))
@@ -219,6 +227,37 @@ class Bench:
 
         return self.rows([(SEND, [self.program, "send", config, "s1"])], lines, make)[0]
 
+    def two_lists(self, frames, ports):
+        """Writes the long lists of `conform`, of so many frames that came; its words but for LEFT,
+        and what writes short ones."""
+        config, came = self.path("judged.toml"), self.path("came.list")
+
+        def make(path, count):
+            write_two_lists(config, came, path, count, ports)
+
+        make(self.path("long.list"), frames)
+        return [self.program, "conform", config, came], make
+
+    def conform(self, name, ports, lines):
+        frames = lines // ports
+        words, make = self.two_lists(frames, ports)
+        beside = os.path.getsize(words[-1])
+        return self.rows([(name, words)], frames, make, FEW, beside)[0]
+
+    def conform_growth(self, frames):
+        words, _ = self.two_lists(frames, 1)
+        seconds, memory = self.best([*words, self.path("long.list")])
+        each, size = f"{seconds / frames * 1e6:.2f}", f"{memory / 1024:.1f} MiB"
+        return [f"{LINKS:,}", f"{frames:,}", f"{seconds:.2f}", "-", each, size]
+
+    def line_of_64(self):
+        """The instructions of a line of `police`."""
+
+        def make(path, count):
+            write_list(path, count, length=64)
+
+        return self.a_line(make, [self.program, "police", "1", "64", "500"], FEW)
+
     def scaling(self, kind, lines, links):
         words = self.network(kind, True, lines, links)
         seconds, memory = self.best([*words, self.path("long.list")])
@@ -270,6 +309,11 @@ def show_growth(bench, lines):
         show(bench.scaling("gigabit", max(1, count), 400))
     for links in (1, 64, 1024, 4096):
         show(bench.scaling("gigabit", max(1, sizes[1]), links))
+    if has_conform(bench.program):
+        print("\n`conform`:\n")
+        head(GROWTH_HEAD)
+        for count in sizes:
+            show(bench.conform_growth(max(1, count)))
 
 
 def show_police(bench, given, baseline):
@@ -290,6 +334,11 @@ def knows(program, option):
     """Its help names an option of recordings."""
     told = subprocess.run([program, "police", "--help"], capture_output=True, check=True)
     return option in told.stdout
+
+
+def has_conform(program):
+    """It has the command."""
+    return subprocess.run([program, "conform", "--help"], capture_output=True).returncode == 0
 
 
 def show_recorded(bench, given, empty):
@@ -333,6 +382,20 @@ def show_cascade(bench, given, empty):
     return "" if hop is None else f"A frame through a switch of several: {hop:,.0f} instructions"
 
 
+def show_conform(bench, given, empty):
+    """The rows of `conform`; the lines of what a frame takes, which are printed last."""
+    told = []
+    for name, ports in CONFORM if has_conform(bench.program) else ():
+        if given.only in name:
+            row = bench.conform(name, ports, given.lines)
+            show([*row.cells(), *empty])
+            line = bench.line_of_64() if row.instructions is not None else None
+            if line:
+                times = row.instructions / (line * (1 + ports))
+                told.append(f"{name}: {times:.2f} times {1 + ports} lines of `police`")
+    return told
+
+
 def show_copies(one, copies):
     """What each further copy of a frame takes."""
     ns = (copies.seconds - one.seconds) / copies.lines / FURTHER * 1e9
@@ -361,11 +424,12 @@ def main():
         told = show_cascade(bench, given, empty)
         if given.only in SEND:
             show([*bench.send(given.lines).cells(), *empty])
+        judged = show_conform(bench, given, empty)
         show_shares(recorded, by_name)
         if {"one", "copies"} <= set(by_kind):
             show_copies(by_kind["one"], by_kind["copies"])
-        if told:
-            print(f"\n{told}")
+        for line in [told, *judged] if told else judged:
+            print(f"\n{line}")
 
 
 if __name__ == "__main__":

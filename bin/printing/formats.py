@@ -36,7 +36,7 @@ MARKED = {
     "the key port of": "the key `port` of",
     "dropped as over-rate": "dropped as `over-rate`",
     "form than K=PLACE": "form than `K=PLACE`",
-    "recordings are -,": "recordings are `-`,",
+    "inputs are -,": "inputs are `-`,",
 }
 OPTION = r"(?<![\w`])--[a-z][a-z-]*(?: [A-Z]+\b(?:=-)?)?"
 # in which order a line of a list is checked; what isn't read is no fault
@@ -146,6 +146,12 @@ def not_received(rows: list[Row]) -> str:
         [f"`{row.word}`", meaning(row, "the frame ")] for row in left))
 
 
+def strange(rows: list[Row]) -> str:
+    """Why a frame is strange that left, but for what stands against arrivals, too."""
+    return table("| WORD of strange | The frame |", (
+        [f"`{row.word}`", meaning(row, "the frame ")] for row in of_kind(rows, "strange")))
+
+
 def refused(rows: list[Row]) -> str:
     """Why a message is refused."""
     return table("| Text | When |", (
@@ -221,6 +227,10 @@ TABLES: dict[str, Tables] = {
         "why a system drops a frame": not_received,
         "lines of send": lambda rows: lines(rows, "R time A", "R time B", count=2),
         "refused messages": refused,
+        "lines of conform": lambda rows: lines(
+            rows, "strange ", "passed ", "stopped ", "late ", "early n side", "unsure ",
+            "conforms: ", "deviates ", "undecided: "),
+        "why a frame is strange": strange,
     },
     "docs/RECORDINGS.md": {
         "skipped numbers": skipped_numbers,

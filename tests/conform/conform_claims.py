@@ -2,6 +2,7 @@
 from __future__ import annotations
 
 import random
+import threading
 from typing import NamedTuple
 
 import tables as made
@@ -9,13 +10,20 @@ from conform import Judging, Taken, conform
 from conform_explains import is_explained, is_right
 from conform_terms import Options
 from one_switch import MS
-from program import Answer, Program, answers, must
+from program import Answer, Program, Wrong, answers, least_room, must
 from recorded_switch import Recorded, RecordedSwitch, Told, lines_of
 from rows import CONFIGS, ROWS, Row, list_of
 from small_cases import Pair, small_pair
 from traffic_made import bench_tables, traffic
 
 NAMES = {"slack": "--slack", "drift": "--drift", "inner": "--inner", "asked": "--asked"}
+FILES = ("config", "came", "left")  # the inputs of a judge
+SHORT = 5_000  # frames of which it holds what it holds of any number
+# options that change nothing of an answer, and the list that is read as standard input
+WAYS: tuple[tuple[tuple[str, ...], str], ...] = (
+    ((), ""), (("--line-buffered",), ""), (("--progress",), "came"), (("--summary",), "left"),
+    (("--explain=never", "--line-buffered"), "came"),
+)
 
 
 class Judge:
@@ -24,14 +32,21 @@ class Judge:
     def __init__(self, program: Program | None = None) -> None:
         self.program = program
 
-    def answer(self, pair: Pair) -> Answer:
-        """What it answers."""
+    def answer(self, pair: Pair, *more: str, standard: str = "") -> Answer:
+        """What it answers, with more options; the list of that name is its standard input."""
         if self.program is None:
             return conform(*pair)
-        program = self.program.apart()
-        paths = [program.write(name, text)
-                 for name, text in zip(("config", "came", "left"), pair[:3])]
-        return program.run("conform", *pair.words, *paths)
+        return self.run((*more, *pair.words), dict(zip(FILES, pair[:3])), standard)
+
+    def run(self, words: tuple[str, ...], inputs: dict[str, bytes], standard: str = "") -> Answer:
+        """What the program answers to these options and inputs, by their names."""
+        assert self.program is not None
+        paths = []
+        for name, text in inputs.items():
+            # until this thread writes its next one
+            path = self.program.write(f"{name}-{threading.get_ident()}", text)
+            paths.append("-" if name == standard else path)
+        return self.program.run("conform", *words, *paths, given=inputs.get(standard, b""))
 
 
 JUDGED = Judge()
@@ -50,6 +65,16 @@ def row_holds(judge: Judge, row: Row) -> None:
     """It answers as the row spells out."""
     wanted = row.answer()
     answers(judge.answer(pair_of(row)), wanted.status, wanted.out, wanted.err)
+
+
+def rows_are_explained(judge: Judge) -> None:
+    """With --explain more stands behind a fault's line, and nothing else is other."""
+    for row in ROWS:
+        wanted, found = row.answer(), judge.answer(pair_of(row), "--explain")
+        front = found.err[: len(wanted.err)]
+        answers(found._replace(err=front), wanted.status, wanted.out, wanted.err)
+        more = found.err[len(wanted.err):]
+        must((more != b"") == (wanted.err != b""), f"{row.name}: explained by {more!r}")
 
 
 def bodies_are_refused(body: type[Judging]) -> None:
@@ -108,12 +133,16 @@ def told_early(judge: Judge, seed: int, count: int) -> None:
     must(told, "nothing was told before a fault")
 
 
-def judged_alike(judge: Judge, seed: int, count: int) -> None:
-    """It answers what is computed here."""
-    for case in range(count):
+def judged_alike(judge: Judge, seed: int, count: int, first: int = 0) -> None:
+    """It answers what is computed here, with any of the options that change nothing."""
+    for case in range(first, first + count):
         pair = small_pair(random.Random(f"{seed} {case} alike"), faulty=0.15)
-        wanted = conform(*pair)
-        answers(judge.answer(pair), wanted.status, wanted.out, wanted.err)
+        wanted, (more, standard) = conform(*pair), WAYS[case % len(WAYS)]
+        found = judge.answer(pair, *more, standard=standard)
+        try:
+            answers(found, wanted.status, wanted.out, wanted.err)
+        except Wrong as wrong:
+            raise Wrong(f"case {case} of seed {seed}, {(*more, *pair.words)}: {wrong}") from None
 
 
 # ---- right switches ------------------------------------------------------------------------------
@@ -234,6 +263,24 @@ def long_run_conforms(judge: Judge, count: int) -> None:
     pair = Pair(made.text_of(tables), lines_of(switch.came), lines_of(switch.left),
                 words_of(options))
     nothing_found(judge, pair)
+
+
+def steady_lists(program: Program, count: int) -> list[str]:
+    """Files of a configuration, of so many frames that came, a BAG apart, and of them as they left.
+    """
+    texts = [list_of(" / ".join(str(place * MS + more) for place in range(count)), name)
+             for name, more in (("came", 0), ("left", 6_720))]
+    every = zip(FILES, (CONFIGS["base"], *texts))
+    return [program.write(f"{name}-{count}", text) for name, text in every]
+
+
+def steady_memory(program: Program, frames: int) -> None:
+    """So many frames take no more memory than a few, up to 64 KiB."""
+    program = program.apart()
+    short, long = (steady_lists(program, count) for count in (SHORT, frames))
+    room = least_room(lambda room: program.run_limited(room, "conform", *short).status == 0)
+    last = b"conforms explained %d open 0 uncertain 0 left-out 0 unseen 0\n" % frames
+    answers(program.run_limited(room + 64, "conform", *long), 0, last, b"")
 
 
 # ---- wrong switches ------------------------------------------------------------------------------

@@ -22,6 +22,7 @@ HEADS = {
     "07d007d0000d0000776f726c64000000000000000000000000",
 }
 HEADS["9"] = HEADS["1"][:10] + "09" + HEADS["1"][12:]
+STATUSES = {"words": 2, "config": 1, "list": 3, "recording": 3, "": 0}  # by a fault's first word
 NO_LINK = "ff" * 6 + "00" * 54
 BARE = {"came": "F {} A 1 H1", "left": "F {} A 3 H1"}
 
@@ -46,6 +47,23 @@ def list_of(text: str, which: str) -> bytes:
     return "".join(lines).encode()
 
 
+def answer_of(text: str, counts: str, err: str, unseen: int = 0) -> Answer:
+    """What is answered with these lines, these numbers of the last line, and this fault."""
+    lines = [f"{line}\n" for line in text.split(" / ") if line]
+    status = STATUSES[err.partition(" ")[0]]
+    if counts:
+        found = sum(not line.startswith("unsure") for line in lines)
+        explained, opened, uncertain, left_out = counts.split("/")
+        verdict, status = "conforms", 0
+        if found:
+            verdict, status = f"deviates {found}", 5
+        elif len(lines) > found or explained == "0":
+            verdict, status = "undecided", 3
+        last = f"{verdict} explained {explained} open {opened} uncertain {uncertain}"
+        lines.append(f"{last} left-out {left_out} unseen {unseen}\n")
+    return Answer(status, "".join(lines).encode(), f"{err}\n".encode() if err else b"")
+
+
 class Row(NamedTuple):
     """Options, lists, and what is answered: the lines, the last line's numbers, empty where it
     doesn't come, and what stands on standard error."""
@@ -65,20 +83,7 @@ class Row(NamedTuple):
 
     def answer(self) -> Answer:
         """What must be answered."""
-        lines = [f"{line}\n" for line in self.lines.split(" / ") if line]
-        status = {"words": 2, "config": 1, "list": 3, "": 0}[self.err.partition(" ")[0]]
-        if self.counts:
-            found = sum(not line.startswith("unsure") for line in lines)
-            explained, opened, uncertain, left_out = self.counts.split("/")
-            verdict, status = "conforms", 0
-            if found:
-                verdict, status = f"deviates {found}", 5
-            elif len(lines) > found or explained == "0":
-                verdict, status = "undecided", 3
-            last = f"{verdict} explained {explained} open {opened} uncertain {uncertain}"
-            lines.append(f"{last} left-out {left_out} unseen 0\n")
-        err = f"{self.err}\n" if self.err else ""
-        return Answer(status, "".join(lines).encode(), err.encode())
+        return answer_of(self.lines, self.counts, self.err)
 
 
 def long_tables() -> dict:

@@ -30,6 +30,10 @@ class Pair(NamedTuple):
     left: bytes
     words: tuple[str, ...]
 
+    def with_list(self, place: int, text: bytes) -> Pair:
+        """The same with another list in the place of one."""
+        return self._replace(came=text) if place == 0 else self._replace(left=text)
+
 
 def small_tables(chance: random.Random) -> dict:
     """Tables of one to three links between three systems, of short BAGs; most go to s3 alone."""

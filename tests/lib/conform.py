@@ -18,6 +18,8 @@ from switch_fault import file_fault, is_cascade
 NO_LINK = ("too-short", "too-long", "bad-fcs", "bad-address", "unknown-link")
 NO_FRAME = ("too-short", "too-long", "bad-fcs")
 CONFORMS, DEVIATES, UNDECIDED = 0, 5, 3
+BAD_NUMBER = Answer(2, b"", b"words BadNumber\n")
+NO_SWITCH = Answer(2, b"", b"words NoSuchSwitch\n")
 
 Order = tuple[int, int, int, int, int, int]  # of a line among all
 
@@ -69,6 +71,15 @@ def tables_of(config: bytes, name: str | None) -> dict | None:
     return named[0] if named else None
 
 
+def judged_tables(config: bytes, name: str | None) -> dict | Answer:
+    """The same with its neighbours; or what is answered where there are none."""
+    fault = file_fault(config)
+    if fault:
+        return Answer(1, b"", fault)
+    tables = tables_of(config, name)
+    return NO_SWITCH if tables is None else {"neighbour": []} | tables
+
+
 class Judging:
     """Two lists without a fault, or as far as one was taken, judged by the tables of a switch."""
 
@@ -91,9 +102,21 @@ class Judging:
         """The lines that aren't passed over."""
         begin = self.options.begin(is_left)
         within = [each for each in lines if begin <= each.time <= self.until]
-        kept = [each for each in within if each.frame.link() not in self.options.left_out]
+        kept = [each for each in within if not self.passes_over(each, is_left)]
         self.left_out += len(within) - len(kept)
         return kept
+
+    def passes_over(self, each: Arrival, is_left: bool) -> bool:
+        """A line counts as left out."""
+        return each.frame.link() in self.options.left_out
+
+    def is_judged(self, side: int, port: int, place: int) -> bool:
+        """A stream was recorded."""
+        return True
+
+    def unseen(self) -> int:
+        """How many streams weren't recorded."""
+        return 0
 
     def own(self, came: list[Arrival]) -> dict[tuple[int, int], list[Came]]:
         """The arrivals of each link on each side."""
@@ -140,7 +163,8 @@ class Judging:
         """The streams that have an arrival or a frame, by side, port and the link's place."""
         keys = set(left)
         for side, place in came:
-            keys |= {(side, port, place) for port in self.ports_of(place)}
+            keys |= {(side, port, place) for port in self.ports_of(place)
+                     if self.is_judged(side, port, place)}
         links, streams = list(self.switch.links.values()), {}
         for side, port, place in sorted(keys):
             byte_ns = self.switch.ports[port].byte_ns
@@ -176,7 +200,7 @@ class Judging:
         elif is_unsure or explained == 0:
             status, verdict = UNDECIDED, "undecided"
         last = f"{verdict} explained {explained} open {opened} uncertain {uncertain}"
-        last += f" left-out {self.left_out} unseen 0\n"
+        last += f" left-out {self.left_out} unseen {self.unseen()}\n"
         return Answer(status, self.text() + last.encode(), b"")
 
 
@@ -190,15 +214,12 @@ def conform(
     """What `conform` answers of a configuration, two lists, and these options with their values."""
     options = options_of(words)
     if options is None:
-        return Answer(2, b"", b"words BadNumber\n")
-    fault = file_fault(config)
-    if fault:
-        return Answer(1, b"", fault)
-    tables = tables_of(config, options.switch)
-    if tables is None:
-        return Answer(2, b"", b"words NoSuchSwitch\n")
+        return BAD_NUMBER
+    tables = judged_tables(config, options.switch)
+    if isinstance(tables, Answer):
+        return tables
     taken = taken_of(came, left)
-    judged = judging({"neighbour": []} | tables, options, taken)
+    judged = judging(tables, options, taken)
     if taken.fault:
         return Answer(3, judged.text(taken.latest), taken.fault)
     return judged.answer()

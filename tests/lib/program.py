@@ -10,7 +10,7 @@ import tempfile
 import threading
 import time
 from concurrent.futures import ThreadPoolExecutor
-from typing import Callable, NamedTuple
+from typing import Callable, NamedTuple, NoReturn
 
 TOP = os.path.dirname(os.path.dirname(os.path.dirname(os.path.abspath(__file__))))
 LONGEST = 120  # seconds of one run
@@ -75,6 +75,11 @@ class Program:
             raise Wrong(f"{' '.join(words)} takes more than {LONGEST} s") from None
         return Answer(done.returncode, done.stdout, done.stderr)
 
+    def knows(self, command: str, word: str = "") -> bool:
+        """It has the command, and its help has the word."""
+        found = self.run(command, "--help")
+        return found.status == 0 and word.encode() in found.out
+
     def run_limited(self, room: int, *words: str) -> Answer:
         """One run in an address space of so many KiB."""
         limited = ["sh", "-c", 'ulimit -v "$0" && exec "$@"', str(room), self.path, *words]
@@ -82,6 +87,19 @@ class Program:
             limited, capture_output=True, cwd=self.folder, timeout=LONGEST, check=False
         )
         return Answer(done.returncode, done.stdout, done.stderr)
+
+
+def least_room(runs_in: Callable[[int], bool]) -> int:
+    """The least address space, in KiB and to the nearest 64, in which something runs."""
+    low, high = 0, 1 << 20
+    while high - low > 64:
+        middle = (low + high) // 2
+        if runs_in(middle):
+            high = middle
+        else:
+            low = middle
+    must(high < 1 << 20, "it takes a GiB")
+    return high
 
 
 def text_within(pipe: int, size: int, seconds: float) -> bytes:
@@ -145,8 +163,9 @@ class Cases:
 
     def skip(self, name: str, why: str) -> None:
         """A case that can't be tried here."""
-        self.skipped += 1
-        print(f"skipped {name}: {why}", flush=True)
+        with self.telling:
+            self.skipped += 1
+            print(f"skipped {name}: {why}", flush=True)
 
     def try_at_once(self, cases: list[tuple]) -> None:
         """So many cases at a time as there are processors; each is a name, a case, and what it is
@@ -174,18 +193,26 @@ def main_of(text: str, try_all: Callable[[Cases, Program], None]) -> None:
     sys.exit(cases.told())
 
 
-def main_of_both(
-    text: str, computed: Callable[[], list[tuple]], of_program: Callable[[Program], list[tuple]]
-) -> None:
-    """The same of a step that may go without PROGRAM: then only what is computed here is tried."""
+Given = Callable[[], list[tuple]]
+OfProgram = Callable[[Program], list[tuple]]
+
+
+def try_both(path: str | None, computed: Given, of_program: OfProgram) -> NoReturn:
+    """Tries what is computed here, and where there is a program what is tried of it; ends."""
+    cases = Cases()
+    with tempfile.TemporaryDirectory(prefix="afdx-tests-") as folder:
+        given = computed()
+        if path is not None:
+            given += of_program(Program(path, folder))
+        cases.try_at_once(given)
+    sys.exit(cases.told())
+
+
+def main_of_both(text: str, computed: Given, of_program: OfProgram) -> None:
+    """Takes PROGRAM from the words, where it is there; without it only what is computed here is
+    tried."""
     words = sys.argv[1:]
     if len(words) > 1 or not all(os.access(path, os.X_OK) for path in words):
         print(text.strip(), file=sys.stderr)
         sys.exit(2)
-    cases = Cases()
-    with tempfile.TemporaryDirectory(prefix="afdx-tests-") as folder:
-        given = computed()
-        if words:
-            given += of_program(Program(words[0], folder))
-        cases.try_at_once(given)
-    sys.exit(cases.told())
+    try_both(words[0] if words else None, computed, of_program)

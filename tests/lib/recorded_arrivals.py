@@ -22,7 +22,7 @@ BROKEN = "device Read"  # where more bytes are asked for than there are to come
 
 class Options(NamedTuple):
     """The options of a run on a recording, the port that `police` gives its frames, and the side
-    that they have as those of one of two recordings."""
+    that they have as those of one of two recordings. `conform` has the last two."""
 
     places: dict[int, str] = {}  # of an interface, as in `--interface K=PLACE`
     fcs: bool | None = None
@@ -32,6 +32,22 @@ class Options(NamedTuple):
     reorder: int | None = None
     stamps: str | None = None  # `end` or `start` of a frame
     at_once: bool = False  # each line is written at once
+    unnamed: str = ""  # the place of an interface that `places` doesn't have
+    lefts: frozenset[int] = frozenset()  # interfaces at which frames left the switch
+
+    def place(self, frame: Frame) -> str:
+        """What is said of the place of a frame's interface."""
+        return self.places.get(frame.interface, self.unnamed)
+
+    def has_left(self, frame: Frame) -> bool:
+        """It left the switch."""
+        return frame.interface in self.lefts
+
+    def is_start(self, frame: Frame) -> bool:
+        """Its stamp is that of its first bit: one word says it, or one of what came and one of what
+        left."""
+        came, _, left = (self.stamps or "end").partition("-")
+        return (left or came if self.has_left(frame) else came) == "start"
 
     def held(self) -> int:
         """How many arrivals that stand before a frame may have a later moment."""
@@ -133,7 +149,7 @@ def senders_port(systems: Systems, content: bytes, switch: str) -> Port | None:
 
 def place_of(options: Options, systems: Systems, frame: Frame) -> Place:
     """Where a frame came in."""
-    place, content = said(options.places.get(frame.interface, "")), frame.bytes
+    place, content = said(options.place(frame)), frame.bytes
     side = place.side or options.side or ""
     claimed_side = SIDES.get(content[11]) if len(content) >= 12 else None
     claimed_port = senders_port(systems, content, place.switch)
@@ -163,7 +179,7 @@ def moment_of(options: Options, systems: Systems, frame: Frame, place: Place) ->
     """When the last bit of a frame came, which has a stamp and a port."""
     assert frame.stamp is not None and place.port is not None
     rate = systems.rates.get(place.port)
-    if options.stamps != "start" or rate is None:
+    if not options.is_start(frame) or rate is None:
         return frame.stamp
     length = len(frame.bytes) + (0 if is_closed(options, frame) else 4)
     return frame.stamp + length * BYTE_NS // rate
@@ -186,7 +202,7 @@ def outcomes(
     if frame is None or place is None:
         yield "no-frame"
         return
-    if options.places.get(frame.interface) == LEFT_OUT:
+    if options.place(frame) == LEFT_OUT:
         yield "left-out"
     if frame.link_type != 1:
         yield "NotEthernet"
@@ -196,7 +212,8 @@ def outcomes(
         yield "BadTime"
     if is_cut(options, frame):
         yield "Cut"
-    if len(frame.bytes) < 6 or frame.bytes[:4] != b"\x03\0\0\0":
+    is_afdx = len(frame.bytes) >= 6 and frame.bytes[:4] == b"\x03\0\0\0"
+    if not is_afdx and not options.has_left(frame):
         yield "not-afdx"
     if place.port is None:
         yield "unknown-sender"

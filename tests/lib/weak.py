@@ -13,6 +13,7 @@ FEW = 16  # bytes of one call
 FIRST = 6  # reads of one byte
 READ, WRITE = (4, b"device Read\n"), (4, b"device Write\n")
 ERRORS = ("fails", "once", "interrupted")
+STEADY = "steady"  # the file of the one of two inputs that doesn't fail
 BEYOND = b"!\n"  # a line that is none: what stands before it is written, and no more
 
 
@@ -75,10 +76,57 @@ class Weak:
             calls = [line.split() for line in file]
         return [Call(kind, int(asked), int(answer)) for kind, asked, answer in calls]
 
+    def failed_write(self, at_once: bool) -> tuple[int, bytes]:
+        """How a run ends where a write fails. Where the text comes at the end, a status that isn't
+        0 stands."""
+        whole = self.whole.status, self.whole.err
+        return WRITE if at_once or whole[0] == 0 else whole
+
     def ends(self, found: Answer, wanted: tuple[int, bytes], out: bytes) -> None:
         """The run ended so, and wrote just this, which is a beginning of the undisturbed text."""
         answers(found, wanted[0], out, wanted[1])
         must(self.whole.out.startswith(out), "it wrote what the undisturbed run doesn't write")
+
+
+class WeakOfTwo(Weak):
+    """A command on two inputs. The one at this place is read from a weak device, by path or as
+    standard input, the other one by path."""
+
+    def __init__(
+        self, program: Program, words: list[str], pair: tuple[bytes, bytes], place: int,
+        by_path: bool,
+    ) -> None:
+        self.pair, self.place = pair, place
+        super().__init__(program, words, pair[place], by_path)
+
+    def inputs(self, weak: str) -> list[str]:
+        """Both; the weak one is named so."""
+        steady = self.program.write(STEADY, self.pair[1 - self.place])
+        return [weak, steady] if self.place == 0 else [steady, weak]
+
+    def undisturbed(self, given: bytes) -> Answer:
+        """The answer where the weak one has these bytes, on devices that do as they should."""
+        if given not in self.known:
+            paths = self.inputs(self.program.write("whole", given))
+            self.known[given] = self.program.run(*self.words, *paths)
+        return self.known[given]
+
+    def weakened(self, path: str, most: int, broken: dict[str, str]) -> dict[str, str]:
+        """What makes the devices weak; the steady one moves little."""
+        steady = os.path.join(self.program.folder, STEADY)
+        return super().weakened(path, most, broken) | {"DEVICE_SECOND": steady}
+
+    def front_of(self, count: int) -> tuple[bytes, bytes]:
+        """Both, of the weak one these first bytes alone."""
+        first, second = self.pair
+        return (first[:count], second) if self.place == 0 else (first, second[:count])
+
+    def read_by(self, reads: list[Call]) -> tuple[tuple[bytes, bytes], list[bool]]:
+        """What these reads give of both, and which of them aren't at their end."""
+        kinds = "rs" if self.place == 0 else "sr"
+        moved = [[call.answer for call in reads if call.kind == kind] for kind in kinds]
+        first, second = (text[: sum(each)] for text, each in zip(self.pair, moved))
+        return (first, second), [0 not in each for each in moved]
 
 
 def of_kind(calls: list[Call], kind: str) -> list[Call]:
@@ -106,7 +154,7 @@ def whole_runs(weak: Weak) -> dict[int, list[int]]:
             must(all(call.answer > 0 for call in of_kind(calls, "w")), "a write of nothing")
             reads = [call.answer for call in of_kind(calls, "r")]
             must(0 not in reads[:-1], "the list was read beyond its end")
-            must(weak.whole.status != 0 or reads[-1] == 0, "the list was not read to its end")
+            must(weak.whole.err or reads[-1] == 0, "the list was not read to its end")
             given[most] = reads
     return given
 
@@ -145,9 +193,8 @@ def broken_reads(weak: Weak, most: int, reads: list[int]) -> None:
 
 
 def broken_writes(weak: Weak, options: list[str]) -> None:
-    """Each write in turn fails, or takes nothing. A fault of the list stands where the text comes
-    at the end."""
-    fault = WRITE if options or weak.whole.status == 0 else (weak.whole.status, weak.whole.err)
+    """Each write in turn fails, or takes nothing."""
+    fault = weak.failed_write(bool(options))
     _, calls = weak.run(FEW, *options)
     written = 0
     for k, whole in enumerate(of_kind(calls, "w"), 1):
@@ -187,6 +234,42 @@ def weak_devices(weak: Weak) -> None:
     reason_of_the_fault(weak, len(reads[FEW]))
     broken_writes(weak, [])
     broken_writes(weak, ["--line-buffered"])
+
+
+def many_writes(weak: Weak) -> None:
+    """A text of more than 1,000 writes, whole and broken here and there."""
+    for options in ((), ("--line-buffered",)):
+        found, calls = weak.run(1, *options)
+        weak.ends(found, (weak.whole.status, weak.whole.err), weak.whole.out)
+        writes = len(of_kind(calls, "w"))
+        must(writes == len(weak.whole.out) > 1000, f"{writes} writes")
+        for k in (1, 2, 999, 1000, 1001, writes):
+            for how in ("fails", "once", "none"):
+                found, calls = weak.run(1, *options, write=f"{k}:{how}")
+                fault = weak.failed_write(bool(options))
+                weak.ends(found, fault, weak.whole.out[: k - 1])
+                never_again(calls, "w")
+
+
+def large_texts(weak: Weak) -> None:
+    """A text of several buffers: where one can't be handed over, the list isn't read on."""
+    for most in (0, 5000):
+        found, calls = weak.run(most)
+        weak.ends(found, (weak.whole.status, weak.whole.err), weak.whole.out)
+        written = of_kind(calls, "w")
+        must(len(written) > 3, f"{len(written)} writes")
+        must(
+            most > 0 or max(call.asked for call in written) <= 65_536 + 4_200,
+            "more is held than a buffer and a line",
+        )
+        for k in (1, 2, 3, len(written)):
+            for how in ("fails", "once", "none"):
+                found, calls = weak.run(most, write=f"{k}:{how}")
+                fault = weak.failed_write(at_once=k < len(written))
+                before = sum(call.answer for call in written[: k - 1])
+                weak.ends(found, fault, weak.whole.out[:before])
+                never_again(calls, "w")
+                must(calls[-1].kind == "w", "more was read after a failed write")
 
 
 def compile_devices(program: Program) -> None:

@@ -5,10 +5,11 @@
 
 Of each word and form that `afdx explain --list` prints an example is given to `afdx explain`; the
 answer must have the list's text. So it must for lines that have such a word, as a V line that was
-dropped, for the name of a fault alone, and for the faults that each key of a configuration can
-have. The lines of the command `list` are those of docs/RECORDINGS.md. docs/FORMATS.md, whose tables
-are printed from the same list, must have the keys and ranges of tests/lib/first_fault.py. Prints a
-line for each that isn't so, and nothing where all is; ends with status 1 if there is one.
+dropped, for the name of a fault alone, for the faults of one of two lists, and for those that each
+key of a configuration can have. The lines of the command `list` are those of docs/RECORDINGS.md.
+docs/FORMATS.md, whose tables are printed from the same list, must have the keys and ranges of
+tests/lib/first_fault.py. Prints a line for each that isn't so, and nothing where all is; ends with
+status 1 if there is one.
 """
 import itertools
 import pathlib
@@ -48,6 +49,9 @@ ALONE = {
 IN_SWITCH = "A switch of the configuration has a fault: "
 # the keys that have other values there
 OTHER_VALUES = {"switch's system": ["port"], "switch's link": ["from", "to", "jitter_us"]}
+# what no line of `conform` has
+NEVER_FOUND = [("passed", "bad-address"), ("passed", "unknown-link"), ("passed", "no-arrival"),
+               ("strange", "wrong-port"), ("strange", "over-rate")]
 # names of faults that an earlier list has too
 EARLIER = ["recording TimeBack", "recording TimeTooLarge", "config NoSuchSystem"]
 
@@ -85,6 +89,13 @@ def wanted_lines(rows: list[Row]) -> Wanted:
     wanted = []
     for row in of_kind(rows, "drop"):
         wanted += [(f"V 3 {place} drop {row.word}", [row.text]) for place in ("A", "B", "B fwd")]
+    wanted += [(f"passed 7 {side} 3 {row.word}", ["had to drop it", row.text]) for side in "AB"
+               for row in of_kind(rows, "drop") if row.word not in ("bad-address", "unknown-link")]
+    wanted += [(f"strange 7 {side} 3 {row.word}", ["nothing explains it", row.text])
+               for side in "AB" for row in of_kind(rows, "drop")[:5] + of_kind(rows, "strange")]
+    wanted += [(line.replace("list ", f"list {role} "), [row.text]) for role in ("came", "left")
+               for row in of_kind(rows, "fault") if row.word.startswith("list ")
+               for line in examples_of(row.word)]
     wanted += [(f"X 6720 s3 2 {row.word}", [row.text]) for row in of_kind(rows, "unread")]
     wanted += [(f"# 7 {row.word}", [row.text, "was refused"]) for row in of_kind(rows, "refusal")]
     wanted += [(f"# {row.word} 7", [row.text]) for row in of_kind(rows, "skipped")]
@@ -161,6 +172,7 @@ def key_lines(rows: list[Row]) -> tuple[Wanted, list[str]]:
                 wanted.append((line, [kind, text, f"{key}: {value}"]))
             else:
                 never.append(line)
+    never += [f"{line} 7 A 3 {word}" for line, word in NEVER_FOUND]
     for place in ("top 0", "system 1", "link 4096", "port 2"):
         wanted.append((f"config UnknownKey {place} key 0", [texts["UnknownKey"]]))
     for place in ("top 0", "system 1", "neighbour 23", "link 4096", "port 2"):

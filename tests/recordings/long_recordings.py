@@ -10,7 +10,7 @@ from collections.abc import Iterator
 from typing import NamedTuple
 
 from frames import HELLO, sealed
-from program import Answer, Cases, Program, answers, must
+from program import Answer, Cases, Program, answers, least_room, must
 from reads import ORDERS, READS
 from wanted import POLICE
 
@@ -107,22 +107,14 @@ def streamed(program: Program, run: Long, room: int, *options: str) -> Answer:
     return Answer(process.returncode, b"", err)
 
 
-def least_room(program: Program, run: Long) -> int:
-    """The least address space, in KiB and to the nearest 64, in which short recordings are read."""
-    low_room, high = 0, 1 << 20
-    while high - low_room > 64:
-        middle = (low_room + high) // 2
-        if streamed(program, run.short(), middle).status == 0:
-            high = middle
-        else:
-            low_room = middle
-    return high
+def short_room(program: Program, run: Long) -> int:
+    """The least address space, in KiB, in which short recordings are read."""
+    return least_room(lambda room: streamed(program, run.short(), room).status == 0)
 
 
 def long_memory(program: Program, run: Long) -> None:
     """As many frames as no list has lines take no more memory than a few, up to 64 KiB."""
-    room = least_room(program, run)
-    must(room < 1 << 20, "a short recording takes a GiB")
+    room = short_room(program, run)
     found = streamed(program, run, room + 64, "--summary")
     every = run.inputs * run.frames
     skips = "no-frame 0 left-out 0 not-afdx 0 unknown-sender 0 no-network 0 before-origin 0"
@@ -141,13 +133,13 @@ def long_memory(program: Program, run: Long) -> None:
 def second_memory(program: Program, words: list[str]) -> None:
     """A second recording takes no more memory than reading takes."""
     runs = [Long([*words, *AS_READ], SHORT, inputs) for inputs in (1, 2)]
-    one, two = (least_room(program, run) for run in runs)
+    one, two = (short_room(program, run) for run in runs)
     must(two - one <= SECOND_ROOM, f"{one} KiB for one recording, {two} for two")
 
 
 def large_memory(program: Program, words: list[str]) -> None:
     """Of a large frame that is held no more is kept than every switch drops."""
-    room = least_room(program, Long([*words, *AS_READ], SHORT))
+    room = short_room(program, Long([*words, *AS_READ], SHORT))
     more = (2 * LARGE + MANY_LARGE * KEPT) // 1024
     found = streamed(program, Long(words, MANY_LARGE, size=LARGE, is_mixed=True), room + more)
     answers(found, 0, None, b"")

@@ -1,45 +1,25 @@
 """Commands on two recordings, one of which is weak; a part of tests/run/devices.py."""
 from __future__ import annotations
 
-import os
 from collections.abc import Iterator
 
 from pair_wanted import PairCase
-from program import Answer, Program
+from program import Program
 from reads import ORDERS, READS
 from recorded_pair import NETWORKS, PairOptions
 from recording_rows import F1, G1, H1, H2, IL, PL, SL, US, ZERO, E, R
-from weak import Call, Weak, weak_devices
+from weak import Call, WeakOfTwo, weak_devices
 from weak_recordings import commands_of
 
 FOREIGN = "ff" + H1[2:]  # a frame that is no AFDX frame
-STEADY = "steady"  # the file of the one that doesn't fail
 
 
-class WeakHalf(Weak):
-    """A command on two recordings, one of which is read from a weak device, by path or as standard
-    input; the other one by path."""
+class WeakHalf(WeakOfTwo):
+    """A command on two recordings, one of which is read from a weak device."""
 
     def __init__(self, program: Program, case: PairCase, place: int, by_path: bool) -> None:
-        self.case, self.place = case, place
-        super().__init__(program, case.words(), case.pair[place], by_path)
-
-    def inputs(self, weak: str) -> list[str]:
-        """Both; the weak one is named so."""
-        steady = self.program.write(STEADY, self.case.pair[1 - self.place])
-        return [weak, steady] if self.place == 0 else [steady, weak]
-
-    def undisturbed(self, given: bytes) -> Answer:
-        """The answer where the weak one has these bytes, on devices that do as they should."""
-        if given not in self.known:
-            paths = self.inputs(self.program.write("whole", given))
-            self.known[given] = self.program.run(*self.words, *paths)
-        return self.known[given]
-
-    def weakened(self, path: str, most: int, broken: dict[str, str]) -> dict[str, str]:
-        """What makes the devices weak; the steady one moves little."""
-        steady = os.path.join(self.program.folder, STEADY)
-        return super().weakened(path, most, broken) | {"DEVICE_SECOND": steady}
+        self.case = case
+        super().__init__(program, case.words(), case.pair, place, by_path)
 
     def text_of(self, case: PairCase, opens: str, at_once: bool) -> bytes:
         """What is reported of the recordings where the run asks for more of one of these sides."""
@@ -50,18 +30,15 @@ class WeakHalf(Weak):
 
     def lines_before(self, count: int, at_once: bool = False) -> bytes:
         """What is reported once so many bytes of the weak one were read, if the run then stops."""
-        case = self.case.with_half(self.place, self.given[:count])
+        case = self.case._replace(pair=self.front_of(count))
         return self.text_of(case, NETWORKS[self.place], at_once)
 
     def told_before(self, reads: list[Call]) -> bytes:
         """What these reads give with --line-buffered; an input of which one gives nothing is at its
         end."""
-        case, opens = self.case, NETWORKS
-        for kind, place in (("r", self.place), ("s", 1 - self.place)):
-            moved = [call.answer for call in reads if call.kind == kind]
-            case = case.with_half(place, self.case.pair[place][: sum(moved)])
-            opens = opens.replace(NETWORKS[place], "") if 0 in moved else opens
-        return self.text_of(case, opens, at_once=True)
+        pair, are_open = self.read_by(reads)
+        opens = "".join(side for side, is_open in zip(NETWORKS, are_open) if is_open)
+        return self.text_of(self.case._replace(pair=pair), opens, at_once=True)
 
 
 def pairs() -> dict[str, tuple[str, str]]:

@@ -8,14 +8,14 @@ the first call broken, then the second, and so on. A call is broken by an error 
 error that is gone at the next call, by an interruption, or by moving no byte. `police`, `replay`,
 with admission and without, and `send` are run on lists of a few lines, read by path or as standard
 input, and `check` and `solve` on configurations; `police` and `replay` also on recordings, and on
-two at once, of which one is weak, if the program reads them (tests/lib/reads.py). `replay` and
-`send` are also run over several switches a side. Each run must write a beginning of the undisturbed
-text, exactly as far as it has to, and end with the status and the one line of the device that
-failed; and a device that failed, or has ended, must not be asked again, nor the other one be asked
-for more than what is held. With --line-buffered the text of each line, or recorded frame, must be
-handed over before more is read; frames that are held to be put in order are reported at the end and
-at a fault, and not after a failed read. The first bytes are also read one by one, and each of these
-reads is broken too.
+two at once, of which one is weak, if the program reads them (tests/lib/reads.py); `conform` on two
+lists, of which one is weak. `replay` and `send` are also run over several switches a side. Each run
+must write a beginning of the undisturbed text, exactly as far as it has to, and end with the status
+and the one line of the device that failed; and a device that failed, or has ended, must not be
+asked again, nor the other one be asked for more than what is held. With --line-buffered the text of
+each line, or recorded frame, must be handed over before more is read; frames that are held to be
+put in order are reported at the end and at a fault, and not after a failed read. The first bytes
+are also read one by one, and each of these reads is broken too.
 Prints `ok NAME` or `FAILED NAME` for each case, then `N passed, M failed`; ends with status 1 if a
 case failed.
 """
@@ -30,52 +30,18 @@ from collections.abc import Iterator
 
 sys.dont_write_bytecode = True
 TESTS = os.path.join(os.path.dirname(os.path.abspath(__file__)), "..")
-sys.path[:0] = [os.path.join(TESTS, name) for name in ("lib", "recordings")]
+sys.path[:0] = [os.path.join(TESTS, name) for name in ("lib", "recordings", "conform")]
 import tables as made  # noqa: E402
 from frames import HELLO, frame_of  # noqa: E402
 from program import Cases, Program, answers, main_of, must  # noqa: E402
 from sender import Message, list_sent, submission_list  # noqa: E402
 from weak import ERRORS, FEW, WRITE, Weak, compile_devices  # noqa: E402
-from weak import never_again, of_kind, weak_devices  # noqa: E402
+from weak import large_texts, many_writes, weak_devices  # noqa: E402
+from weak_lists import weak_lists  # noqa: E402
 from weak_pairs import weak_pairs  # noqa: E402
 from weak_recordings import weak_recordings  # noqa: E402
 
 POLICE = ["police", "1", "64", "500"]
-
-
-def many_writes(weak: Weak) -> None:
-    """A text of more than 1,000 writes, whole and broken here and there."""
-    for options in ((), ("--line-buffered",)):
-        found, calls = weak.run(1, *options)
-        weak.ends(found, (0, b""), weak.whole.out)
-        writes = len(of_kind(calls, "w"))
-        must(writes == len(weak.whole.out) > 1000, f"{writes} writes")
-        for k in (1, 2, 999, 1000, 1001, writes):
-            for how in ("fails", "once", "none"):
-                found, calls = weak.run(1, *options, write=f"{k}:{how}")
-                weak.ends(found, WRITE, weak.whole.out[: k - 1])
-                never_again(calls, "w")
-
-
-def large_texts(weak: Weak) -> None:
-    """A text of several buffers: where one can't be handed over, the list isn't read on."""
-    for most in (0, 5000):
-        found, calls = weak.run(most)
-        weak.ends(found, (0, b""), weak.whole.out)
-        written = of_kind(calls, "w")
-        must(len(written) > 3, f"{len(written)} writes")
-        must(
-            most > 0 or max(call.asked for call in written) <= 65_536 + 4_200,
-            "more is held than a buffer and a line",
-        )
-        for k in (1, 2, 3, len(written)):
-            for how in ("fails", "once", "none"):
-                found, calls = weak.run(most, write=f"{k}:{how}")
-                weak.ends(
-                    found, WRITE, weak.whole.out[: sum(call.answer for call in written[: k - 1])]
-                )
-                never_again(calls, "w")
-                must(calls[-1].kind == "w", "more was read after a failed write")
 
 
 def weak_config(program: Program, words: list[str], config: bytes, status: int) -> None:
@@ -254,12 +220,15 @@ def try_all(cases: Cases, program: Program) -> None:
     compile_devices(program)
     config = program.write("base.toml", made.text_of(TABLES))
     two = program.write("two.toml", made.example("two_switches.toml"))
+    if not program.knows("conform"):
+        cases.skip("conform", "the program doesn't have it")
     cases.try_at_once(
         [
             *short_lists(program, config, two),
             *long_lists(program, config),
             *weak_recordings(program, config, two),
             *weak_pairs(program, config, two),
+            *weak_lists(program),
             *weak_configs(program),
             *untold_faults(program, config),
         ]

@@ -21,7 +21,9 @@ and changed at random (tests/recordings/), or from the case's list: a run on it 
 writes of the list that says the same, and `list` that list. Where it puts arrivals in order, frames
 stand out of order in some. Where it reads two at once, a pair is tried as well, whole and cut. Now
 and then a list over several switches is recorded, and several switches are solved
-(tests/cascades/): what is computed must be written. `--recordings` tries recordings alone.
+(tests/cascades/), and where the program has `conform` it judges small lists, and recordings if it
+reads them (tests/conform/): what is computed must be written. `--recordings` tries recordings
+alone.
 
 The first case that is wrong is written to DIR (a new folder where it isn't given), its seed and
 number are printed, and the status is 1. `--seed N --first K` begins with that case. Needs Python
@@ -37,7 +39,8 @@ import time
 
 sys.dont_write_bytecode = True
 TESTS = os.path.join(os.path.dirname(os.path.abspath(__file__)), "..")
-sys.path[:0] = [os.path.join(TESTS, name) for name in ("fuzzing", "recordings", "cascades")]
+PARTS = ("fuzzing", "recordings", "cascades", "conform")
+sys.path[:0] = [os.path.join(TESTS, name) for name in PARTS]
 import checks  # noqa: E402
 import made  # noqa: E402
 import sending  # noqa: E402
@@ -47,15 +50,18 @@ import random_taps  # noqa: E402
 import reading  # noqa: E402
 import wanted  # noqa: E402
 from compared_recordings import as_computed  # noqa: E402
+from conform_claims import Judge, judged_alike  # noqa: E402
 from made_cascades import made_cascade, mutated, three_of  # noqa: E402
 from made_recordings import made_data, pcap_of  # noqa: E402
 from program import Program, Wrong, must  # noqa: E402
 from reads import READS  # noqa: E402
+from recorded_claims import recorded_alike  # noqa: E402
 from solved_cascades import KEEPS, check_solve, with_any  # noqa: E402
 from tables import one_link_tables  # noqa: E402
 
 PROGRAM = os.path.join(made.TOP, "crates", "afdx", "out", "afdx")
 LONGEST = 60  # seconds of one run
+JUDGED = ("config-", "came-", "left-", "input-")  # how the files begin that `conform` is given
 
 
 class Runs:
@@ -63,6 +69,7 @@ class Runs:
 
     def __init__(self, program, folder):
         self.program, self.folder, self.count = program, folder, 0
+        self.has_conform = None  # not known yet: of lists, of recordings
 
     def path(self, name):
         return os.path.join(self.folder, name)
@@ -280,12 +287,23 @@ def try_solved(runs, seed, number):
     check_solve(program, text, chance.choice(KEEPS), chance.random() < 0.3)
 
 
+def try_judged(runs, seed, number):
+    """Two small lists, and where the program judges recordings one or two of them."""
+    program = Program(runs.program, runs.folder)
+    if runs.has_conform is None:
+        runs.has_conform = program.knows("conform"), program.knows("conform", "--left")
+    for is_there, judged in zip(runs.has_conform, (judged_alike, recorded_alike)):
+        if is_there:
+            judged(Judge(program), seed, 1, number)
+
+
 def keep(runs, folder):
     """Copies the case to where it stays."""
     target = folder or tempfile.mkdtemp(prefix="afdx-fuzz-kept-")
     os.makedirs(target, exist_ok=True)
     taps = "cascade.toml", "tap-0", "tap-1"
-    for name in ("config", "list", "one.toml", "a.recording", "b.recording", *taps):
+    judged = [name for name in os.listdir(runs.folder) if name.startswith(JUDGED)]
+    for name in ("config", "list", "one.toml", "a.recording", "b.recording", *taps, *judged):
         if os.path.exists(runs.path(name)):
             with open(runs.path(name), "rb") as source, open(
                 os.path.join(target, name), "wb"
@@ -339,6 +357,8 @@ def main():
                     try_recorded_list(runs, given.seed, number, stored)
                 if not given.recordings and number % 4 == 0:
                     try_solved(runs, given.seed, number)
+                if not given.recordings and number % 2:
+                    try_judged(runs, given.seed, number)
                 if "reorder" in READS and number % 8 == 0:
                     try_tapped(runs, given.seed, number)
             except Wrong as wrong:

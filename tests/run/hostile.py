@@ -5,8 +5,9 @@
 
 Tried are all beginnings of a configuration, of frame lists, of a submission list and of frames;
 lines as long as they may be and one byte longer; fields that are nearly right; numbers of up to
-5,000 digits; as many lines as there may be and one more; configurations of 4 MB; recordings that
-are large, senseless or far out of order, if the program reads them (tests/lib/reads.py). Each run
+5,000 digits; as many lines as there may be and one more; configurations of 4 MB; both lists of
+`conform`, cut at each byte, of equal and of the greatest times; recordings that are large,
+senseless or far out of order, if the program reads them (tests/lib/reads.py). Each run
 must end at once with the status and the one line of the first fault, by the orders of
 docs/FORMATS.md, which tests/lib/ follows apart from the program, and with the output of the lines
 before it. Prints `ok NAME` or `FAILED NAME` for each case, then `N passed, M failed`; ends with
@@ -22,10 +23,11 @@ from collections.abc import Iterator
 
 sys.dont_write_bytecode = True
 TESTS = os.path.join(os.path.dirname(os.path.abspath(__file__)), "..")
-sys.path[:0] = [os.path.join(TESTS, name) for name in ("lib", "recordings")]
+sys.path[:0] = [os.path.join(TESTS, name) for name in ("lib", "recordings", "conform")]
 import tables as made  # noqa: E402
 from first_fault import config_fault, list_fault, list_lines  # noqa: E402
 from frames import HELLO, frame_of, sealed  # noqa: E402
+from hostile_lists import OneList, hostile_lists, one_list_commands  # noqa: E402
 from hostile_recordings import hostile_recordings  # noqa: E402
 from least import solve_answer  # noqa: E402
 from program import Answer, Cases, Program, answers, main_of, must, same_text, short  # noqa: E402
@@ -35,6 +37,8 @@ MS = 1_000_000
 SOON = 20  # seconds
 POLICE = ["police", "1", "64", "500"]
 H1 = HELLO.hex().encode()
+SOUND = sealed(HELLO).hex().encode()
+FRAMES = b"F 0 A 1 %s\r\n# a remark\n\nF 0 A 1 %s\nR 1000000 A 1 %s" % (H1, H1, SOUND)
 BEYOND = b"!\n"  # a line that is none: what stands before it is written, and no more
 
 
@@ -43,6 +47,7 @@ class Command:
 
     def __init__(self, program: Program, words: list[str], is_frames: bool = True) -> None:
         self.program, self.words, self.is_frames = program, words, is_frames
+        self.names_lines = is_frames  # that are too short
         self.known: dict[bytes, Answer] = {}
 
     def run(self, given: bytes) -> Answer:
@@ -138,13 +143,13 @@ def config_beginnings(program: Program, text: bytes, part: int, parts: int) -> N
         is_solved(program.run("solve", path), text[:count])
 
 
-def frame_list_beginnings(command: Command, text: bytes) -> None:
+def frame_list_beginnings(command: Command | OneList, text: bytes) -> None:
     """Every beginning of a list of frames: one that breaks off is too short."""
     for count in range(len(text) + 1):
         found, front = command.is_told(text[:count]), text[: text.rfind(b"\n", 0, count) + 1]
         last = text[len(front) : count]
         breaks_off = last[:1] in (b"F", b"R") and text[count : count + 1] not in (b"\r", b"\n", b"")
-        if found.status == 0 and breaks_off:
+        if not found.err and breaks_off:
             short = front + last[: last.rfind(b" ") + 1].replace(b"F", b"R") + b"-"
             same_text("standard output", command.run(short).out, found.out)
 
@@ -197,7 +202,7 @@ def frame_beginnings(program: Program) -> None:
 # ---- lines ---------------------------------------------------------------------------------------
 
 
-def longest_lines(command: Command) -> None:
+def longest_lines(command: Command | OneList) -> None:
     """Lines of 4,200 and of 4,201 bytes, with a line feed and without, first and later."""
     good = b"F 5 A 1 %s\n" % H1 if command.is_frames else b"5 1 1 1000 61\n"
     head = b"R 5 A 1 " if command.is_frames else b"5 1 1 1000 "
@@ -243,7 +248,7 @@ ODD_MESSAGES = [
 ]
 
 
-def odd_lines(command: Command) -> None:
+def odd_lines(command: Command | OneList) -> None:
     """Lines that are nearly right, first, later, and last without a line feed."""
     good = b"F 5 A 1 %s\n" % H1 if command.is_frames else b"5 1 1 1000 61\n"
     for line in ODD_FRAMES if command.is_frames else ODD_MESSAGES:
@@ -257,7 +262,7 @@ def odd_lines(command: Command) -> None:
             command.is_told(given)
 
 
-def long_numbers(command: Command) -> None:
+def long_numbers(command: Command | OneList) -> None:
     """Numbers of 1 to 5,000 digits in each field."""
     fields = (
         [b"R", b"0", b"A", b"1", b"-"] if command.is_frames else [b"0", b"1", b"1", b"1000", b"61"]
@@ -271,8 +276,8 @@ def long_numbers(command: Command) -> None:
                 b" ".join([*fields[:place], b"0" * count + fields[place], *fields[place + 1 :]])
             )
         found = command.is_told(b"\n".join(lines) + b"\n")
-        must(found.status == 0 and len(lines[-1]) == 4200, f"status {found.status}")
-        if command.is_frames:
+        must(not found.err and len(lines[-1]) == 4200, f"status {found.status}")
+        if command.names_lines:
             read = found.out.count(b"too-short")
             must(read == len(lines), "a line with zeros before a number is not read")
         for count in [*range(1, 41), 64, 65, 100, 1000, 4000, *range(4185, 4201), 5000]:
@@ -389,20 +394,34 @@ def long_words(program: Program) -> None:
     answers(program.run("send", config, "s" * 100_000, "-"), 2, b"", b"words NoSuchSystem\n")
 
 
+def line_cases(name: str, command: Command | OneList) -> Iterator[tuple]:
+    """What is tried with the lines of a command's list."""
+    yield f"{name}: the longest lines", longest_lines, command
+    yield f"{name}: odd lines", odd_lines, command
+    yield f"{name}: long numbers", long_numbers, command
+
+
 def list_cases(name: str, command: Command) -> Iterator[tuple]:
     """What is tried with a command's list."""
     messages = [Message(0, 1, 1, 1000, b"first"), Message(7, 1, 2, 1000, bytes(range(17)))]
     messages.append(Message(10**7, 1, 1, 1000, b"x"))
-    sound = sealed(HELLO).hex().encode()
-    frames = b"F 0 A 1 %s\r\n# a remark\n\nF 0 A 1 %s\nR 1000000 A 1 %s" % (H1, H1, sound)
     if command.is_frames:
-        yield f"{name}: beginnings of a list", frame_list_beginnings, command, frames
+        yield f"{name}: beginnings of a list", frame_list_beginnings, command, FRAMES
     else:
         yield f"{name}: beginnings of a list", submission_list_beginnings, command, messages
-    yield f"{name}: the longest lines", longest_lines, command
-    yield f"{name}: odd lines", odd_lines, command
-    yield f"{name}: long numbers", long_numbers, command
+    yield from line_cases(name, command)
     yield f"{name}: the most lines", most_lines, command
+
+
+def conform_cases(cases: Cases, program: Program) -> Iterator[tuple]:
+    """What is tried with the two lists of `conform`."""
+    if not program.knows("conform"):
+        cases.skip("conform", "the program doesn't have it")
+        return
+    for name, command in one_list_commands(program).items():
+        yield f"{name}: beginnings of a list", frame_list_beginnings, command, FRAMES
+        yield from line_cases(name, command)
+    yield from hostile_lists(program)
 
 
 def try_all(cases: Cases, program: Program) -> None:
@@ -417,6 +436,7 @@ def try_all(cases: Cases, program: Program) -> None:
     all_cases.append(("long words", long_words, program.apart()))
     for name, text, fault in [*deep_configs(), *wide_configs(), *long_configs()]:
         all_cases.append((f"a configuration: {name}", large_config, program, text, fault))
+    all_cases += conform_cases(cases, program)
     cases.try_at_once([*all_cases, *hostile_recordings(program)])
 
 

@@ -54,6 +54,7 @@ MEMORY = {
     "crates/afdx_end_systems/src/end_system.rt": {"pass_on"},
     "crates/afdx_text/src/line.rt": {"room_wanted"},
 }
+OF_TWO_LISTS = ["list came n", "list left n"]  # n is the fault of that list
 SCRIPTS = ["tests/**/*.py", "tests/**/*.sh", "tests/**/*.c", "examples/*.py"]
 SCRIPTS += ["bench/*", "bin/*", "bin/printing/*.py", "tools/*", "tools/**/*.py", ".ci/*"]
 
@@ -162,11 +163,17 @@ def lists_apart() -> list[str]:
     for word in [*words, *lists.REFUSALS]:
         if not re.search(rf"\b{word}\b", text_of(TOP / "docs/afdx.1")):
             faults.append(f"docs/afdx.1 doesn't have {word}")
-    for file, forms in (("fault", lists.LIST_FAULTS), ("recording_fault", lists.RECORDING_FAULTS)):
+    for file, before, forms in (
+        ("fault", "", [*lists.LIST_FAULTS, *OF_TWO_LISTS]),
+        ("list_fault", "list ", lists.LIST_FAULTS),
+        ("recording_fault", "", lists.RECORDING_FAULTS),
+    ):
         source = text_of(CRATES / f"afdx_lists/src/{file}.rt")
-        derived = re.findall(r'#\[error\("((?:list|recording) .*?)"\)\]', source)
-        if {text.replace("{0}", "n") for text in derived} != set(forms):
-            faults.append(f"the texts of the faults of {file}.rt are {derived}")
+        derived = re.findall(r'#\[error\("(.*?)"\)\]', source)
+        texts = [before + text.replace("{0}", "n") for text in derived]
+        told = [text for text in texts if re.match("list |recording ", text)]
+        if set(told) != set(forms):
+            faults.append(f"the texts of the faults of {file}.rt are {told}")
     return faults
 
 

@@ -3,9 +3,9 @@
 #
 #     tests/run/program.sh PROGRAM
 #
-# Prints `ok NAME` or `FAILED NAME` for each case and, at the end, `N passed, M failed`. Ends with
-# status 1 if a case failed. Standard output and standard error are compared byte for byte, but for
-# the texts of help and of refused words, which are only looked at.
+# Prints `ok NAME`, `FAILED NAME` or `skipped NAME` for each case and, at the end, `N passed, M
+# failed, K skipped`. Ends with status 1 if a case failed. Standard output and standard error are
+# compared byte for byte, but for the texts of help and of refused words, which are only looked at.
 set -euo pipefail
 export LC_ALL=C
 
@@ -91,10 +91,10 @@ full_case() { # NAME STATUS ERR WORD..
     )"
 }
 
-for part in police check replay words explain send solve standard_streams; do
+for part in police check replay conform words explain send solve standard_streams; do
     # shellcheck source=/dev/null
     source "$top/tests/program/$part.sh"
 done
 
-echo "$passed passed, $failed failed"
+echo "$passed passed, $failed failed, $skipped skipped"
 [[ $failed -eq 0 ]]

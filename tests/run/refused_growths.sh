@@ -9,10 +9,11 @@
 # frame and its copy in base.toml, replays examples/gigabit.list, and sends five messages, of which
 # one is refused; it solves, replays and sends over examples/two_switches.toml. It polices and
 # replays recordings, and replays and lists two at once, over the two switches too, if it reads them
-# (tests/lib/reads.py). Each of these is run with the first request refused, then the second, and so
-# on, until a run meets no refusal; and again with all requests refused from the first on, from the
-# second on, and so on. Each run must write a beginning of what the undisturbed run writes, and end
-# either with the line `memory` and status 4, or as the undisturbed run does.
+# (tests/lib/reads.py). It judges two lists by `conform`. Each of these is run with the first
+# request refused, then the second, and so on, until a run meets no refusal; and again with all
+# requests refused from the first on, from the second on, and so on. Each run must write a beginning
+# of what the undisturbed run writes, and end either with the line `memory` and status 4, or as the
+# undisturbed run does.
 #
 # Of each RUNNER the tests whose names, with their modules', contain `refused` are run, with one
 # request refused at a time, and with all refused from one on. Such a test makes a call again where
@@ -22,7 +23,8 @@
 #
 # The requests are refused by tests/lib/refuse_memory.c, which `cc` compiles. Prints `ok NAME` or
 # `FAILED NAME` for each case (a program's whole row of runs, or one test's), then `N passed, M
-# failed`. Ends with status 1 if a case failed, or met no request at all, or if there was none.
+# failed, K skipped`. Ends with status 1 if a case failed, or met no request at all, or if there was
+# none.
 set -euo pipefail
 export LC_ALL=C
 
@@ -155,6 +157,26 @@ refuse_recordings() { # PROGRAM
     done <"$work/recordings"
 }
 
+# Two lists with findings of each kind, by an exact judge and by one with all leeway, and two that
+# conform, either of them as standard input.
+refuse_conform() { # PROGRAM
+    local base=$top/examples/base.toml two=$top/examples/two_switches.toml
+    if ! "$1" conform --help >/dev/null 2>&1; then
+        skip conform "the program doesn't have it"
+        return
+    fi
+    python3 "$top/tests/conform/growing_lists.py" "$work"
+    input=$work/came
+    refuse_program 'conform' "$1" conform "$base" - "$work/left"
+    refuse_program 'conform, a bad line' "$1" conform "$base" - "$work/bad"
+    input=$work/left
+    refuse_program 'conform with leeway' "$1" conform --slack 1000 --drift 100 --inner 60000 \
+        --asked 10000 --from 5 --until 9000000 --leave-out 9 --leave-out other --leave-out 7 \
+        --line-buffered "$base" "$work/came" -
+    refuse_program 'conform of a switch of two' "$1" conform --switch fwd "$two" "$work/came" -
+    refuse_program 'conform, no such switch' "$1" conform --switch none "$two" "$work/came" -
+}
+
 # What is wrong with the test that `launch` ran; left in `fault`. It must pass where one request was
 # refused. Where all are refused from one on it may fail, but only out of memory.
 look_at_test() { # HOW
@@ -197,6 +219,7 @@ if [[ $tests == no ]]; then
     sed 's/^F 0 [AB]/& fwd/' "$work/copies.list" >"$input"
     refuse_program 'replay over two switches' "$1" replay "$top/examples/two_switches.toml" -
     refuse_recordings "$1"
+    refuse_conform "$1"
 else
     input=/dev/null
     for runner in "$@"; do
@@ -207,5 +230,5 @@ else
     done
 fi
 
-echo "$passed passed, $failed failed"
+echo "$passed passed, $failed failed, $skipped skipped"
 [[ $failed -eq 0 && $passed -gt 0 ]]

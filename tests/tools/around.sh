@@ -131,6 +131,7 @@ guide_tests() {
     cp -r "$work/prefix/share/afdx/examples" "$folder" # as the guide says
     HAS=
     if "$program" send --help >"$work/out" 2>&1; then HAS+=' send'; fi
+    if "$program" conform --help >"$work/out" 2>&1; then HAS+=' conform'; fi
     if [[ -n $dpkt ]]; then HAS+=' capture'; fi
     if has tshark; then HAS+=' tshark'; fi
     if [[ -n $reporting ]]; then HAS+=' report'; fi

@@ -8,13 +8,14 @@ use afdx_config::{
     CASCADE_KEYS, CONFIG_FAULTS, Key, LINK_KEYS, NEIGHBOUR_KEYS, PORT_KEYS, SWITCH_KEYS,
     SYSTEM_KEYS, TOP_KEYS, UNKNOWN_KEYS, WIDER_KEYS,
 };
-use afdx_explain::{FAULTS, LINES, kind_of, meaning_of};
+use afdx_explain::{CONFORM_LINES, FAULTS, LINES, kind_of, meaning_of};
 use afdx_frame::{IP_FAULTS, MAC_FAULTS};
 use afdx_lists::{RECORDING_FAULTS, RUN_FAULTS};
 use afdx_police::REASONS;
 use afdx_receive::DROP_REASONS;
 use afdx_recorded::SKIPPED;
 use afdx_send::SEND_FAULTS;
+use afdx_text::STRANGE_REASONS;
 use clap::ArgMatches;
 use std::alloc::{AllocError, Global};
 use std::io;
@@ -116,6 +117,11 @@ fn print_refusals(rt: &HostRuntime) -> io::Result<()> {
     print_words(rt, "refusal", &SEND_FAULTS[..5])
 }
 
+/// Prints why a frame is strange that left.
+fn print_strange(rt: &HostRuntime) -> io::Result<()> {
+    print_words(rt, "strange", &STRANGE_REASONS)
+}
+
 /// Prints why a number of a recording is skipped.
 fn print_skipped(rt: &HostRuntime) -> io::Result<()> {
     print_words(rt, "skipped", &SKIPPED)
@@ -197,6 +203,11 @@ fn print_lines(rt: &HostRuntime) -> io::Result<()> {
     print_forms(rt, "line", &LINES)
 }
 
+/// Prints the lines of `conform`.
+fn print_conform_lines(rt: &HostRuntime) -> io::Result<()> {
+    print_forms(rt, "line", &CONFORM_LINES)
+}
+
 /// Prints each closed list: for each of its words, or of the forms of its lines, the list's name
 /// with it, then what it means, then an empty line.
 pub fn print_lists(rt: &HostRuntime) -> io::Result<()> {
@@ -205,6 +216,7 @@ pub fn print_lists(rt: &HostRuntime) -> io::Result<()> {
     print_own_drops(rt)?;
     print_no_datagrams(rt)?;
     print_refusals(rt)?;
+    print_strange(rt)?;
     print_skipped(rt)?;
     print_admission(rt)?;
     print_config_faults(rt)?;
@@ -220,7 +232,8 @@ pub fn print_lists(rt: &HostRuntime) -> io::Result<()> {
     print_run_faults(rt)?;
     print_recording_faults(rt)?;
     print_faults(rt)?;
-    print_lines(rt)
+    print_lines(rt)?;
+    print_conform_lines(rt)
 }
 
 /// Where a configuration stops being TOML, and why.

@@ -2,6 +2,7 @@
 #![tactic(auto)]
 
 mod configs;
+mod conforming;
 mod devices;
 mod explaining;
 mod locating;
@@ -12,10 +13,12 @@ mod searching;
 mod telling;
 
 use crate::configs::{check_config, solve_tables};
+use crate::conforming::judge_lists;
 use crate::explaining::{Cause, explain, is_asked, line_of, print_lists, print_meaning};
 use crate::places::take_places;
 use crate::running::{Replaying, Run, run_inputs, run_sender};
 use crate::telling::{complain, end_with, memory, tell_text};
+use afdx_acceptance::ByRole;
 use afdx_commands::status::{DONE, NO_DEVICE_OR_MEMORY, WRONG_WORDS};
 use afdx_explain::meaning_of;
 use afdx_replay::{CommandedRule, Policing, RunFault};
@@ -126,6 +129,18 @@ fn replay_list(rt: &HostRuntime, matches: &ArgMatches<'_>) -> u8 {
     ended(run_inputs(rt, matches, &Run::Replay(replaying), list, second))
 }
 
+/// Judges a switch by what came and what left.
+fn judge_switch(rt: &HostRuntime, matches: &ArgMatches<'_>) -> u8 {
+    let (Some(came), Some(left)) = (matches.get_str("CAME"), matches.get_str("LEFT")) else {
+        return WRONG_WORDS;
+    };
+    let config = match read_config(rt, matches) {
+        Ok(config) => config,
+        Err(status) => return status,
+    };
+    ended(judge_lists(rt, matches, config.as_slice(), ByRole { came, left }))
+}
+
 fn list_numbers(rt: &HostRuntime, matches: &ArgMatches<'_>) -> u8 {
     let Some(list) = matches.get_str("LIST") else {
         return WRONG_WORDS;
@@ -180,6 +195,7 @@ fn explain_words(rt: &HostRuntime, matches: &ArgMatches<'_>) -> u8 {
 fn run_matches(rt: &HostRuntime, matches: &ArgMatches<'_>) -> u8 {
     match matches.subcommand() {
         Some(("check", matches)) => check_config(rt, matches),
+        Some(("conform", matches)) => judge_switch(rt, matches),
         Some(("explain", matches)) => explain_words(rt, matches),
         Some(("list", matches)) => list_numbers(rt, matches),
         Some(("police", matches)) => police_list(rt, matches),

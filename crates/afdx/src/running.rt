@@ -23,7 +23,7 @@ const OUTPUT_BUFFER: usize = 65_536;
 
 /// How many bytes are gathered before they go to standard output: none if each line is to be seen
 /// at once, or a person reads.
-fn output_room(rt: &HostRuntime, matches: &ArgMatches<'_>) -> usize {
+pub fn output_room(rt: &HostRuntime, matches: &ArgMatches<'_>) -> usize {
     if matches.get_flag("line-buffered") || rt.stdout().is_terminal() {
         0
     } else {
@@ -44,7 +44,7 @@ fn print_counts(rt: &HostRuntime, ended: &InputEnded) {
 /// Ends a command that ran over lists or recordings: hands over what its output still holds,
 /// explains its fault or prints its counts, if that is asked for, and gives the exit status. `read`
 /// says why reading failed, if it did.
-fn end_run<W: Write + Drop, E: Write + Drop>(
+pub fn end_run<W: Write + Drop, E: Write + Drop>(
     rt: &HostRuntime,
     matches: &ArgMatches<'_>,
     ended: InputEnded,
@@ -111,7 +111,7 @@ impl Run<'_> {
 }
 
 /// Tells why the words of a run over recordings are refused, and gives the status.
-fn refuse(rt: &HostRuntime, matches: &ArgMatches<'_>, refused: Refused) -> u8 {
+pub fn refuse(rt: &HostRuntime, matches: &ArgMatches<'_>, refused: Refused) -> u8 {
     let line = match refused {
         Refused::Memory => return memory(rt),
         Refused::BadInterface => "words BadInterface",
@@ -255,7 +255,7 @@ fn run_one(
 
 /// Why reading failed, if it did, and of which input. Behind a failure neither is read, so at most
 /// one has failed.
-fn cause_in<'a, R: Drop>(
+pub fn cause_in<'a, R: Drop>(
     config: &'a [u8],
     lists: BySide<&'a str>,
     inputs: BySide<Watched<Traced<R>>>,
@@ -304,7 +304,7 @@ fn run_two(
 
 /// The input that a word names, a file, or standard input, which is `-`. Err: the status where it
 /// can't be had.
-fn open(rt: &HostRuntime, matches: &ArgMatches<'_>, list: &str) -> Result<Input, u8> {
+pub fn open(rt: &HostRuntime, matches: &ArgMatches<'_>, list: &str) -> Result<Input, u8> {
     match Input::open(rt, list) {
         Ok(input) => Ok(input),
         Err(reason) => Err(no_file(rt, matches, "device List", list, reason)),

@@ -68,6 +68,13 @@ due-left old f frames' count items le =
     (sym (ap (λ (l : List Frame). drop old.closed l) items ∙ drop-append-le old.closed old.frames.items (f ∷ []) le))
     (by-unsure old.judging.is_unsure f.time _ _ (in-left old.bounds.limits cs fs f))
 
+-- nothing is judged any more
+pub due-many : (old new : Growth) (time : ℕ) → new.judging.is_unsure ≡ true → IsSameOrLater (due_by old) time (due_by new)
+unfolding due_by
+due-many old new time e =
+    subst (λ (b : Bool). IsSameOrLater (due_by old) time (if b then None else due_in new.bounds.limits
+    (drop (length new.judging.marks.items) new.arrivals.items) (drop new.closed new.frames.items))) (sym e) (inr tt)
+
 -- ---- nothing has changed
 
 pub due-same : (old new : Growth) → IsSame old new → due_by new ≡ due_by old

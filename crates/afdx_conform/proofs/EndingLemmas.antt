@@ -260,6 +260,7 @@ module _ (z : Terms) (xs : List Arrival) (us off : List Gone) (time : ℕ) (over
           let k = kept-here in
           let s = fs-size in
           omega (arith, n, l, k, s, counted));
+      arrivals = h.kept.arrivals;
       cut_off = (let n = h.kept.cut_off in let k = kept-here in let s = fs-size in omega (arith, n, k, s, counted, all));
       started = h.kept.started;
       certain = h.kept.certain;

@@ -115,6 +115,7 @@ module _ (z : Terms) (xs : List Arrival) (ys : List Gone) (cut : ℕ) (over : Li
           (subst (λ (l : List Gone). FitNone z l gone) (map-split gone_of count old.frames.items) k.unread));
       last = k.last;
       found = k.found;
+      arrivals = k.arrivals;
       frames = k.frames;
       cut_off = k.cut_off;
       started = k.started;
@@ -296,6 +297,7 @@ module _ (z : Terms) (xs : List Arrival) (ys : List Gone) (cut : ℕ) (over : Li
     unread = every-both gone More (map gone_of old.frames.items) k.unread fit;
     last = k.last;
     found = k.found;
+    arrivals = k.arrivals;
     frames = k.frames;
     cut_off = k.cut_off;
     started = k.started;

@@ -137,6 +137,7 @@ module _ (z : Terms) where
           unread = k.unread;
           last = k.last;
           found = (let g = k.found in let n = found-close.frames in omega (arith, g, n));
+          arrivals = k.arrivals;
           frames = k.frames;
           cut_off = k.cut_off;
           started = refl;

@@ -187,6 +187,7 @@ module _ (z : Terms) where
           unread = k.unread;
           last = last-next js last-is;
           found = (let f = k.found in let n = found-come.frames in omega (arith, f, n));
+          arrivals = k.arrivals;
           frames = k.frames;
           cut_off = k.cut_off;
           started = refl;

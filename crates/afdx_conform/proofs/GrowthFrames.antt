@@ -17,6 +17,7 @@ use Rattle.afdx_conform.specs.Later.{judged_more}
 use Rattle.afdx_conform.specs.Leeway.{both_slacks}
 use Rattle.afdx_conform.specs.Limits.{gone_of}
 use Rattle.afdx_conform.specs.Marks.{arrival_of}
+use Rattle.afdx_conform.specs.Ranges.{most_held}
 use Rattle.afdx_conform.specs.States.{Event, State, state_with}
 use Rattle.afdx_conform.specs.Streams.{Gone, Terms, fits}
 use Rattle.afdx_conform.specs.declared.growth.Growth.{Growth}
@@ -119,6 +120,7 @@ module _ (z : Terms) where
         unread = unread-more gone past k;
         last = k.last;
         found = k.found ∙ ap (λ (j : Judged). min j.frames most_found) (sym same-shown);
+        arrivals = k.arrivals;
         frames = (let n = k.frames in let l = length-append ys One in omega (arith, n, l, counted));
         cut_off = k.cut_off;
         started = k.started;
@@ -193,3 +195,12 @@ module _ (z : Terms) where
           tag = g.tag ∙ ap (λ (k : Judged). unsure_in k) (sym same);
           sure = λ s. absurd (true-false un s);
         }
+
+    -- there aren't so many
+    pub not-many-left : MayLeave z ys time (gone_of f) → old.judging.is_unsure ≡ false → cut ≡ 0
+        → most_held ≤ old.left + old.cut + 1 → IsAfter z xs ys cut over old → ⊥
+    not-many-left m sure none le g =
+        let few = m.few in
+        let is = (g.sure sure).kept.frames in
+        let off = (g.sure sure).kept.cut_off in
+        absurd (omega (arith, few, is, off, none, le))

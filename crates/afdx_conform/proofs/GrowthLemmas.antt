@@ -1,5 +1,5 @@
 -- What the code keeps of a stream, with one more arrival or frame.
-use Rattle.std.proofs.Common.{◌≡◌, ℕ, zero, suc, ◌<◌, ◌≤◌, Bool, true, false, List, [], ◌∷◌, ◌++◌, map, reverse, drop, length, min, refl, sym, ap, ◌∙◌, subst, arith}
+use Rattle.std.proofs.Common.{◌+◌, ◌≡◌, ℕ, zero, suc, ◌<◌, ◌≤◌, Bool, true, false, List, [], ◌∷◌, ◌++◌, map, reverse, drop, length, min, refl, sym, ap, ◌∙◌, subst, arith}
 use Rattle.std.proofs.lemmas.List.{append_assoc, length-append, map-append, length-map}
 use Rattle.std.proofs.lemmas.List.Elements.{All-append}
 use Rattle.std.specs.Prelude.{All}
@@ -12,6 +12,7 @@ use Rattle.afdx_conform.specs.Findings.{Judged, Marked, judged_after}
 use Rattle.afdx_conform.specs.Growing.{AreTold, Continues, IsAfter, IsHeld, IsKept, MayCome, most_found}
 use Rattle.afdx_conform.specs.Histories.{AreEvents, AreOver, coming, judged_by, unsure_in, unclosed}
 use Rattle.afdx_conform.specs.Marks.{IsJudged, arrival_of, marked_all, marked_of}
+use Rattle.afdx_conform.specs.Ranges.{most_held}
 use Rattle.afdx_conform.specs.States.{Event, Came, Closing, arrivals_came}
 use Rattle.afdx_conform.specs.Streams.{Gone, Terms}
 use Rattle.afdx_conform.specs.declared.arrived.Arrived.{Arrived}
@@ -135,7 +136,7 @@ module _ (z : Terms) where
       begun = t.begun;
     }
 
-    module _ (items : arrivals'.items ≡ old.arrivals.items ++ (a ∷ []))
+    module _ (items : arrivals'.items ≡ old.arrivals.items ++ (a ∷ [])) (counts : count ≡ old.came + 1)
         (same : judged_by z (xs ++ One) ys over ≡ judged_by z xs ys over) where
       kept-came : (gone : List Marked) (past : List Gone) → IsJudged z a → IsKept z xs ys cut over gone past old
           → IsKept z (xs ++ One) ys cut over gone past With
@@ -152,6 +153,7 @@ module _ (z : Terms) where
         unread = k.unread;
         last = k.last;
         found = k.found ∙ ap (λ (j : Judged). min j.frames most_found) (sym same);
+        arrivals = (let n = k.arrivals in let l = length-append xs One in omega (arith, n, l, counts));
         frames = k.frames;
         cut_off = k.cut_off;
         started = k.started;
@@ -182,10 +184,11 @@ module _ (z : Terms) where
         continues = λ s. continues-came h.gone le (h.continues s);
       }
 
-    pub after-came : arrivals'.items ≡ old.arrivals.items ++ (a ∷ []) → IsJudged z a → MayCome z xs time (arrival_of a)
+    pub after-came : arrivals'.items ≡ old.arrivals.items ++ (a ∷ []) → count ≡ old.came + 1
+        → IsJudged z a → MayCome z xs time (arrival_of a)
         → AreOver z time over → length old.judging.marks.items ≤ length old.arrivals.items
         → IsAfter z xs ys cut over old → IsAfter z (xs ++ One) ys cut over With
-    after-came items j m o le f =
+    after-came items counts j m o le f =
         let same = judged-came m.behind o f.events in
         record {
           bounds = f.bounds;
@@ -194,7 +197,7 @@ module _ (z : Terms) where
           events = events-came z xs ys (arrival_of a) time over m.behind o f.events;
           unsure = f.unsure ∙ ap (λ (k : Judged). k.is_unsure) (sym same);
           tag = f.tag ∙ ap (λ (k : Judged). unsure_in k) (sym same);
-          sure = λ s. held-came items same j le (f.sure s);
+          sure = λ s. held-came items counts same j le (f.sure s);
         }
 
     -- of a stream that is unsure nothing is held
@@ -211,3 +214,11 @@ module _ (z : Terms) where
           tag = f.tag ∙ ap (λ (k : Judged). unsure_in k) (sym same);
           sure = λ s. absurd (true-false un s);
         }
+
+    -- there aren't so many
+    pub not-many : MayCome z xs time (arrival_of a) → old.judging.is_unsure ≡ false → most_held ≤ old.came + 1
+        → IsAfter z xs ys cut over old → ⊥
+    not-many m sure le f =
+        let few = m.few in
+        let is = (f.sure sure).kept.arrivals in
+        absurd (omega (arith, few, is, le))

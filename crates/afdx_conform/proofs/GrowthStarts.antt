@@ -41,6 +41,7 @@ module _ (z : Terms) (xs : List Arrival) (ys : List Gone) (cut : ℕ) (over : Li
       unread = subst (λ (l : List Frame). FitNone z (map gone_of l) gone) (sym s.frames) k.unread;
       last = s.last ∙ k.last;
       found = s.found ∙ k.found;
+      arrivals = s.came ∙ k.arrivals;
       frames = s.left ∙ k.frames;
       cut_off = s.cut ∙ k.cut_off;
       started = s.started ∙ k.started;
@@ -104,10 +105,10 @@ no-length (x ∷ xs) e = absurd (omega (arith, e))
 
 pub after-none : (z : Terms) (g : Growth) → AreBounds z g.bounds → z.by ≡ leeway_of g.by → g.arrivals.items ≡ []
     → g.frames.items ≡ [] → g.judging.marks.items ≡ [] → g.judging.uncertain ≡ 0 → g.judging.is_unsure ≡ false → g.closed ≡ 0
-    → g.last ≡ from_time z.by.start → g.is_started ≡ false → g.left ≡ 0 → g.cut ≡ 0 → g.found ≡ 0 → g.unsure ≡ None
+    → g.last ≡ from_time z.by.start → g.is_started ≡ false → g.came ≡ 0 → g.left ≡ 0 → g.cut ≡ 0 → g.found ≡ 0 → g.unsure ≡ None
     → IsAfter z [] [] 0 [] g
 unfolding judged_after sound_events AreEvents GoUp
-after-none z g bounds by arrivals frames marks uncertain sure closed last started left cut found tag = record {
+after-none z g bounds by arrivals frames marks uncertain sure closed last started came left cut found tag = record {
   bounds = bounds;
   by = by;
   told = record { came = tt; left = tt; start = tt; begun = tt };
@@ -126,6 +127,7 @@ after-none z g bounds by arrivals frames marks uncertain sure closed last starte
       unread = subst (λ (l : List Frame). FitNone z (map gone_of l) []) (sym frames) tt;
       last = last;
       found = found;
+      arrivals = came;
       frames = left;
       cut_off = cut;
       started = started;
@@ -158,6 +160,7 @@ module _ (z : Terms) (xs : List Arrival) (ys : List Gone) (cut : ℕ) (g : Growt
     unread = k.unread;
     last = k.last;
     found = k.found;
+    arrivals = k.arrivals;
     frames = k.frames;
     cut_off = k.cut_off;
     started = k.started;

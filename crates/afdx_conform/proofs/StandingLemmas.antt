@@ -67,11 +67,11 @@ judged-for z until a j = record { fault = j.fault; charged = λ e. record { char
 
 pub come-for : (z : Terms) (until : ℕ) (xs : List Arrival) (time : ℕ) (x : Arrival) → MayCome z xs time x
     → MayCome (until_then until z) xs time x
-come-for z until xs time x m = record { behind = m.behind; by_time = m.by_time; start = m.start }
+come-for z until xs time x m = record { behind = m.behind; by_time = m.by_time; start = m.start; few = m.few }
 
 pub leave-for : (z : Terms) (until : ℕ) (ys : List Gone) (time : ℕ) (y : Gone) → MayLeave z ys time y
     → MayLeave (until_then until z) ys time y
-leave-for z until ys time y m = record { behind = m.behind; by_time = m.by_time; start = m.start }
+leave-for z until ys time y m = record { behind = m.behind; by_time = m.by_time; start = m.start; few = m.few }
 
 module _ (z : Terms) (xs : List Arrival) (ys : List Gone) (j : Judged) (time : ℕ) (old new : Stream) (h : StandsFor z xs ys j time old)
   where

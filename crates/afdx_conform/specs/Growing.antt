@@ -56,6 +56,7 @@ pub record IsSame (before after : Growth) : Type 0 where
   pub closed : after.closed ≡ before.closed
   pub last : after.last ≡ before.last
   pub started : after.is_started ≡ before.is_started
+  pub came : after.came ≡ before.came
   pub left : after.left ≡ before.left
   pub cut : after.cut ≡ before.cut
   pub found : after.found ≡ before.found
@@ -112,6 +113,7 @@ pub record IsKept (z : Terms) (xs : List Arrival) (ys : List Gone) (cut : ℕ) (
   pub unread : FitNone z (map gone_of s.frames.items) gone
   pub last : s.last ≡ last_time z.by (arrivals_came (sound_events z over))
   pub found : s.found ≡ min (judged_by z xs ys over).frames most_found
+  pub arrivals : s.came ≡ length xs
   pub frames : s.left ≡ length ys
   pub cut_off : s.cut ≡ cut
   -- before the first event its states aren't known
@@ -169,17 +171,21 @@ Decides z xs ys cut over s e found = IsAfter z xs ys cut (e ∷ over) s
 
 -- ---- what may come
 
--- an arrival no earlier than those before it, than the start and than this time
+-- an arrival no earlier than those before it, which aren't too many, than the start and than this
+-- time
 pub record MayCome (z : Terms) (xs : List Arrival) (time : ℕ) (x : Arrival) : Type 0 where
   pub behind : time ≤ x.time
   pub by_time : AllByRecursion (λ w. w.time ≤ x.time) xs
   pub start : from_time z.by.start ≤ x.time
+  pub few : length xs + 1 < most_held
 
--- a frame no earlier than those before it, than the start, but for the slacks, and than this time
+-- a frame no earlier than those before it, which aren't too many, than the start, but for the
+-- slacks, and than this time
 pub record MayLeave (z : Terms) (ys : List Gone) (time : ℕ) (y : Gone) : Type 0 where
   pub behind : time ≤ y.time
   pub by_time : AllByRecursion (λ w. w.time ≤ y.time) ys
   pub start : from_time z.by.start ≤ y.time + both_slacks z.by
+  pub few : length ys + 1 < most_held
 
 -- ---- what is due
 

@@ -17,7 +17,7 @@ most_byte = 128000000000000
 
 -- more frames and arrivals than any state has
 abbrev pub most_held : ℕ
-most_held = 0x1000000000000
+most_held = 0x100000000000000
 
 -- so great are those of a link: what an empty account lacks, by how much more, and less, than
 -- stamps say it may be filled, and what a byte takes

@@ -25,7 +25,7 @@ use afdx_police::LinkRule;
 use std::alloc::{AllocError, Global};
 
 /// More arrivals, and frames, than a stream is told.
-const MOST_HELD: u64 = 1 << 48;
+const MOST_HELD: u64 = 1 << 56;
 
 /// What is kept of a stream: what it is judged by, the arrivals and frames that are held and how
 /// far they are judged, and what is counted of all of them.
@@ -97,7 +97,8 @@ impl Growth {
         }
     }
 
-    /// One more arrival. Fails only out of memory; then nothing has changed.
+    /// One more arrival; if there are too many, nothing is judged any more. Fails only out of
+    /// memory; then nothing has changed.
     pub(crate) fn add_arrival(&mut self, arrived: Arrived) -> Result<(), AllocError>
         requires sound { IsSound self.old }
         ensures sound { IsSound self.new }
@@ -113,21 +114,23 @@ impl Growth {
             return Ok(());
         }
         if self.came + 1 >= MOST_HELD {
-            return Err(AllocError);
+            self.judging.is_unsure = true;
+            return Ok(());
         }
         self.arrivals.push(arrived)?;
         self.came += 1;
         Ok(())
     }
 
-    /// One more frame. Fails only out of memory; then nothing has changed.
+    /// One more frame; if there are too many, nothing is judged any more. Fails only out of
+    /// memory; then nothing has changed.
     pub(crate) fn add_frame(&mut self, frame: Frame) -> Result<(), AllocError>
         requires sound { IsSound self.old }
         ensures sound { IsSound self.new }
-        ensures after { (z : Terms) (xs : List Arrival) (ys : List Gone) (cut time : ℕ)
+        ensures after { (z : Terms) (xs : List Arrival) (ys : List Gone) (time : ℕ)
             (over : List Event) → MayLeave z ys time (gone_of frame) → time ≤ z.until →
-            AreOver z time over → IsAfter z xs ys cut over self.old →
-            OnOk result (IsAfter z xs (ys ++ gone_of frame ∷ []) cut over self.new) }
+            AreOver z time over → IsAfter z xs ys 0 over self.old →
+            OnOk result (IsAfter z xs (ys ++ gone_of frame ∷ []) 0 over self.new) }
         ensures due { OnOk result
             (IsSameOrLater (due_by self.old) frame.time (due_by self.new)) }
         ensures refused { OnErr result (IsSame self.old self.new) }
@@ -136,7 +139,8 @@ impl Growth {
             return Ok(());
         }
         if self.left + self.cut + 1 >= MOST_HELD {
-            return Err(AllocError);
+            self.judging.is_unsure = true;
+            return Ok(());
         }
         self.frames.push(frame)?;
         self.left += 1;

@@ -32,7 +32,7 @@ use afdx_frame::LATEST_LISTED;
 use std::alloc::{AllocError, Global};
 
 /// More arrivals, and frames, than are judged.
-const MOST_HELD: usize = 1 << 48;
+const MOST_HELD: usize = 1 << 56;
 
 /// What was found in a stream, in its order; of how many arrivals both answers were right; and
 /// whether there were more states than are kept, from where on nothing was judged.
@@ -190,7 +190,7 @@ fn finish(
 ///
 /// Nothing is found exactly where something explains the stream: where each frame may be of an
 /// arrival that the rule accepts, as far as the leeway lets tell, in order and in time, and of none
-/// that it accepts a frame is missing; unless there were more than 1,024 states, or 2^48 arrivals
+/// that it accepts a frame is missing; unless there were more than 1,024 states, or 2^56 arrivals
 /// or frames.
 pub fn judge_stream(
     alloc: Global,

@@ -60,7 +60,8 @@ impl Stream {
     }
 
     /// One more arrival came, of a time no earlier than that of any line before, nor than the
-    /// start. Fails only out of memory; then nothing has changed.
+    /// start. Of 2^56 arrivals or more nothing is judged any more. Fails only out of memory; then
+    /// nothing has changed.
     pub fn came(&mut self, arrived: Arrived) -> Result<(), AllocError>
         ensures stands { (z : Terms) (xs : List Arrival) (ys : List Gone) (j : Judged)
             (time : ℕ) → IsJudged z arrived → MayCome z xs time (arrival_of arrived) →
@@ -76,8 +77,8 @@ impl Stream {
         self.growth.add_arrival(arrived)
     }
 
-    /// One more frame left, at a time no earlier than that of any line before. Fails only out of
-    /// memory; then nothing has changed.
+    /// One more frame left, at a time no earlier than that of any line before. Of 2^56 frames or
+    /// more nothing is judged any more. Fails only out of memory; then nothing has changed.
     pub fn left(&mut self, frame: Frame) -> Result<(), AllocError>
         ensures stands { (z : Terms) (xs : List Arrival) (ys : List Gone) (j : Judged)
             (time : ℕ) → MayLeave z ys time (gone_of frame) → StandsFor z xs ys j time self.old →

@@ -1,6 +1,7 @@
 -- What the lines of the program mean: each list stands in the table beside its type.
 use Rattle.std.specs.Prelude.{ℕ, ◌-◌, Bool, ◌||◌, if◌then◌else◌, List, length, Option, Some, None}
-use Rattle.std.specs.Prelude.{codes, map, take, drop}
+use Rattle.std.specs.Prelude.{codes, map, take, drop, nat_eq}
+use Rattle.std.specs.List.{starts_with}
 use Rattle.std.specs.Str.{bytes_eq}
 use Rattle.afdx_frame.specs.declared.fault.TheConstants.{MAC_FAULTS, IP_FAULTS}
 use Rattle.afdx_police.specs.declared.shape.TheConstants.{REASONS}
@@ -14,10 +15,12 @@ use Rattle.afdx_admit.specs.declared.cascade_fault.TheConstants.{CASCADE_ADMISSI
 use Rattle.afdx_receive.specs.declared.reception.TheConstants.{DROP_REASONS}
 use Rattle.afdx_send.specs.declared.fault.TheConstants.{SEND_FAULTS}
 use Rattle.afdx_recorded.specs.declared.skipped.TheConstants.{SKIPPED}
+use Rattle.afdx_text.specs.declared.strange.TheConstants.{STRANGE_REASONS}
 use Rattle.afdx_lists.specs.declared.fault.TheConstants.{RUN_FAULTS}
 use Rattle.afdx_lists.specs.declared.recording_fault.TheConstants.{RECORDING_FAULTS}
 use Rattle.afdx_explain.specs.Forms.{text_among, row_among, formed_row, formed_among}
 use Rattle.afdx_explain.specs.Forms.{named_among, named_row}
+use Rattle.afdx_explain.specs.declared.conform_lines.TheConstants.{CONFORM_LINES}
 use Rattle.afdx_explain.specs.declared.faults.TheConstants.{FAULTS}
 use Rattle.afdx_explain.specs.declared.kinds.TheConstants.{KINDS}
 use Rattle.afdx_explain.specs.declared.lines.TheConstants.{LINES}
@@ -34,6 +37,19 @@ fault line = text_among (map (λ entry. (entry.0.now, entry.1.now)) FAULTS) line
 
 unfoldable pub run_fault : List ℕ → Option (List ℕ)
 run_fault line = text_among (map (λ entry. (entry.0.now, entry.1.now)) RUN_FAULTS) line
+
+-- how the fault of one of two lists begins
+abbrev pub is_of_two : List ℕ → Bool
+is_of_two line =
+    starts_with nat_eq line (codes "list came ") || starts_with nat_eq line (codes "list left ")
+
+-- the fault of one of two lists: the fault of a list, behind the word for which list it is
+unfoldable pub list_fault : List ℕ → Option (List ℕ)
+list_fault line =
+    if is_of_two line
+    then text_among (map (λ entry. (drop 5 entry.0.now, entry.1.now)) (take 7 RUN_FAULTS))
+    (drop 10 line)
+    else None
 
 -- ` A` or ` B`, which stands behind a fault of one of two recordings
 abbrev pub is_network : List ℕ → Bool
@@ -127,6 +143,36 @@ unfoldable pub skipped : List ℕ → Option (List ℕ)
 skipped line =
     row_among (codes "?\n# ? n") (map (λ row. (row.1.now, row.2.now)) SKIPPED) line
 
+-- at a switch that was recorded: why a frame that left is strange, by its shape or else; why one
+-- that left was to be dropped, by its shape or by its link's rule; and the other lines
+unfoldable pub strange_shape : List ℕ → Option (List ℕ)
+strange_shape line =
+    row_among (codes "?\nstrange n A|B n ?")
+    (map (λ row. (row.1.now, row.2.now)) (take 5 REASONS)) line
+
+unfoldable pub strange : List ℕ → Option (List ℕ)
+strange line =
+    row_among (codes "?\nstrange n A|B n ?")
+    (map (λ row. (row.1.now, row.2.now)) STRANGE_REASONS) line
+
+unfoldable pub passed_damaged : List ℕ → Option (List ℕ)
+passed_damaged line =
+    row_among (codes "passed n A|B n ?")
+    (map (λ row. (row.1.now, row.2.now)) (take 3 REASONS)) line
+
+unfoldable pub passed : List ℕ → Option (List ℕ)
+passed line =
+    row_among (codes "passed n A|B n ?")
+    (map (λ row. (row.1.now, row.2.now)) (drop 5 REASONS)) line
+
+unfoldable pub judged : List ℕ → Option (List ℕ)
+judged line = text_among (map (λ entry. (entry.0.now, entry.1.now)) CONFORM_LINES) line
+
+unfoldable pub found : List ℕ → Option (List ℕ)
+found line =
+    or_else (strange_shape line) (or_else (strange line) (or_else (passed_damaged line)
+    (or_else (passed line) (judged line))))
+
 unfoldable pub told : List ℕ → Option (List ℕ)
 told line = text_among (map (λ entry. (entry.0.now, entry.1.now)) LINES) line
 
@@ -155,13 +201,15 @@ named line =
 
 unfoldable pub any_fault : List ℕ → Option (List ℕ)
 any_fault line =
-    or_else (fault line) (or_else (run_fault line) (or_else (recording_fault line)
-    (or_else (config_fault line) (or_else (key line) (or_else (admission line) (hop line))))))
+    or_else (fault line) (or_else (run_fault line) (or_else (list_fault line)
+    (or_else (recording_fault line) (or_else (config_fault line)
+    (or_else (key line) (or_else (admission line) (hop line)))))))
 
 unfoldable pub any_line : List ℕ → Option (List ℕ)
 any_line line =
     or_else (dropped line) (or_else (no_frame line) (or_else (not_received line)
-    (or_else (no_datagram line) (or_else (refused line) (or_else (skipped line) (told line))))))
+    (or_else (no_datagram line) (or_else (refused line) (or_else (skipped line)
+    (or_else (found line) (told line)))))))
 
 -- what the line itself means
 unfoldable pub meaning_of : List ℕ → Option (List ℕ)

@@ -1,6 +1,6 @@
 //! The rows of tables: a word or the forms of a line, and what such a line means.
 
-ghost use Rattle.std.specs.Prelude.{◌≡◌, [], map};
+ghost use Rattle.std.specs.Prelude.{◌≡◌, [], drop, map};
 ghost use Rattle.std.specs.Option.{option_copied};
 ghost use Rattle.afdx_explain.specs.Forms.{has_form, has_some_form, text_among};
 ghost use Rattle.afdx_explain.specs.Forms.{row_among, formed_row, formed_among};
@@ -39,6 +39,32 @@ pub fn text_among(mut entries: &'static [Entry], line: &[u8]) -> Option<&'static
 {
     while let [(forms, text), rest @ ..] = entries {
         if has_some_form(b"", line, forms.as_bytes()) {
+            return Some(text);
+        }
+        entries = rest;
+    }
+    None
+}
+
+/// The bytes behind the first ones, so many.
+pub fn behind(bytes: &[u8], count: usize) -> &[u8]
+    ensures { result.now ≡ drop count bytes.now }
+{
+    match bytes.get(count..) {
+        Some(rest) => rest,
+        None => b"",
+    }
+}
+
+/// The text of the first entry that has a form of the line, without the first bytes of the form, so
+/// many.
+pub fn text_behind(mut entries: &'static [Entry], count: usize, line: &[u8]) -> Option<&'static str>
+    ensures { option_copied result ≡
+        text_among (map (λ entry. (drop count entry.0.now, entry.1.now)) entries.entry.now)
+        line.now }
+{
+    while let [(forms, text), rest @ ..] = entries {
+        if has_some_form(b"", line, behind(forms.as_bytes(), count)) {
             return Some(text);
         }
         entries = rest;

@@ -4,7 +4,10 @@ ghost use Rattle.std.specs.Prelude.{◌≡◌};
 ghost use Rattle.std.specs.Option.{option_copied};
 ghost use Rattle.afdx_explain.specs.Explained as spec;
 
-use crate::entry::{formed_among, named_among, named_row, row_among, text_among};
+use crate::conform_lines::CONFORM_LINES;
+use crate::entry::{
+    behind, formed_among, named_among, named_row, row_among, text_among, text_behind,
+};
 use crate::faults::FAULTS;
 use crate::keys::key;
 use crate::kinds::KINDS;
@@ -17,9 +20,16 @@ use afdx_police::REASONS;
 use afdx_receive::DROP_REASONS;
 use afdx_recorded::SKIPPED;
 use afdx_send::SEND_FAULTS;
+use afdx_text::STRANGE_REASONS;
 
 /// The forms of a line that tells why a switch dropped a frame.
 const SWITCH_FORMS: &[u8] = b"?\nV n A|B drop ?\nV n A|B * drop ?";
+
+/// The forms of a line that tells why a frame that left is strange.
+const STRANGE_FORMS: &[u8] = b"?\nstrange n A|B n ?";
+
+/// The form of a line that tells why a frame was to be dropped that left.
+const PASSED_FORM: &[u8] = b"passed n A|B n ?";
 
 /// The forms of a line that tells why a receiver dropped a frame.
 const RECEIVER_FORMS: &[u8] = b"?\nX n * n ?";
@@ -44,6 +54,18 @@ fn run_fault(line: &[u8]) -> Option<&'static str>
     ensures { option_copied result ≡ spec.run_fault line.now }
 {
     text_among(&RUN_FAULTS, line)
+}
+
+/// What the fault of one of two lists means.
+#[tactic(auto, unfolding(crate::specs::Explained::list_fault))]
+fn list_fault(line: &[u8]) -> Option<&'static str>
+    ensures { option_copied result ≡ spec.list_fault line.now }
+{
+    if line.starts_with(b"list came ") || line.starts_with(b"list left ") {
+        text_behind(&RUN_FAULTS[..7], 5, behind(line, 10))
+    } else {
+        None
+    }
 }
 
 /// The line of a fault without the network that stands behind it, where it is that of one of two
@@ -98,6 +120,66 @@ fn dropped(line: &[u8]) -> Option<&'static str>
     ensures { option_copied result ≡ spec.dropped line.now }
 {
     row_among(&REASONS, SWITCH_FORMS, line)
+}
+
+/// Why a frame that left is strange, by its shape.
+#[tactic(auto, unfolding(crate::specs::Explained::strange_shape))]
+fn strange_shape(line: &[u8]) -> Option<&'static str>
+    ensures { option_copied result ≡ spec.strange_shape line.now }
+{
+    row_among(&REASONS[..5], STRANGE_FORMS, line)
+}
+
+/// Why a frame that left is strange.
+#[tactic(auto, unfolding(crate::specs::Explained::strange))]
+fn strange(line: &[u8]) -> Option<&'static str>
+    ensures { option_copied result ≡ spec.strange line.now }
+{
+    row_among(&STRANGE_REASONS, STRANGE_FORMS, line)
+}
+
+/// Why a frame was to be dropped that left: it is damaged.
+#[tactic(auto, unfolding(crate::specs::Explained::passed_damaged))]
+fn passed_damaged(line: &[u8]) -> Option<&'static str>
+    ensures { option_copied result ≡ spec.passed_damaged line.now }
+{
+    row_among(&REASONS[..3], PASSED_FORM, line)
+}
+
+/// Why a frame was to be dropped that left, by its link's rule.
+#[tactic(auto, unfolding(crate::specs::Explained::passed))]
+fn passed(line: &[u8]) -> Option<&'static str>
+    ensures { option_copied result ≡ spec.passed line.now }
+{
+    row_among(&REASONS[5..], PASSED_FORM, line)
+}
+
+/// What another line of `conform` means.
+#[tactic(auto, unfolding(crate::specs::Explained::judged))]
+fn judged(line: &[u8]) -> Option<&'static str>
+    ensures { option_copied result ≡ spec.judged line.now }
+{
+    text_among(&CONFORM_LINES, line)
+}
+
+/// What is found at a switch that was recorded.
+#[tactic(auto, unfolding(crate::specs::Explained::found))]
+fn found(line: &[u8]) -> Option<&'static str>
+    ensures { option_copied result ≡ spec.found line.now }
+{
+    if let Some(text) = strange_shape(line) {
+        return Some(text);
+    }
+    if let Some(text) = strange(line) {
+        return Some(text);
+    }
+    if let Some(text) = passed_damaged(line) {
+        return Some(text);
+    }
+    if let Some(text) = passed(line) {
+        return Some(text);
+    }
+    judged(line)
 }
 
 /// Why a receiver dropped bytes that are no frame.
@@ -159,6 +241,9 @@ fn any_fault(line: &[u8]) -> Option<&'static str>
     if let Some(text) = run_fault(line) {
         return Some(text);
     }
+    if let Some(text) = list_fault(line) {
+        return Some(text);
+    }
     if let Some(text) = recording_fault(line) {
         return Some(text);
     }
@@ -195,6 +280,9 @@ fn any_line(line: &[u8]) -> Option<&'static str>
         return Some(text);
     }
     if let Some(text) = skipped(line) {
+        return Some(text);
+    }
+    if let Some(text) = found(line) {
         return Some(text);
     }
     told(line)

@@ -3,7 +3,7 @@
 use crate::entry::Entry;
 
 /// Faults that come before a command has begun.
-pub const FAULTS: [Entry; 9] = [
+pub const FAULTS: [Entry; 10] = [
     (
         "words NotText",
         "\
@@ -23,13 +23,17 @@ its own interface K: K=A and K=B may both be given, but K=-, which is for both, 
     (
         "words BadNumber",
         "\
-The number of --origin is over 2^63 - 1, or that of --reorder is over 100,000. --origin is the
-moment that is time 0, in ns since 1970; --reorder is by how many arrivals times may go back.",
+The number of --origin is over 2^63 - 1, that of --reorder over 100,000, or one of 'conform' out of
+its range.
+--origin is the moment that is time 0, in ns since 1970; --reorder is by how many arrivals times
+may go back. --slack, --inner and --asked are at most 1,000,000 ns, --drift 1,000 millionths,
+--from and --until 10^15 ns; --leave-out is 0 to 65535, or the word other.",
     ),
     (
         "words SameInput",
         "\
-Both recordings are -, which is standard input. Name one of them by its path.",
+Both inputs are -, which is standard input: two recordings, or CAME and LEFT. Name one of them by
+its path.",
     ),
     (
         "words BadRule",
@@ -46,6 +50,13 @@ The names stand at the key name of its systems; capital letters count. A name of
 neighbour is none.",
     ),
     (
+        "words NoSuchSwitch",
+        "\
+No switch of the configuration has the name that --switch gives; or it describes several switches
+and there is no --switch; or it describes one a side and there is one.
+The names stand at the key name of its switches; capital letters count.",
+    ),
+    (
         "words UnknownText",
         "\
 The text that was given to 'explain' is no line or word of the program.
@@ -60,7 +71,7 @@ See that the path is right, is a file, and may be read.",
     (
         "device List",
         "\
-LIST or SUBMISSIONS can't be opened.
+LIST, SUBMISSIONS, CAME or LEFT can't be opened.
 See that the path is right and may be read; - is standard input.",
     ),
 ];

@@ -3,12 +3,19 @@
 use crate::entry::Entry;
 
 /// What the lines of a kind have in common.
-pub const KINDS: [Entry; 17] = [
+pub const KINDS: [Entry; 20] = [
     (
         "list * n",
         "\
 The list has a fault in the line of this number, counted from 1; empty lines and remarks
 count. What the lines before it gave stands on standard output.",
+    ),
+    (
+        "list came|left * n",
+        "\
+CAME or LEFT, as the second word says, has a fault in the line of this number, counted from 1 in
+that list alone; empty lines and remarks count. What was found before it stands on standard output,
+without the last line.",
     ),
     (
         "\
@@ -123,6 +130,17 @@ or B; it came there by the list, or over a cable.",
         "\
 At this time, in ns, the frame of the list's line (the second number) came to this system,
 whose receiver dropped it.",
+    ),
+    (
+        "strange n A|B n *",
+        "\
+The frame of this line of LEFT left that output port, on this side, and nothing explains it.",
+    ),
+    (
+        "passed n A|B n *",
+        "\
+The frame of this line of CAME left that output port, on this side, though the switch had to drop
+it; here is why.",
     ),
     (
         "# n *",

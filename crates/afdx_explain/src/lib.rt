@@ -3,6 +3,7 @@
 //! Its tests are in `afdx_part_tests`.
 #![tactic(auto)]
 
+mod conform_lines;
 mod entry;
 mod explaining;
 mod faults;
@@ -11,6 +12,7 @@ mod keys;
 mod kinds;
 mod lines;
 
+pub use conform_lines::CONFORM_LINES;
 pub use entry::Entry;
 pub use explaining::{kind_of, meaning_of};
 pub use faults::FAULTS;

@@ -62,7 +62,7 @@ module _ (whole : Taken) (AreCut : Lines → Type 0) (ordered : AreInOrder (arri
 
 -- ---- of a list
 
-arrivals-ordered : (lines : List (List ℕ)) (n : ℕ) → DontGoBack (arrivals_of lines n)
+pub arrivals-ordered : (lines : List (List ℕ)) (n : ℕ) → DontGoBack (arrivals_of lines n)
 unfolding items_of
 arrivals-ordered lines zero = tt
 arrivals-ordered lines (suc n) = by (said_after (arrivals_of lines n) (slice_index_or lines n []))

@@ -10,3 +10,11 @@ pub mod LookLemmas
 pub mod ArrivalsLemmas
 pub mod TookLemmas
 pub mod EnteringLemmas
+pub mod JoinLemmas
+pub mod TwoListsLemmas
+pub mod ListedLemmas
+pub mod FaultLemmas
+pub mod HeadedLemmas
+pub mod BothAskedLemmas
+pub mod TwoListsRunLemmas
+pub mod JoinLawLemmas

@@ -110,6 +110,8 @@ named-read A (run.Recording f) = refl
 named-read B (run.Recording f) = refl
 named-read side (run.RecordingOfA f) = refl
 named-read side (run.RecordingOfB f) = refl
+named-read side (run.ListOfCame f) = refl
+named-read side (run.ListOfLeft f) = refl
 named-read side run.Read = refl
 named-read side run.Write = refl
 named-read side run.Memory = refl
@@ -306,6 +308,8 @@ module _ {R : Type 0} (remaining : R → Option (List ℕ)) (start inputs : BySi
     stop-a (run.BadPort m) h = absurd (no-other-a (run.BadPort m) h)
     stop-a (run.RecordingOfA m) h = absurd (no-other-a (run.RecordingOfA m) h)
     stop-a (run.RecordingOfB m) h = absurd (no-other-a (run.RecordingOfB m) h)
+    stop-a (run.ListOfCame m) h = absurd (no-other-a (run.ListOfCame m) h)
+    stop-a (run.ListOfLeft m) h = absurd (no-other-a (run.ListOfLeft m) h)
 
   -- the recording of B stopped
   module _ (past taken taken-o : Numbers) (lines : Lines)
@@ -352,6 +356,8 @@ module _ {R : Type 0} (remaining : R → Option (List ℕ)) (start inputs : BySi
     stop-b (run.BadPort m) h = absurd (no-other-b (run.BadPort m) h)
     stop-b (run.RecordingOfA m) h = absurd (no-other-b (run.RecordingOfA m) h)
     stop-b (run.RecordingOfB m) h = absurd (no-other-b (run.RecordingOfB m) h)
+    stop-b (run.ListOfCame m) h = absurd (no-other-b (run.ListOfCame m) h)
+    stop-b (run.ListOfLeft m) h = absurd (no-other-b (run.ListOfLeft m) h)
 
   pub pair-stopped : (lines : Lines) (fault : RunFault) → Stopped lines fault
       → StopsBehindLines Whole AreCut lines fault

@@ -219,6 +219,8 @@ module _ {R : Type 0} (remaining : R → Option (List ℕ)) (start input : Watch
     stops-known numbers lines run.Write t s = absurd (no-other numbers run.Write s)
     stops-known numbers lines (run.RecordingOfA fault) t s = absurd (no-other numbers (run.RecordingOfA fault) s)
     stops-known numbers lines (run.RecordingOfB fault) t s = absurd (no-other numbers (run.RecordingOfB fault) s)
+    stops-known numbers lines (run.ListOfCame fault) t s = absurd (no-other numbers (run.ListOfCame fault) s)
+    stops-known numbers lines (run.ListOfLeft fault) t s = absurd (no-other numbers (run.ListOfLeft fault) s)
     stops-known numbers lines run.TooManyLines t s = absurd (no-other numbers run.TooManyLines s)
     stops-known numbers lines (run.LineTooLong m) t s = absurd (no-other numbers (run.LineTooLong m) s)
     stops-known numbers lines (run.BadLine m) t s = absurd (no-other numbers (run.BadLine m) s)

@@ -5,3 +5,8 @@ pub mod RecordingRun
 pub mod ListText
 pub mod InputRun
 pub mod Arrivals
+pub mod Joining
+pub mod Seeing
+pub mod TwoListsSource
+pub mod TwoListsRun
+pub mod JoiningLaws

@@ -2,6 +2,10 @@
 use Rattle.std.specs.Prelude.{ℕ, ◌≡◌, ⊤, List, Option, Some, None, Result, Ok, Err}
 use Rattle.afdx_frame.specs.declared.link.Side.{Side}
 use Rattle.afdx_frame.specs.declared.link.Side.TheVariants.{A, B}
+use Rattle.afdx_lists.specs.declared.role.Role.{Role}
+use Rattle.afdx_lists.specs.declared.role.Role.TheVariants.{Came, Left}
+use Rattle.afdx_lists.specs.declared.list_fault.ListFault.{ListFault}
+use Rattle.afdx_lists.specs.declared.list_fault.ListFault.TheVariants as list
 use Rattle.afdx_lists.specs.declared.fault.LineFault.{LineFault}
 use Rattle.afdx_lists.specs.declared.fault.LineFault.TheVariants.{BadLine, TimeTooLarge, TimeBack}
 use Rattle.afdx_lists.specs.declared.fault.LineFault.TheVariants.{BadPort, BadHex}
@@ -51,3 +55,19 @@ status_of _ = 3
 abbrev pub fault_of_network : Side → RecordingFault → RunFault
 fault_of_network A fault = run.RecordingOfA fault
 fault_of_network B fault = run.RecordingOfB fault
+
+-- the fault of the list of this role, of two that are read at once
+abbrev pub in_list : Role → ListFault → RunFault
+in_list Came fault = run.ListOfCame fault
+in_list Left fault = run.ListOfLeft fault
+
+-- a fault of a list as that of the list of this role; each other one stays
+abbrev pub fault_of_list : Role → RunFault → RunFault
+fault_of_list role (run.BadLine n) = in_list role (list.BadLine n)
+fault_of_list role (run.BadHex n) = in_list role (list.BadHex n)
+fault_of_list role (run.TimeBack n) = in_list role (list.TimeBack n)
+fault_of_list role (run.TimeTooLarge n) = in_list role (list.TimeTooLarge n)
+fault_of_list role (run.BadPort n) = in_list role (list.BadPort n)
+fault_of_list role (run.LineTooLong n) = in_list role (list.LineTooLong n)
+fault_of_list role run.TooManyLines = in_list role list.TooManyLines
+fault_of_list role fault = fault

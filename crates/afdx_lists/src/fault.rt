@@ -1,8 +1,11 @@
 //! Why a line says nothing, and why a run ended before the end of its list or recording.
 
 ghost use Rattle.std.specs.Prelude.{◌≡◌};
+ghost use Rattle.afdx_lists.specs.Faults as spec;
 
+use crate::list_fault::ListFault;
 use crate::recording_fault::RecordingFault;
+use crate::role::Role;
 use afdx_frame::Side;
 use std::alloc::AllocError;
 use thiserror::Error;
@@ -87,11 +90,17 @@ pub enum RunFault {
     /// That of network B has it.
     #[error("{0} B")]
     RecordingOfB(RecordingFault),
+    /// The list of what came in, of two that are read at once, has this fault.
+    #[error("list came {0}")]
+    ListOfCame(ListFault),
+    /// That of what left has it.
+    #[error("list left {0}")]
+    ListOfLeft(ListFault),
 }
 
 /// Each fault of a run, in the order of `RunFault`: the form of its line (`n` is the number of a
 /// line of the list), and what it means, with what may be done. Those of a recording are
-/// `RECORDING_FAULTS`.
+/// `RECORDING_FAULTS`; one of two lists has ` came` or ` left` behind the first word.
 pub const RUN_FAULTS: [(&str, &str); 10] = [
     (
         "list BadLine n",
@@ -159,8 +168,18 @@ has a system, two queues of buffer / 64 places of 16 bytes. Replay one list at a
     ),
 ];
 
+/// The fault of the list of this role.
+fn in_list(role: Role, fault: ListFault) -> RunFault
+    ensures { result ≡ spec.in_list role fault }
+{
+    match role {
+        Role::Came => RunFault::ListOfCame(fault),
+        Role::Left => RunFault::ListOfLeft(fault),
+    }
+}
+
 impl RunFault {
-    ghost use Rattle.afdx_lists.specs.Faults.{fault_of_network, status_of};
+    ghost use Rattle.afdx_lists.specs.Faults.{fault_of_list, fault_of_network, status_of};
 
     /// The fault of the recording of this network, of two that are read at once.
     pub fn of_network(side: Side, fault: RecordingFault) -> RunFault
@@ -169,6 +188,23 @@ impl RunFault {
         match side {
             Side::A => RunFault::RecordingOfA(fault),
             Side::B => RunFault::RecordingOfB(fault),
+        }
+    }
+
+    /// This fault as that of the list of this role, of two that are read at once. One that isn't a
+    /// list's stays.
+    pub fn of_list(role: Role, fault: RunFault) -> RunFault
+        ensures { result ≡ fault_of_list role fault }
+    {
+        match fault {
+            RunFault::BadLine(n) => in_list(role, ListFault::BadLine(n)),
+            RunFault::BadHex(n) => in_list(role, ListFault::BadHex(n)),
+            RunFault::TimeBack(n) => in_list(role, ListFault::TimeBack(n)),
+            RunFault::TimeTooLarge(n) => in_list(role, ListFault::TimeTooLarge(n)),
+            RunFault::BadPort(n) => in_list(role, ListFault::BadPort(n)),
+            RunFault::LineTooLong(n) => in_list(role, ListFault::LineTooLong(n)),
+            RunFault::TooManyLines => in_list(role, ListFault::TooManyLines),
+            other => other,
         }
     }
 

@@ -148,6 +148,41 @@ fn keys_that_mean_more_in_a_switch() -> Result<(), Fail> {
 }
 
 #[test]
+fn lines_of_conform_are_explained() -> Result<(), Fail> {
+    let rows = [
+        ("strange 1 A 3 too-short", "too-short:"),
+        ("strange 1 A 3 unknown-link", "unknown-link:"),
+        ("strange 2 B 24 not-its-port", "not-its-port:"),
+        ("no-arrival", "no-arrival:"),
+        ("passed 1 A 3 bad-fcs", "bad-fcs:"),
+        ("passed 2 A 3 over-rate", "over-rate:"),
+        ("passed 2 A 3 wrong-port", "wrong-port:"),
+        ("stopped 1 A 3", "stopped n side port:"),
+        ("stopped", "stopped n side port:"),
+        ("late 1 A 3 1", "late n side port NS:"),
+        ("early 1 A 3 5760", "early n side port NS:"),
+        ("unsure 1 A 3", "unsure n side port:"),
+        (
+            "conforms explained 1 open 0 uncertain 0 left-out 0 unseen 0",
+            "conforms:",
+        ),
+        (
+            "deviates 2 explained 0 open 0 uncertain 0 left-out 0 unseen 0",
+            "deviates D:",
+        ),
+        (
+            "undecided explained 0 open 1 uncertain 0 left-out 0 unseen 0",
+            "undecided:",
+        ),
+        ("list came BadHex 12", "An odd number of digits"),
+        ("list left TimeBack 2", "The time is before"),
+        ("list left TooManyLines", "It is line 1,000,001"),
+        ("words NoSuchSwitch", "No switch of the configuration"),
+    ];
+    all_right(otherwise_explained(&rows))
+}
+
+#[test]
 fn other_lines_are_not(rt: HostRuntime) {
     for line in [
         "config Missing link 1 key 13",
@@ -165,6 +200,17 @@ fn other_lines_are_not(rt: HostRuntime) {
         "V 1 A fwd aft accept",
         "D 1 6720 C fwd 24",
         "early 2 aft 500000",
+        "passed 1 A 3 unknown-link",
+        "passed 1 A 3 bad-address",
+        "strange 1 A 3 over-rate",
+        "strange 1 C 3 no-arrival",
+        "stopped 1 A",
+        "late 1 A 3",
+        "conforms explained 1",
+        "list came",
+        "list came Read",
+        "list in BadHex 12",
+        "list left BadHex",
     ] {
         assert!(rt; meaning_of(line).is_none());
     }
@@ -183,6 +229,10 @@ fn kinds_are_explained(rt: HostRuntime) {
             && kind_of("no A3 fwd 24 1 10080").is_some()
             && kind_of("no A4 fwd 24 1 -").is_some()
             && kind_of("no B5 fwd 1 aft").is_some()
+            && kind_of("passed 1 A 3 over-rate").is_some()
+            && kind_of("strange 1 A 3 no-arrival").is_some()
+            && kind_of("list came BadHex 12").is_some()
+            && kind_of("stopped 1 A 3").is_none()
             && kind_of("over-rate").is_none()
     );
 }

@@ -1,6 +1,6 @@
 //! Tests of what a run stands on: frames, policing, output ports, configurations, admission,
-//! bounds, lists, recordings' arrivals, lines of the output, and what explains a line. And of what
-//! a recorded switch shows.
+//! bounds, lists, two lists at once, recordings' arrivals, lines of the output, and what explains a
+//! line. And of what a recorded switch shows.
 #![tactic(auto)]
 
 #[cfg(test)]
@@ -37,3 +37,5 @@ mod solve;
 mod streams;
 #[cfg(test)]
 mod text;
+#[cfg(test)]
+mod two_lists;

@@ -1,16 +1,18 @@
 //! Lines that are put into a text, written and held, and faults that are told.
 
 mod check_lines;
+mod conform_lines;
 mod digits;
+mod faults;
 mod sites;
 mod whole_lines;
 
 use afdx_frame::{IpFault, MacFault, Side, VlId};
-use afdx_lists::{FrameKind, RecordingFault, RunFault, Watched};
+use afdx_lists::{FrameKind, Watched};
 use afdx_police::Reason;
 use afdx_receive::DropReason;
 use afdx_samples::{Break, WeakWriter, all_right, equal};
-use afdx_text::{OutLine, Output, Sink, Site, Text, tell_fault, write_text};
+use afdx_text::{OutLine, Output, Sink, Site, Text, write_text};
 use std::alloc::{AllocError, Global};
 use std::test::Fail;
 
@@ -118,120 +120,6 @@ fn lines_are_held_and_handed_over(rt: HostRuntime) -> Result<(), Fail> {
         (1000, 1, 200, false, false, 100),
     ];
     all_right(wrongly_held(rt.alloc(), rows.as_slice())?)
-}
-
-/// What is told of a fault; nothing, if not in one write.
-fn told(alloc: Global, fault: &RunFault) -> Vec<u8> {
-    let mut errors = Watched::new(Vec::new(alloc));
-    tell_fault(&mut errors, fault);
-    if errors.calls() != 1 {
-        return Vec::new(alloc);
-    }
-    errors.into_inner()
-}
-
-/// Each fault of a run, what is told of it, and its exit status.
-const FAULTS: [(RunFault, &str, u8); 25] = [
-    (RunFault::BadLine(20), "list BadLine 20\n", 3),
-    (RunFault::BadHex(1), "list BadHex 1\n", 3),
-    (RunFault::TimeBack(2), "list TimeBack 2\n", 3),
-    (RunFault::TimeTooLarge(3), "list TimeTooLarge 3\n", 3),
-    (RunFault::BadPort(1_000_000), "list BadPort 1000000\n", 3),
-    (RunFault::LineTooLong(4), "list LineTooLong 4\n", 3),
-    (RunFault::TooManyLines, "list TooManyLines\n", 3),
-    (
-        RunFault::Recording(RecordingFault::NotRecording(0)),
-        "recording NotRecording 0\n",
-        3,
-    ),
-    (
-        RunFault::Recording(RecordingFault::BadVersion(1)),
-        "recording BadVersion 1\n",
-        3,
-    ),
-    (
-        RunFault::Recording(RecordingFault::Damaged(2)),
-        "recording Damaged 2\n",
-        3,
-    ),
-    (
-        RunFault::Recording(RecordingFault::Ended(3)),
-        "recording Ended 3\n",
-        3,
-    ),
-    (
-        RunFault::Recording(RecordingFault::NoArrival(4)),
-        "recording NoArrival 4\n",
-        3,
-    ),
-    (
-        RunFault::Recording(RecordingFault::NotEthernet(100_000_000_000_000_000)),
-        "recording NotEthernet 100000000000000000\n",
-        3,
-    ),
-    (
-        RunFault::Recording(RecordingFault::NoTime(6)),
-        "recording NoTime 6\n",
-        3,
-    ),
-    (
-        RunFault::Recording(RecordingFault::BadTime(7)),
-        "recording BadTime 7\n",
-        3,
-    ),
-    (
-        RunFault::Recording(RecordingFault::Cut(8)),
-        "recording Cut 8\n",
-        3,
-    ),
-    (
-        RunFault::Recording(RecordingFault::FcsUnclear(9)),
-        "recording FcsUnclear 9\n",
-        3,
-    ),
-    (
-        RunFault::Recording(RecordingFault::TimeBack(10)),
-        "recording TimeBack 10\n",
-        3,
-    ),
-    (
-        RunFault::Recording(RecordingFault::TimeTooLarge(u64::MAX)),
-        "recording TimeTooLarge 18446744073709551615\n",
-        3,
-    ),
-    (
-        RunFault::Recording(RecordingFault::Packed),
-        "recording Packed\n",
-        3,
-    ),
-    (
-        RunFault::RecordingOfB(RecordingFault::NotRecording(0)),
-        "recording NotRecording 0 B\n",
-        3,
-    ),
-    (
-        RunFault::RecordingOfA(RecordingFault::Packed),
-        "recording Packed A\n",
-        3,
-    ),
-    (RunFault::Read, "device Read\n", 4),
-    (RunFault::Write, "device Write\n", 4),
-    (RunFault::Memory, "memory\n", 4),
-];
-
-/// The text of the first of the faults that is told otherwise.
-fn wrongly_told(alloc: Global) -> Option<&'static str> {
-    for (fault, text, status) in FAULTS.as_slice() {
-        if told(alloc, fault).as_slice() != text.as_bytes() || fault.status() != *status {
-            return Some(text);
-        }
-    }
-    None
-}
-
-#[test]
-fn each_fault_is_told(rt: HostRuntime) -> Result<(), Fail> {
-    all_right(wrongly_told(rt.alloc()))
 }
 
 /// Puts a line in the place of a text.

@@ -274,4 +274,6 @@ can-stop remaining start input source past fault (inr (inl s)) =
     by (run.BadPort m) h = absurd h.stops
     by (run.RecordingOfA m) h = absurd h.stops
     by (run.RecordingOfB m) h = absurd h.stops
+    by (run.ListOfCame m) h = absurd h.stops
+    by (run.ListOfLeft m) h = absurd h.stops
 can-stop remaining start input source past fault (inr (inr s)) = subst CanStop (sym s.fault_is) tt

@@ -50,6 +50,8 @@ fails-unread (run.TimeTooLarge m) said h = absurd h
 fails-unread (run.BadPort m) said h = absurd h
 fails-unread (run.RecordingOfA m) said h = absurd h
 fails-unread (run.RecordingOfB m) said h = absurd h
+fails-unread (run.ListOfCame m) said h = absurd h
+fails-unread (run.ListOfLeft m) said h = absurd h
 
 pub fails-unwritten : (fault : RunFault) (said : Result Number RecordingFault) → FailsBy fault said
     → is_write fault ≡ false
@@ -66,6 +68,8 @@ fails-unwritten (run.TimeTooLarge m) said h = absurd h
 fails-unwritten (run.BadPort m) said h = absurd h
 fails-unwritten (run.RecordingOfA m) said h = absurd h
 fails-unwritten (run.RecordingOfB m) said h = absurd h
+fails-unwritten (run.ListOfCame m) said h = absurd h
+fails-unwritten (run.ListOfLeft m) said h = absurd h
 
 module _ (options : Options) (ports : Ports) (first old new : Standing) (past : Numbers) (before after : State)
     (item : Numbered) (s : Sorts options ports first old past before) where
@@ -85,6 +89,8 @@ module _ (options : Options) (ports : Ports) (first old new : Standing) (past : 
   stops-reader (run.BadPort m) h = absurd h
   stops-reader (run.RecordingOfA m) h = absurd h
   stops-reader (run.RecordingOfB m) h = absurd h
+  stops-reader (run.ListOfCame m) h = absurd h
+  stops-reader (run.ListOfLeft m) h = absurd h
 
   -- and the input gave some bytes
   abbrev Given : (given : List ℕ) → Gives old new given → GivesSome first new
@@ -104,6 +110,8 @@ module _ (options : Options) (ports : Ports) (first old new : Standing) (past : 
   gives-reader (run.BadPort m) h = absurd h
   gives-reader (run.RecordingOfA m) h = absurd h
   gives-reader (run.RecordingOfB m) h = absurd h
+  gives-reader (run.ListOfCame m) h = absurd h
+  gives-reader (run.ListOfLeft m) h = absurd h
 
   pub gives-number : SaysFirst old new before after item → GivesSome first new
   gives-number says = Given says.given says.gives
@@ -124,6 +132,8 @@ module _ (options : Options) (ports : Ports) (first old new : Standing) (past : 
   stops-number (run.BadPort m) says h = absurd h
   stops-number (run.RecordingOfA m) says h = absurd h
   stops-number (run.RecordingOfB m) says h = absurd h
+  stops-number (run.ListOfCame m) says h = absurd h
+  stops-number (run.ListOfLeft m) says h = absurd h
 
 -- ---- the end
 

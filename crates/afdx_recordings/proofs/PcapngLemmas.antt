@@ -98,6 +98,12 @@ TellsBlock-meant (Err (run.RecordingOfA n)) old new before after item head given
 TellsBlock-meant (Err (run.RecordingOfB n)) old new before after item head given h k gives few told
     least within rest meant =
     absurd meant
+TellsBlock-meant (Err (run.ListOfCame n)) old new before after item head given h k gives few told
+    least within rest meant =
+    absurd meant
+TellsBlock-meant (Err (run.ListOfLeft n)) old new before after item head given h k gives few told
+    least within rest meant =
+    absurd meant
 TellsBlock-meant (Err (run.LineTooLong n)) old new before after item head given h k gives few told
     least within rest meant =
     absurd meant
@@ -255,5 +261,7 @@ Meant-not_read meaning (Err (run.TimeTooLarge n)) after item meant = refl
 Meant-not_read meaning (Err (run.BadPort n)) after item meant = refl
 Meant-not_read meaning (Err (run.RecordingOfA n)) after item meant = refl
 Meant-not_read meaning (Err (run.RecordingOfB n)) after item meant = refl
+Meant-not_read meaning (Err (run.ListOfCame n)) after item meant = refl
+Meant-not_read meaning (Err (run.ListOfLeft n)) after item meant = refl
 Meant-not_read meaning (Err (run.LineTooLong n)) after item meant = refl
 Meant-not_read meaning (Err run.TooManyLines) after item meant = refl

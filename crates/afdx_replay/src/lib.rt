@@ -16,7 +16,7 @@ pub use afdx_commands::{
     solve_config,
 };
 pub use afdx_frame::{BySide, Policing};
-pub use afdx_lists::{Peeked, RecordingFault, RunFault, Watched};
+pub use afdx_lists::{ListFault, Peeked, RecordingFault, RunFault, Watched};
 pub use afdx_recorded::{Interfaces, PairOptions, Place, Placing, RecordingOptions, Tally};
 pub use afdx_sending::{run_send, send, send_and_count};
 pub use afdx_text::{Output, Sink};

@@ -8,8 +8,8 @@ use afdx_config::{SystemId, Tables};
 use afdx_frame::{Policing, Side, VlId};
 use afdx_police::LinkRule;
 use afdx_replay::{
-    RecordingFault, RunFault, Summary, Watched, check, police, replay, run, run_police, run_send,
-    run_unadmitted, send,
+    ListFault, RecordingFault, RunFault, Summary, Watched, check, police, replay, run, run_police,
+    run_send, run_unadmitted, send,
 };
 use afdx_samples::{admitted, base, base_tables, equal};
 use std::alloc::Global;
@@ -165,6 +165,19 @@ fn number_in(fault: RecordingFault) -> Option<u64> {
     }
 }
 
+/// The number of a line in a fault of one of two lists.
+fn line_in(fault: ListFault) -> Option<u64> {
+    match fault {
+        ListFault::BadLine(n) => Some(n),
+        ListFault::BadHex(n) => Some(n),
+        ListFault::TimeBack(n) => Some(n),
+        ListFault::TimeTooLarge(n) => Some(n),
+        ListFault::BadPort(n) => Some(n),
+        ListFault::LineTooLong(n) => Some(n),
+        ListFault::TooManyLines => None,
+    }
+}
+
 /// The number in a fault: of a line of a list, or in the fault of a recording.
 fn number_of(fault: &RunFault) -> Option<u64> {
     match fault {
@@ -177,6 +190,8 @@ fn number_of(fault: &RunFault) -> Option<u64> {
         RunFault::Recording(fault) => number_in(*fault),
         RunFault::RecordingOfA(fault) => number_in(*fault),
         RunFault::RecordingOfB(fault) => number_in(*fault),
+        RunFault::ListOfCame(fault) => line_in(*fault),
+        RunFault::ListOfLeft(fault) => line_in(*fault),
         RunFault::TooManyLines | RunFault::Read | RunFault::Write | RunFault::Memory => None,
     }
 }

@@ -1,5 +1,5 @@
 -- What is known of bytes that were written.
-use Rattle.std.proofs.Common.{◌≡◌, ℕ, List, [], Some, None, refl, sym, ◌∙◌}
+use Rattle.std.proofs.Common.{ℕ, List, [], Some, None, refl, sym, ◌∙◌}
 use Rattle.std.proofs.Common.{append-nil, append_assoc, ap, ◌++◌, take, drop, take-append-drop}
 use Rattle.std.specs.Prelude.{Option, OnErr, Result, Ok, Err}
 use Rattle.std.specs.Io.KnownBytes.{Appends, Keeps}

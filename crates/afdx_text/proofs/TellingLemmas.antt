@@ -1,8 +1,7 @@
 -- What a device is told piece by piece.
 use Rattle.std.proofs.Common.{◌≡◌, ℕ, Bool, true, false, List, [], ◌++◌, Option, refl, sym, ap, ◌∙◌}
-use Rattle.std.proofs.Common.{subst, append_assoc}
+use Rattle.std.proofs.Common.{subst}
 use Rattle.std.proofs.KnownBytes.{Appends-nil, Appends-trans}
-use Rattle.std.specs.Io.KnownBytes.{Appends}
 use Rattle.afdx_lists.specs.Calls.{AppendsFront}
 use Rattle.afdx_text.specs.Telling.{Tells}
 use Rattle.afdx_text.proofs.OutputLemmas.{front-longer, front-more}

@@ -1,5 +1,5 @@
 -- Why a frame was dropped is a short word.
-use Rattle.std.proofs.Common.{◌≡◌, ◌≤◌, ℕ, zero, suc, Bool, true, ◌&&◌, List, [], ◌∷◌, length, slice_index_or, refl}
+use Rattle.std.proofs.Common.{◌≡◌, ◌≤◌, ℕ, zero, suc, Bool, true, List, [], ◌∷◌, length, slice_index_or, refl}
 use Rattle.std.specs.List.{list_all}
 use Rattle.std.proofs.Math.Dec.{leb}
 use Rattle.std.proofs.lemmas.Bool.{leb-true, and_parts}
@@ -14,6 +14,9 @@ use Rattle.afdx_police.specs.contracts.shape.Reason.{the_type}
 use Rattle.afdx_receive.specs.Words.{drop_word, own_words}
 use Rattle.afdx_receive.specs.declared.reception.DropReason.{DropReason}
 use Rattle.afdx_receive.specs.declared.reception.DropReason.TheVariants as drop
+use Rattle.afdx_text.specs.ConformLines.{strange_word, own_words as strange_words}
+use Rattle.afdx_text.specs.declared.strange.StrangeReason.{StrangeReason}
+use Rattle.afdx_text.specs.declared.strange.StrangeReason.TheVariants as strange
 use denote.Enum.Declared.{tag_of}
 
 abbrev fits : List ℕ → Bool
@@ -61,3 +64,14 @@ drop_fits drop.NoPort = refl
 -- at a receiver
 pub drop_word_short : (why : DropReason) → length (drop_word why) ≤ 15
 drop_word_short why = leb-true _ _ (drop_fits why)
+
+strange_fits : (why : StrangeReason) → leb (length (strange_word why)) 15 ≡ true
+unfolding strange_words
+strange_fits (strange.Shape reason) = reason_fits reason
+strange_fits strange.NotItsPort = refl
+strange_fits strange.OutOfTurn = refl
+strange_fits strange.NoArrival = refl
+
+-- at a switch that was recorded
+pub strange_word_short : (why : StrangeReason) → length (strange_word why) ≤ 15
+strange_word_short why = leb-true _ _ (strange_fits why)

@@ -1,3 +1,5 @@
+pub mod Places
+pub mod ConformLines
 pub mod OutLines
 pub mod Texts
 pub mod Sinks

@@ -1,32 +1,19 @@
 -- The lines of the program's output.
-use Rattle.std.specs.Prelude.{ℕ, ◌+◌, ◌*◌, length, Bool, true, false, List, [], ◌∷◌, ◌++◌}
+use Rattle.std.specs.Prelude.{ℕ, ◌+◌, ◌*◌, length, Bool, true, false, List, ◌++◌}
 use Rattle.std.specs.Prelude.{Option, Some, None, codes}
 use Rattle.std.specs.Fmt.{decimal}
 use Rattle.hex.specs.Hex.{encode_lower}
-use Rattle.afdx_frame.specs.declared.link.Side.{Side}
-use Rattle.afdx_frame.specs.declared.link.Side.TheVariants.{A, B}
 use Rattle.afdx_lists.specs.declared.frame_line.FrameKind.{FrameKind}
 use Rattle.afdx_lists.specs.declared.frame_line.FrameKind.TheVariants.{Good, Bad, Raw}
 use Rattle.afdx_police.specs.declared.shape.Reason.{Reason}
 use Rattle.afdx_police.specs.Words.{reason_word}
 use Rattle.afdx_receive.specs.Words.{drop_word}
-use Rattle.afdx_text.specs.declared.site.Site.{Site}
 use Rattle.afdx_text.specs.declared.line.OutLine.{OutLine}
 use Rattle.afdx_text.specs.declared.line.OutLine.TheVariants.{Verdict, Lost, Left, Message, Unread}
 use Rattle.afdx_text.specs.declared.line.OutLine.TheVariants.{Listed, Remark, Refused, Bounds, Margin, Admitted}
-use Rattle.afdx_text.specs.declared.line.OutLine.TheVariants.{Denied, Switch, EndToEnd}
-
-abbrev pub side_text : Side → List ℕ
-side_text A = codes "A"
-side_text B = codes "B"
-
--- where a line says that something was: the side, and the switch's name where each side has several
-abbrev pub place_text : Side → (name : List ℕ) → List ℕ
-place_text side [] = side_text side
-place_text side (c ∷ name) = side_text side ++ codes " " ++ c ∷ name
-
-abbrev pub site_text : Site → List ℕ
-site_text site = place_text site.side site.switch.now
+use Rattle.afdx_text.specs.declared.line.OutLine.TheVariants.{Denied, Switch, EndToEnd, Conform}
+use Rattle.afdx_text.specs.ConformLines.{conform_text}
+pub use Rattle.afdx_text.specs.Places.{side_text, place_text, site_text}
 
 -- no reason to drop a frame: it is accepted
 abbrev pub verdict_text : Option Reason → List ℕ
@@ -140,6 +127,7 @@ line_text Admitted = admitted_line
 line_text (Denied line) = denied_line line.now
 line_text (Switch name) = switch_line name.now
 line_text (EndToEnd vl system ns) = end_to_end_line vl.0 system.now ns
+line_text (Conform line) = conform_text line
 
 -- at least as many bytes as a line has
 abbrev pub longest : OutLine → ℕ
@@ -158,3 +146,4 @@ longest Admitted = 128
 longest (Denied line) = 128 + length line.now
 longest (Switch name) = 128 + length name.now
 longest (EndToEnd vl system ns) = 128 + length system.now
+longest (Conform line) = 256

@@ -4,8 +4,10 @@
 #![tactic(auto)]
 
 mod check_lines;
+mod conform_line;
 mod digits;
 mod kinds;
+pub mod laws;
 mod line;
 mod numeral;
 mod offered;
@@ -14,16 +16,19 @@ mod piece;
 mod place;
 mod sink;
 mod site;
+mod strange;
 mod telling;
 mod text;
 mod whole_lines;
 mod writing;
 
+pub use conform_line::{Answer, ConformLine};
 pub use line::OutLine;
 pub use offered::Offered;
 pub use output::Output;
 pub use sink::{AtOnce, Sink};
 pub use site::Site;
+pub use strange::{STRANGE_REASONS, StrangeReason};
 pub use telling::{tell, tell_fault, tell_number};
 pub use text::Text;
 pub use whole_lines::WholeLines;

@@ -3,6 +3,7 @@
 ghost use Rattle.std.specs.Prelude.{◌≡◌, ◌≤◌, ◌+◌, ◌++◌, length, take};
 
 use crate::check_lines::{put_bounds, put_denial, put_end_to_end, put_margin, put_switch};
+use crate::conform_line::{ConformLine, MOST_OF_CONFORM};
 use crate::kinds::{Kept, put_loss, put_refusal, put_remark, put_verdict};
 use crate::piece::put;
 use crate::site::Site;
@@ -99,6 +100,8 @@ pub enum OutLine<'a> {
         system: &'a str,
         ns: Option<u64>,
     },
+    /// What is found at a switch that was recorded, or the last line.
+    Conform(ConformLine),
 }
 
 /// The most bytes of a line, but for those of a name, a word and what is written in digits.
@@ -135,6 +138,7 @@ impl OutLine<'_> {
             OutLine::Denied { line } => MOST_FIXED.checked_add(line.len()),
             OutLine::Switch { name } => MOST_FIXED.checked_add(name.len()),
             OutLine::EndToEnd { system, .. } => MOST_FIXED.checked_add(system.len()),
+            OutLine::Conform(_) => Some(MOST_OF_CONFORM),
             _ => Some(MOST_FIXED),
         }
     }
@@ -229,6 +233,7 @@ impl OutLine<'_> {
             OutLine::Denied { line } => put_denial(room, at, line),
             OutLine::Switch { name } => put_switch(room, at, name),
             OutLine::EndToEnd { vl, system, ns } => put_end_to_end(room, at, vl.0, system, *ns),
+            OutLine::Conform(line) => line.put_at(room, at),
         }
     }
 }

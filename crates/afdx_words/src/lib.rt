@@ -1,11 +1,13 @@
 //! The words of the program's command line, and what those of recordings say.
 #![tactic(auto)]
 
+mod conform_words;
 mod list_words;
 mod place_words;
 mod recording_words;
 mod solve_words;
 mod words;
 
+pub use conform_words::{ConformOptions, conform_options};
 pub use recording_words::{Refused, STANDARD_INPUT, pair_options, recording_options};
 pub use words::afdx_command;

@@ -107,9 +107,10 @@ pub enum Refused {
     /// A word of `--interface` has another form, its interface was named before, or a switch is
     /// named where there can be none.
     BadInterface,
-    /// The number of `--origin` is over 2^63 - 1, or that of `--reorder` over 100,000.
+    /// The number of `--origin` is over 2^63 - 1, or that of `--reorder` over 100,000; a number of
+    /// `conform` is out of its range.
     BadNumber,
-    /// Both recordings are standard input.
+    /// Both recordings, or both lists, are standard input.
     SameInput,
     /// There was no memory.
     Memory,

@@ -1,5 +1,6 @@
 //! The words of a command line.
 
+use crate::conform_words::conform_command;
 use crate::list_words::list_command;
 use crate::recording_words::{
     fcs_option, interface_option, origin_option, reorder_option, second_list,
@@ -24,8 +25,9 @@ Exit status:
   0  done
   1  the configuration is wrong, or its network isn't admitted
   2  the words of the command are wrong
-  3  the list is wrong
+  3  the list is wrong, or 'conform' could not decide
   4  a device or memory failed
+  5  'conform' found that a switch deviates
 
 Each fault is one line on standard error; 'afdx explain' says what it means. A
 closed pipe is a device that failed: 'device Write', status 4.";
@@ -361,18 +363,18 @@ const EXPLAIN_ABOUT: &str = "Says in plain words what a line of the program mean
 
 const EXPLAIN_AFTER: &str = "\
 TEXT is a line that the program printed, as it was printed: a fault on standard
-error, the line of --summary, a line of 'check', 'list', 'replay', 'police' or
-'send'. Or it is a word of such a line: 'accept', why a frame was dropped, a line of
-admission, why a message was refused, one of the letters B, D, E, F, L, M, m, P, R, S
-and T, or the name of a fault, as 'OutOfRange'. With a text that is none of these the
-line is 'words UnknownText' and the status 2.
+error, the line of --summary, a line of 'check', 'conform', 'list', 'replay', 'police'
+or 'send'. Or it is a word of such a line: 'accept', why a frame was dropped or is
+strange, 'stopped', a line of admission, why a message was refused, one of the
+letters B, D, E, F, L, M, m, P, R, S and T, or the name of a fault, as 'OutOfRange'.
+With a text that is none of these the line is 'words UnknownText' and the status 2.
 
 With --list each word and each form of a line is printed with what it means: the
 name of its list and the word, then the text, then an empty line. The lists are
 'drop' (why a switch drops a frame), 'unread' (why a system drops one), 'refusal'
-(of a message), 'admission', 'config' (faults), 'key' (of a configuration),
-'fault' (of a run or of the words) and 'line' (of the output). In a form 'n' is a
-number, '*' any word, 'a|b' one of two words.
+(of a message), 'strange' (why a frame that left is), 'admission', 'config' (faults),
+'key' (of a configuration), 'fault' (of a run or of the words) and 'line' (of the
+output). In a form 'n' is a number, '*' any word, 'a|b' one of two words.
 
 Examples:
   afdx explain 'config Missing link 1 key 7'
@@ -408,6 +410,7 @@ pub fn afdx_command<'a>(alloc: Global) -> Result<Command<'a>, AllocError> {
         .subcommand_required(true)
         .arg_required_else_help(true);
     let program = with_command(Ok(program), check_command(alloc));
+    let program = with_command(program, conform_command(alloc));
     let program = with_command(program, explain_command(alloc));
     let program = with_command(program, list_command(alloc));
     let program = with_command(program, police_command(alloc));

@@ -2,13 +2,15 @@
 
     afdx-report examples/network.toml examples/bench.list --out report
     afdx-report net.toml A.pcapng B.pcapng --out report
+    afdx-report --conform --slack 100 net.toml came.list left.list
 
 Runs `afdx check CONFIG` and `afdx replay --explain-drops CONFIG LIST`, prints
 the numbers as text, and writes into the folder of --out: report.html (one page
 that needs nothing beside it), report.json, and a CSV file for each table. Times
 and links of recordings are those that `afdx list` writes. The exit status is
 that of the program; with --fail-on it is 6 where the program's is 0 and a
-criterion isn't met.
+criterion isn't met. With --conform it reports on a recorded switch: it runs
+`afdx conform CONFIG CAME LEFT`, and measures how long frames were inside.
 """
 from __future__ import annotations
 
@@ -17,6 +19,11 @@ import importlib
 from typing import NoReturn
 
 from afdx_tools.command_line import Parser, whole
+from afdx_tools.conformance.options import (
+    add_conform_words,
+    conform_options,
+    refuse_conform_options,
+)
 from afdx_tools.faults import leave
 from afdx_tools.guard import guarded
 from afdx_tools.recordings.options import add_recording_words
@@ -35,7 +42,8 @@ def words() -> argparse.ArgumentParser:
     add = parser.add_argument
     add("config", metavar="CONFIG", help="the configuration of the network")
     add("list", metavar="LIST", help="a frame list, a recording, or - for standard input")
-    add("other", metavar="LIST", nargs="?", help="the recording of B, beside that of A")
+    add("other", metavar="LIST", nargs="?",
+        help="the recording of B, beside that of A; with --conform the list of what left")
     add("--out", metavar="DIR", help="the folder for page, CSV and JSON (report)")
     add("--no-admission", action="store_true", help="also where the network isn't admitted")
     add(
@@ -47,8 +55,8 @@ def words() -> argparse.ArgumentParser:
         help="a link with a time line, whose way the pictures of several switches show; several "
         "times (that with the most trouble, and no way)",
     )
-    add("--from", dest="begin", type=whole(0, 10**15), default=0, metavar="NS",
-        help="where the time lines begin")
+    add("--from", dest="begin", type=whole(0, 10**15), metavar="NS",
+        help="where the time lines begin; with --conform as of afdx conform")
     add("--rows", type=whole(1, 4096), default=40, metavar="N",
         help="links in the picture of latencies (40)")
     add("--worst", type=whole(1, 10_000), default=20, metavar="N",
@@ -60,6 +68,7 @@ def words() -> argparse.ArgumentParser:
         help="print the JSON instead of the text, and write a folder only where --out names one")
     add_recording_words(parser)
     add_words(parser)
+    add_conform_words(parser)
     return parser
 
 
@@ -70,8 +79,13 @@ def run() -> int:
         importlib.import_module("numpy")
     except ModuleNotFoundError:
         leave(TOOL, "numpy is missing: apt-get install python3-numpy", 4)
+    if args.conform:
+        from afdx_tools.conformance.reporting import report_conformance
+
+        return report_conformance(TOOL, args, conform_options(args))
     from afdx_tools.report.reporting import run_report
 
+    refuse_conform_options(args)
     return run_report(TOOL, args)
 
 

@@ -107,9 +107,9 @@ def latency_legend(bound: str) -> list[str]:
     ]
 
 
-def latencies(pairs: Sequence[Sequence[Row]], bound: str) -> str:
-    """Latency in the replay against bound and configured latency: a row for each link at a port. On
-    paper a picture isn't cut, so the first one leaves room for what stands above it."""
+def latencies(pairs: Sequence[Sequence[Row]], bound: str, where: str = "in the replay") -> str:
+    """Latency against bound and configured latency: a row for each link at a port. On paper a
+    picture isn't cut, so the first one leaves room for what stands above it."""
     keys = ("least_ns", "bound_ns", "configured_ns", "greatest_ns")
     values = [row[key] for pair in pairs for row in pair for key in keys if row[key]]
     low, high = min(values) * 0.8, max(values) * 1.15
@@ -120,15 +120,21 @@ def latencies(pairs: Sequence[Sequence[Row]], bound: str) -> str:
 
     ticks = decade_ticks(low, high)
     shown = [pairs[:FIRST]] + [pairs[n : n + NEXT] for n in range(FIRST, len(pairs), NEXT)]
-    drawn = [latency_part(part, n, ticks, place, bound) for n, part in enumerate(shown)]
+    label = f"Latency {where} of each link beside its bound and its configured latency"
+    drawn = [latency_part(part, n, ticks, place, (bound, label)) for n, part in enumerate(shown)]
     return "".join(drawn)
 
 
 def latency_part(
-    pairs: Sequence[Sequence[Row]], number: int, ticks: Sequence[float], place: Scale, bound: str
+    pairs: Sequence[Sequence[Row]],
+    number: int,
+    ticks: Sequence[float],
+    place: Scale,
+    names: tuple[str, str],
 ) -> str:
     """Some of the rows, with an axis of their own."""
     bottom = 40 + ROW * len(pairs)
+    bound, label = names
     parts = latency_legend(bound)
     for tick in ticks:
         parts.append(line(place(tick), 34, place(tick), bottom, "grid"))
@@ -137,7 +143,6 @@ def latency_part(
     for place_of, pair in enumerate(pairs):
         parts += latency_row(pair, 54 + ROW * place_of, place)
     description = ". ".join(latency_in_words(row) for pair in pairs for row in pair)
-    label = "Latency in the replay of each link beside its bound and its configured latency"
     kind = "shown" if number < ON_PAPER else "screen"
     return picture(f"latencies-{number + 1}", bottom + 24, parts, label, description, kind)
 

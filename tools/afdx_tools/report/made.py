@@ -61,23 +61,11 @@ def header(
     cover: Cover | None,
 ) -> Row:
     """What the run was, and what made its report."""
-    paths = [args.list] if args.other is None else [args.list, args.other]
-    names = [cut(os.path.basename(path), LONGEST_NAME) for path in (*paths, args.config)]
     time_0 = where.time_0
-    now = datetime.datetime.now(datetime.timezone.utc)
     return {
-        "title": cut(args.title or f"{' and '.join(names[:-1])} on {names[-1]}", LONGEST_TITLE),
-        "files": files_of(args, source, counting.listing.digest, cover),
-        "words": [shown(word) for word in ("afdx-report", *sys.argv[1:])],
+        **run_of(args, files_of(args, source, counting.listing.digest, cover), called),
         "taps": [word.removeprefix(TAP) for word in source.options if word.startswith(TAP)],
-        "program": called,
-        "tool": f"afdx-report {NUMBER}",
-        "python": platform.python_version(),
-        "numpy": np.__version__,
-        "host": shown(socket.gethostname()),
-        "system": shown(platform.platform()),
         "admission_waived": args.no_admission,
-        "written": now.strftime("%Y-%m-%d %H:%M UTC"),
         "time_0_ns": time_0,
         "time_0": None if time_0 is None else f"{utc(time_0)} UTC",
         "first_ns": counting.first,
@@ -85,15 +73,41 @@ def header(
     }
 
 
-def made_of(run: Row) -> list[tuple[str, str]]:
-    """The same for a reader, in rows."""
+def run_of(args: argparse.Namespace, files: list[tuple[str, str, str]], called: str) -> Row:
+    """What a report of any kind says of its run: title, files, words, what made it, where, when."""
+    paths = [args.list] if args.other is None else [args.list, args.other]
+    names = [cut(os.path.basename(path), LONGEST_NAME) for path in (*paths, args.config)]
+    now = datetime.datetime.now(datetime.timezone.utc)
+    return {
+        "title": cut(args.title or f"{' and '.join(names[:-1])} on {names[-1]}", LONGEST_TITLE),
+        "files": files,
+        "words": [shown(word) for word in ("afdx-report", *sys.argv[1:])],
+        "program": called,
+        "tool": f"afdx-report {NUMBER}",
+        "python": platform.python_version(),
+        "numpy": np.__version__,
+        "host": shown(socket.gethostname()),
+        "system": shown(platform.platform()),
+        "written": now.strftime("%Y-%m-%d %H:%M UTC"),
+    }
+
+
+def places_of(run: Row) -> list[tuple[str, str]]:
+    """Where the frames of a replay came in, and what its time 0 is."""
+    if "taps" not in run:
+        return []
     taps = ", ".join(run["taps"]) or "none named: the frames' own addresses say where they came in"
     is_list = run["files"][1][0] == "List"
+    time_0 = run["time_0"] or ("a list has no date" if is_list else "no frame arrived")
+    return [("Taps", "a list" if is_list else taps), ("Time 0", time_0)]
+
+
+def made_of(run: Row) -> list[tuple[str, str]]:
+    """The same for a reader, in rows."""
     return [
         ("Words", shlex.join(run["words"])),
         *((head, f"SHA-256 {digest}, {path}") for head, path, digest in run["files"]),
-        ("Taps", "a list" if is_list else taps),
-        ("Time 0", run["time_0"] or ("a list has no date" if is_list else "no frame arrived")),
+        *places_of(run),
         ("Program", run["program"]),
         ("Tool", f"{run['tool']}, Python {run['python']}, numpy {run['numpy']}"),
         ("Host", f"{run['host']}, {run['system']}"),

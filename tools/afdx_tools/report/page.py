@@ -79,7 +79,7 @@ def track_sections(counting: Counting, args: argparse.Namespace) -> str:
     first = tracks.chosen(counting, wrong)
     parts: list[str] = []
     for vl in dict.fromkeys(args.link or ([] if first is None else [first])):
-        part = track_section(counting, vl, wrong, args.begin)
+        part = track_section(counting, vl, wrong, args.begin or 0)
         on_paper = len(parts) < TRACKS_ON_PAPER
         parts.append(part if on_paper else f'<div class="screen">{part}</div>')
     return "".join(parts)

@@ -38,7 +38,8 @@ def is_over(row: Row) -> bool:
     pairs = (("jitter_ns", "table_jitter_ns"), ("at_receivers_ns", "table_skew_ns"),
              ("skew_ns", "table_skew_ns"))  # fmt: skip
     over = any((row.get(name) or 0) > row.get(table, 0) for name, table in pairs if table in row)
-    words = ("late", "silent", "clock", "twice", "alone", "missing", "never")
+    words = ("late", "silent", "clock", "twice", "alone", "missing", "never", "stopped", "strange",
+             "passed", "early")  # fmt: skip
     wrong = any(row.get(name) for name in words)
     wrong |= row.get("reason") == "wrong-port"
     return over or bool(wrong) or ("latency_ns" in row and row["share"] > 1)

@@ -1,4 +1,4 @@
-use Rattle.std.proofs.Common.{ℕ, List, arith, length, drop, take, ap, sym, ◌≡◌, ◌*◌, ◌+◌, ◌≤◌, ◌++◌, ◌∙◌}
+use Rattle.std.proofs.Common.{ℕ, List, arith, length, take, ap, sym, ◌≡◌, ◌*◌, ◌+◌, ◌++◌, ◌∙◌}
 use Rattle.hex.specs.Hex.{encode_lower, lower_digits}
 use Rattle.hex.proofs.HexLemmas.{length-encode_with}
 use Rattle.afdx_text.proofs.TextLemmas.{put_front, take_whole}

@@ -1,6 +1,3 @@
-use Rattle.std.proofs.Common.{ℕ, List, arith, length, drop, take, ap, ◌++◌, ◌+◌, ◌≡◌, ◌∙◌, length-take}
-use Rattle.std.proofs.lemmas.List.{take-take}
-use Rattle.std.proofs.lemmas.Simd.{put_chunk_is}
 use Rattle.afdx_text.proofs.TextLemmas.{put_at_place}
 use Rattle.afdx_text.proofs.piece.put_of_2.Goals as goal
 

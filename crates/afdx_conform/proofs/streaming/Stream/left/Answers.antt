@@ -8,7 +8,7 @@ pub returns-clause-stands : goal.returns-clause-stands
 returns-clause-stands c z xs ys j time m h =
     on-every c.add_frame.result time
     (λ f. stands-left z xs ys j time c.args.self.now _ h (gone_of c.args.frame) m f)
-    (λ until le. c.add_frame.ensures.after (until_then until z) xs ys 0 time h.over
+    (λ until le. c.add_frame.ensures.after (until_then until z) xs ys time h.over
     (leave-for z until ys time (gone_of c.args.frame) m) le (over-until z until time h.over h.before) (h.is_after until le))
 
 pub returns-clause-refused : goal.returns-clause-refused

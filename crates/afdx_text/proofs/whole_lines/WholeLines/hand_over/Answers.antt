@@ -1,6 +1,5 @@
-use Rattle.std.proofs.Common.{◌≡◌, ◌++◌, List, ℕ, take, ap, subst, sym, ◌∙◌}
+use Rattle.std.proofs.Common.{◌≡◌, ◌++◌, List, ℕ, take, ap, sym, ◌∙◌}
 use Rattle.std.specs.List.{slice_range}
-use Rattle.std.specs.Io.KnownBytes.{Appends}
 use Rattle.afdx_text.proofs.WholeLineLemmas.{handed_front, two_parts}
 use Rattle.afdx_text.proofs.whole_lines.WholeLines.hand_over.Goals as goal
 

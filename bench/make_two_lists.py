@@ -1,0 +1,107 @@
+#!/usr/bin/env python3
+"""Writes a network and two frame lists to measure `afdx conform` with.
+
+    bench/make_two_lists.py CONFIG CAME LEFT [N] [--links C] [--ports P]
+
+Writes a configuration to CONFIG, to CAME a list of N frames (250,000 where it isn't given) that
+come to the switch, and to LEFT one of those frames as they leave it. There are 24 systems at 100
+Mbit/s and C links (400) to P systems each (1), with a BAG of 128 ms and a latency of 500 us. Their
+frames have 64 bytes, random messages and numbers. They come in turn, by halves of them on both
+sides, each link's a BAG apart, and leave each of their ports 10 to 200 us later: so all is as
+promised, and `conform` finds nothing. The same words give the same files.
+"""
+import argparse
+import heapq
+import os
+import random
+import sys
+
+HERE = os.path.dirname(os.path.abspath(__file__))
+sys.dont_write_bytecode = True
+sys.path.insert(0, os.path.join(HERE, "..", "examples"))
+from frame_builder import frame_of  # noqa: E402
+
+MOST_LINES = 1_000_000
+SYSTEMS = 24
+BAG_MS = 128
+MS = 1_000_000
+SOONEST, LATEST = 10_000, 200_000  # ns, from when a frame came to when it leaves
+LINKS = 400
+
+
+def ports_of(vl, count):
+    """The output ports of a link; the sender's is none of them."""
+    return [(vl + step) % SYSTEMS + 1 for step in range(1, count + 1)]
+
+
+def write_config(path, links, ports):
+    parts = ["profile = 1\nbuffer = 65536\n"]
+    parts += [
+        f'[[system]]\nname = "s{place}"\nport = {place}\nid = {place}\npartition = 1\nrate = 100\n'
+        for place in range(1, SYSTEMS + 1)
+    ]
+    for vl in range(links):
+        to = ", ".join(f'"s{port}"' for port in ports_of(vl, ports))
+        parts.append(
+            f'[[link]]\nvl = {vl}\nfrom = "s{vl % SYSTEMS + 1}"\nto = [{to}]\nbag_ms = {BAG_MS}\n'
+            'lmin = 64\nlmax = 64\njitter_us = 500\npriority = "high"\npolicing = "byte"\n'
+            "latency_us = 500\nskew_us = 1000\nsubs = 1\n"
+        )
+    with open(path, "w", encoding="ascii") as config:
+        config.write("".join(parts))
+
+
+def came(links, count):
+    """The frames that come: time, side, link, and the digits of the frame."""
+    chance, step = random.Random(links), BAG_MS * MS // links
+    heads = [
+        [frame_of(vl % SYSTEMS + 1, 1, vl, bytes(17), 0, side, 1000)[:42] for side in "AB"]
+        for vl in range(links)
+    ]
+    for place in range(count):
+        turn, vl = divmod(place, links)
+        on_b = turn % 2
+        tail = chance.randbytes(17) + bytes([turn % 255 + 1])
+        yield place * step, "AB"[on_b], vl, (heads[vl][on_b] + tail).hex()
+
+
+def write_two_lists(config, came_path, left_path, count, ports=1, links=LINKS):
+    """Writes all three."""
+    write_config(config, links, ports)
+    chance = random.Random(count)
+    leaving: list[tuple[int, str]] = []  # by time
+    with open(came_path, "w", encoding="ascii") as coming:
+        with open(left_path, "w", encoding="ascii") as left:
+            for time, side, vl, digits in came(links, count):
+                coming.write(f"F {time} {side} {vl % SYSTEMS + 1} {digits}\n")
+                while leaving and leaving[0][0] <= time:
+                    left.write(heapq.heappop(leaving)[1])
+                for port in ports_of(vl, ports):
+                    end = time + chance.randint(SOONEST, LATEST)
+                    heapq.heappush(leaving, (end, f"F {end} {side} {port} {digits}\n"))
+            left.writelines(heapq.heappop(leaving)[1] for _ in range(len(leaving)))
+
+
+def main():
+    words = argparse.ArgumentParser(
+        description=__doc__, formatter_class=argparse.RawDescriptionHelpFormatter
+    )
+    words.add_argument("config", metavar="CONFIG")
+    words.add_argument("came", metavar="CAME")
+    words.add_argument("left", metavar="LEFT")
+    words.add_argument("count", metavar="N", nargs="?", type=int, default=250_000)
+    words.add_argument("--links", metavar="C", type=int, default=LINKS, help="1 to 4096")
+    words.add_argument("--ports", metavar="P", type=int, default=1, help="1 to 23")
+    given = words.parse_args()
+    if not 1 <= given.links <= 4096:
+        words.error("C is 1 to 4096")
+    if not 1 <= given.ports < SYSTEMS:
+        words.error("P is 1 to 23")
+    if not 0 <= given.count * given.ports <= MOST_LINES:
+        words.error(f"N times P is 0 to {MOST_LINES}")
+    paths = given.config, given.came, given.left
+    write_two_lists(*paths, given.count, given.ports, given.links)
+
+
+if __name__ == "__main__":
+    main()

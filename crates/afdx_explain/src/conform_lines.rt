@@ -1,0 +1,94 @@
+//! The lines of `conform` but for the words in them, which stand in tables of their own.
+
+use crate::entry::Entry;
+
+/// Lines of `conform`, and the first words of those that have a word of a table at their end.
+pub const CONFORM_LINES: [Entry; 9] = [
+    (
+        "strange",
+        "\
+strange m side port WORD: the frame of line m of LEFT left that output port, and nothing explains
+it. WORD says why; 'afdx explain --list' has each.",
+    ),
+    (
+        "passed",
+        "\
+passed n side port WORD: the frame of line n of CAME left that output port, and had to be dropped.
+WORD says why; 'afdx explain --list' has each.",
+    ),
+    (
+        "\
+stopped
+stopped n A|B n",
+        "\
+stopped n side port: the frame of line n of CAME had to pass, and it didn't leave that output port
+in time, or not at all.
+If all are at the begin, give --from; if all are at the end, --until. If it is so at the edge of a
+link's account, frames may wait before the account is asked: --asked. If 'strange .. no-arrival'
+comes too, the time inside may be longer than the latency: --inner.
+A recorder that loses frames makes such lines, and so does a frame that was damaged.",
+    ),
+    (
+        "\
+late
+late n A|B n n",
+        "\
+late n side port NS: the frame of line n of CAME left that output port NS ns later than its link's
+latency_us allows.
+If the switch may take longer inside, give --inner; if the stamps are less exact, --slack. Stamps
+of first bits at one side and of last bits at the other make frames early or late.",
+    ),
+    (
+        "\
+early
+early n A|B n n",
+        "\
+early n side port NS: the frame of line n of CAME left that output port NS ns before all of it can
+have gone over the line, so the stamps are wrong.
+They may be cut to 8 ns or to whole us, come from two clocks, or be those of first bits: give
+--slack, or stamps of last bits on both sides.
+With --explain-drops, of several switches: port is a switch's name that is all digits, and the
+frame came NS ns too early for its link's account.",
+    ),
+    (
+        "\
+unsure
+unsure n A|B n",
+        "\
+unsure n side port: from the arrival of line n of CAME on nothing is said of its link at that
+output port: with these options more than 1024 explanations were possible.
+Less --slack, --drift and --asked, or no --from, leave fewer; so do frames of unlike bytes.",
+    ),
+    (
+        "\
+conforms
+conforms explained n open n uncertain n left-out n unseen n",
+        "\
+conforms: each frame that left is explained, and each that had to leave did.
+explained: frames that left rightly; open: arrivals whose frames may come behind the end;
+uncertain: where dropping and passing would both be right; left-out: lines that weren't looked at;
+unseen: links at output ports that weren't recorded.
+If uncertain is near explained, nothing was shown of the accounts: --slack is near jitter_us.
+Record with stamps of hardware, or test with greater bag_ms. Of what is unseen nothing is said.",
+    ),
+    (
+        "\
+deviates
+deviates n explained n open n uncertain n left-out n unseen n",
+        "\
+deviates D: there are D lines above of what the switch did wrong. Only the first of a link at an
+output port is sure to name the cause.
+See first that the recordings are right: GUIDE has a table of what a recorder makes of a right
+switch. explained, open, uncertain, left-out and unseen are as with conforms.",
+    ),
+    (
+        "\
+undecided
+undecided explained n open n uncertain n left-out n unseen n",
+        "\
+undecided: nothing wrong was found, but no frame was explained either, or a line 'unsure' stands
+above.
+If explained is 0, LEFT may be empty, or all its frames are left out, or its times are others than
+those of CAME: both count from one moment. The status is 3.",
+    ),
+];

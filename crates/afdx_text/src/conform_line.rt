@@ -1,0 +1,232 @@
+//! The lines of `conform`, and how each is put at a place of a room that is long enough for it.
+
+ghost use Rattle.std.specs.Prelude.{◌≡◌, ◌≤◌, ◌+◌, ◌++◌, codes, length, take};
+ghost use Rattle.std.specs.Fmt.{decimal};
+ghost use Rattle.afdx_text.specs.ConformLines.{answer_text, conform_text, found_text};
+ghost use Rattle.afdx_text.specs.ConformLines.{count_text, judged_line};
+
+use crate::piece::{put, put_number, put_piece, put_small};
+use crate::place::Place;
+use crate::strange::StrangeReason;
+use afdx_frame::Side;
+use afdx_police::Reason;
+
+/// Whether a recorded switch did what the rules say.
+#[derive(Clone, Copy, Debug, PartialEq, Eq)]
+pub enum Answer {
+    /// Every frame is explained, and no arrival lacks one: `conforms`.
+    Conforms,
+    /// There are so many findings: `deviates D`.
+    Deviates(u64),
+    /// There is no finding, but nothing was shown, or a stream is unsure: `undecided`.
+    Undecided,
+}
+
+/// A line of `conform`. A stream is a link at an output port of a side; `n` is a line of CAME, but
+/// in `strange`, where it is one of LEFT; `port` is the output port.
+#[derive(Clone, Copy, Debug, PartialEq, Eq)]
+pub enum ConformLine {
+    /// The frame of line `n` of LEFT is explained by nothing: `strange n side port WORD`.
+    Strange {
+        n: u64,
+        side: Side,
+        port: u8,
+        why: StrangeReason,
+    },
+    /// The frame left, though its arrival was to be dropped: `passed n side port WORD`.
+    Passed {
+        n: u64,
+        side: Side,
+        port: u8,
+        reason: Reason,
+    },
+    /// The arrival was to pass, and its frame didn't leave: `stopped n side port`.
+    Stopped {
+        n: u64,
+        side: Side,
+        port: u8,
+    },
+    /// Its frame left too late, by so many ns: `late n side port by`.
+    Late {
+        n: u64,
+        side: Side,
+        port: u8,
+        by: u64,
+    },
+    /// Its frame left before it can have gone over the line, by so many ns: `early n side port by`.
+    Early {
+        n: u64,
+        side: Side,
+        port: u8,
+        by: u64,
+    },
+    /// From here the stream can be explained in too many ways: `unsure n side port`.
+    Unsure {
+        n: u64,
+        side: Side,
+        port: u8,
+    },
+    /// The last line: the answer; the frames that are explained; the arrivals whose frames may come
+    /// later; those of which both answers are right; the lines that were left out; the streams that
+    /// weren't recorded.
+    Judged {
+        answer: Answer,
+        explained: u64,
+        waiting: u64,
+        uncertain: u64,
+        left_out: u64,
+        unseen: u64,
+    },
+}
+
+/// The most bytes of a line of `conform`.
+pub(crate) const MOST_OF_CONFORM: usize = 256;
+
+/// Puts what is found, and of which frame: how each line of a finding begins.
+#[inline(never)]
+fn put_found(room: &mut [u8], at: usize, finding: &[u8], n: u64, side: Side, port: u8) -> usize
+    requires short { length finding.now ≤ 8 }
+    requires room { at + 128 ≤ length room.old }
+    ensures within { result ≤ at + 64 }
+    ensures text { take result room.new
+        ≡ take at room.old ++ found_text finding.now n side port }
+{
+    let at = put(room, at, finding);
+    let at = put_number(room, at, n);
+    let at = put(room, at, b" ");
+    let at = Place::put(side, room, at);
+    let at = put(room, at, b" ");
+    put_small(room, at, port)
+}
+
+/// Puts a word behind what is found.
+#[inline(never)]
+fn put_word(room: &mut [u8], at: usize, word: &str) -> usize
+    requires short { length word.now ≤ 15 }
+    requires room { at + 32 ≤ length room.old }
+    ensures within { result ≤ at + 17 }
+    ensures text { take result room.new
+        ≡ take at room.old ++ codes " " ++ word.now ++ codes "\n" }
+{
+    let at = put(room, at, b" ");
+    let at = put_piece(room, at, word.as_bytes());
+    put(room, at, b"\n")
+}
+
+/// Puts by how many ns behind what is found.
+#[inline(never)]
+fn put_by(room: &mut [u8], at: usize, by: u64) -> usize
+    requires { at + 64 ≤ length room.old }
+    ensures within { result ≤ at + 22 }
+    ensures text { take result room.new
+        ≡ take at room.old ++ codes " " ++ decimal by ++ codes "\n" }
+{
+    let at = put(room, at, b" ");
+    let at = put_number(room, at, by);
+    put(room, at, b"\n")
+}
+
+/// Puts the name of a count, and the count.
+#[inline(never)]
+fn put_count(room: &mut [u8], at: usize, name: &[u8], count: u64) -> usize
+    requires short { length name.now ≤ 11 }
+    requires room { at + 48 ≤ length room.old }
+    ensures within { result ≤ at + 31 }
+    ensures text { take result room.new ≡ take at room.old ++ count_text name.now count }
+{
+    let at = put(room, at, name);
+    put_number(room, at, count)
+}
+
+/// Puts the answer, in words.
+#[inline(never)]
+fn put_answer(room: &mut [u8], at: usize, answer: Answer) -> usize
+    requires { at + 48 ≤ length room.old }
+    ensures within { result ≤ at + 31 }
+    ensures text { take result room.new ≡ take at room.old ++ answer_text answer }
+{
+    match answer {
+        Answer::Conforms => put(room, at, b"conforms"),
+        Answer::Deviates(findings) => put_count(room, at, b"deviates ", findings),
+        Answer::Undecided => put(room, at, b"undecided"),
+    }
+}
+
+/// `VERDICT explained N open K uncertain U left-out L unseen W`.
+#[inline(never)]
+fn put_judged(
+    room: &mut [u8],
+    at: usize,
+    answer: Answer,
+    explained: u64,
+    waiting: u64,
+    uncertain: u64,
+    left_out: u64,
+    unseen: u64,
+) -> usize
+    requires { at + 256 ≤ length room.old }
+    ensures within { result ≤ at + 256 }
+    ensures text { take result room.new
+        ≡ take at room.old ++ judged_line answer explained waiting uncertain left_out unseen }
+{
+    let at = put_answer(room, at, answer);
+    let at = put_count(room, at, b" explained ", explained);
+    let at = put_count(room, at, b" open ", waiting);
+    let at = put_count(room, at, b" uncertain ", uncertain);
+    let at = put_count(room, at, b" left-out ", left_out);
+    let at = put_count(room, at, b" unseen ", unseen);
+    put(room, at, b"\n")
+}
+
+impl ConformLine {
+    /// Puts the line at a place of the room, and tells where it ends.
+    #[inline(never)]
+    #[tactic(auto, using(crate::proofs::WordLemmas::reason_word_short, crate::proofs::WordLemmas::strange_word_short))]
+    pub(crate) fn put_at(self, room: &mut [u8], at: usize) -> usize
+        requires { at + 256 ≤ length room.old }
+        ensures within { result ≤ at + 256 }
+        ensures text { take result room.new ≡ take at room.old ++ conform_text self }
+    {
+        match self {
+            ConformLine::Strange { n, side, port, why } => {
+                let at = put_found(room, at, b"strange ", n, side, port);
+                put_word(room, at, why.word())
+            }
+            ConformLine::Passed {
+                n,
+                side,
+                port,
+                reason,
+            } => {
+                let at = put_found(room, at, b"passed ", n, side, port);
+                put_word(room, at, reason.word())
+            }
+            ConformLine::Stopped { n, side, port } => {
+                let at = put_found(room, at, b"stopped ", n, side, port);
+                put(room, at, b"\n")
+            }
+            ConformLine::Late { n, side, port, by } => {
+                let at = put_found(room, at, b"late ", n, side, port);
+                put_by(room, at, by)
+            }
+            ConformLine::Early { n, side, port, by } => {
+                let at = put_found(room, at, b"early ", n, side, port);
+                put_by(room, at, by)
+            }
+            ConformLine::Unsure { n, side, port } => {
+                let at = put_found(room, at, b"unsure ", n, side, port);
+                put(room, at, b"\n")
+            }
+            ConformLine::Judged {
+                answer,
+                explained,
+                waiting,
+                uncertain,
+                left_out,
+                unseen,
+            } => put_judged(
+                room, at, answer, explained, waiting, uncertain, left_out, unseen,
+            ),
+        }
+    }
+}

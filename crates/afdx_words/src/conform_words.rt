@@ -1,0 +1,184 @@
+//! The words of `conform`, and what they say.
+
+use crate::recording_words::Refused;
+use crate::words::{
+    CONFIG_HELP, command, explain_option, line_buffered, progress_option, summary_option, word,
+};
+use afdx_frame::VlId;
+use clap::{Arg, ArgAction, ArgMatches, Command, value_parser};
+use std::alloc::{AllocError, Global};
+
+const CONFORM_ABOUT: &str = "Says whether a recorded switch did what its tables say";
+
+const CONFORM_AFTER: &str = "\
+CAME has the frames that came to both switches, LEFT those that left them: lines of
+a list as for 'replay', CAME's with the input port, LEFT's with the output port, both
+with the time of the last bit. A line is printed for each thing that a switch did
+wrong; n is a line of CAME, m one of LEFT:
+
+  strange m side port WORD  nothing explains this frame of LEFT; WORD says why
+  passed n side port WORD   its frame left, and had to be dropped; WORD says why
+  stopped n side port       its frame had to leave, and didn't
+  late n side port NS       its frame left NS ns later than its latency allows
+  early n side port NS      its frame left NS ns before all of it can have
+  unsure n side port        from here on nothing is said of its link at that port
+
+The last line begins with one of these, of which each has a status of its own:
+
+  conforms    0  each frame that left is explained, each that had to leave did
+  deviates D  5  there are D lines of what was wrong
+  undecided   3  nothing was wrong, but no frame is explained, or a line is 'unsure'
+
+Behind it stands how much that says:
+
+  explained N    frames that left rightly
+  open K         arrivals whose frames may come behind the end
+  uncertain U    arrivals that may pass and may be dropped, by the options
+  left-out L     lines that were passed over
+  unseen W       links at output ports that weren't recorded
+
+Without options the stamps are exact, and both switches were reset before the first
+line. It is never said of a right switch that it deviates, if stamps and clocks differ
+by no more than the options say. The tables of CONFIG need not be admitted.
+
+CONFIG may describe several switches a side. --switch names the one that is judged;
+CAME then has all that came to it, from its systems and by its cables.
+
+A closed pipe, as with '| head', is the fault 'device Write', status 4.
+
+Example:
+  afdx conform --slack 500 --drift 100 network.toml came.list left.list";
+
+const CAME_HELP: &str = "The path of a list of the frames that came, or - for standard input";
+
+const LEFT_HELP: &str = "The path of a list of the frames that left, or - for standard input";
+
+const SLACK_HELP: &str = "By how many ns a stamp may be off, at most 1,000,000";
+
+const DRIFT_HELP: &str = "By how many millionths the rates of the switch's clock and of the \
+recorders' may differ, at most 1,000";
+
+const INNER_HELP: &str = "How many ns a frame may take inside beyond its link's latency, at most \
+1,000,000";
+
+const ASKED_HELP: &str = "By how many ns later than its last bit a frame's account may be asked, \
+at most 1,000,000";
+
+const FROM_HELP: &str = "There was traffic before this time, in ns, at most 10^15: lines before it \
+are passed over; else the switches were reset before the first line";
+
+const UNTIL_HELP: &str = "The end of the recordings, in ns, at most 10^15: later lines are passed \
+over; else the greatest time of all lines";
+
+const LEAVE_OUT_HELP: &str = "The link, 0 to 65535, whose frames are passed over, or 'other' for \
+frames that name no link; may be given again";
+
+const SWITCH_HELP: &str = "The name of the switch that is judged, where CONFIG describes several \
+a side";
+
+/// The word for frames that name no link.
+const OTHER: &str = "other";
+
+/// An option with a number and, where it isn't given, none.
+fn time_option<'a>(alloc: Global, name: &'a str, help: &'a str) -> Arg<'a> {
+    Arg::new(alloc, name)
+        .help(help)
+        .value_parser(value_parser!(u64))
+        .long(name)
+        .value_name("NS")
+}
+
+/// An option with a number that is 0 where it isn't given.
+fn leeway_option<'a>(alloc: Global, name: &'a str, unit: &'a str, help: &'a str) -> Arg<'a> {
+    time_option(alloc, name, help)
+        .value_name(unit)
+        .default_value("0")
+}
+
+/// The option by which frames of a link are passed over.
+fn leave_out_option<'a>(alloc: Global) -> Arg<'a> {
+    Arg::new(alloc, "leave-out")
+        .long("leave-out")
+        .value_name("VL")
+        .help(LEAVE_OUT_HELP)
+        .action(ArgAction::Append)
+}
+
+/// The option by which a switch of several is judged.
+fn switch_option<'a>(alloc: Global) -> Arg<'a> {
+    Arg::new(alloc, "switch")
+        .long("switch")
+        .value_name("NAME")
+        .help(SWITCH_HELP)
+}
+
+pub fn conform_command<'a>(alloc: Global) -> Result<Command<'a>, AllocError> {
+    let words = vec![in alloc;
+        leeway_option(alloc, "slack", "NS", SLACK_HELP),
+        leeway_option(alloc, "drift", "PPM", DRIFT_HELP),
+        leeway_option(alloc, "inner", "NS", INNER_HELP),
+        leeway_option(alloc, "asked", "NS", ASKED_HELP),
+        time_option(alloc, "from", FROM_HELP),
+        time_option(alloc, "until", UNTIL_HELP),
+        leave_out_option(alloc),
+        switch_option(alloc),
+        explain_option(alloc),
+        line_buffered(alloc),
+        progress_option(alloc),
+        summary_option(alloc),
+        word(alloc, "CONFIG", CONFIG_HELP),
+        word(alloc, "CAME", CAME_HELP),
+        word(alloc, "LEFT", LEFT_HELP),
+    ]?;
+    command(alloc, "conform", CONFORM_ABOUT, CONFORM_AFTER).args(words)
+}
+
+/// What the words of `conform` ask for, in whole ns, and the drift in millionths; but for those of
+/// `left_out` each number is as it was given, also if it is out of its range.
+#[derive(Debug, Drop)]
+pub struct ConformOptions {
+    pub slack: u64,
+    pub drift: u64,
+    pub inner: u64,
+    pub asked: u64,
+    pub from: Option<u64>,
+    pub until: Option<u64>,
+    /// The links whose frames are passed over; None is for frames that name no link.
+    pub left_out: Vec<Option<VlId>>,
+}
+
+/// The link that a word of `--leave-out` names.
+fn link_in(word: &str) -> Result<Option<VlId>, Refused> {
+    if word == OTHER {
+        return Ok(None);
+    }
+    match word.parse::<u16>() {
+        Ok(vl) => Ok(Some(VlId(vl))),
+        Err(_) => Err(Refused::BadNumber),
+    }
+}
+
+/// The links that the words of `--leave-out` name.
+fn links_in(alloc: Global, words: &[&str]) -> Result<Vec<Option<VlId>>, Refused> {
+    let mut links = Vec::new(alloc);
+    for word in words {
+        if links.push(link_in(word)?).is_err() {
+            return Err(Refused::Memory);
+        }
+    }
+    Ok(links)
+}
+
+/// What the words of `conform` ask for, if those of `--leave-out` are taken.
+pub fn conform_options(alloc: Global, matches: &ArgMatches<'_>) -> Result<ConformOptions, Refused> {
+    let words = matches.get_strs("leave-out").unwrap_or(&[]);
+    Ok(ConformOptions {
+        slack: matches.get_one::<u64>("slack").unwrap_or(0),
+        drift: matches.get_one::<u64>("drift").unwrap_or(0),
+        inner: matches.get_one::<u64>("inner").unwrap_or(0),
+        asked: matches.get_one::<u64>("asked").unwrap_or(0),
+        from: matches.get_one::<u64>("from"),
+        until: matches.get_one::<u64>("until"),
+        left_out: links_in(alloc, words)?,
+    })
+}

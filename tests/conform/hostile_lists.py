@@ -1,0 +1,161 @@
+"""Lists for `conform` that break off, are malicious, or as long as they may be; a part of
+tests/run/hostile.py."""
+from __future__ import annotations
+
+import random
+import time
+from collections.abc import Iterator
+
+import tables as made
+from conform import conform
+from conform_claims import Judge, pair_of
+from first_fault import LATEST
+from frames import frame_of
+from one_switch import MS
+from program import Answer, Program, answers, must
+from rows import CONFIGS, ROWS, list_of
+from small_cases import Pair
+
+LISTS = ("CAME", "LEFT")
+SOON = 20  # seconds
+# a list that isn't tried
+BESIDE = list_of("0 / 20000", "came"), list_of("6720 / 60000", "left")
+CUT = (  # rows
+    "all orders at one moment", "times that go back", "a frame twice",
+    "told before what is passed over",
+)
+SHORT, ODD_TIMES = b"R 0 A 1 -\n", (0, 1, MS, LATEST - 1, LATEST)
+FRAME = 132  # bytes of a line with a frame, beside its time and port
+
+
+def judged_soon(judge: Judge, pair: Pair) -> Answer:
+    """What it answers, which must come soon."""
+    began = time.monotonic()
+    found = judge.answer(pair)
+    must(time.monotonic() - began < SOON, f"it takes more than {SOON} s")
+    return found
+
+
+class OneList:
+    """`conform` with base tables, of which one list is tried: that at this place."""
+
+    is_frames = True
+
+    def __init__(self, judge: Judge, place: int) -> None:
+        self.judge, self.names_lines = judge, place == 1
+        self.known: dict[bytes, Answer] = {}
+
+    def pair(self, given: bytes) -> Pair:
+        """What is given beside the other list."""
+        came, left = (BESIDE[0], given) if self.names_lines else (given, BESIDE[1])
+        return Pair(CONFIGS["base"], came, left, ())
+
+    def run(self, given: bytes) -> Answer:
+        """The answer to a list."""
+        return judged_soon(self.judge, self.pair(given))
+
+    def is_told(self, given: bytes) -> Answer:
+        """It is answered as is computed here."""
+        wanted, found = conform(*self.pair(given)), self.run(given)
+        answers(found, wanted.status, wanted.out, wanted.err)
+        return found
+
+
+def one_list_commands(program: Program) -> dict[str, OneList]:
+    """By their names."""
+    judge = Judge(program)
+    return {f"conform, {name}": OneList(judge, place) for place, name in enumerate(LISTS)}
+
+
+def same_as_computed(judge: Judge, pair: Pair) -> None:
+    """It is answered as is computed here."""
+    wanted = conform(*pair)
+    answers(judge.answer(pair), wanted.status, wanted.out, wanted.err)
+
+
+def cut_lists(judge: Judge, pair: Pair, seed: int) -> None:
+    """Each of the two lists cut at each byte, and some of both."""
+    chance, (_, came, left, _) = random.Random(seed), pair
+    for place, text in enumerate((came, left)):
+        for count in range(max(0, len(text) - 5 * FRAME), len(text)):
+            same_as_computed(judge, pair.with_list(place, text[:count]))
+    for _ in range(100):
+        counts = chance.randrange(len(came) + 1), chance.randrange(len(left) + 1)
+        same_as_computed(judge, pair._replace(came=came[: counts[0]], left=left[: counts[1]]))
+
+
+def most_lines(judge: Judge) -> None:
+    """1,000,000 lines of either list, and one more; all of one moment."""
+    base, full = Pair(CONFIGS["base"], b"", b"", ()), SHORT * 1_000_000
+    last = b"undecided explained 0 open 0 uncertain 0 left-out 0 unseen 0\n"
+    answers(judged_soon(judge, base._replace(came=full)), 3, last, b"")
+    for place, name in enumerate(LISTS):
+        one = base.with_list(place, full + SHORT)
+        answers(judged_soon(judge, one), 3, b"", b"list %s TooManyLines\n" % name.lower().encode())
+    told = b"".join(b"strange %d A 1 too-short\n" % n for n in range(1, 1_000_001))
+    told += b"deviates 1000000" + last.removeprefix(b"undecided")
+    answers(judged_soon(judge, base._replace(left=full)), 5, told, b"")
+
+
+def equal_times(judge: Judge) -> None:
+    """5,000 equal frames come at one moment, and leave at one: one is right, and each other one
+    that came has passed."""
+    count = 5_000
+    came, left = list_of("0", "came") * count, list_of("6720", "left") * count
+    found = judged_soon(judge, Pair(CONFIGS["base"], came, left, ()))
+    told = b"".join(b"passed %d A 3 over-rate\n" % n for n in range(2, count + 1))
+    last = b"deviates %d explained 1 open 0 uncertain 0 left-out 0 unseen 0\n" % (count - 1)
+    answers(found, 5, told + last, b"")
+
+
+def largest_tables(judge: Judge) -> None:
+    """A frame of each of 4,096 links came, and none left any of 23 ports."""
+    tables = made.largest_tables()
+    lines = []
+    for place, link in enumerate(tables["link"]):
+        system = made.system_named(tables, link["from"])
+        frame = frame_of(system, link["vl"], 1000, b"", 0, "A")
+        lines.append(f"R 0 A {system['port']} {frame.hex()}\n")
+    pair = Pair(made.text_of(tables), "".join(lines).encode(), b"", ("--until", str(LATEST)))
+    ports = [made.system_named(tables, link["from"])["port"] for link in tables["link"]]
+    told = "".join(f"stopped {place} A {port}\n" for port in range(1, 25)
+                   for place, own in enumerate(ports, 1) if own != port)
+    last = f"deviates {4096 * 23} explained 0 open 0 uncertain 0 left-out 0 unseen 0\n"
+    answers(judged_soon(judge, pair), 5, (told + last).encode(), b"")
+
+
+def largest_numbers(judge: Judge, seed: int) -> None:
+    """The greatest times and options."""
+    chance = random.Random(seed)
+    most = [("--slack", MS), ("--drift", 1000), ("--inner", MS), ("--asked", MS)]
+    most += [("--from", LATEST), ("--until", LATEST)]
+    for _ in range(100):
+        words = [word for name, value in chance.sample(most, chance.randint(0, len(most)))
+                 for word in (name, str(value - chance.choice([0, 0, 1])))]
+        came, left = (" / ".join(
+            str(time) for time in sorted(chance.choices(ODD_TIMES, k=chance.randint(0, 4)))
+        ) for _ in "cl")
+        pair = Pair(CONFIGS["base"], list_of(came, "came"), list_of(left, "left"), tuple(words))
+        same_as_computed(judge, pair)
+
+
+def many_states(judge: Judge) -> None:
+    """Equal frames each 6,720 ns, where it isn't known which of them passed."""
+    times = [place * 6_720 for place in range(150)]
+    came = list_of(" / ".join(map(str, times)), "came")
+    left = list_of(" / ".join(str(time + 10_000) for time in times[::20]), "left")
+    for slack in (0, 1_000, 100_000):
+        words = ("--from", "0", "--slack", str(slack))
+        same_as_computed(judge, Pair(CONFIGS["base"], came, left, words))
+
+
+def hostile_lists(program: Program) -> Iterator[tuple]:
+    """What is tried of both lists."""
+    judge, rows = Judge(program), {row.name: row for row in ROWS}
+    for seed, name in enumerate(CUT):
+        yield f"conform, cut: {name}", cut_lists, judge, pair_of(rows[name]), seed
+        yield f"conform, the greatest numbers, {seed}", largest_numbers, judge, seed
+    yield "conform: the most lines", most_lines, judge
+    yield "conform: equal times", equal_times, judge
+    yield "conform: the largest tables", largest_tables, judge
+    yield "conform: many states", many_states, judge

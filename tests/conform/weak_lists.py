@@ -1,0 +1,72 @@
+"""`conform` on two lists, one of which is weak; a part of tests/run/devices.py."""
+from __future__ import annotations
+
+from collections.abc import Iterator
+
+from conform import conform
+from conform_claims import pair_of
+from hostile_lists import LISTS
+from program import Program
+from rows import CONFIGS, ROWS, list_of
+from small_cases import Pair
+from weak import BEYOND, Call, WeakOfTwo, large_texts, many_writes, weak_devices
+
+TRIED = (  # rows of each ending, with lines that are told before the end and at it
+    "two, of which one is over-rate", "nothing has left yet", "a nanosecond late",
+    "over twice the latency", "frames of no stream", "an account too large",
+    "all orders at one moment", "links that are left out", "a bad line", "times that go back",
+    "told before what is passed over", "a bad line behind what is told", "both lists are bad",
+    "nothing at all", "a switch of two",
+)
+
+
+class WeakList(WeakOfTwo):
+    """`conform` with its options on two lists, one of which is read from a weak device."""
+
+    def __init__(self, program: Program, pair: Pair, place: int, by_path: bool) -> None:
+        self.judged = pair
+        words = ["conform", *pair.words, program.apart().write("config", pair.config)]
+        super().__init__(program, words, (pair.came, pair.left), place, by_path)
+
+    def text_of(self, pair: tuple[bytes, bytes], are_open: list[bool]) -> bytes:
+        """What is written of these lists where the run asks for more of one that is open."""
+        came, left = (
+            text[: text.rfind(b"\n") + 1] + BEYOND if is_open else text
+            for text, is_open in zip(pair, are_open)
+        )
+        return conform(self.judged.config, came, left, self.judged.words).out
+
+    def lines_before(self, count: int, at_once: bool = False) -> bytes:
+        """What is written once so many bytes of the weak one were read, if the run then stops."""
+        return self.text_of(self.front_of(count), [self.place == 0, self.place == 1])
+
+    def told_before(self, reads: list[Call]) -> bytes:
+        """What these reads give with --line-buffered, where the run then asks for more."""
+        return self.text_of(*self.read_by(reads))
+
+
+def weak_list(program: Program, pair: Pair, place: int, by_path: bool) -> None:
+    """All that weak devices do to one of two lists."""
+    weak_devices(WeakList(program, pair, place, by_path))
+
+
+def many_lines(count: int) -> Pair:
+    """Frames of no stream, each at a moment of its own."""
+    left = b"".join(b"R %d A 1 -\n" % time for time in range(count))
+    return Pair(CONFIGS["base"], list_of("0", "came"), left, ())
+
+
+def weak_lists(program: Program) -> Iterator[tuple]:
+    """Rows of which each list is weak, by path and as standard input by turns; and long texts."""
+    if not program.knows("conform"):
+        return
+    by_path, rows = False, {row.name: row for row in ROWS}
+    for name in TRIED:
+        for place, side in enumerate(LISTS):
+            by_path = not by_path
+            given = program, pair_of(rows[name]), place, by_path
+            yield f"conform, {side} is weak: {name}", weak_list, *given
+        by_path = not by_path
+    many, large = WeakList(program, many_lines(60), 1, False), many_lines(9_000)
+    yield "conform: more than 1,000 writes", many_writes, many
+    yield "conform: more than a buffer", large_texts, WeakList(program, large, 1, True)

@@ -1,0 +1,91 @@
+# Tests of tools/afdx-report --conform; a part of tests/run/tools.sh.
+# shellcheck shell=bash
+# shellcheck disable=SC2154  # what it uses is set by tests/run/tools.sh, which sources it
+
+judged=$work/judged
+mkdir "$judged"
+one=$(head -n 1 examples/one_link.list | cut -d ' ' -f 5)
+
+# Lists of one frame that came and left at these times.
+came_and_left() { # CAME LEFT
+    for time in $1; do echo "F $time A 1 $one"; done >"$judged/came.list"
+    for time in $2; do echo "F $time A 3 $one"; done >"$judged/left.list"
+}
+
+judge() { # WORD..
+    launch tools/afdx-report --conform "$@" examples/base.toml "$judged/came.list" \
+        "$judged/left.list" --out "$judged/out"
+}
+
+conformance_tests() {
+    local json=$judged/out/report.json
+    came_and_left '0 500000' '6720 506720'
+    mkdir "$judged/out"
+    touch "$judged/out/silences.csv" # of an older report
+    judge
+    tell 'a recorded switch that conforms' "$(
+        is_status 0
+        says out 'verdict     conforms'
+        says out 'account     no answer was left open beside 2 explained frames'
+        wants_number "$json" 'r["totals"]["explained"], r["totals"]["measured"]' '(2, 2)'
+        wants_number "$json" 'r["streams"][0]["greatest_ns"], r["streams"][0]["bound_ns"]' \
+            '(6720, 16800)'
+        if [[ -e $judged/out/silences.csv ]]; then echo 'a table of an older report stays'; fi
+        wants_page "$judged/out/report.html"
+    )"
+    came_and_left '0 499999 3000000' '6720 506719 3017001'
+    judge --junit "$judged/junit.xml" --title 'Bench 7'
+    tell 'a recorded switch that deviates' "$(
+        is_status 5
+        says out 'finding     passed: line 2 of CAME at 499999 ns, link 1, port 3 (s3) of A'
+        says out 'finding     late: line 3 of CAME at 3000000 ns, link 1, port 3 (s3) of A, by 1 ns'
+        wants_number "$json" 'r["verdict"], r["totals"]["passed"], r["totals"]["late"]' \
+            "('deviates 2', 1, 1)"
+        wants_number "$json" 'r["streams"][0]["late"], r["run"]["title"]' "(1, 'Bench 7')"
+        wants_cases "$judged/junit.xml" '2 0 1'
+        "$python" tests/tools/html_access.py "$judged/out/report.html"
+        "$python" tests/tools/html_tags.py "$judged/out/report.html"
+    )"
+    came_and_left '0 500000' 6720
+    judge --until 600000 --asked 1
+    tell 'options are handed on' "$(
+        is_status 0
+        says out 'account     1 answer was left open beside 1 explained frame (100.0%)'
+        says out 'little was shown'
+    )"
+    came_and_left 0 6720
+    echo 'F 0 A' >>"$judged/left.list"
+    judge
+    tell 'a list with a fault is not measured' "$(
+        is_status 3
+        says err 'list left BadLine 2'
+        wants_number "$json" 'r["fault"], r["streams"]' "('list left BadLine 2', [])"
+        wants_page "$judged/out/report.html"
+    )"
+}
+
+refused_words() {
+    came_and_left 0 6720
+    judge --interface 0=A
+    tell 'options of replays are refused' "$(is_status 2; says err '--interface')"
+    launch tools/afdx-report --slack 1 examples/base.toml examples/one_link.list
+    tell 'options of conform are refused for a replay' "$(is_status 2; says err '--slack')"
+    launch tools/afdx-report --conform examples/base.toml "$judged/came.list"
+    tell 'a recorded switch has two lists' "$(is_status 2; says err 'CAME LEFT')"
+    printf '\xd4\xc3\xb2\xa1' >"$judged/left.list"
+    judge
+    tell 'a recorded switch is judged by lists' "$(is_status 2; says err 'frame lists')"
+}
+
+if [[ -z $reporting ]]; then
+    skip 'afdx-report --conform' "there is no program, or no package numpy"
+elif "$program" conform --help >"$work/out" 2>&1; then
+    conformance_tests
+    refused_words
+else
+    came_and_left 0 6720
+    judge
+    tell 'a program without conform' "$(is_status 2; says err 'this program has no conform')"
+    skip 'afdx-report --conform' 'the program has no conform'
+    refused_words
+fi

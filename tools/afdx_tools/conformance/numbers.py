@@ -1,0 +1,122 @@
+"""The numbers of a report on a recorded switch, as rows."""
+from __future__ import annotations
+
+from collections import Counter
+from typing import Sequence
+
+from afdx_tools.config import Config
+from afdx_tools.conformance.judging import FINDINGS, Deviation, Judged
+from afdx_tools.conformance.measuring import Measured, Named, Stream
+from afdx_tools.replay.checked import Checked
+from afdx_tools.tables import Row, percent
+
+LATE_SHARE = 1000  # a rank is a whole number of so many parts
+HALF, MOST = 500, 990
+
+
+def rank(latencies: Sequence[int], share: int) -> int:
+    """The least of ascending latencies that so many in a thousand don't exceed."""
+    return latencies[-(-len(latencies) * share // LATE_SHARE) - 1]
+
+
+def spread_of(latencies: Sequence[int]) -> Row:
+    """How many frames were measured, and their latencies."""
+    names = ("least_ns", "median_ns", "p99_ns", "greatest_ns")
+    if not latencies:
+        return {"frames": 0} | dict.fromkeys(names)
+    ranks = latencies[0], rank(latencies, HALF), rank(latencies, MOST), latencies[-1]
+    return {"frames": len(latencies)} | dict(zip(names, ranks))
+
+
+class Numbers:
+    """The rows of a recorded switch: measured, with what was found of each stream."""
+
+    def __init__(
+        self, config: Config, checked: Checked, judged: Judged, measured: Measured
+    ) -> None:
+        self.config, self.checked, self.measured, self.judged = config, checked, measured, judged
+        self.pairs = {stream: measured.pairs(stream) for stream in measured.streams()}
+        self.found: dict[tuple[str, int | None, int], Counter[str]] = {}
+        for each in judged.deviations:
+            frame = self.frame_of(each)
+            key = each.side, frame.vl if frame else None, each.port
+            self.found.setdefault(key, Counter())[each.word] += 1
+
+    def frame_of(self, deviation: Deviation) -> Named | None:
+        """The frame that a line names, None where nothing was measured."""
+        return self.measured.named[deviation.is_left].get(deviation.number)
+
+    def streams(self) -> list[Row]:
+        """A row for each stream: what came and left, what was found, what was measured of it beside
+        bound and configured latency."""
+        return [self.stream(stream) for stream in self.pairs]
+
+    def stream(self, stream: Stream) -> Row:
+        """A stream's row. Of several switches the bound is that of the judged one alone."""
+        link, port = self.measured.links[stream.vl], self.measured.first + stream.port
+        found = self.found.get((stream.side, stream.vl, stream.port), Counter())
+        latencies = sorted(pair.latency for pair in self.pairs[stream])
+        bound = self.checked.bound_of(link, port)
+        spread = spread_of(latencies)
+        greatest = spread["greatest_ns"]
+        return {
+            "link": stream.vl,
+            "from": link.source,
+            **self.config.keys_of(port),
+            "system": self.measured.by_port[port].name,
+            "side": stream.side,
+            "priority": link.priority,
+            "came": len(self.measured.came.get((stream.side, stream.vl), [])),
+            "left": len(self.measured.left.get(stream, [])),
+            **{word: found[word] for word in FINDINGS},
+            **spread,
+            "bound_ns": bound,
+            "margin_ns": None if bound is None else link.latency_ns - bound,
+            "configured_ns": link.latency_ns,
+            "share": None if greatest is None else greatest / link.latency_ns,
+        }
+
+    def deviations(self) -> list[Row]:
+        """A row for each line of the program, with the frame that it names."""
+        return [self.deviation(each) for each in self.judged.deviations]
+
+    def deviation(self, each: Deviation) -> Row:
+        """A line's row."""
+        port = self.measured.by_port.get(self.measured.first + each.port)
+        frame = self.frame_of(each)
+        return {
+            "what": each.word,
+            "list": "LEFT" if each.is_left else "CAME",
+            "line": each.number,
+            "time_ns": frame.time if frame else None,
+            "link": frame.vl if frame else None,
+            "side": each.side,
+            "port": each.port,
+            "system": port.name if port else None,
+            "reason": each.why or None,
+            "by_ns": each.by,
+        }
+
+
+def totals_of(judged: Judged, streams: Sequence[Row]) -> Row:
+    """The sums: the counts of the last line, each kind of finding, the frames of streams."""
+    words = Counter(each.word for each in judged.deviations)
+    counts = {name.replace("-", "_"): count for name, count in judged.counts.items()}
+    kinds = {word: words[word] for word in (*FINDINGS, "unsure")}
+    sums = {name: sum(row[name] for row in streams) for name in ("left", "frames")}
+    return {**counts, **kinds, "of_streams": sums["left"], "measured": sums["frames"]}
+
+
+def account_words(totals: Row) -> str:
+    """How much of the account was tested."""
+    if not totals.get("explained"):
+        return "nothing was shown, as no frame is explained"
+    uncertain, explained = totals["uncertain"], totals["explained"]
+    frames = "1 explained frame" if explained == 1 else f"{explained:,} explained frames"
+    if not uncertain:
+        return f"no answer was left open beside {frames}"
+    share = percent(uncertain / explained)
+    answers = "1 answer was" if uncertain == 1 else f"{uncertain:,} answers were"
+    words = f"{answers} left open beside {frames} ({share}), where both "
+    words += "would have been right"
+    return words + ("; so little was shown" if 2 * uncertain > explained else "")

@@ -1,0 +1,98 @@
+"""The options of `afdx conform` among the words of a tool."""
+from __future__ import annotations
+
+import argparse
+from dataclasses import dataclass
+
+from afdx_tools.command_line import whole
+from afdx_tools.faults import Refused
+
+LATEST = 10**15
+OTHER = "other"  # frames that name no link
+AMOUNTS = {
+    "slack": (1_000_000, "NS", "by how many ns a stamp may be off, with --conform (0)"),
+    "drift": (1_000, "PPM", "by how many millionths clocks may differ, with --conform (0)"),
+    "inner": (1_000_000, "NS", "what a frame may take beyond its latency, with --conform (0)"),
+    "asked": (1_000_000, "NS", "how much later the account may be asked, with --conform (0)"),
+    "until": (LATEST, "NS", "the end of the recordings, with --conform (the latest time)"),
+}  # fmt: skip
+# options of replays, which say nothing of a recorded switch, with what they are where not given
+OF_REPLAYS = {
+    "no_admission": False,
+    "link": [],
+    "compare": None,
+    "fail_on": [],
+    "interface": [],
+    "taps": None,
+    "fcs": None,
+    "origin": None,
+    "reorder": None,
+    "stamps": None,
+}
+
+
+def vl_or_other(text: str) -> int | None:
+    """The type of a word that is a link's identifier, or `other`."""
+    return None if text == OTHER else whole(0, 65_535)(text)
+
+
+def add_conform_words(parser: argparse.ArgumentParser) -> None:
+    """Teaches a parser --conform, and the options of `afdx conform`."""
+    add = parser.add_argument
+    add("--conform", action="store_true",
+        help="report on a recorded switch; CONFIG CAME LEFT and options as of afdx conform")
+    for name, (most, what, words) in AMOUNTS.items():
+        add(f"--{name}", type=whole(0, most), metavar=what, help=words)
+    add("--leave-out", type=vl_or_other, action="append", default=[], metavar="VL",
+        help="a link that isn't judged, or other, with --conform; several times")
+    add("--switch", metavar="NAME", help="which of several switches is judged, with --conform")
+
+
+@dataclass(frozen=True)
+class Options:
+    """The options of `afdx conform`: ns and millionths; None where they aren't given."""
+
+    slack: int | None = None
+    drift: int | None = None
+    inner: int | None = None
+    asked: int | None = None
+    start: int | None = None
+    until: int | None = None
+    left_out: tuple[int | None, ...] = ()
+    switch: str | None = None
+
+    def words(self) -> list[str]:
+        """The words that say the same to the program."""
+        amounts = {name: getattr(self, name) for name in AMOUNTS} | {"from": self.start}
+        words = [f"--{name}={amount}" for name, amount in amounts.items() if amount is not None]
+        words += [f"--leave-out={OTHER if vl is None else vl}" for vl in self.left_out]
+        return words + ([] if self.switch is None else [f"--switch={self.switch}"])
+
+    @property
+    def twice(self) -> int:
+        """By how much the times of two lines may be off."""
+        return 2 * (self.slack or 0)
+
+    def is_taken(self, time: int, vl: int | None, is_left: bool) -> bool:
+        """A line of this time and link isn't passed over."""
+        begin = (self.start or 0) - self.twice * is_left
+        return begin <= time <= (LATEST if self.until is None else self.until) and (
+            vl not in self.left_out
+        )
+
+
+def conform_options(args: argparse.Namespace) -> Options:
+    """The options that were given; Refused where some of replays were given, too."""
+    for name, default in OF_REPLAYS.items():
+        if getattr(args, name) != default:
+            raise Refused(f"--{name.replace('_', '-')} isn't an option with --conform")
+    amounts = {name: getattr(args, name) for name in AMOUNTS}
+    return Options(**amounts, start=args.begin, left_out=tuple(args.leave_out), switch=args.switch)
+
+
+def refuse_conform_options(args: argparse.Namespace) -> None:
+    """Refused where options of `afdx conform` were given for a replay."""
+    given = [name for name in AMOUNTS if getattr(args, name) is not None]
+    given += ["leave-out"] * bool(args.leave_out) + ["switch"] * (args.switch is not None)
+    if given:
+        raise Refused(f"--{given[0]} is an option with --conform only")
