@@ -5,6 +5,8 @@
 #[cfg(test)]
 mod comport;
 #[cfg(test)]
+mod conforming;
+#[cfg(test)]
 mod receive;
 #[cfg(test)]
 mod replay;

@@ -1,0 +1,14 @@
+use Rattle.afdx_text.proofs.OutputLemmas.{on-err}
+use Rattle.afdx_acceptance.proofs.judging.Judging.reach.Goals as goal
+
+pub returns-in_err-close_before-clause-begun : goal.returns-in_err-close_before-clause-begun
+returns-in_err-close_before-clause-begun g c = λ k start frames h.
+    on-err c.from_residual.result _ (c.in_err-close_before.ensures.begun k start frames h)
+
+pub returns-clause-told : goal.returns-clause-told
+returns-clause-told g c = λ k start frames h.
+    c.tell_due.ensures.told k start frames (c.in_ok-close_before.ensures.told k start frames h)
+
+pub returns-clause-begun : goal.returns-clause-begun
+returns-clause-begun g c = λ k start frames h.
+    c.tell_due.ensures.begun k start frames (c.in_ok-close_before.ensures.told k start frames h)

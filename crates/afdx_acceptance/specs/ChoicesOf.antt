@@ -1,0 +1,11 @@
+-- What a run is asked, as the code holds it.
+use Rattle.afdx_conform.specs.LeewayOf.{leeway_of}
+use Rattle.afdx_acceptance.specs.Choices.{Choices}
+use Rattle.afdx_acceptance.specs.declared.choices.Choices as code
+
+abbrev pub choices_of : code.Choices → Choices
+choices_of choices = record {
+  by = leeway_of choices.leeway;
+  until = choices.until;
+  left_out = choices.left_out.items;
+}

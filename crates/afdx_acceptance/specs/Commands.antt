@@ -1,0 +1,81 @@
+-- What the command conform does, whatever its run answers.
+use Rattle.std.specs.Prelude.{ℕ, ◌≡◌, ◌⊎◌, ◌||◌, Bool, true, List, Option, Some, None, Result, Ok, Err, OnOk, OnErr}
+use Rattle.std.specs.Prelude.{codes, option_and_then, option_map, slice_get}
+use Rattle.afdx_commands.specs.Checking.{IsRead}
+use Rattle.afdx_commands.specs.Taking.{IsUnread}
+use Rattle.afdx_config.specs.Rows.{Rows}
+use Rattle.afdx_config.specs.Switches.{switch_named}
+use Rattle.afdx_config.specs.declared.describing.Described.{Described}
+use Rattle.afdx_config.specs.declared.describing.Described.TheVariants.{One, Several}
+use Rattle.afdx_lists.specs.Calls.{is_failed_read, is_failed_write}
+use Rattle.afdx_lists.specs.Faults as lists
+use Rattle.afdx_lists.specs.Watching.{has_ended, has_failed}
+use Rattle.afdx_lists.specs.declared.role.ByRole.{ByRole}
+use Rattle.afdx_lists.specs.declared.fault.RunFault.{RunFault}
+use Rattle.afdx_lists.specs.declared.watched.Watched.{Watched}
+use Rattle.afdx_text.specs.Telling.{Tells, TellsLine}
+use Rattle.afdx_acceptance.specs.Totals.{status_of}
+use Rattle.afdx_acceptance.specs.declared.totals.Totals.{Totals}
+
+-- the tables of the switch that is judged: the one switch where none is named, else the one of this
+-- name
+abbrev pub tables_judged : Described → Option (List ℕ) → Option Rows
+tables_judged (One t) None = Some t
+tables_judged (One t) (Some name) = None
+tables_judged (Several switches) None = None
+tables_judged (Several switches) (Some name) =
+    option_and_then (λ k. option_map (λ s. s.rows) (slice_get switches k))
+    (switch_named switches name)
+
+-- what is told where there is no such switch
+abbrev pub no_switch_line : List ℕ
+no_switch_line = codes "words NoSuchSwitch\n"
+
+-- the exit status of what a run answers
+abbrev pub status_of_answer : Result Totals RunFault → ℕ
+status_of_answer (Ok totals) = status_of totals
+status_of_answer (Err fault) = lists.status_of fault
+
+-- what the error output is told, and the exit status
+module _ {E : Type 0} (error_bytes : E → Option (List ℕ)) (old new : Watched E) (status : ℕ) where
+  -- a run answered so: a fault is told in one line, and nothing else
+  pub record EndsAs (answer : Result Totals RunFault) : Type 0 where
+    pub status_is : status ≡ status_of_answer answer
+    pub told : OnErr answer (TellsLine error_bytes old new)
+    pub silent : OnOk answer (new ≡ old)
+
+  -- there is no such switch
+  pub record IsToldNoSwitch : Type 0 where
+    pub status_is : status ≡ 2
+    pub told : Tells error_bytes old new no_switch_line
+
+-- a run that answers so came to the end of both inputs, or one of its devices failed
+pub record IsRun {R : Type 0} (rest : ByRole (Watched R)) (output_failed : Bool)
+    (answer : Result Totals RunFault) : Type 0 where
+  pub ended : OnOk answer ((has_ended rest.came ≡ true) × (has_ended rest.left ≡ true))
+  pub read : (has_failed rest.came || has_failed rest.left) ≡ is_failed_read answer
+  pub write : output_failed ≡ is_failed_write answer
+
+-- what is judged, by a configuration and a name
+module _ {E : Type 0} (error_bytes : E → Option (List ℕ)) (config : List ℕ)
+    (name : Option (List ℕ)) (old new : Watched E) (status : ℕ) where
+  -- a run by the tables of the switch ended the command, of whose answer this holds
+  pub record IsJudged (ran : Result Totals RunFault → Type 0) : Type 0 where
+    pub described : Described
+    pub read : IsRead config described
+    pub tables : Rows
+    pub judged : tables_judged described name ≡ Some tables
+    pub answer : Result Totals RunFault
+    pub ends : EndsAs error_bytes old new status answer
+    pub runs : ran answer
+
+  -- the configuration describes no such switch
+  pub record HasNoSwitch : Type 0 where
+    pub described : Described
+    pub read : IsRead config described
+    pub unjudged : tables_judged described name ≡ None
+    pub told : IsToldNoSwitch error_bytes old new status
+
+  -- there are no tables to judge by
+  abbrev pub IsUnjudged : Type 0
+  IsUnjudged = IsUnread error_bytes old new config status ⊎ HasNoSwitch

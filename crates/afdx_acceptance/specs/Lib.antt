@@ -1,0 +1,11 @@
+pub mod Choices
+pub mod ChoicesOf
+pub mod Keys
+pub mod Awaited
+pub mod Waiting
+pub mod Totals
+pub mod Commands
+pub mod Telling
+pub mod Judging
+pub mod Told
+pub mod Ran

@@ -1,0 +1,260 @@
+//! The machine of a run: each frame goes to its streams, and what is found there is told at its
+//! moment.
+
+ghost use Rattle.std.specs.Prelude.{◌≡◌, ◌≤◌, ◌+◌, ◌∷◌, [], ℕ, List, Option, IfErr, IfOk, OnErr};
+ghost use Rattle.std.specs.Prelude.{OnOk, false, min};
+ghost use Rattle.std.specs.Io.KnownBytes.{Appends};
+ghost use Rattle.afdx_acceptance.specs.Choices.{Choices as Chosen, left_out_of};
+ghost use Rattle.afdx_acceptance.specs.ChoicesOf.{choices_of};
+ghost use Rattle.afdx_acceptance.specs.Judging.{IsSameButFindings, IsSameButTaken};
+ghost use Rattle.afdx_acceptance.specs.Telling as spec;
+ghost use Rattle.afdx_acceptance.specs.Told.{BeginsLines, HasTold};
+ghost use Rattle.afdx_engine.specs.Engine.{item_of};
+ghost use Rattle.afdx_frame.specs.Seals.{IsSealedAs};
+ghost use Rattle.afdx_frame.specs.Times.{latest_listed};
+ghost use Rattle.afdx_inputs.specs.Joining.{Frame, frame_of};
+ghost use Rattle.afdx_lists.specs.Calls.{AppendsFront, is_failed_write};
+ghost use Rattle.afdx_text.specs.Sinks.{IsOfOutput};
+
+use crate::asked::{is_in_time, is_left_out};
+use crate::choices::Choices;
+use crate::streams::Streams;
+use crate::telling::{findings_in, put_lines};
+use crate::totals::Totals;
+use crate::whole::whole_frame;
+use afdx_config::Tables;
+use afdx_engine::Machine;
+use afdx_frame::vl_of;
+use afdx_inputs::Seen;
+use afdx_lists::{Role, RunFault};
+use afdx_text::{ConformLine, Sink};
+use std::alloc::{AllocError, Global};
+
+/// What a run works with: what is asked for, the streams, the time of the last line in ns, and how
+/// many findings were told and lines left out.
+#[derive(Drop)]
+pub(crate) struct Judging<'a> {
+    alloc: Global,
+    choices: &'a Choices,
+    streams: Streams<'a>,
+    latest: u64,
+    findings: u64,
+    left_out: u64,
+    is_over: bool,
+}
+
+impl<'a> Judging<'a> {
+    /// It has told nothing yet.
+    pub(crate) fn new(
+        alloc: Global,
+        tables: &'a Tables,
+        choices: &'a Choices,
+    ) -> Result<Judging<'a>, AllocError>
+        ensures { (output : Option (List ℕ)) → IfOk result (λ judging.
+            HasTold (choices_of choices.entry.now) judging output output []) }
+    {
+        let streams = Streams::new(alloc, tables, choices.leeway)?;
+        Ok(Judging {
+            alloc,
+            choices,
+            streams,
+            latest: 0,
+            findings: 0,
+            left_out: 0,
+            is_over: false,
+        })
+    }
+
+    /// What it counted.
+    pub(crate) fn totals(&self) -> Totals
+        ensures findings { result.findings ≡ self.now.findings }
+        ensures left_out { result.left_out ≡ self.now.left_out }
+        ensures unseen { result.unseen ≡ 0 }
+    {
+        let mut totals = Totals::new(self.findings, self.left_out);
+        self.streams.count(&mut totals);
+        totals
+    }
+
+    /// Tells some lines, and counts those that are findings.
+    fn tell_lines<O: Sink>(&mut self, lines: &[ConformLine], output: &mut O) -> Result<(), RunFault>
+        requires sound { O.failed output.old ≡ false }
+        ensures failed { O.failed output.new ≡ is_failed_write result }
+        ensures fault { IfErr result IsOfOutput }
+        ensures settings { O.settings output.new ≡ O.settings output.old }
+        ensures others { IsSameButFindings self.old self.new }
+        ensures counted { OnOk result (self.new.findings
+            ≡ min (self.old.findings + spec.findings_in lines.now) spec.most_counted) }
+        ensures told { OnOk result (Appends (O.written output.old) (O.written output.new)
+            (spec.lines_text lines.now)) }
+        ensures begun { OnErr result (AppendsFront (O.written output.old) (O.written output.new)
+            (spec.lines_text lines.now)) }
+    {
+        put_lines(lines, output)?;
+        self.findings = self.findings.saturating_add(findings_in(lines));
+        Ok(())
+    }
+
+    /// Tells what is to be told before this time, in ns; without a time all that is.
+    fn tell_due<O: Sink>(&mut self, before: Option<u64>, output: &mut O) -> Result<(), RunFault>
+        requires sound { O.failed output.old ≡ false }
+        ensures failed { O.failed output.new ≡ is_failed_write result }
+        ensures fault { IfErr result IsOfOutput }
+        ensures settings { O.settings output.new ≡ O.settings output.old }
+        ensures told { (c : Chosen) (start : Option (List ℕ)) (frames : List Frame) →
+            HasTold c self.old start (O.written output.old) frames →
+            OnOk result (HasTold c self.new start (O.written output.new) frames) }
+        ensures begun { (c : Chosen) (start : Option (List ℕ)) (frames : List Frame) →
+            HasTold c self.old start (O.written output.old) frames →
+            OnErr result (BeginsLines start (O.written output.new)) }
+    {
+        while let Some(lines) = self.streams.take_before(before)? {
+            self.tell_lines(lines.as_slice(), output)?;
+        }
+        Ok(())
+    }
+
+    /// The recordings end at this time, in ns, before which all is told.
+    fn close<O: Sink>(&mut self, until: u64, output: &mut O) -> Result<(), RunFault>
+        requires sound { O.failed output.old ≡ false }
+        ensures failed { O.failed output.new ≡ is_failed_write result }
+        ensures fault { IfErr result IsOfOutput }
+        ensures settings { O.settings output.new ≡ O.settings output.old }
+        ensures told { (c : Chosen) (start : Option (List ℕ)) (frames : List Frame) →
+            HasTold c self.old start (O.written output.old) frames →
+            OnOk result (HasTold c self.new start (O.written output.new) frames) }
+        ensures begun { (c : Chosen) (start : Option (List ℕ)) (frames : List Frame) →
+            HasTold c self.old start (O.written output.old) frames →
+            OnErr result (BeginsLines start (O.written output.new)) }
+    {
+        self.tell_due(Some(until), output)?;
+        self.streams.end(until);
+        self.is_over = true;
+        Ok(())
+    }
+
+    /// The recordings end before a line of this time, in ns, if they do and didn't before.
+    fn close_before<O: Sink>(&mut self, time: u64, output: &mut O) -> Result<(), RunFault>
+        requires sound { O.failed output.old ≡ false }
+        ensures failed { O.failed output.new ≡ is_failed_write result }
+        ensures fault { IfErr result IsOfOutput }
+        ensures settings { O.settings output.new ≡ O.settings output.old }
+        ensures told { (c : Chosen) (start : Option (List ℕ)) (frames : List Frame) →
+            HasTold c self.old start (O.written output.old) frames →
+            OnOk result (HasTold c self.new start (O.written output.new) frames) }
+        ensures begun { (c : Chosen) (start : Option (List ℕ)) (frames : List Frame) →
+            HasTold c self.old start (O.written output.old) frames →
+            OnErr result (BeginsLines start (O.written output.new)) }
+    {
+        if self.is_over {
+            return Ok(());
+        }
+        let Some(until) = self.choices.until else {
+            return Ok(());
+        };
+        if until < time {
+            self.close(until, output)
+        } else {
+            Ok(())
+        }
+    }
+
+    /// The recordings end after the last line, if they didn't before.
+    fn close_at_end<O: Sink>(&mut self, output: &mut O) -> Result<(), RunFault>
+        requires sound { O.failed output.old ≡ false }
+        ensures failed { O.failed output.new ≡ is_failed_write result }
+        ensures fault { IfErr result IsOfOutput }
+        ensures settings { O.settings output.new ≡ O.settings output.old }
+        ensures told { (c : Chosen) (start : Option (List ℕ)) (frames : List Frame) →
+            HasTold c self.old start (O.written output.old) frames →
+            OnOk result (HasTold c self.new start (O.written output.new) frames) }
+        ensures begun { (c : Chosen) (start : Option (List ℕ)) (frames : List Frame) →
+            HasTold c self.old start (O.written output.old) frames →
+            OnErr result (BeginsLines start (O.written output.new)) }
+    {
+        if self.is_over {
+            return Ok(());
+        }
+        match self.choices.until {
+            Some(until) => self.close(until, output),
+            None => self.close(self.latest, output),
+        }
+    }
+
+    /// Tells what is to be told before a line of this time, in ns.
+    fn reach<O: Sink>(&mut self, time: u64, output: &mut O) -> Result<(), RunFault>
+        requires sound { O.failed output.old ≡ false }
+        ensures failed { O.failed output.new ≡ is_failed_write result }
+        ensures fault { IfErr result IsOfOutput }
+        ensures settings { O.settings output.new ≡ O.settings output.old }
+        ensures told { (c : Chosen) (start : Option (List ℕ)) (frames : List Frame) →
+            HasTold c self.old start (O.written output.old) frames →
+            OnOk result (HasTold c self.new start (O.written output.new) frames) }
+        ensures begun { (c : Chosen) (start : Option (List ℕ)) (frames : List Frame) →
+            HasTold c self.old start (O.written output.old) frames →
+            OnErr result (BeginsLines start (O.written output.new)) }
+    {
+        self.close_before(time, output)?;
+        self.tell_due(Some(time), output)
+    }
+
+    /// Takes a line: it is passed over, or goes to its streams.
+    fn take(&mut self, n: u64, seen: &Seen, message: &[u8]) -> Result<(), AllocError>
+        requires time { seen.now.heading.time ≤ latest_listed }
+        requires known { IsSealedAs seen.now.heading.seal message.now }
+        ensures others { IsSameButTaken self.old self.new }
+        ensures counted { (frames : List Frame) →
+            let c = choices_of self.old.choices.now in
+            let x = frame_of (item_of n seen.now message.now) in
+            self.old.left_out ≡ min (left_out_of c frames) spec.most_counted →
+            OnOk result
+            (self.new.left_out ≡ min (left_out_of c (x ∷ frames)) spec.most_counted) }
+    {
+        if !is_in_time(self.choices, seen) {
+            return Ok(());
+        }
+        let bytes = whole_frame(self.alloc, seen.heading.seal, message)?;
+        let vl = vl_of(bytes.as_slice());
+        if is_left_out(self.choices, vl) {
+            self.left_out = self.left_out.saturating_add(1);
+            return Ok(());
+        }
+        match seen.role {
+            Role::Came => self.streams.came(vl, n, &seen.heading, bytes.as_slice()),
+            Role::Left => self.streams.left(vl, n, &seen.heading, message, bytes),
+        }
+    }
+}
+
+impl Machine<Seen> for Judging<'_> {
+    ghost use Rattle.afdx_acceptance.specs.Choices.{Choices as Chosen};
+    ghost use Rattle.afdx_acceptance.specs.Told.{BeginsLines, TellsItems};
+
+    ghost Rules = { Chosen };
+
+    ghost Can = { λ rules item. Unit {0} };
+
+    ghost Told = { TellsItems };
+
+    ghost Begins = { λ rules judging old new past. BeginsLines old new };
+
+    ghost Done = { TellsItems };
+
+    fn tell<O: Sink>(
+        &mut self,
+        n: u64,
+        seen: &Seen,
+        message: &[u8],
+        output: &mut O,
+    ) -> Result<(), RunFault> {
+        self.reach(seen.heading.time, output)?;
+        self.take(n, seen, message)?;
+        self.latest = seen.heading.time;
+        Ok(())
+    }
+
+    fn end<O: Sink>(&mut self, output: &mut O) -> Result<(), RunFault> {
+        self.close_at_end(output)?;
+        self.tell_due(None, output)
+    }
+}

@@ -1,0 +1,27 @@
+//! Whether a recorded switch did what its tables say: the run over what came and what left, its
+//! text, and the command `conform`.
+//!
+//! Its tests are in `afdx_run_tests`.
+#![tactic(auto)]
+
+mod agenda;
+mod asked;
+mod choices;
+mod command;
+mod judging;
+mod key;
+mod outlets;
+mod run;
+mod slot;
+mod strangers;
+mod streams;
+mod telling;
+mod totals;
+mod whole;
+
+pub use afdx_conform::Leeway;
+pub use afdx_lists::{ByRole, Watched};
+pub use choices::Choices;
+pub use command::conform;
+pub use run::run_conform;
+pub use totals::Totals;
