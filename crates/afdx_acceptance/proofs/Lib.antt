@@ -4,3 +4,11 @@ pub mod WaitingLemmas
 pub mod TellingLemmas
 pub mod ToldLemmas
 pub mod RanLemmas
+pub mod SlotLemmas
+pub mod KeyLemmas
+pub mod KeptLemmas
+pub mod AddedLemmas
+pub mod StepLemmas
+pub mod GivenLemmas
+pub mod JoinLemmas
+pub mod FullLemmas

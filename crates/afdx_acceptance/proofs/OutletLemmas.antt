@@ -1,10 +1,24 @@
 -- Where the frames of a link leave.
-use Rattle.std.proofs.Common.{◌≡◌, ◌<◌, ℕ, length, get_or, map, subst, sym}
+use Rattle.std.proofs.Common.{◌≡◌, ◌<◌, ◌*◌, ℕ, Bool, true, false, Option, Some, None, length, get_or, map, refl, subst, sym, ap, ◌∙◌}
+use Rattle.std.proofs.lemmas.Option.{same_Some, slice_get-get_or}
+use Rattle.std.specs.Prelude.{slice_get, option_and_then, if◌then◌else◌}
+use Rattle.std.specs.Option.{option_map_or}
+use Rattle.afdx_bounds.specs.Tables.{byte_ns_at, goes_to, port_of, rule_of}
+use Rattle.afdx_bounds.proofs.TableLemmas.{port-of-system}
+use Rattle.afdx_config.specs.Admission.{byte_ns}
+use Rattle.afdx_config.specs.Lawful.{IsLawfulSwitch}
+use Rattle.afdx_config.specs.Reading.{system_at_port}
+use Rattle.afdx_police.specs.Rule.{rule_with}
+use Rattle.afdx_acceptance.specs.Frames.{link_to}
+use Rattle.afdx_acceptance.proofs.KeyLemmas.{system-at, to-link}
+use Rattle.std.proofs.Common.{List, []}
+use Rattle.afdx_frame.specs.declared.link.Policing.TheVariants.{Byte}
+use Rattle.afdx_frame.specs.declared.link.Priority.TheVariants.{High}
 use Rattle.std.proofs.lemmas.List.{get_or-map, length-map}
 use Rattle.std.proofs.lemmas.List.Elements.{All-from_recursion}
 use Rattle.std.specs.List.{AllByRecursion}
 use Rattle.afdx_config.specs.Lawful.{IsLinkUpTo, jitter_from_any}
-use Rattle.afdx_config.specs.Rows.{Rows, link_row}
+use Rattle.afdx_config.specs.Rows.{LinkRow, Rows, SystemRow, is_to, link_row}
 use Rattle.afdx_config.specs.declared.rows.Link.{Link}
 use Rattle.afdx_config.specs.declared.rows.SystemId.{SystemId}
 
@@ -16,3 +30,79 @@ receiver-known t l rank system lawful within at =
     subst (λ (s : SystemId). s.0 < length t.systems) (sym at)
     (rw (← get_or-map (λ i. i.0) l.to.items rank system (system.0) (subst (λ (n : ℕ). rank < n) (length-map l.to.items (λ i. i.0)) within))
     (All-from_recursion (λ i. i < length t.systems) (link_row l).to lawful.to rank (system.0) within))
+
+goes-by : (t : Rows) (l : LinkRow) (port : ℕ) (system : Option ℕ) → system_at_port t.systems port ≡ system
+    → goes_to t l port ≡ option_map_or (λ k. is_to k l) system false
+unfolding goes_to
+goes-by t l port system found = ap (λ o. option_map_or (λ k. is_to k l) o false) found
+
+pub port-is : (t : Rows) (system : ℕ) (s : SystemRow) → slice_get t.systems system ≡ Some s → port_of t system ≡ s.port
+unfolding port_of
+port-is t system s at = ap (λ o. option_map_or (λ r. r.port) o 0) at
+
+pub goes-port : (t : Rows) (place : ℕ) (l : LinkRow) (system : ℕ) (s : SystemRow) → IsLawfulSwitch t
+    → slice_get t.links place ≡ Some l → slice_get t.systems system ≡ Some s → is_to system l ≡ true
+    → link_to t place s.port ≡ Some l
+goes-port t place l system s lawful at sat to = to-link t place s.port l at ((port-of-system t system s lawful sat).goes l ∙ to)
+
+-- a link that goes to a system goes to its port
+pub goes-there : (t : Rows) (place : ℕ) (l : LinkRow) (system : ℕ) (s : SystemRow) → IsLawfulSwitch t
+    → slice_get t.links place ≡ Some l → slice_get t.systems system ≡ Some s → is_to system l ≡ true
+    → link_to t place (port_of t system) ≡ Some l
+goes-there t place l system s lawful at sat to =
+    subst (λ p. link_to t place p ≡ Some l) (sym (port-is t system s sat))
+    (to-link t place s.port l at ((port-of-system t system s lawful sat).goes l ∙ to))
+
+pub at-port : (t : Rows) (place port : ℕ) (l : LinkRow) (system : ℕ) → slice_get t.links place ≡ Some l
+    → Some system ≡ system_at_port t.systems port → is_to system l ≡ true
+    → (link_to t place port ≡ Some l) × (port_of t system ≡ port) × (is_to system l ≡ true)
+at-port t place port l system at found to =
+    let s = system-at t port system (sym found) in
+    (to-link t place port l at (goes-by t l port (Some system) (sym found) ∙ to), port-is t system s.0 s.1 ∙ s.2, to)
+
+no-link : (t : Rows) (place port : ℕ) (l : LinkRow) → slice_get t.links place ≡ Some l → goes_to t l port ≡ false
+    → link_to t place port ≡ None
+unfolding link_to
+no-link t place port l at goes =
+    ap (λ o. option_and_then (λ k. if goes_to t k port then Some k else None) o) at ∙ ap (λ b. if b then Some l else None) goes
+
+abbrev no-row : LinkRow
+no-row = record {
+  vl = 0;
+  from = 0;
+  to = [];
+  bag_ms = 0;
+  lmin = 0;
+  lmax = 0;
+  jitter_us = 0;
+  priority = High;
+  policing = Byte;
+  latency_us = 0;
+  skew_us = 0;
+  subs = 0;
+}
+
+pub not-there : (t : Rows) (place port system : ℕ) → place < length t.links → Some system ≡ system_at_port t.systems port
+    → ((l : LinkRow) → slice_get t.links place ≡ Some l → is_to system l ≡ false)
+    → link_to t place port ≡ None
+not-there t place port system within found none =
+    let l = get_or t.links place no-row in
+    let at = slice_get-get_or t.links place no-row within in
+    no-link t place port l at (goes-by t l port (Some system) (sym found) ∙ none l at)
+
+pub none-there : (t : Rows) (place port : ℕ) → place < length t.links → None ≡ system_at_port t.systems port
+    → link_to t place port ≡ None
+none-there t place port within found =
+    let l = get_or t.links place no-row in
+    no-link t place port l (slice_get-get_or t.links place no-row within) (goes-by t l port None (sym found))
+
+pub rule-same : (t : Rows) (l : LinkRow) (s : SystemRow) → slice_get t.systems l.from ≡ Some s
+    → rule_with l.vl s.port l.bag_ms l.lmin l.lmax l.jitter_us l.policing ≡ rule_of t l
+unfolding rule_of port_of
+rule-same t l s at =
+    ap (λ o. rule_with l.vl (option_map_or (λ r. r.port) o 0) l.bag_ms l.lmin l.lmax l.jitter_us l.policing) (sym at)
+
+pub byte-same : (t : Rows) (system port : ℕ) (s : SystemRow) (time : ℕ) → IsLawfulSwitch t → slice_get t.systems system ≡ Some s
+    → port_of t system ≡ port → time ≡ byte_ns s → byte_ns_at t port ≡ time
+byte-same t system port s time lawful at there is =
+    ap (λ p. byte_ns_at t p) (sym (sym (port-is t system s at) ∙ there)) ∙ (port-of-system t system s lawful at).line ∙ sym is

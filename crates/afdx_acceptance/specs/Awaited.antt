@@ -1,6 +1,7 @@
 -- What is to be told, and what of it comes first.
-use Rattle.std.specs.Prelude.{ℕ, ◌+◌, ◌*◌, ◌≡◌, ◌==◌, Bool, true, false, List, Option, Some, None, nat_lt}
+use Rattle.std.specs.Prelude.{ℕ, ◌+◌, ◌*◌, ◌≡◌, ◌==◌, ◌∷◌, Bool, true, false, List, Option, Some, None, nat_lt}
 use Rattle.std.specs.List.{All}
+use Rattle.std.specs.List.Sorted.{IsPermutation}
 use Rattle.std.specs.Ordering.{nat_cmp, flip_args, on}
 use Rattle.std.specs.declared.cmp.Ordering.{Ordering}
 use Rattle.afdx_acceptance.specs.declared.agenda.Entry.{Entry}
@@ -37,3 +38,8 @@ AreNotBefore before xs = All (λ x. is_before before x ≡ false) xs
 -- all their keys are ones that the code can hold
 abbrev pub AreKeys : List Entry → Type 0
 AreKeys xs = All (λ x. IsKey x.key) xs
+
+-- what is newly due is one of them
+abbrev pub Awaits : Option ℕ → Key → List Entry → List Entry → Type 0
+Awaits None key before after = after ≡ before
+Awaits (Some moment) key before after = IsPermutation (awaited moment key ∷ before) after

@@ -1,6 +1,6 @@
 -- What a run is asked: by how much stamps may be off, and which frames of the two lists count. A
 -- list of frames has the newest first.
-use Rattle.std.specs.Prelude.{ℕ, ◌+◌, ◌≤◌, Bool, true, false, not, ◌&&◌, ◌||◌, nat_eq, nat_lt, List, [], ◌∷◌, length, filter, Option, Some, None}
+use Rattle.std.specs.Prelude.{ℕ, ◌+◌, ◌≤◌, Bool, true, false, not, ◌&&◌, ◌||◌, nat_eq, nat_le, nat_lt, List, [], ◌∷◌, length, filter, Option, Some, None}
 use Rattle.std.specs.List.{list_any}
 use Rattle.std.specs.Option.{ForSome}
 use Rattle.afdx_frame.specs.Times.{latest_listed}
@@ -11,6 +11,7 @@ use Rattle.afdx_lists.specs.declared.role.Role.TheVariants.{Came, Left}
 use Rattle.afdx_inputs.specs.Joining.{Frame}
 use Rattle.afdx_conform.specs.Explanations.{from_time}
 use Rattle.afdx_conform.specs.Leeway.{Leeway, both_slacks}
+use Rattle.afdx_conform.specs.LimitRanges.{most_bytes}
 
 -- The leeway, with the start from which on frames count; the end after which they don't, if one is
 -- said; the links whose frames are left out, `None` for those of no link.
@@ -48,9 +49,9 @@ module _ (c : Choices) where
   abbrev pub is_left_out : Frame → Bool
   is_left_out x = list_any (λ link. is_same_link link (link_named_by x.arrival.bytes)) c.left_out
 
-  -- it counts
+  -- it counts, if it isn't longer than any frame on a line
   unfoldable pub counts : Frame → Bool
-  counts x = is_in_time x && not (is_left_out x)
+  counts x = is_in_time x && not (is_left_out x) && nat_le (length x.arrival.bytes) most_bytes
 
   -- those that do, and how many are left out from start to end
   abbrev pub counted : List Frame → List Frame

@@ -1,9 +1,23 @@
 -- Whose lines stand together, and in which order they come.
-use Rattle.std.specs.Prelude.{ℕ, ◌<◌, ◌+◌, ◌*◌, Option, Some, None}
+use Rattle.std.specs.Prelude.{ℕ, ◌<◌, ◌+◌, ◌*◌, Bool, true, false, ◌&&◌, nat_eq, Option, Some, None}
 use Rattle.std.specs.Option.{ForSome}
 use Rattle.afdx_frame.specs.declared.link.Side.{Side}
 use Rattle.afdx_frame.specs.declared.link.Side.TheVariants.{A, B}
+use Rattle.afdx_frame.specs.Sides.{is_side}
 use Rattle.afdx_acceptance.specs.declared.key.Key.{Key}
+
+abbrev pub key_with : Side → ℕ → Option ℕ → Key
+key_with side port link = record { side = side; port = port; link = link }
+
+-- both are the same link, or none
+abbrev pub is_link : Option ℕ → Option ℕ → Bool
+is_link None None = true
+is_link None (Some b) = false
+is_link (Some a) None = false
+is_link (Some a) (Some b) = nat_eq a b
+
+unfoldable pub is_key : Key → Key → Bool
+is_key a b = is_side a.side b.side && nat_eq a.port b.port && is_link a.link b.link
 
 -- side A before side B
 abbrev pub side_rank : Side → ℕ

@@ -7,5 +7,10 @@ pub mod Totals
 pub mod Commands
 pub mod Telling
 pub mod Judging
+pub mod Frames
+pub mod Lines
+pub mod Slots
+pub mod Keeping
+pub mod Standing
 pub mod Told
 pub mod Ran

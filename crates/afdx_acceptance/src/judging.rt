@@ -1,14 +1,18 @@
 //! The machine of a run: each frame goes to its streams, and what is found there is told at its
 //! moment.
 
-ghost use Rattle.std.specs.Prelude.{◌≡◌, ◌≤◌, ◌+◌, ◌∷◌, [], ℕ, List, Option, IfErr, IfOk, OnErr};
-ghost use Rattle.std.specs.Prelude.{OnOk, false, min};
+ghost use Rattle.std.specs.Prelude.{◌≡◌, ◌<◌, ◌≤◌, ◌+◌, ◌∷◌, [], ℕ, Bool, List, Option, IfErr, IfOk, OnErr};
+ghost use Rattle.std.specs.Prelude.{OnOk, None, Some, false, is_some, length, min, true};
 ghost use Rattle.std.specs.Io.KnownBytes.{Appends};
-ghost use Rattle.afdx_acceptance.specs.Choices.{Choices as Chosen, left_out_of};
+ghost use Rattle.afdx_acceptance.specs.Choices.{Choices as Chosen, latest_of, left_out_of};
 ghost use Rattle.afdx_acceptance.specs.ChoicesOf.{choices_of};
 ghost use Rattle.afdx_acceptance.specs.Judging.{IsSameButFindings, IsSameButTaken};
 ghost use Rattle.afdx_acceptance.specs.Telling as spec;
-ghost use Rattle.afdx_acceptance.specs.Told.{BeginsLines, HasTold};
+ghost use Rattle.afdx_acceptance.specs.Told.{BeginsLines, HasTold, IsEndFor, IsEnding, Stands, TellsAll};
+ghost use Rattle.afdx_acceptance.specs.Keeping.{IsNothingDue};
+ghost use Rattle.afdx_config.specs.Rows.{Rows};
+ghost use Rattle.afdx_conform.specs.Ranges.{most_held};
+ghost use Rattle.afdx_text.specs.declared.conform_line.ConformLine.{ConformLine as Line};
 ghost use Rattle.afdx_engine.specs.Engine.{item_of};
 ghost use Rattle.afdx_frame.specs.Seals.{IsSealedAs};
 ghost use Rattle.afdx_frame.specs.Times.{latest_listed};
@@ -29,6 +33,9 @@ use afdx_inputs::Seen;
 use afdx_lists::{Role, RunFault};
 use afdx_text::{ConformLine, Sink};
 use std::alloc::{AllocError, Global};
+
+/// The most bytes of a frame that counts: no list has longer ones.
+const MOST_BYTES: usize = 65_535;
 
 /// What a run works with: what is asked for, the streams, the time of the last line in ns, and how
 /// many findings were told and lines left out.
@@ -51,7 +58,8 @@ impl<'a> Judging<'a> {
         choices: &'a Choices,
     ) -> Result<Judging<'a>, AllocError>
         ensures { (output : Option (List ℕ)) → IfOk result (λ judging.
-            HasTold (choices_of choices.entry.now) judging output output []) }
+            TellsAll (tables.entry.now, choices_of choices.entry.now) false 0 judging output output
+            []) }
     {
         let streams = Streams::new(alloc, tables, choices.leeway)?;
         Ok(Judging {
@@ -107,9 +115,22 @@ impl<'a> Judging<'a> {
         ensures begun { (c : Chosen) (start : Option (List ℕ)) (frames : List Frame) →
             HasTold c self.old start (O.written output.old) frames →
             OnErr result (BeginsLines start (O.written output.new)) }
+        ensures stands { (k : Rows × Chosen) (last : Bool) (time to : ℕ)
+            (start : Option (List ℕ)) (frames : List Frame) → time ≤ to →
+            (self.old.streams.ended ≡ None → before ≡ Some to) →
+            ((end : ℕ) → self.old.streams.ended ≡ None → k.1.until ≡ Some end → to ≤ end) →
+            ((end : ℕ) → self.old.streams.ended ≡ Some end →
+            IsEnding last k.1.until frames to end) →
+            TellsAll k last time self.old start (O.written output.old) frames →
+            OnOk result (TellsAll k last to self.new start (O.written output.new) frames) }
+        ensures nothing { (k : Rows × Chosen) (last : Bool) (time end : ℕ)
+            (start : Option (List ℕ)) (frames : List Frame) → self.old.streams.ended ≡ Some end →
+            TellsAll k last time self.old start (O.written output.old) frames →
+            OnOk result (IsNothingDue k.0 before self.new.streams.kept) }
+        ensures ended { self.new.streams.ended ≡ self.old.streams.ended }
     {
         while let Some(lines) = self.streams.take_before(before)? {
-            self.tell_lines(lines.as_slice(), output)?;
+            self.tell_lines(lines.lines.as_slice(), output)?;
         }
         Ok(())
     }
@@ -126,6 +147,14 @@ impl<'a> Judging<'a> {
         ensures begun { (c : Chosen) (start : Option (List ℕ)) (frames : List Frame) →
             HasTold c self.old start (O.written output.old) frames →
             OnErr result (BeginsLines start (O.written output.new)) }
+        ensures stands { (k : Rows × Chosen) (last after : Bool) (time to : ℕ)
+            (start : Option (List ℕ)) (frames : List Frame) → time ≤ until → until ≤ to →
+            latest_of frames ≤ until → IsEndFor k.1.until frames until →
+            ((end : ℕ) → k.1.until ≡ Some end → until ≤ end) →
+            IsEnding after k.1.until frames to until → self.old.streams.ended ≡ None →
+            TellsAll k last time self.old start (O.written output.old) frames →
+            OnOk result (TellsAll k after to self.new start (O.written output.new) frames
+            × (self.new.streams.ended ≡ Some until)) }
     {
         self.tell_due(Some(until), output)?;
         self.streams.end(until);
@@ -145,6 +174,10 @@ impl<'a> Judging<'a> {
         ensures begun { (c : Chosen) (start : Option (List ℕ)) (frames : List Frame) →
             HasTold c self.old start (O.written output.old) frames →
             OnErr result (BeginsLines start (O.written output.new)) }
+        ensures stands { (k : Rows × Chosen) (before : ℕ) (start : Option (List ℕ))
+            (frames : List Frame) → before ≤ time → latest_of frames ≤ before →
+            TellsAll k false before self.old start (O.written output.old) frames →
+            OnOk result (TellsAll k false time self.new start (O.written output.new) frames) }
     {
         if self.is_over {
             return Ok(());
@@ -171,6 +204,11 @@ impl<'a> Judging<'a> {
         ensures begun { (c : Chosen) (start : Option (List ℕ)) (frames : List Frame) →
             HasTold c self.old start (O.written output.old) frames →
             OnErr result (BeginsLines start (O.written output.new)) }
+        ensures stands { (k : Rows × Chosen) (start : Option (List ℕ)) (frames : List Frame) →
+            TellsAll k false (latest_of frames) self.old start (O.written output.old) frames →
+            OnOk result ((time : ℕ)
+            × TellsAll k true time self.new start (O.written output.new) frames
+            × (is_some self.new.streams.ended ≡ true)) }
     {
         if self.is_over {
             return Ok(());
@@ -193,6 +231,10 @@ impl<'a> Judging<'a> {
         ensures begun { (c : Chosen) (start : Option (List ℕ)) (frames : List Frame) →
             HasTold c self.old start (O.written output.old) frames →
             OnErr result (BeginsLines start (O.written output.new)) }
+        ensures stands { (k : Rows × Chosen) (before : ℕ) (start : Option (List ℕ))
+            (frames : List Frame) → before ≤ time → latest_of frames ≤ before →
+            TellsAll k false before self.old start (O.written output.old) frames →
+            OnOk result (TellsAll k false time self.new start (O.written output.new) frames) }
     {
         self.close_before(time, output)?;
         self.tell_due(Some(time), output)
@@ -209,6 +251,12 @@ impl<'a> Judging<'a> {
             self.old.left_out ≡ min (left_out_of c frames) spec.most_counted →
             OnOk result
             (self.new.left_out ≡ min (left_out_of c (x ∷ frames)) spec.most_counted) }
+        ensures stands { (k : Rows × Chosen) (frames : List Frame) (lines : List Line) →
+            let x = frame_of (item_of n seen.now message.now) in
+            choices_of self.old.choices.now ≡ k.1 → latest_of frames ≤ seen.now.heading.time →
+            length frames + 1 < most_held →
+            Stands k false seen.now.heading.time self.old frames lines →
+            OnOk result (Stands k false seen.now.heading.time self.new (x ∷ frames) lines) }
     {
         if !is_in_time(self.choices, seen) {
             return Ok(());
@@ -219,18 +267,22 @@ impl<'a> Judging<'a> {
             self.left_out = self.left_out.saturating_add(1);
             return Ok(());
         }
+        if bytes.len() > MOST_BYTES {
+            return Ok(());
+        }
         match seen.role {
             Role::Came => self.streams.came(vl, n, &seen.heading, bytes.as_slice()),
-            Role::Left => self.streams.left(vl, n, &seen.heading, message, bytes),
+            Role::Left => self.streams.left(vl, n, &seen.heading, bytes),
         }
     }
 }
 
 impl Machine<Seen> for Judging<'_> {
     ghost use Rattle.afdx_acceptance.specs.Choices.{Choices as Chosen};
-    ghost use Rattle.afdx_acceptance.specs.Told.{BeginsLines, TellsItems};
+    ghost use Rattle.afdx_acceptance.specs.Told.{BeginsLines, TellsItems, TellsToEnd};
+    ghost use Rattle.afdx_config.specs.Rows.{Rows};
 
-    ghost Rules = { Chosen };
+    ghost Rules = { Rows × Chosen };
 
     ghost Can = { λ rules item. Unit {0} };
 
@@ -238,7 +290,7 @@ impl Machine<Seen> for Judging<'_> {
 
     ghost Begins = { λ rules judging old new past. BeginsLines old new };
 
-    ghost Done = { TellsItems };
+    ghost Done = { TellsToEnd };
 
     fn tell<O: Sink>(
         &mut self,

@@ -9,6 +9,7 @@ mod asked;
 mod choices;
 mod command;
 mod judging;
+mod kept;
 mod key;
 mod outlets;
 mod run;

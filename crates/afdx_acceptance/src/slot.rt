@@ -1,12 +1,25 @@
 //! What is kept of a key: a stream, or frames of none; and the lines that are told of it.
 
-ghost use Rattle.std.specs.Prelude.{◌≡◌, ◌<◌, ℕ, OnOk, Some, length};
-ghost use Rattle.afdx_conform.specs.Standing.{due_of, undecided_in};
+ghost use Rattle.std.specs.Prelude.{◌≡◌, ◌<◌, ◌≤◌, ◌++◌, ◌∷◌, [], ℕ, List, None, Some, IfOk, OnOk, length, map, reverse};
+ghost use Rattle.std.specs.Prelude.{IsTrue, ◌↔◌, ◌⊎◌};
+ghost use Rattle.std.specs.List.{AllByRecursion};
+ghost use Rattle.afdx_police.specs.Arrival.{Arrival};
+ghost use Rattle.afdx_conform.specs.Growing.{IsNoSooner, IsSameOrLater, MayCome, MayLeave};
+ghost use Rattle.afdx_conform.specs.Limits.{gone_of};
+ghost use Rattle.afdx_conform.specs.Marks.{IsJudged, arrival_of};
+ghost use Rattle.afdx_conform.specs.Streams.{Gone, Terms};
+ghost use Rattle.afdx_conform.specs.Findings.{Judged};
+ghost use Rattle.afdx_conform.specs.Standing.{IsEnding, StandsFor, due_of};
+ghost use Rattle.afdx_acceptance.specs.Lines.{Due, found_line, judged_dues, strange_reason};
 ghost use Rattle.afdx_acceptance.specs.Waiting.{first_time, slot_due, slot_left};
+ghost use Rattle.afdx_conform.specs.Standing.{undecided_in};
+ghost use Rattle.afdx_acceptance.specs.Slots.{AreFalling, Ends, IsNewlyDue, IsStrange, IsStream, StrangersStand, StreamEnds};
+ghost use Rattle.afdx_acceptance.specs.Slots.{StreamStands, told_at, unsure_behind, waiting_due};
 
 use crate::key::Key;
 use crate::strangers::{Stranger, Strangers};
-use afdx_conform::{Arrived, Finding, Frame, Strangeness, Stream};
+use afdx_conform::{Arrived, Finding, Frame, Strangeness};
+use afdx_conform::Stream;
 use afdx_text::{ConformLine, StrangeReason};
 use std::alloc::{AllocError, Global};
 
@@ -34,8 +47,20 @@ impl Slot {
         }
     }
 
+    /// Whether it is of frames of no stream.
+    pub(crate) fn is_strange(&self) -> bool
+        ensures { IsTrue result ↔ IsStrange self.now }
+    {
+        match self {
+            Slot::Strangers(_) => true,
+            _ => false,
+        }
+    }
+
     /// Whether it is a stream.
-    pub(crate) fn is_stream(&self) -> bool {
+    pub(crate) fn is_stream(&self) -> bool
+        ensures { IsTrue result ↔ IsStream self.now }
+    {
         match self {
             Slot::Stream(_) => true,
             _ => false,
@@ -44,12 +69,24 @@ impl Slot {
 }
 
 /// The moment that is due now, if it wasn't before.
-fn newly_due(before: Option<u64>, now_due: Option<u64>) -> Option<u64> {
-    if before == now_due { None } else { now_due }
+fn newly_due(before: Option<u64>, after: Option<u64>) -> Option<u64>
+    ensures { IsNewlyDue before result after }
+{
+    if before == after { None } else { after }
 }
 
 /// An arrival comes to a stream. Gives the moment that is due then, if it wasn't before.
-pub(crate) fn add_arrival(at: &mut Slot, arrived: Arrived) -> Result<Option<u64>, AllocError> {
+#[tactic(auto, unfolding(crate::specs::Waiting::slot_due, crate::specs::Slots::StreamStands))]
+pub(crate) fn add_arrival(at: &mut Slot, arrived: Arrived) -> Result<Option<u64>, AllocError>
+    ensures stands { (z : Terms) (k : Key) (xs : List Arrival) (ys : List Gone) (lines : List Due)
+        (time : ℕ) → IsStream at.old → IsJudged z arrived →
+        MayCome z xs time (arrival_of arrived) → StreamStands z k xs ys lines time at.old →
+        OnOk result (StreamStands z k (xs ++ arrival_of arrived ∷ []) ys lines time at.new) }
+    ensures due { IsStream at.old →
+        IfOk result (λ due. IsNewlyDue (slot_due at.old) due (slot_due at.new)) }
+    ensures later { IsStream at.old →
+        OnOk result (IsSameOrLater (slot_due at.old) arrived.time (slot_due at.new)) }
+{
     match at {
         Slot::Stream(stream) => {
             let before = stream.due();
@@ -61,7 +98,17 @@ pub(crate) fn add_arrival(at: &mut Slot, arrived: Arrived) -> Result<Option<u64>
 }
 
 /// A frame of a stream left. Gives the moment that is due then, if it wasn't before.
-pub(crate) fn add_frame(at: &mut Slot, frame: Frame) -> Result<Option<u64>, AllocError> {
+#[tactic(auto, unfolding(crate::specs::Waiting::slot_due, crate::specs::Slots::StreamStands))]
+pub(crate) fn add_frame(at: &mut Slot, frame: Frame) -> Result<Option<u64>, AllocError>
+    ensures stands { (z : Terms) (k : Key) (xs : List Arrival) (ys : List Gone) (lines : List Due)
+        (time : ℕ) → IsStream at.old → MayLeave z ys time (gone_of frame) →
+        StreamStands z k xs ys lines time at.old →
+        OnOk result (StreamStands z k xs (ys ++ gone_of frame ∷ []) lines time at.new) }
+    ensures due { IsStream at.old →
+        IfOk result (λ due. IsNewlyDue (slot_due at.old) due (slot_due at.new)) }
+    ensures later { IsStream at.old →
+        OnOk result (IsSameOrLater (slot_due at.old) frame.time (slot_due at.new)) }
+{
     match at {
         Slot::Stream(stream) => {
             let before = stream.due();
@@ -73,7 +120,16 @@ pub(crate) fn add_frame(at: &mut Slot, frame: Frame) -> Result<Option<u64>, Allo
 }
 
 /// A frame of no stream left. Gives the moment that is due then, if it wasn't before.
-pub(crate) fn add_stranger(at: &mut Slot, stranger: Stranger) -> Result<Option<u64>, AllocError> {
+#[tactic(auto, unfolding(crate::specs::Waiting::slot_due, crate::specs::Slots::StrangersStand))]
+pub(crate) fn add_stranger(at: &mut Slot, stranger: Stranger) -> Result<Option<u64>, AllocError>
+    ensures stands { (k : Key) (all lines : List Due) → IsStrange at.old →
+        StrangersStand k all lines at.old →
+        OnOk result (StrangersStand k (waiting_due k stranger ∷ all) lines at.new) }
+    ensures due { IsStrange at.old →
+        IfOk result (λ due. IsNewlyDue (slot_due at.old) due (slot_due at.new)) }
+    ensures later { IsStrange at.old →
+        OnOk result (IsSameOrLater (slot_due at.old) stranger.time (slot_due at.new)) }
+{
     match at {
         Slot::Strangers(strangers) => {
             let before = strangers.due();
@@ -85,7 +141,10 @@ pub(crate) fn add_stranger(at: &mut Slot, stranger: Stranger) -> Result<Option<u
 }
 
 /// The recordings end at this time, in ns.
-pub(crate) fn end_at(at: &mut Slot, until: u64) {
+#[tactic(auto, unfolding(crate::specs::Waiting::slot_due, crate::specs::Slots::StrangersStand, crate::specs::Slots::StreamStands, crate::specs::Slots::StreamEnds))]
+pub(crate) fn end_at(at: &mut Slot, until: u64)
+    ensures { Ends until at.old at.new }
+{
     match at {
         Slot::Stream(stream) => stream.end(until),
         _ => {}
@@ -93,7 +152,9 @@ pub(crate) fn end_at(at: &mut Slot, until: u64) {
 }
 
 /// Why a frame is strange, in the words of the output.
-fn reason_of(strangeness: Strangeness) -> StrangeReason {
+fn reason_of(strangeness: Strangeness) -> StrangeReason
+    ensures { result ≡ strange_reason strangeness }
+{
     match strangeness {
         Strangeness::Damaged(reason) => StrangeReason::Shape(reason),
         Strangeness::OutOfTurn => StrangeReason::OutOfTurn,
@@ -102,7 +163,9 @@ fn reason_of(strangeness: Strangeness) -> StrangeReason {
 }
 
 /// The line of a finding.
-fn line_of(key: Key, finding: Finding) -> ConformLine {
+fn line_of(key: Key, finding: Finding) -> ConformLine
+    ensures { result ≡ found_line key.side key.port finding }
+{
     let (side, port) = (key.side, key.port);
     match finding {
         Finding::Strange(n, strangeness) => {
@@ -122,10 +185,27 @@ fn line_of(key: Key, finding: Finding) -> ConformLine {
 }
 
 /// The lines of findings, in their order.
-fn lines_of(alloc: Global, key: Key, found: &[Finding]) -> Result<Vec<ConformLine>, AllocError> {
+fn lines_of(alloc: Global, key: Key, found: &[Finding]) -> Result<Vec<ConformLine>, AllocError>
+    ensures { IfOk result (λ lines. lines.items ≡ map (found_line key.side key.port) found.now) }
+{
     let mut lines = Vec::new(alloc);
     for finding in found {
         lines.push(line_of(key, *finding))?;
+    }
+    Ok(lines)
+}
+
+/// Behind these lines one that the stream is unsure behind an arrival, if it is.
+fn with_unsure(
+    mut lines: Vec<ConformLine>,
+    key: Key,
+    unsure: Option<u64>,
+) -> Result<Vec<ConformLine>, AllocError>
+    ensures { IfOk result (λ all. all.items ≡ unsure_behind key unsure lines.items) }
+{
+    if let Some(n) = unsure {
+        let (side, port) = (key.side, key.port);
+        lines.push(ConformLine::Unsure { n, side, port })?;
     }
     Ok(lines)
 }
@@ -137,16 +217,24 @@ fn step_stream(
     key: Key,
     ended: Option<u64>,
 ) -> Result<Vec<ConformLine>, AllocError>
+    ensures stands { (z : Terms) (xs : List Arrival) (ys : List Gone) (j : Judged)
+        (time moment : ℕ) → ended ≡ None → due_of stream.old ≡ Some moment → moment < time →
+        StandsFor z xs ys j time stream.old → IfOk result (λ lines. (k : Judged)
+        × StandsFor z xs ys k time stream.new
+        × (judged_dues z key k ≡ told_at key moment lines.items (judged_dues z key j))
+        × IsNoSooner moment (due_of stream.new)) }
+    ensures ends { (z : Terms) (xs : List Arrival) (ys : List Gone) (j : Judged)
+        (moment : ℕ) → ended ≡ Some z.until → due_of stream.old ≡ Some moment →
+        IsEnding z xs ys j stream.old → IfOk result (λ lines. (k : Judged)
+        × IsEnding z xs ys k stream.new
+        × (judged_dues z key k ≡ told_at key moment lines.items (judged_dues z key j))
+        × IsNoSooner moment (due_of stream.new)) }
     ensures less { (m : ℕ) → due_of stream.old ≡ Some m →
         OnOk result (undecided_in stream.new < undecided_in stream.old) }
 {
     let found = stream.decide(alloc, ended)?;
-    let mut lines = lines_of(alloc, key, found.as_slice())?;
-    if let Some(n) = stream.unsure_behind() {
-        let (side, port) = (key.side, key.port);
-        lines.push(ConformLine::Unsure { n, side, port })?;
-    }
-    Ok(lines)
+    let lines = lines_of(alloc, key, found.as_slice())?;
+    with_unsure(lines, key, stream.unsure_behind())
 }
 
 /// The line of the next frame of no stream.
@@ -155,6 +243,15 @@ fn step_strangers(
     alloc: Global,
     key: Key,
 ) -> Result<Vec<ConformLine>, AllocError>
+    ensures told { (all lines : List Due) (moment : ℕ) →
+        all ≡ map (waiting_due key) (reverse strangers.old.waiting.items) ++ lines →
+        first_time strangers.old.waiting.items ≡ Some moment → IfOk result (λ told.
+        all ≡ map (waiting_due key) (reverse strangers.new.waiting.items)
+        ++ told_at key moment told.items lines) }
+    ensures later { (all lines : List Due) (moment : ℕ) → AreFalling all →
+        all ≡ map (waiting_due key) (reverse strangers.old.waiting.items) ++ lines →
+        first_time strangers.old.waiting.items ≡ Some moment →
+        OnOk result (IsNoSooner moment (first_time strangers.new.waiting.items)) }
     ensures less { (m : ℕ) → first_time strangers.old.waiting.items ≡ Some m →
         OnOk result
         (length strangers.new.waiting.items < length strangers.old.waiting.items) }
@@ -173,13 +270,29 @@ fn step_strangers(
 
 /// The lines of what is due, which is over then. `ended` is the time in ns at which the recordings
 /// end, once it is known.
-#[tactic(auto, unfolding(crate::specs::Waiting::slot_due, crate::specs::Waiting::slot_left))]
+#[tactic(auto, unfolding(crate::specs::Waiting::slot_due, crate::specs::Waiting::slot_left, crate::specs::Slots::StrangersStand, crate::specs::Slots::StreamStands, crate::specs::Slots::StreamEnds))]
 pub(crate) fn step(
     at: &mut Slot,
     alloc: Global,
     key: Key,
     ended: Option<u64>,
 ) -> Result<Vec<ConformLine>, AllocError>
+    ensures stands { (z : Terms) (xs : List Arrival) (ys : List Gone) (lines : List Due)
+        (time moment : ℕ) → ended ≡ None → slot_due at.old ≡ Some moment → moment < time →
+        StreamStands z key xs ys lines time at.old → IfOk result (λ told.
+        StreamStands z key xs ys (told_at key moment told.items lines) time at.new
+        × IsNoSooner moment (slot_due at.new)) }
+    ensures ends { (z : Terms) (xs : List Arrival) (ys : List Gone) (lines : List Due)
+        (moment : ℕ) → ended ≡ Some z.until → slot_due at.old ≡ Some moment →
+        StreamEnds z key xs ys lines at.old → IfOk result (λ told.
+        StreamEnds z key xs ys (told_at key moment told.items lines) at.new
+        × IsNoSooner moment (slot_due at.new)) }
+    ensures strangers { (all lines : List Due) (moment : ℕ) → slot_due at.old ≡ Some moment →
+        StrangersStand key all lines at.old → IfOk result (λ told.
+        StrangersStand key all (told_at key moment told.items lines) at.new) }
+    ensures later { (all lines : List Due) (moment : ℕ) → AreFalling all →
+        slot_due at.old ≡ Some moment → StrangersStand key all lines at.old →
+        OnOk result (IsNoSooner moment (slot_due at.new)) }
     ensures less { (m : ℕ) → slot_due at.old ≡ Some m →
         OnOk result (slot_left at.new < slot_left at.old) }
 {

@@ -1,10 +1,11 @@
 //! Frames that left and are of no stream.
 
-ghost use Rattle.std.specs.Prelude.{◌≡◌, ◌<◌, IsSome, length};
+ghost use Rattle.std.specs.Prelude.{◌≡◌, ◌++◌, ◌∷◌, [], OnOk, None, Some, IfNone, IfSome, IsSome, length, ◌<◌};
+ghost use Rattle.afdx_police.specs.Shape.{fault_of};
+ghost use Rattle.afdx_acceptance.specs.Lines.{stranger_by};
 ghost use Rattle.afdx_acceptance.specs.Waiting.{first_time};
 
-use afdx_frame::{Checked, MacView};
-use afdx_police::Reason;
+use afdx_police::{Reason, judge};
 use afdx_text::StrangeReason;
 use std::alloc::{AllocError, Global};
 use std::collections::VecDeque;
@@ -17,17 +18,20 @@ pub(crate) struct Stranger {
     pub(crate) why: StrangeReason,
 }
 
-/// Why a frame of no stream is strange; `names_link` says whether it names a link of the tables.
-pub(crate) fn why_strange(frame: Checked<'_>, names_link: bool) -> StrangeReason {
-    match MacView::of(frame) {
-        Err(fault) => StrangeReason::Shape(Reason::from(fault)),
-        Ok(_view) => {
-            if names_link {
+/// Why a frame of no stream is strange; `is_named` says whether it names a link of the tables.
+pub(crate) fn why_strange(bytes: &[u8], is_named: bool) -> StrangeReason
+    ensures { result ≡ stranger_by is_named (fault_of None 0 bytes.now) }
+{
+    match judge(None, 0, bytes) {
+        Some(Reason::UnknownLink) => {
+            if is_named {
                 StrangeReason::NotItsPort
             } else {
                 StrangeReason::Shape(Reason::UnknownLink)
             }
         }
+        Some(reason) => StrangeReason::Shape(reason),
+        None => StrangeReason::NotItsPort,
     }
 }
 
@@ -39,7 +43,9 @@ pub(crate) struct Strangers {
 
 impl Strangers {
     /// There are none.
-    pub(crate) fn new(alloc: Global) -> Strangers {
+    pub(crate) fn new(alloc: Global) -> Strangers
+        ensures { result.waiting.items ≡ [] }
+    {
         Strangers {
             waiting: VecDeque::new(alloc),
         }
@@ -56,13 +62,19 @@ impl Strangers {
     }
 
     /// One more.
-    pub(crate) fn push(&mut self, stranger: Stranger) -> Result<(), AllocError> {
+    pub(crate) fn push(&mut self, stranger: Stranger) -> Result<(), AllocError>
+        ensures { OnOk result
+            (self.new.waiting.items ≡ self.old.waiting.items ++ stranger ∷ []) }
+    {
         self.waiting.push_back(stranger)?;
         Ok(())
     }
 
     /// Takes the first out.
     pub(crate) fn take_first(&mut self) -> Option<Stranger>
+        ensures some { IfSome result (λ first.
+            self.old.waiting.items ≡ first ∷ self.new.waiting.items) }
+        ensures none { IfNone result (self.old.waiting.items ≡ []) }
         ensures less { IsSome (first_time self.old.waiting.items) →
             length self.new.waiting.items < length self.old.waiting.items }
     {

@@ -1,22 +1,41 @@
 //! All streams of the tables, and what is to be told of them.
 
-ghost use Rattle.std.specs.Prelude.{◌≡◌, ◌≤◌, ◌<◌, IfOk, IsSome, IsTrue, OnOk, length};
-ghost use Rattle.afdx_acceptance.specs.Waiting.{IsDue, left_in};
+ghost use Rattle.std.specs.Prelude.{◌≡◌, ◌≤◌, ◌<◌, ◌∷◌, ◌+◌, [], ℕ, List, None, Some, IfNone, IfOk, IfSome, IsSome, OnOk, get_or, length, slice_get, true};
+ghost use Rattle.afdx_acceptance.specs.declared.slot.Slot.TheVariants as slot;
+ghost use Rattle.std.specs.List.{AllByRecursion};
+ghost use Rattle.afdx_bounds.specs.Tables.{port_of};
+ghost use Rattle.afdx_config.specs.Lawful.{IsLawfulSwitch};
+ghost use Rattle.afdx_config.specs.Rows.{LinkRow, Rows, is_to};
+ghost use Rattle.afdx_conform.specs.Explanations.{from_time};
+ghost use Rattle.afdx_conform.specs.Leeway.{both_slacks};
+ghost use Rattle.afdx_conform.specs.LeewayOf.{leeway_of};
 ghost use Rattle.afdx_conform.specs.LimitRanges.{most_bytes};
-ghost use Rattle.afdx_frame.specs.Seals.{IsSealedAs};
+ghost use Rattle.afdx_conform.specs.Limits.{gone_of};
+ghost use Rattle.afdx_conform.specs.Ranges.{most_held};
+ghost use Rattle.afdx_conform.specs.Streams.{Gone};
+ghost use Rattle.afdx_frame.specs.Layout.{link_named_by};
 ghost use Rattle.afdx_frame.specs.Times.{latest_listed};
+ghost use Rattle.afdx_police.specs.Arrival.{Arrival, arrival_with};
+ghost use Rattle.afdx_lists.specs.declared.role.Role.TheVariants as role;
+ghost use Rattle.afdx_inputs.specs.Joining.{Frame as Seen};
+ghost use Rattle.afdx_acceptance.specs.Choices.{Choices, counted, counts};
+ghost use Rattle.afdx_acceptance.specs.Frames.{frame_with, link_to};
+ghost use Rattle.afdx_acceptance.specs.Keeping.{AreKept, Given, IsNothingDue, IsSomeUpTo, is_known, with_came, with_left, with_strange};
+ghost use Rattle.afdx_acceptance.specs.Keys.{key_with};
+ghost use Rattle.afdx_acceptance.specs.Lines.{Due};
+ghost use Rattle.afdx_acceptance.specs.Slots.{AreFalling, IsCounted, IsStrange, IsStream, told_at, waiting_due};
+ghost use Rattle.afdx_acceptance.specs.Keeping.{slot_at};
+ghost use Rattle.afdx_acceptance.specs.Waiting.{left_in};
 
-use crate::agenda::{Agenda, Entry};
+use crate::kept::{Kept, Lines};
 use crate::key::Key;
-use crate::outlets::{link_named, new_stream, receiver, receiver_at, rule_at};
-use crate::slot::{Slot, add_arrival, add_frame, add_stranger, end_at, step};
-use crate::strangers::{Stranger, Strangers, why_strange};
+use crate::outlets::{link_named, new_stream, outlet_at, receiver, rule_at};
+use crate::strangers::{Stranger, why_strange};
 use crate::totals::Totals;
 use afdx_config::{SystemId, Tables};
 use afdx_conform::{Arrived, Frame, Leeway};
-use afdx_frame::{LAST_PORT, Side, VlId};
+use afdx_frame::{Side, VlId};
 use afdx_lists::Heading;
-use afdx_text::ConformLine;
 use std::alloc::{AllocError, Global};
 
 /// How many places a link has, and how many stand before those of the first link.
@@ -24,114 +43,177 @@ const OF_LINK: usize = 64;
 
 const OF_STRANGERS: usize = 512;
 
-/// The most bytes of an arrival that is judged. No list has one of more.
-const MOST_BYTES: usize = 65_535;
-
-/// What is kept of each key of the tables, what is to be told of it, and the time in ns at which
-/// the recordings end, once it is known.
+/// What is kept of each key of the tables, and the time in ns at which the recordings end, once it
+/// is known.
 #[derive(Drop)]
 pub(crate) struct Streams<'a> {
     alloc: Global,
     tables: &'a Tables,
     leeway: Leeway,
-    slots: Vec<Slot>,
-    agenda: Agenda,
+    kept: Kept,
     ended: Option<u64>,
 }
 
-/// So many slots of which nothing came.
-fn new_slots(alloc: Global, count: usize) -> Result<Vec<Slot>, AllocError> {
-    let mut slots = Vec::with_capacity(alloc, count)?;
-    for _ in 0..count {
-        slots.push(Slot::Nothing)?;
+/// The key of a link's stream to a system or neighbour. It is made if nothing of it came.
+fn stream_to(
+    alloc: Global,
+    tables: &Tables,
+    leeway: Leeway,
+    kept: &mut Kept,
+    link: usize,
+    system: SystemId,
+    side: Side,
+) -> Result<Key, AllocError>
+    requires link { link < length tables.now.links }
+    requires system { system.0 < length tables.now.systems }
+    ensures lawful { IsLawfulSwitch tables.now }
+    ensures key { IfOk result (λ key.
+        key ≡ key_with side (port_of tables.now system.0) (Some link)) }
+    ensures stands { (c : Choices) (until time : ℕ) (given : Key → Given) (lines : List Due)
+        (l : LinkRow) → slice_get tables.now.links link ≡ Some l → is_to system.0 l ≡ true →
+        leeway_of leeway ≡ c.by → AreKept tables.now c until None time given lines kept.old →
+        IfOk result (λ key. AreKept tables.now c until None time given lines kept.new
+        × IsStream (slot_at kept.new.slots.items key)) }
+{
+    let key = Key {
+        side,
+        port: tables.system(system).port,
+        link: Some(link as u16),
+    };
+    if !kept.has_stream(key) {
+        let stream = new_stream(alloc, tables, link, system, leeway);
+        kept.put_stream(alloc, key, stream)?;
     }
-    Ok(slots)
+    Ok(key)
 }
 
-/// Whether that is what is due there.
-fn is_due(slots: &[Slot], entry: &Entry) -> bool
-    ensures { IsTrue result → IsDue slots.now entry.now }
+/// An arrival comes to one stream of its link.
+fn come_to(
+    alloc: Global,
+    tables: &Tables,
+    leeway: Leeway,
+    kept: &mut Kept,
+    link: usize,
+    system: SystemId,
+    n: u64,
+    heading: &Heading,
+    bytes: &[u8],
+) -> Result<(), AllocError>
+    requires link { link < length tables.now.links }
+    requires system { system.0 < length tables.now.systems }
+    requires time { heading.now.time ≤ latest_listed }
+    requires short { length bytes.now ≤ most_bytes }
+    ensures { (c : Choices) (until time : ℕ) (given : Key → Given) (lines : List Due)
+        (l : LinkRow) → slice_get tables.now.links link ≡ Some l → is_to system.0 l ≡ true →
+        leeway_of leeway ≡ c.by → time ≤ heading.now.time →
+        from_time c.by.start ≤ heading.now.time →
+        AllByRecursion (λ x. x.time ≤ heading.now.time)
+        (given (key_with heading.now.side (port_of tables.now system.0) (Some link))).came →
+        length (given (key_with heading.now.side (port_of tables.now system.0) (Some link))).came
+        + 1 < most_held →
+        AreKept tables.now c until None time given lines kept.old →
+        OnOk result (AreKept tables.now c until None time
+        (with_came (key_with heading.now.side (port_of tables.now system.0) (Some link))
+        (arrival_with n heading.now.time heading.now.side heading.now.port bytes.now) given)
+        lines kept.new) }
 {
-    let place = entry.key.place();
-    if place >= slots.len() {
-        return false;
+    let key = stream_to(alloc, tables, leeway, kept, link, system, heading.side)?;
+    let rule = rule_at(tables, link);
+    let bytes = Vec::from_slice(alloc, bytes)?;
+    let arrived = Arrived::new(&rule, n, heading.time, heading.side, heading.port, bytes);
+    kept.add_arrival(key, arrived)
+}
+
+/// A frame of a link left where the link goes.
+fn leave_to(
+    alloc: Global,
+    tables: &Tables,
+    leeway: Leeway,
+    kept: &mut Kept,
+    link: usize,
+    system: SystemId,
+    side: Side,
+    frame: Frame,
+) -> Result<(), AllocError>
+    requires link { link < length tables.now.links }
+    requires system { system.0 < length tables.now.systems }
+    ensures { (c : Choices) (until time : ℕ) (given : Key → Given) (lines : List Due)
+        (l : LinkRow) → slice_get tables.now.links link ≡ Some l → is_to system.0 l ≡ true →
+        leeway_of leeway ≡ c.by → time ≤ frame.time →
+        from_time c.by.start ≤ frame.time + both_slacks c.by →
+        AllByRecursion (λ y. y.time ≤ frame.time)
+        (given (key_with side (port_of tables.now system.0) (Some link))).left →
+        length (given (key_with side (port_of tables.now system.0) (Some link))).left + 1
+        < most_held →
+        AreKept tables.now c until None time given lines kept.old →
+        OnOk result (AreKept tables.now c until None time
+        (with_left (key_with side (port_of tables.now system.0) (Some link))
+        (gone_of frame) given) lines kept.new) }
+{
+    let key = stream_to(alloc, tables, leeway, kept, link, system, side)?;
+    kept.add_frame(key, frame)
+}
+
+/// Room for frames of no stream of the key is made if none was.
+fn strangers_at(alloc: Global, kept: &mut Kept, key: Key) -> Result<(), AllocError>
+    ensures { (t : Rows) (c : Choices) (until time : ℕ) (given : Key → Given) (lines : List Due) →
+        IsLawfulSwitch t → key.link ≡ None → is_known t key ≡ true →
+        AreKept t c until None time given lines kept.old →
+        OnOk result (AreKept t c until None time given lines kept.new
+        × IsStrange (slot_at kept.new.slots.items key)) }
+{
+    if kept.has_strangers(key) {
+        return Ok(());
     }
-    slots[place].due() == Some(entry.moment)
+    kept.put_strangers(alloc, key)
+}
+
+/// A frame of no stream left.
+fn leave_strange(
+    alloc: Global,
+    kept: &mut Kept,
+    side: Side,
+    port: u8,
+    stranger: Stranger,
+) -> Result<(), AllocError>
+    ensures { (t : Rows) (c : Choices) (until time : ℕ) (given : Key → Given) (lines : List Due) →
+        IsLawfulSwitch t → time ≤ stranger.time →
+        AreFalling (waiting_due (key_with side port None) stranger
+        ∷ (given (key_with side port None)).strange) →
+        AreKept t c until None time given lines kept.old →
+        OnOk result (AreKept t c until None time (with_strange (key_with side port None)
+        (waiting_due (key_with side port None) stranger) given) lines kept.new) }
+{
+    let key = Key {
+        side,
+        port,
+        link: None,
+    };
+    strangers_at(alloc, kept, key)?;
+    kept.add_stranger(key, stranger)
 }
 
 impl<'a> Streams<'a> {
+    ghost use Rattle.afdx_acceptance.specs.Standing.{IsBehindAll, StreamsStand};
+
     /// Those of the tables, of which nothing came.
     pub(crate) fn new(
         alloc: Global,
         tables: &'a Tables,
         leeway: Leeway,
-    ) -> Result<Streams<'a>, AllocError> {
+    ) -> Result<Streams<'a>, AllocError>
+        ensures stands { (c : Choices) (until : ℕ) → leeway_of leeway ≡ c.by →
+            IfOk result (λ s. StreamsStand tables.now c until [] [] 0 s) }
+        ensures running { IfOk result (λ s. s.ended ≡ None) }
+    {
         let count = OF_STRANGERS + OF_LINK * tables.link_count();
         Ok(Streams {
             alloc,
             tables,
             leeway,
-            slots: new_slots(alloc, count)?,
-            agenda: Agenda::new(alloc),
+            kept: Kept::new(alloc, count)?,
             ended: None,
         })
-    }
-
-    /// At this moment something is to be told of the key, if there is one.
-    fn await_due(&mut self, due: Option<u64>, key: Key) -> Result<(), AllocError>
-        ensures slots { self.new.slots ≡ self.old.slots }
-        ensures tables { self.new.tables ≡ self.old.tables }
-    {
-        match due {
-            Some(moment) => self.agenda.push(moment, key),
-            None => Ok(()),
-        }
-    }
-
-    /// The key of a link's stream to a system or neighbour. It is made if nothing of it came.
-    fn stream_to(&mut self, link: usize, system: SystemId, side: Side) -> Result<Key, AllocError>
-        requires link { link < length self.old.tables.now.links }
-        requires system { system.0 < length self.old.tables.now.systems }
-        ensures tables { self.new.tables ≡ self.old.tables }
-    {
-        let key = Key {
-            side,
-            port: self.tables.system(system).port,
-            link: Some(link as u16),
-        };
-        let place = key.place();
-        if place < self.slots.len() && !self.slots[place].is_stream() {
-            let stream = new_stream(self.alloc, self.tables, link, system, self.leeway);
-            self.slots[place] = Slot::Stream(Box::new(self.alloc, stream)?);
-        }
-        Ok(key)
-    }
-
-    /// An arrival comes to one stream of its link.
-    fn came_to(
-        &mut self,
-        link: usize,
-        system: SystemId,
-        n: u64,
-        heading: &Heading,
-        bytes: &[u8],
-    ) -> Result<(), AllocError>
-        requires link { link < length self.old.tables.now.links }
-        requires system { system.0 < length self.old.tables.now.systems }
-        requires time { heading.now.time ≤ latest_listed }
-        requires short { length bytes.now ≤ most_bytes }
-        ensures tables { self.new.tables ≡ self.old.tables }
-    {
-        let key = self.stream_to(link, system, heading.side)?;
-        let rule = rule_at(self.tables, link);
-        let bytes = Vec::from_slice(self.alloc, bytes)?;
-        let arrived = Arrived::new(&rule, n, heading.time, heading.side, heading.port, bytes);
-        let place = key.place();
-        if place >= self.slots.len() {
-            return Ok(());
-        }
-        let due = add_arrival(&mut self.slots[place], arrived)?;
-        self.await_due(due, key)
     }
 
     /// A frame came in that names this link: it comes to each of the link's streams on its side.
@@ -143,128 +225,106 @@ impl<'a> Streams<'a> {
         bytes: &[u8],
     ) -> Result<(), AllocError>
         requires time { heading.now.time ≤ latest_listed }
+        requires short { length bytes.now ≤ most_bytes }
+        ensures stands { (t : Rows) (c : Choices) (until time : ℕ) (frames : List Seen)
+            (lines : List Due) → vl ≡ link_named_by bytes.now →
+            counts c (frame_with role.Came (arrival_with n heading.now.time heading.now.side
+            heading.now.port bytes.now)) ≡ true →
+            time ≤ heading.now.time → IsBehindAll heading.now.time frames →
+            length frames + 1 < most_held →
+            self.old.ended ≡ None →
+            StreamsStand t c until frames lines time self.old →
+            OnOk result (StreamsStand t c until (frame_with role.Came
+            (arrival_with n heading.now.time heading.now.side heading.now.port bytes.now)
+            ∷ frames) lines time self.new) }
+        ensures ended { self.new.ended ≡ self.old.ended }
     {
-        let Some(link) = link_named(self.tables, vl) else {
+        let (alloc, tables, leeway) = (self.alloc, self.tables, self.leeway);
+        let Some(link) = link_named(tables, vl) else {
             return Ok(());
         };
-        if bytes.len() > MOST_BYTES {
-            return Ok(());
-        }
-        for rank in 0..self.tables.link(link).to.len() {
-            let system = receiver(self.tables, link, rank);
-            self.came_to(link, system, n, heading, bytes)?;
+        for rank in 0..tables.link(link).to.len() {
+            let system = receiver(tables, link, rank);
+            let kept = &mut self.kept;
+            come_to(alloc, tables, leeway, kept, link, system, n, heading, bytes)?;
         }
         Ok(())
     }
 
-    /// A frame of a link left where the link goes.
-    fn left_to(
-        &mut self,
-        link: usize,
-        system: SystemId,
-        side: Side,
-        frame: Frame,
-    ) -> Result<(), AllocError>
-        requires link { link < length self.old.tables.now.links }
-        requires system { system.0 < length self.old.tables.now.systems }
-    {
-        let key = self.stream_to(link, system, side)?;
-        let place = key.place();
-        if place >= self.slots.len() {
-            return Ok(());
-        }
-        let due = add_frame(&mut self.slots[place], frame)?;
-        self.await_due(due, key)
-    }
-
-    /// A frame left that is of no stream.
-    fn left_strange(&mut self, side: Side, port: u8, stranger: Stranger) -> Result<(), AllocError> {
-        let key = Key {
-            side,
-            port,
-            link: None,
-        };
-        let place = key.place();
-        if place >= self.slots.len() {
-            return Ok(());
-        }
-        if let Slot::Nothing = self.slots[place] {
-            let strangers = Strangers::new(self.alloc);
-            self.slots[place] = Slot::Strangers(Box::new(self.alloc, strangers)?);
-        }
-        let due = add_stranger(&mut self.slots[place], stranger)?;
-        self.await_due(due, key)
-    }
-
-    /// A frame left that names this link.
+    /// A frame left that names this link, or that is of no stream.
     pub(crate) fn left(
         &mut self,
         vl: Option<VlId>,
         n: u64,
         heading: &Heading,
-        message: &[u8],
         bytes: Vec<u8>,
     ) -> Result<(), AllocError>
         requires time { heading.now.time ≤ latest_listed }
-        requires known { IsSealedAs heading.now.seal message.now }
+        ensures stands { (t : Rows) (c : Choices) (until time : ℕ) (frames : List Seen)
+            (lines : List Due) → vl ≡ link_named_by bytes.items →
+            counts c (frame_with role.Left (arrival_with n heading.now.time heading.now.side
+            heading.now.port bytes.items)) ≡ true →
+            time ≤ heading.now.time → IsBehindAll heading.now.time frames →
+            length frames + 1 < most_held →
+            self.old.ended ≡ None →
+            StreamsStand t c until frames lines time self.old →
+            OnOk result (StreamsStand t c until (frame_with role.Left
+            (arrival_with n heading.now.time heading.now.side heading.now.port bytes.items)
+            ∷ frames) lines time self.new) }
+        ensures ended { self.new.ended ≡ self.old.ended }
     {
+        let (alloc, tables, leeway) = (self.alloc, self.tables, self.leeway);
         let (side, port, time) = (heading.side, heading.port, heading.time);
-        let link = link_named(self.tables, vl);
-        if let Some(link) = link {
-            if let Some(system) = receiver_at(self.tables, link, port) {
-                let frame = Frame {
-                    number: n,
-                    time,
-                    bytes,
-                };
-                return self.left_to(link, system, side, frame);
-            }
+        let named = link_named(tables, vl);
+        let kept = &mut self.kept;
+        if let Some((link, system)) = outlet_at(tables, named, port) {
+            let frame = Frame {
+                number: n,
+                time,
+                bytes,
+            };
+            return leave_to(alloc, tables, leeway, kept, link, system, side, frame);
         }
-        let why = why_strange(heading.frame(message), link.is_some());
+        let why = why_strange(bytes.as_slice(), named.is_some());
         let stranger = Stranger {
             number: n,
             time,
             why,
         };
-        self.left_strange(side, port, stranger)
+        leave_strange(alloc, kept, side, port, stranger)
+    }
+
+    /// The lines of what is to be told next, if its moment lies before that time, in ns; without a
+    /// time whenever it is. It is over then.
+    pub(crate) fn take_before(&mut self, before: Option<u64>) -> Result<Option<Lines>, AllocError>
+        ensures told { (t : Rows) (c : Choices) (until time : ℕ) (frames : List Seen)
+            (lines : List Due) → (self.old.ended ≡ None → IsSomeUpTo time before) →
+            StreamsStand t c until frames lines time self.old →
+            IfOk result (λ taken. IfSome taken (λ l. StreamsStand t c until frames
+            (told_at l.key l.moment l.lines.items lines) time self.new)) }
+        ensures none { (t : Rows) (c : Choices) (until time : ℕ) (frames : List Seen)
+            (lines : List Due) → StreamsStand t c until frames lines time self.old →
+            IfOk result (λ taken. IfNone taken (StreamsStand t c until frames lines time self.new
+            × IsNothingDue t before self.new.kept)) }
+        ensures ended { self.new.ended ≡ self.old.ended }
+        ensures less { IfOk result (λ lines. IsSome lines →
+            left_in self.new.kept.slots.items < left_in self.old.kept.slots.items) }
+    {
+        let taken = self.kept.take_before(self.alloc, before, self.ended)?;
+        Ok(taken)
     }
 
     /// The recordings end at this time, in ns.
-    pub(crate) fn end(&mut self, until: u64) {
+    pub(crate) fn end(&mut self, until: u64)
+        ensures stands { (t : Rows) (c : Choices) (time : ℕ) (frames : List Seen)
+            (lines : List Due) → time ≤ until → self.old.ended ≡ None →
+            IsBehindAll until (counted c frames) →
+            StreamsStand t c until frames lines time self.old →
+            StreamsStand t c until frames lines time self.new }
+        ensures ended { self.new.ended ≡ Some until }
+    {
+        self.kept.end(until);
         self.ended = Some(until);
-        for place in 0..self.slots.len() {
-            end_at(&mut self.slots[place], until);
-        }
-    }
-
-    /// The lines of what is to be told next, if its moment lies before that time; without a time
-    /// whenever it is. It is over then.
-    pub(crate) fn take_before(
-        &mut self,
-        before: Option<u64>,
-    ) -> Result<Option<Vec<ConformLine>>, AllocError>
-        ensures less { IfOk result (λ lines. IsSome lines →
-            left_in self.new.slots.items < left_in self.old.slots.items) }
-    {
-        while let Some(entry) = self.agenda.take_before(before) {
-            if is_due(self.slots.as_slice(), &entry) {
-                let lines = self.step(&entry)?;
-                return Ok(Some(lines));
-            }
-        }
-        Ok(None)
-    }
-
-    /// The lines of what is due.
-    fn step(&mut self, entry: &Entry) -> Result<Vec<ConformLine>, AllocError>
-        requires { IsDue self.old.slots.items entry.now }
-        ensures less { OnOk result (left_in self.new.slots.items < left_in self.old.slots.items) }
-    {
-        let place = entry.key.place();
-        let lines = step(&mut self.slots[place], self.alloc, entry.key, self.ended)?;
-        let due = self.slots[place].due();
-        self.await_due(due, entry.key)?;
-        Ok(lines)
     }
 
     /// What is counted of all streams.
@@ -272,9 +332,9 @@ impl<'a> Streams<'a> {
         ensures findings { totals.new.findings ≡ totals.old.findings }
         ensures left_out { totals.new.left_out ≡ totals.old.left_out }
         ensures unseen { totals.new.unseen ≡ totals.old.unseen }
+        ensures judged { (i : ℕ) → i < length self.now.kept.slots.items →
+            IsCounted (get_or self.now.kept.slots.items i slot.Nothing) }
     {
-        for slot in self.slots.as_slice() {
-            totals.add(slot);
-        }
+        self.kept.count(totals);
     }
 }

@@ -25,6 +25,10 @@ pub struct Totals {
 }
 
 impl Totals {
+    ghost use Rattle.afdx_acceptance.specs.Slots.{IsCounted};
+
+    ghost use Rattle.afdx_acceptance.specs.Slots.{IsCounted};
+
     /// So many findings and lines that were left out, and no streams.
     pub(crate) fn new(findings: u64, left_out: u64) -> Totals
         ensures findings { result.findings ≡ findings }
@@ -47,6 +51,7 @@ impl Totals {
         ensures findings { self.new.findings ≡ self.old.findings }
         ensures left_out { self.new.left_out ≡ self.old.left_out }
         ensures unseen { self.new.unseen ≡ self.old.unseen }
+        ensures judged { IsCounted slot.now }
     {
         if let Slot::Stream(stream) = slot {
             let counts = stream.counts();

@@ -1,5 +1,15 @@
 use Rattle.std.proofs.Common.{arith, false, sym, true, ◌∙◌}
 use Rattle.afdx_acceptance.proofs.ToldLemmas.{left-out-is, missed-in, missed-next, missed-out, on-ok}
+use Rattle.std.proofs.Common.{◌≡◌, ◌<◌, ◌≤◌, ◌∷◌, List, length, refl, ap, subst}
+use Rattle.afdx_conform.specs.LimitRanges.{most_bytes}
+use Rattle.afdx_inputs.specs.Joining.{Frame}
+use Rattle.afdx_lists.specs.declared.role.Role.TheVariants.{Came, Left}
+use Rattle.afdx_police.specs.Arrival.{Arrival, arrival_with}
+use Rattle.afdx_acceptance.specs.Choices.{Choices, counts, is_in_time, is_left_out}
+use Rattle.afdx_acceptance.specs.Frames.{frame_with}
+use Rattle.afdx_acceptance.specs.Standing.{IsBehindAll, StreamsStand}
+use Rattle.afdx_acceptance.proofs.AddedLemmas.{on-ok as ok-to}
+use Rattle.afdx_acceptance.proofs.FullLemmas.{behind-later, does-count, out-of-choice, out-of-time, running-then, stand-skipped, stands-next, too-long}
 use Rattle.afdx_acceptance.specs.ChoicesOf.{choices_of}
 use Rattle.afdx_engine.specs.Engine.{item_of}
 use Rattle.afdx_inputs.specs.Joining.{frame_of}
@@ -47,3 +57,60 @@ returns-in-Left-clause-counted c = λ frames before.
     (sym c.if-is_left_out.false ∙ c.is_left_out.ensures) c.vl_of-vl.ensures.computed
     (c.as_slice.ensures.value ∙ c.in_ok-bytes.ensures))) before
     (let b = before in omega (arith, b)))
+
+pub returns-then-len-gt-MOST_BYTES-clause-counted : goal.returns-then-len-gt-MOST_BYTES-clause-counted
+returns-then-len-gt-MOST_BYTES-clause-counted c = λ frames before.
+    let k = choices_of c.args.self.now.choices.now in
+    let x = frame_of (item_of c.args.n c.args.seen.now c.args.message.now) in
+    missed-next k x frames c.args.self.now.left_out c.args.self.now.left_out false
+    (missed-in k x false (sym (c.is_in_time.ensures c.args.message.now c.args.n) ∙ c.if-not-is_in_time.false)
+    (left-out-is k x false c.vl_of-vl.result c.as_slice.result.now
+    (sym c.if-is_left_out.false ∙ c.is_left_out.ensures) c.vl_of-vl.ensures.computed
+    (c.as_slice.ensures.value ∙ c.in_ok-bytes.ensures))) before
+    (let b = before in omega (arith, b))
+
+pub returns-then-not-is_in_time-clause-stands : goal.returns-then-not-is_in_time-clause-stands
+returns-then-not-is_in_time-clause-stands c k frames lines chosen latest few stands =
+    let x : Frame = frame_of (item_of c.args.n c.args.seen.now c.args.message.now) in
+    stands-next k frames x c.args.self.now c.args.self.now lines latest
+    (λ until dues s. stand-skipped k.0 k.1 until x.arrival.time x frames dues c.args.self.now.streams (out-of-time k.1 x (subst (λ o. is_in_time o x ≡ false) chosen (sym (c.is_in_time.ensures c.args.message.now c.args.n) ∙ c.if-not-is_in_time.true))) s) refl refl stands
+
+pub returns-then-is_left_out-clause-stands : goal.returns-then-is_left_out-clause-stands
+returns-then-is_left_out-clause-stands c k frames lines chosen latest few stands =
+    let x : Frame = frame_of (item_of c.args.n c.args.seen.now c.args.message.now) in
+    stands-next k frames x c.args.self.now _ lines latest
+    (λ until dues s. stand-skipped k.0 k.1 until x.arrival.time x frames dues c.args.self.now.streams (out-of-choice k.1 x (subst (λ o. is_left_out o x ≡ true) chosen
+    (left-out-is (choices_of c.args.self.now.choices.now) x true c.vl_of-vl.result c.as_slice.result.now
+    (sym c.if-is_left_out.true ∙ c.is_left_out.ensures) c.vl_of-vl.ensures.computed (c.as_slice.ensures.value ∙ c.in_ok-bytes.ensures)))) s) refl refl stands
+
+pub returns-then-len-gt-MOST_BYTES-clause-stands : goal.returns-then-len-gt-MOST_BYTES-clause-stands
+returns-then-len-gt-MOST_BYTES-clause-stands c k frames lines chosen latest few stands =
+    let x : Frame = frame_of (item_of c.args.n c.args.seen.now c.args.message.now) in
+    stands-next k frames x c.args.self.now c.args.self.now lines latest
+    (λ until dues s. stand-skipped k.0 k.1 until x.arrival.time x frames dues c.args.self.now.streams (too-long k.1 x (subst (λ (b : List ℕ). most_bytes < length b) c.in_ok-bytes.ensures ?)) s) refl refl stands
+
+pub returns-in-Came-clause-stands : goal.returns-in-Came-clause-stands
+returns-in-Came-clause-stands c k frames lines chosen latest few stands =
+    let h = c.args.seen.now.heading in
+    let x : Frame = frame_of (item_of c.args.n c.args.seen.now c.args.message.now) in
+    let in-time : is_in_time k.1 x ≡ true = subst (λ (o : Choices). is_in_time o x ≡ true) chosen
+        (sym (c.is_in_time.ensures c.args.message.now c.args.n) ∙ c.if-not-is_in_time.false) in
+    let out : is_left_out k.1 x ≡ false = subst (λ (o : Choices). is_left_out o x ≡ false) chosen
+        (left-out-is (choices_of c.args.self.now.choices.now) x false c.vl_of-vl.result c.as_slice.result.now
+        (sym c.if-is_left_out.false ∙ c.is_left_out.ensures) c.vl_of-vl.ensures.computed
+        (c.as_slice.ensures.value ∙ c.in_ok-bytes.ensures)) in
+    let none = running-then k frames x c.args.self.now lines in-time stands in
+    ?
+
+pub returns-in-Left-clause-stands : goal.returns-in-Left-clause-stands
+returns-in-Left-clause-stands c k frames lines chosen latest few stands =
+    let h = c.args.seen.now.heading in
+    let x : Frame = frame_of (item_of c.args.n c.args.seen.now c.args.message.now) in
+    let in-time : is_in_time k.1 x ≡ true = subst (λ (o : Choices). is_in_time o x ≡ true) chosen
+        (sym (c.is_in_time.ensures c.args.message.now c.args.n) ∙ c.if-not-is_in_time.false) in
+    let out : is_left_out k.1 x ≡ false = subst (λ (o : Choices). is_left_out o x ≡ false) chosen
+        (left-out-is (choices_of c.args.self.now.choices.now) x false c.vl_of-vl.result c.as_slice.result.now
+        (sym c.if-is_left_out.false ∙ c.is_left_out.ensures) c.vl_of-vl.ensures.computed
+        (c.as_slice.ensures.value ∙ c.in_ok-bytes.ensures)) in
+    let none = running-then k frames x c.args.self.now lines in-time stands in
+    ?

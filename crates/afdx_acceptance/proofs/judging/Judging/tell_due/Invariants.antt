@@ -1,7 +1,9 @@
-use Rattle.std.proofs.Common.{◌≡◌, ℕ, List, Option, false}
+use Rattle.std.proofs.Common.{◌≡◌, ℕ, Bool, List, Option, None, false}
+use Rattle.afdx_config.specs.Rows.{Rows}
+use Rattle.afdx_acceptance.specs.Keeping.{IsSomeUpTo}
 use Rattle.afdx_inputs.specs.Joining.{Frame}
 use Rattle.afdx_acceptance.specs.Choices.{Choices}
-use Rattle.afdx_acceptance.specs.Told.{HasTold}
+use Rattle.afdx_acceptance.specs.Told.{HasTold, TellsAll}
 use Rattle.afdx_acceptance.specs.Waiting.{left_in}
 use Rattle.afdx_acceptance.proofs.judging.Judging.tell_due.Given as goal
 
@@ -12,7 +14,12 @@ invariant-loop-lines g l = record {
   told : (c : Choices) (start : Option (List ℕ)) (frames : List Frame)
       → HasTold c l.fn.self start (g.O.Sink.written l.fn.output) frames
       → HasTold c l.self start (g.O.Sink.written l.output) frames;
+  stands : (k : Rows × Choices) (last : Bool) (time : ℕ) (start : Option (List ℕ)) (frames : List Frame)
+      → (l.fn.self.streams.ended ≡ None → IsSomeUpTo time l.before)
+      → TellsAll k last time l.fn.self start (g.O.Sink.written l.fn.output) frames
+      → TellsAll k last time l.self start (g.O.Sink.written l.output) frames;
+  ended : l.self.streams.ended ≡ l.fn.self.streams.ended;
 }
 
 abbrev pub decreases-loop-lines : goal.decreases-loop-lines
-decreases-loop-lines g l = left_in l.self.streams.slots.items
+decreases-loop-lines g l = left_in l.self.streams.kept.slots.items

@@ -1,0 +1,365 @@
+-- What is kept of all keys, once a frame came or left.
+use Rattle.std.proofs.Common.{◌≡◌, ℕ, zero, suc, ◌+◌, ◌<◌, ◌≤◌, ◌⊎◌, inl, inr, Bool, true, false, ◌&&◌, ◌||◌, List, [], ◌∷◌, ◌++◌, map, length, take, get_or, reverse, refl, sym, ap, ◌∙◌, subst, arith, true≢false}
+use Rattle.std.proofs.lemmas.Bool.{and_parts, eqb-true, eq-eqb, ltb-false}
+use Rattle.std.proofs.lemmas.List.{length-map, length-reverse, map-append, take_all, take_more}
+use Rattle.std.proofs.lemmas.List.Elements.{All-from_recursion}
+use Rattle.std.proofs.lemmas.List.Folds.{list_any-append}
+use Rattle.std.proofs.lemmas.Option.{same_Some, slice_get-get_or}
+use Rattle.std.specs.Prelude.{Option, Some, None, cond, filter, nat_eq, nat_le, nat_lt, not, option_and_then, slice_get, if◌then◌else◌}
+use Rattle.std.specs.List.{list_any, AllByRecursion}
+use Rattle.afdx_bounds.specs.Tables.{port_of}
+use Rattle.afdx_bounds.proofs.TableLemmas.{port-of-system}
+use Rattle.afdx_config.proofs.LookUpLemmas.{each_row-found}
+use Rattle.afdx_config.specs.Lawful.{IsLawfulSwitch, IsLinkUpTo, jitter_from_any}
+use Rattle.afdx_config.specs.Reading.{are_apart, has_repeat, link_of, system_at_port}
+use Rattle.afdx_config.specs.Rows.{LinkRow, Rows, SystemRow, is_to}
+use Rattle.afdx_conform.specs.Explanations.{from_time}
+use Rattle.afdx_conform.specs.Leeway.{both_slacks}
+use Rattle.afdx_conform.specs.LimitRanges.{most_bytes}
+use Rattle.afdx_conform.specs.Ranges.{most_held}
+use Rattle.afdx_frame.proofs.ListLemmas.{AllByRecursion-slice_get}
+use Rattle.afdx_frame.specs.Layout.{link_named_by}
+use Rattle.afdx_frame.specs.declared.link.Side.{Side}
+use Rattle.afdx_frame.specs.declared.link.VlId.{VlId}
+use Rattle.afdx_frame.specs.Sides.{is_side}
+use Rattle.afdx_police.specs.Arrival.{Arrival, names}
+use Rattle.afdx_lists.specs.declared.role.Role.TheVariants.{Came, Left}
+use Rattle.afdx_inputs.specs.Joining.{Frame}
+use Rattle.afdx_acceptance.specs.Choices.{Choices, counted, counts, is_behind, is_before, is_in_time, is_left_out}
+use Rattle.afdx_acceptance.specs.Frames.{frame_with, gone_of, is_arrival_of, is_stranger, left_at, link_to, place_named}
+use Rattle.afdx_acceptance.specs.Keeping.{AreKept, Given, came_to, given_of, given_with, is_known, with_came, with_left, with_strange}
+use Rattle.afdx_acceptance.specs.Keys.{is_key, is_link, key_with}
+use Rattle.afdx_acceptance.specs.Lines.{Due, stranger_due}
+use Rattle.afdx_acceptance.specs.Slots.{AreFalling}
+use Rattle.afdx_acceptance.specs.declared.kept.Kept.{Kept}
+use Rattle.afdx_acceptance.specs.declared.key.Key.{Key}
+use Rattle.afdx_acceptance.proofs.GivenLemmas.{all-filter, counted-more, falling-more, given-came, given-from, given-left, given-strange, given-unnamed, given_from, kept-same, linked, strange-times}
+use Rattle.afdx_acceptance.proofs.KeyLemmas.{no-system}
+use Rattle.afdx_acceptance.proofs.OutletLemmas.{port-is}
+
+-- ---- one port of a link after another
+
+came-bools : (s b n a : Bool) (f : Given → Given) (g : Given) → (n ≡ true → a ≡ false)
+    → (if s && b && (a || (n || false)) then f g else g)
+    ≡ (if s && n && b then f (if s && b && a then f g else g) else (if s && b && a then f g else g))
+came-bools false b n a f g h = refl
+came-bools true false false a f g h = refl
+came-bools true false true a f g h = refl
+came-bools true true false false f g h = refl
+came-bools true true false true f g h = refl
+came-bools true true true false f g h = refl
+came-bools true true true true f g h = absurd (true≢false (h refl))
+
+pub came-step : (side : Side) (place port : ℕ) (ports : List ℕ) (x : Arrival) (given : Key → Given) (k : Key)
+    → list_any (λ q. nat_eq q port) ports ≡ false
+    → came_to side place (ports ++ port ∷ []) x given k
+    ≡ with_came (key_with side port (Some place)) x (came_to side place ports x given) k
+unfolding is_key
+came-step side place port ports x given k fresh =
+    let f : Given → Given = λ g. given_with (g.came ++ x ∷ []) g.left g.strange in
+    ap (λ v. if is_side side k.side && is_link (Some place) k.link && v then f (given k) else given k)
+    (list_any-append (λ q. nat_eq q k.port) ports (port ∷ []))
+    ∙ came-bools (is_side side k.side) (is_link (Some place) k.link) (nat_eq port k.port) (list_any (λ q. nat_eq q k.port) ports)
+    f (given k) (λ e. subst (λ p. list_any (λ q. nat_eq q p) ports ≡ false) (eqb-true port k.port e) fresh)
+
+last-false : {X : Type 0} (b : Bool) (u v : X) → (if b && false then u else v) ≡ v
+last-false true u v = refl
+last-false false u v = refl
+
+pub came-key : (side : Side) (place port : ℕ) (ports : List ℕ) (x : Arrival) (given : Key → Given)
+    → list_any (λ q. nat_eq q port) ports ≡ false
+    → came_to side place ports x given (key_with side port (Some place)) ≡ given (key_with side port (Some place))
+came-key side place port ports x given fresh =
+    let k = key_with side port (Some place) in
+    ap (λ v. if is_side side k.side && is_link (Some place) k.link && v
+    then given_with ((given k).came ++ x ∷ []) (given k).left (given k).strange else given k) fresh
+    ∙ last-false (is_side side side && is_link (Some place) (Some place))
+    (given_with ((given k).came ++ x ∷ []) (given k).left (given k).strange) (given k)
+
+pub came-strange : (side : Side) (place : ℕ) (ports : List ℕ) (x : Arrival) (given : Key → Given) (k : Key)
+    → (came_to side place ports x given k).strange ≡ (given k).strange
+came-strange side place ports x given k =
+    by (is_side side k.side && is_link (Some place) k.link && list_any (λ q. nat_eq q k.port) ports)
+  where
+    by : (v : Bool) → (if v then given_with ((given k).came ++ x ∷ []) (given k).left (given k).strange else given k).strange
+        ≡ (given k).strange
+    by true = refl
+    by false = refl
+
+none-yet : (side : Side) (place : ℕ) (x : Arrival) (given : Key → Given) (k : Key) → came_to side place [] x given k ≡ given k
+none-yet side place x given k = last-false (is_side side k.side && is_link (Some place) k.link)
+    (given_with ((given k).came ++ x ∷ []) (given k).left (given k).strange) (given k)
+
+or-parts : (a b : Bool) → (a || b) ≡ false → (a ≡ false) × (b ≡ false)
+or-parts true b e = absurd (true≢false e)
+or-parts false b e = (refl, e)
+
+any-at : (d : ℕ) (to : List ℕ) (i s : ℕ) → list_any (λ j. nat_eq j d) to ≡ false → s ≡ get_or to i s → i < length to
+    → nat_eq s d ≡ false
+any-at d [] i s none is lt = absurd (omega (arith, lt))
+any-at d (j ∷ to) zero s none is lt =
+    ap (λ n. nat_eq n d) is ∙ (or-parts (nat_eq j d) (list_any (λ j'. nat_eq j' d) to) none).0
+any-at d (j ∷ to) (suc i) s none is lt =
+    any-at d to i s (or-parts (nat_eq j d) (list_any (λ j'. nat_eq j' d) to) none).1 is (omega (arith, lt))
+
+-- a port isn't that of a system before it
+pub fresh-at : (t : Rows) (to : List ℕ) (i s : ℕ) → IsLawfulSwitch t → AllByRecursion (λ j. j < length t.systems) to
+    → has_repeat to ≡ false → s ≡ get_or to i s → i < length to
+    → list_any (λ q. nat_eq q (port_of t s)) (map (port_of t) (take i to)) ≡ false
+fresh-at t [] i s lawful all once is lt = absurd (omega (arith, lt))
+fresh-at t (d ∷ to) zero s lawful all once is lt = refl
+fresh-at t (d ∷ to) (suc i) s lawful all once is lt =
+    let parts = or-parts (list_any (λ j. nat_eq j d) to) (has_repeat to) once in
+    let within : i < length to = omega (arith, lt) in
+    both (nat_eq (port_of t d) (port_of t s)) (list_any (λ q. nat_eq q (port_of t s)) (map (port_of t) (take i to)))
+    (other-port d s all.0 (member to i s all.1 is within) (any-at d to i s parts.0 is within))
+    (fresh-at t to i s lawful all.1 parts.1 is within)
+  where
+    both : (a b : Bool) → a ≡ false → b ≡ false → (a || b) ≡ false
+    both true b e h = absurd (true≢false e)
+    both false b e h = h
+
+    member : (xs : List ℕ) (j x : ℕ) → AllByRecursion (λ n. n < length t.systems) xs → x ≡ get_or xs j x → j < length xs
+        → x < length t.systems
+    member xs j x all' is' lt' = subst (λ n. n < length t.systems) (sym is')
+        (All-from_recursion (λ n. n < length t.systems) xs all' j x lt')
+
+    other-port : (a b : ℕ) → a < length t.systems → b < length t.systems → nat_eq b a ≡ false
+        → nat_eq (port_of t a) (port_of t b) ≡ false
+    other-port a b wa wb other = by (nat_eq (port_of t a) (port_of t b)) refl
+      where
+        by : (v : Bool) → nat_eq (port_of t a) (port_of t b) ≡ v → nat_eq (port_of t a) (port_of t b) ≡ false
+        by false e = e
+        by true e =
+            let ra = slice_get-get_or t.systems a no-system wa in
+            let rb = slice_get-get_or t.systems b no-system wb in
+            let sa = get_or t.systems a no-system in
+            let sb = get_or t.systems b no-system in
+            let ports : sa.port ≡ sb.port = sym (port-is t a sa ra) ∙ eqb-true (port_of t a) (port_of t b) e ∙ port-is t b sb rb in
+            let same : b ≡ a = same_Some b a (sym ((each_row-found t lawful).by_port b sb rb)
+                ∙ ap (λ p. system_at_port t.systems p) (sym ports) ∙ (each_row-found t lawful).by_port a sa ra) in
+            absurd (true≢false (sym (eq-eqb b a same) ∙ other))
+
+pub apart-once : (from : ℕ) (to : List ℕ) → are_apart from to ≡ true → has_repeat to ≡ false
+unfolding are_apart
+apart-once from to e = by (has_repeat to) (and_parts (not (list_any (λ j. nat_eq j from) to)) (not (has_repeat to)) e).1
+  where
+    by : (v : Bool) → not v ≡ true → v ≡ false
+    by false h = refl
+    by true h = absurd (true≢false (sym h))
+
+-- the port of a link's system isn't that of one before it
+pub fresh-port : (t : Rows) (place : ℕ) (row : LinkRow) (rank s : ℕ) → IsLawfulSwitch t → slice_get t.links place ≡ Some row
+    → s ≡ get_or row.to rank s → rank < length row.to
+    → list_any (λ q. nat_eq q (port_of t s)) (map (port_of t) (take rank row.to)) ≡ false
+fresh-port t place row rank s lawful at is lt =
+    let l = AllByRecursion-slice_get (IsLinkUpTo jitter_from_any (length t.systems)) t.links place row lawful.links.each at in
+    fresh-at t row.to rank s lawful l.to (apart-once row.from row.to l.apart) is lt
+
+-- ---- a frame counts
+
+pub counts-time : (c : Choices) (x : Frame) → counts c x ≡ true → is_before c x.role x.arrival.time ≡ false
+unfolding counts
+counts-time c x e = by (is_before c x.role x.arrival.time)
+    (and_parts (not (is_before c x.role x.arrival.time)) (not (is_behind x.arrival.time c.until))
+    (and_parts (is_in_time c x) (not (is_left_out c x))
+    (and_parts (is_in_time c x && not (is_left_out c x)) (nat_le (length x.arrival.bytes) most_bytes) e).0).0).0
+  where
+    by : (v : Bool) → not v ≡ true → v ≡ false
+    by false h = refl
+    by true h = absurd (true≢false (sym h))
+
+pub came-start : (c : Choices) (a : Arrival) → counts c (frame_with Came a) ≡ true → from_time c.by.start ≤ a.time
+came-start c a e = let h = ltb-false a.time (from_time c.by.start) (counts-time c (frame_with Came a) e) in omega (arith, h)
+
+pub left-start : (c : Choices) (a : Arrival) → counts c (frame_with Left a) ≡ true → from_time c.by.start ≤ a.time + both_slacks c.by
+left-start c a e = let h = ltb-false (a.time + both_slacks c.by) (from_time c.by.start) (counts-time c (frame_with Left a) e) in
+    omega (arith, h)
+
+-- which place is named
+pub place-is : (t : Rows) (bytes : List ℕ) (vl : Option VlId) → vl ≡ link_named_by bytes
+    → option_and_then (λ v. link_of t.links v.0) vl ≡ place_named t bytes
+unfolding place_named
+place-is t bytes vl same = ap (λ o. option_and_then (λ v. link_of t.links v.0) o) same
+
+linked-falls : (k : Key) (fs : List Frame) (o : Option LinkRow) → AreFalling (linked k fs o).strange
+unfolding AreFalling
+linked-falls k fs None = tt
+linked-falls k fs (Some l) = tt
+
+-- ---- all frames
+
+module _ (t : Rows) (c : Choices) (until : ℕ) (ended : Option ℕ) (time : ℕ) (frames : List Frame) (lines : List Due) (kept : Kept)
+    (lawful : IsLawfulSwitch t) (a : Arrival) where
+  given-more : (x : Frame) (k : Key) → counts c x ≡ true → given_of t c (x ∷ frames) k ≡ given_from t k (x ∷ counted c frames) k.link
+  given-more x k e = given-from t c (x ∷ frames) k ∙ ap (λ fs. given_from t k fs k.link) (counted-more c x frames e)
+
+  strange-same : (x : Frame) (k : Key) → ((b : Bool) → left_at k.side k.port x && is_stranger t x.arrival ≡ false)
+      → counts c x ≡ true → (given_of t c (x ∷ frames) k).strange ≡ (given_of t c frames k).strange
+  strange-same x k none e = ap (λ g. g.strange) (given-more x k e) ∙ by k.link ∙ sym (ap (λ g. g.strange) (given-from t c frames k))
+    where
+      by-link : (o : Option LinkRow) → (linked k (x ∷ counted c frames) o).strange ≡ (linked k (counted c frames) o).strange
+      by-link None = refl
+      by-link (Some l) = refl
+
+      by : (o : Option ℕ) → (given_from t k (x ∷ counted c frames) o).strange ≡ (given_from t k (counted c frames) o).strange
+      by None = ap (λ v. map (stranger_due t k) (map (λ y. y.arrival)
+          (cond v (x ∷ filter (λ y. left_at k.side k.port y && is_stranger t y.arrival) (counted c frames))
+          (filter (λ y. left_at k.side k.port y && is_stranger t y.arrival) (counted c frames))))) (none true)
+      by (Some place) = by-link (link_to t place k.port)
+
+  came-no-stranger : (k : Key) (b : Bool) → left_at k.side k.port (frame_with Came a) && is_stranger t a ≡ false
+  unfolding left_at
+  came-no-stranger k b = refl
+
+  left-no-stranger : is_stranger t a ≡ false → (k : Key) (b : Bool)
+      → left_at k.side k.port (frame_with Left a) && is_stranger t a ≡ false
+  left-no-stranger none k b = ap (λ v. left_at k.side k.port (frame_with Left a) && v) none
+      ∙ and-false (left_at k.side k.port (frame_with Left a))
+    where
+      and-false : (v : Bool) → (v && false) ≡ false
+      and-false true = refl
+      and-false false = refl
+
+  pub join-came : (place : ℕ) (l : LinkRow) → counts c (frame_with Came a) ≡ true
+      → place_named t a.bytes ≡ Some place → slice_get t.links place ≡ Some l
+      → ((k : Key) → AreFalling (given_of t c frames k).strange)
+      → AreKept t c until ended time (came_to a.side place (map (port_of t) l.to) a (given_of t c frames)) lines kept
+      → AreKept t c until ended time (given_of t c (frame_with Came a ∷ frames)) lines kept
+  join-came place l e named at falling are =
+      kept-same t c until ended time (came_to a.side place (map (port_of t) l.to) a (given_of t c frames))
+      (given_of t c (frame_with Came a ∷ frames)) lines kept
+      (λ k known. given-more (frame_with Came a) k e ∙ given-came t k (counted c frames) a place l lawful named at known
+      ∙ ap (λ g. if is_side a.side k.side && is_link (Some place) k.link && list_any (λ q. nat_eq q k.port) (map (port_of t) l.to)
+      then given_with (g.came ++ a ∷ []) g.left g.strange else g) (sym (given-from t c frames k)))
+      (λ k. subst AreFalling (sym (strange-same (frame_with Came a) k (came-no-stranger k) e)) (falling k)) are
+
+  pub join-unnamed : counts c (frame_with Came a) ≡ true → place_named t a.bytes ≡ None
+      → AreKept t c until ended time (given_of t c frames) lines kept
+      → AreKept t c until ended time (given_of t c (frame_with Came a ∷ frames)) lines kept
+  join-unnamed e named are =
+      kept-same t c until ended time (given_of t c frames) (given_of t c (frame_with Came a ∷ frames)) lines kept
+      (λ k known. given-more (frame_with Came a) k e ∙ given-unnamed t k (counted c frames) a lawful named known
+      ∙ sym (given-from t c frames k))
+      (λ k. subst AreFalling (sym (strange-same (frame_with Came a) k (came-no-stranger k) e)) (are.falling k)) are
+
+  pub join-left : (place : ℕ) (l : LinkRow) → counts c (frame_with Left a) ≡ true
+      → place_named t a.bytes ≡ Some place → link_to t place a.port ≡ Some l → is_stranger t a ≡ false
+      → ((k : Key) → AreFalling (given_of t c frames k).strange)
+      → AreKept t c until ended time (with_left (key_with a.side a.port (Some place)) (gone_of a) (given_of t c frames)) lines kept
+      → AreKept t c until ended time (given_of t c (frame_with Left a ∷ frames)) lines kept
+  join-left place l e named to none falling are =
+      kept-same t c until ended time (with_left (key_with a.side a.port (Some place)) (gone_of a) (given_of t c frames))
+      (given_of t c (frame_with Left a ∷ frames)) lines kept
+      (λ k known. given-more (frame_with Left a) k e ∙ given-left t k (counted c frames) a place l lawful named to known
+      ∙ ap (λ g. if is_key (key_with a.side a.port (Some place)) k
+      then given_with g.came (g.left ++ gone_of a ∷ []) g.strange else g) (sym (given-from t c frames k)))
+      (λ k. subst AreFalling (sym (strange-same (frame_with Left a) k (left-no-stranger none k) e)) (falling k)) are
+
+  pub join-strange : counts c (frame_with Left a) ≡ true → is_stranger t a ≡ true
+      → AllByRecursion (λ x. x.arrival.time ≤ a.time) (counted c frames)
+      → ((k : Key) → AreFalling (given_of t c frames k).strange)
+      → AreKept t c until ended time (with_strange (key_with a.side a.port None) (stranger_due t (key_with a.side a.port None) a)
+      (given_of t c frames)) lines kept
+      → AreKept t c until ended time (given_of t c (frame_with Left a ∷ frames)) lines kept
+  join-strange e strange all falling are =
+      kept-same t c until ended time (with_strange (key_with a.side a.port None) (stranger_due t (key_with a.side a.port None) a)
+      (given_of t c frames)) (given_of t c (frame_with Left a ∷ frames)) lines kept
+      (λ k known. given-more (frame_with Left a) k e ∙ given-strange t k (counted c frames) a lawful strange known
+      ∙ ap (λ g. if is_key (key_with a.side a.port None) k
+      then given_with g.came g.left (stranger_due t (key_with a.side a.port None) a ∷ g.strange) else g)
+      (sym (given-from t c frames k)))
+      (λ k. subst (λ g. AreFalling g.strange) (sym (given-more (frame_with Left a) k e)) (by k k.link
+      (subst (λ g. AreFalling g.strange) (given-from t c frames k) (falling k))
+      (subst (λ g. AllByRecursion (λ d. d.moment ≤ a.time) g.strange) (given-from t c frames k) (strange-times t c frames a.time all k)))) are
+    where
+      by : (k : Key) (o : Option ℕ) → AreFalling (given_from t k (counted c frames) o).strange
+          → AllByRecursion (λ d. d.moment ≤ a.time) (given_from t k (counted c frames) o).strange
+          → AreFalling (given_from t k (frame_with Left a ∷ counted c frames) o).strange
+      by k None f times = tell (left_at k.side k.port (frame_with Left a) && is_stranger t a)
+        where
+          tell : (v : Bool) → AreFalling (map (stranger_due t k) (map (λ y. y.arrival)
+              (cond v (frame_with Left a ∷ filter (λ y. left_at k.side k.port y && is_stranger t y.arrival) (counted c frames))
+              (filter (λ y. left_at k.side k.port y && is_stranger t y.arrival) (counted c frames)))))
+          tell true = falling-more (stranger_due t k a) (given_from t k (counted c frames) None).strange times f
+          tell false = f
+      by k (Some place) f times = linked-falls k (frame_with Left a ∷ counted c frames) (link_to t place k.port)
+
+-- one of these is a system to which the link goes
+pub any-in : (to : List ℕ) (i s : ℕ) → s ≡ get_or to i s → i < length to → list_any (λ j. nat_eq j s) to ≡ true
+any-in [] i s is lt = absurd (omega (arith, lt))
+any-in (j ∷ to) zero s is lt = ap (λ v. v || list_any (λ q. nat_eq q s) to) (eq-eqb j s (sym is))
+any-in (j ∷ to) (suc i) s is lt = or-true (nat_eq j s) (list_any (λ q. nat_eq q s) to) (any-in to i s is (omega (arith, lt)))
+  where
+    or-true : (a b : Bool) → b ≡ true → (a || b) ≡ true
+    or-true true b e = refl
+    or-true false b e = e
+
+filter-few : {X : Type 0} (p : X → Bool) (xs : List X) → length (filter p xs) ≤ length xs
+filter-few p [] = omega arith
+filter-few p (x ∷ xs) = by (p x) (filter-few p xs)
+  where
+    by : (b : Bool) → length (filter p xs) ≤ length xs → length (cond b (x ∷ filter p xs) (filter p xs)) ≤ length (x ∷ xs)
+    by true h = omega (arith, h)
+    by false h = omega (arith, h)
+
+back-few : {X Y : Type 0} (f : X → Y) (p : X → Bool) (xs : List X) → length (reverse (map f (filter p xs))) ≤ length xs
+back-few f p xs = subst (λ n. n ≤ length xs) (sym (length-reverse (map f (filter p xs)) ∙ length-map (filter p xs) f)) (filter-few p xs)
+
+pub came-few : (t : Rows) (c : Choices) (frames : List Frame) (k : Key) → length (given_of t c frames k).came ≤ length frames
+came-few t c frames k = subst (λ g. length g.came ≤ length frames) (sym (given-from t c frames k)) (by k.link)
+  where
+    by-link : (o : Option LinkRow) → length (linked k (counted c frames) o).came ≤ length frames
+    by-link None = omega arith
+    by-link (Some l) = let a = back-few (λ (x : Frame). x.arrival) (is_arrival_of l.vl k.side) (counted c frames) in
+        let b = filter-few (counts c) frames in omega (arith, a, b)
+
+    by : (o : Option ℕ) → length (given_from t k (counted c frames) o).came ≤ length frames
+    by None = omega arith
+    by (Some place) = by-link (link_to t place k.port)
+
+pub left-few : (t : Rows) (c : Choices) (frames : List Frame) (k : Key) → length (given_of t c frames k).left ≤ length frames
+left-few t c frames k = subst (λ g. length g.left ≤ length frames) (sym (given-from t c frames k)) (by k.link)
+  where
+    by-link : (o : Option LinkRow) → length (linked k (counted c frames) o).left ≤ length frames
+    by-link None = omega arith
+    by-link (Some l) = let a = back-few (λ (x : Frame). gone_of x.arrival)
+        (λ x. left_at k.side k.port x && names l.vl x.arrival.bytes) (counted c frames) in
+        let b = filter-few (counts c) frames in omega (arith, a, b)
+
+    by : (o : Option ℕ) → length (given_from t k (counted c frames) o).left ≤ length frames
+    by None = omega arith
+    by (Some place) = by-link (link_to t place k.port)
+
+pub counted-behind : (c : Choices) (frames : List Frame) (time : ℕ) → AllByRecursion (λ x. x.arrival.time ≤ time) frames
+    → AllByRecursion (λ x. x.arrival.time ≤ time) (counted c frames)
+counted-behind c frames time all = all-filter (λ x. x.arrival.time ≤ time) (counts c) frames all
+
+-- one more port
+pub come-next : (t : Rows) (c : Choices) (until time : ℕ) (side : Side) (place : ℕ) (row : LinkRow) (rank s : ℕ) (x : Arrival)
+    (given : Key → Given) (lines : List Due) (kept : Kept)
+    → IsLawfulSwitch t → slice_get t.links place ≡ Some row → s ≡ get_or row.to rank s → rank < length row.to
+    → ((k : Key) → AreFalling (given k).strange)
+    → AreKept t c until None time (with_came (key_with side (port_of t s) (Some place)) x
+    (came_to side place (map (port_of t) (take rank row.to)) x given)) lines kept
+    → AreKept t c until None time (came_to side place (map (port_of t) (take (rank + 1) row.to)) x given) lines kept
+come-next t c until time side place row rank s x given lines kept lawful at is lt falling are =
+    let more : map (port_of t) (take (rank + 1) row.to) ≡ map (port_of t) (take rank row.to) ++ port_of t s ∷ [] =
+        ap (λ l. map (port_of t) l) (take_more row.to rank s lt)
+        ∙ ap (λ n. map (port_of t) (take rank row.to ++ n ∷ [])) (sym is)
+        ∙ map-append (port_of t) (take rank row.to) (s ∷ []) in
+    kept-same t c until None time (with_came (key_with side (port_of t s) (Some place)) x
+    (came_to side place (map (port_of t) (take rank row.to)) x given))
+    (came_to side place (map (port_of t) (take (rank + 1) row.to)) x given) lines kept
+    (λ k known. ap (λ ps. came_to side place ps x given k) more
+    ∙ came-step side place (port_of t s) (map (port_of t) (take rank row.to)) x given k (fresh-port t place row rank s lawful at is lt))
+    (λ k. subst AreFalling (sym (came-strange side place (map (port_of t) (take (rank + 1) row.to)) x given k)) (falling k)) are
+
+pub come-first : (t : Rows) (c : Choices) (until time : ℕ) (side : Side) (place : ℕ) (row : LinkRow) (x : Arrival)
+    (given : Key → Given) (lines : List Due) (kept : Kept)
+    → AreKept t c until None time given lines kept
+    → AreKept t c until None time (came_to side place (map (port_of t) (take 0 row.to)) x given) lines kept
+come-first t c until time side place row x given lines kept are =
+    kept-same t c until None time given (came_to side place [] x given) lines kept
+    (λ k known. none-yet side place x given k)
+    (λ k. subst AreFalling (sym (came-strange side place [] x given k)) (are.falling k)) are

@@ -1,0 +1,82 @@
+use Rattle.std.proofs.Common.{Bool, true, ◌∷◌, ◌≡◌, ℕ, ◌+◌, ◌<◌, ◌≤◌, List, Option, length, None, Some, get_or, refl, sym, ap, ◌∙◌, subst, arith}
+use Rattle.std.proofs.lemmas.Option.{slice_get-get_or}
+use Rattle.std.specs.Prelude.{is_some}
+use Rattle.std.specs.List.{AllByRecursion}
+use Rattle.afdx_bounds.specs.Tables.{port_of}
+use Rattle.afdx_config.specs.Rows.{LinkRow, Rows}
+use Rattle.afdx_police.specs.Arrival.{Arrival, arrival_with}
+use Rattle.afdx_police.specs.Shape.{fault_of}
+use Rattle.afdx_lists.specs.declared.role.Role.TheVariants.{Left}
+use Rattle.afdx_text.specs.declared.conform_line.ConformLine.TheVariants.{Strange}
+use Rattle.afdx_text.specs.declared.strange.StrangeReason.{StrangeReason}
+use Rattle.afdx_acceptance.specs.Frames.{frame_with, gone_of, is_stranger, link_to, place_named}
+use Rattle.afdx_acceptance.specs.Keeping.{AreKept, given_of, with_left, with_strange}
+use Rattle.afdx_acceptance.specs.Keys.{key_with}
+use Rattle.afdx_acceptance.specs.Lines.{Due, due_at, stranger_by, stranger_reason}
+use Rattle.afdx_acceptance.specs.Slots.{waiting_due}
+use Rattle.afdx_acceptance.specs.Standing.{StreamsStand, streams_with}
+use Rattle.afdx_acceptance.specs.declared.key.Key.{Key}
+use Rattle.afdx_acceptance.proofs.AddedLemmas.{on-ok}
+use Rattle.afdx_acceptance.proofs.GivenLemmas.{blank, falling-more, left-times, strange-times, stranger-no, stranger-none}
+use Rattle.afdx_acceptance.proofs.JoinLemmas.{counted-behind, join-left, join-strange, left-few, left-start, place-is}
+use Rattle.afdx_acceptance.proofs.streams.Streams.left.Goals as goal
+
+pub returns-in-Some-clause-stands : goal.returns-in-Some-clause-stands
+returns-in-Some-clause-stands c t c' until time frames lines vl e le behind few running stand =
+    let r : Rows = c.args.self.now.tables.now in
+    let h = c.args.heading.now in
+    let a : Arrival = arrival_with c.args.n h.time h.side h.port c.args.bytes.items in
+    let link : ℕ = c.in-Some.link in
+    let mine : StreamsStand r c' until frames lines time c.args.self.now =
+        subst (λ (x : Rows). StreamsStand x c' until frames lines time c.args.self.now) (sym stand.tables) stand in
+    let named : place_named r a.bytes ≡ Some link =
+        sym (place-is r a.bytes c.args.vl vl) ∙ sym c.link_named-named.ensures.place ∙ c.in-Some.ensures.link.0 in
+    let l : LinkRow = get_or r.links link blank in
+    let at = slice_get-get_or r.links link blank c.in-Some.ensures.link.1 in
+    let to = c.in-Some.ensures.to l at in
+    let key : Key = key_with h.side (port_of r c.in-Some.system.0) (Some link) in
+    let old : AreKept r c' until None time (given_of r c' frames) lines c.args.self.now.kept =
+        subst (λ o. AreKept r c' until o time (given_of r c' frames) lines c.args.self.now.kept) running mine.kept in
+    let n = left-few r c' frames key in
+    on-ok (λ k. subst (λ (x : Rows). StreamsStand x c' until (frame_with Left a ∷ frames) lines time (streams_with c.args.self.now c.leave_to.new.kept)) stand.tables (record {
+      lawful = mine.lawful;
+      tables = refl;
+      by = mine.by;
+      kept = subst (λ o. AreKept r c' until o time (given_of r c' (frame_with Left a ∷ frames)) lines c.leave_to.new.kept) (sym running)
+          (join-left r c' until None time frames lines c.leave_to.new.kept mine.lawful a link l e named to.0
+          (stranger-no r a link l named to.0) old.falling
+          (subst (λ p. AreKept r c' until None time (with_left (key_with h.side p (Some link)) (gone_of a) (given_of r c' frames)) lines
+          c.leave_to.new.kept) to.1 k));
+    })) c.leave_to.result
+    (c.leave_to.ensures c' until time (given_of r c' frames) lines l at to.2 mine.by le (left-start c' a e)
+    (left-times r c' frames h.time (counted-behind c' frames h.time behind) key) (omega (arith, n, few)) old)
+
+pub returns-clause-stands : goal.returns-clause-stands
+returns-clause-stands c t c' until time frames lines vl e le behind few running stand =
+    let r : Rows = c.args.self.now.tables.now in
+    let h = c.args.heading.now in
+    let a : Arrival = arrival_with c.args.n h.time h.side h.port c.args.bytes.items in
+    let key : Key = key_with h.side h.port None in
+    let mine : StreamsStand r c' until frames lines time c.args.self.now =
+        subst (λ (x : Rows). StreamsStand x c' until frames lines time c.args.self.now) (sym stand.tables) stand in
+    let named : place_named r a.bytes ≡ c.link_named-named.result =
+        sym (place-is r a.bytes c.args.vl vl) ∙ sym c.link_named-named.ensures.place in
+    let strange : is_stranger r a ≡ true = stranger-none r a c.link_named-named.result named c.in_default.ensures.none in
+    let why : c.why_strange-why.result ≡ stranger_reason r a.bytes =
+        c.why_strange-why.ensures ∙ ap (λ b. stranger_by b (fault_of None 0 c.as_slice.result.now)) (c.is_some.ensures ∙ ap is_some (sym named))
+        ∙ ap (λ b. stranger_by (is_some (place_named r a.bytes)) (fault_of None 0 b)) c.as_slice.ensures.value in
+    let old : AreKept r c' until None time (given_of r c' frames) lines c.args.self.now.kept =
+        subst (λ o. AreKept r c' until o time (given_of r c' frames) lines c.args.self.now.kept) running mine.kept in
+    let all = counted-behind c' frames h.time behind in
+    on-ok (λ k. subst (λ (x : Rows). StreamsStand x c' until (frame_with Left a ∷ frames) lines time (streams_with c.args.self.now c.leave_strange.new.kept)) stand.tables (record {
+      lawful = mine.lawful;
+      tables = refl;
+      by = mine.by;
+      kept = subst (λ o. AreKept r c' until o time (given_of r c' (frame_with Left a ∷ frames)) lines c.leave_strange.new.kept) (sym running)
+          (join-strange r c' until None time frames lines c.leave_strange.new.kept mine.lawful a e strange all old.falling
+          (subst (λ w. AreKept r c' until None time (with_strange key (due_at key h.time (Strange c.args.n h.side h.port w)) (given_of r c' frames))
+          lines c.leave_strange.new.kept) why k));
+    })) c.leave_strange.result
+    (c.leave_strange.ensures r c' until time (given_of r c' frames) lines mine.lawful le
+    (falling-more (due_at key h.time (Strange c.args.n h.side h.port c.why_strange-why.result)) (given_of r c' frames key).strange
+    (strange-times r c' frames h.time all key) (old.falling key)) old)

@@ -1,0 +1,13 @@
+use Rattle.std.proofs.Common.{None, refl}
+use Rattle.std.proofs.lemmas.Bool.{lt-ltb}
+use Rattle.afdx_acceptance.specs.Keeping.{is_known}
+use Rattle.afdx_acceptance.specs.Keys.{key_with}
+use Rattle.afdx_acceptance.proofs.GivenLemmas.{falling-more, given-strange}
+use Rattle.afdx_acceptance.proofs.streams.leave_strange.Goals as goal
+
+pub returns : goal.returns
+unfolding is_known
+returns c t c' until time given lines lawful le falling kept =
+    let known = lt-ltb c.args.port 256 c.ranges.port.fits in
+    let made = c.in_ok-strangers_at.ensures t c' until time given lines lawful refl known kept in
+    c.add_stranger.ensures t c' until time given lines lawful refl known le falling made.1 made.0

@@ -1,0 +1,28 @@
+-- What is kept of all streams stands for the frames of two lists, and for the lines that are told.
+use Rattle.std.specs.Prelude.{◌≡◌, ℕ, ◌≤◌, List}
+use Rattle.std.specs.List.{AllByRecursion}
+use Rattle.afdx_config.specs.Lawful.{IsLawfulSwitch}
+use Rattle.afdx_config.specs.Rows.{Rows}
+use Rattle.afdx_conform.specs.LeewayOf.{leeway_of}
+use Rattle.afdx_inputs.specs.Joining.{Frame}
+use Rattle.afdx_acceptance.specs.Choices.{Choices}
+use Rattle.afdx_acceptance.specs.Keeping.{AreKept, given_of}
+use Rattle.afdx_acceptance.specs.Lines.{Due}
+use Rattle.afdx_acceptance.specs.declared.kept.Kept.{Kept}
+use Rattle.afdx_acceptance.specs.declared.streams.Streams.{Streams}
+
+abbrev pub streams_with : Streams → Kept → Streams
+streams_with s kept = record s { kept = kept }
+
+-- none of these frames is of a later time
+abbrev pub IsBehindAll : ℕ → List Frame → Type 0
+IsBehindAll time frames = AllByRecursion (λ x. x.arrival.time ≤ time) frames
+
+-- all that is told of these frames, the newest first, has moments before `time`, until the end is
+-- known
+pub record StreamsStand (t : Rows) (c : Choices) (until : ℕ) (frames : List Frame)
+    (lines : List Due) (time : ℕ) (s : Streams) : Type 0 where
+  pub lawful : IsLawfulSwitch t
+  pub tables : s.tables.now ≡ t
+  pub by : leeway_of s.leeway ≡ c.by
+  pub kept : AreKept t c until s.ended time (given_of t c frames) lines s.kept
