@@ -218,8 +218,8 @@ pub kept-put : (t : Rows) (c : Choices) (until : ℕ) (lawful : IsLawfulSwitch t
 kept-put t c until lawful time given lines old new key slot l is kept none stands no-due agenda slots =
     let known = known-stream t key l is in
     let was = nothing-there (terms_at t c until l key.port) key (given key).came (given key).left (of_key key lines) time
-        (slot_at old.slots.items key) none
-        (to-stream t c until time key l (given key) (of_key key lines) (slot_at old.slots.items key) is (kept.stand key known)) in
+    (slot_at old.slots.items key) none
+    (to-stream t c until time key l (given key) (of_key key lines) (slot_at old.slots.items key) is (kept.stand key known)) in
     let z = terms_at t c until l key.port in
     kept-added t c until lawful time given given lines old new key slot None time known kept
     (from-stream t c until time key l (given key) (of_key key lines) slot is
@@ -300,8 +300,8 @@ pub kept-room : (t : Rows) (c : Choices) (until : ℕ) (lawful : IsLawfulSwitch 
     → AreKept t c until None time given lines new
 kept-room t c until lawful time given lines old new key slot no-link known kept none stands no-due agenda slots =
     let was = nothing-strange key (given key).strange (of_key key lines) (slot_at old.slots.items key) none
-        (to-strangers t c until None time key (given key) (of_key key lines) (slot_at old.slots.items key) no-link
-        (kept.stand key known)) in
+    (to-strangers t c until None time key (given key) (of_key key lines) (slot_at old.slots.items key) no-link
+    (kept.stand key known)) in
     kept-added t c until lawful time given given lines old new key slot None time known kept
     (from-strangers t c until None time key (given key) (of_key key lines) slot no-link
     (subst (λ ls. StrangersStand key (given key).strange ls slot) (sym was.1)

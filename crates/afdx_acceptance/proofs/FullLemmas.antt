@@ -2,7 +2,7 @@
 use Rattle.std.proofs.Common.{◌≡◌, ℕ, ◌+◌, ◌*◌, ◌<◌, ◌≤◌, ◌⊎◌, inl, inr, Bool, true, false, ◌&&◌, List, [], ◌∷◌, ◌++◌, map, length, get_or, refl, sym, ap, ◌∙◌, subst, arith, true≢false}
 use Rattle.std.proofs.lemmas.List.{map-append, reverse-append, reverse-reverse}
 use Rattle.std.proofs.lemmas.Option.{same_Some}
-use Rattle.std.specs.Prelude.{Option, Some, None, IfSome, IfNone, is_some, nat_le, nat_lt, not, reverse}
+use Rattle.std.specs.Prelude.{Err, Ok, OnOk, Result, Option, Some, None, IfSome, IfNone, is_some, nat_le, nat_lt, not, reverse}
 use Rattle.std.specs.List.{AllByRecursion}
 use Rattle.afdx_config.specs.Rows.{LinkRow, Rows}
 use Rattle.afdx_police.specs.Arrival.{Arrival}
@@ -44,12 +44,16 @@ stream-later : (z : Terms) (k : Key) (xs : List Arrival) (ys : List Gone) (lines
 unfolding StreamStands
 stream-later z k xs ys lines time to slot.Nothing le stands = stands
 stream-later z k xs ys lines time to (slot.Strangers s) le stands = stands
-stream-later z k xs ys lines time to (slot.Stream s) le stands = (stands.0, record {
-  over = stands.1.over;
-  before = over-later z time to stands.1.over le stands.1.before;
-  is_after = λ until h. stands.1.is_after until (omega (arith, h, le));
-  judged = λ until h. stands.1.judged until (omega (arith, h, le));
-}, stands.2)
+stream-later z k xs ys lines time to (slot.Stream s) le stands = (
+  stands.0,
+  record {
+    over = stands.1.over;
+    before = over-later z time to stands.1.over le stands.1.before;
+    is_after = λ until h. stands.1.is_after until (omega (arith, h, le));
+    judged = λ until h. stands.1.judged until (omega (arith, h, le));
+  },
+  stands.2,
+)
 
 module _ (t : Rows) (c : Choices) (until : ℕ) (time to : ℕ) (le : time ≤ to) where
   key-later : (ended : Option ℕ) (k : Key) (given : Given) (lines : List Due) (s : Slot) → is_known t k ≡ true
@@ -164,8 +168,12 @@ module _ (k : Rows × Choices) (frames : List Frame) where
         let same : u ≡ until = subst (λ e. MayEnd k.1.until frames e u) ended at in
         let old = stands.all until (subst (λ e. MayEnd k.1.until frames e until) (sym none) may) in
         subst (λ n. StandsIf k.0 k.1 n frames lines to i.streams) (sym same)
-        (record { dues = old.dues; are = old.are; streams = stand-later k.0 k.1 until time to (omega (arith, le-until, le-to)) frames old.dues i.streams
-        (next old.dues old.streams) });
+        (record {
+          dues = old.dues;
+          are = old.are;
+          streams = stand-later k.0 k.1 until time to (omega (arith, le-until, le-to)) frames old.dues i.streams
+              (next old.dues old.streams);
+        });
     by_time = stands.by_time;
     running = λ end no said. let bad : None ≡ Some until = sym no ∙ ended in absurd (cc);
     ends = λ end is. let same : until ≡ end = same_Some until end (sym ended ∙ is) in subst (λ n. IsEnding after k.1.until frames to n) same ending;
@@ -249,13 +257,22 @@ pub stands-next : (k : Rows × Choices) (frames : List Frame) (x : Frame) (j i :
 stands-next k frames x j i lines le next ended over stands = record {
   all = λ until may.
       let old = stands.all until (subst (λ e. MayEnd k.1.until frames e until) ended
-          (may-before k.1.until frames x i.streams.ended until le may)) in
+      (may-before k.1.until frames x i.streams.ended until le may)) in
       record { dues = old.dues; are = old.are; streams = next until old.dues old.streams };
   by_time = (omega arith, behind-later frames x.arrival.time le stands.by_time);
   running = λ end none said. stands.running end (sym ended ∙ none) said;
   ends = λ end is. stands.ends end (sym ended ∙ is);
   over = over ∙ stands.over ∙ ap (λ e. is_some e) (sym ended);
 }
+
+pub next-on : {V E : Type 0} (r : Result V E) (k : Rows × Choices) (frames : List Frame) (x : Frame) (j i : Judging)
+    (lines : List ConformLine) → latest_of frames ≤ x.arrival.time
+    → ((until : ℕ) (dues : List Due) → StreamsStand k.0 k.1 until frames dues x.arrival.time j.streams
+    → OnOk r (StreamsStand k.0 k.1 until (x ∷ frames) dues x.arrival.time i.streams))
+    → i.streams.ended ≡ j.streams.ended → i.is_over ≡ j.is_over
+    → Stands k false x.arrival.time j frames lines → OnOk r (Stands k false x.arrival.time i (x ∷ frames) lines)
+next-on (Ok v) k frames x j i lines le next ended over stands = stands-next k frames x j i lines le next ended over stands
+next-on (Err e) k frames x j i lines le next ended over stands = tt
 
 and-not : (a b c : Bool) → b ≡ true → (a && not b && c) ≡ false
 and-not true true c e = refl
@@ -312,6 +329,6 @@ running-then k frames x j lines in-time stands = by j.streams.ended refl
     by (Some end) e =
         let ends = stands.ends end e in
         let late = not-true (is_behind x.arrival.time k.1.until)
-            (and_parts (not (is_before k.1 x.role x.arrival.time)) (not (is_behind x.arrival.time k.1.until)) in-time).1 in
+        (and_parts (not (is_before k.1 x.role x.arrival.time)) (not (is_behind x.arrival.time k.1.until)) in-time).1 in
         let seen : nat_lt end x.arrival.time ≡ false = ap (λ o. is_behind x.arrival.time o) (sym ends.0) ∙ late in
         absurd (true≢false (sym (lt-ltb end x.arrival.time ends.1) ∙ seen))

@@ -209,7 +209,7 @@ given-came t k fs a place l lawful named at known = by k.link known
         let found = known-link t p k.port h in
         let there = link-to t p k.port found.0 found.1 in
         let n-is : names found.0.vl a.bytes ≡ nat_eq place p = named-is t p found.0 a.bytes lawful there.at
-            ∙ ap (λ o. is_link o (Some p)) named in
+        ∙ ap (λ o. is_link o (Some p)) named in
         subst (λ o. linked k (frame_with Came a ∷ fs) o
         ≡ (if is_side a.side k.side && nat_eq place p && list_any (λ q. nat_eq q k.port) (map (port_of t) l.to)
         then given_with ((linked k fs o).came ++ a ∷ []) (linked k fs o).left (linked k fs o).strange
@@ -247,7 +247,7 @@ given-unnamed t k fs a lawful named known = by k.link known
         let found = known-link t p k.port h in
         let there = link-to t p k.port found.0 found.1 in
         let n-is : names found.0.vl a.bytes ≡ false = named-is t p found.0 a.bytes lawful there.at
-            ∙ ap (λ o. is_link o (Some p)) named in
+        ∙ ap (λ o. is_link o (Some p)) named in
         subst (λ o. linked k (frame_with Came a ∷ fs) o ≡ linked k fs o) (sym found.1)
         (subst (λ n. given_with (reverse (map (λ y. y.arrival)
         (cond (is_side a.side k.side && n) (frame_with Came a ∷ filter (is_arrival_of found.0.vl k.side) fs)
@@ -312,7 +312,7 @@ given-left t k fs a place l lawful named to known = by k.link known
         let found = known-link t p k.port h in
         let there = link-to t p k.port found.0 found.1 in
         let n-is : names found.0.vl a.bytes ≡ nat_eq place p = named-is t p found.0 a.bytes lawful there.at
-            ∙ ap (λ o. is_link o (Some p)) named in
+        ∙ ap (λ o. is_link o (Some p)) named in
         subst (λ o. linked k (frame_with Left a ∷ fs) o
         ≡ (if is_side a.side k.side && nat_eq a.port k.port && nat_eq place p
         then given_with (linked k fs o).came ((linked k fs o).left ++ gone_of a ∷ []) (linked k fs o).strange
@@ -393,7 +393,7 @@ given-strange t k fs a lawful strange known = by k.link refl known
         (λ e. let first = and_parts (is_side a.side k.side && nat_eq a.port k.port) (names found.0.vl a.bytes) e in
         let port : a.port ≡ k.port = eqb-true a.port k.port (and_parts (is_side a.side k.side) (nat_eq a.port k.port) first.0).1 in
         let place : place_named t a.bytes ≡ Some p = same-place (place_named t a.bytes) p
-            (sym (named-is t p found.0 a.bytes lawful there.at) ∙ first.1) in
+        (sym (named-is t p found.0 a.bytes lawful there.at) ∙ first.1) in
         true≢false (sym strange ∙ stranger-no t a p found.0 place (ap (λ q. link_to t p q) port ∙ found.1)))
         (is_side a.side k.side && nat_eq a.port k.port))
 

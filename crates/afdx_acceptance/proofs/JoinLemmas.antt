@@ -137,7 +137,7 @@ fresh-at t (d ∷ to) (suc i) s lawful all once is lt =
             let sb = get_or t.systems b no-system in
             let ports : sa.port ≡ sb.port = sym (port-is t a sa ra) ∙ eqb-true (port_of t a) (port_of t b) e ∙ port-is t b sb rb in
             let same : b ≡ a = same_Some b a (sym ((each_row-found t lawful).by_port b sb rb)
-                ∙ ap (λ p. system_at_port t.systems p) (sym ports) ∙ (each_row-found t lawful).by_port a sa ra) in
+            ∙ ap (λ p. system_at_port t.systems p) (sym ports) ∙ (each_row-found t lawful).by_port a sa ra) in
             absurd (true≢false (sym (eq-eqb b a same) ∙ other))
 
 pub apart-once : (from : ℕ) (to : List ℕ) → are_apart from to ≡ true → has_repeat to ≡ false
@@ -345,9 +345,9 @@ pub come-next : (t : Rows) (c : Choices) (until time : ℕ) (side : Side) (place
     → AreKept t c until None time (came_to side place (map (port_of t) (take (rank + 1) row.to)) x given) lines kept
 come-next t c until time side place row rank s x given lines kept lawful at is lt falling are =
     let more : map (port_of t) (take (rank + 1) row.to) ≡ map (port_of t) (take rank row.to) ++ port_of t s ∷ [] =
-        ap (λ l. map (port_of t) l) (take_more row.to rank s lt)
-        ∙ ap (λ n. map (port_of t) (take rank row.to ++ n ∷ [])) (sym is)
-        ∙ map-append (port_of t) (take rank row.to) (s ∷ []) in
+    ap (λ l. map (port_of t) l) (take_more row.to rank s lt)
+    ∙ ap (λ n. map (port_of t) (take rank row.to ++ n ∷ [])) (sym is)
+    ∙ map-append (port_of t) (take rank row.to) (s ∷ []) in
     kept-same t c until None time (with_came (key_with side (port_of t s) (Some place)) x
     (came_to side place (map (port_of t) (take rank row.to)) x given))
     (came_to side place (map (port_of t) (take (rank + 1) row.to)) x given) lines kept

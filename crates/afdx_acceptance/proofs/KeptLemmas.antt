@@ -93,7 +93,7 @@ module _ (t : Rows) (c : Choices) (until : ℕ) where
       → AreKept t c until None time to lines new
   kept-added lawful time given to lines old new key slot due at known kept stands same newly later le awaits slots falling =
       let within : key_place key < length old.slots.items = subst (λ n. key_place key < n) (sym kept.count)
-          (known-within t key lawful known) in record {
+      (known-within t key lawful known) in record {
         stand = subst (λ (l : List Slot). (k : Key) → is_known t k ≡ true
             → KeyStands t c until None time k (to k) (of_key k lines) (slot_at l k)) (sym slots)
             (at-set t key old.slots.items slot (λ k s. KeyStands t c until None time k (given k) (of_key k lines) s)
@@ -226,12 +226,12 @@ module _ (t : Rows) (c : Choices) (until : ℕ) (ended : Option ℕ) (time : ℕ
       let now : List Due = told_at key entry.moment told lines in
       let known = first-known entry old.agenda rest moved kept.known in
       let within : key_place key < length old.slots.items = subst (λ n. key_place key < n) (sym kept.count)
-          (known-within t key lawful known) in
+      (known-within t key lawful known) in
       let le : last_rank lines ≤ rank_of (awaited entry.moment key) = kept.behind key entry.moment known due in
       let last : last_rank now ≤ rank_of (awaited entry.moment key) =
-          last-told key entry.moment (reverse told) lines le in
+      last-told key entry.moment (reverse told) lines le in
       let keeps : (k : Key) → is_key key k ≡ false → of_key k now ≡ of_key k lines =
-          λ k other. of-other key k entry.moment (reverse told) lines (key-turned key k other) in record {
+      λ k other. of-other key k entry.moment (reverse told) lines (key-turned key k other) in record {
         stand = subst (λ (l : List Slot). (k : Key) → is_known t k ≡ true
             → KeyStands t c until ended time k (given k) (of_key k now) (slot_at l k)) (sym slots)
             (at-set t key old.slots.items slot (λ k s. KeyStands t c until ended time k (given k) (of_key k lines) s)

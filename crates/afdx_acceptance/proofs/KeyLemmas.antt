@@ -152,7 +152,7 @@ known-link t place port e = by (link_to t place port) refl e
     by None is h = absurd (true≢false (sym h))
     by (Some l) is h = (l, is)
 
-link-place : (t : Rows) (place port : ℕ) → IsLawfulSwitch t → is_some (link_to t place port) ≡ true
+pub link-place : (t : Rows) (place port : ℕ) → IsLawfulSwitch t → is_some (link_to t place port) ≡ true
     → (place < length t.links) × (port ≤ last_port)
 link-place t place port lawful e =
     let found = known-link t place port e in

@@ -12,3 +12,4 @@ pub mod StepLemmas
 pub mod GivenLemmas
 pub mod JoinLemmas
 pub mod FullLemmas
+pub mod EndLemmas

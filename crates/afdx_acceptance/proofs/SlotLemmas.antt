@@ -59,7 +59,7 @@ unsure-line z k m arrivals [] lines is at e =
     ap (λ l. map (due_at k m) (reverse (unsure_behind k (newest_tag l) lines))) none
 unsure-line z k m arrivals (x ∷ back) lines is at e =
     let whole : arrivals ≡ reverse back ++ x ∷ [] =
-        sym (reverse-reverse arrivals) ∙ ap (λ l. reverse l) is ∙ reverse-append (x ∷ []) back in
+    sym (reverse-reverse arrivals) ∙ ap (λ l. reverse l) is ∙ reverse-append (x ∷ []) back in
     ap (λ t. map (due_at k m) (reverse (unsure_behind k t lines)))
     (ap (λ l. newest_tag l) whole ∙ newest-last (reverse back) x)
     ∙ ap (λ l. map (due_at k m) l) (reverse-append lines (Unsure x.arrival.tag k.side k.port ∷ []))
@@ -90,13 +90,13 @@ pub told-found : (z : Terms) (k : Key) (m : ℕ) (found : List Finding) (j after
 unfolding judged_dues
 told-found z k m found j after due unsure lines all f u l a =
     let sure : judged_dues z k j ≡ map (found_due z k) j.findings =
-        ap (λ b. (if b then unsure_dues z k (reverse j.arrivals) else []) ++ map (found_due z k) j.findings) f.sure in
+    ap (λ b. (if b then unsure_dues z k (reverse j.arrivals) else []) ++ map (found_due z k) j.findings) f.sure in
     let more : map (found_due z k) after.findings
-        ≡ map (due_at k m) (reverse lines) ++ map (found_due z k) j.findings =
-        ap (λ l'. map (found_due z k) l') f.are_found.findings
-        ∙ map-append (found_due z k) (map (found_at (time_of z m)) (reverse found)) j.findings
-        ∙ ap (λ l'. l' ++ map (found_due z k) j.findings) (found-dues z k m found f.is_moment
-        ∙ ap (λ l'. map (due_at k m) (reverse l')) (sym l)) in
+    ≡ map (due_at k m) (reverse lines) ++ map (found_due z k) j.findings =
+    ap (λ l'. map (found_due z k) l') f.are_found.findings
+    ∙ map-append (found_due z k) (map (found_at (time_of z m)) (reverse found)) j.findings
+    ∙ ap (λ l'. l' ++ map (found_due z k) j.findings) (found-dues z k m found f.is_moment
+    ∙ ap (λ l'. map (due_at k m) (reverse l')) (sym l)) in
     told-by z k m after.is_unsure after.arrivals lines (map (found_due z k) after.findings)
     (map (found_due z k) j.findings) more f.unsure f.is_moment
     ∙ ap (λ l'. map (due_at k m) (reverse l') ++ map (found_due z k) j.findings)
@@ -125,13 +125,13 @@ pub later-stranger : (k : Key) (first : Stranger) (more : List Stranger) (all li
 later-stranger k first [] all lines moment f is at = tt
 later-stranger k first (next ∷ more) all lines moment f is at =
     let moved : map (waiting_due k) (reverse (first ∷ next ∷ more)) ++ lines
-        ≡ map (waiting_due k) (reverse more) ++ waiting_due k next ∷ waiting_due k first ∷ lines =
-        ap (λ l. map (waiting_due k) l ++ lines) (reverse-append (first ∷ next ∷ []) more)
-        ∙ ap (λ l. l ++ lines) (map-append (waiting_due k) (reverse more) (next ∷ first ∷ []))
-        ∙ append_assoc (map (waiting_due k) (reverse more)) (waiting_due k next ∷ waiting_due k first ∷ []) lines in
+    ≡ map (waiting_due k) (reverse more) ++ waiting_due k next ∷ waiting_due k first ∷ lines =
+    ap (λ l. map (waiting_due k) l ++ lines) (reverse-append (first ∷ next ∷ []) more)
+    ∙ ap (λ l. l ++ lines) (map-append (waiting_due k) (reverse more) (next ∷ first ∷ []))
+    ∙ append_assoc (map (waiting_due k) (reverse more)) (waiting_due k next ∷ waiting_due k first ∷ []) lines in
     let order : first.time ≤ next.time =
-        falling-behind (map (waiting_due k) (reverse more)) (waiting_due k next) (waiting_due k first) lines
-        (subst AreFalling (is ∙ moved) f) in
+    falling-behind (map (waiting_due k) (reverse more)) (waiting_due k next) (waiting_due k first) lines
+    (subst AreFalling (is ∙ moved) f) in
     let same : first.time ≡ moment = cc in
     subst (λ m. m ≤ next.time) same order
 

@@ -100,9 +100,11 @@ module _ (t : Rows) (c : Choices) (until : ℕ) (lawful : IsLawfulSwitch t) (tim
     | inl none ↦ from-strangers t c until (Some until) time k (given k) (of_key k lines) (slot_at new.slots.items k) none
         ((ends k known).strangers k (given k).strange (of_key k lines)
         (to-strangers t c until None time k (given k) (of_key k lines) (slot_at old.slots.items k) none (kept.stand k known)))
-    | inr of ↦ from-ended t c until time k of.0 (given k) (of_key k lines) (slot_at new.slots.items k) until of.1
-        (refl, (ends k known).streams (terms_at t c until of.0 k.port) k (given k).came (given k).left (of_key k lines) time refl le
-        (to-stream t c until time k of.0 (given k) (of_key k lines) (slot_at old.slots.items k) of.1 (kept.stand k known)))
+    | inr of ↦ from-ended t c until time k of.0 (given k) (of_key k lines) (slot_at new.slots.items k) until of.1 (
+      refl,
+      (ends k known).streams (terms_at t c until of.0 k.port) k (given k).came (given k).left (of_key k lines) time refl le
+          (to-stream t c until time k of.0 (given k) (of_key k lines) (slot_at old.slots.items k) of.1 (kept.stand k known)),
+    )
   ]
 
   ended-due : (k : Key) (m : ℕ) → is_known t k ≡ true → slot_due (slot_at new.slots.items k) ≡ Some m

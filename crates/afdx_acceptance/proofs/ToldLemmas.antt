@@ -16,58 +16,51 @@ use Rattle.afdx_acceptance.specs.Choices.{Choices, is_in_time, is_left_out, is_m
 use Rattle.afdx_acceptance.specs.ChoicesOf.{choices_of}
 use Rattle.afdx_acceptance.specs.Judging.{IsSameButTaken}
 use Rattle.afdx_acceptance.specs.Telling.{findings_in, lines_text, most_counted, one_if}
-use Rattle.afdx_acceptance.specs.Told.{BeginsLines, HasTold}
+use Rattle.afdx_acceptance.specs.Told.{BeginsLines, HasTold, TellsOf}
 use Rattle.afdx_acceptance.specs.declared.judging.Judging.{Judging}
-
--- nothing is told
-pub told-none : (judging : Judging) (output : Option (List ℕ)) → judging.findings ≡ 0 → judging.left_out ≡ 0
-    → judging.latest ≡ 0 → HasTold (choices_of judging.choices.now) judging output output []
-told-none judging output none some at = (
-  [],
-  record {
-    choices_are = refl;
-    written = subst (λ (l : List ℕ). Appends output output l) (sym no-text) (Appends-nil output);
-    findings_are = none ∙ subst (λ (n : ℕ). 0 ≡ min n most_counted) (sym no-findings) refl;
-    left_out_are = some;
-    latest_is = at;
-  },
-)
 
 module _ (c : Choices) (start : Option (List ℕ)) (frames : List Frame) (j k : Judging) where
   -- what else changes doesn't matter
+  pub tells-same : (output : Option (List ℕ)) (lines : List ConformLine) → k.choices ≡ j.choices
+      → k.findings ≡ j.findings → k.left_out ≡ j.left_out → k.latest ≡ j.latest
+      → TellsOf c frames j start output lines → TellsOf c frames k start output lines
+  tells-same output lines choices findings left_out latest h = record {
+    choices_are = subst (λ b. choices_of b.now ≡ c) (sym choices) h.choices_are;
+    written = h.written;
+    findings_are = findings ∙ h.findings_are;
+    left_out_are = left_out ∙ h.left_out_are;
+    latest_is = latest ∙ h.latest_is;
+  }
+
   pub told-same : (output : Option (List ℕ)) → k.choices ≡ j.choices → k.findings ≡ j.findings
       → k.left_out ≡ j.left_out → k.latest ≡ j.latest → HasTold c j start output frames
       → HasTold c k start output frames
-  told-same output choices findings left_out latest h = (
-    h.0,
-    record {
-      choices_are = subst (λ b. choices_of b.now ≡ c) (sym choices) h.1.choices_are;
-      written = h.1.written;
-      findings_are = findings ∙ h.1.findings_are;
-      left_out_are = left_out ∙ h.1.left_out_are;
-      latest_is = latest ∙ h.1.latest_is;
-    },
-  )
+  told-same output choices findings left_out latest h =
+      (h.0, tells-same output h.0 choices findings left_out latest h.1)
 
   -- more lines are told
+  pub tells-more : (mid new : Option (List ℕ)) (lines more : List ConformLine) → k.choices ≡ j.choices
+      → k.left_out ≡ j.left_out → k.latest ≡ j.latest
+      → k.findings ≡ min (j.findings + findings_in more) most_counted → Appends mid new (lines_text more)
+      → TellsOf c frames j start mid lines → TellsOf c frames k start new (lines ++ more)
+  tells-more mid new lines more choices left_out latest counted told h = record {
+    choices_are = subst (λ b. choices_of b.now ≡ c) (sym choices) h.choices_are;
+    written = subst (λ (l : List ℕ). Appends start new l) (sym (text-append lines more))
+        (Appends-trans start mid new (lines_text lines) (lines_text more) h.written told);
+    findings_are =
+        let all = findings-append lines more in
+        let before = h.findings_are in
+        omega (arith, all, before, counted);
+    left_out_are = left_out ∙ h.left_out_are;
+    latest_is = latest ∙ h.latest_is;
+  }
+
   pub told-more : (mid new : Option (List ℕ)) (more : List ConformLine) → k.choices ≡ j.choices
       → k.left_out ≡ j.left_out → k.latest ≡ j.latest
       → k.findings ≡ min (j.findings + findings_in more) most_counted → Appends mid new (lines_text more)
       → HasTold c j start mid frames → HasTold c k start new frames
-  told-more mid new more choices left_out latest counted told h = (
-    h.0 ++ more,
-    record {
-      choices_are = subst (λ b. choices_of b.now ≡ c) (sym choices) h.1.choices_are;
-      written = subst (λ (l : List ℕ). Appends start new l) (sym (text-append h.0 more))
-          (Appends-trans start mid new (lines_text h.0) (lines_text more) h.1.written told);
-      findings_are =
-          let all = findings-append h.0 more in
-          let before = h.1.findings_are in
-          omega (arith, all, before, counted);
-      left_out_are = left_out ∙ h.1.left_out_are;
-      latest_is = latest ∙ h.1.latest_is;
-    },
-  )
+  told-more mid new more choices left_out latest counted told h =
+      (h.0 ++ more, tells-more mid new h.0 more choices left_out latest counted told h.1)
 
 -- a beginning is
 pub told-begun : (c : Choices) (start output : Option (List ℕ)) (frames : List Frame) (j : Judging)
@@ -124,21 +117,30 @@ unfolding is_missed
 missed-in c x is e f = rw e f
 
 -- one more frame is taken: `l` is what then works, at its time
-pub told-next : (c : Choices) (start : Option (List ℕ)) (frames : List Frame) (j k l : Judging)
-    (output : Option (List ℕ)) (x : Frame) → IsSameButTaken j k → l.choices ≡ k.choices → l.findings ≡ k.findings
-    → l.left_out ≡ k.left_out → l.latest ≡ x.arrival.time
+pub tells-next : (c : Choices) (start : Option (List ℕ)) (frames : List Frame) (j k l : Judging)
+    (output : Option (List ℕ)) (lines : List ConformLine) (x : Frame) → IsSameButTaken j k
+    → l.choices ≡ k.choices → l.findings ≡ k.findings → l.left_out ≡ k.left_out → l.latest ≡ x.arrival.time
     → (j.left_out ≡ min (left_out_of (choices_of j.choices.now) frames) most_counted
     → k.left_out ≡ min (left_out_of (choices_of j.choices.now) (x ∷ frames)) most_counted)
-    → HasTold c j start output frames → HasTold c l start output (x ∷ frames)
-told-next c start frames j k l output x others choices findings left_out latest counted h =
+    → TellsOf c frames j start output lines → TellsOf c (x ∷ frames) l start output lines
+tells-next c start frames j k l output lines x others choices findings left_out latest counted h =
     let by-c = subst (λ (o : Choices). j.left_out ≡ min (left_out_of o frames) most_counted
-    → k.left_out ≡ min (left_out_of o (x ∷ frames)) most_counted) h.1.choices_are counted in (
-      h.0,
-      record {
-        choices_are = subst (λ b. choices_of b.now ≡ c) (sym (choices ∙ others.choices)) h.1.choices_are;
-        written = h.1.written;
-        findings_are = findings ∙ others.findings ∙ h.1.findings_are;
-        left_out_are = left_out ∙ by-c h.1.left_out_are;
-        latest_is = latest;
-      },
-    )
+    → k.left_out ≡ min (left_out_of o (x ∷ frames)) most_counted) h.choices_are counted in
+    record {
+      choices_are = subst (λ b. choices_of b.now ≡ c) (sym (choices ∙ others.choices)) h.choices_are;
+      written = h.written;
+      findings_are = findings ∙ others.findings ∙ h.findings_are;
+      left_out_are = left_out ∙ by-c h.left_out_are;
+      latest_is = latest;
+    }
+
+-- nothing is told
+pub tells-none : (judging : Judging) (output : Option (List ℕ)) → judging.findings ≡ 0 → judging.left_out ≡ 0
+    → judging.latest ≡ 0 → TellsOf (choices_of judging.choices.now) [] judging output output []
+tells-none judging output none some at = record {
+  choices_are = refl;
+  written = subst (λ (l : List ℕ). Appends output output l) (sym no-text) (Appends-nil output);
+  findings_are = none ∙ subst (λ (n : ℕ). 0 ≡ min n most_counted) (sym no-findings) refl;
+  left_out_are = some;
+  latest_is = at;
+}

@@ -59,15 +59,15 @@ pub record IsRun {R : Type 0} (rest : ByRole (Watched R)) (output_failed : Bool)
 -- what is judged, by a configuration and a name
 module _ {E : Type 0} (error_bytes : E → Option (List ℕ)) (config : List ℕ)
     (name : Option (List ℕ)) (old new : Watched E) (status : ℕ) where
-  -- a run by the tables of the switch ended the command, of whose answer this holds
-  pub record IsJudged (ran : Result Totals RunFault → Type 0) : Type 0 where
+  -- a run by the tables of the switch ended the command, of which this holds
+  pub record IsJudged (ran : Rows → Result Totals RunFault → Type 0) : Type 0 where
     pub described : Described
     pub read : IsRead config described
     pub tables : Rows
     pub judged : tables_judged described name ≡ Some tables
     pub answer : Result Totals RunFault
     pub ends : EndsAs error_bytes old new status answer
-    pub runs : ran answer
+    pub runs : ran tables answer
 
   -- the configuration describes no such switch
   pub record HasNoSwitch : Type 0 where

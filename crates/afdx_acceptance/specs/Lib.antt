@@ -14,3 +14,4 @@ pub mod Keeping
 pub mod Standing
 pub mod Told
 pub mod Ran
+pub mod Written

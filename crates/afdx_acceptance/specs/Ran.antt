@@ -2,6 +2,7 @@
 -- the newest.
 use Rattle.std.specs.Prelude.{ℕ, ◌≡◌, List, ◌++◌, Option, None, Result, Ok, Err, min}
 use Rattle.std.specs.Io.KnownBytes.{Appends}
+use Rattle.afdx_config.specs.Rows.{Rows}
 use Rattle.afdx_engine.specs.Causes.{cause_of}
 use Rattle.afdx_inputs.specs.Joining.{Coming, Frame, frames_of}
 use Rattle.afdx_inputs.specs.TwoListsRun.{AreListed, HoldsUpTo, TwoListsStop}
@@ -10,9 +11,10 @@ use Rattle.afdx_lists.specs.declared.role.ByRole.{ByRole}
 use Rattle.afdx_lists.specs.declared.watched.Watched.{Watched}
 use Rattle.afdx_text.specs.ConformLines.{conform_text}
 use Rattle.afdx_text.specs.declared.conform_line.ConformLine.{ConformLine}
-use Rattle.afdx_acceptance.specs.Choices.{Choices, left_out_of}
+use Rattle.afdx_acceptance.specs.Choices.{Choices, left_out_of, until_or}
+use Rattle.afdx_acceptance.specs.Lines.{AreLines, Due}
 use Rattle.afdx_acceptance.specs.Telling.{findings_in, lines_text, most_counted}
-use Rattle.afdx_acceptance.specs.Told.{BeginsLines}
+use Rattle.afdx_acceptance.specs.Told.{BeginsLines, lines_of}
 use Rattle.afdx_acceptance.specs.Totals.{last_line}
 use Rattle.afdx_acceptance.specs.declared.totals.Totals.{Totals}
 
@@ -20,18 +22,19 @@ use Rattle.afdx_acceptance.specs.declared.totals.Totals.{Totals}
 abbrev pub WritesLines : Option (List ℕ) → Option (List ℕ) → Type 0
 WritesLines old new = (lines : List ConformLine) × Appends old new (lines_text lines)
 
--- some lines are written and then the last one, that of the counts: so many of the lines are
--- findings, so many of the frames are left out, and each stream is judged
-pub record WritesAll (c : Choices) (frames : List Frame) (old new : Option (List ℕ))
+-- all lines of these frames are written and then the last one, that of the counts: so many of the
+-- lines are findings, so many of the frames are left out, and each stream is judged
+pub record WritesAll (k : Rows × Choices) (frames : List Frame) (old new : Option (List ℕ))
     (totals : Totals) : Type 0 where
-  pub lines : List ConformLine
-  pub written : Appends old new (lines_text lines ++ conform_text (last_line totals))
-  pub findings_are : totals.findings ≡ min (findings_in lines) most_counted
-  pub left_out_are : totals.left_out ≡ min (left_out_of c frames) most_counted
+  pub dues : List Due
+  pub are_lines : AreLines k.0 k.1 (until_or k.1.until frames) frames dues
+  pub written : Appends old new (lines_text (lines_of dues) ++ conform_text (last_line totals))
+  pub findings_are : totals.findings ≡ min (findings_in (lines_of dues)) most_counted
+  pub left_out_are : totals.left_out ≡ min (left_out_of k.1 frames) most_counted
   pub unseen_are : totals.unseen ≡ 0
 
 -- the lists of these bytes; their inputs then are these, and the output held `old` and holds `new`
-module _ {R : Type 0} (remaining : R → Option (List ℕ)) (c : Choices)
+module _ {R : Type 0} (remaining : R → Option (List ℕ)) (k : Rows × Choices)
     (bytes_came bytes_left : List ℕ) (rest : ByRole (Watched R)) (old new : Option (List ℕ)) where
   -- all frames of both were taken, and all lines are written; or it stops with a fault, without a
   -- last line
@@ -39,7 +42,7 @@ module _ {R : Type 0} (remaining : R → Option (List ℕ)) (c : Choices)
   ConformAnswers (Ok totals) =
       (came : Coming) × (left : Coming)
       × AreListed remaining bytes_came bytes_left rest came left
-      × HoldsUpTo came left None (λ items. WritesAll c (frames_of items) old new totals)
+      × HoldsUpTo came left None (λ items. WritesAll k (frames_of items) old new totals)
   ConformAnswers (Err fault) =
       TwoListsStop remaining bytes_came bytes_left rest (λ items. WritesLines old new)
       (λ items. WritesLines old new) (λ items. BeginsLines old new) fault (cause_of fault)

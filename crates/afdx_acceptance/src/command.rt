@@ -93,9 +93,9 @@ pub fn conform<R: Read, O: Sink, E: Write>(
     // read, or has no such switch: then nothing is read and nothing is written.
     ensures judges { IsJudged E.contents config.now
         (option_map (λ name. name.now) switch.entry) errors.old errors.new result
-        (λ answer. IsRun inputs.new (O.failed output.new) answer
+        (λ t answer. IsRun inputs.new (O.failed output.new) answer
         × IfBothGiven R.remaining inputs.old (λ came left.
-        ConformAnswers R.remaining (choices_of choices.now) came left inputs.new
+        ConformAnswers R.remaining (t, choices_of choices.now) came left inputs.new
         (O.written output.old) (O.written output.new) answer))
         ⊎ (IsUnjudged E.contents config.now
         (option_map (λ name. name.now) switch.entry) errors.old errors.new result

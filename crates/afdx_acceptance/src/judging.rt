@@ -8,15 +8,18 @@ ghost use Rattle.afdx_acceptance.specs.Choices.{Choices as Chosen, latest_of, le
 ghost use Rattle.afdx_acceptance.specs.ChoicesOf.{choices_of};
 ghost use Rattle.afdx_acceptance.specs.Judging.{IsSameButFindings, IsSameButTaken};
 ghost use Rattle.afdx_acceptance.specs.Telling as spec;
-ghost use Rattle.afdx_acceptance.specs.Told.{BeginsLines, HasTold, IsEndFor, IsEnding, Stands, TellsAll};
+ghost use Rattle.afdx_acceptance.specs.Told.{BeginsLines, HasTold, IsEndFor, IsEnding, Stands};
+ghost use Rattle.afdx_acceptance.specs.Told.{TellsAll, TellsToEnd};
+ghost use Rattle.afdx_acceptance.specs.Written.{IsWritten};
 ghost use Rattle.afdx_acceptance.specs.Keeping.{IsNothingDue};
 ghost use Rattle.afdx_config.specs.Rows.{Rows};
 ghost use Rattle.afdx_conform.specs.Ranges.{most_held};
 ghost use Rattle.afdx_text.specs.declared.conform_line.ConformLine.{ConformLine as Line};
-ghost use Rattle.afdx_engine.specs.Engine.{item_of};
+ghost use Rattle.afdx_engine.specs.Engine.{Item, item_of};
 ghost use Rattle.afdx_frame.specs.Seals.{IsSealedAs};
 ghost use Rattle.afdx_frame.specs.Times.{latest_listed};
-ghost use Rattle.afdx_inputs.specs.Joining.{Frame, frame_of};
+ghost use Rattle.afdx_inputs.specs.Joining.{Frame, frame_of, frames_of};
+ghost use Rattle.afdx_inputs.specs.declared.seen.Seen.{Seen as Passed};
 ghost use Rattle.afdx_lists.specs.Calls.{AppendsFront, is_failed_write};
 ghost use Rattle.afdx_text.specs.Sinks.{IsOfOutput};
 
@@ -75,9 +78,9 @@ impl<'a> Judging<'a> {
 
     /// What it counted.
     pub(crate) fn totals(&self) -> Totals
-        ensures findings { result.findings ≡ self.now.findings }
-        ensures left_out { result.left_out ≡ self.now.left_out }
-        ensures unseen { result.unseen ≡ 0 }
+        ensures written { (k : Rows × Chosen) (start end : Option (List ℕ))
+            (past : List (Item Passed)) → TellsToEnd k self.now start end past →
+            IsWritten k (frames_of past) start end result }
     {
         let mut totals = Totals::new(self.findings, self.left_out);
         self.streams.count(&mut totals);

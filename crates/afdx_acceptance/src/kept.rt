@@ -24,12 +24,10 @@ ghost use Rattle.afdx_acceptance.specs.Waiting.{left_in, slot_due};
 use crate::agenda::{Agenda, Entry};
 use crate::key::Key;
 use crate::slot::{Slot, add_arrival, add_frame, add_stranger, end_at, step};
-use afdx_text::ConformLine;
 use crate::strangers::{Stranger, Strangers};
-use afdx_conform::Stream;
-
 use crate::totals::Totals;
-use afdx_conform::{Arrived, Frame};
+use afdx_conform::{Arrived, Frame, Stream};
+use afdx_text::ConformLine;
 use std::alloc::{AllocError, Global};
 
 /// Lines that are due at one moment, in ns, and whose they are.

@@ -13,8 +13,7 @@ ghost use Rattle.afdx_acceptance.specs.Choices.{Choices};
 ghost use Rattle.afdx_acceptance.specs.Frames.{link_to, terms_at};
 
 use afdx_config::{SystemId, Tables};
-use afdx_conform::Leeway;
-use afdx_conform::Stream;
+use afdx_conform::{Leeway, Stream};
 use afdx_frame::VlId;
 use afdx_police::LinkRule;
 use std::alloc::Global;

@@ -49,7 +49,7 @@ pub fn run_conform<R: Read, O: Sink>(
 
     // Where the bytes of both are known: what is answered and written for the lists that they are.
     ensures answer { IfBothGiven R.remaining inputs.old (λ came left.
-        ConformAnswers R.remaining (choices_of choices.now) came left inputs.new
+        ConformAnswers R.remaining (tables.now, choices_of choices.now) came left inputs.new
         (O.written output.old) (O.written output.new) result) }
 {
     let mut judging = Judging::new(alloc, tables, choices)?;

@@ -18,8 +18,7 @@ ghost use Rattle.afdx_acceptance.specs.Slots.{StreamStands, told_at, unsure_behi
 
 use crate::key::Key;
 use crate::strangers::{Stranger, Strangers};
-use afdx_conform::{Arrived, Finding, Frame, Strangeness};
-use afdx_conform::Stream;
+use afdx_conform::{Arrived, Finding, Frame, Strangeness, Stream};
 use afdx_text::{ConformLine, StrangeReason};
 use std::alloc::{AllocError, Global};
 

@@ -27,8 +27,6 @@ pub struct Totals {
 impl Totals {
     ghost use Rattle.afdx_acceptance.specs.Slots.{IsCounted};
 
-    ghost use Rattle.afdx_acceptance.specs.Slots.{IsCounted};
-
     /// So many findings and lines that were left out, and no streams.
     pub(crate) fn new(findings: u64, left_out: u64) -> Totals
         ensures findings { result.findings ≡ findings }

@@ -7,6 +7,8 @@ use Rattle.afdx_text.specs.ConformLines.{conform_text}
 use Rattle.afdx_text.specs.declared.conform_line.ConformLine.{ConformLine}
 use Rattle.afdx_acceptance.proofs.RanLemmas.{answers-cut, answers-err, answers-ok, both-given}
 use Rattle.afdx_acceptance.proofs.TellingLemmas.{no-text}
+use Rattle.afdx_config.specs.Rows.{Rows}
+use Rattle.afdx_acceptance.specs.Choices.{Choices}
 use Rattle.afdx_acceptance.specs.ChoicesOf.{choices_of}
 use Rattle.afdx_acceptance.specs.Ran.{WritesLines}
 use Rattle.afdx_acceptance.specs.Told.{BeginsLines}
@@ -24,13 +26,16 @@ returns-in_err-judging-clause-answer g c =
     rw e stop
 
 pub run_two_lists-requires-clause-told : goal.run_two_lists-requires-clause-told
-run_two_lists-requires-clause-told g c =
-    (choices_of c.args.choices.now, c.in_ok-judging.ensures (g.O.Sink.written c.args.output.now), λ item. tt)
+run_two_lists-requires-clause-told g c = (
+  (c.args.tables.now, choices_of c.args.choices.now),
+  c.in_ok-judging.ensures (g.O.Sink.written c.args.output.now),
+  λ item. tt,
+)
 
 pub returns-in_err-run_two_lists-clause-answer : goal.returns-in_err-run_two_lists-clause-answer
 returns-in_err-run_two_lists-clause-answer g c =
     let old = g.O.Sink.written c.args.output.now in
-    let k = choices_of c.args.choices.now in
+    let k : Rows × Choices = (c.args.tables.now, choices_of c.args.choices.now) in
     let e : c.from_residual-in_err-run_two_lists.result ≡ Err c.in_err-run_two_lists.field-0.0 = search rules in
     rw e (both-given _ _ _ _ (λ came left h. answers-err g.R.Read.remaining k came left c.run_two_lists.new.inputs
     c.run_two_lists.new.machine old (g.O.Sink.written c.run_two_lists.new.output) c.in_err-run_two_lists.field-0.0 h)
@@ -39,7 +44,7 @@ returns-in_err-run_two_lists-clause-answer g c =
 pub returns-in_err-put-clause-answer : goal.returns-in_err-put-clause-answer
 returns-in_err-put-clause-answer g c =
     let old = g.O.Sink.written c.args.output.now in
-    let k = choices_of c.args.choices.now in
+    let k : Rows × Choices = (c.args.tables.now, choices_of c.args.choices.now) in
     let e : c.from_residual-in_err-put.result ≡ Err c.in_err-put.field-0.0 = search rules in
     rw e (both-given _ _ _ _ (λ came left h. answers-cut g.R.Read.remaining k came left c.run_two_lists.new.inputs
     c.run_two_lists.new.machine old (g.O.Sink.written c.run_two_lists.new.output) (g.O.Sink.written c.put.new.self)
@@ -49,11 +54,10 @@ returns-in_err-put-clause-answer g c =
 pub returns-clause-answer : goal.returns-clause-answer
 returns-clause-answer g c =
     let old = g.O.Sink.written c.args.output.now in
-    let k = choices_of c.args.choices.now in
+    let k : Rows × Choices = (c.args.tables.now, choices_of c.args.choices.now) in
     both-given _ _ _ _ (λ came left h. answers-ok g.R.Read.remaining k came left c.run_two_lists.new.inputs
     c.run_two_lists.new.machine old (g.O.Sink.written c.run_two_lists.new.output) (g.O.Sink.written c.put.new.self)
-    _ c.totals-totals.result c.totals-totals.ensures.findings c.totals-totals.ensures.left_out
-    c.totals-totals.ensures.unseen
+    _ c.totals-totals.result (c.totals-totals.ensures.written k old (g.O.Sink.written c.run_two_lists.new.output))
     (subst (λ (l : ConformLine). Appends (g.O.Sink.written c.run_two_lists.new.output) (g.O.Sink.written c.put.new.self)
     (conform_text l)) c.line.ensures c.in_ok-put.ensures.whole) h)
     (c.in_ok-run_two_lists.ensures.answer k (c.in_ok-judging.ensures old) (λ item. tt))

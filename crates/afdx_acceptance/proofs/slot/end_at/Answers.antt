@@ -11,9 +11,12 @@ pub returns-in-Stream : goal.returns-in-Stream
 unfolding StreamStands StreamEnds StrangersStand slot_due
 returns-in-Stream c = record {
   streams = λ z k xs ys lines time is le stands.
-      let here = subst (λ (s : Slot). StreamStands z k xs ys lines time s) c.in-Stream.is stands in
-      (here.0, c.end.ensures.ends z xs ys here.0 time is le
-      (subst (λ (s : Stream). StandsFor z xs ys here.0 time s) (sym c.deref_mut.ensures.value) here.1), here.2);
+      let here = subst (λ (s : Slot). StreamStands z k xs ys lines time s) c.in-Stream.is stands in (
+        here.0,
+        c.end.ensures.ends z xs ys here.0 time is le
+            (subst (λ (s : Stream). StandsFor z xs ys here.0 time s) (sym c.deref_mut.ensures.value) here.1),
+        here.2,
+      );
   strangers = λ k all lines stands. absurd (subst (λ (s : Slot). StrangersStand k all lines s) c.in-Stream.is stands);
   due = λ z k xs ys lines time is le all stands.
       let here = subst (λ (s : Slot). StreamStands z k xs ys lines time s) c.in-Stream.is stands in

@@ -25,7 +25,7 @@ returns c c' until time given lines l at to by le start all few kept =
     let is : IsStreamOf t key l = goes-there t c.args.link l c.args.system.0 (get_or t.systems c.args.system.0 no-system) lawful at here to in
     let same : key ≡ c.in_ok-key.key = sym c.in_ok-key.ensures.key in
     let arrived : arrival_of c.new-arrived.result ≡ arrival_with c.args.n h.time h.side h.port c.args.bytes.now =
-        c.new-arrived.ensures.given ∙ ap (λ b. arrival_with c.args.n h.time h.side h.port b) c.in_ok-bytes.ensures.items in
+    c.new-arrived.ensures.given ∙ ap (λ b. arrival_with c.args.n h.time h.side h.port b) c.in_ok-bytes.ensures.items in
     let time-is : (arrival_of c.new-arrived.result).time ≡ h.time = ap (λ (x : Arrival). x.time) arrived in
     let made = c.in_ok-key.ensures.stands c' until time given lines l at to by kept in
     on-ok (λ k. subst (λ x. AreKept t c' until None time (with_came key x given) lines c.add_arrival.new.self) arrived

@@ -1,7 +1,7 @@
 use Rattle.std.proofs.Common.{◌≡◌, ◌≤◌, true, refl, sym, ◌∙◌, subst, arith}
 use Rattle.afdx_text.proofs.OutputLemmas.{on-err}
 use Rattle.afdx_acceptance.proofs.FullLemmas.{behind-later, stands-ended}
-use Rattle.afdx_acceptance.proofs.ToldLemmas.{told-same}
+use Rattle.afdx_acceptance.proofs.ToldLemmas.{tells-same, told-same}
 use Rattle.afdx_acceptance.proofs.JoinLemmas.{counted-behind}
 use Rattle.afdx_acceptance.proofs.judging.Judging.close.Goals as goal
 
@@ -17,12 +17,15 @@ returns-clause-told g c = λ k start frames h.
 pub returns-clause-stands : goal.returns-clause-stands
 returns-clause-stands g c k last after time to start frames le-until le-to le-latest may said ending none h =
     let mid = c.in_ok-tell_due.ensures.stands k last time c.args.until start frames le-until (λ e. refl)
-        (λ end e is. said end is) (λ end is. absurd (let bad = sym none ∙ is in cc bad)) h in
-    let now-none = c.tell_due.ensures.ended ∙ none in
-    ((mid.0,
-    (told-same k.1 start frames c.tell_due.new.self _ _ refl refl refl refl (mid.0, mid.1)).1,
-    stands-ended k frames last after c.args.until c.args.until to c.tell_due.new.self _ mid.0 (omega arith) le-to le-latest may ending
-    now-none c.end.ensures.ended refl
-    (λ dues s. c.end.ensures.stands k.0 k.1 c.args.until frames dues (omega arith) now-none
-    (counted-behind k.1 frames c.args.until (behind-later frames c.args.until le-latest mid.2.by_time)) s) mid.2),
-    c.end.ensures.ended)
+    (λ end e is. said end is) (λ end is. absurd (let bad = sym none ∙ is in cc bad)) h in
+    let now-none = c.tell_due.ensures.ended ∙ none in (
+      (
+        mid.0,
+        tells-same k.1 start frames c.tell_due.new.self _ _ mid.0 refl refl refl refl mid.1,
+        stands-ended k frames last after c.args.until c.args.until to c.tell_due.new.self _ mid.0 (omega arith) le-to le-latest may ending
+            now-none c.end.ensures.ended refl
+            (λ dues s. c.end.ensures.stands k.0 k.1 c.args.until frames dues (omega arith) now-none
+            (counted-behind k.1 frames c.args.until (behind-later frames c.args.until le-latest mid.2.by_time)) s) mid.2,
+      ),
+      c.end.ensures.ended,
+    )

@@ -9,20 +9,29 @@ use Rattle.afdx_acceptance.proofs.FullLemmas.{not-ended, raised, said-end}
 use Rattle.afdx_acceptance.proofs.judging.Judging.close_before.Goals as goal
 
 pub returns-then-self-clause-stands : goal.returns-then-self-clause-stands
-returns-then-self-clause-stands g c k before start frames le latest h =
-    (h.0, h.1, raised k frames before c.args.time c.args.self.now h.0 le
-    (λ end none said. absurd (true≢false (sym c.if-self.true ∙ h.2.over ∙ ap is_some none))) h.2)
+returns-then-self-clause-stands g c k before start frames le latest h = (
+  h.0,
+  h.1,
+  raised k frames before c.args.time c.args.self.now h.0 le
+      (λ end none said. absurd (true≢false (sym c.if-self.true ∙ h.2.over ∙ ap is_some none))) h.2,
+)
 
 pub returns-in_default-clause-stands : goal.returns-in_default-clause-stands
-returns-in_default-clause-stands g c k before start frames le latest h =
-    (h.0, h.1, raised k frames before c.args.time c.args.self.now h.0 le
-    (λ end none said. absurd (let bad = sym c.in_default.is ∙ ap (λ x. x.until) h.1.choices_are ∙ said in cc bad)) h.2)
+returns-in_default-clause-stands g c k before start frames le latest h = (
+  h.0,
+  h.1,
+  raised k frames before c.args.time c.args.self.now h.0 le
+      (λ end none said. absurd (let bad = sym c.in_default.is ∙ ap (λ x. x.until) h.1.choices_are ∙ said in cc bad)) h.2,
+)
 
 pub returns-else-until-time-clause-stands : goal.returns-else-until-time-clause-stands
-returns-else-until-time-clause-stands g c k before start frames le latest h =
-    (h.0, h.1, raised k frames before c.args.time c.args.self.now h.0 le
-    (λ end none said. let same = same_Some c.in-Some.until end (sym c.in-Some.is ∙ ap (λ x. x.until) h.1.choices_are ∙ said) in
-    let test = c.if-until-time.false in subst (λ n. c.args.time ≤ n) same (omega (arith, test))) h.2)
+returns-else-until-time-clause-stands g c k before start frames le latest h = (
+  h.0,
+  h.1,
+  raised k frames before c.args.time c.args.self.now h.0 le
+      (λ end none said. let same = same_Some c.in-Some.until end (sym c.in-Some.is ∙ ap (λ x. x.until) h.1.choices_are ∙ said) in
+      let test = c.if-until-time.false in subst (λ n. c.args.time ≤ n) same (omega (arith, test))) h.2,
+)
 
 pub returns-then-until-time-clause-stands : goal.returns-then-until-time-clause-stands
 returns-then-until-time-clause-stands g c k before start frames le latest h =

@@ -1,6 +1,22 @@
-use Rattle.std.proofs.Common.{refl}
-use Rattle.afdx_acceptance.proofs.ToldLemmas.{told-none}
+use Rattle.std.proofs.Common.{◌≡◌, [], None, refl, sym, ap, ◌∙◌, arith}
+use Rattle.std.specs.Prelude.{is_some}
+use Rattle.afdx_acceptance.specs.ChoicesOf.{choices_of}
+use Rattle.afdx_acceptance.proofs.ToldLemmas.{tells-none}
 use Rattle.afdx_acceptance.proofs.judging.Judging.new.Goals as goal
 
 pub returns : goal.returns
-returns c = λ output. told-none _ output refl refl refl
+returns c = λ output. (
+  [],
+  tells-none _ output refl refl refl,
+  record {
+    all = λ until may. record {
+      dues = [];
+      are = refl;
+      streams = c.in_ok-streams.ensures.stands (choices_of c.args.choices.now) until refl;
+    };
+    by_time = tt;
+    running = λ end none said. omega arith;
+    ends = λ end is. absurd (let bad = sym c.in_ok-streams.ensures.running ∙ is in cc bad);
+    over = sym (ap (λ o. is_some o) c.in_ok-streams.ensures.running);
+  },
+)

@@ -1,6 +1,7 @@
 use Rattle.std.proofs.Common.{arith, false, sym, true, ◌∙◌}
 use Rattle.afdx_acceptance.proofs.ToldLemmas.{left-out-is, missed-in, missed-next, missed-out, on-ok}
-use Rattle.std.proofs.Common.{◌≡◌, ◌<◌, ◌≤◌, ◌∷◌, List, length, refl, ap, subst}
+use Rattle.std.proofs.Common.{◌≡◌, ◌+◌, ◌<◌, ◌≤◌, ◌∷◌, ℕ, List, length, refl, ap, subst}
+use Rattle.std.specs.Prelude.{OnOk}
 use Rattle.afdx_conform.specs.LimitRanges.{most_bytes}
 use Rattle.afdx_inputs.specs.Joining.{Frame}
 use Rattle.afdx_lists.specs.declared.role.Role.TheVariants.{Came, Left}
@@ -9,9 +10,10 @@ use Rattle.afdx_acceptance.specs.Choices.{Choices, counts, is_in_time, is_left_o
 use Rattle.afdx_acceptance.specs.Frames.{frame_with}
 use Rattle.afdx_acceptance.specs.Standing.{IsBehindAll, StreamsStand}
 use Rattle.afdx_acceptance.proofs.AddedLemmas.{on-ok as ok-to}
-use Rattle.afdx_acceptance.proofs.FullLemmas.{behind-later, does-count, out-of-choice, out-of-time, running-then, stand-skipped, stands-next, too-long}
+use Rattle.afdx_acceptance.proofs.FullLemmas.{behind-later, does-count, out-of-choice, out-of-time, next-on, running-then, stand-skipped, stands-next, too-long}
 use Rattle.afdx_acceptance.specs.ChoicesOf.{choices_of}
 use Rattle.afdx_engine.specs.Engine.{item_of}
+use Rattle.afdx_frame.specs.Layout.{link_named_by}
 use Rattle.afdx_inputs.specs.Joining.{frame_of}
 use Rattle.afdx_acceptance.proofs.judging.Judging.take.Goals as goal
 
@@ -87,30 +89,51 @@ pub returns-then-len-gt-MOST_BYTES-clause-stands : goal.returns-then-len-gt-MOST
 returns-then-len-gt-MOST_BYTES-clause-stands c k frames lines chosen latest few stands =
     let x : Frame = frame_of (item_of c.args.n c.args.seen.now c.args.message.now) in
     stands-next k frames x c.args.self.now c.args.self.now lines latest
-    (λ until dues s. stand-skipped k.0 k.1 until x.arrival.time x frames dues c.args.self.now.streams (too-long k.1 x (subst (λ (b : List ℕ). most_bytes < length b) c.in_ok-bytes.ensures ?)) s) refl refl stands
+    (λ until dues s. stand-skipped k.0 k.1 until x.arrival.time x frames dues c.args.self.now.streams (too-long k.1 x (subst (λ (b : List ℕ). most_bytes < length b) c.in_ok-bytes.ensures
+    (let l = c.len.ensures in let test = c.if-len-gt-MOST_BYTES.true in omega (arith, l, test)))) s) refl refl stands
 
 pub returns-in-Came-clause-stands : goal.returns-in-Came-clause-stands
 returns-in-Came-clause-stands c k frames lines chosen latest few stands =
     let h = c.args.seen.now.heading in
     let x : Frame = frame_of (item_of c.args.n c.args.seen.now c.args.message.now) in
     let in-time : is_in_time k.1 x ≡ true = subst (λ (o : Choices). is_in_time o x ≡ true) chosen
-        (sym (c.is_in_time.ensures c.args.message.now c.args.n) ∙ c.if-not-is_in_time.false) in
+    (sym (c.is_in_time.ensures c.args.message.now c.args.n) ∙ c.if-not-is_in_time.false) in
     let out : is_left_out k.1 x ≡ false = subst (λ (o : Choices). is_left_out o x ≡ false) chosen
-        (left-out-is (choices_of c.args.self.now.choices.now) x false c.vl_of-vl.result c.as_slice.result.now
-        (sym c.if-is_left_out.false ∙ c.is_left_out.ensures) c.vl_of-vl.ensures.computed
-        (c.as_slice.ensures.value ∙ c.in_ok-bytes.ensures)) in
+    (left-out-is (choices_of c.args.self.now.choices.now) x false c.vl_of-vl.result c.as_slice.result.now
+    (sym c.if-is_left_out.false ∙ c.is_left_out.ensures) c.vl_of-vl.ensures.computed
+    (c.as_slice.ensures.value ∙ c.in_ok-bytes.ensures)) in
     let none = running-then k frames x c.args.self.now lines in-time stands in
-    ?
+    let bytes : List ℕ = c.as_slice-in-Came.result.now in
+    let same : frame_with Came (arrival_with c.args.n h.time h.side h.port bytes) ≡ x =
+    ap (λ r. frame_with r (arrival_with c.args.n h.time h.side h.port bytes)) (sym c.in-Came.is)
+    ∙ ap (λ b. frame_with c.args.seen.now.role (arrival_with c.args.n h.time h.side h.port b)) (c.as_slice-in-Came.ensures.value ∙ c.in_ok-bytes.ensures) in
+    let count = does-count k.1 x in-time out (subst (λ (b : List ℕ). length b ≤ most_bytes) c.in_ok-bytes.ensures
+    (let l = c.len.ensures in let test = c.if-len-gt-MOST_BYTES.false in omega (arith, l, test))) in
+    next-on c.came.result k frames x c.args.self.now _ lines latest
+    (λ until dues s. subst (λ f. OnOk c.came.result (StreamsStand k.0 k.1 until (f ∷ frames) dues h.time c.came.new.self)) same
+    (c.came.ensures.stands k.0 k.1 until h.time frames dues
+    (c.vl_of-vl.ensures.computed ∙ ap link_named_by (c.as_slice.ensures.value ∙ sym c.as_slice-in-Came.ensures.value)) (ap (λ f. counts k.1 f) same ∙ count) (omega arith)
+    (behind-later frames h.time latest stands.by_time) few none s)) c.came.ensures.ended refl stands
 
 pub returns-in-Left-clause-stands : goal.returns-in-Left-clause-stands
 returns-in-Left-clause-stands c k frames lines chosen latest few stands =
     let h = c.args.seen.now.heading in
     let x : Frame = frame_of (item_of c.args.n c.args.seen.now c.args.message.now) in
     let in-time : is_in_time k.1 x ≡ true = subst (λ (o : Choices). is_in_time o x ≡ true) chosen
-        (sym (c.is_in_time.ensures c.args.message.now c.args.n) ∙ c.if-not-is_in_time.false) in
+    (sym (c.is_in_time.ensures c.args.message.now c.args.n) ∙ c.if-not-is_in_time.false) in
     let out : is_left_out k.1 x ≡ false = subst (λ (o : Choices). is_left_out o x ≡ false) chosen
-        (left-out-is (choices_of c.args.self.now.choices.now) x false c.vl_of-vl.result c.as_slice.result.now
-        (sym c.if-is_left_out.false ∙ c.is_left_out.ensures) c.vl_of-vl.ensures.computed
-        (c.as_slice.ensures.value ∙ c.in_ok-bytes.ensures)) in
+    (left-out-is (choices_of c.args.self.now.choices.now) x false c.vl_of-vl.result c.as_slice.result.now
+    (sym c.if-is_left_out.false ∙ c.is_left_out.ensures) c.vl_of-vl.ensures.computed
+    (c.as_slice.ensures.value ∙ c.in_ok-bytes.ensures)) in
     let none = running-then k frames x c.args.self.now lines in-time stands in
-    ?
+    let bytes : List ℕ = c.in_ok-bytes.bytes.items in
+    let same : frame_with Left (arrival_with c.args.n h.time h.side h.port bytes) ≡ x =
+    ap (λ r. frame_with r (arrival_with c.args.n h.time h.side h.port bytes)) (sym c.in-Left.is)
+    ∙ ap (λ b. frame_with c.args.seen.now.role (arrival_with c.args.n h.time h.side h.port b)) c.in_ok-bytes.ensures in
+    let count = does-count k.1 x in-time out (subst (λ (b : List ℕ). length b ≤ most_bytes) c.in_ok-bytes.ensures
+    (let l = c.len.ensures in let test = c.if-len-gt-MOST_BYTES.false in omega (arith, l, test))) in
+    next-on c.left.result k frames x c.args.self.now _ lines latest
+    (λ until dues s. subst (λ f. OnOk c.left.result (StreamsStand k.0 k.1 until (f ∷ frames) dues h.time c.left.new.self)) same
+    (c.left.ensures.stands k.0 k.1 until h.time frames dues
+    (c.vl_of-vl.ensures.computed ∙ ap link_named_by c.as_slice.ensures.value) (ap (λ f. counts k.1 f) same ∙ count) (omega arith)
+    (behind-later frames h.time latest stands.by_time) few none s)) c.left.ensures.ended refl stands

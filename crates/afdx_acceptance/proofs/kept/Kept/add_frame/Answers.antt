@@ -20,7 +20,7 @@ returns c t c' until time given lines l lawful is may some kept =
     let z = terms_at t c' until l key.port in
     let within = stands-within t c' until _ time given lines old key lawful (known-stream t key l is) kept in
     let there : c.index_mut.result.now ≡ slot_at old.slots.items key = read-there old.slots.items key c.place-place.result
-        c.index_mut.result.now c.place-place.ensures within c.index_mut.ensures.value in
+    c.index_mut.result.now c.place-place.ensures within c.index_mut.ensures.value in
     let some' : IsStream c.index_mut.result.now = subst IsStream (sym there) some in
     on-ok (λ awaits. kept-left t c' until lawful time given lines old _ key c.add_frame.new.at c.in_ok-due.due c.args.frame.time
     l (gone_of c.args.frame) is kept

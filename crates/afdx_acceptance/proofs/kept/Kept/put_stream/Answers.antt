@@ -21,12 +21,16 @@ returns-in_ok-new c t c' until time given lines l lawful is new no-due none kept
     let old : Kept = c.args.self.now in
     let within = stands-within t c' until _ time given lines old key lawful (known-stream t key l is) kept in
     let slots = ap (λ n. set old.slots.items n (Slot.Stream c.in_ok-new.field-0)) c.place-place.ensures in (
-      kept-put t c' until lawful time given lines old _ key (Slot.Stream c.in_ok-new.field-0) l is kept none
-      (nothing_judged, subst (λ (s : Stream). StandsFor (terms_at t c' until l key.port) [] [] nothing_judged time s)
-      (sym c.in_ok-new.ensures.ok) new, refl)
-      (ap due_of c.in_ok-new.ensures.ok ∙ no-due) refl slots,
+      kept-put t c' until lawful time given lines old _ key (Slot.Stream c.in_ok-new.field-0) l is kept none (
+        nothing_judged,
+        subst (λ (s : Stream). StandsFor (terms_at t c' until l key.port) [] [] nothing_judged time s)
+            (sym c.in_ok-new.ensures.ok) new,
+        refl,
+      )
+          (ap due_of c.in_ok-new.ensures.ok ∙ no-due) refl slots,
       subst (λ n. IsStream (slot_at (set old.slots.items n (Slot.Stream c.in_ok-new.field-0)) key)) (sym c.place-place.ensures)
-      (put-there old.slots.items key (Slot.Stream c.in_ok-new.field-0) within tt))
+          (put-there old.slots.items key (Slot.Stream c.in_ok-new.field-0) within tt),
+    )
 
 pub returns-else-place-len : goal.returns-else-place-len
 returns-else-place-len c t c' until time given lines l lawful is new no-due none kept =

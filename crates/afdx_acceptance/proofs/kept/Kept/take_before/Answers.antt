@@ -32,6 +32,7 @@ pub returns-clause-none : goal.returns-clause-none
 returns-clause-none c t c' until time given lines kept =
     let now = c.loop-entry.invariant.kept t c' until c.args.ended time given lines kept in (
       subst (λ l. AreKept t c' until c.args.ended time given lines (kept_with c.loop-entry.self.slots l))
-      (sym c.in_default.ensures.same) now,
+          (sym c.in_default.ensures.same) now,
       λ k m known is. All-contains (λ x. is_before c.args.before x ≡ false) c.loop-entry.self.agenda (awaited m k)
-      c.in_default.ensures.none (now.on_agenda k m known is))
+          c.in_default.ensures.none (now.on_agenda k m known is),
+    )

@@ -22,7 +22,7 @@ returns-in_default-clause-stands c t c' until time frames lines vl e le behind f
     let h = c.args.heading.now in
     let a : Arrival = arrival_with c.args.n h.time h.side h.port c.args.bytes.now in
     let named : place_named c.args.self.now.tables.now a.bytes ≡ None =
-        sym (place-is c.args.self.now.tables.now a.bytes c.args.vl vl) ∙ sym c.link_named.ensures.place ∙ c.in_default.is in
+    sym (place-is c.args.self.now.tables.now a.bytes c.args.vl vl) ∙ sym c.link_named.ensures.place ∙ c.in_default.is in
     record {
       lawful = stand.lawful;
       tables = stand.tables;
@@ -63,7 +63,7 @@ loop-rank-preserved c = record {
       let key : Key = key_with h.side (port_of t s) (Some link) in
       let before : Key → Given = came_to h.side link (map (port_of t) (take rank row.to)) x given in
       let same : before key ≡ given key = came-key h.side link (port_of t s) (map (port_of t) (take rank row.to)) x given
-          (fresh-port t link row rank s c.link.ensures.lawful at is lt) in
+      (fresh-port t link row rank s c.link.ensures.lawful at is lt) in
       come-next t c' until time h.side link row rank s x given lines c.come_to.new.kept c.link.ensures.lawful at is lt k.falling
       (c.in_ok-come_to.ensures c' until time before lines row at (any-in row.to rank s is lt) by le start
       (subst (λ (g : Given). AllByRecursion (λ w. w.time ≤ h.time) g.came) (sym same) (all key))
@@ -79,21 +79,21 @@ returns-clause-stands c t c' until time frames lines vl e le behind few running 
     let link : ℕ = c.in-Some.link in
     let row : LinkRow = link_row c.link.result.now in
     let mine : StreamsStand r c' until frames lines time c.args.self.now =
-        subst (λ (x : Rows). StreamsStand x c' until frames lines time c.args.self.now) (sym stand.tables) stand in
+    subst (λ (x : Rows). StreamsStand x c' until frames lines time c.args.self.now) (sym stand.tables) stand in
     let named : place_named r a.bytes ≡ Some link =
-        sym (place-is r a.bytes c.args.vl vl) ∙ sym c.link_named.ensures.place ∙ c.in-Some.is in
+    sym (place-is r a.bytes c.args.vl vl) ∙ sym c.link_named.ensures.place ∙ c.in-Some.is in
     let count = length-map c.link.result.now.to.items (λ i. i.0) in
     let test = c.loop-rank-test.false in
     let len = c.len-rank-end.ensures in
     let whole : take c.loop-rank.rank row.to ≡ row.to = take_all c.loop-rank.rank row.to (omega (arith, test, len, count)) in
     let old : AreKept r c' until None time (given_of r c' frames) lines c.args.self.now.kept =
-        subst (λ o. AreKept r c' until o time (given_of r c' frames) lines c.args.self.now.kept) running mine.kept in
+    subst (λ o. AreKept r c' until o time (given_of r c' frames) lines c.args.self.now.kept) running mine.kept in
     let new = c.loop-rank.invariant.kept c' until time (given_of r c' frames) lines row c.link.ensures.row mine.by le
-        (came-start c' a e) (λ k. came-times r c' frames h.time (counted-behind c' frames h.time behind) k)
-        (λ k. let n = came-few r c' frames k in omega (arith, n, few)) old in
+    (came-start c' a e) (λ k. came-times r c' frames h.time (counted-behind c' frames h.time behind) k)
+    (λ k. let n = came-few r c' frames k in omega (arith, n, few)) old in
     let joined = join-came r c' until None time frames lines c.loop-rank.self.kept c.link.ensures.lawful a link row e named c.link.ensures.row
-        old.falling (subst (λ (l : List ℕ). AreKept r c' until None time (came_to h.side link (map (port_of r) l) a (given_of r c' frames))
-        lines c.loop-rank.self.kept) whole new) in
+    old.falling (subst (λ (l : List ℕ). AreKept r c' until None time (came_to h.side link (map (port_of r) l) a (given_of r c' frames))
+    lines c.loop-rank.self.kept) whole new) in
     subst (λ (x : Rows). StreamsStand x c' until (frame_with Came a ∷ frames) lines time c.loop-rank.self) stand.tables (record {
       lawful = c.link.ensures.lawful;
       tables = ap (λ (b : Bor Rows). b.now) c.loop-rank.invariant.tables;

@@ -28,15 +28,15 @@ returns-in-Some-clause-stands c t c' until time frames lines vl e le behind few 
     let a : Arrival = arrival_with c.args.n h.time h.side h.port c.args.bytes.items in
     let link : ℕ = c.in-Some.link in
     let mine : StreamsStand r c' until frames lines time c.args.self.now =
-        subst (λ (x : Rows). StreamsStand x c' until frames lines time c.args.self.now) (sym stand.tables) stand in
+    subst (λ (x : Rows). StreamsStand x c' until frames lines time c.args.self.now) (sym stand.tables) stand in
     let named : place_named r a.bytes ≡ Some link =
-        sym (place-is r a.bytes c.args.vl vl) ∙ sym c.link_named-named.ensures.place ∙ c.in-Some.ensures.link.0 in
+    sym (place-is r a.bytes c.args.vl vl) ∙ sym c.link_named-named.ensures.place ∙ c.in-Some.ensures.link.0 in
     let l : LinkRow = get_or r.links link blank in
     let at = slice_get-get_or r.links link blank c.in-Some.ensures.link.1 in
     let to = c.in-Some.ensures.to l at in
     let key : Key = key_with h.side (port_of r c.in-Some.system.0) (Some link) in
     let old : AreKept r c' until None time (given_of r c' frames) lines c.args.self.now.kept =
-        subst (λ o. AreKept r c' until o time (given_of r c' frames) lines c.args.self.now.kept) running mine.kept in
+    subst (λ o. AreKept r c' until o time (given_of r c' frames) lines c.args.self.now.kept) running mine.kept in
     let n = left-few r c' frames key in
     on-ok (λ k. subst (λ (x : Rows). StreamsStand x c' until (frame_with Left a ∷ frames) lines time (streams_with c.args.self.now c.leave_to.new.kept)) stand.tables (record {
       lawful = mine.lawful;
@@ -58,15 +58,15 @@ returns-clause-stands c t c' until time frames lines vl e le behind few running 
     let a : Arrival = arrival_with c.args.n h.time h.side h.port c.args.bytes.items in
     let key : Key = key_with h.side h.port None in
     let mine : StreamsStand r c' until frames lines time c.args.self.now =
-        subst (λ (x : Rows). StreamsStand x c' until frames lines time c.args.self.now) (sym stand.tables) stand in
+    subst (λ (x : Rows). StreamsStand x c' until frames lines time c.args.self.now) (sym stand.tables) stand in
     let named : place_named r a.bytes ≡ c.link_named-named.result =
-        sym (place-is r a.bytes c.args.vl vl) ∙ sym c.link_named-named.ensures.place in
+    sym (place-is r a.bytes c.args.vl vl) ∙ sym c.link_named-named.ensures.place in
     let strange : is_stranger r a ≡ true = stranger-none r a c.link_named-named.result named c.in_default.ensures.none in
     let why : c.why_strange-why.result ≡ stranger_reason r a.bytes =
-        c.why_strange-why.ensures ∙ ap (λ b. stranger_by b (fault_of None 0 c.as_slice.result.now)) (c.is_some.ensures ∙ ap is_some (sym named))
-        ∙ ap (λ b. stranger_by (is_some (place_named r a.bytes)) (fault_of None 0 b)) c.as_slice.ensures.value in
+    c.why_strange-why.ensures ∙ ap (λ b. stranger_by b (fault_of None 0 c.as_slice.result.now)) (c.is_some.ensures ∙ ap is_some (sym named))
+    ∙ ap (λ b. stranger_by (is_some (place_named r a.bytes)) (fault_of None 0 b)) c.as_slice.ensures.value in
     let old : AreKept r c' until None time (given_of r c' frames) lines c.args.self.now.kept =
-        subst (λ o. AreKept r c' until o time (given_of r c' frames) lines c.args.self.now.kept) running mine.kept in
+    subst (λ o. AreKept r c' until o time (given_of r c' frames) lines c.args.self.now.kept) running mine.kept in
     let all = counted-behind c' frames h.time behind in
     on-ok (λ k. subst (λ (x : Rows). StreamsStand x c' until (frame_with Left a ∷ frames) lines time (streams_with c.args.self.now c.leave_strange.new.kept)) stand.tables (record {
       lawful = mine.lawful;

@@ -1,0 +1,17 @@
+use Rattle.std.proofs.Common.{◌∙◌}
+use Rattle.afdx_acceptance.proofs.EndLemmas.{all-lines}
+use Rattle.afdx_acceptance.proofs.judging.Judging.totals.Goals as goal
+
+pub returns : goal.returns
+returns c = record {
+  written = λ k start end past h.
+      let all = all-lines k c.args.self.now start end past c.count.ensures.judged h in
+      record {
+        dues = all.0;
+        are_lines = all.1;
+        written = all.2.written;
+        findings_are = c.count.ensures.findings ∙ c.new-totals.ensures.findings ∙ all.2.findings_are;
+        left_out_are = c.count.ensures.left_out ∙ c.new-totals.ensures.left_out ∙ all.2.left_out_are;
+        unseen_are = c.count.ensures.unseen ∙ c.new-totals.ensures.unseen;
+      };
+}
