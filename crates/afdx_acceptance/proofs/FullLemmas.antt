@@ -176,7 +176,8 @@ module _ (k : Rows × Choices) (frames : List Frame) where
         });
     by_time = stands.by_time;
     running = λ end no said. let bad : None ≡ Some until = sym no ∙ ended in absurd (cc);
-    ends = λ end is. let same : until ≡ end = same_Some until end (sym ended ∙ is) in subst (λ n. IsEnding after k.1.until frames to n) same ending;
+    ends = λ end is. let same : until ≡ end = same_Some until end (sym ended ∙ is) in subst
+        (λ n. IsEnding after k.1.until frames to n) same ending;
     over = over ∙ sym (ap (λ e. is_some e) ended);
   }
 

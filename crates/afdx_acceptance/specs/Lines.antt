@@ -119,8 +119,8 @@ module _ (t : Rows) (c : Choices) (until : ℕ) (frames : List Frame) where
   abbrev pub dues_of : Key → List Due
   dues_of k = dues_by k k.link
 
-  -- these are all lines: of each key its own, in their order, one key's among the others' by moment;
-  -- a port is a byte
+  -- these are all lines: of each key its own, in their order, one key's among the others' by
+  -- moment; a port is a byte
   pub record AreLines (lines : List Due) : Type 0 where
     pub own : (k : Key) → k.port < 256 → of_key k lines ≡ dues_of k
     pub only : (k : Key) → 256 ≤ k.port → of_key k lines ≡ []

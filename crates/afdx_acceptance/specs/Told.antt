@@ -69,15 +69,17 @@ pub record Stands (k : Rows × Choices) (last : Bool) (time : ℕ) (j : Judging)
   pub over : j.is_over ≡ is_some j.streams.ended
 
 -- all that is told of these frames has moments before `time`
-abbrev pub TellsAll : Rows × Choices → (last : Bool) → (time : ℕ) → Judging → (old new : Option (List ℕ))
-    → List Frame → Type 0
+abbrev pub TellsAll : Rows × Choices → (last : Bool) → (time : ℕ) → Judging →
+    (old new : Option (List ℕ)) → List Frame → Type 0
 TellsAll k last time j old new frames =
-    (lines : List ConformLine) × TellsOf k.1 frames j old new lines × Stands k last time j frames lines
+    (lines : List ConformLine) × TellsOf k.1 frames j old new lines
+    × Stands k last time j frames lines
 
 -- the same of the items of a run
 abbrev pub TellsItems : Rows × Choices → Judging → Option (List ℕ) → Option (List ℕ) →
     List (Item Seen) → Type 0
-TellsItems k j old new past = TellsAll k false (latest_of (frames_of past)) j old new (frames_of past)
+TellsItems k j old new past =
+    TellsAll k false (latest_of (frames_of past)) j old new (frames_of past)
 
 -- and at the end, once nothing is due
 abbrev pub TellsToEnd : Rows × Choices → Judging → Option (List ℕ) → Option (List ℕ) →

@@ -60,7 +60,8 @@ fn new_slots(alloc: Global, count: usize) -> Result<Vec<Slot>, AllocError>
 /// Whether that is what is due there.
 fn is_due(slots: &[Slot], entry: &Entry) -> bool
     ensures within { IsTrue result → key_place entry.now.key < length slots.now }
-    ensures due { IsTrue result ↔ (slot_due (slot_at slots.now entry.now.key) ≡ Some entry.now.moment) }
+    ensures due { IsTrue result
+        ↔ (slot_due (slot_at slots.now entry.now.key) ≡ Some entry.now.moment) }
 {
     let place = entry.key.place();
     if place >= slots.len() {
@@ -142,7 +143,8 @@ impl Kept {
             IsStream (slot_at self.old.slots.items key) →
             AreKept t c until None time given lines self.old →
             OnOk result
-            (AreKept t c until None time (with_came key (arrival_of arrived) given) lines self.new) }
+            (AreKept t c until None time (with_came key (arrival_of arrived) given) lines
+            self.new) }
     {
         let place = key.place();
         if place >= self.slots.len() {
