@@ -1,19 +1,18 @@
 -- What is kept of a key, once one more came of it.
-use Rattle.std.proofs.Common.{◌≡◌, ℕ, ◌+◌, ◌*◌, ◌<◌, ◌≤◌, ◌⊎◌, inl, inr, Bool, true, false, List, [], ◌∷◌, ◌++◌, map, length, set, refl, sym, ap, ◌∙◌, subst, arith, true≢false}
+use Rattle.std.proofs.Common.{◌≡◌, ℕ, ◌+◌, ◌*◌, ◌<◌, ◌≤◌, inl, inr, true, false, List, [], ◌∷◌, ◌++◌, length, set, refl, sym, ap, ◌∙◌, subst, arith, true≢false}
 use Rattle.std.proofs.lemmas.List.{get_or-set_same, get_or_default}
 use Rattle.std.specs.Prelude.{Option, Some, None, Result, Ok, Err, OnOk, IfSome, IfNone, get_or, is_some, All, if◌then◌else◌}
 use Rattle.afdx_config.specs.Lawful.{IsLawfulSwitch}
 use Rattle.afdx_config.specs.Rows.{LinkRow, Rows}
 use Rattle.afdx_police.specs.Arrival.{Arrival}
 use Rattle.afdx_conform.specs.Streams.{Gone, Terms}
-use Rattle.afdx_conform.specs.Histories.{nothing_judged}
 use Rattle.afdx_conform.specs.Growing.{IsNoSooner, IsSameOrLater}
 use Rattle.afdx_acceptance.specs.Awaited.{Awaits}
 use Rattle.afdx_acceptance.specs.Choices.{Choices}
 use Rattle.afdx_acceptance.specs.Frames.{link_to, terms_at}
 use Rattle.afdx_acceptance.specs.Keeping.{AreKept, Given, IsOfLink, IsStreamOf, KeyStands, KeyStandsBy, LinkStands, given_with, is_known, is_known_by, nothing_given, slot_at, with_came, with_left, with_strange}
 use Rattle.afdx_acceptance.specs.Keys.{is_key, key_place}
-use Rattle.afdx_acceptance.specs.Lines.{AreInOrder, Due, judged_dues, of_key}
+use Rattle.afdx_acceptance.specs.Lines.{AreInOrder, Due, of_key}
 use Rattle.afdx_acceptance.specs.Slots.{AreFalling, IsNewlyDue, IsStream, IsStrange, StrangersStand, StreamEnds, StreamStands}
 use Rattle.afdx_acceptance.specs.Waiting.{slot_due}
 use Rattle.afdx_acceptance.specs.declared.kept.Kept.{Kept}

@@ -1,10 +1,10 @@
 -- What is to be told first.
-use Rattle.std.proofs.Common.{◌≡◌, ◌≤◌, ◌<◌, ◌+◌, ◌*◌, ℕ, List, [], ◌∷◌, get_or, length, sym, subst, arith, refl}
-use Rattle.std.proofs.Common.{Option, Some, None, true, false, IfSome, IfNone, Bool, nat_lt}
+use Rattle.std.proofs.Common.{◌≡◌, ◌≤◌, ◌<◌, ℕ, List, ◌∷◌, get_or, sym, subst, arith, refl}
+use Rattle.std.proofs.Common.{Option, Some, None, false, IfSome, IfNone}
 use Rattle.std.proofs.lemmas.Bool.{le-ltb, ltb-false}
 use Rattle.std.proofs.lemmas.Bool.Decides.{nat_tests}
 use Rattle.std.proofs.lemmas.List.Elements.{All-cons, All-from_recursion, All-tail, All-weaker}
-use Rattle.std.proofs.lemmas.List.Sorted.{All-permutation, length_permutation}
+use Rattle.std.proofs.lemmas.List.Sorted.{All-permutation}
 use Rattle.std.specs.BinaryHeap.{IsHeap, IsUpperBound, PopsGreatest}
 use Rattle.std.specs.List.{All}
 use Rattle.std.specs.List.Sorted.{IsPermutation}

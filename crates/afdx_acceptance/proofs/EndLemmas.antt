@@ -1,7 +1,7 @@
 -- All lines of a run.
-use Rattle.std.proofs.Common.{◌≡◌, ℕ, ◌+◌, ◌*◌, ◌<◌, ◌≤◌, ◌⊎◌, inl, inr, Bool, true, false, List, [], ◌∷◌, ◌++◌, map, length, get_or, refl, sym, ap, ◌∙◌, subst, arith, true≢false}
+use Rattle.std.proofs.Common.{◌≡◌, ℕ, ◌+◌, ◌*◌, ◌<◌, ◌⊎◌, inl, inr, Bool, true, false, List, [], ◌∷◌, ◌++◌, map, length, get_or, refl, sym, ap, ◌∙◌, subst, arith, true≢false}
 use Rattle.std.proofs.lemmas.Bool.{lt-ltb, ltb-true}
-use Rattle.std.specs.Prelude.{Err, None, Ok, OnOk, Option, Result, Some, is_some, nat_lt, reverse}
+use Rattle.std.specs.Prelude.{Err, None, Ok, OnOk, Option, Result, Some, is_some, reverse}
 use Rattle.std.specs.Option.{option_map_or}
 use Rattle.afdx_config.specs.Lawful.{IsLawfulSwitch}
 use Rattle.afdx_config.specs.Rows.{LinkRow, Rows}
@@ -9,7 +9,6 @@ use Rattle.afdx_conform.specs.Events.{events_of}
 use Rattle.afdx_conform.specs.Findings.{Judged, judged_after}
 use Rattle.afdx_conform.specs.Histories.{judged_of, shown}
 use Rattle.afdx_conform.specs.Ranges.{most_held}
-use Rattle.afdx_conform.specs.Standing.{IsEnding, due_of}
 use Rattle.afdx_conform.specs.Streams.{Gone, Terms}
 use Rattle.afdx_engine.specs.Engine.{Item}
 use Rattle.afdx_engine.specs.Items.{most_frames}
@@ -17,10 +16,9 @@ use Rattle.afdx_inputs.specs.Joining.{Frame, frames_of}
 use Rattle.afdx_inputs.specs.Seeing.{latest_seen}
 use Rattle.afdx_inputs.specs.declared.seen.Seen.{Seen}
 use Rattle.afdx_police.specs.Arrival.{Arrival}
-use Rattle.afdx_acceptance.specs.Awaited.{awaited, is_before}
 use Rattle.afdx_acceptance.specs.Choices.{Choices, latest_of, until_or}
 use Rattle.afdx_acceptance.specs.Frames.{link_to, terms_at}
-use Rattle.afdx_acceptance.specs.Keeping.{AreKept, Given, IsNothingDue, IsOfLink, IsStreamOf, given_by, given_of, given_to, is_known, is_known_by, slot_at}
+use Rattle.afdx_acceptance.specs.Keeping.{AreKept, IsNothingDue, IsOfLink, IsStreamOf, given_by, given_of, given_to, is_known, is_known_by, slot_at}
 use Rattle.afdx_acceptance.specs.Lines.{AreLines, Due, dues_by, dues_of, judged_dues, of_key, stream_dues}
 use Rattle.afdx_acceptance.specs.Slots.{IsCounted, StrangersStand, StreamEnds, waiting_due}
 use Rattle.afdx_acceptance.specs.Told.{MayEnd, TellsOf, TellsToEnd, lines_of}

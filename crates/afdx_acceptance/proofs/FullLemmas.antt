@@ -1,9 +1,8 @@
 -- What a run has told, whichever end comes.
-use Rattle.std.proofs.Common.{◌≡◌, ℕ, ◌+◌, ◌*◌, ◌<◌, ◌≤◌, ◌⊎◌, inl, inr, Bool, true, false, ◌&&◌, List, [], ◌∷◌, ◌++◌, map, length, get_or, refl, sym, ap, ◌∙◌, subst, arith, true≢false}
+use Rattle.std.proofs.Common.{◌≡◌, ℕ, ◌<◌, ◌≤◌, inl, inr, Bool, true, false, ◌&&◌, List, [], ◌∷◌, ◌++◌, map, length, refl, sym, ap, ◌∙◌, subst, arith, true≢false}
 use Rattle.std.proofs.lemmas.List.{map-append, reverse-append, reverse-reverse}
 use Rattle.std.proofs.lemmas.Option.{same_Some}
 use Rattle.std.specs.Prelude.{Err, Ok, OnOk, Result, Option, Some, None, IfSome, IfNone, is_some, nat_le, nat_lt, not, reverse}
-use Rattle.std.specs.List.{AllByRecursion}
 use Rattle.afdx_config.specs.Rows.{LinkRow, Rows}
 use Rattle.afdx_police.specs.Arrival.{Arrival}
 use Rattle.afdx_conform.specs.Streams.{Gone}
@@ -28,7 +27,6 @@ use Rattle.afdx_acceptance.proofs.AddedLemmas.{from-ended, from-stream, from-str
 use Rattle.afdx_acceptance.proofs.GivenLemmas.{counted-less, given-from, given_from, kept-same}
 use Rattle.afdx_acceptance.proofs.StepLemmas.{known-cases}
 use Rattle.afdx_conform.specs.Histories.{AreOver}
-use Rattle.afdx_conform.specs.Standing.{StandsFor}
 use Rattle.afdx_conform.specs.Streams.{Terms}
 use Rattle.afdx_conform.specs.States.{Event}
 

@@ -1,22 +1,20 @@
 -- What is kept of all keys, once a frame came or left.
-use Rattle.std.proofs.Common.{◌≡◌, ℕ, zero, suc, ◌+◌, ◌<◌, ◌≤◌, ◌⊎◌, inl, inr, Bool, true, false, ◌&&◌, ◌||◌, List, [], ◌∷◌, ◌++◌, map, length, take, get_or, reverse, refl, sym, ap, ◌∙◌, subst, arith, true≢false}
+use Rattle.std.proofs.Common.{◌≡◌, ℕ, zero, suc, ◌+◌, ◌<◌, ◌≤◌, Bool, true, false, ◌&&◌, ◌||◌, List, [], ◌∷◌, ◌++◌, map, length, take, get_or, reverse, refl, sym, ap, ◌∙◌, subst, arith, true≢false}
 use Rattle.std.proofs.lemmas.Bool.{and_parts, eqb-true, eq-eqb, ltb-false}
-use Rattle.std.proofs.lemmas.List.{length-map, length-reverse, map-append, take_all, take_more}
+use Rattle.std.proofs.lemmas.List.{length-map, length-reverse, map-append, take_more}
 use Rattle.std.proofs.lemmas.List.Elements.{All-from_recursion}
 use Rattle.std.proofs.lemmas.List.Folds.{list_any-append}
 use Rattle.std.proofs.lemmas.Option.{same_Some, slice_get-get_or}
-use Rattle.std.specs.Prelude.{Option, Some, None, cond, filter, nat_eq, nat_le, nat_lt, not, option_and_then, slice_get, if◌then◌else◌}
+use Rattle.std.specs.Prelude.{Option, Some, None, cond, filter, nat_eq, nat_le, not, option_and_then, slice_get, if◌then◌else◌}
 use Rattle.std.specs.List.{list_any, AllByRecursion}
 use Rattle.afdx_bounds.specs.Tables.{port_of}
-use Rattle.afdx_bounds.proofs.TableLemmas.{port-of-system}
 use Rattle.afdx_config.proofs.LookUpLemmas.{each_row-found}
 use Rattle.afdx_config.specs.Lawful.{IsLawfulSwitch, IsLinkUpTo, jitter_from_any}
 use Rattle.afdx_config.specs.Reading.{are_apart, has_repeat, link_of, system_at_port}
-use Rattle.afdx_config.specs.Rows.{LinkRow, Rows, SystemRow, is_to}
+use Rattle.afdx_config.specs.Rows.{LinkRow, Rows}
 use Rattle.afdx_conform.specs.Explanations.{from_time}
 use Rattle.afdx_conform.specs.Leeway.{both_slacks}
 use Rattle.afdx_conform.specs.LimitRanges.{most_bytes}
-use Rattle.afdx_conform.specs.Ranges.{most_held}
 use Rattle.afdx_frame.proofs.ListLemmas.{AllByRecursion-slice_get}
 use Rattle.afdx_frame.specs.Layout.{link_named_by}
 use Rattle.afdx_frame.specs.declared.link.Side.{Side}
@@ -27,7 +25,7 @@ use Rattle.afdx_lists.specs.declared.role.Role.TheVariants.{Came, Left}
 use Rattle.afdx_inputs.specs.Joining.{Frame}
 use Rattle.afdx_acceptance.specs.Choices.{Choices, counted, counts, is_behind, is_before, is_in_time, is_left_out}
 use Rattle.afdx_acceptance.specs.Frames.{frame_with, gone_of, is_arrival_of, is_stranger, left_at, link_to, place_named}
-use Rattle.afdx_acceptance.specs.Keeping.{AreKept, Given, came_to, given_of, given_with, is_known, with_came, with_left, with_strange}
+use Rattle.afdx_acceptance.specs.Keeping.{AreKept, Given, came_to, given_of, given_with, with_came, with_left, with_strange}
 use Rattle.afdx_acceptance.specs.Keys.{is_key, is_link, key_with}
 use Rattle.afdx_acceptance.specs.Lines.{Due, stranger_due}
 use Rattle.afdx_acceptance.specs.Slots.{AreFalling}

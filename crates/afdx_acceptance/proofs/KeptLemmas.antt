@@ -1,22 +1,22 @@
 -- What is kept of all keys, once something came, or is told.
-use Rattle.std.proofs.Common.{◌≡◌, ℕ, zero, suc, ◌+◌, ◌*◌, ◌<◌, ◌≤◌, ◌⊎◌, inl, inr, Bool, true, false, List, [], ◌∷◌, ◌++◌, map, length, get_or, set, refl, sym, ap, ◌∙◌, subst, arith, true≢false}
+use Rattle.std.proofs.Common.{◌≡◌, ℕ, ◌+◌, ◌*◌, ◌<◌, ◌≤◌, inl, inr, Bool, true, false, List, [], ◌∷◌, ◌++◌, map, length, get_or, set, refl, sym, ap, ◌∙◌, subst, arith, true≢false}
 use Rattle.std.proofs.lemmas.List.{get_or-set_same, length-set}
 use Rattle.std.proofs.lemmas.Bool.{ltb-true}
-use Rattle.std.proofs.lemmas.List.Elements.{All-cons, All-contains, All-tail, filter-append}
+use Rattle.std.proofs.lemmas.List.Elements.{All-cons, All-contains, All-tail}
 use Rattle.std.proofs.lemmas.List.Sorted.{All-permutation, Contains-permutation}
 use Rattle.std.proofs.lemmas.Map.Made.{Contains-tail}
-use Rattle.std.specs.Prelude.{All, Contains, Option, Some, None, cond, filter, reverse}
+use Rattle.std.specs.Prelude.{All, Contains, Option, Some, None, cond, reverse}
 use Rattle.std.specs.List.Sorted.{IsPermutation}
 use Rattle.afdx_bounds.proofs.ListLemmas.{contains_head, contains_tail}
 use Rattle.afdx_config.specs.Lawful.{IsLawfulSwitch}
-use Rattle.afdx_config.specs.Rows.{LinkRow, Rows}
+use Rattle.afdx_config.specs.Rows.{Rows}
 use Rattle.afdx_conform.specs.Growing.{IsNoSooner, IsSameOrLater}
 use Rattle.afdx_text.specs.declared.conform_line.ConformLine.{ConformLine}
 use Rattle.afdx_acceptance.specs.Awaited.{Awaits, awaited, is_before, rank_of}
 use Rattle.afdx_acceptance.specs.Choices.{Choices}
 use Rattle.afdx_acceptance.specs.Keeping.{AreKept, Given, IsSomeUpTo, KeyStands, is_known, slot_at}
 use Rattle.afdx_acceptance.specs.Keys.{IsKey, is_key, key_place, key_rank}
-use Rattle.afdx_acceptance.specs.Lines.{AreInOrder, Due, due_at, last_rank, of_key, rank}
+use Rattle.afdx_acceptance.specs.Lines.{AreInOrder, Due, due_at, last_rank, of_key}
 use Rattle.afdx_acceptance.specs.Slots.{AreFalling, IsNewlyDue, told_at}
 use Rattle.afdx_acceptance.specs.Waiting.{slot_due}
 use Rattle.afdx_acceptance.specs.declared.agenda.Entry.{Entry}

@@ -1,6 +1,6 @@
 -- Where the frames of a link leave.
-use Rattle.std.proofs.Common.{◌≡◌, ◌<◌, ◌*◌, ℕ, Bool, true, false, Option, Some, None, length, get_or, map, refl, subst, sym, ap, ◌∙◌}
-use Rattle.std.proofs.lemmas.Option.{same_Some, slice_get-get_or}
+use Rattle.std.proofs.Common.{◌≡◌, ◌<◌, ℕ, true, false, Option, Some, None, length, get_or, subst, sym, ap, ◌∙◌}
+use Rattle.std.proofs.lemmas.Option.{slice_get-get_or}
 use Rattle.std.specs.Prelude.{slice_get, option_and_then, if◌then◌else◌}
 use Rattle.std.specs.Option.{option_map_or}
 use Rattle.afdx_bounds.specs.Tables.{byte_ns_at, goes_to, port_of, rule_of}
@@ -11,12 +11,11 @@ use Rattle.afdx_config.specs.Reading.{system_at_port}
 use Rattle.afdx_police.specs.Rule.{rule_with}
 use Rattle.afdx_acceptance.specs.Frames.{link_to}
 use Rattle.afdx_acceptance.proofs.KeyLemmas.{system-at, to-link}
-use Rattle.std.proofs.Common.{List, []}
+use Rattle.std.proofs.Common.{[]}
 use Rattle.afdx_frame.specs.declared.link.Policing.TheVariants.{Byte}
 use Rattle.afdx_frame.specs.declared.link.Priority.TheVariants.{High}
 use Rattle.std.proofs.lemmas.List.{get_or-map, length-map}
 use Rattle.std.proofs.lemmas.List.Elements.{All-from_recursion}
-use Rattle.std.specs.List.{AllByRecursion}
 use Rattle.afdx_config.specs.Lawful.{IsLinkUpTo, jitter_from_any}
 use Rattle.afdx_config.specs.Rows.{LinkRow, Rows, SystemRow, is_to, link_row}
 use Rattle.afdx_config.specs.declared.rows.Link.{Link}

@@ -1,5 +1,5 @@
 -- What a run over two lists answers.
-use Rattle.std.proofs.Common.{◌≡◌, ◌⊎◌, ◌∙◌, ◌∷◌, ◌++◌, ap, subst, ℕ, List, [], Option, Some, None, Result, Ok, Err, inl, inr, refl, sym}
+use Rattle.std.proofs.Common.{◌∷◌, ◌++◌, ap, subst, ℕ, List, [], Option, Some, None, Ok, Err, inl, inr, sym}
 use Rattle.std.proofs.KnownBytes.{Appends-trans}
 use Rattle.std.specs.Io.KnownBytes.{Appends}
 use Rattle.afdx_config.specs.Rows.{Rows}

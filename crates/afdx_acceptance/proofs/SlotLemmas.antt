@@ -7,7 +7,7 @@ use Rattle.afdx_conform.specs.Histories.{judged_of, newest_tag, shown, time_of, 
 use Rattle.afdx_conform.specs.Growing.{IsNoSooner}
 use Rattle.afdx_conform.specs.Standing.{Finds, IsEnding, due_of}
 use Rattle.afdx_police.specs.Arrival.{Arrival}
-use Rattle.afdx_conform.specs.Findings.{Found, Judged, Marked, found_at}
+use Rattle.afdx_conform.specs.Findings.{Judged, Marked, found_at}
 use Rattle.afdx_conform.specs.declared.finding.Finding.{Finding}
 use Rattle.afdx_conform.specs.Streams.{Gone, Terms}
 use Rattle.afdx_text.specs.declared.conform_line.ConformLine.{ConformLine}

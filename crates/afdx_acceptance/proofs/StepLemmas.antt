@@ -1,6 +1,6 @@
 -- One step of what is kept of a key.
-use Rattle.std.proofs.Common.{◌≡◌, ℕ, ◌<◌, ◌≤◌, ◌⊎◌, inl, inr, Bool, true, false, List, [], ◌∷◌, ◌++◌, map, length, get_or, refl, sym, ap, ◌∙◌, subst, arith, true≢false}
-use Rattle.std.specs.Prelude.{Option, Some, None, Result, Ok, Err, IfOk, OnOk, reverse, All, Contains}
+use Rattle.std.proofs.Common.{◌≡◌, ℕ, ◌<◌, ◌≤◌, ◌⊎◌, inl, inr, true, List, length, refl, sym, ap, ◌∙◌, subst}
+use Rattle.std.specs.Prelude.{Option, Some, None, Result, Ok, Err, IfOk, OnOk, All, Contains}
 use Rattle.std.specs.List.{AllByRecursion}
 use Rattle.afdx_config.specs.Lawful.{IsLawfulSwitch}
 use Rattle.afdx_config.specs.Rows.{LinkRow, Rows}
@@ -10,7 +10,7 @@ use Rattle.afdx_conform.specs.Growing.{IsNoSooner}
 use Rattle.afdx_text.specs.declared.conform_line.ConformLine.{ConformLine}
 use Rattle.afdx_acceptance.specs.Awaited.{awaited}
 use Rattle.afdx_acceptance.specs.Choices.{Choices}
-use Rattle.afdx_acceptance.specs.Frames.{link_to, terms_at}
+use Rattle.afdx_acceptance.specs.Frames.{terms_at}
 use Rattle.afdx_acceptance.specs.Keeping.{AreKept, Given, IsOfLink, IsStreamOf, KeyStands, is_known, is_known_by, slot_at}
 use Rattle.afdx_acceptance.specs.Lines.{Due, of_key}
 use Rattle.afdx_acceptance.specs.Slots.{AreFalling, Ends, StrangersStand, StreamEnds, StreamStands, told_at}

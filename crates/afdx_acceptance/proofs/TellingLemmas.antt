@@ -1,6 +1,6 @@
 -- Lines that are told, and how many of them are findings.
-use Rattle.std.proofs.Common.{◌≡◌, ◌+◌, ◌≤◌, ◌<◌, ◌++◌, ◌∙◌, ℕ, Bool, List, [], ◌∷◌, Option, ap, append-nil, append_assoc}
-use Rattle.std.proofs.Common.{arith, drop, get_or, length, min, refl, subst, sym, take, true, false}
+use Rattle.std.proofs.Common.{◌≡◌, ◌+◌, ◌<◌, ◌++◌, ◌∙◌, ℕ, Bool, List, [], ◌∷◌, Option, ap, append-nil, append_assoc}
+use Rattle.std.proofs.Common.{arith, drop, get_or, length, min, refl, subst, sym, take}
 use Rattle.std.proofs.lemmas.List.{take-append-drop, take_more}
 use Rattle.std.proofs.KnownBytes.{Appends-trans}
 use Rattle.std.specs.Io.KnownBytes.{Appends}

@@ -1,5 +1,5 @@
 -- What a run has told, step by step.
-use Rattle.std.proofs.Common.{◌≡◌, ◌+◌, ◌++◌, ◌∷◌, ◌∙◌, [], ℕ, Bool, List, Option, ap, arith, length, min, refl, subst, sym}
+use Rattle.std.proofs.Common.{◌≡◌, ◌+◌, ◌++◌, ◌∷◌, ◌∙◌, [], ℕ, Bool, List, Option, ap, arith, min, refl, subst, sym}
 use Rattle.std.proofs.Common.{true, false}
 use Rattle.std.specs.List.{list_any}
 use Rattle.std.specs.Prelude.{Err, Ok, OnOk, Result}

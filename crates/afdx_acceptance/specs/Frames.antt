@@ -1,6 +1,6 @@
 -- Of the frames of two lists those of a stream, and those of none. Lists of frames have the newest
 -- first.
-use Rattle.std.specs.Prelude.{ℕ, ◌+◌, ◌*◌, Bool, true, false, not, ◌&&◌, nat_eq, nat_le, nat_lt, Option, Some, None, List, [], ◌∷◌, ◌++◌, filter, map, is_none, is_some, reverse, length, slice_get, option_and_then, if◌then◌else◌}
+use Rattle.std.specs.Prelude.{ℕ, ◌*◌, Bool, true, false, not, ◌&&◌, nat_eq, Option, Some, None, List, filter, map, is_some, slice_get, option_and_then, if◌then◌else◌}
 use Rattle.afdx_bounds.specs.Tables.{rule_of, byte_ns_at, goes_to}
 use Rattle.afdx_config.specs.Reading.{link_of}
 use Rattle.afdx_config.specs.Rows.{Rows, LinkRow}
@@ -11,7 +11,6 @@ use Rattle.afdx_lists.specs.declared.role.Role.{Role}
 use Rattle.afdx_lists.specs.declared.role.Role.TheVariants.{Came, Left}
 use Rattle.afdx_inputs.specs.Joining.{Frame}
 use Rattle.afdx_police.specs.Arrival.{Arrival, names}
-use Rattle.afdx_conform.specs.Leeway.{both_slacks}
 use Rattle.afdx_conform.specs.Streams.{Gone, Terms}
 use Rattle.afdx_acceptance.specs.Choices.{Choices, counted}
 

@@ -1,5 +1,5 @@
 -- What is kept of all keys stands for what was given of each, and for the lines that are told.
-use Rattle.std.specs.Prelude.{◌≡◌, ℕ, ◌+◌, ◌*◌, ◌<◌, ◌≤◌, Bool, true, false, ◌&&◌, nat_eq, nat_lt, is_some, map, reverse, List, [], ◌∷◌, ◌++◌, length, get_or, All, Contains, Option, Some, None, Vec, if◌then◌else◌}
+use Rattle.std.specs.Prelude.{◌≡◌, ℕ, ◌+◌, ◌*◌, ◌≤◌, Bool, true, false, ◌&&◌, nat_eq, nat_lt, is_some, map, reverse, List, [], ◌∷◌, ◌++◌, length, get_or, All, Contains, Option, Some, None, Vec, if◌then◌else◌}
 use Rattle.std.specs.declared.alloc.Global.{Global}
 use Rattle.afdx_config.specs.Rows.{Rows, LinkRow}
 use Rattle.std.specs.List.{list_any}

@@ -1,6 +1,6 @@
 -- The lines that a run writes of the frames of two lists, before its last line. Lists of frames and
 -- of lines have the newest first.
-use Rattle.std.specs.Prelude.{ℕ, ◌+◌, ◌*◌, ◌<◌, ◌≤◌, ◌≡◌, Bool, true, false, ⊤, Option, Some, None, List, [], ◌∷◌, ◌++◌, filter, map, is_some, reverse, if◌then◌else◌}
+use Rattle.std.specs.Prelude.{ℕ, ◌+◌, ◌*◌, ◌<◌, ◌≤◌, ◌≡◌, Bool, true, ⊤, Option, Some, None, List, [], ◌∷◌, ◌++◌, filter, map, is_some, reverse, if◌then◌else◌}
 use Rattle.std.specs.Option.{option_map_or}
 use Rattle.afdx_config.specs.Rows.{Rows, LinkRow}
 use Rattle.afdx_frame.specs.declared.link.Side.{Side}

@@ -1,8 +1,7 @@
 -- Lines that are told. A list of them has the oldest first.
-use Rattle.std.specs.Prelude.{ℕ, ◌+◌, Bool, true, false, List, [], ◌∷◌, ◌++◌, if◌then◌else◌}
+use Rattle.std.specs.Prelude.{ℕ, ◌+◌, Bool, true, false, List, [], ◌∷◌, ◌++◌}
 use Rattle.afdx_text.specs.ConformLines.{conform_text}
 use Rattle.afdx_text.specs.declared.conform_line.ConformLine.{ConformLine}
-use Rattle.afdx_text.specs.declared.conform_line.Answer.{Answer}
 use Rattle.afdx_text.specs.declared.conform_line.ConformLine.TheVariants.{Strange, Passed, Stopped, Late, Early, Unsure, Judged}
 
 -- it says what the switch did wrong

@@ -1,4 +1,4 @@
-use Rattle.std.proofs.Common.{◌≡◌, ℕ, ◌≤◌, true, false, length, true≢false, sym, subst}
+use Rattle.std.proofs.Common.{◌≤◌, length, true≢false, sym, subst}
 use Rattle.afdx_acceptance.proofs.KeyLemmas.{not-beyond}
 use Rattle.afdx_acceptance.proofs.kept.is_due.Goals as goal
 

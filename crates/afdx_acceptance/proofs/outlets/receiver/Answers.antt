@@ -1,4 +1,3 @@
-use Rattle.std.proofs.Common.{ap, Some, sym, ◌∙◌}
 use Rattle.afdx_config.specs.Rows.{link_row}
 use Rattle.afdx_acceptance.proofs.OutletLemmas.{receiver-known}
 use Rattle.afdx_acceptance.proofs.outlets.receiver.Goals as goal

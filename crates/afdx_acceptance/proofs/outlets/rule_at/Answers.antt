@@ -1,4 +1,4 @@
-use Rattle.std.proofs.Common.{Some, sym, ap, ◌∙◌, subst}
+use Rattle.std.proofs.Common.{sym, ap, ◌∙◌}
 use Rattle.std.proofs.lemmas.Option.{same_Some}
 use Rattle.afdx_bounds.specs.Tables.{rule_of as rule_in}
 use Rattle.afdx_config.specs.Rows.{link_row, system_row}

@@ -12,7 +12,6 @@ use Rattle.afdx_acceptance.specs.Choices.{Choices}
 use Rattle.afdx_acceptance.specs.ChoicesOf.{choices_of}
 use Rattle.afdx_acceptance.specs.Ran.{WritesLines}
 use Rattle.afdx_acceptance.specs.Told.{BeginsLines}
-use Rattle.afdx_acceptance.specs.Totals.{last_line}
 use Rattle.afdx_acceptance.proofs.run.run_conform.Goals as goal
 
 -- there was no memory

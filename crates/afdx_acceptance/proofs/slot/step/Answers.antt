@@ -1,5 +1,4 @@
 use Rattle.std.proofs.Common.{◌≡◌, Some, sym, ap, ◌∙◌, subst}
-use Rattle.afdx_acceptance.specs.Lines.{Due}
 use Rattle.afdx_acceptance.specs.Slots.{StreamEnds, StreamStands, told_at}
 use Rattle.afdx_acceptance.specs.Waiting.{slot_due}
 use Rattle.afdx_conform.specs.Standing.{IsEnding, StandsFor, due_of}

@@ -1,8 +1,6 @@
-use Rattle.std.proofs.Common.{None, refl}
+use Rattle.std.proofs.Common.{refl}
 use Rattle.std.proofs.lemmas.Bool.{lt-ltb}
 use Rattle.afdx_acceptance.specs.Keeping.{is_known}
-use Rattle.afdx_acceptance.specs.Keys.{key_with}
-use Rattle.afdx_acceptance.proofs.GivenLemmas.{falling-more, given-strange}
 use Rattle.afdx_acceptance.proofs.streams.leave_strange.Goals as goal
 
 pub returns : goal.returns

@@ -1,4 +1,4 @@
-use Rattle.std.proofs.Common.{arith, refl, sym, ◌∙◌, ◌≡◌, true, false}
+use Rattle.std.proofs.Common.{arith, refl, sym, ◌∙◌, true, false}
 use Rattle.afdx_acceptance.proofs.TellingLemmas.{counted-next, no-findings}
 use Rattle.afdx_acceptance.proofs.telling.findings_in.Goals as goal
 use Rattle.afdx_acceptance.proofs.telling.findings_in.Goals.{then-is_finding, else-is_finding}

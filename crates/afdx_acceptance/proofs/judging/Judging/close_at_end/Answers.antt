@@ -1,8 +1,7 @@
-use Rattle.std.proofs.Common.{◌≡◌, ◌<◌, ◌≤◌, None, Some, refl, sym, ap, ◌∙◌, subst, arith, true, false}
+use Rattle.std.proofs.Common.{◌≡◌, ◌≤◌, None, Some, sym, ap, ◌∙◌, subst, arith, true, false}
 use Rattle.std.specs.Prelude.{is_some}
 use Rattle.std.proofs.lemmas.Option.{same_Some}
 use Rattle.afdx_acceptance.specs.Choices.{latest_of, until_or}
-use Rattle.afdx_acceptance.specs.Told.{IsEndFor}
 use Rattle.afdx_acceptance.proofs.AddedLemmas.{on-ok}
 use Rattle.afdx_acceptance.proofs.FullLemmas.{none-end, not-ended, said-end, stands-last}
 use Rattle.afdx_acceptance.proofs.judging.Judging.close_at_end.Goals as goal

@@ -1,9 +1,6 @@
-use Rattle.std.proofs.Common.{◌≡◌, ◌<◌, ◌≤◌, ◌+◌, None, Some, refl, sym, ap, ◌∙◌, subst, arith, true, false, true≢false}
+use Rattle.std.proofs.Common.{◌≡◌, ◌≤◌, Some, sym, ap, ◌∙◌, subst, arith, false, true≢false}
 use Rattle.std.specs.Prelude.{is_some}
 use Rattle.std.proofs.lemmas.Option.{same_Some}
-use Rattle.afdx_text.proofs.OutputLemmas.{on-err}
-use Rattle.afdx_acceptance.specs.ChoicesOf.{choices_of}
-use Rattle.afdx_acceptance.specs.Told.{IsEndFor}
 use Rattle.afdx_acceptance.proofs.AddedLemmas.{on-ok}
 use Rattle.afdx_acceptance.proofs.FullLemmas.{not-ended, raised, said-end}
 use Rattle.afdx_acceptance.proofs.judging.Judging.close_before.Goals as goal

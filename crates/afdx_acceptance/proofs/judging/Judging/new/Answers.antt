@@ -1,4 +1,4 @@
-use Rattle.std.proofs.Common.{◌≡◌, [], None, refl, sym, ap, ◌∙◌, arith}
+use Rattle.std.proofs.Common.{[], refl, sym, ap, ◌∙◌, arith}
 use Rattle.std.specs.Prelude.{is_some}
 use Rattle.afdx_acceptance.specs.ChoicesOf.{choices_of}
 use Rattle.afdx_acceptance.proofs.ToldLemmas.{tells-none}

@@ -1,15 +1,14 @@
 use Rattle.std.proofs.Common.{arith, false, sym, true, ◌∙◌}
 use Rattle.afdx_acceptance.proofs.ToldLemmas.{left-out-is, missed-in, missed-next, missed-out, on-ok}
-use Rattle.std.proofs.Common.{◌≡◌, ◌+◌, ◌<◌, ◌≤◌, ◌∷◌, ℕ, List, length, refl, ap, subst}
+use Rattle.std.proofs.Common.{◌≡◌, ◌<◌, ◌≤◌, ◌∷◌, ℕ, List, length, refl, ap, subst}
 use Rattle.std.specs.Prelude.{OnOk}
 use Rattle.afdx_conform.specs.LimitRanges.{most_bytes}
 use Rattle.afdx_inputs.specs.Joining.{Frame}
 use Rattle.afdx_lists.specs.declared.role.Role.TheVariants.{Came, Left}
-use Rattle.afdx_police.specs.Arrival.{Arrival, arrival_with}
+use Rattle.afdx_police.specs.Arrival.{arrival_with}
 use Rattle.afdx_acceptance.specs.Choices.{Choices, counts, is_in_time, is_left_out}
 use Rattle.afdx_acceptance.specs.Frames.{frame_with}
-use Rattle.afdx_acceptance.specs.Standing.{IsBehindAll, StreamsStand}
-use Rattle.afdx_acceptance.proofs.AddedLemmas.{on-ok as ok-to}
+use Rattle.afdx_acceptance.specs.Standing.{StreamsStand}
 use Rattle.afdx_acceptance.proofs.FullLemmas.{behind-later, does-count, out-of-choice, out-of-time, next-on, running-then, stand-skipped, stands-next, too-long}
 use Rattle.afdx_acceptance.specs.ChoicesOf.{choices_of}
 use Rattle.afdx_engine.specs.Engine.{item_of}

@@ -1,4 +1,4 @@
-use Rattle.std.proofs.Common.{◌≡◌, ◌++◌, None, refl, sym, ap, ◌∙◌, subst, arith}
+use Rattle.std.proofs.Common.{◌++◌, refl, sym, ap, ◌∙◌, subst, arith}
 use Rattle.afdx_acceptance.specs.Keeping.{IsSomeUpTo}
 use Rattle.afdx_acceptance.specs.Slots.{told_at}
 use Rattle.afdx_acceptance.specs.Standing.{StreamsStand}

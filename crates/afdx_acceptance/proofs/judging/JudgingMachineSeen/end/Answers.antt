@@ -1,4 +1,4 @@
-use Rattle.std.proofs.Common.{◌≡◌, ◌∙◌, None, Some, true, ap, arith, refl, sym}
+use Rattle.std.proofs.Common.{◌∙◌, true, ap, arith, sym}
 use Rattle.std.specs.Prelude.{is_some}
 use Rattle.afdx_inputs.specs.Joining.{frames_of}
 use Rattle.afdx_text.proofs.OutputLemmas.{on-err}

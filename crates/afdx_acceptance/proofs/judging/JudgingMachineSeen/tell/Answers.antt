@@ -1,8 +1,6 @@
-use Rattle.std.proofs.Common.{◌≡◌, ◌+◌, ◌<◌, ◌≤◌, ◌∷◌, ◌∙◌, List, arith, false, inl, length, refl, sym}
-use Rattle.afdx_conform.specs.Ranges.{most_held}
-use Rattle.afdx_engine.specs.Engine.{Item, item_of}
+use Rattle.std.proofs.Common.{◌≤◌, ◌∷◌, arith, false, inl, refl}
+use Rattle.afdx_engine.specs.Engine.{item_of}
 use Rattle.afdx_inputs.specs.Joining.{Frame, frame_of, frames_of}
-use Rattle.afdx_inputs.specs.declared.seen.Seen.{Seen}
 use Rattle.afdx_text.proofs.OutputLemmas.{on-err}
 use Rattle.afdx_acceptance.specs.Choices.{latest_of}
 use Rattle.afdx_acceptance.proofs.EndLemmas.{are-few, latest-same}

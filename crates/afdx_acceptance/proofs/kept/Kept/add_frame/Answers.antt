@@ -1,9 +1,7 @@
-use Rattle.std.proofs.Common.{◌≡◌, ℕ, ◌<◌, List, length, set, sym, ap, ◌∙◌, subst}
+use Rattle.std.proofs.Common.{◌≡◌, set, sym, ap, subst}
 use Rattle.afdx_conform.specs.Limits.{gone_of}
-use Rattle.afdx_acceptance.specs.Awaited.{Awaits}
 use Rattle.afdx_acceptance.specs.Frames.{terms_at}
 use Rattle.afdx_acceptance.specs.Keeping.{slot_at}
-use Rattle.afdx_acceptance.specs.Keys.{key_place}
 use Rattle.afdx_acceptance.specs.Lines.{of_key}
 use Rattle.afdx_acceptance.specs.Slots.{IsNewlyDue, IsStream, StreamStands}
 use Rattle.afdx_conform.specs.Growing.{IsSameOrLater}

@@ -1,6 +1,5 @@
-use Rattle.std.proofs.Common.{◌≡◌, ◌<◌, length, set, sym, ap, subst}
+use Rattle.std.proofs.Common.{◌≡◌, set, sym, ap, subst}
 use Rattle.afdx_acceptance.specs.Keeping.{slot_at}
-use Rattle.afdx_acceptance.specs.Keys.{key_place}
 use Rattle.afdx_acceptance.specs.Lines.{of_key}
 use Rattle.afdx_acceptance.specs.Slots.{IsNewlyDue, IsStrange, StrangersStand, waiting_due}
 use Rattle.afdx_conform.specs.Growing.{IsSameOrLater}

@@ -1,4 +1,4 @@
-use Rattle.std.proofs.Common.{◌≡◌, ◌<◌, ◌≤◌, length, sym, subst, arith}
+use Rattle.std.proofs.Common.{arith}
 use Rattle.afdx_acceptance.specs.Keys.{key_place}
 use Rattle.afdx_acceptance.proofs.AddedLemmas.{stands-within}
 use Rattle.afdx_acceptance.proofs.StepLemmas.{kept-ended}

@@ -1,7 +1,6 @@
-use Rattle.std.proofs.Common.{◌≡◌, ◌<◌, ◌≤◌, [], ◌++◌, length, map, set, refl, sym, ap, ◌∙◌, subst, arith}
+use Rattle.std.proofs.Common.{◌≡◌, [], ◌++◌, map, set, refl, sym, ap, ◌∙◌, subst, arith}
 use Rattle.std.specs.Prelude.{reverse}
 use Rattle.afdx_acceptance.specs.Keeping.{slot_at}
-use Rattle.afdx_acceptance.specs.Keys.{key_place}
 use Rattle.afdx_acceptance.specs.Slots.{IsStrange, StrangersStand, waiting_due}
 use Rattle.afdx_acceptance.specs.Waiting.{first_time, slot_due}
 use Rattle.afdx_acceptance.specs.declared.kept.Kept.{Kept}

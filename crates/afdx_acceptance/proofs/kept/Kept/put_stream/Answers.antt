@@ -1,9 +1,8 @@
-use Rattle.std.proofs.Common.{◌≡◌, ℕ, ◌<◌, ◌≤◌, [], length, set, refl, sym, ap, ◌∙◌, subst, arith}
+use Rattle.std.proofs.Common.{[], set, refl, sym, ap, ◌∙◌, subst, arith}
 use Rattle.afdx_conform.specs.Histories.{nothing_judged}
 use Rattle.afdx_conform.specs.Standing.{StandsFor, due_of}
 use Rattle.afdx_acceptance.specs.Frames.{terms_at}
 use Rattle.afdx_acceptance.specs.Keeping.{slot_at}
-use Rattle.afdx_acceptance.specs.Keys.{key_place}
 use Rattle.afdx_acceptance.specs.Lines.{judged_dues}
 use Rattle.afdx_acceptance.specs.Slots.{IsStream, StreamStands}
 use Rattle.afdx_acceptance.specs.Waiting.{slot_due}

@@ -1,9 +1,8 @@
-use Rattle.std.proofs.Common.{Global, ◌≡◌, ◌<◌, ◌≤◌, Some, List, length, get_or, set, refl, sym, ap, ◌∙◌, subst, Vec}
+use Rattle.std.proofs.Common.{Global, ◌≡◌, ◌<◌, Some, List, length, set, sym, ap, ◌∙◌, subst, Vec}
 use Rattle.std.specs.Prelude.{Ok}
 use Rattle.std.specs.declared.alloc.AllocError.{AllocError}
 use Rattle.afdx_acceptance.specs.Awaited.{Awaits}
 use Rattle.afdx_acceptance.specs.Keeping.{KeyStands, kept_with, slot_at}
-use Rattle.afdx_acceptance.specs.Keys.{key_place}
 use Rattle.afdx_acceptance.specs.Lines.{of_key}
 use Rattle.afdx_acceptance.specs.Waiting.{slot_due}
 use Rattle.afdx_acceptance.specs.declared.agenda.Entry.{Entry}

@@ -1,19 +1,16 @@
-use Rattle.std.proofs.Common.{Bool, true, ◌∷◌, ◌≡◌, ℕ, ◌+◌, ◌<◌, ◌≤◌, List, Option, length, None, Some, get_or, refl, sym, ap, ◌∙◌, subst, arith}
+use Rattle.std.proofs.Common.{true, ◌∷◌, ◌≡◌, ℕ, None, Some, get_or, refl, sym, ap, ◌∙◌, subst, arith}
 use Rattle.std.proofs.lemmas.Option.{slice_get-get_or}
 use Rattle.std.specs.Prelude.{is_some}
-use Rattle.std.specs.List.{AllByRecursion}
 use Rattle.afdx_bounds.specs.Tables.{port_of}
 use Rattle.afdx_config.specs.Rows.{LinkRow, Rows}
 use Rattle.afdx_police.specs.Arrival.{Arrival, arrival_with}
 use Rattle.afdx_police.specs.Shape.{fault_of}
 use Rattle.afdx_lists.specs.declared.role.Role.TheVariants.{Left}
 use Rattle.afdx_text.specs.declared.conform_line.ConformLine.TheVariants.{Strange}
-use Rattle.afdx_text.specs.declared.strange.StrangeReason.{StrangeReason}
-use Rattle.afdx_acceptance.specs.Frames.{frame_with, gone_of, is_stranger, link_to, place_named}
+use Rattle.afdx_acceptance.specs.Frames.{frame_with, gone_of, is_stranger, place_named}
 use Rattle.afdx_acceptance.specs.Keeping.{AreKept, given_of, with_left, with_strange}
 use Rattle.afdx_acceptance.specs.Keys.{key_with}
-use Rattle.afdx_acceptance.specs.Lines.{Due, due_at, stranger_by, stranger_reason}
-use Rattle.afdx_acceptance.specs.Slots.{waiting_due}
+use Rattle.afdx_acceptance.specs.Lines.{due_at, stranger_by, stranger_reason}
 use Rattle.afdx_acceptance.specs.Standing.{StreamsStand, streams_with}
 use Rattle.afdx_acceptance.specs.declared.key.Key.{Key}
 use Rattle.afdx_acceptance.proofs.AddedLemmas.{on-ok}

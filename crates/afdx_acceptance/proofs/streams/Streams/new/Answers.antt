@@ -1,6 +1,5 @@
 use Rattle.std.proofs.Common.{refl, ◌+◌, ◌*◌, ap}
-use Rattle.afdx_acceptance.specs.Keeping.{given_of, nothing_given}
-use Rattle.afdx_acceptance.proofs.GivenLemmas.{given-none, kept-same}
+use Rattle.afdx_acceptance.proofs.GivenLemmas.{given-none}
 use Rattle.afdx_acceptance.proofs.streams.Streams.new.Goals as goal
 
 pub returns-clause-stands : goal.returns-clause-stands

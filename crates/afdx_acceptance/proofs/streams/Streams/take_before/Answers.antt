@@ -1,6 +1,3 @@
-use Rattle.std.proofs.Common.{Option, Some, None}
-use Rattle.std.specs.Prelude.{IfSome, IfNone}
-use Rattle.afdx_acceptance.specs.Slots.{told_at}
 use Rattle.afdx_acceptance.proofs.AddedLemmas.{if-none, if-some}
 use Rattle.afdx_acceptance.proofs.streams.Streams.take_before.Goals as goal
 
