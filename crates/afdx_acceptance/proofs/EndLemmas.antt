@@ -21,7 +21,7 @@ use Rattle.afdx_acceptance.specs.Frames.{link_to, terms_at}
 use Rattle.afdx_acceptance.specs.Keeping.{AreKept, IsNothingDue, IsOfLink, IsStreamOf, given_by, given_of, given_to, is_known, is_known_by, slot_at}
 use Rattle.afdx_acceptance.specs.Lines.{AreLines, Due, dues_by, dues_of, judged_dues, of_key, stream_dues}
 use Rattle.afdx_acceptance.specs.Slots.{IsCounted, StrangersStand, StreamEnds, waiting_due}
-use Rattle.afdx_acceptance.specs.Told.{MayEnd, TellsOf, TellsToEnd, lines_of}
+use Rattle.afdx_acceptance.specs.Told.{MayEnd, TellsAll, TellsOf, TellsToEnd, lines_of}
 use Rattle.afdx_acceptance.specs.Waiting.{first_time, slot_due}
 use Rattle.afdx_acceptance.specs.declared.judging.Judging.{Judging}
 use Rattle.afdx_acceptance.specs.declared.kept.Kept.{Kept}
@@ -49,9 +49,13 @@ pub known-end : (o : Option ℕ) → is_some o ≡ true → (end : ℕ) × (o �
 known-end None e = absurd (true≢false (sym e))
 known-end (Some end) e = (end, refl)
 
-pub ok-both : {V E : Type 0} {P Q R : Type 0} (r : Result V E) → (P → Q → R) → OnOk r P → OnOk r Q → OnOk r R
-ok-both (Ok v) f p q = f p q
-ok-both (Err e) f p q = tt
+-- all is told once nothing is due
+pub ends-all : {V E : Type 0} (r : Result V E) (k : Rows × Choices) (j : Judging) (old new : Option (List ℕ))
+    (past : List (Item Seen)) (time : ℕ) → is_some j.streams.ended ≡ true
+    → OnOk r (TellsAll k true time j old new (frames_of past)) → OnOk r (IsNothingDue k.0 None j.streams.kept)
+    → OnOk r (TellsToEnd k j old new past)
+ends-all (Ok v) k j old new past time some told none = (time, told, some, none)
+ends-all (Err e) k j old new past time some told none = tt
 
 -- ---- the lines of one key
 
@@ -82,10 +86,6 @@ all-strange k all lines (slot.Strangers s) none stands = go s.value.waiting.item
     go [] e h = sym h
     go (x ∷ w) e h = absurd (cc e)
 all-strange k all lines (slot.Stream s) none stands = absurd stands
-
-counted-at : (slots : List Slot) (i : ℕ) → ((n : ℕ) → n < length slots → IsCounted (get_or slots n slot.Nothing))
-    → i < length slots → IsCounted (get_or slots i slot.Nothing)
-counted-at slots i all within = all i within
 
 not-there : (o : Option LinkRow) → is_some o ≡ false → o ≡ None
 not-there None e = refl

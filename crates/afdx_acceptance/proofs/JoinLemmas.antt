@@ -270,7 +270,7 @@ module _ (t : Rows) (c : Choices) (until : ℕ) (ended : Option ℕ) (time : ℕ
       (λ k. subst (λ g. AreFalling g.strange) (sym (given-more (frame_with Left a) k e)) (by k k.link
       (subst (λ g. AreFalling g.strange) (given-from t c frames k) (falling k))
       (subst (λ g. AllByRecursion (λ d. d.moment ≤ a.time) g.strange) (given-from t c frames k)
-          (strange-times t c frames a.time all k)))) are
+      (strange-times t c frames a.time all k)))) are
     where
       by : (k : Key) (o : Option ℕ) → AreFalling (given_from t k (counted c frames) o).strange
           → AllByRecursion (λ d. d.moment ≤ a.time) (given_from t k (counted c frames) o).strange

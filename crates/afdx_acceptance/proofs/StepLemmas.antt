@@ -71,7 +71,7 @@ module _ (t : Rows) (c : Choices) (until : ℕ) (time : ℕ) (key : Key) (given 
         (let s = to-strangers t c until ended time key given lines before none stands in
         both-ok (λ told. KeyStands t c until ended time key given (told_at key m (items told) lines) after)
         (IsNoSooner m (slot_due after)) r (if-ok (λ told p. from-strangers t c until ended time key given
-            (told_at key m (items told) lines) after none p) r
+        (told_at key m (items told) lines) after none p) r
         (strangers given.strange lines m due s)) (later given.strange lines m falling due s))
     | inr of ↦ by-end ended of.0 of.1 streams ends lt stands
   ]

@@ -17,7 +17,6 @@ use Rattle.afdx_conform.specs.declared.finding.Finding.{Finding}
 use Rattle.afdx_conform.specs.declared.finding.Finding.TheVariants as finding
 use Rattle.afdx_conform.specs.declared.finding.Strangeness.{Strangeness}
 use Rattle.afdx_conform.specs.declared.finding.Strangeness.TheVariants as strangeness
-use Rattle.afdx_text.specs.ConformLines.{conform_text}
 use Rattle.afdx_text.specs.declared.conform_line.ConformLine.{ConformLine}
 use Rattle.afdx_text.specs.declared.conform_line.ConformLine.TheVariants.{Strange, Passed, Stopped, Late, Early, Unsure}
 use Rattle.afdx_text.specs.declared.strange.StrangeReason.{StrangeReason}
@@ -47,11 +46,6 @@ last_rank (d ∷ before) = rank d
 unfoldable pub AreInOrder : List Due → Type 0
 AreInOrder [] = ⊤
 AreInOrder (d ∷ before) = (last_rank before ≤ rank d) × AreInOrder before
-
--- their text
-unfoldable pub text_of : List Due → List ℕ
-text_of [] = []
-text_of (d ∷ before) = text_of before ++ conform_text d.line
 
 -- those of a key
 abbrev pub of_key : Key → List Due → List Due

@@ -1,9 +1,7 @@
 -- What is still to be told.
-use Rattle.std.specs.Prelude.{ℕ, ◌≡◌, ◌<◌, List, [], ◌∷◌, Option, Some, None, length, slice_get}
+use Rattle.std.specs.Prelude.{ℕ, List, [], ◌∷◌, Option, Some, None, length}
 use Rattle.std.specs.List.{sum_by}
 use Rattle.afdx_conform.specs.Standing.{due_of, undecided_in}
-use Rattle.afdx_acceptance.specs.Keys.{key_place}
-use Rattle.afdx_acceptance.specs.declared.agenda.Entry.{Entry}
 use Rattle.afdx_acceptance.specs.declared.slot.Slot.{Slot}
 use Rattle.afdx_acceptance.specs.declared.slot.Slot.TheVariants.{Nothing, Strangers, Stream}
 use Rattle.afdx_acceptance.specs.declared.strangers.Stranger.{Stranger}
@@ -28,10 +26,3 @@ slot_left (Stream stream) = undecided_in stream.value
 -- and in all slots
 abbrev pub left_in : List Slot → ℕ
 left_in slots = sum_by slot_left slots
-
--- that is what is due in the slot of its key
-pub record IsDue (slots : List Slot) (entry : Entry) : Type 0 where
-  pub slot : Slot
-  pub within : key_place entry.key < length slots
-  pub stands : slice_get slots (key_place entry.key) ≡ Some slot
-  pub due : slot_due slot ≡ Some entry.moment

@@ -19,7 +19,7 @@ returns c c' until time given lines l at to by le start all few kept =
     let lawful = c.in_ok-key.ensures.lawful in
     let here = slice_get-get_or t.systems c.args.system.0 no-system c.requires.system in
     let is : IsStreamOf t key l = goes-there t c.args.link l c.args.system.0
-        (get_or t.systems c.args.system.0 no-system) lawful at here to in
+    (get_or t.systems c.args.system.0 no-system) lawful at here to in
     let same : key ≡ c.in_ok-key.key = sym c.in_ok-key.ensures.key in
     let made = c.in_ok-key.ensures.stands c' until time given lines l at to by kept in
     on-ok (λ k. subst (λ q. AreKept t c' until None time (with_left q (gone_of c.args.frame) given) lines c.add_frame.new.self)

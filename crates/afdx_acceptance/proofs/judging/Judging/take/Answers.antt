@@ -75,25 +75,25 @@ returns-then-not-is_in_time-clause-stands c k frames lines chosen latest few sta
     let x : Frame = frame_of (item_of c.args.n c.args.seen.now c.args.message.now) in
     stands-next k frames x c.args.self.now c.args.self.now lines latest
     (λ until dues s. stand-skipped k.0 k.1 until x.arrival.time x frames dues c.args.self.now.streams
-        (out-of-time k.1 x (subst (λ o. is_in_time o x ≡ false) chosen (sym
-            (c.is_in_time.ensures c.args.message.now c.args.n) ∙ c.if-not-is_in_time.true))) s) refl refl stands
+    (out-of-time k.1 x (subst (λ o. is_in_time o x ≡ false) chosen (sym
+    (c.is_in_time.ensures c.args.message.now c.args.n) ∙ c.if-not-is_in_time.true))) s) refl refl stands
 
 pub returns-then-is_left_out-clause-stands : goal.returns-then-is_left_out-clause-stands
 returns-then-is_left_out-clause-stands c k frames lines chosen latest few stands =
     let x : Frame = frame_of (item_of c.args.n c.args.seen.now c.args.message.now) in
     stands-next k frames x c.args.self.now _ lines latest
     (λ until dues s. stand-skipped k.0 k.1 until x.arrival.time x frames dues c.args.self.now.streams
-        (out-of-choice k.1 x (subst (λ o. is_left_out o x ≡ true) chosen
+    (out-of-choice k.1 x (subst (λ o. is_left_out o x ≡ true) chosen
     (left-out-is (choices_of c.args.self.now.choices.now) x true c.vl_of-vl.result c.as_slice.result.now
     (sym c.if-is_left_out.true ∙ c.is_left_out.ensures) c.vl_of-vl.ensures.computed
-        (c.as_slice.ensures.value ∙ c.in_ok-bytes.ensures)))) s) refl refl stands
+    (c.as_slice.ensures.value ∙ c.in_ok-bytes.ensures)))) s) refl refl stands
 
 pub returns-then-len-gt-MOST_BYTES-clause-stands : goal.returns-then-len-gt-MOST_BYTES-clause-stands
 returns-then-len-gt-MOST_BYTES-clause-stands c k frames lines chosen latest few stands =
     let x : Frame = frame_of (item_of c.args.n c.args.seen.now c.args.message.now) in
     stands-next k frames x c.args.self.now c.args.self.now lines latest
     (λ until dues s. stand-skipped k.0 k.1 until x.arrival.time x frames dues c.args.self.now.streams (too-long k.1 x
-        (subst (λ (b : List ℕ). most_bytes < length b) c.in_ok-bytes.ensures
+    (subst (λ (b : List ℕ). most_bytes < length b) c.in_ok-bytes.ensures
     (let l = c.len.ensures in let test = c.if-len-gt-MOST_BYTES.true in omega (arith, l, test)))) s) refl refl stands
 
 pub returns-in-Came-clause-stands : goal.returns-in-Came-clause-stands
@@ -111,14 +111,14 @@ returns-in-Came-clause-stands c k frames lines chosen latest few stands =
     let same : frame_with Came (arrival_with c.args.n h.time h.side h.port bytes) ≡ x =
     ap (λ r. frame_with r (arrival_with c.args.n h.time h.side h.port bytes)) (sym c.in-Came.is)
     ∙ ap (λ b. frame_with c.args.seen.now.role (arrival_with c.args.n h.time h.side h.port b))
-        (c.as_slice-in-Came.ensures.value ∙ c.in_ok-bytes.ensures) in
+    (c.as_slice-in-Came.ensures.value ∙ c.in_ok-bytes.ensures) in
     let count = does-count k.1 x in-time out (subst (λ (b : List ℕ). length b ≤ most_bytes) c.in_ok-bytes.ensures
     (let l = c.len.ensures in let test = c.if-len-gt-MOST_BYTES.false in omega (arith, l, test))) in
     next-on c.came.result k frames x c.args.self.now _ lines latest
     (λ until dues s. subst (λ f. OnOk c.came.result (StreamsStand k.0 k.1 until (f ∷ frames) dues h.time c.came.new.self)) same
     (c.came.ensures.stands k.0 k.1 until h.time frames dues
     (c.vl_of-vl.ensures.computed ∙ ap link_named_by (c.as_slice.ensures.value ∙ sym c.as_slice-in-Came.ensures.value))
-        (ap (λ f. counts k.1 f) same ∙ count) (omega arith)
+    (ap (λ f. counts k.1 f) same ∙ count) (omega arith)
     (behind-later frames h.time latest stands.by_time) few none s)) c.came.ensures.ended refl stands
 
 pub returns-in-Left-clause-stands : goal.returns-in-Left-clause-stands

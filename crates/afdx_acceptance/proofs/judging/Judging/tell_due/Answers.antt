@@ -41,7 +41,7 @@ loop-lines-preserved g c = record {
               subst (λ st. StreamsStand k.0 k.1 until frames (told_at l.key l.moment l.lines.items dues) time st)
                   (sym c.tell_lines.ensures.others.streams)
                   (some-there c.in_ok-lines.field-0 l (λ x. StreamsStand k.0 k.1 until frames
-                      (told_at x.key x.moment x.lines.items dues) time
+                  (told_at x.key x.moment x.lines.items dues) time
                   c.take_before.new.self) c.in-Some.is
                   (c.in_ok-lines.ensures.told k.0 k.1 until time frames dues (λ none. up (sym c.loop-lines.invariant.ended ∙ none)) s)),
             ))

@@ -2,7 +2,7 @@ use Rattle.std.proofs.Common.{◌∙◌, true, ap, arith, sym}
 use Rattle.std.specs.Prelude.{is_some}
 use Rattle.afdx_inputs.specs.Joining.{frames_of}
 use Rattle.afdx_text.proofs.OutputLemmas.{on-err}
-use Rattle.afdx_acceptance.proofs.EndLemmas.{known-end, ok-both}
+use Rattle.afdx_acceptance.proofs.EndLemmas.{ends-all, known-end}
 use Rattle.afdx_acceptance.proofs.judging.JudgingMachineSeen.end.Goals as goal
 
 pub returns-in_err-close_at_end-clause-begins : goal.returns-in_err-close_at_end-clause-begins
@@ -14,7 +14,8 @@ returns-clause-done g c = λ k start past h.
     let mid = c.in_ok-close_at_end.ensures.stands k start (frames_of past) h in
     let all = mid.1 in
     let known = known-end c.close_at_end.new.self.streams.ended mid.2 in
-    ok-both c.tell_due.result (λ told none. (mid.0, told, ap (λ o. is_some o) c.tell_due.ensures.ended ∙ mid.2, none))
+    ends-all c.tell_due.result k c.tell_due.new.self start _ past mid.0
+    (ap (λ o. is_some o) c.tell_due.ensures.ended ∙ mid.2)
     (c.tell_due.ensures.stands k true mid.0 mid.0 start (frames_of past) (omega arith)
     (λ none. absurd (let bad = sym none ∙ known.1 in cc bad)) (λ end e is. all.2.running end e is)
     (λ end is. all.2.ends end is) all)

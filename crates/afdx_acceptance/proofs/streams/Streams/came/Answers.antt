@@ -92,7 +92,7 @@ returns-clause-stands c t c' until time frames lines vl e le behind few running 
     (came-start c' a e) (λ k. came-times r c' frames h.time (counted-behind c' frames h.time behind) k)
     (λ k. let n = came-few r c' frames k in omega (arith, n, few)) old in
     let joined = join-came r c' until None time frames lines c.loop-rank.self.kept c.link.ensures.lawful a link row e
-        named c.link.ensures.row
+    named c.link.ensures.row
     old.falling (subst (λ (l : List ℕ). AreKept r c' until None time (came_to h.side link (map (port_of r) l) a (given_of r c' frames))
     lines c.loop-rank.self.kept) whole new) in
     subst (λ (x : Rows). StreamsStand x c' until (frame_with Came a ∷ frames) lines time c.loop-rank.self) stand.tables (record {

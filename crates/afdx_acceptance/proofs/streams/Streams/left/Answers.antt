@@ -36,7 +36,7 @@ returns-in-Some-clause-stands c t c' until time frames lines vl e le behind few 
     subst (λ o. AreKept r c' until o time (given_of r c' frames) lines c.args.self.now.kept) running mine.kept in
     let n = left-few r c' frames key in
     on-ok (λ k. subst (λ (x : Rows). StreamsStand x c' until (frame_with Left a ∷ frames) lines time
-        (streams_with c.args.self.now c.leave_to.new.kept)) stand.tables (record {
+    (streams_with c.args.self.now c.leave_to.new.kept)) stand.tables (record {
       lawful = mine.lawful;
       tables = refl;
       by = mine.by;
@@ -67,7 +67,7 @@ returns-clause-stands c t c' until time frames lines vl e le behind few running 
     subst (λ o. AreKept r c' until o time (given_of r c' frames) lines c.args.self.now.kept) running mine.kept in
     let all = counted-behind c' frames h.time behind in
     on-ok (λ k. subst (λ (x : Rows). StreamsStand x c' until (frame_with Left a ∷ frames) lines time
-        (streams_with c.args.self.now c.leave_strange.new.kept)) stand.tables (record {
+    (streams_with c.args.self.now c.leave_strange.new.kept)) stand.tables (record {
       lawful = mine.lawful;
       tables = refl;
       by = mine.by;
@@ -75,7 +75,7 @@ returns-clause-stands c t c' until time frames lines vl e le behind few running 
           (frame_with Left a ∷ frames)) lines c.leave_strange.new.kept) (sym running)
           (join-strange r c' until None time frames lines c.leave_strange.new.kept mine.lawful a e strange all old.falling
           (subst (λ w. AreKept r c' until None time (with_strange key (due_at key h.time
-              (Strange c.args.n h.side h.port w)) (given_of r c' frames))
+          (Strange c.args.n h.side h.port w)) (given_of r c' frames))
           lines c.leave_strange.new.kept) why k));
     })) c.leave_strange.result
     (c.leave_strange.ensures r c' until time (given_of r c' frames) lines mine.lawful le

@@ -6,12 +6,12 @@ use Rattle.afdx_acceptance.proofs.totals.Totals.add.Goals as goal
 pub returns-then-is_some-clause-judged : goal.returns-then-is_some-clause-judged
 returns-then-is_some-clause-judged c =
     subst IsCounted (sym c.in-Stream.is) (counted-stream c.in-Stream.stream c.deref.result.now c.deref.ensures
-        c.counts-counts.ensures.judged)
+    c.counts-counts.ensures.judged)
 
 pub returns-else-is_some-clause-judged : goal.returns-else-is_some-clause-judged
 returns-else-is_some-clause-judged c =
     subst IsCounted (sym c.in-Stream.is) (counted-stream c.in-Stream.stream c.deref.result.now c.deref.ensures
-        c.counts-counts.ensures.judged)
+    c.counts-counts.ensures.judged)
 
 pub returns-in_default : goal.returns-in_default
 returns-in_default c = record {
