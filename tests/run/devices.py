@@ -9,13 +9,14 @@ error that is gone at the next call, by an interruption, or by moving no byte. `
 with admission and without, and `send` are run on lists of a few lines, read by path or as standard
 input, and `check` and `solve` on configurations; `police` and `replay` also on recordings, and on
 two at once, of which one is weak, if the program reads them (tests/lib/reads.py); `conform` on two
-lists, of which one is weak. `replay` and `send` are also run over several switches a side. Each run
-must write a beginning of the undisturbed text, exactly as far as it has to, and end with the status
-and the one line of the device that failed; and a device that failed, or has ended, must not be
-asked again, nor the other one be asked for more than what is held. With --line-buffered the text of
-each line, or recorded frame, must be handed over before more is read; frames that are held to be
-put in order are reported at the end and at a fault, and not after a failed read. The first bytes
-are also read one by one, and each of these reads is broken too.
+lists, of which one is weak, and on recordings once its help has `--left`. `replay` and `send` are
+also run over several switches a side. Each run must write a beginning of the undisturbed text,
+exactly as far as it has to, and end with the status and the one line of the device that failed; and
+a device that failed, or has ended, must not be asked again, nor the other one be asked for more
+than what is held. With --line-buffered the text of each line, or recorded frame, must be handed
+over before more is read; frames that are held to be put in order are reported at the end and at a
+fault, and not after a failed read. The first bytes are also read one by one, and each of these
+reads is broken too.
 Prints `ok NAME` or `FAILED NAME` for each case, then `N passed, M failed`; ends with status 1 if a
 case failed.
 """
@@ -39,6 +40,7 @@ from weak import ERRORS, FEW, WRITE, Weak, compile_devices  # noqa: E402
 from weak import large_texts, many_writes, weak_devices  # noqa: E402
 from weak_lists import weak_lists  # noqa: E402
 from weak_pairs import weak_pairs  # noqa: E402
+from weak_recorded import weak_recorded  # noqa: E402
 from weak_recordings import weak_recordings  # noqa: E402
 
 POLICE = ["police", "1", "64", "500"]
@@ -229,6 +231,7 @@ def try_all(cases: Cases, program: Program) -> None:
             *weak_recordings(program, config, two),
             *weak_pairs(program, config, two),
             *weak_lists(program),
+            *weak_recorded(program),
             *weak_configs(program),
             *untold_faults(program, config),
         ]

@@ -32,6 +32,7 @@ from hostile_recordings import hostile_recordings  # noqa: E402
 from least import solve_answer  # noqa: E402
 from program import Answer, Cases, Program, answers, main_of, must, same_text, short  # noqa: E402
 from sender import Message, list_sent, submission_list  # noqa: E402
+from weak_recorded import cut_cases  # noqa: E402
 
 MS = 1_000_000
 SOON = 20  # seconds
@@ -422,6 +423,7 @@ def conform_cases(cases: Cases, program: Program) -> Iterator[tuple]:
         yield f"{name}: beginnings of a list", frame_list_beginnings, command, FRAMES
         yield from line_cases(name, command)
     yield from hostile_lists(program)
+    yield from cut_cases(program)
 
 
 def try_all(cases: Cases, program: Program) -> None:

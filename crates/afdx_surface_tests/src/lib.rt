@@ -12,6 +12,8 @@ mod comport;
 #[cfg(test)]
 mod config;
 #[cfg(test)]
+mod conform;
+#[cfg(test)]
 mod frame;
 #[cfg(test)]
 mod police;
