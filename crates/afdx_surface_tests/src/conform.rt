@@ -17,20 +17,15 @@ fn stream(alloc: Global, rule: &LinkRule) -> Option<Stream> {
     Some(stream)
 }
 
-/// A copy of a frame of link 1.
-fn copy(alloc: Global) -> Result<Vec<u8>, AllocError> {
-    let mut bytes = Vec::new(alloc);
-    bytes.extend_from_slice(&hello(0))?;
-    Ok(bytes)
-}
-
 /// One arrival, and its frame.
 fn tell(alloc: Global, stream: &mut Stream, rule: &LinkRule) -> Result<(), AllocError> {
     let (number, side, port): (u64, Side, u8) = (1, Side::A, 1);
-    let arrived: Arrived = Arrived::new(rule, number, 0, side, port, copy(alloc)?);
+    let bytes: Vec<u8> = Vec::from_slice(alloc, &hello(0))?;
+    let arrived: Arrived = Arrived::new(rule, number, 0, side, port, bytes);
     let came: Result<(), AllocError> = stream.came(arrived);
     came?;
-    let (time, bytes): (u64, Vec<u8>) = (6_720, copy(alloc)?);
+    let time: u64 = 6_720;
+    let bytes: Vec<u8> = Vec::from_slice(alloc, &hello(0))?;
     let left: Result<(), AllocError> = stream.left(Frame {
         number,
         time,
