@@ -45,7 +45,6 @@ NUMBERS = CRATES / "afdx_frame/src/tables.rt"
 MEMORY = {
     "crates/afdx/src/telling.rt": {"memory"},
     "crates/afdx_config/src/asked.rt": {"links_in"},
-    "crates/afdx_conform/src/growth.rt": {"add_arrival", "add_frame"},  # behind 2^48 of them
     "crates/afdx_config/src/read.rt": {"tree_of"},
     "crates/afdx_commands/src/refusing.rt": {"want_memory"},
     "crates/afdx_send/src/fault.rt": {""},  # the row of a table
