@@ -108,6 +108,15 @@ def equal_times(judge: Judge) -> None:
     answers(found, 5, told + last, b"")
 
 
+def nothing_came(judge: Judge) -> None:
+    """30,000 frames of a stream leave at one moment, of which none came."""
+    count = 30_000
+    found = judged_soon(judge, Pair(CONFIGS["base"], b"", list_of("0", "left") * count, ()))
+    told = b"".join(b"strange %d A 3 no-arrival\n" % n for n in range(1, count + 1))
+    last = b"deviates %d explained 0 open 0 uncertain 0 left-out 0 unseen 0\n" % count
+    answers(found, 5, told + last, b"")
+
+
 def largest_tables(judge: Judge) -> None:
     """A frame of each of 4,096 links came, and none left any of 23 ports."""
     tables = made.largest_tables()
@@ -157,5 +166,6 @@ def hostile_lists(program: Program) -> Iterator[tuple]:
         yield f"conform, the greatest numbers, {seed}", largest_numbers, judge, seed
     yield "conform: the most lines", most_lines, judge
     yield "conform: equal times", equal_times, judge
+    yield "conform: nothing came", nothing_came, judge
     yield "conform: the largest tables", largest_tables, judge
     yield "conform: many states", many_states, judge

@@ -152,7 +152,7 @@ tell 'conform without standard input' "$(
     differs 'standard error' $'device Read\n' "$work/err"
 )"
 tell 'a person who waits for conform is told how much was read' "$(
-    { sleep 3 && cat "${lists[1]}"; } |
+    { sleep 4 && cat "${lists[1]}"; } |
         { python3 tests/lib/on_terminal.py "$program" conform --progress "$base" "${lists[0]}" - ||
             [[ $? -eq 5 ]]; } | tr '\r\033' '<e' >"$work/person"
     told='<e[K0 MiB read' # once or, on a busy machine, more often
