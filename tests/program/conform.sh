@@ -8,7 +8,7 @@ if ! "$program" conform --help >"$work/out" 2>&1; then
     return 0
 fi
 
-base=examples/base.toml
+rules=examples/base.toml
 two_lists() { # CAME LEFT : leaves them in files
     spelled "$1" >"$work/came"
     spelled "$2" >"$work/left"
@@ -25,13 +25,13 @@ conform_of() { # NAME STATUS CAME LEFT LINES ERR OPTION..
     out=$(lines_of "$5")${5:+$'\n'}
     two_lists "$3" "$4"
     shift 6
-    case_of "conform: $name" "$wanted" "$out" "$err" conform "$@" "$base" "$work/came" "$work/left"
+    case_of "conform: $name" "$wanted" "$out" "$err" conform "$@" "$rules" "$work/came" "$work/left"
     input=$work/came
     case_of "conform: $name, CAME by standard input" "$wanted" "$out" "$err" \
-        conform "$@" "$base" - "$work/left"
+        conform "$@" "$rules" - "$work/left"
     input=$work/left
     case_of "conform: $name, LEFT by standard input" "$wanted" "$out" "$err" \
-        conform --line-buffered "$@" "$base" "$work/came" -
+        conform --line-buffered "$@" "$rules" "$work/came" -
     input=/dev/null
 }
 
@@ -60,12 +60,12 @@ conform_of 'times of LEFT that go back' 3 '' 'R 5 A 3 - / R 4 A 3 -' '' 'list le
 two_lists 'F 0 A 1 H1' 'F 17001 A 3 H1'
 lists=("$work/came" "$work/left")
 found=$(lines_of "late 1 A 3 1 / $(judged 'deviates 1' 0 0 0 0)")$'\n'
-case_of 'conform --summary of two lists' 5 "$found" '' conform --summary "$base" "${lists[@]}"
-case_of 'conform --explain of a finding' 5 "$found" '' conform --explain "$base" "${lists[@]}"
-sed 's/^buffer = 252/buffer = 64/' "$base" >"$work/small.toml"
+case_of 'conform --summary of two lists' 5 "$found" '' conform --summary "$rules" "${lists[@]}"
+case_of 'conform --explain of a finding' 5 "$found" '' conform --explain "$rules" "${lists[@]}"
+sed 's/^buffer = 252/buffer = 64/' "$rules" >"$work/small.toml"
 case_of 'conform by tables that are not admitted' 5 "$found" '' \
     conform "$work/small.toml" "${lists[@]}"
-input=$base
+input=$rules
 case_of 'conform by a configuration on standard input' 5 "$found" '' \
     conform /dev/stdin "${lists[@]}"
 input=/dev/null
@@ -92,14 +92,14 @@ for word in all -1 65536 '' Other; do
         "--leave-out=$word" "$wrong" - -
 done
 fault_case 'one input before the configuration' 2 'words SameInput' "$wrong" - -
-fault_case 'the configuration before its switch' 1 'config BadProfile' --switch k "$wrong" - "$base"
+fault_case 'the configuration before its switch' 1 'config BadProfile' --switch k "$wrong" - "$rules"
 fault_case 'the switch before the lists' 2 'words NoSuchSwitch' \
-    --switch k "$base" "$work/wrong.list" "$work/wrong.list"
+    --switch k "$rules" "$work/wrong.list" "$work/wrong.list"
 fault_case 'CAME before LEFT' 3 'list came BadLine 1' \
-    "$base" "$work/wrong.list" "$work/wrong.list"
-fault_case 'CAME that is a folder' 4 'device Read' "$base" "$work" "$work/wrong.list"
-fault_case 'LEFT that is a folder' 4 'device Read' "$base" /dev/null "$work"
-fault_case 'a recording' 3 'list came BadLine 1' "$base" "$work/recorded" /dev/null
+    "$rules" "$work/wrong.list" "$work/wrong.list"
+fault_case 'CAME that is a folder' 4 'device Read' "$rules" "$work" "$work/wrong.list"
+fault_case 'LEFT that is a folder' 4 'device Read' "$rules" /dev/null "$work"
+fault_case 'a recording' 3 'list came BadLine 1' "$rules" "$work/recorded" /dev/null
 
 two=examples/two_switches.toml nothing=$(judged undecided 0 0 0 0)$'\n'
 for name in fwd aft; do
@@ -118,42 +118,42 @@ for word in CONFIG CAME LEFT --slack --drift --inner --asked --from --until --le
     text_case "help of conform tells of $word" 0 out "$word" conform --help
 done
 text_case 'conform in the help' 0 out conform --help
-text_case 'conform without LEFT' 2 err LEFT conform "$base" - # a recording may do later
-text_case 'a third list is too many for conform' 2 err third conform "$base" one two third
+text_case 'conform without LEFT' 2 err LEFT conform "$rules" - # a recording may do later
+text_case 'a third list is too many for conform' 2 err third conform "$rules" one two third
 for word in --slack=x --drift=-1 --inner= --asked=1e3 --from=0x1 --until=99999999999999999999999 \
     --jitter=1; do
-    text_case "conform $word" 2 err "${word%%=*}" conform "$word" "$base" "${lists[@]}"
+    text_case "conform $word" 2 err "${word%%=*}" conform "$word" "$rules" "${lists[@]}"
 done
 case_of 'an argument of conform that is no text' 2 '' $'words NotText\n' \
-    conform "$base" "$work/came" $'\xff'
+    conform "$rules" "$work/came" $'\xff'
 
 # ---- conform: outputs that fail ------------------------------------------------------------
 
 two_lists 'F 0 A 1 H1' 'F 6720 A 3 H1'
-full_case 'conform on a full device' 4 $'device Write\n' conform "$base" "${lists[@]}"
-full_case 'conform on a full device, undecided' 3 '' conform "$base" /dev/null /dev/null
+full_case 'conform on a full device' 4 $'device Write\n' conform "$rules" "${lists[@]}"
+full_case 'conform on a full device, undecided' 3 '' conform "$rules" /dev/null /dev/null
 full_case 'conform on a full device, and a fault' 3 $'list came BadLine 1\n' \
-    conform "$base" "$work/wrong.list" /dev/null
+    conform "$rules" "$work/wrong.list" /dev/null
 two_lists 'F 0 A 1 H1' 'F 17001 A 3 H1'
-full_case 'conform on a full device, and a finding' 5 '' conform "$base" "${lists[@]}"
+full_case 'conform on a full device, and a finding' 5 '' conform "$rules" "${lists[@]}"
 full_case 'conform on a full device, each line at once' 4 $'device Write\n' \
-    conform --line-buffered "$base" "${lists[@]}"
+    conform --line-buffered "$rules" "${lists[@]}"
 tell 'conform without standard output' "$(
     status=0
-    "$program" conform --line-buffered "$base" "${lists[@]}" >&- 2>"$work/err" || status=$?
+    "$program" conform --line-buffered "$rules" "${lists[@]}" >&- 2>"$work/err" || status=$?
     has_status 4
     differs 'standard error' $'device Write\n' "$work/err"
 )"
 tell 'conform without standard input' "$(
     status=0
-    "$program" conform "$base" "${lists[0]}" - <&- >"$work/out" 2>"$work/err" || status=$?
+    "$program" conform "$rules" "${lists[0]}" - <&- >"$work/out" 2>"$work/err" || status=$?
     has_status 4
     differs 'standard output' '' "$work/out"
     differs 'standard error' $'device Read\n' "$work/err"
 )"
 tell 'a person who waits for conform is told how much was read' "$(
     { sleep 4 && cat "${lists[1]}"; } |
-        { python3 tests/lib/on_terminal.py "$program" conform --progress "$base" "${lists[0]}" - ||
+        { python3 tests/lib/on_terminal.py "$program" conform --progress "$rules" "${lists[0]}" - ||
             [[ $? -eq 5 ]]; } | tr '\r\033' '<e' >"$work/person"
     told='<e[K0 MiB read' # once or, on a busy machine, more often
     if [[ $(<"$work/person") != "$told"*'<e[K' ]]; then
