@@ -92,7 +92,8 @@ for word in all -1 65536 '' Other; do
         "--leave-out=$word" "$wrong" - -
 done
 fault_case 'one input before the configuration' 2 'words SameInput' "$wrong" - -
-fault_case 'the configuration before its switch' 1 'config BadProfile' --switch k "$wrong" - "$rules"
+fault_case 'the configuration before its switch' 1 'config BadProfile' \
+    --switch k "$wrong" - "$rules"
 fault_case 'the switch before the lists' 2 'words NoSuchSwitch' \
     --switch k "$rules" "$work/wrong.list" "$work/wrong.list"
 fault_case 'CAME before LEFT' 3 'list came BadLine 1' \
