@@ -15,8 +15,8 @@ TRIED = (  # rows of each ending, with lines that are told before the end and at
     "two, of which one is over-rate", "nothing has left yet", "a nanosecond late",
     "over twice the latency", "frames of no stream", "an account too large",
     "all orders at one moment", "links that are left out", "a bad line", "times that go back",
-    "told before what is passed over", "a bad line behind what is told", "both lists are bad",
-    "nothing at all", "a switch of two",
+    "told before what is passed over", "a bad line behind what is told", "nothing at all",
+    "a switch of two",
 )
 
 
