@@ -175,19 +175,3 @@ fn the_end_is_in_its_range(rt: HostRuntime) -> Result<(), Fail> {
     let more = Choices::new(leeway, Some(last + 1), Vec::new(rt.alloc()));
     equal((most.is_some(), more.is_some()), (true, false))
 }
-
-/// How often a call is made where one request for memory may be refused.
-const TRIES: u32 = 2;
-
-#[test]
-fn a_judgement_may_be_refused(rt: HostRuntime) -> Result<(), Fail> {
-    let (came, left) = ("F 0 A 1 H1\nF 20000 A 1 H1\n", "F 6720 A 3 H1\n");
-    for _ in 0..TRIES {
-        let (status, output, _) = conformed(rt.alloc(), EXACT, None, came, left)?;
-        if status == 0 {
-            return equal(output.as_str().starts_with("conforms explained 1 "), true);
-        }
-        equal(status, 4)?;
-    }
-    Err("each try was refused".into())
-}
