@@ -1,21 +1,19 @@
 use Rattle.std.proofs.Common.{rules, ◌≡◌, ℕ, ◌+◌, ◌<◌, ◌∷◌, List, get_or, length, map, sym, ap, ◌∙◌, subst, arith}
 use Rattle.std.specs.Prelude.{All, Some}
-use Rattle.afdx_conform.specs.Courses.{AreFrames}
 use Rattle.afdx_conform.specs.Growing.{IsAfter, IsSound, undecided_by}
 use Rattle.afdx_conform.specs.HeldStates.{AreClosed, IsWithin}
 use Rattle.afdx_conform.specs.Histories.{coming, judged_by, next_of, unclosed}
 use Rattle.afdx_conform.specs.Judging.{AreFound, StandsFor}
 use Rattle.afdx_conform.specs.Leeway.{both_slacks}
-use Rattle.afdx_conform.specs.Limits.{gone_of}
+use Rattle.afdx_conform.specs.Limits.{AreFrames, gone_of}
 use Rattle.afdx_conform.specs.States.{Closing}
 use Rattle.afdx_conform.specs.declared.arrived.Arrived.{Arrived}
 use Rattle.afdx_conform.specs.declared.finding.Finding.{Finding}
 use Rattle.afdx_conform.specs.declared.growth.Growth.{Growth}
 use Rattle.afdx_conform.specs.declared.limits.Frame.{Frame}
-use Rattle.afdx_conform.proofs.CourseLemmas.{same-frame}
 use Rattle.afdx_conform.proofs.GrowthDecides.{forgot}
 use Rattle.afdx_conform.proofs.GrowthCloses.{Close, after-close, closed-of, frames-held}
-use Rattle.afdx_conform.proofs.StreamLemmas.{closes}
+use Rattle.afdx_conform.proofs.ClosedLemmas.{closes, same-frame}
 use Rattle.afdx_conform.proofs.UndecidedLemmas.{undecided-less}
 use Rattle.afdx_conform.proofs.growth.Growth.close.Goals as goal
 
@@ -51,7 +49,7 @@ returns-clause-decides c z xs ys cut over f sure at next r =
     let lt = subst (λ (l : List Frame). c.args.self.now.closed < length l) (sym c.as_slice.ensures.value) c.requires.place in
     let there = is ∙ ap (λ (l : List Frame). get_or l c.args.self.now.closed c.index.result.now) (sym c.as_slice.ensures.value) in
     let closed = closes c.as_slice.result.now c.args.self.now.closed c.closed_by-to.result c.index.result.now order' lt there
-    c.closed_by-to.ensures.low c.closed_by-to.ensures.high c.closed_by-to.ensures.closed c.closed_by-to.ensures.behind in
+    c.closed_by-to.ensures.low c.closed_by-to.ensures.high (c.closed_by-to.ensures.closed order') c.closed_by-to.ensures.behind in
     let closed' = subst (λ (l : List Frame). AreClosed c.index.result.now.time c.closed_by-to.result (map gone_of l))
     (c.as_slice.ensures.value ∙ sym c.as_slice-3.ensures.value) closed in
     let sure' = sym r.continues.stands.unsure ∙ sure in
@@ -70,10 +68,10 @@ returns-clause-decides c z xs ys cut over f sure at next r =
     (subst (λ (s : Growth). IsAfter z xs ys cut (Closing c.index.result.now.time ∷ over) s
     × AreFound (c.index.result.now.time + both_slacks z.by) c.in_ok-found.found.items (judged_by z xs ys over)
     (judged_by z xs ys (Closing c.index.result.now.time ∷ over))) (sym (c.count.ensures
-    ∙ ap (λ (l : List Finding). Close z xs ys cut over c.index.result.now c.args.self.now c.judge_closing.new.judging l)
+    ∙ ap (λ (l : List Finding). Close z xs ys cut over c.index.result.now c.args.self.now c.judge_closing.new.judging l c.closed_by-to.result)
     c.as_slice-4.ensures.value))
     (after-close z xs ys cut over c.index.result.now c.args.self.now c.judge_closing.new.judging c.in_ok-found.found.items
-    r.gone r.past r.kept r.continues sure held out.1 c.in_ok-found.ensures.marks r.after next')))
+    c.closed_by-to.result r.gone r.past r.kept r.continues sure held out.1 c.in_ok-found.ensures.marks r.after next')))
 
 pub returns-clause-less : goal.returns-clause-less
 returns-clause-less c sure =
