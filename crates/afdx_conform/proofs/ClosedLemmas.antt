@@ -51,17 +51,22 @@ closed-more fs from place time v is lt le inv k f low less at = by (nat_lt k pla
         subst (λ (g : Frame). g.time ≤ time)
         (same-frame fs place f v lt (at ∙ ap (λ (n : ℕ). get_or fs n f) here) is) le
 
--- where a guess is right, of frames that go by time
-pub guessed : (fs : List Frame) (from place time : ℕ) (v : Frame) → v ≡ get_or fs (place - 1) v → from < place → place ≤ length fs
-    → v.time ≤ time → AreFrames fs → (k : ℕ) (f : Frame) → k < place → f ≡ get_or fs k f → f.time ≤ time
-guessed fs from place time v is lt inside le order k f less at =
-    let one = order k (place - 1) f v (omega (arith, less)) (omega (arith, lt, inside)) at is in
-    omega (arith, one, le)
-
 -- ---- which frames a closing closes
 
 at-place : (fs : List Frame) (k : ℕ) (d : Frame) → k < length fs → get_or fs k d ≡ get_or fs k (get_or fs k d)
 at-place fs k d lt = get_or_default fs k d (get_or fs k d) lt
+
+-- where a guess is right, of frames that go by time
+pub guessed : (fs : List Frame) (from place time : ℕ) → from < place → place ≤ length fs
+    → ((v : Frame) → v ≡ get_or fs (place - 1) v → v.time ≤ time) → AreFrames fs
+    → (k : ℕ) (f : Frame) → k < place → f ≡ get_or fs k f → f.time ≤ time
+guessed fs from place time lt inside last order k f less at =
+    let before : place - 1 < length fs = omega (arith, lt, inside) in
+    let v = get_or fs (place - 1) f in
+    let is = at-place fs (place - 1) f before in
+    let one = order k (place - 1) f v (omega (arith, less)) before at is in
+    let two = last v is in
+    omega (arith, one, two)
 
 front-closed : (fs : List Frame) (time to : ℕ) → to ≤ length fs
     → ((k : ℕ) (f : Frame) → k < to → f ≡ get_or fs k f → f.time ≤ time) → All (λ f. f.time ≤ time) (take to fs)
