@@ -1,4 +1,4 @@
-//! The arrivals among the lines of recordings.
+//! The arrivals among the lines of recordings of which nothing left.
 
 ghost use Rattle.std.specs.Prelude.{◌≡◌, true, false};
 ghost use Rattle.afdx_recorded.specs.Becoming as spec;
@@ -8,7 +8,8 @@ use afdx_engine::Source;
 use afdx_frame::{Seal, Side, is_sealed};
 use afdx_lists::{FrameKind, Heading, Next, RunFault};
 
-/// Gives the arrivals among the lines that a source gives.
+/// Gives the arrivals among the lines that a source gives. A frame that left is given like one that
+/// came in: where arrivals are told alone, no option says that something left.
 #[derive(Drop)]
 pub struct Arriving<S> {
     pub lines: S,
@@ -100,6 +101,7 @@ impl<I, S: Source<NumberLine, I>> Source<Heading, I> for Arriving<S> {
                 side,
                 switch,
                 port,
+                ..
             } = self.lines.head()
             {
                 let own = has_own(kind, self.lines.bytes());

@@ -42,13 +42,13 @@ impl<S> TimedPair<S> {
     }
 }
 
-/// The side of an arrival.
+/// The network of the recording that an arrival is of.
 fn side_of(number: &Number) -> Side
     ensures { result ≡ taking.side_of number.now }
 {
     match number {
-        Number::Arrival(found) => found.side,
-        Number::Skipped(_) => Side::A,
+        Number::Arrival(found) if found.is_second => Side::B,
+        _ => Side::A,
     }
 }
 
