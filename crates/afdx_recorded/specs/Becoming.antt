@@ -174,7 +174,7 @@ entrance_of network place ports bytes = do
   entry ← or_else (entry_of place ports bytes) (Skipped UnknownSender)
   side ← or_else (option_or (side_said network place) (side_claimed bytes)) (Skipped NoNetwork)
   Ok (entrance_with (role_of place) side entry (is_claimed network place ports)
-  (is_contradicted (role_of place) side bytes))
+      (is_contradicted (role_of place) side bytes))
 
 -- ---- its check sequence
 

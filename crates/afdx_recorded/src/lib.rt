@@ -23,6 +23,7 @@ mod placing;
 mod read_recording;
 mod senders;
 mod skipped;
+mod taps;
 mod timed_numbers;
 mod timed_pair;
 
@@ -39,5 +40,6 @@ pub use placing::Placing;
 pub use read_recording::ReadRecording;
 pub use senders::{SystemPorts, UnsaidPort};
 pub use skipped::{SKIPPED, Skipped};
+pub use taps::Taps;
 pub use timed_numbers::TimedNumbers;
 pub use timed_pair::TimedPair;
