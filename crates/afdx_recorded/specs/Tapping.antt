@@ -1,6 +1,6 @@
 -- At which ports of the switches frames were recorded: input ports, of what came in, and output
 -- ports, of what left.
-use Rattle.std.specs.Prelude.{ℕ, ◌≡◌, Bool, true, false, ◌&&◌, ◌||◌, ◌==◌, ◌+◌, ◌<◌, length, slice_index_or, suc}
+use Rattle.std.specs.Prelude.{ℕ, ◌≡◌, Bool, true, false, ◌&&◌, ◌||◌, ◌==◌, ◌+◌, ◌<◌, length, slice_index_or, zero, suc}
 use Rattle.std.specs.Prelude.{Option, Some, None}
 use Rattle.afdx_frame.specs.BySide.{on}
 use Rattle.afdx_frame.specs.declared.link.Side.{Side}
@@ -49,7 +49,7 @@ taps_by None = no_taps
 
 -- the first n interfaces do
 unfoldable pub taps_below : (places : ℕ → Option Place) → ℕ → Taps
-taps_below places 0 role side port = false
+taps_below places zero role side port = false
 taps_below places (suc n) role side port =
     taps_below places n role side port || taps_by (places n) role side port
 

@@ -18,8 +18,8 @@ pub struct Arriving<S> {
     has_own: bool,
 }
 
-/// Whether the check sequence of an arrival is the last four of these bytes, which were recorded.
-fn has_own(kind: FrameKind, bytes: &[u8]) -> bool
+/// Whether the check sequence of a frame is the last four of these bytes, which were recorded.
+pub fn has_own(kind: FrameKind, bytes: &[u8]) -> bool
     ensures { result ≡ spec.has_own kind bytes.now }
 {
     match kind {
@@ -28,8 +28,8 @@ fn has_own(kind: FrameKind, bytes: &[u8]) -> bool
     }
 }
 
-/// How an arrival is sealed.
-fn seal_by(kind: FrameKind, own: bool) -> Seal
+/// How a frame is sealed whose recorded bytes end with its check sequence, or don't.
+pub fn seal_by(kind: FrameKind, own: bool) -> Seal
     ensures { result ≡ spec.seal_by kind own }
 {
     match (kind, own) {
@@ -39,8 +39,9 @@ fn seal_by(kind: FrameKind, own: bool) -> Seal
     }
 }
 
-/// What stands before the last four of these bytes, or all of them.
-fn without_own(own: bool, bytes: &[u8]) -> &[u8]
+/// What stands before the last four of these bytes, if those are the check sequence; else all of
+/// them.
+pub fn without_own(own: bool, bytes: &[u8]) -> &[u8]
     ensures { result.now ≡ spec.without_own own bytes.entry.now }
 {
     if own {

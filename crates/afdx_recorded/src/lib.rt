@@ -27,7 +27,7 @@ mod taps;
 mod timed_numbers;
 mod timed_pair;
 
-pub use arriving::Arriving;
+pub use arriving::{Arriving, has_own, seal_by, without_own};
 pub use becoming::{Found, NoArrival, RecordingOptions, becomes};
 pub use counts::{Counts, Tally};
 pub use number::{AsRead, Number};

@@ -63,5 +63,4 @@ returns-clause-item g c start lines h ok =
       },
       clock-follows late_of_both c.args.source.now.clock c.line.new.self h.past x lines h.are_timed
           c.line.ensures.said c.in-Some.line (rw head at early) (rw head at line) next.1 next.2,
-      tt,
     )
