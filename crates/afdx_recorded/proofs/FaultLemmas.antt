@@ -1,5 +1,5 @@
 -- Which fault of a run is that of a recording.
-use Rattle.std.proofs.Common.{◌≡◌, ap, subst, Ok, Err, Result}
+use Rattle.std.proofs.Common.{◌≡◌, ap, subst, Ok, Err}
 use Rattle.afdx_lists.specs.declared.fault.RunFault.{RunFault}
 use Rattle.afdx_lists.specs.declared.fault.RunFault.TheVariants as run
 use Rattle.afdx_lists.specs.declared.recording_fault.RecordingFault.{RecordingFault}

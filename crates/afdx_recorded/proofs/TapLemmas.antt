@@ -1,8 +1,7 @@
 -- Which ports interfaces tap.
-use Rattle.std.proofs.Common.{◌≡◌, ◌≢◌, ◌<◌, ◌+◌, ℕ, Bool, true, false, ◌||◌, ◌&&◌, ◌==◌, suc, zero, List, length, refl, ap, sym, ◌∙◌, arith}
-use Rattle.std.proofs.Common.{Option, Some, None, slice_set, slice_index_or, replicate}
+use Rattle.std.proofs.Common.{◌≡◌, ◌+◌, ℕ, Bool, true, false, ◌||◌, suc, zero, refl, ap, sym, ◌∙◌, arith}
+use Rattle.std.proofs.Common.{Option, Some, None, slice_index_or, replicate}
 use Rattle.std.proofs.Math.Path.{fun_ext}
-use Rattle.std.proofs.lemmas.Grind.{common_steps}
 use Rattle.afdx_frame.specs.declared.link.Side.{Side}
 use Rattle.afdx_lists.specs.declared.role.Role.{Role}
 use Rattle.afdx_recorded.specs.declared.places.Place.{Place}

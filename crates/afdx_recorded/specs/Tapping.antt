@@ -1,6 +1,6 @@
 -- At which ports of the switches frames were recorded: input ports, of what came in, and output
 -- ports, of what left.
-use Rattle.std.specs.Prelude.{ℕ, ◌≡◌, Bool, true, false, ◌&&◌, ◌||◌, ◌==◌, ◌+◌, ◌<◌, length, slice_index_or, zero, suc}
+use Rattle.std.specs.Prelude.{ℕ, Bool, true, false, ◌&&◌, ◌||◌, ◌==◌, slice_index_or, zero, suc}
 use Rattle.std.specs.Prelude.{Option, Some, None}
 use Rattle.afdx_frame.specs.BySide.{on}
 use Rattle.afdx_frame.specs.declared.link.Side.{Side}

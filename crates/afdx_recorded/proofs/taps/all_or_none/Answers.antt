@@ -1,4 +1,4 @@
-use Rattle.std.proofs.Common.{◌≡◌, Bool, true, false, ◌||◌, refl, sym, ap, ◌∙◌}
+use Rattle.std.proofs.Common.{◌||◌, sym, ap, ◌∙◌}
 use Rattle.afdx_frame.specs.declared.link.Side.TheVariants.{A, B}
 use Rattle.afdx_recorded.proofs.TapLemmas.{none-of, or-false}
 use Rattle.afdx_recorded.proofs.taps.all_or_none.Goals as goal

@@ -2,7 +2,7 @@ use Rattle.std.proofs.Common.{◌∙◌, sym}
 use Rattle.afdx_recorded.specs.Places.{place_of}
 use Rattle.afdx_recorded.specs.Tapping.{taps_in}
 use Rattle.afdx_recorded.proofs.PlacingLemmas.{none-if}
-use Rattle.afdx_recorded.proofs.TapLemmas.{tapped-all, tapped-more, tapped-none, tapped-unsaid}
+use Rattle.afdx_recorded.proofs.TapLemmas.{tapped-more, tapped-none, tapped-unsaid}
 use Rattle.afdx_recorded.proofs.taps.Taps.add_all.Goals.{in-Some, in_default}
 use Rattle.afdx_recorded.proofs.taps.Taps.add_all.Goals as goal
 
