@@ -15,14 +15,14 @@ use Rattle.afdx_recorded.specs.Taking.{Taken, AreCutOff, taken_of_bytes}
 use Rattle.afdx_recorded.specs.declared.becoming.RecordingOptions.{RecordingOptions}
 use Rattle.afdx_recorded.specs.declared.counts.Tally.{Tally}
 use Rattle.afdx_inputs.specs.Arrivals.{By, ByCause}
-use Rattle.afdx_inputs.specs.Joining.{Coming, Frame, Joined, frames_of, joined, joined_as}
+use Rattle.afdx_inputs.specs.Joining.{Frame, frames_of}
 use Rattle.afdx_inputs.specs.Over.{both}
 use Rattle.afdx_inputs.specs.RecordingRun.{IfBoth}
 use Rattle.afdx_inputs.specs.SeenFrames.{AllAreSeen, StopsListed, StopsSeeing, TakesLists, TakesRecording, TakesRecordings}
 use Rattle.afdx_inputs.specs.SeenLines.{frames_in, frames_listed, seen_listed}
-use Rattle.afdx_inputs.specs.SeenRun.{AreCutOffByRole, RolesAnswer, named_by_role, taken_by_role, taken_unnamed}
+use Rattle.afdx_inputs.specs.SeenRun.{AreCutOffByRole, RolesAnswer, named_by_role, taken_unnamed}
 use Rattle.afdx_inputs.specs.TakenRun.{FirstAreBegun, TakenAnswers, TakenStops}
-use Rattle.afdx_inputs.specs.TwoListsRun.{AreListed, TwoListsAnswer, TwoListsStop}
+use Rattle.afdx_inputs.specs.TwoListsRun.{TwoListsAnswer, TwoListsStop}
 use Rattle.afdx_inputs.specs.declared.seen.Seen.{Seen}
 use Rattle.afdx_inputs.specs.declared.seen_frames.SeenCount.{SeenCount}
 use Rattle.afdx_inputs.specs.declared.seen_frames.SeenCount.TheVariants as count

@@ -2,7 +2,6 @@ use Rattle.std.proofs.Common.{rules, ◌≡◌, Err}
 use Rattle.afdx_lists.specs.declared.fault.RunFault.TheVariants as run
 use Rattle.afdx_recorded.specs.Claims.{ports_unsaid}
 use Rattle.afdx_inputs.specs.Over.{both}
-use Rattle.afdx_inputs.specs.ReadPair.{IsNewByRole}
 use Rattle.afdx_inputs.proofs.RecordingRunLemmas.{unasked}
 use Rattle.afdx_inputs.proofs.SeenRunLemmas.{roles-start}
 use Rattle.afdx_inputs.proofs.seen_run.run_seen_by_role.Goals as goal

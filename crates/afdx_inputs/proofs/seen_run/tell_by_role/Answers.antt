@@ -1,7 +1,6 @@
-use Rattle.std.proofs.Common.{rules, ◌≡◌, refl, sym, ◌∙◌, ap, [], Ok, Err, List, ℕ, IfSome}
+use Rattle.std.proofs.Common.{refl, sym, ◌∙◌, ap, []}
 use Rattle.afdx_lists.specs.Calls.{is_failed_write}
 use Rattle.afdx_recorded.specs.PairSource.{inputs_by_role}
-use Rattle.afdx_inputs.specs.Over.{both}
 use Rattle.afdx_inputs.specs.SeenRun.{options_of_came, options_of_left}
 use Rattle.afdx_inputs.proofs.PairAnswerLemmas.{two-start}
 use Rattle.afdx_inputs.proofs.SeeingLemmas.{seen-none}

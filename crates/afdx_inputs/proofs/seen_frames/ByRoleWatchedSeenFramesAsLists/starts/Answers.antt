@@ -1,7 +1,4 @@
-use Rattle.std.proofs.Common.{refl, arith, inl, List, ℕ, [], ◌≡◌}
-use Rattle.afdx_lists.specs.declared.fault.RunFault.TheVariants as run
-use Rattle.afdx_engine.specs.Engine.{Item}
-use Rattle.afdx_inputs.specs.declared.seen.Seen.{Seen}
+use Rattle.std.proofs.Common.{refl, arith}
 use Rattle.afdx_inputs.proofs.PairAnswerLemmas.{both-a, both-b}
 use Rattle.afdx_inputs.proofs.SeenTookLemmas.{lists-untaken}
 use Rattle.afdx_inputs.proofs.seen_frames.ByRoleWatchedSeenFramesAsLists.starts.Goals as goal
