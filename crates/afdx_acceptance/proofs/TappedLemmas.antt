@@ -69,15 +69,17 @@ seen_ports t taps side to = filter (taps Left side) (map (port_of t) to)
 -- one among those that pass a test passes it
 pub any-kept : (f : ℕ → Bool) (p : ℕ) (xs : List ℕ) → list_any (λ q. nat_eq q p) (filter f xs) ≡ true → f p ≡ true
 any-kept f p [] h = absurd (true≢false (sym h))
-any-kept f p (x ∷ xs) h = by (f x) refl h
+any-kept f p (x ∷ xs) h = by (f x) refl h (λ h'. any-kept f p xs h')
   where
-    here : (b : Bool) → nat_eq x p ≡ b → (b || list_any (λ q. nat_eq q p) (filter f xs)) ≡ true → f x ≡ true → f p ≡ true
-    here true e h' fx = subst (λ n. f n ≡ true) (eqb-true x p e) fx
-    here false e h' fx = any-kept f p xs h'
+    here : (b : Bool) → nat_eq x p ≡ b → (b || list_any (λ q. nat_eq q p) (filter f xs)) ≡ true → f x ≡ true
+        → (list_any (λ q. nat_eq q p) (filter f xs) ≡ true → f p ≡ true) → f p ≡ true
+    here true e h' fx more = subst (λ n. f n ≡ true) (eqb-true x p e) fx
+    here false e h' fx more = more h'
 
-    by : (b : Bool) → f x ≡ b → list_any (λ q. nat_eq q p) (cond b (x ∷ filter f xs) (filter f xs)) ≡ true → f p ≡ true
-    by true fx h' = here (nat_eq x p) refl h' fx
-    by false fx h' = any-kept f p xs h'
+    by : (b : Bool) → f x ≡ b → list_any (λ q. nat_eq q p) (cond b (x ∷ filter f xs) (filter f xs)) ≡ true
+        → (list_any (λ q. nat_eq q p) (filter f xs) ≡ true → f p ≡ true) → f p ≡ true
+    by true fx h' more = here (nat_eq x p) refl h' fx more
+    by false fx h' more = more h'
 
 -- one that passes it is among them
 pub any-passes : (f : ℕ → Bool) (p : ℕ) (xs : List ℕ) → f p ≡ true → list_any (λ q. nat_eq q p) xs ≡ true

@@ -16,7 +16,7 @@ use Rattle.afdx_acceptance.specs.Telling.{findings_in, lines_text, most_counted,
 use Rattle.afdx_acceptance.specs.Standing.{IsSameButKept}
 use Rattle.afdx_acceptance.specs.Told.{TellsOf}
 use Rattle.afdx_acceptance.specs.declared.judging.Judging.{Judging}
-use Rattle.afdx_acceptance.specs.declared.taps.Taps.{Taps}
+use Rattle.afdx_recorded.specs.declared.taps.Taps.{Taps}
 use Rattle.afdx_acceptance.specs.declared.streams.Streams.{Streams}
 
 -- as these streams were, which are these

@@ -11,11 +11,11 @@ ghost use Rattle.afdx_lists.specs.Watching.{calls_of, has_ended, has_failed};
 
 use crate::choices::Choices;
 use crate::judging::Judging;
-use crate::taps::Taps;
 use crate::totals::Totals;
 use afdx_config::Tables;
 use afdx_inputs::run_two_lists;
 use afdx_lists::{ByRole, RunFault, Watched};
+use afdx_recorded::Taps;
 use afdx_text::{OutLine, Sink};
 use std::alloc::Global;
 use std::io::Read;

@@ -37,12 +37,12 @@ use crate::key::Key;
 use crate::outlets::{link_named, new_stream, outlet_at, receiver, rule_at};
 use crate::strangers::{Stranger, why_strange};
 use crate::tapped::{is_heard, is_seen, unseen_of};
-use crate::taps::Taps;
 use crate::totals::Totals;
 use afdx_config::{SystemId, Tables};
 use afdx_conform::{Arrived, Frame, Leeway};
 use afdx_frame::{Side, VlId};
 use afdx_lists::{Heading, Role};
+use afdx_recorded::Taps;
 use std::alloc::{AllocError, Global};
 
 /// How many places a link has, and how many stand before those of the first link.
@@ -261,10 +261,11 @@ impl<'a> Streams<'a> {
         }
         for rank in 0..tables.link(link).to.len() {
             let system = receiver(tables, link, rank);
-            if is_seen(tables, taps, heading.side, system) {
-                let kept = &mut self.kept;
-                come_to(alloc, tables, leeway, kept, link, system, n, heading, bytes)?;
+            if !is_seen(tables, taps, heading.side, system) {
+                continue;
             }
+            let kept = &mut self.kept;
+            come_to(alloc, tables, leeway, kept, link, system, n, heading, bytes)?;
         }
         Ok(())
     }

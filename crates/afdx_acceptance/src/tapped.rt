@@ -8,10 +8,10 @@ ghost use Rattle.afdx_acceptance.specs.Tapped as spec;
 ghost use Rattle.afdx_acceptance.specs.Tapped.{taps_in};
 
 use crate::outlets::receiver;
-use crate::taps::Taps;
 use afdx_config::{SystemId, Tables};
 use afdx_frame::Side;
 use afdx_lists::Role;
+use afdx_recorded::Taps;
 
 /// Whether the port at which a link comes in is recorded on a side.
 pub(crate) fn is_heard(tables: &Tables, taps: &Taps, side: Side, link: usize) -> bool
