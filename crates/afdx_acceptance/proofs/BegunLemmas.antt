@@ -134,19 +134,27 @@ unfolding AreInOrder
 nothing-in-order = tt
 
 pub nothing-early : (k : Rows × Choices) → AreEarly k 0 [] []
-nothing-early k until more may late = ([], refl, record {
-  own = λ key small. none-before (dues_of k.0 k.1 until (more ++ []) key);
-  only = λ key large. refl;
-  in_order = nothing-in-order;
-})
+nothing-early k until more may late = (
+  [],
+  refl,
+  record {
+    own = λ key small. none-before (dues_of k.0 k.1 until (more ++ []) key);
+    only = λ key large. refl;
+    in_order = nothing-in-order;
+  },
+)
 
 pub nothing-begun : (k : Rows × Choices) → AreBegun k 0 [] []
-nothing-begun k until more may late = ([], refl, record {
-  own = λ key small. record {
-    rest = dues_of k.0 k.1 until (more ++ []) key;
-    are = sym (append-nil (dues_of k.0 k.1 until (more ++ []) key));
-    later = all-later (dues_of k.0 k.1 until (more ++ []) key);
-  };
-  only = λ key large. refl;
-  in_order = nothing-in-order;
-})
+nothing-begun k until more may late = (
+  [],
+  refl,
+  record {
+    own = λ key small. record {
+      rest = dues_of k.0 k.1 until (more ++ []) key;
+      are = sym (append-nil (dues_of k.0 k.1 until (more ++ []) key));
+      later = all-later (dues_of k.0 k.1 until (more ++ []) key);
+    };
+    only = λ key large. refl;
+    in_order = nothing-in-order;
+  },
+)
