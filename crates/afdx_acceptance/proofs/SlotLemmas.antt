@@ -13,7 +13,7 @@ use Rattle.afdx_conform.specs.Streams.{Gone, Terms}
 use Rattle.afdx_text.specs.declared.conform_line.ConformLine.{ConformLine}
 use Rattle.afdx_text.specs.declared.conform_line.ConformLine.TheVariants.{Unsure}
 use Rattle.afdx_acceptance.specs.Lines.{Due, due_at, found_due, found_line, judged_dues, unsure_dues}
-use Rattle.afdx_acceptance.specs.Slots.{AreFalling, Ends, IsCounted, IsStream, StrangersStand, StreamEnds, StreamStands, told_at, unsure_behind, waiting_due}
+use Rattle.afdx_acceptance.specs.Slots.{AreFalling, Ends, IsStream, StrangersStand, StreamEnds, StreamStands, told_at, unsure_behind, waiting_due}
 use Rattle.afdx_acceptance.specs.Waiting.{first_time, slot_due}
 use Rattle.afdx_acceptance.specs.declared.key.Key.{Key}
 use Rattle.afdx_acceptance.specs.declared.strangers.Stranger.{Stranger}
@@ -175,17 +175,3 @@ pub not-stream : (x : Slot) → ((s : Box Stream Global) → x ≡ slot.Stream s
 not-stream slot.Nothing none is = is
 not-stream (slot.Strangers s) none is = is
 not-stream (slot.Stream s) none is = none s refl
-
-pub counted-stream : (s : Box Stream Global) (now : Stream) → now ≡ s.value
-    → ((z : Terms) (xs : List Arrival) (ys : List Gone) (j : Judged) → due_of now ≡ None → IsEnding z xs ys j now
-    → j ≡ shown (judged_of z xs ys))
-    → IsCounted (slot.Stream s)
-unfolding IsCounted
-counted-stream s now is judged z xs ys j due ending =
-    judged z xs ys j (ap due_of is ∙ due) (subst (λ x. IsEnding z xs ys j x) (sym is) ending)
-
-pub counted-other : (x : Slot) → ((s : Box Stream Global) → x ≡ slot.Stream s → ⊥) → IsCounted x
-unfolding IsCounted
-counted-other slot.Nothing none = tt
-counted-other (slot.Strangers s) none = tt
-counted-other (slot.Stream s) none = absurd (none s refl)

@@ -9,6 +9,6 @@ returns-clause-counted c c' until frames ended has =
     let t = c.args.self.now.tables.now in
     let a = counted_among t c' until frames A t.links in
     let b = counted_among t c' until frames B t.links in
-    subst (λ n. HasCounted (both_counted n b) c.count_on-count_on.new.totals) (none-both a)
-    (c.count_on-count_on.ensures.counted c' until frames (both_counted none_counted a) ended
+    subst (λ n. HasCounted (both_counted n b) c.count_on-2.new.totals) (none-both a)
+    (c.count_on-2.ensures.counted c' until frames (both_counted none_counted a) ended
     (c.count_on.ensures.counted c' until frames none_counted ended has))
