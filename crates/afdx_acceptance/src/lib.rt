@@ -24,6 +24,6 @@ mod whole;
 pub use afdx_conform::Leeway;
 pub use afdx_lists::{ByRole, Watched};
 pub use choices::Choices;
-pub use command::conform;
-pub use run::run_conform;
+pub use command::{Judged, conform};
+pub use run::{RunCounts, run_conform};
 pub use totals::Totals;

@@ -276,12 +276,12 @@ impl<'a> Streams<'a> {
             vl ≡ link_named_by x.arrival.bytes →
             result ≡ spec.is_unheard self.now.tables.now (taps_in self.now.taps.now) x }
     {
-        if role == Role::Came {
-            return false;
-        }
-        match link_named(self.tables, vl) {
-            Some(link) => !is_heard(self.tables, self.taps, side, link),
-            None => false,
+        match role {
+            Role::Came => false,
+            Role::Left => match link_named(self.tables, vl) {
+                Some(link) => !is_heard(self.tables, self.taps, side, link),
+                None => false,
+            },
         }
     }
 

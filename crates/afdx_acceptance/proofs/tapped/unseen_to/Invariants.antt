@@ -2,7 +2,7 @@ use Rattle.std.proofs.Common.{◌≡◌, ◌≤◌, Some, take}
 use Rattle.std.specs.Prelude.{slice_get}
 use Rattle.afdx_config.specs.Rows.{LinkRow}
 use Rattle.afdx_acceptance.specs.Tapped.{taps_in, unseen_to}
-use Rattle.afdx_acceptance.proofs.tapped.unseen_of_link.Given as goal
+use Rattle.afdx_acceptance.proofs.tapped.unseen_to.Given as goal
 
 abbrev pub invariant-loop-rank : goal.invariant-loop-rank
 invariant-loop-rank l = record {
