@@ -41,8 +41,15 @@ module _ (Takes : List Frame → Result SeenCount RunFault → Type 0) (k : Rows
   -- there was no memory at the begin
   pub answers-memory : (old : Option (List ℕ)) → Takes [] (Err Memory) → ConformAnswers Takes k is_lossy old old (Err Memory)
   answers-memory old takes =
-      inl ([], takes, [], whole_front old old (lines_text [])
-      (subst (λ (l : List ℕ). Appends old old l) (sym no-text) (Appends-nil old)))
+      inl (
+        [],
+        takes,
+        (
+          [],
+          whole_front old old (lines_text [])
+              (subst (λ (l : List ℕ). Appends old old l) (sym no-text) (Appends-nil old)),
+        ),
+      )
 
   module _ (judging : Judging) (old mid : Option (List ℕ)) where
     abbrev pub Tells : List (Item Seen) → Type 0

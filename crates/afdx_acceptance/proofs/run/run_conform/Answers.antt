@@ -26,7 +26,7 @@ returns-in_err-judging-clause-answer g c =
 
 pub tell_all-requires-clause-told : goal.tell_all-requires-clause-told
 tell_all-requires-clause-told g c = (
-  (c.args.tables.now, choices_of (taps_in c.taps.result) c.args.choices.now),
+  (c.args.tables.now, choices_of (taps_in c.taps-taps.result) c.args.choices.now),
   c.in_ok-judging.ensures (g.O.Sink.written c.args.output.now),
   λ item. tt,
 )
@@ -42,7 +42,7 @@ returns-in_err-count-clause-answer g c =
     (g.A.SeenFrames.known c.args.inputs.now)
     (c.in_err-count.ensures.answer k
     (subst (λ p. TellsAll (c.args.tables.now, choices_of p c.args.choices.now) false 0 c.in_ok-judging.judging old old [])
-    c.taps.ensures (c.in_ok-judging.ensures old)) (λ item. tt)))
+    c.taps-taps.ensures (c.in_ok-judging.ensures old)) (λ item. tt)))
 
 pub returns-in_err-put-clause-answer : goal.returns-in_err-put-clause-answer
 returns-in_err-put-clause-answer g c =
@@ -58,7 +58,7 @@ returns-in_err-put-clause-answer g c =
     (g.A.SeenFrames.known c.args.inputs.now)
     (c.in_ok-count.ensures.answer k
     (subst (λ p. TellsAll (c.args.tables.now, choices_of p c.args.choices.now) false 0 c.in_ok-judging.judging old old [])
-    c.taps.ensures (c.in_ok-judging.ensures old)) (λ item. tt)))
+    c.taps-taps.ensures (c.in_ok-judging.ensures old)) (λ item. tt)))
 
 pub returns-in-Some-clause-answer : goal.returns-in-Some-clause-answer
 returns-in-Some-clause-answer g c =
@@ -73,7 +73,7 @@ returns-in-Some-clause-answer g c =
     (g.A.SeenFrames.known c.args.inputs.now)
     (c.in_ok-count.ensures.answer k
     (subst (λ p. TellsAll (c.args.tables.now, choices_of p c.args.choices.now) false 0 c.in_ok-judging.judging old old [])
-    c.taps.ensures (c.in_ok-judging.ensures old)) (λ item. tt))
+    c.taps-taps.ensures (c.in_ok-judging.ensures old)) (λ item. tt))
 
 pub returns-clause-answer : goal.returns-clause-answer
 returns-clause-answer g c =
@@ -90,4 +90,4 @@ returns-clause-answer g c =
     (g.A.SeenFrames.known c.args.inputs.now)
     (c.in_ok-count.ensures.answer k
     (subst (λ p. TellsAll (c.args.tables.now, choices_of p c.args.choices.now) false 0 c.in_ok-judging.judging old old [])
-    c.taps.ensures (c.in_ok-judging.ensures old)) (λ item. tt))
+    c.taps-taps.ensures (c.in_ok-judging.ensures old)) (λ item. tt))
