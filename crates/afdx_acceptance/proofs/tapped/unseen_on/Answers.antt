@@ -23,10 +23,10 @@ loop-link-preserved c =
     record {
       count =
           let before = c.loop-link.invariant.count in
-          let here = c.unseen_to.ensures.count l at in
+          let here = c.unseen_to-count.ensures.count l at in
           let next = among-next c.args.tables.now (taps_in c.args.taps.now) c.args.side links link l at in
           omega (arith, before, here, next);
-      few = let before = c.loop-link.invariant.few in let here = c.unseen_to.ensures.few in omega (arith, before, here);
+      few = let before = c.loop-link.invariant.few in let here = c.unseen_to-count.ensures.few in omega (arith, before, here);
     }
 
 pub returns-clause-count : goal.returns-clause-count

@@ -17,7 +17,7 @@ loop-rank-preserved c = record {
   count = λ row at.
       let rank : ℕ = c.loop-rank.rank in
       let before = c.loop-rank.invariant.count row at in
-      let here = c.unseen_at.ensures.count row at in
+      let here = c.unseen_at-count.ensures.count row at in
       let mine : link_row c.link.result.now ≡ row = same_Some (link_row c.link.result.now) row (sym c.link.ensures.row ∙ at) in
       let count = length-map c.link.result.now.to.items (λ i. i.0) in
       let test = c.loop-rank-test.true in
@@ -26,7 +26,7 @@ loop-rank-preserved c = record {
       let next = unseen-next c.args.tables.now (taps_in c.args.taps.now) c.args.side row rank c.receiver-system.result.0
       (c.receiver-system.ensures.is row at) lt in
       omega (arith, before, here, next);
-  few = let before = c.loop-rank.invariant.few in let here = c.unseen_at.ensures.few in omega (arith, before, here);
+  few = let before = c.loop-rank.invariant.few in let here = c.unseen_at-count.ensures.few in omega (arith, before, here);
 }
 
 pub returns-clause-count : goal.returns-clause-count

@@ -1,4 +1,4 @@
-use Rattle.std.proofs.Common.{◌&&◌, ap, sym, ◌∙◌}
+use Rattle.std.proofs.Common.{Some, ◌&&◌, ap, sym, ◌∙◌}
 use Rattle.std.specs.Prelude.{not}
 use Rattle.afdx_acceptance.specs.Tapped.{is_heard_at, is_of_came, is_unheard, place_named, taps_in}
 use Rattle.afdx_acceptance.proofs.JoinLemmas.{place-is}
@@ -16,9 +16,9 @@ pub returns-in-Some : goal.returns-in-Some
 returns-in-Some c x role side vl =
     let t = c.args.self.now.tables.now in
     let taps = taps_in c.args.self.now.taps.now in
-    ap not (c.is_heard.ensures.at ∙ ap (λ d. is_heard_at t taps d c.link_named.result) (sym side)
+    ap not (c.is_heard.ensures.at ∙ ap (λ d. is_heard_at t taps d (Some c.in-Some.link)) (sym side)
     ∙ ap (λ o. is_heard_at t taps x.arrival.side o)
-    (c.link_named.ensures.place ∙ place-is t x.arrival.bytes c.args.vl vl))
+    (sym c.in-Some.is ∙ c.link_named.ensures.place ∙ place-is t x.arrival.bytes c.args.vl vl))
     ∙ sym (unheard-is t taps x (role ∙ c.in-Left.is))
 
 pub returns-in-None : goal.returns-in-None
