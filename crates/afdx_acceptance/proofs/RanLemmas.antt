@@ -1,5 +1,5 @@
 -- What a run answers.
-use Rattle.std.proofs.Common.{◌≡◌, ◌⊎◌, ◌∷◌, ◌++◌, Bool, subst, ℕ, List, [], Option, None, Some, Ok, Err, inl, inr, refl, sym}
+use Rattle.std.proofs.Common.{◌≡◌, ◌⊎◌, Bool, subst, ℕ, List, [], Option, None, Some, Ok, Err, inl, inr, refl, sym}
 use Rattle.std.proofs.KnownBytes.{Appends-nil, Appends-trans}
 use Rattle.std.specs.Io.KnownBytes.{Appends}
 use Rattle.std.specs.Prelude.{IfSome, Result}

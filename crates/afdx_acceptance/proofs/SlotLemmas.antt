@@ -3,13 +3,12 @@ use Rattle.std.proofs.Common.{Box, Global, ◌≡◌, ℕ, ◌≤◌, ◌⊎◌,
 use Rattle.std.proofs.lemmas.List.{append_assoc, map-append, reverse-append, reverse-reverse}
 use Rattle.std.specs.Prelude.{if◌then◌else◌, Option, Some, None, Result, Ok, Err, IfOk, IfSome, IfNone}
 use Rattle.afdx_conform.specs.Events.{moment_at}
-use Rattle.afdx_conform.specs.Histories.{judged_of, newest_tag, shown, time_of, unsure_in}
+use Rattle.afdx_conform.specs.Histories.{newest_tag, time_of, unsure_in}
 use Rattle.afdx_conform.specs.Growing.{IsNoSooner}
-use Rattle.afdx_conform.specs.Standing.{Finds, IsEnding, due_of}
-use Rattle.afdx_police.specs.Arrival.{Arrival}
+use Rattle.afdx_conform.specs.Standing.{Finds, due_of}
 use Rattle.afdx_conform.specs.Findings.{Judged, Marked, found_at}
 use Rattle.afdx_conform.specs.declared.finding.Finding.{Finding}
-use Rattle.afdx_conform.specs.Streams.{Gone, Terms}
+use Rattle.afdx_conform.specs.Streams.{Terms}
 use Rattle.afdx_text.specs.declared.conform_line.ConformLine.{ConformLine}
 use Rattle.afdx_text.specs.declared.conform_line.ConformLine.TheVariants.{Unsure}
 use Rattle.afdx_acceptance.specs.Lines.{Due, due_at, found_due, found_line, judged_dues, unsure_dues}

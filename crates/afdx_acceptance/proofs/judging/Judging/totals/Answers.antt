@@ -1,4 +1,4 @@
-use Rattle.std.proofs.Common.{ap, sym, subst, ◌∙◌}
+use Rattle.std.proofs.Common.{ap, subst, ◌∙◌}
 use Rattle.afdx_config.specs.Rows.{Rows}
 use Rattle.afdx_inputs.specs.Joining.{frames_of}
 use Rattle.afdx_acceptance.specs.Choices.{Choices, until_or}

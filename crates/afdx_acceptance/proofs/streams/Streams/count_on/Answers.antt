@@ -1,4 +1,4 @@
-use Rattle.std.proofs.Common.{◌≡◌, ◌∙◌, Some, ap, get_or, refl, take, sym, subst, arith}
+use Rattle.std.proofs.Common.{◌∙◌, ap, get_or, refl, take, sym, subst, arith}
 use Rattle.std.proofs.lemmas.List.{take_all}
 use Rattle.std.proofs.lemmas.Option.{slice_get-get_or}
 use Rattle.afdx_config.specs.Rows.{LinkRow}

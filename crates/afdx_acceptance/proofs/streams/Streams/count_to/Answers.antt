@@ -3,9 +3,9 @@ use Rattle.std.proofs.lemmas.List.{length-map, take_all}
 use Rattle.std.proofs.lemmas.Option.{same_Some}
 use Rattle.afdx_bounds.specs.Tables.{port_of}
 use Rattle.afdx_config.specs.Rows.{LinkRow, link_row, system_row}
-use Rattle.afdx_acceptance.specs.Counting.{HasCounted, both_counted, counted_at, counted_to, stream_counted}
+use Rattle.afdx_acceptance.specs.Counting.{HasCounted, both_counted, counted_at, counted_to}
 use Rattle.afdx_acceptance.specs.Frames.{link_to, terms_at}
-use Rattle.afdx_acceptance.specs.Keeping.{given_of, slot_at}
+use Rattle.afdx_acceptance.specs.Keeping.{given_of}
 use Rattle.afdx_acceptance.specs.Keys.{key_with}
 use Rattle.afdx_acceptance.specs.declared.key.Key.{Key}
 use Rattle.afdx_acceptance.proofs.CountingLemmas.{both-assoc, given-counted, has-none, to-next, to-none}

@@ -1,4 +1,4 @@
-use Rattle.std.proofs.Common.{◌≡◌, true, false, refl, sym, ap, ◌∙◌, subst}
+use Rattle.std.proofs.Common.{◌≡◌, None, true, false, refl, sym, ap, ◌∙◌, subst}
 use Rattle.std.specs.Prelude.{is_some}
 use Rattle.afdx_conform.specs.Findings.{Judged}
 use Rattle.afdx_conform.specs.Histories.{unsure_in}
@@ -11,7 +11,6 @@ use Rattle.afdx_acceptance.proofs.totals.Totals.add.Goals as goal
 pub returns-then-is_some-clause-counted : goal.returns-then-is_some-clause-counted
 unfolding StreamEnds slot_due
 returns-then-is_some-clause-counted c n z k xs ys lines due ends has =
-    let s = c.in-Stream.stream.value in
     let there = subst (λ v. StreamEnds z k xs ys lines v) c.in-Stream.is ends in
     let none : due_of c.deref.result.now ≡ None = ap due_of c.deref.ensures ∙ sym (ap slot_due c.in-Stream.is) ∙ due in
     let ending = subst (λ v. IsEnding z xs ys there.0 v) (sym c.deref.ensures) there.1 in
@@ -27,7 +26,6 @@ returns-then-is_some-clause-counted c n z k xs ys lines due ends has =
 pub returns-else-is_some-clause-counted : goal.returns-else-is_some-clause-counted
 unfolding StreamEnds slot_due
 returns-else-is_some-clause-counted c n z k xs ys lines due ends has =
-    let s = c.in-Stream.stream.value in
     let there = subst (λ v. StreamEnds z k xs ys lines v) c.in-Stream.is ends in
     let none : due_of c.deref.result.now ≡ None = ap due_of c.deref.ensures ∙ sym (ap slot_due c.in-Stream.is) ∙ due in
     let ending = subst (λ v. IsEnding z xs ys there.0 v) (sym c.deref.ensures) there.1 in
