@@ -8,6 +8,7 @@ mod agenda;
 mod asked;
 mod choices;
 mod command;
+mod counting;
 mod judging;
 mod kept;
 mod key;
