@@ -9,7 +9,8 @@ use afdx_text::Output;
 use std::alloc::Global;
 use std::test::Fail;
 
-/// A status, how many lines of both lists were read, if the last line was written, and both outputs.
+/// A status, how many lines of both lists were read, if the last line was written, and both
+/// outputs.
 type Ended = (u8, Option<(u64, u64)>, ShortText, ShortText);
 
 /// What is asked for: by how much stamps may be off, from where on and until when the lists are
