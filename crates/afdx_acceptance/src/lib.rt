@@ -23,6 +23,7 @@ mod totals;
 mod whole;
 
 pub use afdx_conform::Leeway;
+pub use afdx_inputs::{AsLists, SeenCount, SeenFrames};
 pub use afdx_lists::{ByRole, Watched};
 pub use choices::Choices;
 pub use command::{Judged, conform};
