@@ -133,13 +133,13 @@ side-cases : (side : Side) → (side_rank side ≡ 0) ⊎ (side_rank side ≡ 1)
 side-cases A = inl refl
 side-cases B = inr refl
 
-side-of-rank : (a b : Side) → side_rank a ≡ side_rank b → is_side a b ≡ true
+pub side-of-rank : (a b : Side) → side_rank a ≡ side_rank b → is_side a b ≡ true
 side-of-rank A A e = refl
 side-of-rank A B e = absurd (cc)
 side-of-rank B A e = absurd (cc)
 side-of-rank B B e = refl
 
-side-small : (side : Side) → side_rank side ≤ 1
+pub side-small : (side : Side) → side_rank side ≤ 1
 side-small A = omega arith
 side-small B = omega arith
 

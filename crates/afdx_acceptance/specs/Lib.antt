@@ -16,3 +16,4 @@ pub mod Standing
 pub mod Told
 pub mod Ran
 pub mod Written
+pub mod RunLaws
