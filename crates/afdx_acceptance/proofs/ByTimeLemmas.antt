@@ -1,7 +1,7 @@
 -- Frames that go by time, and those of them that are of a stream.
 use Rattle.std.proofs.Common.{◌≡◌, ℕ, ◌+◌, ◌≤◌, Bool, true, false, List, [], ◌∷◌, ◌++◌, map, reverse, refl, sym, ap, ◌∙◌, subst, arith}
 use Rattle.std.proofs.lemmas.Bool.{leb-true, le-leb}
-use Rattle.std.specs.Prelude.{⊤, if◌then◌else◌, is_none, nat_le, Some}
+use Rattle.std.specs.Prelude.{⊤, ◌&&◌, if◌then◌else◌, is_none, nat_le, Some}
 use Rattle.std.specs.List.{AllByRecursion, filter}
 use Rattle.afdx_config.specs.Rows.{LinkRow, Rows}
 use Rattle.afdx_frame.specs.declared.link.Side.{Side}
@@ -21,7 +21,7 @@ use Rattle.afdx_acceptance.specs.RunLaws.{AreByTime}
 
 -- ---- times that go down, and up the other way round
 
-Down : List ℕ → Type 0
+abbrev Down : List ℕ → Type 0
 Down [] = ⊤
 Down (t ∷ ts) = AllByRecursion (λ u. u ≤ t) ts × Down ts
 

@@ -2,7 +2,7 @@
 use Rattle.std.proofs.Common.{◌≡◌, ℕ, ◌+◌, ◌<◌, ◌≤◌, Bool, true, false, ◌⊎◌, inl, inr, List, [], ◌∷◌, ◌++◌, map, reverse, length, refl, sym, ap, ◌∙◌, subst, arith, true≢false}
 use Rattle.std.proofs.lemmas.Bool.{ltb-true, ltb-false}
 use Rattle.std.proofs.lemmas.List.{reverse-reverse, length-reverse}
-use Rattle.std.specs.Prelude.{Option, Some, None, ◌↔◌, nat_lt, if◌then◌else◌}
+use Rattle.std.specs.Prelude.{Option, Some, None, ◌↔◌, is_some, nat_lt, if◌then◌else◌}
 use Rattle.std.specs.Option.{option_map_or}
 use Rattle.std.specs.List.{AllByRecursion}
 use Rattle.afdx_config.specs.Lawful.{IsLawfulSwitch}
@@ -39,17 +39,20 @@ IsQuiet d = is_finding d.line ≡ false
 none-of : (lines : List ConformLine) → findings_in lines ≡ 0 → AllByRecursion (λ line. is_finding line ≡ false) lines
 unfolding findings_in
 none-of [] h = tt
-none-of (line ∷ lines) h = by (is_finding line) refl h
+none-of (line ∷ lines) h = by (is_finding line) refl h (λ k. none-of lines k)
   where
     by : (b : Bool) → is_finding line ≡ b → one_if b + findings_in lines ≡ 0
+        → (findings_in lines ≡ 0 → AllByRecursion (λ line. is_finding line ≡ false) lines)
         → AllByRecursion (λ line. is_finding line ≡ false) (line ∷ lines)
-    by true e k = absurd (omega (arith, k))
-    by false e k = (e, none-of lines k)
+    by true e k more = absurd (omega (arith, k))
+    by false e k more = (e, more (omega (arith, k)))
 
 none-in : (lines : List ConformLine) → AllByRecursion (λ line. is_finding line ≡ false) lines → findings_in lines ≡ 0
 unfolding findings_in
 none-in [] h = refl
-none-in (line ∷ lines) h = ap (λ b. one_if b + findings_in lines) h.0 ∙ none-in lines h.1
+none-in (line ∷ lines) h =
+    let none = none-in lines h.1 in
+    ap (λ b. one_if b + findings_in lines) h.0 ∙ omega (arith, none)
 
 pub all-quiet : (dues : List Due) → NothingIsFound dues → AllByRecursion IsQuiet dues
 all-quiet dues h =

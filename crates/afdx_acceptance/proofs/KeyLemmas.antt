@@ -15,7 +15,7 @@ use Rattle.afdx_frame.specs.Ports.{last_port}
 use Rattle.afdx_frame.specs.declared.link.Side.{Side}
 use Rattle.afdx_frame.specs.declared.link.Side.TheVariants.{A, B}
 use Rattle.afdx_frame.specs.Sides.{is_side}
-use Rattle.afdx_acceptance.specs.Frames.{link_to}
+use Rattle.afdx_acceptance.specs.Tapped.{link_to}
 use Rattle.afdx_acceptance.specs.Keeping.{IsOfLink, IsStreamOf, is_known, is_known_by, slot_at}
 use Rattle.afdx_acceptance.specs.Keys.{is_key, is_link, key_place, key_with, place_of, side_rank}
 use Rattle.afdx_acceptance.specs.Waiting.{slot_due}

@@ -2,21 +2,20 @@
 use Rattle.std.proofs.Common.{◌≡◌, ℕ, ◌+◌, ◌*◌, ◌<◌, ◌≤◌, Bool, true, false, ◌⊎◌, inl, inr, List, [], ◌∷◌, length, refl, sym, ap, ◌∙◌, subst, arith, true≢false}
 use Rattle.std.proofs.lemmas.Bool.{eq-eqb, ltb-true, ltb-false}
 use Rattle.std.proofs.lemmas.Option.{slice_get_within}
-use Rattle.std.specs.Prelude.{Option, Some, None, ◌&&◌, nat_eq, nat_lt, map, option_and_then, if◌then◌else◌}
+use Rattle.std.specs.Prelude.{Option, Some, None, ◌&&◌, nat_eq, nat_lt, option_and_then, if◌then◌else◌}
 use Rattle.std.specs.Option.{option_map_or}
 use Rattle.std.specs.List.{AllByRecursion}
 use Rattle.afdx_conform.proofs.EveryLemmas.{every-on}
 use Rattle.afdx_config.specs.Rows.{LinkRow, Rows}
-use Rattle.afdx_frame.specs.Sides.{is_side}
 use Rattle.afdx_frame.specs.declared.link.Side.{Side}
 use Rattle.afdx_inputs.specs.Joining.{Frame}
 use Rattle.afdx_acceptance.specs.Choices.{Choices}
-use Rattle.afdx_acceptance.specs.Keys.{is_key, is_link, key_rank, key_with, link_rank, side_rank}
-use Rattle.afdx_acceptance.specs.Lines.{AreInOrder, AreLines, Due, dues_by, dues_of, last_rank, of_key, rank, stream_dues}
+use Rattle.afdx_acceptance.specs.Keys.{is_key, is_link, link_rank, side_rank}
+use Rattle.afdx_acceptance.specs.Lines.{AreInOrder, AreLines, Due, dues_by, dues_of, of_key, rank, stream_dues}
 use Rattle.afdx_acceptance.specs.RunLaws.{ThereIsOneAnswer}
 use Rattle.afdx_acceptance.specs.Tapped.{is_judged, judged_to, link_to}
 use Rattle.afdx_acceptance.specs.declared.key.Key.{Key}
-use Rattle.afdx_acceptance.proofs.KeyLemmas.{key-cases, key-same, key-self, key-turned, link-to, side-of-rank, side-small}
+use Rattle.afdx_acceptance.proofs.KeyLemmas.{key-cases, key-turned, link-to, side-of-rank, side-small}
 use Rattle.afdx_acceptance.proofs.OfKeyLemmas.{its-key, of-each-key, other-key, own-key, own-keys}
 
 -- ---- keys in range, told apart by their rank
