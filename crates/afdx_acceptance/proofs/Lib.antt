@@ -19,3 +19,4 @@ pub mod OneAnswerLemmas
 pub mod RunLawLemmas
 pub mod FoundLemmas
 pub mod ByTimeLemmas
+pub mod RunExampleLemmas

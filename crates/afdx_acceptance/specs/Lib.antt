@@ -17,3 +17,4 @@ pub mod Told
 pub mod Ran
 pub mod Written
 pub mod RunLaws
+pub mod RunExample

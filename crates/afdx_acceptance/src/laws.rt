@@ -1,5 +1,6 @@
 //! Laws over the lines of a run.
 
+ghost use Rattle.afdx_acceptance.specs.RunExample.{PremisesAreMet};
 ghost use Rattle.afdx_acceptance.specs.RunLaws.{ConformsIsTheHeadline, NoLineIsExplained};
 ghost use Rattle.afdx_acceptance.specs.RunLaws.{NothingFoundIsExplained, RightConforms};
 ghost use Rattle.afdx_acceptance.specs.RunLaws.{ThereIsOneAnswer};
@@ -32,4 +33,10 @@ pub fn conforms_is_the_headline()
 /// A right switch is never accused, if stamps and clocks keep their accuracy and nothing else left.
 pub fn right_conforms()
     ensures { RightConforms }
+{}
+
+/// There is a run that meets all premises: a frame came and left in time, and there is no line; and
+/// one where it left a nanosecond too late, with the line that says so.
+pub fn premises_are_met()
+    ensures { PremisesAreMet }
 {}
