@@ -20,3 +20,4 @@ pub mod RunLawLemmas
 pub mod FoundLemmas
 pub mod ByTimeLemmas
 pub mod RunExampleLemmas
+pub mod VerdictLemmas

@@ -18,3 +18,4 @@ pub mod Ran
 pub mod Written
 pub mod RunLaws
 pub mod RunExample
+pub mod VerdictLaws
