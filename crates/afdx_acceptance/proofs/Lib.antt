@@ -13,6 +13,13 @@ pub mod StepLemmas
 pub mod GivenLemmas
 pub mod JoinLemmas
 pub mod FullLemmas
+pub mod LaterLemmas
+pub mod RestLemmas
+pub mod BehindLemmas
+pub mod FirstLemmas
+pub mod EarlyLemmas
+pub mod BegunLemmas
+pub mod CountingLemmas
 pub mod EndLemmas
 pub mod OfKeyLemmas
 pub mod OneAnswerLemmas
