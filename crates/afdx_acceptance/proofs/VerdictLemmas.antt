@@ -43,17 +43,18 @@ use Rattle.afdx_acceptance.proofs.RunLawLemmas.{found-then, is_the_headline, rig
 
 -- ---- one system among those to which a link goes
 
-abbrev IsIn : ℕ → List ℕ → Type 0
+abbrev pub IsIn : ℕ → List ℕ → Type 0
 IsIn s [] = ⊥
 IsIn s (x ∷ to) = (x ≡ s) ⊎ IsIn s to
 
 in-any : (s : ℕ) (to : List ℕ) → list_any (λ i. nat_eq i s) to ≡ true → IsIn s to
 in-any s [] h = absurd (cc)
-in-any s (x ∷ to) h = by (nat_eq x s) refl h
+in-any s (x ∷ to) h = by (nat_eq x s) refl h (λ k. in-any s to k)
   where
-    by : (b : Bool) → nat_eq x s ≡ b → (b || list_any (λ i. nat_eq i s) to) ≡ true → IsIn s (x ∷ to)
-    by true e k = inl (eqb-true x s e)
-    by false e k = inr (in-any s to k)
+    by : (b : Bool) → nat_eq x s ≡ b → (b || list_any (λ i. nat_eq i s) to) ≡ true
+        → (list_any (λ i. nat_eq i s) to ≡ true → IsIn s to) → IsIn s (x ∷ to)
+    by true e k more = inl (eqb-true x s e)
+    by false e k more = inr (more k)
 
 any-in : (s : ℕ) (to : List ℕ) → IsIn s to → list_any (λ i. nat_eq i s) to ≡ true
 any-in s [] m = absurd m
@@ -79,7 +80,7 @@ or-none a b e f = ap (λ (x : Bool). x || b) e ∙ f
 -- ---- a sum of streams and its parts
 
 -- a part of what is counted: no more is explained there, and it isn't unsure where the whole isn't
-record IsPart (n whole : Counted) : Type 0 where
+pub record IsPart (n whole : Counted) : Type 0 where
   pub less : n.explained ≤ whole.explained
   pub sure : whole.is_unsure ≡ false → n.is_unsure ≡ false
 
@@ -341,10 +342,10 @@ not-less a b le = by (nat_lt a b) refl
     by false e = refl
 
 not-same : (a b : ℕ) → (a ≡ b → ⊥) → nat_eq a b ≡ false
-not-same a b no = by (nat_eq a b) refl
+not-same a b other = by (nat_eq a b) refl
   where
     by : (v : Bool) → nat_eq a b ≡ v → v ≡ false
-    by true e = absurd (no (eqb-true a b e))
+    by true e = absurd (other (eqb-true a b e))
     by false e = refl
 
 record IsConform (n : Totals) : Type 0 where
@@ -366,8 +367,8 @@ conforms-parts n h = by (nat_lt 0 n.findings) n.is_unsure (nat_eq n.explained 0)
         record { none = omega (arith, le); sure = ue; some = more n.explained other }
       where
         more : (m : ℕ) → (m ≡ 0 → ⊥) → 0 < m
-        more zero no = absurd (no refl)
-        more (suc m) no = omega arith
+        more zero apart = absurd (apart refl)
+        more (suc m) apart = omega arith
 
 conforms-from : (n : Totals) → IsConform n → answer_of n ≡ Conforms
 conforms-from n p =

@@ -1,5 +1,5 @@
 -- What is counted of the streams of some frames, the newest first, if the recordings end then.
-use Rattle.std.specs.Prelude.{ℕ, ◌≡◌, ◌+◌, ◌||◌, Bool, false, List, [], ◌∷◌, reverse, min, if◌then◌else◌}
+use Rattle.std.specs.Prelude.{ℕ, ◌≡◌, ◌+◌, ◌||◌, Bool, false, List, [], ◌∷◌, None, reverse, min, if◌then◌else◌}
 use Rattle.afdx_bounds.specs.Tables.{port_of}
 use Rattle.afdx_config.specs.Rows.{LinkRow, Rows}
 use Rattle.afdx_frame.specs.declared.link.Side.{Side}
