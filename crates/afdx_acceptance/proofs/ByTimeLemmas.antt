@@ -1,9 +1,8 @@
 -- Frames that go by time, and those of them that are of a stream.
 use Rattle.std.proofs.Common.{◌≡◌, ℕ, ◌+◌, ◌≤◌, Bool, true, false, List, [], ◌∷◌, ◌++◌, map, reverse, refl, sym, ap, ◌∙◌, subst, arith}
-use Rattle.std.proofs.lemmas.Bool.{leb-true, le-leb}
 use Rattle.std.specs.Prelude.{⊤, ◌&&◌, if◌then◌else◌, is_none, nat_le, Some}
 use Rattle.std.specs.List.{AllByRecursion, filter}
-use Rattle.afdx_config.specs.Rows.{LinkRow, Rows}
+use Rattle.afdx_config.specs.Rows.{Rows}
 use Rattle.afdx_frame.specs.declared.link.Side.{Side}
 use Rattle.afdx_inputs.specs.Joining.{Frame}
 use Rattle.afdx_police.specs.Arrival.{Arrival, names}
@@ -14,7 +13,7 @@ use Rattle.afdx_conform.specs.Headline.{GoByTime, sound_of}
 use Rattle.afdx_conform.specs.Histories.{uncut}
 use Rattle.afdx_conform.specs.Leeway.{both_slacks}
 use Rattle.afdx_conform.specs.Streams.{Gone, Terms}
-use Rattle.afdx_conform.proofs.EveryLemmas.{every-append, every-on, every-reverse, reverse-first}
+use Rattle.afdx_conform.proofs.EveryLemmas.{every-append, every-reverse, reverse-first}
 use Rattle.afdx_acceptance.specs.Choices.{Choices, counted, counts, latest_of}
 use Rattle.afdx_acceptance.specs.Frames.{arrivals_of, frames_of, gone_of, is_arrival_of, left_at}
 use Rattle.afdx_acceptance.specs.RunLaws.{AreByTime}

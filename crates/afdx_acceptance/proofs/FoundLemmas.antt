@@ -1,5 +1,5 @@
 -- Lines that are findings, and the streams that they are of.
-use Rattle.std.proofs.Common.{◌≡◌, ℕ, ◌+◌, ◌<◌, ◌≤◌, Bool, true, false, ◌⊎◌, inl, inr, List, [], ◌∷◌, ◌++◌, map, reverse, length, refl, sym, ap, ◌∙◌, subst, arith, true≢false}
+use Rattle.std.proofs.Common.{◌≡◌, ℕ, ◌+◌, ◌<◌, Bool, true, false, List, [], ◌∷◌, ◌++◌, map, reverse, length, refl, sym, ap, ◌∙◌, subst, arith, true≢false}
 use Rattle.std.proofs.lemmas.Bool.{ltb-true, ltb-false}
 use Rattle.std.proofs.lemmas.List.{reverse-reverse, length-reverse}
 use Rattle.std.specs.Prelude.{Option, Some, None, ◌↔◌, is_some, nat_lt, if◌then◌else◌}
@@ -10,18 +10,17 @@ use Rattle.afdx_config.specs.Rows.{LinkRow, Rows}
 use Rattle.afdx_frame.specs.declared.link.Side.{Side}
 use Rattle.afdx_inputs.specs.Joining.{Frame}
 use Rattle.afdx_police.specs.Arrival.{Arrival}
-use Rattle.afdx_conform.specs.EventLaws.{UnsureIsBehindOne}
 use Rattle.afdx_conform.specs.Findings.{Found, Judged, Marked}
 use Rattle.afdx_conform.specs.Streams.{Terms}
 use Rattle.afdx_conform.specs.declared.finding.Finding.{Finding}
 use Rattle.afdx_conform.specs.declared.finding.Finding.TheVariants as finding
 use Rattle.afdx_text.specs.declared.conform_line.ConformLine.{ConformLine}
-use Rattle.afdx_conform.proofs.EveryLemmas.{every-append, every-map, every-on, every-reverse, every-right, every-unmap}
+use Rattle.afdx_conform.proofs.EveryLemmas.{every-append, every-map, every-reverse, every-right, every-unmap}
 use Rattle.afdx_conform.proofs.QuietLemmas.{behind_one}
 use Rattle.afdx_acceptance.specs.Choices.{Choices}
 use Rattle.afdx_acceptance.specs.Frames.{strangers_of, terms_at}
 use Rattle.afdx_acceptance.specs.Keys.{key_with}
-use Rattle.afdx_acceptance.specs.Lines.{AreLines, Due, dues_by, dues_of, found_due, found_line, judged_at, judged_dues, lines_of, of_key, stranger_due, stream_dues, unsure_dues}
+use Rattle.afdx_acceptance.specs.Lines.{AreLines, Due, dues_by, found_due, found_line, judged_at, judged_dues, lines_of, of_key, stranger_due, stream_dues, unsure_dues}
 use Rattle.afdx_acceptance.specs.RunLaws.{AreAll, NoneIsStrange, NothingIsFound}
 use Rattle.afdx_acceptance.specs.Tapped.{judged_to}
 use Rattle.afdx_acceptance.specs.Telling.{findings_in, is_finding, one_if}

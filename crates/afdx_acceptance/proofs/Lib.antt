@@ -27,4 +27,5 @@ pub mod RunLawLemmas
 pub mod FoundLemmas
 pub mod ByTimeLemmas
 pub mod RunExampleLemmas
+pub mod PartLemmas
 pub mod VerdictLemmas

@@ -1,37 +1,38 @@
 -- The premises of the laws are met.
-use Rattle.std.proofs.Common.{◌≡◌, ℕ, zero, suc, ◌+◌, ◌<◌, ◌≤◌, Bool, true, false, ◌⊎◌, inl, inr, List, [], ◌∷◌, length, map, refl, sym, ap, ◌∙◌, subst, arith, true≢false}
-use Rattle.std.proofs.lemmas.Bool.{ltb-true, ltb-false}
-use Rattle.std.specs.Prelude.{Option, Some, None, ◌&&◌, filter, is_none, slice_get, slice_index, if◌then◌else◌}
+use Rattle.std.proofs.Common.{◌≡◌, ℕ, zero, suc, ◌≤◌, Bool, true, false, inl, inr, List, [], ◌∷◌, map, refl, sym, ap, ◌∙◌, subst, arith, true≢false}
+use Rattle.std.specs.Prelude.{Option, Some, None, ◌&&◌, filter, slice_get, slice_index, if◌then◌else◌}
 use Rattle.std.specs.Option.{option_map_or}
-use Rattle.std.specs.List.{AllByRecursion}
 use Rattle.afdx_bounds.specs.Tables.{byte_ns_at, goes_to, port_of, rule_of}
 use Rattle.afdx_config.specs.Lawful.{AreDistinct, IsLawfulSwitch, jitter_from_system, triple}
 use Rattle.afdx_config.specs.Reading as reading
 use Rattle.afdx_config.specs.Reading.{are_apart, is_name, link_of, system_at_port}
-use Rattle.afdx_config.specs.Rows.{LinkRow, PortRow, SystemRow, is_to}
+use Rattle.afdx_config.specs.Rows.{LinkRow, SystemRow, is_to}
 use Rattle.afdx_frame.specs.Register.{number, shift}
 use Rattle.afdx_frame.specs.Sealing.{is_sealed, sequence_of}
 use Rattle.afdx_frame.specs.declared.link.Side.{Side}
 use Rattle.afdx_frame.specs.declared.link.Side.TheVariants.{A, B}
 use Rattle.afdx_inputs.specs.Joining.{Frame}
-use Rattle.afdx_lists.specs.declared.role.Role.TheVariants.{Came, Left}
+use Rattle.afdx_lists.specs.declared.role.Role.TheVariants.{Left}
 use Rattle.afdx_police.specs.Arrival.{Arrival, arrival_with, names}
 use Rattle.afdx_police.specs.Shape.{fault_of}
 use Rattle.afdx_police.specs.Window.{keeps_windows}
 use Rattle.afdx_conform.specs.Events.{events_of, up_to}
 use Rattle.afdx_conform.specs.Findings.{are_same, came_to, closed_to, deviates, does_more, first_named, front_rest, judged_after, once_named, one_more, skipped, sound_events, strangeness, thinned_onto, unexplained}
 use Rattle.afdx_conform.specs.Headline.{sound_of}
-use Rattle.afdx_conform.specs.Right.{AllLeaveLater, Asked, EachLeaves, GoByClock, IsRight, accepted_after, accepted_asked}
+use Rattle.afdx_conform.specs.Histories.{least_from}
+use Rattle.afdx_conform.specs.Right.{AllLeaveLater, Asked, EachLeaves, GoByClock, accepted_after, accepted_asked}
 use Rattle.afdx_conform.specs.States.{are_behind, first_states, kept, led_by, states_at}
 use Rattle.afdx_conform.specs.Streams.{fits, is_begun, is_open}
 use Rattle.afdx_conform.specs.Worked.{frame_bytes}
-use Rattle.afdx_acceptance.specs.Choices.{counted, counts}
-use Rattle.afdx_acceptance.specs.Frames.{arrivals_of, frame_with, frames_of, is_arrival_of, is_stranger, left_at, strangers_of, terms_at}
+use Rattle.afdx_acceptance.specs.Choices.{counted, counts, is_missed}
+use Rattle.afdx_acceptance.specs.Counting.{counted_among, counted_at, counted_to}
+use Rattle.afdx_acceptance.specs.Frames.{frame_with, is_arrival_of, is_stranger, left_at, strangers_of, terms_at}
 use Rattle.afdx_acceptance.specs.Keys.{is_key, key_with}
 use Rattle.afdx_acceptance.specs.Lines.{AreInOrder, AreLines, Due, dues_by, dues_of, judged_dues, of_key, stranger_due, stream_dues}
 use Rattle.afdx_acceptance.specs.RunExample.{PremisesAreMet, choices, frames_at, late_line, link, receiver, sender, tables}
-use Rattle.afdx_acceptance.specs.RunLaws.{AreByTime, AreOfRight, IsExactBy, IsOfRight, sound_at, uncut_at}
-use Rattle.afdx_acceptance.specs.Tapped.{all_taps, is_unheard, judged_to, link_to, place_named}
+use Rattle.afdx_acceptance.specs.RunLaws.{AreByTime, IsOfRight, sound_at, uncut_at}
+use Rattle.afdx_acceptance.specs.Tapped.{all_taps, is_unheard, judged_to, link_to, place_named, unseen_among, unseen_to}
+use Rattle.afdx_acceptance.specs.Telling.{findings_in}
 use Rattle.afdx_acceptance.specs.declared.key.Key.{Key}
 use Rattle.afdx_acceptance.proofs.KeyLemmas.{key-cases, key-same, key-self, link-to, system-at}
 use Rattle.afdx_acceptance.proofs.OfKeyLemmas.{other-key}
@@ -298,7 +299,7 @@ unfolding counts is_unheard is_arrival_of left_at names sound_of fault_of is_sea
     byte_ns_at system_at_port place_named link_of link_to goes_to judged_to judged_dues is_key AreByTime AreInOrder
     events_of up_to are_same does_more one_more thinned_onto front_rest first_named once_named strangeness unexplained
     skipped closed_to deviates came_to sound_events judged_after led_by kept are_behind first_states states_at fits
-    is_open is_begun
+    is_open is_begun counted_at counted_to counted_among findings_in unseen_to unseen_among is_missed least_from
 premises_met = record {
   lawful = is-lawful;
   exact = record { slack = refl; drift = refl; asked = refl; start = refl };
@@ -314,4 +315,6 @@ premises_met = record {
   };
   no_line = its-lines 6720 [] refl refl refl (λ k other. refl) tt;
   one_line = its-lines 17001 (late_line ∷ []) refl refl refl (λ k other. other-key k late_line [] other) (omega arith, tt);
+  conforms = refl;
+  deviates = refl;
 }

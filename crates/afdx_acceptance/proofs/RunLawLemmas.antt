@@ -1,5 +1,5 @@
 -- What it means that nothing is found in a run.
-use Rattle.std.proofs.Common.{◌≡◌, ℕ, ◌+◌, ◌<◌, ◌≤◌, Bool, true, false, List, [], ◌∷◌, ◌++◌, length, map, reverse, refl, sym, ap, ◌∙◌, subst, arith}
+use Rattle.std.proofs.Common.{◌≡◌, ℕ, ◌+◌, ◌≤◌, Bool, true, false, List, [], ◌∷◌, length, map, reverse, refl, sym, ap, ◌∙◌, subst, arith}
 use Rattle.std.proofs.lemmas.Bool.{and_parts, le-leb, ltb-false}
 use Rattle.std.proofs.lemmas.List.{reverse-reverse}
 use Rattle.std.specs.Prelude.{IsTrue, Option, Some, None, ◌↔◌, ◌&&◌, not, nat_le, if◌then◌else◌}
@@ -18,8 +18,7 @@ use Rattle.afdx_conform.specs.LimitRanges.{most_bytes}
 use Rattle.afdx_conform.specs.Explanations.{Explains}
 use Rattle.afdx_conform.specs.Headline.{IsAsTheHeadline, IsExact, sound_of}
 use Rattle.afdx_conform.specs.Histories.{judged_of, uncut}
-use Rattle.afdx_conform.specs.Leeway.{Leeway, both_slacks}
-use Rattle.afdx_conform.specs.Right.{Asked, IsRight}
+use Rattle.afdx_conform.specs.Leeway.{both_slacks}
 use Rattle.afdx_conform.specs.Streams.{Gone, Terms}
 use Rattle.afdx_conform.proofs.CutLemmas.{uncut-reverse}
 use Rattle.afdx_conform.proofs.HeadlineLemmas.{exact_is_the_headline}
@@ -31,10 +30,10 @@ use Rattle.afdx_conform.proofs.WholeLemmas.{all_explained}
 use Rattle.afdx_acceptance.specs.Choices.{Choices, counted, counts, is_before, is_behind, is_in_time, is_passed, latest_of, until_or}
 use Rattle.afdx_acceptance.specs.Frames.{arrivals_of, frames_of, gone_of, left_at, terms_at}
 use Rattle.afdx_acceptance.specs.Lines.{AreLines, Due, judged_at}
-use Rattle.afdx_acceptance.specs.RunLaws.{AreAll, AreAsTheHeadline, AreByTime, AreExplained, AreOfRight, AreSure, ConformsIsTheHeadline, IsByTheHeadline, IsExactBy, IsExplained, IsOfRight, NoLineIsExplained, NothingFoundIsExplained, NothingIsFound, RightConforms, sound_at, uncut_at}
+use Rattle.afdx_acceptance.specs.RunLaws.{AreByTime, AreExplained, AreSure, ConformsIsTheHeadline, IsByTheHeadline, IsExactBy, IsExplained, NoLineIsExplained, NothingFoundIsExplained, NothingIsFound, RightConforms, sound_at, uncut_at}
 use Rattle.afdx_acceptance.specs.Tapped.{judged_to}
-use Rattle.afdx_acceptance.proofs.ByTimeLemmas.{all-before, arrivals-by-time, arrivals-go, frames-go, sound-by-time, uncut-go}
-use Rattle.afdx_acceptance.proofs.FoundLemmas.{IsQuiet, NoneIsFound, all-quiet, none-of-sure, quiet-all, quiet-streams, streams-quiet, sure-of-none}
+use Rattle.afdx_acceptance.proofs.ByTimeLemmas.{all-before, arrivals-by-time, arrivals-go, sound-by-time, uncut-go}
+use Rattle.afdx_acceptance.proofs.FoundLemmas.{IsQuiet, all-quiet, none-of-sure, quiet-all, quiet-streams, streams-quiet, sure-of-none}
 use Rattle.afdx_acceptance.proofs.KeyLemmas.{link-to}
 use Rattle.afdx_acceptance.proofs.OneAnswerLemmas.{judged-link}
 

@@ -19,5 +19,5 @@ pub mod Told
 pub mod Written
 pub mod Ran
 pub mod RunLaws
-pub mod RunExample
 pub mod VerdictLaws
+pub mod RunExample

@@ -1,6 +1,6 @@
 -- Runs in which the premises of the laws are met, with exact stamps and clocks: one frame of one
 -- link came and left, once in time and once a nanosecond too late.
-use Rattle.std.specs.Prelude.{ℕ, None, Some, List, [], ◌∷◌, codes}
+use Rattle.std.specs.Prelude.{ℕ, ◌≡◌, None, Some, List, [], ◌∷◌, codes}
 use Rattle.afdx_config.specs.Lawful.{IsLawfulSwitch}
 use Rattle.afdx_config.specs.Rows.{LinkRow, Rows, SystemRow, example_link}
 use Rattle.afdx_frame.specs.declared.link.Policing.TheVariants.{Frame}
@@ -10,6 +10,7 @@ use Rattle.afdx_lists.specs.declared.role.Role.TheVariants.{Came, Left}
 use Rattle.afdx_police.specs.Arrival.{arrival_with}
 use Rattle.afdx_conform.specs.Leeways.{leeway_with}
 use Rattle.afdx_conform.specs.Worked.{frame_bytes}
+use Rattle.afdx_text.specs.declared.conform_line.Answer.TheVariants.{Conforms, Deviates}
 use Rattle.afdx_text.specs.declared.conform_line.ConformLine.TheVariants.{Late}
 use Rattle.afdx_acceptance.specs.Choices.{Choices}
 use Rattle.afdx_acceptance.specs.Frames.{frame_with}
@@ -17,6 +18,7 @@ use Rattle.afdx_acceptance.specs.Keys.{key_with}
 use Rattle.afdx_acceptance.specs.Lines.{AreLines, Due, due_at}
 use Rattle.afdx_acceptance.specs.RunLaws.{AreByTime, AreOfRight, IsExactBy}
 use Rattle.afdx_acceptance.specs.Tapped.{all_taps}
+use Rattle.afdx_acceptance.specs.VerdictLaws.{answered}
 
 abbrev pub sender : SystemRow
 sender = record { name = codes "s1"; port = 1; id = 1; partition = 1; rate = 100 }
@@ -57,3 +59,5 @@ pub record PremisesAreMet : Type 0 where
   pub is_right : AreOfRight tables choices 6720 (frames_at 6720)
   pub no_line : AreLines tables choices 6720 (frames_at 6720) []
   pub one_line : AreLines tables choices 17001 (frames_at 17001) (late_line ∷ [])
+  pub conforms : answered (tables, choices) (frames_at 6720) [] ≡ Conforms
+  pub deviates : answered (tables, choices) (frames_at 17001) (late_line ∷ []) ≡ Deviates 1

@@ -1,6 +1,5 @@
 -- Laws over what a run answers. Lists have the newest first.
 use Rattle.std.specs.Prelude.{ℕ, ◌<◌, ◌≡◌, ◌↔◌, Option, Some, List, length}
-use Rattle.std.specs.Io.KnownBytes.{Appends}
 use Rattle.afdx_config.specs.Lawful.{IsLawfulSwitch}
 use Rattle.afdx_config.specs.Rows.{Rows, LinkRow}
 use Rattle.afdx_frame.specs.declared.link.Side.{Side}
