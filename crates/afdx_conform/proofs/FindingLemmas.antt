@@ -202,7 +202,7 @@ pub marked-either : (x : Arrival) (mark : Option Reason) (all : List State) (j :
 marked-either x mark all j (inl g) = inl (record { none = g.none; enough = g.enough; some = g.some })
 marked-either x mark all j (inr b) = inr (record { found = b.found; gone = b.gone })
 
-judged-is : (z : Terms) (ys : List Gone) (behind : List Arrival) (events : List Event)
+pub judged-is : (z : Terms) (ys : List Gone) (behind : List Arrival) (events : List Event)
     → (judged_after z ys behind events).is_unsure ≡ false
     → IsEither (states_after z ys (sound_events z events)) (judged_after z ys behind events)
 unfolding judged_after states_after sound_events came_to closed_to

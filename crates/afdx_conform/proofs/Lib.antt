@@ -67,3 +67,4 @@ pub mod CountLemmas
 pub mod DueNowLemmas
 pub mod QuietLemmas
 pub mod CutLemmas
+pub mod OpenLemmas

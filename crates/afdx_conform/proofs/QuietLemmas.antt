@@ -9,17 +9,15 @@ use Rattle.afdx_conform.specs.EventLaws.{ExplainedFindsNothing, NothingFoundCoun
 use Rattle.afdx_conform.specs.Events.{events_of, judged_whole}
 use Rattle.afdx_conform.specs.Explanations.{Explains, last_time, levels_then, link}
 use Rattle.afdx_conform.specs.Findings.{Judged, answered_by, came_by, came_to, closed_by, closed_to, few_of, is_uncertain, judged_after, lead, front_rest, one_if, rate_mark, skipped, sound_came, sound_events, with_mark}
-use Rattle.afdx_conform.specs.Headline.{sound_of}
 use Rattle.afdx_conform.specs.Laws.{IsSomeState}
 use Rattle.afdx_conform.specs.Levels.{first_levels}
 use Rattle.afdx_conform.specs.States.{Event, Came, Closing, State, arrivals_came, are_behind, first_states, kept, led_by, states_after, states_at}
 use Rattle.afdx_conform.specs.Streams.{Gone, Terms}
-use Rattle.afdx_conform.proofs.EventLemmas.{came-all, in-order}
+use Rattle.afdx_conform.proofs.EventLemmas.{in-order}
 use Rattle.afdx_conform.proofs.FindingLemmas.{IsEither, IsFound, IsGood, came-cases, closed-cases, deviates-finds, enough-itself, first-some, found-none, if-both, marked-either, skipped-finds}
 use Rattle.afdx_conform.proofs.GrowthCloses.{closed-unsure}
-use Rattle.afdx_conform.proofs.MomentLemmas.{came-reverse}
 use Rattle.afdx_conform.proofs.StateLemmas.{states_explain}
-use Rattle.afdx_conform.proofs.WholeLemmas.{all-within, sound-came, sound-order, total}
+use Rattle.afdx_conform.proofs.WholeLemmas.{all-within, sound-order, sound-whole, total}
 
 -- ---- where a state is left
 
@@ -100,9 +98,7 @@ pub finds_nothing : ExplainedFindsNothing
 unfolding states_after sound_events
 finds_nothing z xs ys p e =
     let events = reverse (events_of z xs ys) in
-    let came : arrivals_came (sound_events z events) ≡ sound_of z.rule (reverse xs) =
-    sound-came z events ∙ ap (λ (l : List Arrival). sound_of z.rule l)
-    (came-reverse (events_of z xs ys) ∙ ap (λ (l : List Arrival). reverse l) (came-all z xs ys)) in
+    let came = sound-whole z xs ys in
     let law = states_explain z ys (sound_events z events) (total ys) (sound-order z events (in-order z xs ys p)) (all-within ys) in
     let some = law.1 (subst (λ (l : List Arrival). Explains z l (reverse ys)) (sym came) e) in
     (quiet z ys [] events

@@ -33,5 +33,6 @@ pub mod Sure
 pub mod SomeKnown
 pub mod Histories
 pub mod RightCut
+pub mod Open
 pub mod Growing
 pub mod Standing

@@ -12,6 +12,7 @@ ghost use Rattle.afdx_conform.specs.Hiding.{WhatPassedKeepsWindows};
 ghost use Rattle.afdx_conform.specs.Laws.{StatesAreExplanations, ExactIsTheHeadline};
 ghost use Rattle.afdx_conform.specs.Later.{EndFindsNothing, LaterArrivalsFindNothing};
 ghost use Rattle.afdx_conform.specs.Later.{LaterFramesFindNothing};
+ghost use Rattle.afdx_conform.specs.Open.{OpenIsLeast};
 ghost use Rattle.afdx_conform.specs.Right.{RightIsExplained, SomeIsRight};
 ghost use Rattle.afdx_conform.specs.RightCut.{RightIsCut};
 ghost use Rattle.afdx_conform.specs.SomeKnown.{SomeIsKnown};
@@ -124,4 +125,10 @@ pub fn explained_finds_nothing()
 /// A right switch is right too by what was recorded of it up to an end.
 pub fn right_is_cut()
     ensures { RightIsCut }
+{}
+
+/// Where nothing is found, and the stream isn't unsure, what is counted as open are the least
+/// accepted arrivals that wait in what explains it.
+pub fn open_is_least()
+    ensures { OpenIsLeast }
 {}
