@@ -29,3 +29,4 @@ pub mod ByTimeLemmas
 pub mod RunExampleLemmas
 pub mod PartLemmas
 pub mod VerdictLemmas
+pub mod ShownLemmas

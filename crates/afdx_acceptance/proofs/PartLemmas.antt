@@ -60,23 +60,27 @@ or-none a b e f = ap (λ (x : Bool). x || b) e ∙ f
 
 -- ---- a sum of streams and its parts
 
--- a part of what is counted: no more is explained there, and it isn't unsure where the whole isn't
+-- a part of what is counted: no more is explained and open there, and it isn't unsure where the
+-- whole isn't
 pub record IsPart (n whole : Counted) : Type 0 where
   pub less : n.explained ≤ whole.explained
+  pub open_less : n.waiting ≤ whole.waiting
   pub sure : whole.is_unsure ≡ false → n.is_unsure ≡ false
 
 part-left : (a b : Counted) → IsPart a (both_counted a b)
-part-left a b = record { less = omega arith; sure = λ h. (or-parts a.is_unsure b.is_unsure h).0 }
+part-left a b = record { less = omega arith; open_less = omega arith; sure = λ h. (or-parts a.is_unsure b.is_unsure h).0 }
 
 part-right : (n a b : Counted) → IsPart n b → IsPart n (both_counted a b)
 part-right n a b p = record {
   less = (let le = p.less in omega (arith, le));
+  open_less = (let le = p.open_less in omega (arith, le));
   sure = λ h. p.sure (or-parts a.is_unsure b.is_unsure h).1;
 }
 
 part-part : (n m whole : Counted) → IsPart n m → IsPart m whole → IsPart n whole
 part-part n m whole p q = record {
   less = (let a = p.less in let b = q.less in omega (arith, a, b));
+  open_less = (let a = p.open_less in let b = q.open_less in omega (arith, a, b));
   sure = λ h. p.sure (q.sure h);
 }
 
@@ -117,7 +121,7 @@ module _ (t : Rows) (c : Choices) (until : ℕ) (frames : List Frame) where
 
   side-part : (side : Side) → IsPart (Among side t.links) Sum
   side-part A = part-left (Among A t.links) (Among B t.links)
-  side-part B = part-right (Among B t.links) (Among A t.links) (Among B t.links) (record { less = omega arith; sure = λ h. h })
+  side-part B = part-right (Among B t.links) (Among A t.links) (Among B t.links) (record { less = omega arith; open_less = omega arith; sure = λ h. h })
 
   pub is-part : (side : Side) (place s : ℕ) (l : LinkRow) → slice_get t.links place ≡ Some l → IsIn s l.to → IsPart (At side l s) Sum
   is-part side place s l at m =

@@ -41,10 +41,10 @@ use Rattle.afdx_acceptance.proofs.OneAnswerLemmas.{judged-link}
 
 -- the newest first
 module _ (z : Terms) (own : List Arrival) (left : List Gone) where
-  abbrev Whole : Judged
+  abbrev pub Whole : Judged
   Whole = judged_whole z (reverse own) (reverse (uncut z left))
 
-  whole-is : judged_of z (reverse own) (reverse left) ≡ Whole
+  pub whole-is : judged_of z (reverse own) (reverse left) ≡ Whole
   whole-is = ap (λ (l : List Gone). judged_whole z (reverse own) l) (uncut-reverse z left)
 
   other-way : Explains z (sound_of z.rule own) (uncut z left)

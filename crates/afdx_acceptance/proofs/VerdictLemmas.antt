@@ -31,7 +31,7 @@ use Rattle.afdx_acceptance.proofs.PartLemmas.{SomeStream, at-judged, at-other, e
 
 -- ---- what is explained of one stream
 
-uncut-length : (z : Terms) (ys : List Gone) → length (uncut z (reverse ys)) ≡ length (uncut z ys)
+pub uncut-length : (z : Terms) (ys : List Gone) → length (uncut z (reverse ys)) ≡ length (uncut z ys)
 uncut-length z ys = ap (λ (l : List Gone). length l) (uncut-reverse z ys) ∙ length-reverse (uncut z ys)
 
 explained-some : (z : Terms) (xs : List Arrival) (ys : List Gone) → 0 < (counts_of z xs ys).explained → 0 < length (uncut z ys)
@@ -67,12 +67,12 @@ not-same a b other = by (nat_eq a b) refl
     by true e = absurd (other (eqb-true a b e))
     by false e = refl
 
-record IsConform (n : Totals) : Type 0 where
+pub record IsConform (n : Totals) : Type 0 where
   pub none : n.findings ≡ 0
   pub sure : n.is_unsure ≡ false
   pub some : 0 < n.explained
 
-conforms-parts : (n : Totals) → answer_of n ≡ Conforms → IsConform n
+pub conforms-parts : (n : Totals) → answer_of n ≡ Conforms → IsConform n
 conforms-parts n h = by (nat_lt 0 n.findings) n.is_unsure (nat_eq n.explained 0) refl refl refl h
   where
     by : (f u e : Bool) → nat_lt 0 n.findings ≡ f → n.is_unsure ≡ u → nat_eq n.explained 0 ≡ e
@@ -116,7 +116,7 @@ module _ (k : Rows × Choices) (frames : List Frame) (lines : List Due) (run : I
   abbrev N : Totals
   N = totals_of k frames lines
 
-  found-zero : N.findings ≡ 0 → NothingIsFound lines
+  pub found-zero : N.findings ≡ 0 → NothingIsFound lines
   found-zero h = omega (arith, h)
 
   zero-found : NothingIsFound lines → N.findings ≡ 0
@@ -165,7 +165,7 @@ module _ (k : Rows × Choices) (frames : List Frame) (lines : List Due) (run : I
       let less = (is-part k.0 k.1 End frames s.side s.place p.system s.link p.at p.goes).less in
       omega (arith, there, less)
 
-  conform-then : answered k frames lines ≡ Conforms
+  pub conform-then : answered k frames lines ≡ Conforms
       → SomeLeft k frames × AreSure k.0 k.1 End frames × AreExplained k.0 k.1 End frames
   conform-then h =
       let p = conforms-parts N h in

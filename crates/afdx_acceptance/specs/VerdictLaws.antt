@@ -4,14 +4,19 @@ use Rattle.afdx_config.specs.Lawful.{IsLawfulSwitch}
 use Rattle.afdx_config.specs.Rows.{Rows, LinkRow}
 use Rattle.afdx_frame.specs.declared.link.Side.{Side}
 use Rattle.afdx_inputs.specs.Joining.{Frame}
+use Rattle.afdx_police.specs.Arrival.{Arrival}
+use Rattle.afdx_conform.specs.Explanations.{Answered, AreAllowed, ArePairs, accepted_in, arrivals_in}
+use Rattle.afdx_conform.specs.Hiding.{KeepAll}
 use Rattle.afdx_conform.specs.Levels.{parts}
+use Rattle.afdx_conform.specs.Streams.{Gone, Terms}
 use Rattle.afdx_text.specs.declared.conform_line.Answer.{Answer}
 use Rattle.afdx_text.specs.declared.conform_line.Answer.TheVariants.{Conforms, Deviates}
 use Rattle.afdx_acceptance.specs.Choices.{Choices, until_or}
 use Rattle.afdx_acceptance.specs.Counting.{totals_of}
+use Rattle.afdx_acceptance.specs.Frames.{frames_of, terms_at}
 use Rattle.afdx_acceptance.specs.Lines.{AreLines, Due}
 use Rattle.afdx_acceptance.specs.Ran.{WritesAll}
-use Rattle.afdx_acceptance.specs.RunLaws.{AreAsTheHeadline, AreByTime, AreExplained, AreOfRight, AreSure, IsExactBy, uncut_at}
+use Rattle.afdx_acceptance.specs.RunLaws.{AreAll, AreAsTheHeadline, AreByTime, AreExplained, AreOfRight, AreSure, IsExactBy, sound_at, uncut_at}
 use Rattle.afdx_acceptance.specs.Tapped.{judged_to}
 use Rattle.afdx_acceptance.specs.Totals.{answer_of}
 use Rattle.afdx_acceptance.specs.declared.totals.Totals.{Totals}
@@ -69,6 +74,27 @@ RightNeverDeviates =
     AreOfRight k.0 k.1 (end_of k frames) frames →
     answered k frames lines ≡ Deviates findings →
     ⊥
+
+-- the frames are those of arrivals, in order and in time, each of which may have been accepted; no
+-- other one had to be; and they keep every window
+pub record IsShown (z : Terms) (sound : List Arrival) (frames : List Gone) : Type 0 where
+  pub answers : List Answered
+  pub are_answered : arrivals_in answers ≡ sound
+  pub are_allowed : AreAllowed z answers
+  pub are_pairs : ArePairs z (accepted_in answers) frames
+  pub windows : KeepAll z (accepted_in answers)
+
+-- where it conforms and nothing is open, that is so of all frames of each stream that is judged
+abbrev pub ConformsShowsAll : Type 0
+ConformsShowsAll =
+    (k : Rows × Choices) (frames : List Frame) (lines : List Due) →
+    IsRun k frames lines →
+    answered k frames lines ≡ Conforms →
+    (totals_of k frames lines).waiting ≡ 0 →
+    AreAll k.0 k.1 (end_of k frames) frames (λ l side port.
+    IsShown (terms_at k.0 k.1 (end_of k frames) l port)
+    (sound_at k.0 k.1 (end_of k frames) frames l side)
+    (frames_of k.0 k.1 l.vl side port frames))
 
 -- all that is written, and the totals, are a function of tables, choices and frames
 pub record IsWrittenOnce (new other : Option (List ℕ)) (totals others : Totals) : Type 0 where

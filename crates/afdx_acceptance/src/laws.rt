@@ -5,7 +5,8 @@ ghost use Rattle.afdx_acceptance.specs.RunLaws.{ConformsIsTheHeadline, NoLineIsE
 ghost use Rattle.afdx_acceptance.specs.RunLaws.{NothingFoundIsExplained, RightConforms};
 ghost use Rattle.afdx_acceptance.specs.RunLaws.{ThereIsOneAnswer};
 ghost use Rattle.afdx_acceptance.specs.VerdictLaws.{AllIsWrittenOnce, ConformsIsExplained};
-ghost use Rattle.afdx_acceptance.specs.VerdictLaws.{ExactConforms, RightNeverDeviates};
+ghost use Rattle.afdx_acceptance.specs.VerdictLaws.{ConformsShowsAll, ExactConforms};
+ghost use Rattle.afdx_acceptance.specs.VerdictLaws.{RightNeverDeviates};
 
 /// Of the same tables, choices, end and frames there is one list of lines; of the same tables,
 /// choices and frames one text and one count: what a run writes and answers is a function of these.
@@ -20,11 +21,13 @@ pub fn there_is_one_answer()
 /// every window, as far as clocks and stamps can tell.
 ///
 /// There is no line exactly where that is so and no stream is unsure. A run answers `conforms`
-/// exactly where, besides, some frame left.
+/// exactly where, besides, some frame left. Where it does and nothing is open, all frames of each
+/// stream are those of such arrivals, and no other arrival had to be accepted.
 pub fn conforms_is_explained()
     ensures found { NothingFoundIsExplained }
     ensures none { NoLineIsExplained }
     ensures answer { ConformsIsExplained }
+    ensures shows { ConformsShowsAll }
 {}
 
 /// With exact stamps and clocks, from a reset on, no stream is unsure, and nothing is found exactly
