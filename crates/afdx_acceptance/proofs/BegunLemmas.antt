@@ -1,9 +1,9 @@
 -- What a run has begun to tell.
-use Rattle.std.proofs.Common.{◌≡◌, ℕ, ◌≤◌, ◌<◌, Bool, true, false, List, [], ◌∷◌, ◌++◌, inl, inr, refl, sym, ◌∙◌, subst, arith}
-use Rattle.std.proofs.KnownBytes.{Appends-nil}
+use Rattle.std.proofs.Common.{◌≡◌, ℕ, ◌≤◌, Bool, true, false, List, [], ◌∷◌, ◌++◌, inl, inr, refl, sym, ap, ◌∙◌, subst, arith}
+use Rattle.std.proofs.lemmas.Bool.{le-ltb}
 use Rattle.std.proofs.lemmas.List.{append-nil}
 use Rattle.std.specs.Io.KnownBytes.{Appends}
-use Rattle.std.specs.Prelude.{Err, None, Ok, OnErr, Option, Result, Some, filter, nat_lt}
+use Rattle.std.specs.Prelude.{Err, None, Ok, OnErr, Option, Result, Some, cond, filter, nat_lt}
 use Rattle.std.specs.List.{AllByRecursion}
 use Rattle.afdx_config.specs.Rows.{Rows}
 use Rattle.afdx_inputs.specs.Joining.{Frame}
@@ -13,14 +13,13 @@ use Rattle.afdx_text.specs.declared.conform_line.ConformLine.{ConformLine}
 use Rattle.afdx_acceptance.specs.Beginning.{AreBegun, AreEarly, AreFirstLines, BeginsFrom, IsEndFrom}
 use Rattle.afdx_acceptance.specs.Choices.{Choices, latest_of, until_or}
 use Rattle.afdx_acceptance.specs.Keeping.{IsSomeUpTo}
-use Rattle.afdx_acceptance.specs.Lines.{AreInOrder, Due, dues_of, last_rank, rank}
+use Rattle.afdx_acceptance.specs.Lines.{AreInOrder, Due, dues_of, rank}
 use Rattle.afdx_acceptance.specs.Telling.{lines_text}
 use Rattle.afdx_acceptance.specs.Told.{GoesOn, HasBegun, Stands}
 use Rattle.afdx_acceptance.specs.Written.{BeginsAll, BeginsWritten}
 use Rattle.afdx_acceptance.specs.declared.judging.Judging.{Judging}
-use Rattle.afdx_acceptance.specs.declared.key.Key.{Key}
 use Rattle.afdx_acceptance.proofs.EarlyLemmas.{comes-later, last-first, stands-begun}
-use Rattle.afdx_acceptance.proofs.TellingLemmas.{no-text, text-append}
+use Rattle.afdx_acceptance.proofs.TellingLemmas.{text-append}
 
 -- ---- texts
 
@@ -124,6 +123,8 @@ on-err-all (Err e) k frames old new h = inr (inl h)
 none-before : (xs : List Due) → [] ≡ filter (λ d. nat_lt d.moment 0) xs
 none-before [] = refl
 none-before (d ∷ xs) = none-before xs
+    ∙ sym (ap (λ b. cond b (d ∷ filter (λ e. nat_lt e.moment 0) xs) (filter (λ e. nat_lt e.moment 0) xs))
+    (le-ltb d.moment 0 (omega arith)))
 
 all-later : (xs : List Due) → AllByRecursion (λ d. 0 ≤ rank d) xs
 all-later [] = tt
@@ -134,19 +135,27 @@ unfolding AreInOrder
 nothing-in-order = tt
 
 pub nothing-early : (k : Rows × Choices) → AreEarly k 0 [] []
-nothing-early k until more may late = ([], refl, record {
-  own = λ key small. none-before (dues_of k.0 k.1 until (more ++ []) key);
-  only = λ key large. refl;
-  in_order = nothing-in-order;
-})
+nothing-early k until more may late = (
+  [],
+  refl,
+  record {
+    own = λ key small. none-before (dues_of k.0 k.1 until (more ++ []) key);
+    only = λ key large. refl;
+    in_order = nothing-in-order;
+  },
+)
 
 pub nothing-begun : (k : Rows × Choices) → AreBegun k 0 [] []
-nothing-begun k until more may late = ([], refl, record {
-  own = λ key small. record {
-    rest = dues_of k.0 k.1 until (more ++ []) key;
-    are = sym (append-nil (dues_of k.0 k.1 until (more ++ []) key));
-    later = all-later (dues_of k.0 k.1 until (more ++ []) key);
-  };
-  only = λ key large. refl;
-  in_order = nothing-in-order;
-})
+nothing-begun k until more may late = (
+  [],
+  refl,
+  record {
+    own = λ key small. record {
+      rest = dues_of k.0 k.1 until (more ++ []) key;
+      are = sym (append-nil (dues_of k.0 k.1 until (more ++ []) key));
+      later = all-later (dues_of k.0 k.1 until (more ++ []) key);
+    };
+    only = λ key large. refl;
+    in_order = nothing-in-order;
+  },
+)

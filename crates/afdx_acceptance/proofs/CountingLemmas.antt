@@ -1,14 +1,14 @@
 -- What is counted of the streams.
-use Rattle.std.proofs.Common.{Box, Global, ◌≡◌, ℕ, ◌+◌, ◌-◌, ◌<◌, Bool, true, false, ◌||◌, List, [], ◌∷◌, ◌++◌, inl, inr, get_or, length, min, reverse, take, refl, sym, ap, ◌∙◌, subst, arith}
+use Rattle.std.proofs.Common.{Box, Global, ◌≡◌, ℕ, ◌+◌, ◌<◌, Bool, true, false, ◌||◌, List, [], ◌∷◌, ◌++◌, inl, inr, get_or, length, min, take, refl, sym, ap, ◌∙◌, subst, arith}
 use Rattle.std.proofs.lemmas.List.{take_more}
 use Rattle.std.proofs.lemmas.Option.{get_or_from_slice_get, slice_get_within}
-use Rattle.std.specs.Prelude.{Option, Some, None, is_some, slice_get, if◌then◌else◌}
+use Rattle.std.specs.Prelude.{Some, None, is_some, slice_get, if◌then◌else◌}
 use Rattle.afdx_bounds.specs.Tables.{port_of}
 use Rattle.afdx_config.specs.Rows.{LinkRow, Rows}
 use Rattle.afdx_frame.specs.declared.link.Side.{Side}
 use Rattle.afdx_police.specs.Arrival.{Arrival}
 use Rattle.afdx_conform.specs.Events.{events_of}
-use Rattle.afdx_conform.specs.Findings.{Judged, Marked, judged_after}
+use Rattle.afdx_conform.specs.Findings.{Marked, judged_after}
 use Rattle.afdx_conform.specs.Histories.{counts_of, judged_of, least_from, newest_tag, unsure_in}
 use Rattle.afdx_conform.specs.States.{first_states}
 use Rattle.afdx_conform.specs.Streams.{Gone, Terms}
@@ -21,7 +21,7 @@ use Rattle.afdx_acceptance.specs.Keeping.{given_of, given_to}
 use Rattle.afdx_acceptance.specs.Keys.{key_with}
 use Rattle.afdx_acceptance.specs.Lines.{Due, lines_of}
 use Rattle.afdx_acceptance.specs.Slots.{StreamEnds}
-use Rattle.afdx_acceptance.specs.Tapped.{is_judged, judged_to, unseen_of}
+use Rattle.afdx_acceptance.specs.Tapped.{unseen_of}
 use Rattle.afdx_acceptance.specs.Telling.{findings_in, most_counted}
 use Rattle.afdx_acceptance.specs.declared.key.Key.{Key}
 use Rattle.afdx_acceptance.specs.declared.slot.Slot.{Slot}

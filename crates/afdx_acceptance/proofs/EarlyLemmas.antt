@@ -1,10 +1,8 @@
 -- What a run has told so far comes first, whatever comes later.
-use Rattle.std.proofs.Common.{◌≡◌, ℕ, ◌+◌, ◌*◌, ◌<◌, ◌≤◌, true, false, List, [], ◌∷◌, ◌++◌, refl, sym, ap, ◌∙◌, subst, arith, true≢false}
+use Rattle.std.proofs.Common.{◌≡◌, ℕ, ◌≤◌, true, false, List, [], ◌∷◌, ◌++◌, refl, sym, ap, ◌∙◌, subst, arith, true≢false}
 use Rattle.std.proofs.lemmas.Bool.{ltb-false}
 use Rattle.std.proofs.lemmas.List.{append_assoc}
-use Rattle.std.proofs.lemmas.Option.{same_Some}
 use Rattle.std.specs.Prelude.{Option, Some, None}
-use Rattle.std.specs.List.{AllByRecursion}
 use Rattle.afdx_config.specs.Rows.{Rows}
 use Rattle.afdx_conform.proofs.EveryLemmas.{every-append, every-on}
 use Rattle.afdx_inputs.specs.Joining.{Frame}
@@ -96,11 +94,14 @@ module _ (k : Rows × Choices) (frames : List Frame) (time : ℕ) (j : Judging) 
 
     are-early : IsNothingDue k.0 (Some time) j.streams.kept
         → (dues : List Due) × (lines ≡ lines_of dues) × AreLinesBefore k.0 k.1 until (more ++ frames) time dues
-    are-early nothing = (held.dues, held.are,
-        lines-before k.0 k.1 until time j.streams.ended frames (more ++ frames) held.dues held.streams.lawful j.streams.kept
-        held.streams.kept time (held.early refl)
-        (λ key known. behind key known (λ m. time ≤ m) (λ a b le h. omega (arith, le, h)) (λ none. omega arith)
-        (λ m is. not-before key m (nothing key m known is))))
+    are-early nothing = (
+      held.dues,
+      held.are,
+      lines-before k.0 k.1 until time j.streams.ended frames (more ++ frames) held.dues held.streams.lawful j.streams.kept
+          held.streams.kept time (held.early refl)
+          (λ key known. behind key known (λ m. time ≤ m) (λ a b le h. omega (arith, le, h)) (λ none. omega arith)
+          (λ m is. not-before key m (nothing key m known is))),
+    )
 
   -- all that is told is the first of all lines
   pub stands-begun : AreBegun k time frames lines
@@ -125,18 +126,26 @@ module _ (k : Rows × Choices) (frames : List Frame) (time : ℕ) (j : Judging) 
   ended-kept = subst (λ o. AreKept k.0 k.1 end o time (given_of k.0 k.1 frames) whole.dues j.streams.kept) is whole.streams.kept
 
   pub last-first : (dues : List Due) × (lines ≡ lines_of dues) × AreFirstLines k.0 k.1 (until_or k.1.until frames) frames dues
-  last-first = (whole.dues, whole.are, subst (λ n. AreFirstLines k.0 k.1 n frames whole.dues) at-end
-      (first-lines k.0 k.1 end time (Some end) frames frames whole.dues whole.streams.lawful j.streams.kept ended-kept
-      (λ key known. known-behind k.0 k.1 end time [] frames whole.dues j.streams.kept key known
-      (IsRanked (last_rank whole.dues) key) (ranked-up (last_rank whole.dues) key)
-      (λ m due. ended-kept.behind key m known due) refl ended-kept)))
+  last-first = (
+    whole.dues,
+    whole.are,
+    subst (λ n. AreFirstLines k.0 k.1 n frames whole.dues) at-end
+        (first-lines k.0 k.1 end time (Some end) frames frames whole.dues whole.streams.lawful j.streams.kept ended-kept
+        (λ key known. known-behind k.0 k.1 end time [] frames whole.dues j.streams.kept key known
+        (IsRanked (last_rank whole.dues) key) (ranked-up (last_rank whole.dues) key)
+        (λ m due. ended-kept.behind key m known due) refl ended-kept)),
+  )
 
   pub last-all : IsNothingDue k.0 None j.streams.kept
       → (dues : List Due) × (lines ≡ lines_of dues) × AreLines k.0 k.1 (until_or k.1.until frames) frames dues
-  last-all nothing = (whole.dues, whole.are, subst (λ n. AreLines k.0 k.1 n frames whole.dues) at-end
-      (only-lines k.0 k.1 end time (Some end) frames frames whole.dues whole.streams.lawful j.streams.kept ended-kept
-      (λ key known. known-behind k.0 k.1 end time [] frames whole.dues j.streams.kept key known
-      (λ m. ⊥) (λ a b le no. no) (λ m due. true≢false (nothing key m known due)) refl ended-kept)))
+  last-all nothing = (
+    whole.dues,
+    whole.are,
+    subst (λ n. AreLines k.0 k.1 n frames whole.dues) at-end
+        (only-lines k.0 k.1 end time (Some end) frames frames whole.dues whole.streams.lawful j.streams.kept ended-kept
+        (λ key known. known-behind k.0 k.1 end time [] frames whole.dues j.streams.kept key known
+        (λ m. ⊥) (λ a b le no. no) (λ m due. true≢false (nothing key m known due)) refl ended-kept)),
+  )
 
   none-due : IsNothingDue k.0 None j.streams.kept → (key : Key) → is_known k.0 key ≡ true
       → slot_due (slot_at j.streams.kept.slots.items key) ≡ None

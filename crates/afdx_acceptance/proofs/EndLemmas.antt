@@ -1,5 +1,5 @@
 -- All lines of a run.
-use Rattle.std.proofs.Common.{◌≡◌, ℕ, ◌+◌, ◌*◌, ◌<◌, true, false, List, [], ◌∷◌, length, refl, sym, subst, arith, true≢false}
+use Rattle.std.proofs.Common.{◌≡◌, ℕ, ◌+◌, ◌*◌, ◌<◌, true, List, [], ◌∷◌, length, refl, sym, subst, arith, true≢false}
 use Rattle.std.specs.Prelude.{Err, None, Ok, OnOk, Option, Result, Some, is_some}
 use Rattle.afdx_config.specs.Rows.{Rows}
 use Rattle.afdx_conform.specs.Ranges.{most_held}

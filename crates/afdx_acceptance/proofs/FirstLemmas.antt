@@ -1,23 +1,21 @@
 -- Of all lines those that are told come first, whatever comes later.
 use Rattle.std.proofs.Common.{◌≡◌, ℕ, ◌+◌, ◌*◌, ◌<◌, ◌≤◌, ◌⊎◌, inl, inr, Bool, true, false, List, [], ◌∷◌, ◌++◌, map, reverse, refl, sym, ap, ◌∙◌, subst, arith, true≢false}
 use Rattle.std.proofs.lemmas.Bool.{le-ltb, lt-ltb, ltb-true}
-use Rattle.std.proofs.lemmas.List.{append_assoc, map-append, reverse-append}
+use Rattle.std.proofs.lemmas.List.{map-append, reverse-append}
 use Rattle.std.proofs.lemmas.List.Elements.{filter-append}
-use Rattle.std.specs.Prelude.{Option, Some, None, ◌&&◌, cond, filter, is_some, nat_lt, not, option_and_then}
+use Rattle.std.specs.Prelude.{Option, Some, None, ◌&&◌, cond, filter, is_some, nat_lt, not}
 use Rattle.std.specs.List.{AllByRecursion}
 use Rattle.std.specs.Option.{option_map_or}
 use Rattle.afdx_config.specs.Lawful.{IsLawfulSwitch}
 use Rattle.afdx_config.specs.Rows.{LinkRow, Rows}
 use Rattle.afdx_police.specs.Arrival.{Arrival, names}
 use Rattle.afdx_conform.specs.Histories.{judged_of}
-use Rattle.afdx_conform.specs.Streams.{Gone}
-use Rattle.afdx_conform.proofs.EveryLemmas.{every-append, every-map, every-on, every-reverse}
+use Rattle.afdx_conform.proofs.EveryLemmas.{every-map, every-on, every-reverse}
 use Rattle.afdx_inputs.specs.Joining.{Frame}
-use Rattle.afdx_acceptance.specs.Awaited.{awaited}
-use Rattle.afdx_acceptance.specs.Beginning.{AreFirst, AreFirstLines, AreLinesBefore, ComeFrom}
+use Rattle.afdx_acceptance.specs.Beginning.{AreFirstLines, AreLinesBefore, ComeFrom}
 use Rattle.afdx_acceptance.specs.Choices.{Choices, counted, counts, is_before, is_behind}
 use Rattle.afdx_acceptance.specs.Frames.{arrivals_of, frames_of, gone_of, is_arrival_of, is_stranger, left_at, strangers_of, terms_at}
-use Rattle.afdx_acceptance.specs.Keeping.{AreKept, IsNothingDue, IsOfLink, IsStreamOf, given_by, given_of, given_to, is_known, is_known_by, slot_at}
+use Rattle.afdx_acceptance.specs.Keeping.{AreKept, IsOfLink, IsStreamOf, given_by, given_of, given_to, is_known, is_known_by, slot_at}
 use Rattle.afdx_acceptance.specs.Keys.{is_key, key_rank}
 use Rattle.afdx_acceptance.specs.Lines.{AreLines, Due, dues_by, dues_of, judged_dues, last_rank, of_key, rank, stranger_due, stream_dues}
 use Rattle.afdx_acceptance.specs.Tapped.{judged_to, link_to}

@@ -445,10 +445,10 @@ unfolding is_arrival_of left_at
 given-unseen t taps k fs a place l lawful named to none = by k.link
   where
     by-three : (s p n : Bool) → (s ≡ true → p ≡ true → n ≡ true → ⊥) → (s && p && n) ≡ false
-    by-three false p n no = refl
-    by-three true false n no = refl
-    by-three true true false no = refl
-    by-three true true true no = absurd (no refl refl refl)
+    by-three false p n never' = refl
+    by-three true false n never' = refl
+    by-three true true false never' = refl
+    by-three true true true never' = absurd (never' refl refl refl)
 
     by-link : (p : ℕ) (o : Option LinkRow) → judged_to t taps k.side p k.port ≡ o
         → linked k (frame_with Left a ∷ fs) o ≡ linked k fs o

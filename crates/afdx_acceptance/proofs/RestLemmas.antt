@@ -3,7 +3,7 @@ use Rattle.std.proofs.Common.{◌≡◌, ℕ, zero, suc, ◌+◌, ◌-◌, ◌<�
 use Rattle.std.proofs.lemmas.Bool.{ltb-true, ltb-false}
 use Rattle.std.proofs.lemmas.List.{append-nil, append_assoc, drop-append-le, map-append, reverse-append, reverse-reverse}
 use Rattle.std.proofs.lemmas.List.Elements.{filter-append}
-use Rattle.std.specs.Prelude.{if◌then◌else◌, nat_le, Some, None, option_map}
+use Rattle.std.specs.Prelude.{if◌then◌else◌, nat_le, Some, option_map}
 use Rattle.std.specs.List.{AllByRecursion}
 use Rattle.afdx_police.specs.Arrival.{Arrival}
 use Rattle.afdx_conform.specs.Events.{GoUp, arrival_times, closes_before, closings_in, event_time, events_of, frame_times, judged_whole, moment_at}
@@ -22,7 +22,7 @@ use Rattle.afdx_conform.proofs.CuttingLemmas.{are-late, closed-shown, split}
 use Rattle.afdx_conform.proofs.EventLemmas.{came-all, every-event}
 use Rattle.afdx_conform.proofs.EveryLemmas.{every-append, every-left, every-on, every-reverse, every-unmap}
 use Rattle.afdx_conform.proofs.GrowthFrames.{shown-late}
-use Rattle.afdx_conform.proofs.HistoryLemmas.{came-within, closed-within, events-came, events-cut, events-left, events-so-far, every-drop, unclosed-more}
+use Rattle.afdx_conform.proofs.HistoryLemmas.{came-within, events-came, events-cut, events-left, events-so-far, unclosed-more}
 use Rattle.afdx_conform.proofs.LaterArrivals.{arrivals_later}
 use Rattle.afdx_conform.proofs.MomentLemmas.{came-reverse, up-left}
 use Rattle.afdx_conform.proofs.OverLemmas.{AreLate}

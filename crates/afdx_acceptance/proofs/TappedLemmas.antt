@@ -4,13 +4,14 @@ use Rattle.std.proofs.lemmas.Bool.{eqb-true}
 use Rattle.std.proofs.lemmas.List.{append-nil, take_more}
 use Rattle.std.proofs.lemmas.List.Elements.{filter-append}
 use Rattle.std.proofs.lemmas.Option.{get_or_from_slice_get, slice_get_within}
-use Rattle.std.specs.Prelude.{Option, Some, None, cond, filter, slice_get, nat_eq, option_and_then, if◌then◌else◌}
+use Rattle.std.specs.Prelude.{Option, Some, None, cond, filter, slice_get, nat_eq, not, option_and_then, if◌then◌else◌}
 use Rattle.std.specs.List.{list_any}
 use Rattle.afdx_bounds.specs.Tables.{port_of}
 use Rattle.afdx_config.specs.Rows.{LinkRow, Rows}
 use Rattle.afdx_frame.specs.declared.link.Side.{Side}
+use Rattle.afdx_inputs.specs.Joining.{Frame}
 use Rattle.afdx_lists.specs.declared.role.Role.TheVariants.{Left}
-use Rattle.afdx_acceptance.specs.Tapped.{Taps, is_judged, judged_to, link_to, unseen_among, unseen_to}
+use Rattle.afdx_acceptance.specs.Tapped.{Taps, is_heard_at, is_judged, is_of_came, is_unheard, judged_to, link_to, place_named, unseen_among, unseen_to}
 
 module _ (t : Rows) (taps : Taps) (side : Side) (place port : ℕ) (l : LinkRow) where
   pub to-judged : link_to t place port ≡ Some l → is_judged t taps side l port ≡ true → judged_to t taps side place port ≡ Some l
@@ -69,15 +70,17 @@ seen_ports t taps side to = filter (taps Left side) (map (port_of t) to)
 -- one among those that pass a test passes it
 pub any-kept : (f : ℕ → Bool) (p : ℕ) (xs : List ℕ) → list_any (λ q. nat_eq q p) (filter f xs) ≡ true → f p ≡ true
 any-kept f p [] h = absurd (true≢false (sym h))
-any-kept f p (x ∷ xs) h = by (f x) refl h
+any-kept f p (x ∷ xs) h = by (f x) refl h (λ h'. any-kept f p xs h')
   where
-    here : (b : Bool) → nat_eq x p ≡ b → (b || list_any (λ q. nat_eq q p) (filter f xs)) ≡ true → f x ≡ true → f p ≡ true
-    here true e h' fx = subst (λ n. f n ≡ true) (eqb-true x p e) fx
-    here false e h' fx = any-kept f p xs h'
+    here : (b : Bool) → nat_eq x p ≡ b → (b || list_any (λ q. nat_eq q p) (filter f xs)) ≡ true → f x ≡ true
+        → (list_any (λ q. nat_eq q p) (filter f xs) ≡ true → f p ≡ true) → f p ≡ true
+    here true e h' fx more = subst (λ n. f n ≡ true) (eqb-true x p e) fx
+    here false e h' fx more = more h'
 
-    by : (b : Bool) → f x ≡ b → list_any (λ q. nat_eq q p) (cond b (x ∷ filter f xs) (filter f xs)) ≡ true → f p ≡ true
-    by true fx h' = here (nat_eq x p) refl h' fx
-    by false fx h' = any-kept f p xs h'
+    by : (b : Bool) → f x ≡ b → list_any (λ q. nat_eq q p) (cond b (x ∷ filter f xs) (filter f xs)) ≡ true
+        → (list_any (λ q. nat_eq q p) (filter f xs) ≡ true → f p ≡ true) → f p ≡ true
+    by true fx h' more = here (nat_eq x p) refl h' fx more
+    by false fx h' more = more h'
 
 -- one that passes it is among them
 pub any-passes : (f : ℕ → Bool) (p : ℕ) (xs : List ℕ) → f p ≡ true → list_any (λ q. nat_eq q p) xs ≡ true
@@ -152,3 +155,11 @@ module _ (t : Rows) (taps : Taps) (side : Side) where
       ap (λ xs. unseen_among t taps side xs) (take_more links place l (slice_get_within links place l at)
       ∙ ap (λ x. take place links ++ x ∷ []) (get_or_from_slice_get links place l l at))
       ∙ among-append (take place links) l
+
+-- ---- a frame that left
+
+pub unheard-is : (t : Rows) (taps : Taps) (x : Frame) → x.role ≡ Left
+    → is_unheard t taps x ≡ not (is_heard_at t taps x.arrival.side (place_named t x.arrival.bytes))
+unfolding is_unheard
+unheard-is t taps x left =
+    ap (λ r. not (is_of_came r) && not (is_heard_at t taps x.arrival.side (place_named t x.arrival.bytes))) left

@@ -16,7 +16,7 @@ use Rattle.afdx_acceptance.specs.Telling.{findings_in, lines_text, most_counted,
 use Rattle.afdx_acceptance.specs.Standing.{IsSameButKept}
 use Rattle.afdx_acceptance.specs.Told.{TellsOf}
 use Rattle.afdx_acceptance.specs.declared.judging.Judging.{Judging}
-use Rattle.afdx_acceptance.specs.declared.taps.Taps.{Taps}
+use Rattle.afdx_recorded.specs.declared.taps.Taps.{Taps}
 use Rattle.afdx_acceptance.specs.declared.streams.Streams.{Streams}
 
 -- as these streams were, which are these
@@ -122,12 +122,12 @@ tells-next r start frames j k l output lines x others streams choices findings l
     }
 
 -- nothing is told
-pub tells-none : (judging : Judging) (output : Option (List ℕ)) → judging.findings ≡ 0 → judging.left_out ≡ 0
-    → judging.latest ≡ 0
-    → TellsOf (judging.streams.tables.now, choices_of (taps_in judging.streams.taps.now) judging.choices.now) [] judging output output []
-tells-none judging output none some at = record {
-  tables_are = refl;
-  choices_are = refl;
+pub tells-none : (r : Rows × Choices) (judging : Judging) (output : Option (List ℕ)) → judging.streams.tables.now ≡ r.0
+    → choices_of (taps_in judging.streams.taps.now) judging.choices.now ≡ r.1
+    → judging.findings ≡ 0 → judging.left_out ≡ 0 → judging.latest ≡ 0 → TellsOf r [] judging output output []
+tells-none r judging output tables choices none some at = record {
+  tables_are = tables;
+  choices_are = choices;
   written = subst (λ (l : List ℕ). Appends output output l) (sym no-text) (Appends-nil output);
   findings_are = none ∙ subst (λ (n : ℕ). 0 ≡ min n most_counted) (sym no-findings) refl;
   left_out_are = some;

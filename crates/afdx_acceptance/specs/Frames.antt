@@ -10,7 +10,8 @@ use Rattle.afdx_inputs.specs.Joining.{Frame}
 use Rattle.afdx_police.specs.Arrival.{Arrival, names}
 use Rattle.afdx_conform.specs.Streams.{Gone, Terms}
 use Rattle.afdx_acceptance.specs.Choices.{Choices, counted}
-pub use Rattle.afdx_acceptance.specs.Tapped.{is_of_came, link_to, place_named}
+use Rattle.afdx_acceptance.specs.Tapped.{is_of_came}
+unfoldable pub use Rattle.afdx_acceptance.specs.Tapped.{link_to, place_named}
 
 abbrev pub frame_with : Role → Arrival → Frame
 frame_with role x = record { role = role; arrival = x }

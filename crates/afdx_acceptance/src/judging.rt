@@ -30,7 +30,6 @@ ghost use Rattle.afdx_text.specs.Sinks.{IsOfOutput};
 use crate::asked::{is_in_time, is_left_out};
 use crate::choices::Choices;
 use crate::streams::Streams;
-use crate::taps::Taps;
 use crate::telling::{findings_in, put_lines};
 use crate::totals::Totals;
 use crate::whole::whole_frame;
@@ -39,6 +38,7 @@ use afdx_engine::Machine;
 use afdx_frame::{VlId, vl_of};
 use afdx_inputs::Seen;
 use afdx_lists::{Role, RunFault};
+use afdx_recorded::Taps;
 use afdx_text::{ConformLine, Sink};
 use std::alloc::{AllocError, Global};
 

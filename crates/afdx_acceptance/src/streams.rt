@@ -37,12 +37,12 @@ use crate::key::Key;
 use crate::outlets::{link_named, new_stream, outlet_at, receiver, rule_at};
 use crate::strangers::{Stranger, why_strange};
 use crate::tapped::{is_heard, is_seen, unseen_of};
-use crate::taps::Taps;
 use crate::totals::Totals;
 use afdx_config::{SystemId, Tables};
 use afdx_conform::{Arrived, Frame, Leeway};
 use afdx_frame::{Side, VlId};
 use afdx_lists::{Heading, Role};
+use afdx_recorded::Taps;
 use std::alloc::{AllocError, Global};
 
 /// How many places a link has, and how many stand before those of the first link.
@@ -261,10 +261,11 @@ impl<'a> Streams<'a> {
         }
         for rank in 0..tables.link(link).to.len() {
             let system = receiver(tables, link, rank);
-            if is_seen(tables, taps, heading.side, system) {
-                let kept = &mut self.kept;
-                come_to(alloc, tables, leeway, kept, link, system, n, heading, bytes)?;
+            if !is_seen(tables, taps, heading.side, system) {
+                continue;
             }
+            let kept = &mut self.kept;
+            come_to(alloc, tables, leeway, kept, link, system, n, heading, bytes)?;
         }
         Ok(())
     }
@@ -275,12 +276,12 @@ impl<'a> Streams<'a> {
             vl ≡ link_named_by x.arrival.bytes →
             result ≡ spec.is_unheard self.now.tables.now (taps_in self.now.taps.now) x }
     {
-        if role == Role::Came {
-            return false;
-        }
-        match link_named(self.tables, vl) {
-            Some(link) => !is_heard(self.tables, self.taps, side, link),
-            None => false,
+        match role {
+            Role::Came => false,
+            Role::Left => match link_named(self.tables, vl) {
+                Some(link) => !is_heard(self.tables, self.taps, side, link),
+                None => false,
+            },
         }
     }
 

@@ -4,6 +4,6 @@ use Rattle.afdx_acceptance.proofs.tapped.unseen_on.Given as goal
 
 abbrev pub invariant-loop-link : goal.invariant-loop-link
 invariant-loop-link l = record {
-  count : l.count ≡ unseen_among l.tables.now (taps_in l.taps.now) l.side (take l.link l.tables.now.links);
+  count : l.count ≡ unseen_among l.tables (taps_in l.taps) l.side (take l.link l.tables.links);
   few : l.count ≤ 24 * l.link;
 }

@@ -1,4 +1,4 @@
-use Rattle.std.proofs.Common.{refl, sym, ◌∙◌, arith}
+use Rattle.std.proofs.Common.{false, refl, ◌∙◌, arith}
 use Rattle.afdx_text.proofs.OutputLemmas.{on-err}
 use Rattle.afdx_acceptance.proofs.FullLemmas.{behind-later, stands-ended}
 use Rattle.afdx_acceptance.proofs.ToldLemmas.{tells-same}

@@ -9,7 +9,11 @@ use Rattle.afdx_acceptance.proofs.judging.Judging.new.Goals as goal
 pub returns : goal.returns
 returns c = λ output. (
   [],
-  tells-none _ output refl refl refl,
+  tells-none (c.args.tables.now, choices_of (taps_in c.args.taps.now) c.args.choices.now) _ output
+      (c.in_ok-streams.ensures.stands (choices_of (taps_in c.args.taps.now) c.args.choices.now) 0 refl refl).tables
+      (ap (λ p. choices_of p c.args.choices.now)
+      (c.in_ok-streams.ensures.stands (choices_of (taps_in c.args.taps.now) c.args.choices.now) 0 refl refl).taps)
+      refl refl refl,
   record {
     all = λ until may. record {
       dues = [];

@@ -1,4 +1,4 @@
-use Rattle.std.proofs.Common.{arith, false, refl}
+use Rattle.std.proofs.Common.{arith, false}
 use Rattle.afdx_text.proofs.OutputLemmas.{on-err}
 use Rattle.afdx_acceptance.proofs.BegunLemmas.{begun-from, goes-past}
 use Rattle.afdx_acceptance.proofs.judging.Judging.reach.Goals as goal

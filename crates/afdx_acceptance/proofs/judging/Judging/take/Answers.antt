@@ -19,7 +19,7 @@ use Rattle.afdx_inputs.specs.Joining.{frame_of}
 use Rattle.afdx_acceptance.proofs.judging.Judging.take.Goals as goal
 
 pub returns-then-not-is_in_time-clause-counted : goal.returns-then-not-is_in_time-clause-counted
-returns-then-not-is_in_time-clause-counted t c = λ frames before.
+returns-then-not-is_in_time-clause-counted c = λ frames before.
     let t = c.args.self.now.streams.tables.now in
     let k = choices_of (taps_in c.args.self.now.streams.taps.now) c.args.self.now.choices.now in
     let x = frame_of (item_of c.args.n c.args.seen.now c.args.message.now) in
@@ -28,7 +28,7 @@ returns-then-not-is_in_time-clause-counted t c = λ frames before.
     (let b = before in omega (arith, b))
 
 pub returns-then-is_passed-clause-counted : goal.returns-then-is_passed-clause-counted
-returns-then-is_passed-clause-counted t c = λ frames before.
+returns-then-is_passed-clause-counted c = λ frames before.
     let t = c.args.self.now.streams.tables.now in
     let k = choices_of (taps_in c.args.self.now.streams.taps.now) c.args.self.now.choices.now in
     let x = frame_of (item_of c.args.n c.args.seen.now c.args.message.now) in
@@ -39,7 +39,7 @@ returns-then-is_passed-clause-counted t c = λ frames before.
     c.saturating_add-self.ensures
 
 pub returns-in-Came-clause-counted : goal.returns-in-Came-clause-counted
-returns-in-Came-clause-counted t c = λ frames before.
+returns-in-Came-clause-counted c = λ frames before.
     let t = c.args.self.now.streams.tables.now in
     let k = choices_of (taps_in c.args.self.now.streams.taps.now) c.args.self.now.choices.now in
     let x = frame_of (item_of c.args.n c.args.seen.now c.args.message.now) in
@@ -51,7 +51,7 @@ returns-in-Came-clause-counted t c = λ frames before.
     (let b = before in omega (arith, b)))
 
 pub returns-in-Left-clause-counted : goal.returns-in-Left-clause-counted
-returns-in-Left-clause-counted t c = λ frames before.
+returns-in-Left-clause-counted c = λ frames before.
     let t = c.args.self.now.streams.tables.now in
     let k = choices_of (taps_in c.args.self.now.streams.taps.now) c.args.self.now.choices.now in
     let x = frame_of (item_of c.args.n c.args.seen.now c.args.message.now) in
@@ -63,7 +63,7 @@ returns-in-Left-clause-counted t c = λ frames before.
     (let b = before in omega (arith, b)))
 
 pub returns-then-len-gt-MOST_BYTES-clause-counted : goal.returns-then-len-gt-MOST_BYTES-clause-counted
-returns-then-len-gt-MOST_BYTES-clause-counted t c = λ frames before.
+returns-then-len-gt-MOST_BYTES-clause-counted c = λ frames before.
     let t = c.args.self.now.streams.tables.now in
     let k = choices_of (taps_in c.args.self.now.streams.taps.now) c.args.self.now.choices.now in
     let x = frame_of (item_of c.args.n c.args.seen.now c.args.message.now) in

@@ -1,6 +1,5 @@
-use Rattle.std.proofs.Common.{◌++◌, refl, sym, ap, ◌∙◌, subst, arith}
+use Rattle.std.proofs.Common.{◌++◌, refl, sym, ap, ◌∙◌, subst}
 use Rattle.afdx_acceptance.specs.Awaited.{IsBefore, awaited}
-use Rattle.afdx_acceptance.specs.Keeping.{IsSomeUpTo}
 use Rattle.afdx_acceptance.specs.Slots.{told_at}
 use Rattle.afdx_acceptance.specs.Standing.{StreamsStand}
 use Rattle.afdx_acceptance.proofs.FullLemmas.{none-there, some-end, some-there, stands-later, stands-same, stands-taken}

@@ -1,4 +1,4 @@
-use Rattle.std.proofs.Common.{ap, sym, subst, ◌∙◌}
+use Rattle.std.proofs.Common.{ap, subst, ◌∙◌}
 use Rattle.afdx_config.specs.Rows.{Rows}
 use Rattle.afdx_inputs.specs.Joining.{frames_of}
 use Rattle.afdx_acceptance.specs.Choices.{Choices, until_or}
@@ -20,7 +20,7 @@ returns c = record {
         totals_are = totals-are k (frames_of past) all.0 _
             (c.count.ensures.findings ∙ c.new-totals.ensures.findings ∙ all.2.findings_are)
             (c.count.ensures.left_out ∙ c.new-totals.ensures.left_out ∙ all.2.left_out_are)
-            (c.count.ensures.unseen ∙ c.new-totals.ensures.unseen ∙ c.unseen.ensures
+            (c.count.ensures.unseen ∙ c.new-totals.ensures.unseen ∙ c.unseen-unseen.ensures
             ∙ ap (λ t. unseen_of t (taps_in c.args.self.now.streams.taps.now)) all.2.tables_are
             ∙ ap (λ (o : Choices). unseen_of k.0 o.taps) all.2.choices_are)
             (subst (λ (t : Rows). HasCounted (counted_of t k.1 until (frames_of past)) c.count.new.totals) all.2.tables_are

@@ -1,4 +1,4 @@
-use Rattle.std.proofs.Common.{◌∙◌, ap, inl, inr}
+use Rattle.std.proofs.Common.{true, ◌∙◌, ap, inl, inr}
 use Rattle.std.specs.Prelude.{is_some}
 use Rattle.afdx_inputs.specs.Joining.{frames_of}
 use Rattle.afdx_text.proofs.OutputLemmas.{on-err}

@@ -1,4 +1,4 @@
-use Rattle.std.proofs.Common.{◌≤◌, ◌∷◌, ◌∙◌, arith, false, inl, inr, refl, sym}
+use Rattle.std.proofs.Common.{◌≤◌, ◌∷◌, arith, false, inl, inr, refl}
 use Rattle.afdx_engine.specs.Engine.{item_of}
 use Rattle.afdx_inputs.specs.Joining.{Frame, frame_of, frames_of}
 use Rattle.afdx_text.proofs.OutputLemmas.{on-err}
@@ -8,7 +8,7 @@ use Rattle.afdx_acceptance.proofs.BegunLemmas.{text-front}
 use Rattle.afdx_acceptance.proofs.EarlyLemmas.{comes-next, stands-begun, stands-early}
 use Rattle.afdx_acceptance.proofs.EndLemmas.{are-few, latest-same}
 use Rattle.afdx_acceptance.proofs.FullLemmas.{stands-same}
-use Rattle.afdx_acceptance.proofs.ToldLemmas.{same-rules, tells-next}
+use Rattle.afdx_acceptance.proofs.ToldLemmas.{tells-next}
 use Rattle.afdx_acceptance.proofs.judging.JudgingMachineSeen.tell.Goals as goal
 
 pub returns-in_err-reach-clause-begins : goal.returns-in_err-reach-clause-begins

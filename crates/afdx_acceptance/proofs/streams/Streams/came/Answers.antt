@@ -10,7 +10,7 @@ use Rattle.afdx_conform.specs.LeewayOf.{leeway_of}
 use Rattle.afdx_lists.specs.declared.role.Role.TheVariants.{Came, Left}
 use Rattle.afdx_acceptance.specs.Choices.{counts}
 use Rattle.afdx_acceptance.specs.Tapped.{Taps, is_heard, taps_in}
-use Rattle.afdx_acceptance.specs.declared.taps.Taps as code
+use Rattle.afdx_recorded.specs.declared.taps.Taps as code
 use Rattle.afdx_acceptance.specs.Frames.{frame_with, place_named}
 use Rattle.afdx_acceptance.specs.Keeping.{AreKept, Given, came_to, given_of}
 use Rattle.afdx_acceptance.specs.Keys.{key_with}
@@ -96,7 +96,7 @@ loop-rank-preserved c = record {
       (any-fewer (c'.taps Left h.side) (port_of t s) (map (port_of t) (take rank row.to))
       (fresh-port t link row rank s c.link.ensures.lawful at is lt)) in
       let sees : c'.taps Left h.side (port_of t s) ≡ true =
-      ap (λ (p : Taps). p Left h.side (port_of t s)) (sym taps) ∙ sym c.is_seen.ensures ∙ c.if-is_seen.true in
+      ap (λ (p : Taps). p Left h.side (port_of t s)) (sym taps) ∙ sym c.is_seen.ensures ∙ c.if-not-is_seen.false in
       come-next t c' until time h.side link row rank s x given lines c.come_to.new.kept c.link.ensures.lawful at is lt sees k.falling
       (c.in_ok-come_to.ensures c' until time before lines row at (any-in row.to rank s is lt) by le start
       (subst (λ (g : Given). AllByRecursion (λ w. w.time ≤ h.time) g.came) (sym same) (all key))
@@ -104,8 +104,8 @@ loop-rank-preserved c = record {
       (c.loop-rank.invariant.kept c' until time given lines row at by taps le start all few k));
 }
 
-pub loop-rank-preserved-else-is_seen : goal.loop-rank-preserved-else-is_seen
-loop-rank-preserved-else-is_seen c = record {
+pub loop-rank-preserved-then-not-is_seen : goal.loop-rank-preserved-then-not-is_seen
+loop-rank-preserved-then-not-is_seen c = record {
   tables = c.loop-rank.invariant.tables;
   leeway = c.loop-rank.invariant.leeway;
   taps = c.loop-rank.invariant.taps;
@@ -123,7 +123,7 @@ loop-rank-preserved-else-is_seen c = record {
       let len = c.len-rank-end.ensures in
       let lt : rank < length row.to = subst (λ (r : LinkRow). rank < length r.to) mine (omega (arith, test, len, count)) in
       let unseen : c'.taps Left h.side (port_of t s) ≡ false =
-      ap (λ (p : Taps). p Left h.side (port_of t s)) (sym taps) ∙ sym c.is_seen.ensures ∙ c.if-is_seen.false in
+      ap (λ (p : Taps). p Left h.side (port_of t s)) (sym taps) ∙ sym c.is_seen.ensures ∙ c.if-not-is_seen.true in
       come-past t c' until time h.side link row rank s x given lines c.loop-rank.self.kept (c.receiver-system.ensures.is row at) lt unseen
       (c.loop-rank.invariant.kept c' until time given lines row at by taps le start all few k);
 }

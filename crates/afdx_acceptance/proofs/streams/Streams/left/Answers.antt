@@ -46,8 +46,8 @@ returns-then-not-is_tapped-clause-stands c t c' until time frames lines vl e le 
           (ap (λ v. is_heard r c'.taps h.side l && v) unseen ∙ and-false (is_heard r c'.taps h.side l)) mine.kept;
     })
 
-pub returns-else-not-is_tapped-clause-stands : goal.returns-else-not-is_tapped-clause-stands
-returns-else-not-is_tapped-clause-stands c t c' until time frames lines vl e le behind few running stand =
+pub returns-in-Some-clause-stands : goal.returns-in-Some-clause-stands
+returns-in-Some-clause-stands c t c' until time frames lines vl e le behind few running stand =
     let r : Rows = c.args.self.now.tables.now in
     let h = c.args.heading.now in
     let a : Arrival = arrival_with c.args.n h.time h.side h.port c.args.bytes.items in
