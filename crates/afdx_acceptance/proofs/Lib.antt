@@ -21,3 +21,12 @@ pub mod EarlyLemmas
 pub mod BegunLemmas
 pub mod CountingLemmas
 pub mod EndLemmas
+pub mod OfKeyLemmas
+pub mod OneAnswerLemmas
+pub mod RunLawLemmas
+pub mod FoundLemmas
+pub mod ByTimeLemmas
+pub mod RunExampleLemmas
+pub mod PartLemmas
+pub mod VerdictLemmas
+pub mod ShownLemmas

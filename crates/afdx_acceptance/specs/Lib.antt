@@ -18,3 +18,6 @@ pub mod Counting
 pub mod Told
 pub mod Written
 pub mod Ran
+pub mod RunLaws
+pub mod VerdictLaws
+pub mod RunExample

@@ -12,6 +12,7 @@ mod counting;
 mod judging;
 mod kept;
 mod key;
+pub mod laws;
 mod outlets;
 mod run;
 mod slot;
