@@ -1,5 +1,5 @@
 -- Where a run conforms and nothing is open.
-use Rattle.std.proofs.Common.{◌≡◌, ℕ, suc, ◌+◌, ◌-◌, ◌<◌, ◌≤◌, Bool, true, false, List, [], ◌∷◌, ◌++◌, length, min, reverse, refl, sym, ap, ◌∙◌, subst, arith}
+use Rattle.std.proofs.Common.{◌≡◌, ℕ, ◌+◌, ◌-◌, ◌≤◌, Bool, true, false, List, [], ◌∷◌, ◌++◌, length, reverse, refl, sym, ap, ◌∙◌, subst, arith}
 use Rattle.std.proofs.lemmas.List.{length-reverse, reverse-reverse}
 use Rattle.std.specs.Prelude.{nat_le, if◌then◌else◌}
 use Rattle.std.specs.List.{filter}
@@ -7,7 +7,7 @@ use Rattle.afdx_police.specs.Arrival.{Arrival}
 use Rattle.afdx_conform.proofs.HidingLemmas.{what_passed}
 use Rattle.afdx_conform.proofs.OpenLemmas.{open_least}
 use Rattle.afdx_conform.specs.Events.{GoUp, arrival_times}
-use Rattle.afdx_conform.specs.Explanations.{ArePairs, Explains, accepted_in}
+use Rattle.afdx_conform.specs.Explanations.{ArePairs, accepted_in}
 use Rattle.afdx_conform.specs.Findings.{Judged}
 use Rattle.afdx_conform.specs.Headline.{GoByTime, sound_of}
 use Rattle.afdx_conform.specs.Hiding.{KeepAll}
@@ -18,7 +18,6 @@ use Rattle.afdx_conform.specs.Streams.{Gone, Terms}
 use Rattle.afdx_bounds.specs.Tables.{rule_of}
 use Rattle.afdx_acceptance.specs.Counting.{Counted, counted_at, totals_of}
 use Rattle.afdx_acceptance.specs.Frames.{arrivals_of, frames_of, terms_at}
-use Rattle.afdx_acceptance.specs.RunLaws.{sound_at}
 use Rattle.afdx_acceptance.specs.VerdictLaws.{ConformsShowsAll, IsShown, end_of}
 use Rattle.afdx_acceptance.proofs.ByTimeLemmas.{arrivals-by-time, arrivals-go, sound-by-time}
 use Rattle.afdx_acceptance.proofs.FoundLemmas.{all-quiet, quiet-streams}
