@@ -8,7 +8,7 @@ from conform_claims import Judge
 from conform_recorded import NAMES, conform_recordings
 from program import Program, answers
 from recorded_cases import RecordedCase
-from recorded_claims import answer_to
+from recorded_judge import answer_to
 from recorded_rows import RECORDED_ROWS, RecordedRow
 from rows import CONFIGS
 from weak import Call, Weak, WeakOfTwo, weak_devices

@@ -34,7 +34,12 @@ from conform_claims import anywhere_conform, left_out_conform, long_run_conforms
 from conform_claims import right_conform, row_holds, rows_are_explained  # noqa: E402
 from conform_claims import steady_memory, told_early, wrong_are_found  # noqa: E402
 from program import Program, try_both  # noqa: E402
-from recorded_claims import recorded_alike, recorded_as_lists, recorded_row_holds  # noqa: E402
+from recorded_claims import HOW_MANY, apart_conforms, half_conforms, half_is_found  # noqa: E402
+from recorded_claims import list_rows_hold, long_recording_conforms, recorded_alike  # noqa: E402
+from recorded_claims import recorded_as_lists, recorded_row_holds  # noqa: E402
+from recorded_claims import recorded_rows_are_explained  # noqa: E402
+from recorded_judge import RecordingJudge  # noqa: E402
+from recorded_more_rows import MORE_RECORDED_ROWS  # noqa: E402
 from recorded_rows import RECORDED_ROWS  # noqa: E402
 from replay_claims import cascades_conform, computed_replay, examples_conform  # noqa: E402
 from replay_claims import replay_of, stored_conform  # noqa: E402
@@ -62,12 +67,31 @@ def cases_of(judge: Judge, who: str, given: argparse.Namespace) -> list[tuple]:
 
 def recorded_cases(judge: Judge, who: str, given: argparse.Namespace) -> list[tuple]:
     """What a judge must answer to recordings."""
+    who = f"{who}, recorded"
     cases: list[tuple] = [
-        (f"{who}, recorded: {row.name}", recorded_row_holds, judge, row) for row in RECORDED_ROWS
+        (f"{who}: {row.name}", recorded_row_holds, judge, row)
+        for row in (*RECORDED_ROWS, *MORE_RECORDED_ROWS)
     ]
+    for is_one, how_many in enumerate(HOW_MANY):
+        asked = RecordingJudge(judge, bool(is_one))
+        cases.append((f"{who}: rows of lists by {how_many}", list_rows_hold, judge, bool(is_one)))
+        cases.append((f"{who}: right switches by {how_many}", right_conform, asked, given.seed, 2))
+        cases.append((f"{who}: what is left out by {how_many}", left_out_conform, asked,
+                      given.seed))
     for seed in range(given.seed, given.seed + SEEDS - 1):
-        name = f"{who}: recordings as the lists that say the same, {seed}"
+        name = f"{who}: as the lists that say the same, {seed}"
         cases.append((name, recorded_as_lists, judge, seed, given.count))
+        cases.append((f"{who}: half of the ports, {seed}", half_conforms, judge, seed, 8))
+        cases.append((f"{who}: recorders that start and stop apart, {seed}", apart_conforms, judge,
+                      seed, 8))
+    for at, wrong in enumerate(WRONG_SWITCHES):
+        name = (wrong.__doc__ or "").strip()
+        asked = RecordingJudge(judge, at % 2 == 0)
+        cases.append((f"{who}: {name}", wrong_are_found, asked, wrong))
+        cases.append((f"{who}, half of the ports: {name}", half_is_found, judge, wrong))
+    cases.append((f"{who}: a clock that drifts for long", long_recording_conforms, judge,
+                  given.frames))
+    cases.append((f"{who}: replays conform", stored_conform, RecordingJudge(judge, True)))
     return cases
 
 
@@ -105,6 +129,8 @@ def program_cases(program: Program, given: argparse.Namespace) -> list[tuple]:
         cases += judged_cases(judge, given)
     if program.knows("conform", "--left"):
         cases += recorded_cases(judge, who, given)
+        rows = (*RECORDED_ROWS, *MORE_RECORDED_ROWS)
+        cases.append(("recorded: what is explained", recorded_rows_are_explained, judge, rows))
         for seed in range(given.seed, given.seed + SEEDS):
             cases.append((f"recordings made at random, {seed}", recorded_alike, judge, seed,
                           given.count))
