@@ -22,6 +22,10 @@ from traffic_made import bench_tables, traffic
 
 FAR = 10**18
 HOW_MANY = ("two", "one")  # recordings
+# options that change nothing of an answer, and the place of the one that is standard input
+WAYS: tuple[tuple[tuple[str, ...], int], ...] = (
+    ((), -1), ((), 0), (("--progress",), 1), (("--explain=never",), 0), ((), -1),
+)
 
 
 def recorded_row_holds(judge: Judge, row: RecordedRow) -> None:
@@ -71,12 +75,13 @@ def recorded_as_lists(judge: Judge, seed: int, count: int) -> None:
 
 
 def recorded_alike(judge: Judge, seed: int, count: int, first: int = 0) -> None:
-    """It answers what is computed here."""
+    """It answers what is computed here, with any of the options that change nothing."""
     for case in range(first, first + count):
         made = small_recordings(random.Random(f"{seed} {case} recordings"))
-        wanted = conform_recordings(*made)
+        wanted, (more, standard) = conform_recordings(*made), WAYS[case % len(WAYS)]
         try:
-            answers(answer_to(judge, made), wanted.status, wanted.out, wanted.err)
+            found = answer_to(judge, made, *more, standard=standard)
+            answers(found, wanted.status, wanted.out, wanted.err)
         except Wrong as wrong:
             raise Wrong(f"case {case} of seed {seed}, {made.words}: {wrong}") from None
 

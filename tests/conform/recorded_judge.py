@@ -14,12 +14,12 @@ LEFT_TOO = "strange"  # the word of lines that name what left
 LAST = 8  # words of the last line, at least
 
 
-def answer_to(judge: Judge, case: RecordedCase, *more: str) -> Answer:
-    """What it answers."""
+def answer_to(judge: Judge, case: RecordedCase, *more: str, standard: int = -1) -> Answer:
+    """What it answers, with more options; the recording at that place is its standard input."""
     if judge.program is None:
-        return conform_recordings(case.config, case.data, (*more, *case.words))
+        return conform_recordings(case.config, case.data, case.words)
     inputs = {f"input-{place}": data for place, data in enumerate(case.data)}
-    return judge.run((*more, *case.words), {"config": case.config} | inputs)
+    return judge.run((*more, *case.words), {"config": case.config} | inputs, f"input-{standard}")
 
 
 def numbers_of(seen: list[Seen], is_one: bool) -> dict[tuple[bool, int], int]:

@@ -71,11 +71,13 @@ def systems_of(tables: dict) -> Systems:
     return Systems(ports, {("", end["port"]): end["rate"] for end in ends})
 
 
-def options_by_input(words: Words, is_one: bool) -> list[Recorded]:
+def options_by_input(
+    words: Words, is_one: bool, kind: type[Recorded] = Recorded
+) -> list[Recorded]:
     """The options of each recording."""
     halves = [dict(interfaces(words.of(name)) or []) for name in ("--interface", "--left")]
     fcs, reorder = words.last("--fcs"), words.last("--reorder")
-    others = Recorded(
+    others = kind(
         fcs=None if fcs is None else fcs == "yes",
         reorder=None if reorder is None else int(reorder),
         stamps=words.last("--stamps"),
@@ -203,8 +205,23 @@ class JudgingSeen(Judging):
                    for side in range(len(SIDES)) for port in self.ports_of(place))
 
 
+class Reads(NamedTuple):
+    """How recordings are read and judged; a wrong body has another part."""
+
+    options: type[Recorded] = Recorded
+    source: type[Input] = Input
+    judging: type[JudgingSeen] = JudgingSeen
+
+
+RIGHTLY = Reads()
+
+
 def conform_recordings(
-    config: bytes, data: tuple[bytes, ...], options: tuple[str, ...] = (), opens: str = ""
+    config: bytes,
+    data: tuple[bytes, ...],
+    options: tuple[str, ...] = (),
+    opens: str = "",
+    reads: Reads = RIGHTLY,
 ) -> Answer:
     """What `conform` answers of a configuration, one recording or two, and these options. Of the
     inputs whose names `opens` has, or of the one, the bytes are not all."""
@@ -219,16 +236,17 @@ def conform_recordings(
         return tables
     names = ("",) if is_one else NAMES
     inputs = [
-        Input(own, systems_of(tables), text, name, (name or NAMES[0]) in opens)
-        for own, text, name in zip(options_by_input(words, is_one), data, names)
+        reads.source(own, systems_of(tables), text, name, (name or NAMES[0]) in opens)
+        for own, text, name in zip(options_by_input(words, is_one, reads.options), data, names)
     ]
-    return answer_of(words, tables, judged, Reading(inputs))
+    reading = Reading(inputs)
+    judging = reads.judging(tables, judged, reading.taken(), words)
+    return answer_of(words, judging, reading)
 
 
-def answer_of(words: Words, tables: dict, options: Options, reading: Reading) -> Answer:
+def answer_of(words: Words, judging: JudgingSeen, reading: Reading) -> Answer:
     """What is answered of what was read."""
     taken = reading.taken()
-    judging = JudgingSeen(tables, options, taken, words)
     if taken.fault:
         status = 4 if taken.fault == f"{BROKEN}\n".encode() else 3
         return Answer(status, judging.text(taken.latest), taken.fault)

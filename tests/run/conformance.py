@@ -45,6 +45,7 @@ from replay_claims import cascades_conform, computed_replay, examples_conform  #
 from replay_claims import replay_of, stored_conform  # noqa: E402
 from rows import ROWS  # noqa: E402
 from wrong_bodies import wrong_bodies  # noqa: E402
+from wrong_recorded import readings_are_refused, wrong_readings  # noqa: E402
 from wrong_switches import WRONG_SWITCHES  # noqa: E402
 
 SEEDS = 4  # that are tried, from the first on
@@ -102,6 +103,7 @@ def computed_cases(given: argparse.Namespace) -> list[tuple]:
         *cases_of(JUDGED, "computed", given),
         *recorded_cases(JUDGED, "computed", given),
         *((f"refused: {name}", bodies_are_refused, body) for name, body in wrong_bodies()),
+        *((f"refused: {name}", readings_are_refused, reads) for name, reads in wrong_readings()),
         *((f"explained exactly where nothing is found, {seed}", are_explained, seed, given.count)
           for seed in seeds),
         ("the stored outputs conform", stored_conform, JUDGED),
