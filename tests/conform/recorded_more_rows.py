@@ -7,7 +7,7 @@ from recorded_forms import packet as any_packet
 from recorded_rows import ALL_OF_A, BAD, CAME, HERE, PAIR, RIGHT, SAME, TWO, RecordedRow, X, one
 from recorded_rows import packet
 from recording_rows import FCS, FIRST_NS, H1, H2, IL9, IW, PL, SL, ZERO, R, Z
-from rows import HEADS
+from rows import HEADS, list_of
 
 K1 = "--switch k1"
 NONE = "0/0/0/0/0/0/0/0/0/0"  # nothing was skipped, nothing else counts
@@ -44,6 +44,10 @@ WORD_ROWS = (
           (RIGHT, f"{K1} --interface 0=A --left 1=A:3"), (PAIR, f"{K1} {ALL_OF_A}"),
           (RIGHT, f"{K1} --interface '0=A k1:1' --left 1=A:3"),
           (RIGHT, f"{K1} --interface 0=A:1 --interface 2=B --left 1=A:3"))),
+    RecordedRow("recordings as lists", (PL + R(ZERO, H1), PL), "", "", "list came BadLine 1", ""),
+    RecordedRow("lists in recordings' place", (list_of("0", "came").hex(),
+                                               list_of("6720", "left").hex()), "", "1/0/0/0", "",
+                "", 0),
     RecordedRow("wrong interfaces before a faulty configuration", RIGHT, "", "", BAD, "--lossy",
                 config="faulty"),
     RecordedRow("a wrong number before a faulty configuration", RIGHT, "", "", "words BadNumber",

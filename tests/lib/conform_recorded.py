@@ -6,7 +6,7 @@ from typing import NamedTuple, NoReturn
 
 from cascade_run import SIDES, Places
 from cascade_run import Arrival as Line
-from conform import BAD_NUMBER, Judging, Taken, judged_tables
+from conform import BAD_NUMBER, Judging, Taken, conform, judged_tables
 from conform_terms import Options, options_of
 from places import LEFT_OUT, interfaces, said
 from program import Answer
@@ -35,11 +35,19 @@ class Words(NamedTuple):
         values = self.of(name)
         return values[-1] if values else None
 
+    def says_recorded(self) -> bool:
+        """One of them says that each input is a recording."""
+        return not self.flags.union(name for name, _ in self.pairs).isdisjoint(OF_RECORDINGS)
+
+    def of_lists(self) -> tuple[str, ...]:
+        """Those that lists have too, with a value."""
+        own = [pair for pair in self.pairs if pair[0] not in OF_RECORDINGS]
+        return tuple(word for pair in own for word in pair)
+
     def options(self) -> Options | None:
         """What is judged, and how; None where a number is out of its range."""
-        own = [pair for pair in self.pairs if pair[0] not in OF_RECORDINGS]
         is_far = int(self.last("--reorder") or 0) > MOST_REORDER
-        return None if is_far else options_of(tuple(word for pair in own for word in pair))
+        return None if is_far else options_of(self.of_lists())
 
 
 def words_of(words: tuple[str, ...]) -> Words:
@@ -223,9 +231,12 @@ def conform_recordings(
     opens: str = "",
     reads: Reads = RIGHTLY,
 ) -> Answer:
-    """What `conform` answers of a configuration, one recording or two, and these options. Of the
-    inputs whose names `opens` has, or of the one, the bytes are not all."""
+    """What `conform` answers of a configuration, one recording or two, and these options; two of
+    which no option says that they are recordings are lists. Of the inputs whose names `opens` has,
+    or of the one, the bytes are not all."""
     words, is_one = words_of(options), len(data) == 1
+    if not is_one and not words.says_recorded():
+        return conform(config, data[0], data[1], words.of_lists())
     if is_bad(words, is_one):
         return Answer(2, b"", b"words BadInterface\n")
     judged = words.options()
