@@ -183,9 +183,18 @@ class Words(unittest.TestCase):
         self.assertEqual(conform_options(self.given("--conform")).words(), [])
 
     def test_those_of_replays_are_refused(self) -> None:
-        for word in ("--origin=0", "--taps=taps.csv", "--no-admission", "--link=1"):
+        for word in ("--origin=0", "--no-admission", "--link=1"):
             with self.assertRaises(Refused):
                 conform_options(self.given("--conform", word))
+
+    def test_those_of_a_table_of_taps(self) -> None:
+        options = conform_options(self.given("--conform", "--taps=taps.csv", "--fcs=no"))
+        options = options.tapped(["--interface=0=A:1", "--left=1=A:3", "--left=3=A:1"])
+        self.assertEqual(options.recorders, Recorders(("0=A:1",), ("1=A:3", "3=A:1"), False))
+        self.assertEqual(options.of_recordings,
+                         ("--interface=0=A:1", "--left=1=A:3", "--left=3=A:1", "--fcs=no"))
+        with self.assertRaises(Refused):
+            conform_options(self.given("--conform", "--taps=taps.csv", "--left=1=A:3"))
 
     def test_those_of_conform_are_refused_for_a_replay(self) -> None:
         for word in ("--left=1=A:3", "--lossy", "--stamps=end-start", "--slack=1"):

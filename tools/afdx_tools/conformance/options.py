@@ -2,7 +2,8 @@
 from __future__ import annotations
 
 import argparse
-from dataclasses import dataclass
+from dataclasses import dataclass, replace
+from typing import Sequence
 
 from afdx_tools.command_line import whole
 from afdx_tools.conformance.recorded import Recorders
@@ -24,7 +25,6 @@ OF_REPLAYS = {
     "link": [],
     "compare": None,
     "fail_on": [],
-    "taps": None,
     "origin": None,
 }
 BY_ROLE = ("start-end", "end-start")  # of --stamps
@@ -73,6 +73,13 @@ class Options:
         words += [f"--leave-out={OTHER if vl is None else vl}" for vl in self.left_out]
         return words + ([] if self.switch is None else [f"--switch={self.switch}"])
 
+    def tapped(self, words: Sequence[str]) -> Options:
+        """The same, with the words of interfaces that a table of taps says."""
+        came, left = (tuple(word.removeprefix(name) for word in words if word.startswith(name))
+                      for name in ("--interface=", "--left="))
+        return replace(self, of_recordings=(*words, *self.of_recordings),
+                       recorders=replace(self.recorders, came=came, left=left))  # fmt: skip
+
     @property
     def twice(self) -> int:
         """By how much the times of two lines may be off."""
@@ -92,6 +99,8 @@ def conform_options(args: argparse.Namespace) -> Options:
         if getattr(args, name) != default:
             raise Refused(f"--{name.replace('_', '-')} isn't an option with --conform")
     amounts = {name: getattr(args, name) for name in AMOUNTS}
+    if args.taps is not None and args.left:
+        raise Refused("--taps and --left say the same: give one of them")
     words = recording_options(args) + [f"--left={each}" for each in args.left]
     fcs = None if args.fcs is None else args.fcs == "yes"
     return Options(

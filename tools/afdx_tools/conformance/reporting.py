@@ -25,6 +25,7 @@ from afdx_tools.outputs import write_folder
 from afdx_tools.program import program, version
 from afdx_tools.progress import Progress
 from afdx_tools.recordings.options import is_recording
+from afdx_tools.recordings.tapped import found_by, word_for
 from afdx_tools.replay.running import check
 from afdx_tools.report.cover import Cover
 from afdx_tools.report.criteria import suite_of, write_junit
@@ -57,13 +58,26 @@ def inputs_of(args: argparse.Namespace, options: Options) -> Iterator[Inputs]:
     with contextlib.ExitStack() as files:
         names = (args.config, args.list, args.other)
         paths = [files.enter_context(at_hand(name)) for name in names if name is not None]
-        are_said = bool(options.of_recordings)
+        are_said = bool(options.of_recordings) or args.taps is not None
         if not are_said and (args.other is None or any(map(is_recording, paths[1:]))):
             raise Refused(
                 "--interface and --left have to say where the frames of a recording came in and "
                 "left; frame lists are two: CAME and LEFT"
             )
         yield Inputs(paths[0], paths[1:], are_said)
+
+
+def tapped(
+    args: argparse.Namespace, inputs: Inputs, options: Options, progress: Progress
+) -> Options:
+    """The options, with the words of a table of taps where there is one."""
+    if args.taps is None:
+        return options
+    if len(inputs.paths) > 1:
+        raise Refused("--taps takes one recording with --conform, of what came and of what left")
+    word = word_for(read_config(inputs.config), options.switch)
+    found = found_by(args.taps, inputs.config, inputs.paths, [args.list], progress, word)
+    return options.tapped(found.words)
 
 
 def read(
@@ -226,7 +240,7 @@ def report_conformance(tool: str, args: argparse.Namespace, options: Options) ->
     progress = Progress(tool)
     try:
         with inputs_of(args, options) as inputs:
-            report = report_of(args, options, inputs, progress)
+            report = report_of(args, tapped(args, inputs, options, progress), inputs, progress)
     finally:
         progress.done()
     if args.out or not args.json:
