@@ -15,7 +15,7 @@ BEGIN = "# printed by bin/pages\n"
 END = "# printed by bin/pages down to here\n"
 NAME = re.compile(r"--?[A-Za-z][a-z-]*")
 WORD = re.compile(r"[A-Za-z0-9][A-Za-z0-9-]*")
-VALUE = re.compile(r"(?:[A-Z]+[A-Za-z=.]*)?")
+VALUE = re.compile(r"(?:[A-Z]+[A-Za-z=.:]*)?")
 # what is offered: files with one of these ends, folders, systems of CONFIG, words; or nothing
 Kind = tuple[str, ...]
 LISTS, PCAPS = ("list",), ("pcap", "pcapng")
@@ -25,7 +25,7 @@ KINDS: dict[str, Kind] = {
     "MESSAGES.csv": ("files", "csv"), "CABLES.csv": ("files", "csv"), "TAPS": ("files", "csv"),
     "RECORDING": ("files", *PCAPS),
     "LIST": ("files", *LISTS, *PCAPS), "SUBMISSIONS": ("files", *LISTS, "messages"),
-    "CAME": ("files", *LISTS), "LEFT": ("files", *LISTS),
+    "CAME": ("files", *LISTS, *PCAPS), "LEFT": ("files", *LISTS, *PCAPS),
     "DIR": ("folders",), "FOLDER": ("folders",), "SYSTEM": ("systems",),
     "BAG_MS": ("words", "1", "2", "4", "8", "16", "32", "64", "128"),
     "--taps": ("files", "csv"), "--cover": ("files", "toml"), "--junit": ("files", "xml"),
@@ -33,7 +33,7 @@ KINDS: dict[str, Kind] = {
     "--keep": ("words", "jitter", "buffer", "latency", "skew"),
     "afdx list LIST": ("files", *PCAPS), "afdx-capture pcap LIST": ("files", *LISTS),
 }
-SEVERAL = ("--interface", "--leave-out", "--sshlogin", "--link")  # may be given more than once
+SEVERAL = ("--interface", "--left", "--leave-out", "--sshlogin", "--link")  # may be given more than once
 COMMAS = ("--keep", "--fail-on")  # take several words, with commas between
 LONGEST = 50  # letters of a text that is shown whole
 
@@ -302,7 +302,8 @@ def zsh_option(option: Option) -> str:
     value = ""
     if option.kind is not None:
         of_words = option.kind[:1] == ("words",)
-        value = f":{' ' if of_words else option.value}:{zsh_action(option)}"
+        called = option.value.replace(":", "\\:")  # which parts messages from actions
+        value = f":{' ' if of_words else called}:{zsh_action(option)}"
     before = "*" if name in SEVERAL else ""
     if option.optional:
         return f"'{name}=-[{text}]:{value}'"
