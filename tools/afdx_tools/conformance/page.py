@@ -56,6 +56,9 @@ def answer(report: Row) -> str:
         is_good = report["status"] == 0
         parts.append(badge(report["verdict"], "good" if is_good else "bad"))
         words = f"Of the account: {account_words(report['totals'])}."
+        if report.get("unseen"):
+            words += f" Of {len(report['unseen'])} links, ports and sides nothing is said: they "
+            words += "weren't recorded."
         parts.append(f'<span class="muted">{escape(words)}</span>')
     if report["admission"] != "ok":
         parts.append(badge(f"not admitted: {report['admission']}", "bad"))
