@@ -15,7 +15,7 @@ BEGIN = "# printed by bin/pages\n"
 END = "# printed by bin/pages down to here\n"
 NAME = re.compile(r"--?[A-Za-z][a-z-]*")
 WORD = re.compile(r"[A-Za-z0-9][A-Za-z0-9-]*")
-VALUE = re.compile(r"(?:[A-Z]+[A-Za-z=.:]*)?")
+VALUE = re.compile(r"(?:[A-Z]+[A-Za-z=.]*)?")
 # what is offered: files with one of these ends, folders, systems of CONFIG, words; or nothing
 Kind = tuple[str, ...]
 LISTS, PCAPS = ("list",), ("pcap", "pcapng")
@@ -303,8 +303,7 @@ def zsh_option(option: Option) -> str:
     value = ""
     if option.kind is not None:
         of_words = option.kind[:1] == ("words",)
-        called = option.value.replace(":", "\\:")  # which parts messages from actions
-        value = f":{' ' if of_words else called}:{zsh_action(option)}"
+        value = f":{' ' if of_words else option.value}:{zsh_action(option)}"
     before = "*" if name in SEVERAL else ""
     if option.optional:
         return f"'{name}=-[{text}]:{value}'"

@@ -45,8 +45,9 @@ def add_conform_words(parser: argparse.ArgumentParser) -> None:
     add("--leave-out", type=vl_or_other, action="append", default=[], metavar="VL",
         help="a link that isn't judged, or other, with --conform; several times")
     add("--switch", metavar="NAME", help="which of several switches is judged, with --conform")
-    add("--left", action="append", default=[], metavar="K=SIDE:PORT",
-        help="where the frames of interface K left the switch, with --conform; several times")
+    add("--left", action="append", default=[], metavar="K=PLACE",
+        help="where the frames of interface K left: A:PORT or B:PORT, with --conform; several "
+        "times")
     add("--lossy", action="store_true",
         help="also where the recorder lost frames, with --conform")
 
