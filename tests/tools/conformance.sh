@@ -98,6 +98,14 @@ recording_tests() {
         "$python" tests/tools/html_access.py "$judged/out/report.html"
         "$python" tests/tools/html_tags.py "$judged/out/report.html"
     )"
+    printf 'interface,side,port,direction\n#0,A,1,in\n#1,A,3,out\n' >"$judged/taps.csv"
+    judge_recorded --taps "$judged/taps.csv" -- "$judged/run.pcapng"
+    tell 'places by a table of taps' "$(
+        is_status 5
+        wants_number "$json" "$places" '0=A:1-left 1=A:3'
+    )"
+    judge_recorded --taps "$judged/taps.csv" -- "$judged/came.pcap" "$judged/left.pcap"
+    tell 'a table of taps is of one recording' "$(is_status 2; says err 'one recording')"
     judge_recorded --interface 0=A:1 --left 0=A:3 -- "$judged/came.pcap" "$judged/left.pcap"
     tell 'two recordings of it' "$(
         is_status 5
@@ -134,9 +142,9 @@ refused_words() {
 
 if [[ -z $reporting ]]; then
     skip 'afdx-report --conform' "there is no program, or no package numpy"
-elif "$program" conform --help >"$work/out" 2>&1; then
+elif "$program" conform --help >"$judged/help" 2>&1; then
     conformance_tests
-    if ! "$program" conform --help | grep -qF -- --left; then
+    if ! grep -qF -- --left "$judged/help"; then
         skip 'afdx-report --conform on recordings' 'conform takes no recordings'
     elif [[ -n $dpkt ]] && has mergecap; then
         recording_tests
