@@ -189,11 +189,14 @@ pub fn recording_options(
     let of_moments = origin.is_some() || reorder.is_some() || from_start.is_some();
     Ok(RecordingOptions {
         interfaces,
+        leaves_unsaid: false,
         fcs,
         origin,
         network: None,
+        is_second: false,
         reorder: reorder.unwrap_or(usual_reorder(matches)),
         from_start: from_start.unwrap_or(false),
+        left_from_start: false,
         are_given: !words.is_empty() || fcs.is_some() || of_moments,
     })
 }

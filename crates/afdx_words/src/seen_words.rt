@@ -137,13 +137,14 @@ fn options_of(
     let stamps = stamps_in(matches);
     Ok(RecordingOptions {
         interfaces,
+        leaves_unsaid: true,
         fcs: fcs_in(matches),
         origin: None,
         network: None,
+        is_second: false,
         reorder: reorder_in(matches)?.unwrap_or(usual_reorder(matches)),
         from_start: stamps.came,
         left_from_start: stamps.left,
-        leaves_unsaid_out: true,
         are_given: true,
     })
 }
