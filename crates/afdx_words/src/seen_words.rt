@@ -33,7 +33,7 @@ const STAMPED: &[&str] = &["end", "start", "start-end", "end-start"];
 /// The option that says where an interface's frames came in.
 pub(crate) fn came_option<'a>(alloc: Global) -> Arg<'a> {
     interface_option(alloc)
-        .value_name("K=SIDE[:PORT]")
+        .value_name("K=PLACE")
         .help(INTERFACE_HELP)
 }
 
@@ -41,7 +41,7 @@ pub(crate) fn came_option<'a>(alloc: Global) -> Arg<'a> {
 pub(crate) fn left_option<'a>(alloc: Global) -> Arg<'a> {
     Arg::new(alloc, "left")
         .long("left")
-        .value_name("K=SIDE:PORT")
+        .value_name("K=PLACE")
         .help(LEFT_HELP)
         .action(ArgAction::Append)
 }
