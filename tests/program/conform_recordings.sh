@@ -3,7 +3,8 @@
 # shellcheck disable=SC2154  # what it uses is set by tests/run/program.sh, which sources it
 # shellcheck disable=SC2034  # what it sets is used there
 
-if ! "$program" conform --help 2>&1 | grep -q -- --left; then
+"$program" conform --help >"$work/out" 2>&1 || true
+if ! grep -q -- --left "$work/out"; then
     skip 'conform over recordings' "the program doesn't have it"
     return 0
 fi
