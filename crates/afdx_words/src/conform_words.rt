@@ -71,8 +71,7 @@ without LEFT, of a recording of both; - for standard input";
 const LEFT_HELP: &str = "The path of a list or a recording of the frames that left, or - for \
 standard input";
 
-const SUMMARY_HELP: &str = "Prints behind the last line, for each recording, how much of it was \
-left out";
+const SUMMARY_HELP: &str = "Prints how much of each recording was left out, behind the last line";
 
 const SLACK_HELP: &str = "By how many ns a stamp may be off, at most 1,000,000";
 
