@@ -33,7 +33,8 @@ KINDS: dict[str, Kind] = {
     "--keep": ("words", "jitter", "buffer", "latency", "skew"),
     "afdx list LIST": ("files", *PCAPS), "afdx-capture pcap LIST": ("files", *LISTS),
 }
-SEVERAL = ("--interface", "--left", "--leave-out", "--sshlogin", "--link")  # may be given more than once
+# may be given more than once
+SEVERAL = ("--interface", "--left", "--leave-out", "--sshlogin", "--link")
 COMMAS = ("--keep", "--fail-on")  # take several words, with commas between
 LONGEST = 50  # letters of a text that is shown whole
 

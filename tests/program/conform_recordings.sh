@@ -29,9 +29,12 @@ lost() { # INTERFACE COUNT : its recorder lost so many
 }
 
 recorded() { # FILE HEX.. : a section with two interfaces, and these blocks
-    local file=$1 IFS=
+    local file=$1 digits at
     shift
-    printf '%b' "$(sed 's/../\\x&/g' <<<"$section$interface$interface$*")" >"$file"
+    printf -v digits %s "$section$interface$interface" "$@"
+    for ((at = 0; at < ${#digits}; at += 2)); do
+        printf '%b' "\\x${digits:at:2}"
+    done >"$file"
 }
 
 came=$(packet 0 0 "$frame") left=$(packet 1 6720 "$frame") late=$(packet 1 17001 "$frame")
@@ -44,8 +47,8 @@ recorded "$work/late" "$came" "$late"
 recorded "$work/lossy" "$came" "$left" "$(lost 0 5)" "$(lost 1 32)"
 recorded "$work/back" "$left" "$came"
 recorded "$work/nothing"
-here=(--interface 0=A:1 --left 1=A:3) # of one recording
-apart=(--interface 0=A:1 --left 0=A:3)
+here=(--interface '0=A:1' --left '1=A:3') # of one recording
+apart=(--interface '0=A:1' --left '0=A:3')
 
 seen() { # VERDICT EXPLAINED OPEN UNCERTAIN LEFT_OUT UNSEEN : the last line
     echo "$1 explained $2 open $3 uncertain $4 left-out $5 unseen $6"
