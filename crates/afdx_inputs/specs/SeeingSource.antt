@@ -1,5 +1,4 @@
 -- The frames among the lines of a source: the one that was given last.
-use Rattle.std.specs.Prelude.{List}
 use Rattle.afdx_engine.specs.Engine.{Item, item_of}
 use Rattle.afdx_recorded.specs.Becoming.{without_own}
 use Rattle.afdx_recorded.specs.declared.number_line.NumberLine.{NumberLine}

@@ -16,7 +16,6 @@ use Rattle.afdx_recorded.specs.Places.{place_of}
 use Rattle.afdx_recorded.specs.Taking.{Taken, AreCutOff, taken_of_bytes}
 use Rattle.afdx_recorded.specs.Tapping.{Taps, taps_of, taps_of_both}
 use Rattle.afdx_recorded.specs.declared.becoming.RecordingOptions.{RecordingOptions}
-use Rattle.afdx_recorded.specs.declared.counts.Tally.{Tally}
 use Rattle.afdx_inputs.specs.Arrivals.{IsSound}
 use Rattle.afdx_inputs.specs.Joining.{Coming, Frame, joined, joined_as}
 use Rattle.afdx_inputs.specs.RecordingRun.{IsAskedOnce}

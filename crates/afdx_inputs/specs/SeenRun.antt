@@ -17,7 +17,8 @@ use Rattle.afdx_inputs.specs.SeenLines.{seen_listed}
 use Rattle.afdx_inputs.specs.TakenRun.{TakenAnswers}
 use Rattle.afdx_inputs.specs.declared.seen.Seen.{Seen}
 
--- what the options say of that of what came in, which is the first of both, and of that of what left
+-- what the options say of the recording of what came in, which is the first of both, and of that of
+-- what left
 abbrev pub options_of_came : ByRole RecordingOptions → Options
 options_of_came options = record (options_of options.came) { is_second = false }
 

@@ -20,7 +20,7 @@ use crate::seen_run::{run_seen, run_seen_by_role};
 use crate::two_lists_run::run_two_lists;
 use afdx_engine::Machine;
 use afdx_lists::{ByRole, RunFault, Watched};
-use afdx_recorded::{RecordingOptions, Taps, Tally, UnsaidPort};
+use afdx_recorded::{RecordingOptions, Tally, Taps, UnsaidPort};
 use afdx_text::Sink;
 use std::alloc::Global;
 use std::io::Read;

@@ -66,7 +66,8 @@ fn next_line<I, S: Source<Number, I>>(
     input_a: &mut I,
     input_b: &mut I,
 ) -> Result<Next, RunFault>
-    requires { (start : Two I) × (past : Lines) × HasPaired S.current S.Gave S.Ended start source.old
+    requires { (start : Two I) × (past : Lines)
+        × HasPaired S.current S.Gave S.Ended start source.old
         (inputs_of input_a.old input_b.old) past }
     ensures item { (start : Two I) (past : Lines) →
         HasPaired S.current S.Gave S.Ended start source.old

@@ -1,4 +1,4 @@
-use Rattle.std.proofs.Common.{rules, ◌∙◌, refl, sym, arith}
+use Rattle.std.proofs.Common.{rules, ◌∙◌, sym, arith}
 use Rattle.afdx_inputs.proofs.SeeingLemmas.{frame-given, skipped-given}
 use Rattle.afdx_inputs.proofs.seeing.SeeingSourceSeen.next.Goals as goal
 
