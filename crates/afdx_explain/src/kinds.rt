@@ -21,7 +21,8 @@ without the last line.",
         "recording Lossy n",
         "\
 All frames of the recordings were judged, and what was found stands on standard output, but for the
-last line.",
+last line. Of dumpcap at several interfaces it is mostly its own queue, of 1000 frames, that
+was full: dumpcap -N 1000000 -C 1000000000 has room for more.",
     ),
     (
         "\

@@ -148,7 +148,6 @@ names and the recording doesn't have.
 that they aren't claimed.
 'conform' writes it behind its last line, of two recordings CAME's first; there a frame that left is
 as an arrival, --left as --interface, and interfaces that aren't named are left out.",
-
     ),
     (
         "\
