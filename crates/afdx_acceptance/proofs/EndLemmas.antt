@@ -177,7 +177,7 @@ pub all-lines : (k : Rows × Choices) (j : Judging) (old new : Option (List ℕ)
     → ((i : ℕ) → i < length j.streams.kept.slots.items → IsCounted (get_or j.streams.kept.slots.items i slot.Nothing))
     → TellsToEnd k j old new past
     → (dues : List Due) × AreLines k.0 k.1 (until_or k.1.until (frames_of past)) (frames_of past) dues
-    × TellsOf k.1 (frames_of past) j old new (lines_of dues)
+    × TellsOf k (frames_of past) j old new (lines_of dues)
 all-lines k j old new past counted (time, told, some, nothing) =
     let frames = frames_of past in
     let known = known-end j.streams.ended some in
@@ -188,5 +188,5 @@ all-lines k j old new past counted (time, told, some, nothing) =
       all.dues,
       subst (λ n. AreLines k.0 k.1 n frames all.dues) last
           (are-lines k.0 k.1 end time frames all.dues all.streams.lawful j.streams.kept kept nothing counted),
-      subst (λ l. TellsOf k.1 frames j old new l) all.are told.1,
+      subst (λ l. TellsOf k frames j old new l) all.are told.1,
     )

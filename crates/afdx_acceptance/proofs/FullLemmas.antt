@@ -9,7 +9,7 @@ use Rattle.afdx_conform.specs.Streams.{Gone}
 use Rattle.afdx_acceptance.specs.Frames.{terms_at}
 use Rattle.afdx_inputs.specs.Joining.{Frame}
 use Rattle.afdx_text.specs.declared.conform_line.ConformLine.{ConformLine}
-use Rattle.afdx_acceptance.specs.Choices.{Choices, counts, is_before, is_behind, is_in_time, is_left_out, latest_of, until_or}
+use Rattle.afdx_acceptance.specs.Choices.{Choices, counts, is_before, is_behind, is_in_time, is_passed, latest_of, until_or}
 use Rattle.afdx_conform.specs.LimitRanges.{most_bytes}
 use Rattle.std.proofs.lemmas.Bool.{and_parts, le-leb, leb-true, lt-ltb}
 use Rattle.afdx_acceptance.specs.Keeping.{AreKept, Given, IsStreamOf, KeyStands, given_of, is_known, slot_at}
@@ -88,23 +88,25 @@ module _ (t : Rows) (c : Choices) (until : ℕ) (time to : ℕ) (le : time ≤ t
     lawful = stand.lawful;
     tables = stand.tables;
     by = stand.by;
+    taps = stand.taps;
     kept = kept-later s.ended (given_of t c frames) dues s.kept stand.kept;
   }
 
 -- ---- a frame that doesn't count
 
 pub stand-skipped : (t : Rows) (c : Choices) (until time : ℕ) (x : Frame) (frames : List Frame) (dues : List Due) (s : Streams)
-    → counts c x ≡ false → StreamsStand t c until frames dues time s → StreamsStand t c until (x ∷ frames) dues time s
+    → counts t c x ≡ false → StreamsStand t c until frames dues time s → StreamsStand t c until (x ∷ frames) dues time s
 stand-skipped t c until time x frames dues s none stand = record {
   lawful = stand.lawful;
   tables = stand.tables;
   by = stand.by;
+  taps = stand.taps;
   kept = kept-same t c until s.ended time (given_of t c frames) (given_of t c (x ∷ frames)) dues s.kept (λ k known. same k)
       (λ k. subst (λ g. AreFalling g.strange) (sym (same k)) (stand.kept.falling k)) stand.kept;
 }
   where
     same : (k : Key) → given_of t c (x ∷ frames) k ≡ given_of t c frames k
-    same k = given-from t c (x ∷ frames) k ∙ ap (λ fs. given_from t k fs k.link) (counted-less c x frames none)
+    same k = given-from t c (x ∷ frames) k ∙ ap (λ fs. given_from t c.taps k fs k.link) (counted-less t c x frames none)
         ∙ sym (given-from t c frames k)
 
 -- ---- lines
@@ -285,17 +287,17 @@ and-last false b false e = refl
 and-last a b true e = absurd (true≢false e)
 
 -- which frames don't count
-pub out-of-time : (c : Choices) (x : Frame) → is_in_time c x ≡ false → counts c x ≡ false
+pub out-of-time : (t : Rows) (c : Choices) (x : Frame) → is_in_time c x ≡ false → counts t c x ≡ false
 unfolding counts
-out-of-time c x e = ap (λ v. v && not (is_left_out c x) && nat_le (length x.arrival.bytes) most_bytes) e
+out-of-time t c x e = ap (λ v. v && not (is_passed t c x) && nat_le (length x.arrival.bytes) most_bytes) e
 
-pub out-of-choice : (c : Choices) (x : Frame) → is_left_out c x ≡ true → counts c x ≡ false
+pub out-of-choice : (t : Rows) (c : Choices) (x : Frame) → is_passed t c x ≡ true → counts t c x ≡ false
 unfolding counts
-out-of-choice c x e = and-not (is_in_time c x) (is_left_out c x) (nat_le (length x.arrival.bytes) most_bytes) e
+out-of-choice t c x e = and-not (is_in_time c x) (is_passed t c x) (nat_le (length x.arrival.bytes) most_bytes) e
 
-pub too-long : (c : Choices) (x : Frame) → most_bytes < length x.arrival.bytes → counts c x ≡ false
+pub too-long : (t : Rows) (c : Choices) (x : Frame) → most_bytes < length x.arrival.bytes → counts t c x ≡ false
 unfolding counts
-too-long c x lt = and-last (is_in_time c x) (not (is_left_out c x)) (nat_le (length x.arrival.bytes) most_bytes)
+too-long t c x lt = and-last (is_in_time c x) (not (is_passed t c x)) (nat_le (length x.arrival.bytes) most_bytes)
     (by (nat_le (length x.arrival.bytes) most_bytes) refl)
   where
     by : (v : Bool) → nat_le (length x.arrival.bytes) most_bytes ≡ v → nat_le (length x.arrival.bytes) most_bytes ≡ false
@@ -308,10 +310,10 @@ and-all false b c e f g = absurd (true≢false (sym e))
 and-all true true c e f g = absurd (true≢false f)
 and-all true false false e f g = absurd (true≢false (sym g))
 
-pub does-count : (c : Choices) (x : Frame) → is_in_time c x ≡ true → is_left_out c x ≡ false → length x.arrival.bytes ≤ most_bytes
-    → counts c x ≡ true
+pub does-count : (t : Rows) (c : Choices) (x : Frame) → is_in_time c x ≡ true → is_passed t c x ≡ false → length x.arrival.bytes ≤ most_bytes
+    → counts t c x ≡ true
 unfolding counts
-does-count c x in-time out le = and-all (is_in_time c x) (is_left_out c x) (nat_le (length x.arrival.bytes) most_bytes) in-time out
+does-count t c x in-time out le = and-all (is_in_time c x) (is_passed t c x) (nat_le (length x.arrival.bytes) most_bytes) in-time out
     (le-leb (length x.arrival.bytes) most_bytes le)
 
 -- while frames count, the end isn't known

@@ -67,23 +67,23 @@ given_from t k fs None = given_with [] []
 given_from t k fs (Some place) = linked k fs (link_to t place k.port)
 
 pub given-from : (t : Rows) (c : Choices) (frames : List Frame) (k : Key)
-    → given_of t c frames k ≡ given_from t k (counted c frames) k.link
+    → given_of t c frames k ≡ given_from t k (counted t c frames) k.link
 unfolding given_of
 given-from t c frames k = by k.link
   where
-    by-link : (o : Option LinkRow) → given_to c k frames o ≡ linked k (counted c frames) o
+    by-link : (o : Option LinkRow) → given_to c k frames o ≡ linked k (counted t c frames) o
     by-link None = refl
     by-link (Some l) = refl
 
-    by : (o : Option ℕ) → given_by t c frames k o ≡ given_from t k (counted c frames) o
+    by : (o : Option ℕ) → given_by t c frames k o ≡ given_from t k (counted t c frames) o
     by None = refl
     by (Some place) = by-link (link_to t place k.port)
 
-pub counted-more : (c : Choices) (x : Frame) (frames : List Frame) → counts c x ≡ true → counted c (x ∷ frames) ≡ x ∷ counted c frames
-counted-more c x frames e = ap (λ b. cond b (x ∷ counted c frames) (counted c frames)) e
+pub counted-more : (t : Rows) (c : Choices) (x : Frame) (frames : List Frame) → counts t c x ≡ true → counted t c (x ∷ frames) ≡ x ∷ counted t c frames
+counted-more t c x frames e = ap (λ b. cond b (x ∷ counted t c frames) (counted t c frames)) e
 
-pub counted-less : (c : Choices) (x : Frame) (frames : List Frame) → counts c x ≡ false → counted c (x ∷ frames) ≡ counted c frames
-counted-less c x frames e = ap (λ b. cond b (x ∷ counted c frames) (counted c frames)) e
+pub counted-less : (t : Rows) (c : Choices) (x : Frame) (frames : List Frame) → counts t c x ≡ false → counted t c (x ∷ frames) ≡ counted t c frames
+counted-less t c x frames e = ap (λ b. cond b (x ∷ counted t c frames) (counted t c frames)) e
 
 -- ---- which link is named
 
@@ -416,48 +416,48 @@ all-reverse P (x ∷ xs) all = subst (λ l. AllByRecursion P l) (sym (reverse-ap
     (AllByRecursion-push P (reverse xs) x (all-reverse P xs all.1) all.0)
 
 module _ (t : Rows) (c : Choices) (frames : List Frame) (time : ℕ)
-    (all : AllByRecursion (λ x. x.arrival.time ≤ time) (counted c frames)) (k : Key) where
+    (all : AllByRecursion (λ x. x.arrival.time ≤ time) (counted t c frames)) (k : Key) where
   pub came-times : AllByRecursion (λ x. x.time ≤ time) (given_of t c frames k).came
   came-times = subst (λ g. AllByRecursion (λ x. x.time ≤ time) g.came) (sym (given-from t c frames k)) (by k.link)
     where
-      by-link : (o : Option LinkRow) → AllByRecursion (λ x. x.time ≤ time) (linked k (counted c frames) o).came
+      by-link : (o : Option LinkRow) → AllByRecursion (λ x. x.time ≤ time) (linked k (counted t c frames) o).came
       by-link None = tt
-      by-link (Some l) = all-reverse (λ x. x.time ≤ time) (map (λ x. x.arrival) (filter (is_arrival_of l.vl k.side) (counted c frames)))
-          (all-map (λ x. x.time ≤ time) (λ (x : Frame). x.arrival) (filter (is_arrival_of l.vl k.side) (counted c frames))
-          (all-filter (λ x. x.arrival.time ≤ time) (is_arrival_of l.vl k.side) (counted c frames) all))
+      by-link (Some l) = all-reverse (λ x. x.time ≤ time) (map (λ x. x.arrival) (filter (is_arrival_of l.vl k.side) (counted t c frames)))
+          (all-map (λ x. x.time ≤ time) (λ (x : Frame). x.arrival) (filter (is_arrival_of l.vl k.side) (counted t c frames))
+          (all-filter (λ x. x.arrival.time ≤ time) (is_arrival_of l.vl k.side) (counted t c frames) all))
 
-      by : (o : Option ℕ) → AllByRecursion (λ x. x.time ≤ time) (given_from t k (counted c frames) o).came
+      by : (o : Option ℕ) → AllByRecursion (λ x. x.time ≤ time) (given_from t k (counted t c frames) o).came
       by None = tt
       by (Some place) = by-link (link_to t place k.port)
 
   pub left-times : AllByRecursion (λ y. y.time ≤ time) (given_of t c frames k).left
   left-times = subst (λ g. AllByRecursion (λ y. y.time ≤ time) g.left) (sym (given-from t c frames k)) (by k.link)
     where
-      by-link : (o : Option LinkRow) → AllByRecursion (λ y. y.time ≤ time) (linked k (counted c frames) o).left
+      by-link : (o : Option LinkRow) → AllByRecursion (λ y. y.time ≤ time) (linked k (counted t c frames) o).left
       by-link None = tt
       by-link (Some l) = all-reverse (λ y. y.time ≤ time)
-          (map (λ x. gone_of x.arrival) (filter (λ x. left_at k.side k.port x && names l.vl x.arrival.bytes) (counted c frames)))
+          (map (λ x. gone_of x.arrival) (filter (λ x. left_at k.side k.port x && names l.vl x.arrival.bytes) (counted t c frames)))
           (all-map (λ y. y.time ≤ time) (λ (x : Frame). gone_of x.arrival)
-          (filter (λ x. left_at k.side k.port x && names l.vl x.arrival.bytes) (counted c frames))
-          (all-filter (λ x. x.arrival.time ≤ time) (λ x. left_at k.side k.port x && names l.vl x.arrival.bytes) (counted c frames) all))
+          (filter (λ x. left_at k.side k.port x && names l.vl x.arrival.bytes) (counted t c frames))
+          (all-filter (λ x. x.arrival.time ≤ time) (λ x. left_at k.side k.port x && names l.vl x.arrival.bytes) (counted t c frames) all))
 
-      by : (o : Option ℕ) → AllByRecursion (λ y. y.time ≤ time) (given_from t k (counted c frames) o).left
+      by : (o : Option ℕ) → AllByRecursion (λ y. y.time ≤ time) (given_from t k (counted t c frames) o).left
       by None = tt
       by (Some place) = by-link (link_to t place k.port)
 
   pub strange-times : AllByRecursion (λ d. d.moment ≤ time) (given_of t c frames k).strange
   strange-times = subst (λ g. AllByRecursion (λ d. d.moment ≤ time) g.strange) (sym (given-from t c frames k)) (by k.link)
     where
-      by-link : (o : Option LinkRow) → AllByRecursion (λ d. d.moment ≤ time) (linked k (counted c frames) o).strange
+      by-link : (o : Option LinkRow) → AllByRecursion (λ d. d.moment ≤ time) (linked k (counted t c frames) o).strange
       by-link None = tt
       by-link (Some l) = tt
 
-      by : (o : Option ℕ) → AllByRecursion (λ d. d.moment ≤ time) (given_from t k (counted c frames) o).strange
+      by : (o : Option ℕ) → AllByRecursion (λ d. d.moment ≤ time) (given_from t k (counted t c frames) o).strange
       by None = all-map (λ d. d.moment ≤ time) (stranger_due t k)
-          (map (λ x. x.arrival) (filter (λ x. left_at k.side k.port x && is_stranger t x.arrival) (counted c frames)))
+          (map (λ x. x.arrival) (filter (λ x. left_at k.side k.port x && is_stranger t x.arrival) (counted t c frames)))
           (all-map (λ x. x.time ≤ time) (λ (x : Frame). x.arrival)
-          (filter (λ x. left_at k.side k.port x && is_stranger t x.arrival) (counted c frames))
-          (all-filter (λ x. x.arrival.time ≤ time) (λ x. left_at k.side k.port x && is_stranger t x.arrival) (counted c frames) all))
+          (filter (λ x. left_at k.side k.port x && is_stranger t x.arrival) (counted t c frames))
+          (all-filter (λ x. x.arrival.time ≤ time) (λ x. left_at k.side k.port x && is_stranger t x.arrival) (counted t c frames) all))
       by (Some place) = by-link (link_to t place k.port)
 
 pub falling-more : (d : Due) (ds : List Due) → AllByRecursion (λ e. e.moment ≤ d.moment) ds → AreFalling ds → AreFalling (d ∷ ds)

@@ -1,3 +1,4 @@
+pub mod Tapped
 pub mod Choices
 pub mod ChoicesOf
 pub mod Keys

@@ -15,6 +15,7 @@ use Rattle.afdx_acceptance.specs.Choices.{Choices, left_out_of, until_or}
 use Rattle.afdx_acceptance.specs.Lines.{AreLines, Due}
 use Rattle.afdx_acceptance.specs.Telling.{findings_in, lines_text, most_counted}
 use Rattle.afdx_acceptance.specs.Told.{BeginsLines, lines_of}
+use Rattle.afdx_acceptance.specs.Tapped.{unseen_of}
 use Rattle.afdx_acceptance.specs.Totals.{last_line}
 use Rattle.afdx_acceptance.specs.declared.totals.Totals.{Totals}
 
@@ -23,15 +24,16 @@ abbrev pub WritesLines : Option (List ℕ) → Option (List ℕ) → Type 0
 WritesLines old new = (lines : List ConformLine) × Appends old new (lines_text lines)
 
 -- all lines of these frames are written and then the last one, that of the counts: so many of the
--- lines are findings, so many of the frames are left out, and each stream is judged
+-- lines are findings, so many of the frames are left out, so many streams aren't judged, and each
+-- other is
 pub record WritesAll (k : Rows × Choices) (frames : List Frame) (old new : Option (List ℕ))
     (totals : Totals) : Type 0 where
   pub dues : List Due
   pub are_lines : AreLines k.0 k.1 (until_or k.1.until frames) frames dues
   pub written : Appends old new (lines_text (lines_of dues) ++ conform_text (last_line totals))
   pub findings_are : totals.findings ≡ min (findings_in (lines_of dues)) most_counted
-  pub left_out_are : totals.left_out ≡ min (left_out_of k.1 frames) most_counted
-  pub unseen_are : totals.unseen ≡ 0
+  pub left_out_are : totals.left_out ≡ min (left_out_of k.0 k.1 frames) most_counted
+  pub unseen_are : totals.unseen ≡ unseen_of k.0 k.1.taps
 
 -- the lists of these bytes; their inputs then are these, and the output held `old` and holds `new`
 module _ {R : Type 0} (remaining : R → Option (List ℕ)) (k : Rows × Choices)

@@ -1,4 +1,4 @@
--- What is kept of all streams stands for the frames of two lists, and for the lines that are told.
+-- What is kept of all streams stands for the frames of both roles, and for the lines that are told.
 use Rattle.std.specs.Prelude.{◌≡◌, ℕ, ◌≤◌, List}
 use Rattle.std.specs.List.{AllByRecursion}
 use Rattle.afdx_config.specs.Lawful.{IsLawfulSwitch}
@@ -25,4 +25,5 @@ pub record StreamsStand (t : Rows) (c : Choices) (until : ℕ) (frames : List Fr
   pub lawful : IsLawfulSwitch t
   pub tables : s.tables.now ≡ t
   pub by : leeway_of s.leeway ≡ c.by
+  pub taps : s.taps ≡ c.taps
   pub kept : AreKept t c until s.ended time (given_of t c frames) lines s.kept

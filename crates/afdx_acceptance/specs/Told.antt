@@ -1,4 +1,4 @@
--- What a run has told of the frames of two lists. A list of lines has the oldest first, one of
+-- What a run has told of the frames of both roles. A list of lines has the oldest first, one of
 -- frames the newest.
 use Rattle.std.specs.Prelude.{ℕ, ◌≡◌, ◌<◌, ◌≤◌, Bool, true, false, is_some, List, map, reverse, Option, Some, None, min}
 use Rattle.std.specs.Io.KnownBytes.{Appends}
@@ -17,20 +17,22 @@ use Rattle.afdx_acceptance.specs.Standing.{IsBehindAll, StreamsStand}
 use Rattle.afdx_acceptance.specs.declared.streams.Streams.{Streams}
 use Rattle.afdx_acceptance.specs.declared.judging.Judging.{Judging}
 
--- it works by these choices, these lines are written, and so many of them are counted as findings;
+-- it works by these tables and choices, these lines are written, and so many of them are counted as findings;
 -- of the frames so many are left out, and that is the time of the last
-pub record TellsOf (c : Choices) (frames : List Frame) (judging : Judging)
+pub record TellsOf (k : Rows × Choices) (frames : List Frame) (judging : Judging)
     (old new : Option (List ℕ)) (lines : List ConformLine) : Type 0 where
-  pub choices_are : choices_of judging.choices.now ≡ c
+  pub tables_are : judging.streams.tables.now ≡ k.0
+  pub choices_are : choices_of judging.streams.taps judging.choices.now ≡ k.1
   pub written : Appends old new (lines_text lines)
   pub findings_are : judging.findings ≡ min (findings_in lines) most_counted
-  pub left_out_are : judging.left_out ≡ min (left_out_of c frames) most_counted
+  pub left_out_are : judging.left_out ≡ min (left_out_of k.0 k.1 frames) most_counted
   pub latest_is : judging.latest ≡ latest_of frames
 
 -- some lines are
-abbrev pub HasTold : Choices → Judging → Option (List ℕ) → Option (List ℕ) → List Frame → Type 0
-HasTold c judging old new frames =
-    (lines : List ConformLine) × TellsOf c frames judging old new lines
+abbrev pub HasTold : Rows × Choices → Judging → Option (List ℕ) → Option (List ℕ) →
+    List Frame → Type 0
+HasTold k judging old new frames =
+    (lines : List ConformLine) × TellsOf k frames judging old new lines
 
 -- lines that are due, the oldest first
 abbrev pub lines_of : List Due → List ConformLine
@@ -72,7 +74,7 @@ pub record Stands (k : Rows × Choices) (last : Bool) (time : ℕ) (j : Judging)
 abbrev pub TellsAll : Rows × Choices → (last : Bool) → (time : ℕ) → Judging →
     (old new : Option (List ℕ)) → List Frame → Type 0
 TellsAll k last time j old new frames =
-    (lines : List ConformLine) × TellsOf k.1 frames j old new lines
+    (lines : List ConformLine) × TellsOf k frames j old new lines
     × Stands k last time j frames lines
 
 -- the same of the items of a run

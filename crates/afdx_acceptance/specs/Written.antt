@@ -7,6 +7,7 @@ use Rattle.afdx_acceptance.specs.Choices.{Choices, left_out_of, until_or}
 use Rattle.afdx_acceptance.specs.Lines.{AreLines, Due}
 use Rattle.afdx_acceptance.specs.Telling.{findings_in, lines_text, most_counted}
 use Rattle.afdx_acceptance.specs.Told.{lines_of}
+use Rattle.afdx_acceptance.specs.Tapped.{unseen_of}
 use Rattle.afdx_acceptance.specs.declared.totals.Totals.{Totals}
 
 -- all lines of these frames, by these tables and choices: so many of them are findings, so many of
@@ -17,5 +18,5 @@ pub record IsWritten (k : Rows × Choices) (frames : List Frame) (old new : Opti
   pub are_lines : AreLines k.0 k.1 (until_or k.1.until frames) frames dues
   pub written : Appends old new (lines_text (lines_of dues))
   pub findings_are : totals.findings ≡ min (findings_in (lines_of dues)) most_counted
-  pub left_out_are : totals.left_out ≡ min (left_out_of k.1 frames) most_counted
-  pub unseen_are : totals.unseen ≡ 0
+  pub left_out_are : totals.left_out ≡ min (left_out_of k.0 k.1 frames) most_counted
+  pub unseen_are : totals.unseen ≡ unseen_of k.0 k.1.taps

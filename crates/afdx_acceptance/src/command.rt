@@ -6,6 +6,7 @@ ghost use Rattle.afdx_acceptance.specs.ChoicesOf.{choices_of};
 ghost use Rattle.afdx_acceptance.specs.Commands.{EndsAs, IsJudged, IsRun, IsToldNoSwitch};
 ghost use Rattle.afdx_acceptance.specs.Commands.{IsUnjudged};
 ghost use Rattle.afdx_acceptance.specs.Ran.{ConformAnswers};
+ghost use Rattle.afdx_acceptance.specs.Tapped.{all_taps};
 ghost use Rattle.afdx_inputs.specs.TwoListsRun.{IfBothGiven};
 ghost use Rattle.afdx_lists.specs.Lines.{most_reads};
 ghost use Rattle.afdx_lists.specs.Watching.{calls_of, has_ended, has_failed};
@@ -95,7 +96,7 @@ pub fn conform<R: Read, O: Sink, E: Write>(
         (option_map (λ name. name.now) switch.entry) errors.old errors.new result
         (λ t answer. IsRun inputs.new (O.failed output.new) answer
         × IfBothGiven R.remaining inputs.old (λ came left.
-        ConformAnswers R.remaining (t, choices_of choices.now) came left inputs.new
+        ConformAnswers R.remaining (t, choices_of all_taps choices.now) came left inputs.new
         (O.written output.old) (O.written output.new) answer))
         ⊎ (IsUnjudged E.contents config.now
         (option_map (λ name. name.now) switch.entry) errors.old errors.new result

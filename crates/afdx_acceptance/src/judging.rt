@@ -5,6 +5,7 @@ ghost use Rattle.std.specs.Prelude.{◌≡◌, ◌<◌, ◌≤◌, ◌+◌, ◌�
 ghost use Rattle.std.specs.Prelude.{OnOk, None, Some, false, is_some, length, min, true};
 ghost use Rattle.std.specs.Io.KnownBytes.{Appends};
 ghost use Rattle.afdx_acceptance.specs.Choices.{Choices as Chosen, latest_of, left_out_of};
+ghost use Rattle.afdx_acceptance.specs.Choices as asked;
 ghost use Rattle.afdx_acceptance.specs.ChoicesOf.{choices_of};
 ghost use Rattle.afdx_acceptance.specs.Judging.{IsSameButFindings, IsSameButTaken};
 ghost use Rattle.afdx_acceptance.specs.Telling as spec;
@@ -16,6 +17,7 @@ ghost use Rattle.afdx_config.specs.Rows.{Rows};
 ghost use Rattle.afdx_conform.specs.Ranges.{most_held};
 ghost use Rattle.afdx_text.specs.declared.conform_line.ConformLine.{ConformLine as Line};
 ghost use Rattle.afdx_engine.specs.Engine.{Item, item_of};
+ghost use Rattle.afdx_frame.specs.Layout.{link_named_by};
 ghost use Rattle.afdx_frame.specs.Seals.{IsSealedAs};
 ghost use Rattle.afdx_frame.specs.Times.{latest_listed};
 ghost use Rattle.afdx_inputs.specs.Joining.{Frame, frame_of, frames_of};
@@ -26,12 +28,13 @@ ghost use Rattle.afdx_text.specs.Sinks.{IsOfOutput};
 use crate::asked::{is_in_time, is_left_out};
 use crate::choices::Choices;
 use crate::streams::Streams;
+use crate::taps::Taps;
 use crate::telling::{findings_in, put_lines};
 use crate::totals::Totals;
 use crate::whole::whole_frame;
 use afdx_config::Tables;
 use afdx_engine::Machine;
-use afdx_frame::vl_of;
+use afdx_frame::{VlId, vl_of};
 use afdx_inputs::Seen;
 use afdx_lists::{Role, RunFault};
 use afdx_text::{ConformLine, Sink};
@@ -59,12 +62,13 @@ impl<'a> Judging<'a> {
         alloc: Global,
         tables: &'a Tables,
         choices: &'a Choices,
+        taps: Taps,
     ) -> Result<Judging<'a>, AllocError>
         ensures { (output : Option (List ℕ)) → IfOk result (λ judging.
-            TellsAll (tables.entry.now, choices_of choices.entry.now) false 0 judging output output
-            []) }
+            TellsAll (tables.entry.now, choices_of taps choices.entry.now) false 0 judging output
+            output []) }
     {
-        let streams = Streams::new(alloc, tables, choices.leeway)?;
+        let streams = Streams::new(alloc, tables, choices.leeway, taps)?;
         Ok(Judging {
             alloc,
             choices,
@@ -82,7 +86,8 @@ impl<'a> Judging<'a> {
             (past : List (Item Passed)) → TellsToEnd k self.now start end past →
             IsWritten k (frames_of past) start end result }
     {
-        let mut totals = Totals::new(self.findings, self.left_out);
+        let unseen = self.streams.unseen();
+        let mut totals = Totals::new(self.findings, self.left_out, unseen);
         self.streams.count(&mut totals);
         totals
     }
@@ -112,11 +117,11 @@ impl<'a> Judging<'a> {
         ensures failed { O.failed output.new ≡ is_failed_write result }
         ensures fault { IfErr result IsOfOutput }
         ensures settings { O.settings output.new ≡ O.settings output.old }
-        ensures told { (c : Chosen) (start : Option (List ℕ)) (frames : List Frame) →
-            HasTold c self.old start (O.written output.old) frames →
-            OnOk result (HasTold c self.new start (O.written output.new) frames) }
-        ensures begun { (c : Chosen) (start : Option (List ℕ)) (frames : List Frame) →
-            HasTold c self.old start (O.written output.old) frames →
+        ensures told { (k : Rows × Chosen) (start : Option (List ℕ)) (frames : List Frame) →
+            HasTold k self.old start (O.written output.old) frames →
+            OnOk result (HasTold k self.new start (O.written output.new) frames) }
+        ensures begun { (k : Rows × Chosen) (start : Option (List ℕ)) (frames : List Frame) →
+            HasTold k self.old start (O.written output.old) frames →
             OnErr result (BeginsLines start (O.written output.new)) }
         ensures stands { (k : Rows × Chosen) (last : Bool) (time to : ℕ)
             (start : Option (List ℕ)) (frames : List Frame) → time ≤ to →
@@ -144,11 +149,11 @@ impl<'a> Judging<'a> {
         ensures failed { O.failed output.new ≡ is_failed_write result }
         ensures fault { IfErr result IsOfOutput }
         ensures settings { O.settings output.new ≡ O.settings output.old }
-        ensures told { (c : Chosen) (start : Option (List ℕ)) (frames : List Frame) →
-            HasTold c self.old start (O.written output.old) frames →
-            OnOk result (HasTold c self.new start (O.written output.new) frames) }
-        ensures begun { (c : Chosen) (start : Option (List ℕ)) (frames : List Frame) →
-            HasTold c self.old start (O.written output.old) frames →
+        ensures told { (k : Rows × Chosen) (start : Option (List ℕ)) (frames : List Frame) →
+            HasTold k self.old start (O.written output.old) frames →
+            OnOk result (HasTold k self.new start (O.written output.new) frames) }
+        ensures begun { (k : Rows × Chosen) (start : Option (List ℕ)) (frames : List Frame) →
+            HasTold k self.old start (O.written output.old) frames →
             OnErr result (BeginsLines start (O.written output.new)) }
         ensures stands { (k : Rows × Chosen) (last after : Bool) (time to : ℕ)
             (start : Option (List ℕ)) (frames : List Frame) → time ≤ until → until ≤ to →
@@ -171,11 +176,11 @@ impl<'a> Judging<'a> {
         ensures failed { O.failed output.new ≡ is_failed_write result }
         ensures fault { IfErr result IsOfOutput }
         ensures settings { O.settings output.new ≡ O.settings output.old }
-        ensures told { (c : Chosen) (start : Option (List ℕ)) (frames : List Frame) →
-            HasTold c self.old start (O.written output.old) frames →
-            OnOk result (HasTold c self.new start (O.written output.new) frames) }
-        ensures begun { (c : Chosen) (start : Option (List ℕ)) (frames : List Frame) →
-            HasTold c self.old start (O.written output.old) frames →
+        ensures told { (k : Rows × Chosen) (start : Option (List ℕ)) (frames : List Frame) →
+            HasTold k self.old start (O.written output.old) frames →
+            OnOk result (HasTold k self.new start (O.written output.new) frames) }
+        ensures begun { (k : Rows × Chosen) (start : Option (List ℕ)) (frames : List Frame) →
+            HasTold k self.old start (O.written output.old) frames →
             OnErr result (BeginsLines start (O.written output.new)) }
         ensures stands { (k : Rows × Chosen) (before : ℕ) (start : Option (List ℕ))
             (frames : List Frame) → before ≤ time → latest_of frames ≤ before →
@@ -201,11 +206,11 @@ impl<'a> Judging<'a> {
         ensures failed { O.failed output.new ≡ is_failed_write result }
         ensures fault { IfErr result IsOfOutput }
         ensures settings { O.settings output.new ≡ O.settings output.old }
-        ensures told { (c : Chosen) (start : Option (List ℕ)) (frames : List Frame) →
-            HasTold c self.old start (O.written output.old) frames →
-            OnOk result (HasTold c self.new start (O.written output.new) frames) }
-        ensures begun { (c : Chosen) (start : Option (List ℕ)) (frames : List Frame) →
-            HasTold c self.old start (O.written output.old) frames →
+        ensures told { (k : Rows × Chosen) (start : Option (List ℕ)) (frames : List Frame) →
+            HasTold k self.old start (O.written output.old) frames →
+            OnOk result (HasTold k self.new start (O.written output.new) frames) }
+        ensures begun { (k : Rows × Chosen) (start : Option (List ℕ)) (frames : List Frame) →
+            HasTold k self.old start (O.written output.old) frames →
             OnErr result (BeginsLines start (O.written output.new)) }
         ensures stands { (k : Rows × Chosen) (start : Option (List ℕ)) (frames : List Frame) →
             TellsAll k false (latest_of frames) self.old start (O.written output.old) frames →
@@ -228,11 +233,11 @@ impl<'a> Judging<'a> {
         ensures failed { O.failed output.new ≡ is_failed_write result }
         ensures fault { IfErr result IsOfOutput }
         ensures settings { O.settings output.new ≡ O.settings output.old }
-        ensures told { (c : Chosen) (start : Option (List ℕ)) (frames : List Frame) →
-            HasTold c self.old start (O.written output.old) frames →
-            OnOk result (HasTold c self.new start (O.written output.new) frames) }
-        ensures begun { (c : Chosen) (start : Option (List ℕ)) (frames : List Frame) →
-            HasTold c self.old start (O.written output.old) frames →
+        ensures told { (k : Rows × Chosen) (start : Option (List ℕ)) (frames : List Frame) →
+            HasTold k self.old start (O.written output.old) frames →
+            OnOk result (HasTold k self.new start (O.written output.new) frames) }
+        ensures begun { (k : Rows × Chosen) (start : Option (List ℕ)) (frames : List Frame) →
+            HasTold k self.old start (O.written output.old) frames →
             OnErr result (BeginsLines start (O.written output.new)) }
         ensures stands { (k : Rows × Chosen) (before : ℕ) (start : Option (List ℕ))
             (frames : List Frame) → before ≤ time → latest_of frames ≤ before →
@@ -243,20 +248,34 @@ impl<'a> Judging<'a> {
         self.tell_due(Some(time), output)
     }
 
+    /// Whether a line that names this link is passed over: the link is left out, or the line left and
+    /// its sender's port isn't recorded.
+    fn is_passed(&self, seen: &Seen, vl: Option<VlId>) -> bool
+        ensures { (x : Frame) → x.role ≡ seen.now.role → x.arrival.side ≡ seen.now.heading.side →
+            vl ≡ link_named_by x.arrival.bytes →
+            result ≡ asked.is_passed self.now.streams.tables.now
+            (choices_of self.now.streams.taps self.now.choices.now) x }
+    {
+        is_left_out(self.choices, vl) || self.streams.is_unheard(seen.role, seen.heading.side, vl)
+    }
+
     /// Takes a line: it is passed over, or goes to its streams.
     fn take(&mut self, n: u64, seen: &Seen, message: &[u8]) -> Result<(), AllocError>
         requires time { seen.now.heading.time ≤ latest_listed }
         requires known { IsSealedAs seen.now.heading.seal message.now }
         ensures others { IsSameButTaken self.old self.new }
         ensures counted { (frames : List Frame) →
-            let c = choices_of self.old.choices.now in
+            let t = self.old.streams.tables.now in
+            let c = choices_of self.old.streams.taps self.old.choices.now in
             let x = frame_of (item_of n seen.now message.now) in
-            self.old.left_out ≡ min (left_out_of c frames) spec.most_counted →
+            self.old.left_out ≡ min (left_out_of t c frames) spec.most_counted →
             OnOk result
-            (self.new.left_out ≡ min (left_out_of c (x ∷ frames)) spec.most_counted) }
+            (self.new.left_out ≡ min (left_out_of t c (x ∷ frames)) spec.most_counted) }
         ensures stands { (k : Rows × Chosen) (frames : List Frame) (lines : List Line) →
             let x = frame_of (item_of n seen.now message.now) in
-            choices_of self.old.choices.now ≡ k.1 → latest_of frames ≤ seen.now.heading.time →
+            self.old.streams.tables.now ≡ k.0 →
+            choices_of self.old.streams.taps self.old.choices.now ≡ k.1 →
+            latest_of frames ≤ seen.now.heading.time →
             length frames + 1 < most_held →
             Stands k false seen.now.heading.time self.old frames lines →
             OnOk result (Stands k false seen.now.heading.time self.new (x ∷ frames) lines) }
@@ -266,7 +285,7 @@ impl<'a> Judging<'a> {
         }
         let bytes = whole_frame(self.alloc, seen.heading.seal, message)?;
         let vl = vl_of(bytes.as_slice());
-        if is_left_out(self.choices, vl) {
+        if self.is_passed(seen, vl) {
             self.left_out = self.left_out.saturating_add(1);
             return Ok(());
         }

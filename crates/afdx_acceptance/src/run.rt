@@ -3,6 +3,7 @@
 ghost use Rattle.std.specs.Prelude.{◌≡◌, ◌≤◌, ◌+◌, ◌||◌, OnOk, true, false};
 ghost use Rattle.afdx_acceptance.specs.ChoicesOf.{choices_of};
 ghost use Rattle.afdx_acceptance.specs.Ran.{ConformAnswers};
+ghost use Rattle.afdx_acceptance.specs.Tapped.{all_taps};
 ghost use Rattle.afdx_inputs.specs.TwoListsRun.{IfBothGiven};
 ghost use Rattle.afdx_lists.specs.Calls.{is_failed_read, is_failed_write};
 ghost use Rattle.afdx_lists.specs.Lines.{most_reads};
@@ -10,6 +11,7 @@ ghost use Rattle.afdx_lists.specs.Watching.{calls_of, has_ended, has_failed};
 
 use crate::choices::Choices;
 use crate::judging::Judging;
+use crate::taps::Taps;
 use crate::totals::Totals;
 use afdx_config::Tables;
 use afdx_inputs::run_two_lists;
@@ -49,10 +51,10 @@ pub fn run_conform<R: Read, O: Sink>(
 
     // Where the bytes of both are known: what is answered and written for the lists that they are.
     ensures answer { IfBothGiven R.remaining inputs.old (λ came left.
-        ConformAnswers R.remaining (tables.now, choices_of choices.now) came left inputs.new
+        ConformAnswers R.remaining (tables.now, choices_of all_taps choices.now) came left inputs.new
         (O.written output.old) (O.written output.new) result) }
 {
-    let mut judging = Judging::new(alloc, tables, choices)?;
+    let mut judging = Judging::new(alloc, tables, choices, Taps::all())?;
     run_two_lists(alloc, &mut judging, inputs, output)?;
     let totals = judging.totals();
     output.put(&OutLine::Conform(totals.line()))?;

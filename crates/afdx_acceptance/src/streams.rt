@@ -25,17 +25,20 @@ ghost use Rattle.afdx_acceptance.specs.Keys.{key_with};
 ghost use Rattle.afdx_acceptance.specs.Lines.{Due};
 ghost use Rattle.afdx_acceptance.specs.Slots.{AreFalling, IsCounted, IsStrange, IsStream, told_at, waiting_due};
 ghost use Rattle.afdx_acceptance.specs.Keeping.{slot_at};
+ghost use Rattle.afdx_acceptance.specs.Tapped as spec;
 ghost use Rattle.afdx_acceptance.specs.Waiting.{left_in};
 
 use crate::kept::{Kept, Lines};
 use crate::key::Key;
 use crate::outlets::{link_named, new_stream, outlet_at, receiver, rule_at};
 use crate::strangers::{Stranger, why_strange};
+use crate::tapped::{is_heard, is_seen, unseen_of};
+use crate::taps::Taps;
 use crate::totals::Totals;
 use afdx_config::{SystemId, Tables};
 use afdx_conform::{Arrived, Frame, Leeway};
 use afdx_frame::{Side, VlId};
-use afdx_lists::Heading;
+use afdx_lists::{Heading, Role};
 use std::alloc::{AllocError, Global};
 
 /// How many places a link has, and how many stand before those of the first link.
@@ -43,13 +46,14 @@ const OF_LINK: usize = 64;
 
 const OF_STRANGERS: usize = 512;
 
-/// What is kept of each key of the tables, and the time in ns at which the recordings end, once it
-/// is known.
+/// What is kept of each key of the tables, which ports were recorded, and the time in ns at which
+/// the recordings end, once it is known.
 #[derive(Drop)]
 pub(crate) struct Streams<'a> {
     alloc: Global,
     tables: &'a Tables,
     leeway: Leeway,
+    taps: Taps,
     kept: Kept,
     ended: Option<u64>,
 }
@@ -201,8 +205,9 @@ impl<'a> Streams<'a> {
         alloc: Global,
         tables: &'a Tables,
         leeway: Leeway,
+        taps: Taps,
     ) -> Result<Streams<'a>, AllocError>
-        ensures stands { (c : Choices) (until : ℕ) → leeway_of leeway ≡ c.by →
+        ensures stands { (c : Choices) (until : ℕ) → leeway_of leeway ≡ c.by → taps ≡ c.taps →
             IfOk result (λ s. StreamsStand tables.now c until [] [] 0 s) }
         ensures running { IfOk result (λ s. s.ended ≡ None) }
     {
@@ -211,12 +216,14 @@ impl<'a> Streams<'a> {
             alloc,
             tables,
             leeway,
+            taps,
             kept: Kept::new(alloc, count)?,
             ended: None,
         })
     }
 
-    /// A frame came in that names this link: it comes to each of the link's streams on its side.
+    /// A frame came in that names this link: it comes to each of the link's streams on its side that
+    /// is judged.
     pub(crate) fn came(
         &mut self,
         vl: Option<VlId>,
@@ -228,7 +235,7 @@ impl<'a> Streams<'a> {
         requires short { length bytes.now ≤ most_bytes }
         ensures stands { (t : Rows) (c : Choices) (until time : ℕ) (frames : List Seen)
             (lines : List Due) → vl ≡ link_named_by bytes.now →
-            counts c (frame_with role.Came (arrival_with n heading.now.time heading.now.side
+            counts t c (frame_with role.Came (arrival_with n heading.now.time heading.now.side
             heading.now.port bytes.now)) ≡ true →
             time ≤ heading.now.time → IsBehindAll heading.now.time frames →
             length frames + 1 < most_held →
@@ -239,16 +246,36 @@ impl<'a> Streams<'a> {
             ∷ frames) lines time self.new) }
         ensures ended { self.new.ended ≡ self.old.ended }
     {
-        let (alloc, tables, leeway) = (self.alloc, self.tables, self.leeway);
+        let (alloc, tables, leeway, taps) = (self.alloc, self.tables, self.leeway, self.taps);
         let Some(link) = link_named(tables, vl) else {
             return Ok(());
         };
+        if !is_heard(tables, taps, heading.side, link) {
+            return Ok(());
+        }
         for rank in 0..tables.link(link).to.len() {
             let system = receiver(tables, link, rank);
-            let kept = &mut self.kept;
-            come_to(alloc, tables, leeway, kept, link, system, n, heading, bytes)?;
+            if is_seen(tables, taps, heading.side, system) {
+                let kept = &mut self.kept;
+                come_to(alloc, tables, leeway, kept, link, system, n, heading, bytes)?;
+            }
         }
         Ok(())
+    }
+
+    /// Whether a frame that names this link left on a side on which its sender's port isn't recorded.
+    pub(crate) fn is_unheard(&self, role: Role, side: Side, vl: Option<VlId>) -> bool
+        ensures { (x : Seen) → x.role ≡ role → x.arrival.side ≡ side →
+            vl ≡ link_named_by x.arrival.bytes →
+            result ≡ spec.is_unheard self.now.tables.now self.now.taps x }
+    {
+        if role == Role::Came {
+            return false;
+        }
+        match link_named(self.tables, vl) {
+            Some(link) => !is_heard(self.tables, self.taps, side, link),
+            None => false,
+        }
     }
 
     /// A frame left that names this link, or that is of no stream.
@@ -262,7 +289,7 @@ impl<'a> Streams<'a> {
         requires time { heading.now.time ≤ latest_listed }
         ensures stands { (t : Rows) (c : Choices) (until time : ℕ) (frames : List Seen)
             (lines : List Due) → vl ≡ link_named_by bytes.items →
-            counts c (frame_with role.Left (arrival_with n heading.now.time heading.now.side
+            counts t c (frame_with role.Left (arrival_with n heading.now.time heading.now.side
             heading.now.port bytes.items)) ≡ true →
             time ≤ heading.now.time → IsBehindAll heading.now.time frames →
             length frames + 1 < most_held →
@@ -278,6 +305,9 @@ impl<'a> Streams<'a> {
         let named = link_named(tables, vl);
         let kept = &mut self.kept;
         if let Some((link, system)) = outlet_at(tables, named, port) {
+            if !self.taps.is_tapped(Role::Left, side, port) {
+                return Ok(());
+            }
             let frame = Frame {
                 number: n,
                 time,
@@ -318,13 +348,20 @@ impl<'a> Streams<'a> {
     pub(crate) fn end(&mut self, until: u64)
         ensures stands { (t : Rows) (c : Choices) (time : ℕ) (frames : List Seen)
             (lines : List Due) → time ≤ until → self.old.ended ≡ None →
-            IsBehindAll until (counted c frames) →
+            IsBehindAll until (counted t c frames) →
             StreamsStand t c until frames lines time self.old →
             StreamsStand t c until frames lines time self.new }
         ensures ended { self.new.ended ≡ Some until }
     {
         self.kept.end(until);
         self.ended = Some(until);
+    }
+
+    /// How many streams aren't judged.
+    pub(crate) fn unseen(&self) -> u64
+        ensures { result ≡ spec.unseen_of self.now.tables.now self.now.taps }
+    {
+        unseen_of(self.tables, self.taps)
     }
 
     /// What is counted of all streams.

@@ -27,11 +27,12 @@ pub struct Totals {
 impl Totals {
     ghost use Rattle.afdx_acceptance.specs.Slots.{IsCounted};
 
-    /// So many findings and lines that were left out, and no streams.
-    pub(crate) fn new(findings: u64, left_out: u64) -> Totals
+    /// So many findings, lines that were left out and streams that aren't judged; nothing of those
+    /// that are.
+    pub(crate) fn new(findings: u64, left_out: u64, unseen: u64) -> Totals
         ensures findings { result.findings ≡ findings }
         ensures left_out { result.left_out ≡ left_out }
-        ensures unseen { result.unseen ≡ 0 }
+        ensures unseen { result.unseen ≡ unseen }
     {
         Totals {
             findings,
@@ -39,7 +40,7 @@ impl Totals {
             waiting: 0,
             uncertain: 0,
             left_out,
-            unseen: 0,
+            unseen,
             is_unsure: false,
         }
     }

@@ -28,8 +28,7 @@ pub mod ArrivalLemmas
 pub mod SkipLemmas
 pub mod ArrivalSteps
 pub mod FirstLemmas
-pub mod CourseLemmas
-pub mod StreamLemmas
+pub mod ClosedLemmas
 pub mod HistoryLemmas
 pub mod OverLemmas
 pub mod GrowthLemmas

@@ -16,8 +16,6 @@ pub mod Naming
 pub mod Bounds
 pub mod Testing
 pub mod Judging
-pub mod Courses
-pub mod TermsOf
 pub mod FindingLaws
 pub mod Thinned
 pub mod Right

@@ -25,7 +25,7 @@ returns-clause-stands g c k last after time to start frames le-until le-to le-la
         stands-ended k frames last after c.args.until c.args.until to c.tell_due.new.self _ mid.0 (omega arith) le-to le-latest may ending
             now-none c.end.ensures.ended refl
             (λ dues s. c.end.ensures.stands k.0 k.1 c.args.until frames dues (omega arith) now-none
-            (counted-behind k.1 frames c.args.until (behind-later frames c.args.until le-latest mid.2.by_time)) s) mid.2,
+            (counted-behind k.0 k.1 frames c.args.until (behind-later frames c.args.until le-latest mid.2.by_time)) s) mid.2,
       ),
       c.end.ensures.ended,
     )

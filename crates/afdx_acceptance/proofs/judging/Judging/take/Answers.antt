@@ -17,7 +17,7 @@ use Rattle.afdx_inputs.specs.Joining.{frame_of}
 use Rattle.afdx_acceptance.proofs.judging.Judging.take.Goals as goal
 
 pub returns-then-not-is_in_time-clause-counted : goal.returns-then-not-is_in_time-clause-counted
-returns-then-not-is_in_time-clause-counted c = λ frames before.
+returns-then-not-is_in_time-clause-counted t c = λ frames before.
     let k = choices_of c.args.self.now.choices.now in
     let x = frame_of (item_of c.args.n c.args.seen.now c.args.message.now) in
     missed-next k x frames c.args.self.now.left_out c.args.self.now.left_out false
@@ -25,7 +25,7 @@ returns-then-not-is_in_time-clause-counted c = λ frames before.
     (let b = before in omega (arith, b))
 
 pub returns-then-is_left_out-clause-counted : goal.returns-then-is_left_out-clause-counted
-returns-then-is_left_out-clause-counted c = λ frames before.
+returns-then-is_left_out-clause-counted t c = λ frames before.
     let k = choices_of c.args.self.now.choices.now in
     let x = frame_of (item_of c.args.n c.args.seen.now c.args.message.now) in
     missed-next k x frames c.args.self.now.left_out c.saturating_add-self.result true
@@ -36,7 +36,7 @@ returns-then-is_left_out-clause-counted c = λ frames before.
     c.saturating_add-self.ensures
 
 pub returns-in-Came-clause-counted : goal.returns-in-Came-clause-counted
-returns-in-Came-clause-counted c = λ frames before.
+returns-in-Came-clause-counted t c = λ frames before.
     let k = choices_of c.args.self.now.choices.now in
     let x = frame_of (item_of c.args.n c.args.seen.now c.args.message.now) in
     on-ok c.came.result _
@@ -48,7 +48,7 @@ returns-in-Came-clause-counted c = λ frames before.
     (let b = before in omega (arith, b)))
 
 pub returns-in-Left-clause-counted : goal.returns-in-Left-clause-counted
-returns-in-Left-clause-counted c = λ frames before.
+returns-in-Left-clause-counted t c = λ frames before.
     let k = choices_of c.args.self.now.choices.now in
     let x = frame_of (item_of c.args.n c.args.seen.now c.args.message.now) in
     on-ok c.left.result _
@@ -60,7 +60,7 @@ returns-in-Left-clause-counted c = λ frames before.
     (let b = before in omega (arith, b)))
 
 pub returns-then-len-gt-MOST_BYTES-clause-counted : goal.returns-then-len-gt-MOST_BYTES-clause-counted
-returns-then-len-gt-MOST_BYTES-clause-counted c = λ frames before.
+returns-then-len-gt-MOST_BYTES-clause-counted t c = λ frames before.
     let k = choices_of c.args.self.now.choices.now in
     let x = frame_of (item_of c.args.n c.args.seen.now c.args.message.now) in
     missed-next k x frames c.args.self.now.left_out c.args.self.now.left_out false
@@ -118,7 +118,7 @@ returns-in-Came-clause-stands c k frames lines chosen latest few stands =
     (λ until dues s. subst (λ f. OnOk c.came.result (StreamsStand k.0 k.1 until (f ∷ frames) dues h.time c.came.new.self)) same
     (c.came.ensures.stands k.0 k.1 until h.time frames dues
     (c.vl_of-vl.ensures.computed ∙ ap link_named_by (c.as_slice.ensures.value ∙ sym c.as_slice-in-Came.ensures.value))
-    (ap (λ f. counts k.1 f) same ∙ count) (omega arith)
+    (ap (λ f. counts k.0 k.1 f) same ∙ count) (omega arith)
     (behind-later frames h.time latest stands.by_time) few none s)) c.came.ensures.ended refl stands
 
 pub returns-in-Left-clause-stands : goal.returns-in-Left-clause-stands
@@ -141,5 +141,5 @@ returns-in-Left-clause-stands c k frames lines chosen latest few stands =
     next-on c.left.result k frames x c.args.self.now _ lines latest
     (λ until dues s. subst (λ f. OnOk c.left.result (StreamsStand k.0 k.1 until (f ∷ frames) dues h.time c.left.new.self)) same
     (c.left.ensures.stands k.0 k.1 until h.time frames dues
-    (c.vl_of-vl.ensures.computed ∙ ap link_named_by c.as_slice.ensures.value) (ap (λ f. counts k.1 f) same ∙ count) (omega arith)
+    (c.vl_of-vl.ensures.computed ∙ ap link_named_by c.as_slice.ensures.value) (ap (λ f. counts k.0 k.1 f) same ∙ count) (omega arith)
     (behind-later frames h.time latest stands.by_time) few none s)) c.left.ensures.ended refl stands

@@ -89,7 +89,7 @@ returns-clause-stands c t c' until time frames lines vl e le behind few running 
     let old : AreKept r c' until None time (given_of r c' frames) lines c.args.self.now.kept =
     subst (λ o. AreKept r c' until o time (given_of r c' frames) lines c.args.self.now.kept) running mine.kept in
     let new = c.loop-rank.invariant.kept c' until time (given_of r c' frames) lines row c.link.ensures.row mine.by le
-    (came-start c' a e) (λ k. came-times r c' frames h.time (counted-behind c' frames h.time behind) k)
+    (came-start r c' a e) (λ k. came-times r c' frames h.time (counted-behind r c' frames h.time behind) k)
     (λ k. let n = came-few r c' frames k in omega (arith, n, few)) old in
     let joined = join-came r c' until None time frames lines c.loop-rank.self.kept c.link.ensures.lawful a link row e
     named c.link.ensures.row

@@ -46,8 +46,8 @@ returns-in-Some-clause-stands c t c' until time frames lines vl e le behind few 
           (subst (λ p. AreKept r c' until None time (with_left (key_with h.side p (Some link)) (gone_of a) (given_of r c' frames)) lines
           c.leave_to.new.kept) to.1 k));
     })) c.leave_to.result
-    (c.leave_to.ensures c' until time (given_of r c' frames) lines l at to.2 mine.by le (left-start c' a e)
-    (left-times r c' frames h.time (counted-behind c' frames h.time behind) key) (omega (arith, n, few)) old)
+    (c.leave_to.ensures c' until time (given_of r c' frames) lines l at to.2 mine.by le (left-start r c' a e)
+    (left-times r c' frames h.time (counted-behind r c' frames h.time behind) key) (omega (arith, n, few)) old)
 
 pub returns-clause-stands : goal.returns-clause-stands
 returns-clause-stands c t c' until time frames lines vl e le behind few running stand =
@@ -65,7 +65,7 @@ returns-clause-stands c t c' until time frames lines vl e le behind few running 
     ∙ ap (λ b. stranger_by (is_some (place_named r a.bytes)) (fault_of None 0 b)) c.as_slice.ensures.value in
     let old : AreKept r c' until None time (given_of r c' frames) lines c.args.self.now.kept =
     subst (λ o. AreKept r c' until o time (given_of r c' frames) lines c.args.self.now.kept) running mine.kept in
-    let all = counted-behind c' frames h.time behind in
+    let all = counted-behind r c' frames h.time behind in
     on-ok (λ k. subst (λ (x : Rows). StreamsStand x c' until (frame_with Left a ∷ frames) lines time
     (streams_with c.args.self.now c.leave_strange.new.kept)) stand.tables (record {
       lawful = mine.lawful;

@@ -1,7 +1,7 @@
 use Rattle.std.proofs.Common.{rules, ◌≡◌, ◌<◌, get_or, subst, arith}
 use Rattle.afdx_conform.specs.declared.limits.Frame.{Frame}
-use Rattle.afdx_conform.proofs.CourseLemmas.{closed-more, same-frame, not-later}
-use Rattle.afdx_conform.proofs.course.closed_by.Goals as goal
+use Rattle.afdx_conform.proofs.ClosedLemmas.{closed-more, same-frame, not-later}
+use Rattle.afdx_conform.proofs.closing.count_closed.Goals as goal
 
 pub loop-place-init : goal.loop-place-init
 loop-place-init c k f le lt is = absurd (omega (arith, le, lt))
