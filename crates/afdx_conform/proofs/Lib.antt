@@ -65,3 +65,5 @@ pub mod EndingLemmas
 pub mod EndDueLemmas
 pub mod CountLemmas
 pub mod DueNowLemmas
+pub mod QuietLemmas
+pub mod CutLemmas

@@ -132,7 +132,7 @@ sound-behind z x (Came w ∷ l) h =
     (Came w ∷ sound_events z l) (sound_events z l) (sound-behind z x l h) (sound-behind z x l h)
 sound-behind z x (Closing time ∷ l) h = (h.0, sound-behind z x l h.1)
 
-sound-order : (z : Terms) (l : List Event) → AreInOrder z l → AreInOrder z (sound_events z l)
+pub sound-order : (z : Terms) (l : List Event) → AreInOrder z l → AreInOrder z (sound_events z l)
 unfolding sound_events AreInOrder
 sound-order z [] h = tt
 sound-order z (Came w ∷ l) h =
@@ -140,7 +140,7 @@ sound-order z (Came w ∷ l) h =
     (Came w ∷ sound_events z l) (sound_events z l) (sound-behind z w l h.0, sound-order z l h.1) (sound-order z l h.1)
 sound-order z (Closing time ∷ l) h = sound-order z l h
 
-sound-came : (z : Terms) (l : List Event) → arrivals_came (sound_events z l) ≡ sound_of z.rule (arrivals_came l)
+pub sound-came : (z : Terms) (l : List Event) → arrivals_came (sound_events z l) ≡ sound_of z.rule (arrivals_came l)
 unfolding sound_events sound_of
 sound-came z [] = refl
 sound-came z (Came w ∷ l) = by (is_none (fault_of (Some z.rule) w.port w.bytes)) (sound-came z l)
@@ -154,11 +154,11 @@ sound-came z (Closing time ∷ l) = sound-came z l
 
 -- ---- all of it
 
-abbrev total : List Gone → ℕ
+abbrev pub total : List Gone → ℕ
 total [] = 0
 total (y ∷ ys) = y.time + total ys
 
-all-within : (ys : List Gone) → AllByRecursion (λ y. y.time ≤ total ys) ys
+pub all-within : (ys : List Gone) → AllByRecursion (λ y. y.time ≤ total ys) ys
 all-within [] = tt
 all-within (y ∷ ys) = (
   omega arith,

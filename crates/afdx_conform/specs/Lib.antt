@@ -32,5 +32,6 @@ pub mod Forgetting
 pub mod Sure
 pub mod SomeKnown
 pub mod Histories
+pub mod RightCut
 pub mod Growing
 pub mod Standing
