@@ -33,6 +33,7 @@ use Rattle.afdx_acceptance.specs.Keys.{key_place}
 use Rattle.afdx_acceptance.specs.declared.strangers.Stranger.{Stranger}
 use Rattle.afdx_acceptance.proofs.KeyLemmas.{known-within, link-place}
 use Rattle.afdx_acceptance.proofs.StepLemmas.{known-cases}
+use Rattle.afdx_acceptance.proofs.TappedLemmas.{judged-cases, no-stream}
 
 pub latest-same : (past : List (Item Seen)) → latest_of (frames_of past) ≡ latest_seen past
 latest-same [] = refl
@@ -114,20 +115,32 @@ module _ (t : Rows) (c : Choices) (until time : ℕ) (frames : List Frame) (dues
   unfolding given_of
   given-none k none = ap (λ o. given_by t c frames k o) none
 
-  given-link : (k : Key) (l : LinkRow) → IsStreamOf t k l → given_of t c frames k ≡ given_to c k frames (Some l)
+  -- of a stream that is judged, or not
+  judged-own : (k : Key) (l : LinkRow) (place : ℕ) → k.link ≡ Some place → IsOfLink t k l (Some place)
+      → of_key k dues ≡ judged_dues (terms_at t c until l k.port) k (judged_of (terms_at t c until l k.port)
+      (given_of t c frames k).came (given_of t c frames k).left)
+      → of_key k dues ≡ dues_of t c until frames k
   unfolding given_of
-  given-link k l is = by k.link is
-    where
-      by : (o : Option ℕ) → IsOfLink t k l o → given_by t c frames k o ≡ given_to c k frames (Some l)
-      by None h = absurd h
-      by (Some place) h = ap (λ r. given_to c k frames r) h
+  judged-own k l place at to own =
+      elim (judged-cases t c.taps k.side place k.port l to) [
+        | inl is ↦ own ∙ ap (λ g. judged_dues (terms_at t c until l k.port) k (judged_of (terms_at t c until l k.port) g.came g.left))
+            (ap (λ o. given_by t c frames k o) at ∙ ap (λ r. given_to t c k frames r) is.0)
+            ∙ sym (ap (λ o. dues_by t c until frames k o) at ∙ ap (λ r. option_map_or (stream_dues t c until frames k) r []) is.0)
+        | inr none ↦ own ∙ ap (λ g. judged_dues (terms_at t c until l k.port) k (judged_of (terms_at t c until l k.port) g.came g.left))
+            (ap (λ o. given_by t c frames k o) at ∙ ap (λ r. given_to t c k frames r) none.0)
+            ∙ none-judged (terms_at t c until l k.port) k
+            ∙ sym (ap (λ o. dues_by t c until frames k o) at ∙ ap (λ r. option_map_or (stream_dues t c until frames k) r []) none.0)
+      ]
 
-  dues-link : (k : Key) (l : LinkRow) → IsStreamOf t k l → dues_of t c until frames k ≡ stream_dues t c until frames k l
-  dues-link k l is = by k.link is
+  link-own : (k : Key) (l : LinkRow) → IsStreamOf t k l
+      → of_key k dues ≡ judged_dues (terms_at t c until l k.port) k (judged_of (terms_at t c until l k.port)
+      (given_of t c frames k).came (given_of t c frames k).left)
+      → of_key k dues ≡ dues_of t c until frames k
+  link-own k l is own = by k.link refl is
     where
-      by : (o : Option ℕ) → IsOfLink t k l o → dues_by t c until frames k o ≡ stream_dues t c until frames k l
-      by None h = absurd h
-      by (Some place) h = ap (λ r. option_map_or (stream_dues t c until frames k) r []) h
+      by : (o : Option ℕ) → k.link ≡ o → IsOfLink t k l o → of_key k dues ≡ dues_of t c until frames k
+      by None at h = absurd h
+      by (Some place) at h = judged-own k l place at h own
 
   known-own : (k : Key) → is_known t k ≡ true → of_key k dues ≡ dues_of t c until frames k
   known-own k known = elim (known-cases t k known) [
@@ -135,12 +148,10 @@ module _ (t : Rows) (c : Choices) (until time : ℕ) (frames : List Frame) (dues
         (to-strangers t c until (Some until) time k (given_of t c frames k) (of_key k dues) (slot_at kept.slots.items k) none
         (are.stand k known))
         ∙ ap (λ g. g.strange) (given-none k none) ∙ sym (ap (λ o. dues_by t c until frames k o) none)
-    | inr of ↦ all-told (terms_at t c until of.0 k.port) k (given_of t c frames k).came (given_of t c frames k).left (of_key k dues)
+    | inr of ↦ link-own k of.0 of.1 (all-told (terms_at t c until of.0 k.port) k (given_of t c frames k).came (given_of t c frames k).left (of_key k dues)
         (slot_at kept.slots.items k) (none-due k known) (is-counted k known)
         (to-ended t c until time k of.0 (given_of t c frames k) (of_key k dues) (slot_at kept.slots.items k) until of.1
-        (are.stand k known)).1
-        ∙ ap (λ g. judged_dues (terms_at t c until of.0 k.port) k (judged_of (terms_at t c until of.0 k.port) g.came g.left))
-        (given-link k of.0 of.1) ∙ sym (dues-link k of.0 of.1)
+        (are.stand k known)).1)
   ]
 
   unknown-own : (k : Key) → k.port < 256 → is_known t k ≡ false → [] ≡ dues_of t c until frames k
@@ -149,7 +160,8 @@ module _ (t : Rows) (c : Choices) (until time : ℕ) (frames : List Frame) (dues
     where
       by : (o : Option ℕ) → is_known_by t k o ≡ false → [] ≡ dues_by t c until frames k o
       by None e = absurd (true≢false (sym (lt-ltb k.port 256 small) ∙ e))
-      by (Some place) e = sym (ap (λ r. option_map_or (stream_dues t c until frames k) r []) (not-there (link_to t place k.port) e))
+      by (Some place) e = sym (ap (λ r. option_map_or (stream_dues t c until frames k) r [])
+          (no-stream t c.taps k.side place k.port (not-there (link_to t place k.port) e)))
 
   is-small : (k : Key) → is_known t k ≡ true → k.port < 256
   unfolding is_known

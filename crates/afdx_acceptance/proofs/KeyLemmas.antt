@@ -25,7 +25,7 @@ use Rattle.afdx_acceptance.specs.declared.slot.Slot.TheVariants.{Nothing}
 
 -- ---- one key or two
 
-same-side : (a b : Side) → is_side a b ≡ true → a ≡ b
+pub same-side : (a b : Side) → is_side a b ≡ true → a ≡ b
 same-side A A e = refl
 same-side A B e = absurd (true≢false (sym e))
 same-side B A e = absurd (true≢false (sym e))

@@ -1,4 +1,5 @@
 pub mod AgendaLemmas
+pub mod TappedLemmas
 pub mod OutletLemmas
 pub mod WaitingLemmas
 pub mod TellingLemmas

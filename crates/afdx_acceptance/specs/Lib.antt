@@ -7,12 +7,12 @@ pub mod Waiting
 pub mod Totals
 pub mod Commands
 pub mod Telling
-pub mod Judging
 pub mod Frames
 pub mod Lines
 pub mod Slots
 pub mod Keeping
 pub mod Standing
+pub mod Judging
 pub mod Told
 pub mod Ran
 pub mod Written

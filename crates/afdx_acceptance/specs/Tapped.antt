@@ -10,10 +10,15 @@ use Rattle.afdx_frame.specs.declared.link.Side.TheVariants.{A, B}
 use Rattle.afdx_lists.specs.declared.role.Role.{Role}
 use Rattle.afdx_lists.specs.declared.role.Role.TheVariants.{Came, Left}
 use Rattle.afdx_inputs.specs.Joining.{Frame}
+use Rattle.afdx_acceptance.specs.declared.taps.Taps as code
 
 -- whether what came in, or left, at a port of a side was recorded
 abbrev pub Taps : Type 0
 Taps = Role → Side → ℕ → Bool
+
+-- as the code holds them
+abbrev pub taps_in : code.Taps → Taps
+taps_in taps role side port = taps.is_all
 
 -- as it is with lists
 abbrev pub all_taps : Taps

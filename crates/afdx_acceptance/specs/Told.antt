@@ -14,6 +14,7 @@ use Rattle.afdx_acceptance.specs.Telling.{findings_in, lines_text, most_counted}
 use Rattle.afdx_acceptance.specs.Keeping.{IsNothingDue}
 use Rattle.afdx_acceptance.specs.Lines.{Due}
 use Rattle.afdx_acceptance.specs.Standing.{IsBehindAll, StreamsStand}
+use Rattle.afdx_acceptance.specs.Tapped.{taps_in}
 use Rattle.afdx_acceptance.specs.declared.streams.Streams.{Streams}
 use Rattle.afdx_acceptance.specs.declared.judging.Judging.{Judging}
 
@@ -22,7 +23,7 @@ use Rattle.afdx_acceptance.specs.declared.judging.Judging.{Judging}
 pub record TellsOf (k : Rows × Choices) (frames : List Frame) (judging : Judging)
     (old new : Option (List ℕ)) (lines : List ConformLine) : Type 0 where
   pub tables_are : judging.streams.tables.now ≡ k.0
-  pub choices_are : choices_of judging.streams.taps judging.choices.now ≡ k.1
+  pub choices_are : choices_of (taps_in judging.streams.taps.now) judging.choices.now ≡ k.1
   pub written : Appends old new (lines_text lines)
   pub findings_are : judging.findings ≡ min (findings_in lines) most_counted
   pub left_out_are : judging.left_out ≡ min (left_out_of k.0 k.1 frames) most_counted

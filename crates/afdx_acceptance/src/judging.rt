@@ -8,6 +8,7 @@ ghost use Rattle.afdx_acceptance.specs.Choices.{Choices as Chosen, latest_of, le
 ghost use Rattle.afdx_acceptance.specs.Choices as asked;
 ghost use Rattle.afdx_acceptance.specs.ChoicesOf.{choices_of};
 ghost use Rattle.afdx_acceptance.specs.Judging.{IsSameButFindings, IsSameButTaken};
+ghost use Rattle.afdx_acceptance.specs.Tapped.{taps_in};
 ghost use Rattle.afdx_acceptance.specs.Telling as spec;
 ghost use Rattle.afdx_acceptance.specs.Told.{BeginsLines, HasTold, IsEndFor, IsEnding, Stands};
 ghost use Rattle.afdx_acceptance.specs.Told.{TellsAll, TellsToEnd};
@@ -62,10 +63,10 @@ impl<'a> Judging<'a> {
         alloc: Global,
         tables: &'a Tables,
         choices: &'a Choices,
-        taps: Taps,
+        taps: &'a Taps,
     ) -> Result<Judging<'a>, AllocError>
         ensures { (output : Option (List ℕ)) → IfOk result (λ judging.
-            TellsAll (tables.entry.now, choices_of taps choices.entry.now) false 0 judging output
+            TellsAll (tables.entry.now, choices_of (taps_in taps.entry.now) choices.entry.now) false 0 judging output
             output []) }
     {
         let streams = Streams::new(alloc, tables, choices.leeway, taps)?;
@@ -254,7 +255,7 @@ impl<'a> Judging<'a> {
         ensures { (x : Frame) → x.role ≡ seen.now.role → x.arrival.side ≡ seen.now.heading.side →
             vl ≡ link_named_by x.arrival.bytes →
             result ≡ asked.is_passed self.now.streams.tables.now
-            (choices_of self.now.streams.taps self.now.choices.now) x }
+            (choices_of (taps_in self.now.streams.taps.now) self.now.choices.now) x }
     {
         is_left_out(self.choices, vl) || self.streams.is_unheard(seen.role, seen.heading.side, vl)
     }
@@ -266,7 +267,7 @@ impl<'a> Judging<'a> {
         ensures others { IsSameButTaken self.old self.new }
         ensures counted { (frames : List Frame) →
             let t = self.old.streams.tables.now in
-            let c = choices_of self.old.streams.taps self.old.choices.now in
+            let c = choices_of (taps_in self.old.streams.taps.now) self.old.choices.now in
             let x = frame_of (item_of n seen.now message.now) in
             self.old.left_out ≡ min (left_out_of t c frames) spec.most_counted →
             OnOk result
@@ -274,7 +275,7 @@ impl<'a> Judging<'a> {
         ensures stands { (k : Rows × Chosen) (frames : List Frame) (lines : List Line) →
             let x = frame_of (item_of n seen.now message.now) in
             self.old.streams.tables.now ≡ k.0 →
-            choices_of self.old.streams.taps self.old.choices.now ≡ k.1 →
+            choices_of (taps_in self.old.streams.taps.now) self.old.choices.now ≡ k.1 →
             latest_of frames ≤ seen.now.heading.time →
             length frames + 1 < most_held →
             Stands k false seen.now.heading.time self.old frames lines →

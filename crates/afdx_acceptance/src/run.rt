@@ -54,7 +54,8 @@ pub fn run_conform<R: Read, O: Sink>(
         ConformAnswers R.remaining (tables.now, choices_of all_taps choices.now) came left inputs.new
         (O.written output.old) (O.written output.new) result) }
 {
-    let mut judging = Judging::new(alloc, tables, choices, Taps::all())?;
+    let taps = Taps::all();
+    let mut judging = Judging::new(alloc, tables, choices, &taps)?;
     run_two_lists(alloc, &mut judging, inputs, output)?;
     let totals = judging.totals();
     output.put(&OutLine::Conform(totals.line()))?;

@@ -26,6 +26,7 @@ ghost use Rattle.afdx_acceptance.specs.Lines.{Due};
 ghost use Rattle.afdx_acceptance.specs.Slots.{AreFalling, IsCounted, IsStrange, IsStream, told_at, waiting_due};
 ghost use Rattle.afdx_acceptance.specs.Keeping.{slot_at};
 ghost use Rattle.afdx_acceptance.specs.Tapped as spec;
+ghost use Rattle.afdx_acceptance.specs.Tapped.{taps_in};
 ghost use Rattle.afdx_acceptance.specs.Waiting.{left_in};
 
 use crate::kept::{Kept, Lines};
@@ -53,7 +54,7 @@ pub(crate) struct Streams<'a> {
     alloc: Global,
     tables: &'a Tables,
     leeway: Leeway,
-    taps: Taps,
+    taps: &'a Taps,
     kept: Kept,
     ended: Option<u64>,
 }
@@ -198,16 +199,17 @@ fn leave_strange(
 }
 
 impl<'a> Streams<'a> {
-    ghost use Rattle.afdx_acceptance.specs.Standing.{IsBehindAll, StreamsStand};
+    ghost use Rattle.afdx_acceptance.specs.Standing.{IsBehindAll, IsSameButKept, StreamsStand};
 
     /// Those of the tables, of which nothing came.
     pub(crate) fn new(
         alloc: Global,
         tables: &'a Tables,
         leeway: Leeway,
-        taps: Taps,
+        taps: &'a Taps,
     ) -> Result<Streams<'a>, AllocError>
-        ensures stands { (c : Choices) (until : ℕ) → leeway_of leeway ≡ c.by → taps ≡ c.taps →
+        ensures stands { (c : Choices) (until : ℕ) → leeway_of leeway ≡ c.by → 
+            taps_in taps.entry.now ≡ c.taps →
             IfOk result (λ s. StreamsStand tables.now c until [] [] 0 s) }
         ensures running { IfOk result (λ s. s.ended ≡ None) }
     {
@@ -245,6 +247,7 @@ impl<'a> Streams<'a> {
             (arrival_with n heading.now.time heading.now.side heading.now.port bytes.now)
             ∷ frames) lines time self.new) }
         ensures ended { self.new.ended ≡ self.old.ended }
+        ensures rules { IsSameButKept self.old self.new }
     {
         let (alloc, tables, leeway, taps) = (self.alloc, self.tables, self.leeway, self.taps);
         let Some(link) = link_named(tables, vl) else {
@@ -267,7 +270,7 @@ impl<'a> Streams<'a> {
     pub(crate) fn is_unheard(&self, role: Role, side: Side, vl: Option<VlId>) -> bool
         ensures { (x : Seen) → x.role ≡ role → x.arrival.side ≡ side →
             vl ≡ link_named_by x.arrival.bytes →
-            result ≡ spec.is_unheard self.now.tables.now self.now.taps x }
+            result ≡ spec.is_unheard self.now.tables.now (taps_in self.now.taps.now) x }
     {
         if role == Role::Came {
             return false;
@@ -299,6 +302,7 @@ impl<'a> Streams<'a> {
             (arrival_with n heading.now.time heading.now.side heading.now.port bytes.items)
             ∷ frames) lines time self.new) }
         ensures ended { self.new.ended ≡ self.old.ended }
+        ensures rules { IsSameButKept self.old self.new }
     {
         let (alloc, tables, leeway) = (self.alloc, self.tables, self.leeway);
         let (side, port, time) = (heading.side, heading.port, heading.time);
@@ -337,6 +341,7 @@ impl<'a> Streams<'a> {
             IfOk result (λ taken. IfNone taken (StreamsStand t c until frames lines time self.new
             × IsNothingDue t before self.new.kept)) }
         ensures ended { self.new.ended ≡ self.old.ended }
+        ensures rules { IsSameButKept self.old self.new }
         ensures less { IfOk result (λ lines. IsSome lines →
             left_in self.new.kept.slots.items < left_in self.old.kept.slots.items) }
     {
@@ -352,6 +357,7 @@ impl<'a> Streams<'a> {
             StreamsStand t c until frames lines time self.old →
             StreamsStand t c until frames lines time self.new }
         ensures ended { self.new.ended ≡ Some until }
+        ensures rules { IsSameButKept self.old self.new }
     {
         self.kept.end(until);
         self.ended = Some(until);
@@ -359,7 +365,7 @@ impl<'a> Streams<'a> {
 
     /// How many streams aren't judged.
     pub(crate) fn unseen(&self) -> u64
-        ensures { result ≡ spec.unseen_of self.now.tables.now self.now.taps }
+        ensures { result ≡ spec.unseen_of self.now.tables.now (taps_in self.now.taps.now) }
     {
         unseen_of(self.tables, self.taps)
     }

@@ -5,6 +5,7 @@ ghost use Rattle.afdx_config.specs.Rows.{LinkRow};
 ghost use Rattle.afdx_bounds.specs.Tables.{port_of};
 ghost use Rattle.afdx_lists.specs.declared.role.Role.TheVariants as role;
 ghost use Rattle.afdx_acceptance.specs.Tapped as spec;
+ghost use Rattle.afdx_acceptance.specs.Tapped.{taps_in};
 
 use crate::outlets::receiver;
 use crate::taps::Taps;
@@ -13,29 +14,29 @@ use afdx_frame::Side;
 use afdx_lists::Role;
 
 /// Whether the port at which a link comes in is recorded on a side.
-pub(crate) fn is_heard(tables: &Tables, taps: Taps, side: Side, link: usize) -> bool
+pub(crate) fn is_heard(tables: &Tables, taps: &Taps, side: Side, link: usize) -> bool
     requires link { link < length tables.now.links }
-    ensures at { result ≡ spec.is_heard_at tables.now taps side (Some link) }
+    ensures at { result ≡ spec.is_heard_at tables.now (taps_in taps.now) side (Some link) }
     ensures is { (l : LinkRow) → slice_get tables.now.links link ≡ Some l →
-        result ≡ spec.is_heard tables.now taps side l }
+        result ≡ spec.is_heard tables.now (taps_in taps.now) side l }
 {
     let sender = tables.link(link).from;
     taps.is_tapped(Role::Came, side, tables.system(sender).port)
 }
 
 /// Whether the port of a system or neighbour is recorded on a side: what leaves there.
-pub(crate) fn is_seen(tables: &Tables, taps: Taps, side: Side, system: SystemId) -> bool
+pub(crate) fn is_seen(tables: &Tables, taps: &Taps, side: Side, system: SystemId) -> bool
     requires system { system.0 < length tables.now.systems }
-    ensures { result ≡ taps role.Left side (port_of tables.now system.0) }
+    ensures { result ≡ taps_in taps.now role.Left side (port_of tables.now system.0) }
 {
     taps.is_tapped(Role::Left, side, tables.system(system).port)
 }
 
 /// How many streams of a link aren't judged on a side.
-fn unseen_of_link(tables: &Tables, taps: Taps, side: Side, link: usize) -> u64
+fn unseen_of_link(tables: &Tables, taps: &Taps, side: Side, link: usize) -> u64
     requires link { link < length tables.now.links }
     ensures count { (l : LinkRow) → slice_get tables.now.links link ≡ Some l →
-        result ≡ spec.unseen_to tables.now taps side l l.to }
+        result ≡ spec.unseen_to tables.now (taps_in taps.now) side l l.to }
     ensures few { result ≤ 24 }
 {
     let to = tables.link(link).to.len();
@@ -51,8 +52,8 @@ fn unseen_of_link(tables: &Tables, taps: Taps, side: Side, link: usize) -> u64
 }
 
 /// How many aren't of any link.
-fn unseen_on(tables: &Tables, taps: Taps, side: Side) -> u64
-    ensures count { result ≡ spec.unseen_among tables.now taps side tables.now.links }
+fn unseen_on(tables: &Tables, taps: &Taps, side: Side) -> u64
+    ensures count { result ≡ spec.unseen_among tables.now (taps_in taps.now) side tables.now.links }
     ensures few { result ≤ 98_304 }
 {
     let mut count: u64 = 0;
@@ -63,8 +64,8 @@ fn unseen_on(tables: &Tables, taps: Taps, side: Side) -> u64
 }
 
 /// How many streams aren't judged, on both sides.
-pub(crate) fn unseen_of(tables: &Tables, taps: Taps) -> u64
-    ensures { result ≡ spec.unseen_of tables.now taps }
+pub(crate) fn unseen_of(tables: &Tables, taps: &Taps) -> u64
+    ensures { result ≡ spec.unseen_of tables.now (taps_in taps.now) }
 {
     unseen_on(tables, taps, Side::A) + unseen_on(tables, taps, Side::B)
 }

@@ -11,6 +11,7 @@ use Rattle.afdx_config.specs.Rows.{Rows}
 use Rattle.afdx_acceptance.specs.Choices.{Choices}
 use Rattle.afdx_acceptance.specs.ChoicesOf.{choices_of}
 use Rattle.afdx_acceptance.specs.Ran.{WritesLines}
+use Rattle.afdx_acceptance.specs.Tapped.{all_taps}
 use Rattle.afdx_acceptance.specs.Told.{BeginsLines}
 use Rattle.afdx_acceptance.proofs.run.run_conform.Goals as goal
 
@@ -26,7 +27,7 @@ returns-in_err-judging-clause-answer g c =
 
 pub run_two_lists-requires-clause-told : goal.run_two_lists-requires-clause-told
 run_two_lists-requires-clause-told g c = (
-  (c.args.tables.now, choices_of c.args.choices.now),
+  (c.args.tables.now, choices_of all_taps c.args.choices.now),
   c.in_ok-judging.ensures (g.O.Sink.written c.args.output.now),
   λ item. tt,
 )
@@ -34,7 +35,7 @@ run_two_lists-requires-clause-told g c = (
 pub returns-in_err-run_two_lists-clause-answer : goal.returns-in_err-run_two_lists-clause-answer
 returns-in_err-run_two_lists-clause-answer g c =
     let old = g.O.Sink.written c.args.output.now in
-    let k : Rows × Choices = (c.args.tables.now, choices_of c.args.choices.now) in
+    let k : Rows × Choices = (c.args.tables.now, choices_of all_taps c.args.choices.now) in
     let e : c.from_residual-in_err-run_two_lists.result ≡ Err c.in_err-run_two_lists.field-0.0 = search rules in
     rw e (both-given _ _ _ _ (λ came left h. answers-err g.R.Read.remaining k came left c.run_two_lists.new.inputs
     c.run_two_lists.new.machine old (g.O.Sink.written c.run_two_lists.new.output) c.in_err-run_two_lists.field-0.0 h)
@@ -43,7 +44,7 @@ returns-in_err-run_two_lists-clause-answer g c =
 pub returns-in_err-put-clause-answer : goal.returns-in_err-put-clause-answer
 returns-in_err-put-clause-answer g c =
     let old = g.O.Sink.written c.args.output.now in
-    let k : Rows × Choices = (c.args.tables.now, choices_of c.args.choices.now) in
+    let k : Rows × Choices = (c.args.tables.now, choices_of all_taps c.args.choices.now) in
     let e : c.from_residual-in_err-put.result ≡ Err c.in_err-put.field-0.0 = search rules in
     rw e (both-given _ _ _ _ (λ came left h. answers-cut g.R.Read.remaining k came left c.run_two_lists.new.inputs
     c.run_two_lists.new.machine old (g.O.Sink.written c.run_two_lists.new.output) (g.O.Sink.written c.put.new.self)
@@ -53,7 +54,7 @@ returns-in_err-put-clause-answer g c =
 pub returns-clause-answer : goal.returns-clause-answer
 returns-clause-answer g c =
     let old = g.O.Sink.written c.args.output.now in
-    let k : Rows × Choices = (c.args.tables.now, choices_of c.args.choices.now) in
+    let k : Rows × Choices = (c.args.tables.now, choices_of all_taps c.args.choices.now) in
     both-given _ _ _ _ (λ came left h. answers-ok g.R.Read.remaining k came left c.run_two_lists.new.inputs
     c.run_two_lists.new.machine old (g.O.Sink.written c.run_two_lists.new.output) (g.O.Sink.written c.put.new.self)
     _ c.totals-totals.result (c.totals-totals.ensures.written k old (g.O.Sink.written c.run_two_lists.new.output))

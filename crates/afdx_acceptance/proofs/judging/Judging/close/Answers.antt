@@ -11,7 +11,7 @@ returns-in_err-tell_due-clause-begun g c = λ k start frames h.
 
 pub returns-clause-told : goal.returns-clause-told
 returns-clause-told g c = λ k start frames h.
-    told-same k start frames c.tell_due.new.self _ _ refl refl refl refl
+    told-same k start frames c.tell_due.new.self _ _ c.end.ensures.rules refl refl refl refl
     (c.in_ok-tell_due.ensures.told k start frames h)
 
 pub returns-clause-stands : goal.returns-clause-stands
@@ -21,7 +21,7 @@ returns-clause-stands g c k last after time to start frames le-until le-to le-la
     let now-none = c.tell_due.ensures.ended ∙ none in (
       (
         mid.0,
-        tells-same k.1 start frames c.tell_due.new.self _ _ mid.0 refl refl refl refl mid.1,
+        tells-same k start frames c.tell_due.new.self _ _ mid.0 c.end.ensures.rules refl refl refl refl mid.1,
         stands-ended k frames last after c.args.until c.args.until to c.tell_due.new.self _ mid.0 (omega arith) le-to le-latest may ending
             now-none c.end.ensures.ended refl
             (λ dues s. c.end.ensures.stands k.0 k.1 c.args.until frames dues (omega arith) now-none

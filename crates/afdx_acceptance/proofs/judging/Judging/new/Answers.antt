@@ -1,5 +1,6 @@
 use Rattle.std.proofs.Common.{[], refl, sym, ap, ◌∙◌, arith}
 use Rattle.std.specs.Prelude.{is_some}
+use Rattle.afdx_acceptance.specs.Tapped.{taps_in}
 use Rattle.afdx_acceptance.specs.ChoicesOf.{choices_of}
 use Rattle.afdx_acceptance.proofs.ToldLemmas.{tells-none}
 use Rattle.afdx_acceptance.proofs.judging.Judging.new.Goals as goal
@@ -12,7 +13,7 @@ returns c = λ output. (
     all = λ until may. record {
       dues = [];
       are = refl;
-      streams = c.in_ok-streams.ensures.stands (choices_of c.args.choices.now) until refl;
+      streams = c.in_ok-streams.ensures.stands (choices_of (taps_in c.args.taps.now) c.args.choices.now) until refl refl;
     };
     by_time = tt;
     running = λ end none said. omega arith;

@@ -5,7 +5,7 @@ use Rattle.afdx_acceptance.specs.Standing.{StreamsStand}
 use Rattle.afdx_acceptance.specs.Told.{MayEnd, lines_of}
 use Rattle.afdx_acceptance.proofs.FullLemmas.{lines-told, none-there, some-there, stands-later, stands-same, stands-to}
 use Rattle.afdx_text.proofs.OutputLemmas.{on-err}
-use Rattle.afdx_acceptance.proofs.ToldLemmas.{begun-more, told-begun, tells-more, tells-same, told-more, told-same}
+use Rattle.afdx_acceptance.proofs.ToldLemmas.{begun-more, told-begun, tells-more, tells-same, told-more, told-rules, told-same}
 use Rattle.afdx_acceptance.proofs.judging.Judging.tell_due.Goals as goal
 
 pub returns-in_err-lines-clause-begun : goal.returns-in_err-lines-clause-begun
@@ -24,15 +24,15 @@ loop-lines-preserved g c = record {
   sound = c.in_ok-tell_lines.ensures.failed;
   settings = c.tell_lines.ensures.settings ∙ c.loop-lines.invariant.settings;
   told = λ k start frames h. told-more k start frames c.loop-lines.self c.tell_lines.new.self _ _ _
-      c.tell_lines.ensures.others.choices c.tell_lines.ensures.others.left_out c.tell_lines.ensures.others.latest
+      (told-rules c.tell_lines.ensures.others.streams c.take_before.ensures.rules) c.tell_lines.ensures.others.choices c.tell_lines.ensures.others.left_out c.tell_lines.ensures.others.latest
       c.in_ok-tell_lines.ensures.counted c.in_ok-tell_lines.ensures.told
       (c.loop-lines.invariant.told k start frames h);
   stands = λ k last time start frames up h.
       let old = c.loop-lines.invariant.stands k last time start frames up h in
       let l = c.in-Some.lines in (
         old.0 ++ c.as_slice.result.now,
-        tells-more k.1 start frames c.loop-lines.self c.tell_lines.new.self _ _ old.0 _
-            c.tell_lines.ensures.others.choices c.tell_lines.ensures.others.left_out c.tell_lines.ensures.others.latest
+        tells-more k start frames c.loop-lines.self c.tell_lines.new.self _ _ old.0 _
+            (told-rules c.tell_lines.ensures.others.streams c.take_before.ensures.rules) c.tell_lines.ensures.others.choices c.tell_lines.ensures.others.left_out c.tell_lines.ensures.others.latest
             c.in_ok-tell_lines.ensures.counted c.in_ok-tell_lines.ensures.told old.1,
         stands-to k frames last time c.loop-lines.self c.tell_lines.new.self old.0 c.as_slice.result.now
             (λ until dues s. (
@@ -53,7 +53,7 @@ loop-lines-preserved g c = record {
 
 pub returns-clause-told : goal.returns-clause-told
 returns-clause-told g c = λ k start frames h.
-    told-same k start frames c.loop-lines.self _ _ refl refl refl refl
+    told-same k start frames c.loop-lines.self _ _ c.take_before.ensures.rules refl refl refl refl
     (c.loop-lines.invariant.told k start frames h)
 
 pub returns-clause-stands : goal.returns-clause-stands
@@ -62,7 +62,7 @@ returns-clause-stands g c k last time to start frames le one said ends h =
     (λ none. subst (λ b. IsSomeUpTo to b) (sym (one none)) (omega arith))
     (h.0, h.1, stands-later k frames last last time to c.args.self.now h.0 le said ends h.2) in (
       old.0,
-      tells-same k.1 start frames c.loop-lines.self _ _ old.0 refl refl refl refl old.1,
+      tells-same k start frames c.loop-lines.self _ _ old.0 c.take_before.ensures.rules refl refl refl refl old.1,
       stands-same k frames last to c.loop-lines.self _ old.0
           (λ until dues s. (none-there c.in_ok-lines.field-0 c.in_default.is
           (c.in_ok-lines.ensures.none k.0 k.1 until to frames dues s)).0) c.take_before.ensures.ended refl old.2,

@@ -11,9 +11,9 @@ abbrev pub invariant-loop-lines : goal.invariant-loop-lines
 invariant-loop-lines g l = record {
   sound : g.O.Sink.failed l.output ≡ false;
   settings : g.O.Sink.settings l.output ≡ g.O.Sink.settings l.fn.output;
-  told : (c : Choices) (start : Option (List ℕ)) (frames : List Frame)
-      → HasTold c l.fn.self start (g.O.Sink.written l.fn.output) frames
-      → HasTold c l.self start (g.O.Sink.written l.output) frames;
+  told : (k : Rows × Choices) (start : Option (List ℕ)) (frames : List Frame)
+      → HasTold k l.fn.self start (g.O.Sink.written l.fn.output) frames
+      → HasTold k l.self start (g.O.Sink.written l.output) frames;
   stands : (k : Rows × Choices) (last : Bool) (time : ℕ) (start : Option (List ℕ)) (frames : List Frame)
       → (l.fn.self.streams.ended ≡ None → IsSomeUpTo time l.before)
       → TellsAll k last time l.fn.self start (g.O.Sink.written l.fn.output) frames

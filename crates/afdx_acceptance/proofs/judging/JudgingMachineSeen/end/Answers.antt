@@ -7,7 +7,7 @@ use Rattle.afdx_acceptance.proofs.judging.JudgingMachineSeen.end.Goals as goal
 
 pub returns-in_err-close_at_end-clause-begins : goal.returns-in_err-close_at_end-clause-begins
 returns-in_err-close_at_end-clause-begins g c = λ k start past h.
-    on-err c.from_residual.result _ (c.in_err-close_at_end.ensures.begun k.1 start (frames_of past) (h.0, h.1))
+    on-err c.from_residual.result _ (c.in_err-close_at_end.ensures.begun k start (frames_of past) (h.0, h.1))
 
 pub returns-clause-done : goal.returns-clause-done
 returns-clause-done g c = λ k start past h.
@@ -23,5 +23,5 @@ returns-clause-done g c = λ k start past h.
 
 pub returns-clause-begins : goal.returns-clause-begins
 returns-clause-begins g c = λ k start past h.
-    c.tell_due.ensures.begun k.1 start (frames_of past)
-    (c.in_ok-close_at_end.ensures.told k.1 start (frames_of past) (h.0, h.1))
+    c.tell_due.ensures.begun k start (frames_of past)
+    (c.in_ok-close_at_end.ensures.told k start (frames_of past) (h.0, h.1))

@@ -10,12 +10,12 @@ use Rattle.afdx_acceptance.proofs.judging.JudgingMachineSeen.tell.Goals as goal
 
 pub returns-in_err-reach-clause-begins : goal.returns-in_err-reach-clause-begins
 returns-in_err-reach-clause-begins g c = λ k start past h.
-    on-err c.from_residual.result _ (inl (c.in_err-reach.ensures.begun k.1 start (frames_of past) (h.0, h.1)))
+    on-err c.from_residual.result _ (inl (c.in_err-reach.ensures.begun k start (frames_of past) (h.0, h.1)))
 
 pub returns-in_err-take-clause-begins : goal.returns-in_err-take-clause-begins
 returns-in_err-take-clause-begins g c = λ k start past h.
-    on-err c.from_residual-in_err-take.result _ (inl (told-begun k.1 start _ (frames_of past) c.reach.new.self
-    (c.in_ok-reach.ensures.told k.1 start (frames_of past) (h.0, h.1))))
+    on-err c.from_residual-in_err-take.result _ (inl (told-begun k start _ (frames_of past) c.reach.new.self
+    (c.in_ok-reach.ensures.told k start (frames_of past) (h.0, h.1))))
 
 pub returns-clause-told : goal.returns-clause-told
 returns-clause-told g c = λ k start past h follows can.
@@ -24,9 +24,9 @@ returns-clause-told g c = λ k start past h follows can.
     let time = c.args.seen.now.heading.time in
     let latest : latest_of frames ≤ time = let o = follows.order in let l = latest-same past in omega (arith, o, l) in
     let mid = c.in_ok-reach.ensures.stands k (latest_of frames) start frames latest (omega arith) h in
-    let taken = c.in_ok-take.ensures.stands k frames mid.0 mid.1.choices_are latest (are-few past follows.few) mid.2 in (
+    let taken = c.in_ok-take.ensures.stands k frames mid.0 mid.1.tables_are mid.1.choices_are latest (are-few past follows.few) mid.2 in (
       mid.0,
-      tells-next k.1 start frames c.reach.new.self c.take.new.self _ _ mid.0 x c.take.ensures.others refl refl refl refl
+      tells-next k start frames c.reach.new.self c.take.new.self _ _ mid.0 x c.take.ensures.others refl refl refl refl refl
           (c.in_ok-take.ensures.counted frames) mid.1,
       stands-same k (x ∷ frames) false time c.take.new.self _ mid.0 (λ until dues s. s) refl refl taken,
     )
