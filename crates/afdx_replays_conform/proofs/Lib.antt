@@ -1,3 +1,4 @@
 pub mod ListLemmas
 pub mod AskedLemmas
 pub mod LeavingLemmas
+pub mod PromisedLemmas
