@@ -11,12 +11,11 @@ use Rattle.afdx_conform.specs.Leeway.{both_slacks}
 use Rattle.afdx_conform.specs.Right.{Asked, LeavesAs, LeavesLater, IsUnseen, EachLeaves, AllLeaveLater, IsRight}
 use Rattle.afdx_conform.specs.Streams.{Gone, Terms}
 use Rattle.afdx_replays_conform.proofs.AskedLemmas.{goes-on, ask, asks, first, spans, in_span, IsHarmless, accepted-by-time, asked-accepted, asks-by-clock, is-first}
-use Rattle.afdx_replays_conform.proofs.ListLemmas.{filter-none, filter-keeps}
+use Rattle.afdx_replays_conform.proofs.ListLemmas.{filter-none, filter-keeps, and-false, Descend}
 
 -- frames go by time
-unfoldable pub LeaveByTime : List Gone → Type 0
-LeaveByTime [] = Unit {0}
-LeaveByTime (y ∷ before) = AllByRecursion (λ w. w.time ≤ y.time) before × LeaveByTime before
+abbrev pub LeaveByTime : List Gone → Type 0
+LeaveByTime ys = Descend (λ y. y.time) ys
 
 module _ (z : Terms) where
   no-earlier : (x : Arrival) (y : Gone) → IsItsFrame z x y → x.time ≤ y.time
@@ -100,10 +99,6 @@ module _ (z : Terms) (ends : ℕ → Bool) (later : (m n : ℕ) → m ≤ n → 
       let above = ltb-false x.time (from_time z.by.start) late in
       rw (le-ltb (y.time + both_slacks z.by) (from_time z.by.start) (omega (arith, above, h)), off) refl
 
-  and-false : (b : Bool) → b && false ≡ false
-  and-false true = refl
-  and-false false = refl
-
   unseen-frame : (y : Gone) → ends y.time ≡ true → is_seen y ≡ false
   unseen-frame y e = rw e (and-false (not (nat_lt (y.time + both_slacks z.by) (from_time z.by.start))))
 
@@ -165,7 +160,7 @@ module _ (z : Terms) (ends : ℕ → Bool) (later : (m n : ℕ) → m ≤ n → 
 
   split : (xs : List Arrival) (ys : List Gone) → GoByTime xs → LeaveByTime ys → AreTheirFrames z xs ys
       → IsSplit (map ask (spanned xs)) (filter is_seen ys)
-  unfolding AreTheirFrames GoByTime LeaveByTime
+  unfolding AreTheirFrames GoByTime Descend
   split [] [] order leave are = nothing-left
   split [] (y ∷ ys) order leave are = absurd are
   split (x ∷ xs) [] order leave are = absurd are

@@ -1,7 +1,8 @@
 -- What is left of a list by a test.
-use Rattle.std.proofs.Common.{◌≡◌, Bool, true, false, ◌&&◌, List, [], ◌∷◌, map, refl, ap, inl, inr}
+use Rattle.std.proofs.Common.{◌≡◌, ℕ, ◌≤◌, Bool, true, false, ◌&&◌, List, [], ◌∷◌, map, refl, ap, inl, inr}
 use Rattle.std.specs.Prelude.{if◌then◌else◌, filter, ◌⊎◌}
 use Rattle.std.specs.List.{AllByRecursion}
+use Rattle.afdx_conform.proofs.EveryLemmas.{every-map}
 
 -- tests that agree leave the same
 pub filter-same : {X : Type 0} (p q : X → Bool) (xs : List X) → AllByRecursion (λ x. p x ≡ q x) xs
@@ -58,6 +59,10 @@ pub map-id : {X : Type 0} (f : X → X) → ((x : X) → f x ≡ x) → (xs : Li
 map-id f is [] = refl
 map-id {X} f is (x ∷ xs) = rw (is x) (ap (λ (l : List X). x ∷ l) (map-id f is xs))
 
+pub and-false : (b : Bool) → b && false ≡ false
+and-false true = refl
+and-false false = refl
+
 pub bool-cases : (b : Bool) → (b ≡ true) ⊎ (b ≡ false)
 bool-cases true = inl refl
 bool-cases false = inr refl
@@ -65,3 +70,40 @@ bool-cases false = inr refl
 pub not-both : (b : Bool) → b ≡ true → b ≡ false → ⊥
 not-both b p q = absurd (cc)
 
+pub filter-passes : {X : Type 0} (p : X → Bool) (xs : List X) → AllByRecursion (λ x. p x ≡ true) (filter p xs)
+filter-passes p [] = tt
+filter-passes p (x ∷ xs) = by (p x) refl (filter-passes p xs)
+  where
+    by : (b : Bool) → p x ≡ b → AllByRecursion (λ x. p x ≡ true) (filter p xs)
+        → AllByRecursion (λ x. p x ≡ true) (if b then x ∷ filter p xs else filter p xs)
+    by true e rest = (e, rest)
+    by false e rest = rest
+
+-- both hold of each
+pub both-hold : {X : Type 0} (P Q : X → Type 0) (xs : List X) → AllByRecursion P xs → AllByRecursion Q xs
+    → AllByRecursion (λ x. P x × Q x) xs
+both-hold P Q [] p q = tt
+both-hold P Q (x ∷ xs) p q = ((p.0, q.0), both-hold P Q xs p.1 q.1)
+
+-- ---- times that don't grow
+
+unfoldable pub Descend : {X : Type 0} → (X → ℕ) → List X → Type 0
+Descend time [] = Unit {0}
+Descend time (x ∷ before) = AllByRecursion (λ w. time w ≤ time x) before × Descend time before
+
+pub descend-filter : {X : Type 0} (time : X → ℕ) (p : X → Bool) (xs : List X) → Descend time xs → Descend time (filter p xs)
+unfolding Descend
+descend-filter time p [] h = tt
+descend-filter time p (x ∷ xs) h =
+    by (p x) (filter-keeps (λ w. time w ≤ time x) p xs h.0) (descend-filter time p xs h.1)
+  where
+    by : (b : Bool) → AllByRecursion (λ w. time w ≤ time x) (filter p xs) → Descend time (filter p xs)
+        → Descend time (if b then x ∷ filter p xs else filter p xs)
+    by true below rest = (below, rest)
+    by false below rest = rest
+
+pub descend-map : {X Y : Type 0} (f : X → Y) (time : Y → ℕ) (xs : List X) → Descend (λ x. time (f x)) xs
+    → Descend time (map f xs)
+unfolding Descend
+descend-map f time [] h = tt
+descend-map f time (x ∷ xs) h = (every-map (λ w. time w ≤ time (f x)) f xs h.0, descend-map f time xs h.1)

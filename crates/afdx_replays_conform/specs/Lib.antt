@@ -1,1 +1,3 @@
 pub mod Leaving
+pub mod Recorded
+pub mod Laws

@@ -1,0 +1,381 @@
+-- Each stream of what is recorded of a switch is that of a right switch. Lists have the newest first.
+use Rattle.std.proofs.Common.{◌≡◌, ℕ, suc, ◌+◌, ◌*◌, ◌≤◌, ◌<◌, ◌==◌, Bool, true, false, not, ◌&&◌, List, [], ◌∷◌, ◌++◌, length, map, reverse, refl, sym, ap, ◌∙◌, subst, arith, inl, inr}
+use Rattle.std.proofs.lemmas.Bool.{and_parts, eqb-true, lt-ltb, ltb-true, le-leb}
+use Rattle.std.proofs.lemmas.List.{reverse-append}
+use Rattle.std.specs.Prelude.{IsTrue, All, Option, Some, None, is_none, filter, nat_eq, nat_le, nat_lt, slice_get, if◌then◌else◌}
+use Rattle.std.specs.List.{AllByRecursion}
+use Rattle.std.specs.Option.{ForSome}
+use Rattle.afdx_frame.specs.Regulation.{is_bag, jitter_from_any}
+use Rattle.afdx_frame.specs.declared.link.Side.{Side}
+use Rattle.afdx_frame.proofs.ListLemmas.{AllByRecursion-slice_get}
+use Rattle.afdx_config.specs.Lawful.{IsLawfulSwitch, IsLinkUpTo}
+use Rattle.afdx_config.specs.Rows.{LinkRow, Rows}
+use Rattle.afdx_lists.specs.declared.role.Role.TheVariants.{Came, Left}
+use Rattle.afdx_lists.specs.declared.role.Role.{Role}
+use Rattle.afdx_inputs.specs.Joining.{Frame}
+use Rattle.afdx_police.specs.Arrival.{Arrival, is_side, names, own}
+use Rattle.afdx_police.specs.Rule.{Rule}
+use Rattle.afdx_police.specs.Shape.{fault_of}
+use Rattle.afdx_police.specs.Verdicts.{reason_after}
+use Rattle.afdx_police.specs.declared.shape.Reason.{Reason}
+use Rattle.afdx_police.proofs.ShapeLemmas.{faultless-is-sound}
+use Rattle.afdx_bounds.specs.Outputs.{AreTimed}
+use Rattle.afdx_bounds.specs.Tables.{rule_of, port_of, goes_to}
+use Rattle.afdx_promises.specs.Lines.{Leaving}
+use Rattle.afdx_promises.proofs.ListLemmas.{map-reverse}
+use Rattle.afdx_conform.specs.Events.{GoUp, frame_times}
+use Rattle.afdx_conform.specs.Headline.{sound_of, accepted_by_rule, GoByTime, AreTheirFrames}
+use Rattle.afdx_conform.specs.Histories.{uncut}
+use Rattle.afdx_conform.specs.LimitRanges.{most_bytes}
+use Rattle.afdx_conform.specs.Right.{Asked, IsRight}
+use Rattle.afdx_conform.specs.Streams.{Gone, Terms}
+use Rattle.afdx_conform.proofs.CutLemmas.{right_cut}
+use Rattle.afdx_conform.proofs.EveryLemmas.{every-append, every-on, every-reverse, every-unmap, reverse-first}
+use Rattle.afdx_acceptance.specs.Choices.{Choices, is_behind, is_in_time, is_passed, counts, counted}
+use Rattle.afdx_acceptance.specs.Frames.{arrivals_of, frames_of, gone_of, left_at, strangers_of, is_stranger, terms_at}
+use Rattle.afdx_acceptance.specs.RunLaws.{AreByTime, IsOfRight, AreOfRight}
+use Rattle.afdx_acceptance.specs.Tapped.{judged_to, is_of_came}
+use Rattle.afdx_replays_conform.specs.Leaving.{LeavesAsPromised, LeaveAsPromised}
+use Rattle.afdx_replays_conform.specs.Recorded.{AreRecorded, AreRecordsOf, left_among}
+use Rattle.afdx_replays_conform.proofs.AskedLemmas.{ask, asks, IsHarmless, accepted-keep}
+use Rattle.afdx_replays_conform.proofs.FrameLemmas.{IsJudgedOf, judged-of, leaves_out, came-passed, left-passed, asks_of, came_of, arrivals-are, left_here, all_gone, frames-are, gone-are, left-descend, side-here, none-strange}
+use Rattle.afdx_replays_conform.proofs.LeavingLemmas.{is_seen, stream-right}
+use Rattle.afdx_replays_conform.proofs.ListLemmas.{filter-same, filter-map, filter-none, filter-keeps, filter-passes, both-hold, map-id, Descend, descend-filter, descend-map, bool-cases, and-false}
+use Rattle.afdx_replays_conform.proofs.PromisedLemmas.{stream-frames}
+
+-- ---- times
+
+timed-go : (xs : List Arrival) → AreTimed xs → GoByTime xs
+unfolding GoByTime
+timed-go [] h = tt
+timed-go (x ∷ past) h = (all-in past h.0, timed-go past h.1)
+  where
+    all-in : (ws : List Arrival) → All (λ w. w.time ≤ x.time) ws → AllByRecursion (λ w. w.time ≤ x.time) ws
+    all-in [] k = tt
+    all-in (w ∷ ws) k = (k 0 w (omega arith), all-in ws (λ i d below. k (suc i) d (omega (arith, below))))
+
+own-go : (p : Arrival → Bool) (xs : List Arrival) → GoByTime xs → GoByTime (filter p xs)
+unfolding GoByTime
+own-go p [] h = tt
+own-go p (x ∷ xs) h = by (p x) (filter-keeps (λ (w : Arrival). w.time ≤ x.time) p xs h.0) (own-go p xs h.1)
+  where
+    by : (b : Bool) → AllByRecursion (λ w. w.time ≤ x.time) (filter p xs) → GoByTime (filter p xs)
+        → GoByTime (if b then x ∷ filter p xs else filter p xs)
+    by true below rest = (below, rest)
+    by false below rest = rest
+
+go-up-push : (ns : List ℕ) (n : ℕ) → GoUp ns → AllByRecursion (λ m. m ≤ n) ns → GoUp (ns ++ (n ∷ []))
+unfolding GoUp
+go-up-push [] n h all = (tt, tt)
+go-up-push (m ∷ ns) n h all =
+    (every-append (λ k. m ≤ k) ns (n ∷ []) h.0 (all.0, tt), go-up-push ns n h.1 all.1)
+
+go-up-back : (ys : List Gone) → Descend (λ y. y.time) ys → GoUp (reverse (map (λ y. y.time) ys))
+unfolding GoUp Descend
+go-up-back [] h = tt
+go-up-back (y ∷ ys) h =
+    subst (λ (ns : List ℕ). GoUp ns) (sym (reverse-first y.time (map (λ y. y.time) ys)))
+    (go-up-push (reverse (map (λ y. y.time) ys)) y.time (go-up-back ys h.1)
+    (every-reverse (λ m. m ≤ y.time) (map (λ y. y.time) ys) (times ys h.0)))
+  where
+    times : (zs : List Gone) → AllByRecursion (λ w. w.time ≤ y.time) zs
+        → AllByRecursion (λ m. m ≤ y.time) (map (λ y. y.time) zs)
+    times [] all = tt
+    times (z ∷ zs) all = (all.0, times zs all.1)
+
+frames-up : (ys : List Gone) → Descend (λ y. y.time) ys → GoUp (frame_times (reverse ys))
+frames-up ys h = subst (λ (ns : List ℕ). GoUp ns) (sym (map-reverse (λ (y : Gone). y.time) ys)) (go-up-back ys h)
+
+-- the end that is said
+later-ends : (o : Option ℕ) (m n : ℕ) → m ≤ n → is_behind m o ≡ true → is_behind n o ≡ true
+later-ends None m n h e = absurd (cc e)
+later-ends (Some end) m n h e = let past = ltb-true end m e in lt-ltb end n (omega (arith, past, h))
+
+behind-end : (o : Option ℕ) (until : ℕ) → ForSome o (λ end. until ≡ end) → (n : ℕ) → is_behind n o ≡ true → until < n
+behind-end None until at n e = absurd (cc e)
+behind-end (Some end) until at n e =
+    let past = ltb-true end n e in let same : until ≡ end = at end refl in omega (arith, past, same)
+
+-- ---- one stream
+
+faulted : (rule : Rule) (past : List Arrival) (x : Arrival) (why : Reason) → fault_of (Some rule) x.port x.bytes ≡ Some why
+    → reason_after rule past x ≡ Some why
+unfolding reason_after
+faulted rule past x why g = rw g refl
+
+-- what a rule accepts has the right shape
+accepted-shape : (rule : Rule) (xs : List Arrival)
+    → AllByRecursion (λ x. fault_of (Some rule) x.port x.bytes ≡ None) (accepted_by_rule rule xs)
+unfolding accepted_by_rule
+accepted-shape rule [] = tt
+accepted-shape rule (x ∷ past) = by (reason_after rule past x) refl (fault_of (Some rule) x.port x.bytes) refl (accepted-shape rule past)
+  where
+    by : (o : Option Reason) → reason_after rule past x ≡ o → (f : Option Reason) → fault_of (Some rule) x.port x.bytes ≡ f
+        → AllByRecursion (λ x. fault_of (Some rule) x.port x.bytes ≡ None) (accepted_by_rule rule past)
+        → AllByRecursion (λ x. fault_of (Some rule) x.port x.bytes ≡ None)
+        (if is_none o then x ∷ accepted_by_rule rule past else accepted_by_rule rule past)
+    by (Some why) e f g rest = rest
+    by None e None g rest = (g, rest)
+    by None e (Some why) g rest = absurd (let reason = faulted rule past x why g in cc (reason, e))
+
+-- so its frames are short
+short-frames : (z : Terms) (xs : List Arrival) (ys : List Gone)
+    → AllByRecursion (λ x. fault_of (Some z.rule) x.port x.bytes ≡ None) xs → AreTheirFrames z xs ys
+    → AllByRecursion (λ y. nat_le (length y.bytes) most_bytes ≡ true) ys
+unfolding AreTheirFrames
+short-frames z [] [] all are = tt
+short-frames z [] (y ∷ ys) all are = absurd are
+short-frames z (x ∷ xs) [] all are = tt
+short-frames z (x ∷ xs) (y ∷ ys) all are =
+    let longest = ((faultless-is-sound z.rule x.port x.bytes).0 all.0).longest in
+    let same : length x.bytes ≡ length y.bytes = ap (λ (b : List ℕ). length b) are.0.bytes in
+    (le-leb (length y.bytes) most_bytes (omega (arith, longest, same)), short-frames z xs ys all.1 are.1)
+
+module _ (t : Rows) (c : Choices) (until : ℕ) (lawful : IsLawfulSwitch t) (arrivals : List Arrival)
+    (timed : AreTimed arrivals) (left : List Leaving) (promised : LeaveAsPromised t arrivals left) (frames : List Frame)
+    (recorded : AreRecorded c.taps arrivals left frames) (ended : ForSome c.until (λ end. until ≡ end)) where
+  module _ (side : Side) (place port : ℕ) (l : LinkRow) (is : IsJudgedOf t c.taps side place port l) where
+    abbrev z : Terms
+    z = terms_at t c until l port
+
+    abbrev ends : ℕ → Bool
+    ends n = is_behind n c.until
+
+    abbrev asks_it : Arrival → Bool
+    asks_it x = asks_of t c lawful side place port l is x
+
+    abbrev gone : List Gone
+    gone = map gone_of (all_gone t c lawful side place port l is frames)
+
+    bag-is : IsTrue (is_bag z.rule.bag_ms)
+    unfolding rule_of
+    bag-is = (AllByRecursion-slice_get (IsLinkUpTo jitter_from_any (length t.systems)) t.links place l lawful.links.each is.stands).bag_ms
+
+    rule-port : (rule_of t l).port ≡ port_of t l.from
+    unfolding rule_of
+    rule-port = refl
+
+    own-named : AllByRecursion (λ x. (is_side side x.side && names l.vl x.bytes) ≡ true) (own l.vl side arrivals)
+    own-named = filter-passes (λ x. is_side side x.side && names l.vl x.bytes) arrivals
+
+    -- ---- the link isn't left out
+    module _ (stays : leaves_out c l.vl ≡ false) where
+      one-harmless : (x : Arrival) → (is_side side x.side && names l.vl x.bytes) ≡ true
+          → fault_of (Some z.rule) x.port x.bytes ≡ None → asks_it x ≡ true
+      one-harmless x named sound =
+          let parts = and_parts (is_side side x.side) (names l.vl x.bytes) named in
+          let shape = (faultless-is-sound (rule_of t l) x.port x.bytes).0 sound in
+          let there : side ≡ x.side = side-here side x.side parts.0 in
+          let here : x.port ≡ port_of t l.from = sym shape.at_port ∙ rule-port in
+          let longest = shape.longest in
+          rw (came-passed t c lawful side place port l is x parts.1, stays, sym there, here, is.heard,
+          le-leb (length x.bytes) most_bytes (omega (arith, longest))) refl
+
+      harmless : (xs : List Arrival) → AllByRecursion (λ x. (is_side side x.side && names l.vl x.bytes) ≡ true) xs
+          → AllByRecursion (λ x. fault_of (Some z.rule) x.port x.bytes ≡ None → asks_it x ≡ true) xs
+      harmless [] all = tt
+      harmless (x ∷ xs) all = (one-harmless x all.0, harmless xs all.1)
+
+      frames-of : AreTheirFrames z (accepted_by_rule z.rule (own l.vl side arrivals)) gone
+      frames-of = stream-frames t lawful side port place l is.stands is.goes z refl refl refl arrivals left gone promised
+          (gone-are t c lawful side place port l is left frames recorded.left_are)
+
+      gone-descend : Descend (λ (y : Gone). y.time) gone
+      gone-descend =
+          descend-map gone_of (λ (y : Gone). y.time) (all_gone t c lawful side place port l is frames)
+          (descend-filter (λ (x : Arrival). x.time) (λ x. left_here t c lawful side place port l is x) (left_among frames)
+          (left-descend frames recorded.by_time))
+
+      right-all : IsRight z (asks z ends (later-ends c.until) asks_it (own l.vl side arrivals))
+          (filter (is_seen z ends (later-ends c.until) (behind-end c.until until ended) asks_it) gone)
+      right-all = stream-right z ends (later-ends c.until) (behind-end c.until until ended) asks_it
+          (own l.vl side arrivals) gone bag-is
+          (own-go (λ x. is_side side x.side && names l.vl x.bytes) arrivals (timed-go arrivals timed)) gone-descend
+          (harmless (own l.vl side arrivals) own-named) frames-of
+
+      one-seen : (y : Arrival) → left_here t c lawful side place port l is y ≡ true
+          → nat_le (length y.bytes) most_bytes ≡ true
+          → counts t c (record { role = Left; arrival = y })
+          ≡ is_seen z ends (later-ends c.until) (behind-end c.until until ended) asks_it (gone_of y)
+      unfolding counts
+      one-seen y here short =
+          let parts = and_parts (is_side y.side side && nat_eq y.port port) (names l.vl y.bytes) here in
+          let at = and_parts (is_side y.side side) (nat_eq y.port port) parts.0 in
+          rw (left-passed t c lawful side place port l is y at.0 parts.1, stays, short)
+          (and-true (is_in_time c (record { role = Left; arrival = y })))
+        where
+          and-true : (b : Bool) → (b && true && true) ≡ b
+          and-true true = refl
+          and-true false = refl
+
+      all-seen : (ys : List Arrival)
+          → AllByRecursion (λ y. (left_here t c lawful side place port l is y ≡ true)
+          × (nat_le (length y.bytes) most_bytes ≡ true)) ys
+          → AllByRecursion (λ y. counts t c (record { role = Left; arrival = y })
+          ≡ is_seen z ends (later-ends c.until) (behind-end c.until until ended) asks_it (gone_of y)) ys
+      all-seen [] all = tt
+      all-seen (y ∷ ys) all = (one-seen y all.0.0 all.0.1, all-seen ys all.1)
+
+      frames-seen : frames_of t c l.vl side port frames
+          ≡ filter (is_seen z ends (later-ends c.until) (behind-end c.until until ended) asks_it) gone
+      frames-seen =
+          let ys = all_gone t c lawful side place port l is frames in
+          let seen = is_seen z ends (later-ends c.until) (behind-end c.until until ended) asks_it in
+          let short = every-unmap (λ (y : Gone). nat_le (length y.bytes) most_bytes ≡ true) gone_of ys
+          (short-frames z (accepted_by_rule z.rule (own l.vl side arrivals)) gone
+          (accepted-shape z.rule (own l.vl side arrivals)) frames-of) in
+          frames-are t c lawful side place port l is frames
+          ∙ ap (λ (l : List Arrival). map gone_of l)
+          (filter-same (λ y. counts t c (record { role = Left; arrival = y })) (λ y. seen (gone_of y)) ys
+          (all-seen ys (both-hold (λ y. left_here t c lawful side place port l is y ≡ true)
+          (λ y. nat_le (length y.bytes) most_bytes ≡ true) ys
+          (filter-passes (λ y. left_here t c lawful side place port l is y) (left_among frames)) short)))
+          ∙ sym (filter-map seen gone_of ys)
+
+      right-here : IsOfRight z (sound_of z.rule (arrivals_of t c l.vl side frames)) (uncut z (frames_of t c l.vl side port frames))
+      right-here = record {
+        asked = asks z ends (later-ends c.until) asks_it (own l.vl side arrivals);
+        arrivals = asked-arrivals (sound_of z.rule (filter (came_of t c lawful side place port l is) (own l.vl side arrivals)))
+            ∙ ap (λ (xs : List Arrival). sound_of z.rule xs)
+            (sym (arrivals-are t c lawful side place port l is arrivals frames recorded.came_are));
+        is_right = subst (λ (ys : List Gone). IsRight z (asks z ends (later-ends c.until) asks_it (own l.vl side arrivals))
+            (uncut z ys)) (sym frames-seen)
+            (right_cut z (asks z ends (later-ends c.until) asks_it (own l.vl side arrivals))
+            (filter (is_seen z ends (later-ends c.until) (behind-end c.until until ended) asks_it) gone)
+            (frames-up (filter (is_seen z ends (later-ends c.until) (behind-end c.until until ended) asks_it) gone)
+            (descend-filter (λ (y : Gone). y.time) (is_seen z ends (later-ends c.until) (behind-end c.until until ended) asks_it)
+            gone gone-descend)) right-all);
+      }
+        where
+          asked-arrivals : (xs : List Arrival) → map (λ (x : Asked). x.arrival) (map ask xs) ≡ xs
+          asked-arrivals [] = refl
+          asked-arrivals (x ∷ xs) = ap (λ (l : List Arrival). x ∷ l) (asked-arrivals xs)
+
+    -- ---- the link is left out
+    module _ (goes_out : leaves_out c l.vl ≡ true) where
+      none-came : (xs : List Arrival) → AllByRecursion (λ x. (is_side side x.side && names l.vl x.bytes) ≡ true) xs
+          → AllByRecursion (λ x. came_of t c lawful side place port l is x ≡ false) xs
+      none-came [] all = tt
+      none-came (x ∷ xs) all =
+          let parts = and_parts (is_side side x.side) (names l.vl x.bytes) all.0 in
+          (rw (came-passed t c lawful side place port l is x parts.1, goes_out)
+          (ends-false (is_in_time c (record { role = Came; arrival = x })) (c.taps Came x.side x.port)), none-came xs all.1)
+        where
+          ends-false : (a b : Bool) → (a && (b && false)) ≡ false
+          ends-false true true = refl
+          ends-false true false = refl
+          ends-false false b = refl
+
+      none-left : (ys : List Arrival) → AllByRecursion (λ y. left_here t c lawful side place port l is y ≡ true) ys
+          → AllByRecursion (λ y. counts t c (record { role = Left; arrival = y }) ≡ false) ys
+      unfolding counts
+      none-left [] all = tt
+      none-left (y ∷ ys) all =
+          let parts = and_parts (is_side y.side side && nat_eq y.port port) (names l.vl y.bytes) all.0 in
+          let at = and_parts (is_side y.side side) (nat_eq y.port port) parts.0 in
+          (rw (left-passed t c lawful side place port l is y at.0 parts.1, goes_out)
+          (ends-false (is_in_time c (record { role = Left; arrival = y })) (nat_le (length y.bytes) most_bytes)), none-left ys all.1)
+        where
+          ends-false : (a b : Bool) → (a && false && b) ≡ false
+          ends-false true b = refl
+          ends-false false b = refl
+
+      no-arrivals : arrivals_of t c l.vl side frames ≡ []
+      no-arrivals = arrivals-are t c lawful side place port l is arrivals frames recorded.came_are
+          ∙ filter-none (came_of t c lawful side place port l is) (own l.vl side arrivals)
+          (none-came (own l.vl side arrivals) own-named)
+
+      no-frames : frames_of t c l.vl side port frames ≡ []
+      no-frames =
+          let ys = all_gone t c lawful side place port l is frames in
+          frames-are t c lawful side place port l is frames
+          ∙ ap (λ (l : List Arrival). map gone_of l)
+          (filter-none (λ y. counts t c (record { role = Left; arrival = y })) ys
+          (none-left ys (filter-passes (λ y. left_here t c lawful side place port l is y) (left_among frames))))
+
+      nothing-there : AreTheirFrames z (accepted_by_rule z.rule []) []
+      unfolding AreTheirFrames accepted_by_rule
+      nothing-there = tt
+
+      nothing-goes : GoByTime []
+      unfolding GoByTime
+      nothing-goes = tt
+
+      nothing-leaves : Descend (λ (y : Gone). y.time) []
+      unfolding Descend
+      nothing-leaves = tt
+
+      nothing-right : IsRight z (asks z ends (later-ends c.until) asks_it []) []
+      nothing-right = stream-right z ends (later-ends c.until) (behind-end c.until until ended) asks_it [] [] bag-is
+          nothing-goes nothing-leaves tt nothing-there
+
+      nothing-asked : map (λ (x : Asked). x.arrival) (asks z ends (later-ends c.until) asks_it []) ≡ sound_of z.rule []
+      unfolding sound_of
+      nothing-asked = refl
+
+      right-none : IsOfRight z (sound_of z.rule (arrivals_of t c l.vl side frames)) (uncut z (frames_of t c l.vl side port frames))
+      right-none = record {
+        asked = asks z ends (later-ends c.until) asks_it [];
+        arrivals = nothing-asked ∙ ap (λ (xs : List Arrival). sound_of z.rule xs) (sym no-arrivals);
+        is_right = subst (λ (ys : List Gone). IsRight z (asks z ends (later-ends c.until) asks_it []) (uncut z ys))
+            (sym no-frames) nothing-right;
+      }
+
+  one-right : (side : Side) (place port : ℕ) (l : LinkRow) → judged_to t c.taps side place port ≡ Some l
+      → IsOfRight (terms_at t c until l port) (sound_of (rule_of t l) (arrivals_of t c l.vl side frames))
+      (uncut (terms_at t c until l port) (frames_of t c l.vl side port frames))
+  one-right side place port l h =
+      let is = judged-of t c.taps side place port l h in
+      elim (bool-cases (leaves_out c l.vl)) [
+        | inl out ↦ right-none side place port l is out
+        | inr stays ↦ right-here side place port l is stays
+      ]
+
+  -- ---- no frame is of no stream
+
+  strange-none : (ds : List Leaving) (ys : List Arrival) → AllByRecursion (LeavesAsPromised t) ds → AreRecordsOf ds ys
+      → AllByRecursion (λ y. is_stranger t y ≡ false) ys
+  unfolding AreRecordsOf
+  strange-none [] [] all are = tt
+  strange-none [] (y ∷ ys) all are = absurd are
+  strange-none (d ∷ ds) [] all are = tt
+  strange-none (d ∷ ds) (y ∷ ys) all are =
+      let at = all.0 in
+      let named : names at.link.vl y.bytes ≡ true = ap (λ (b : List ℕ). names at.link.vl b) are.0.bytes ∙ at.named in
+      let goes : goes_to t at.link y.port ≡ true = ap (λ (n : ℕ). goes_to t at.link n) are.0.port ∙ at.goes in
+      (none-strange t lawful at.place at.link at.stands y named goes, strange-none ds ys all.1 are.1)
+
+  strange-frames : (side : Side) (port : ℕ) (fs : List Frame) → AllByRecursion (λ y. is_stranger t y ≡ false) (left_among fs)
+      → AllByRecursion (λ x. (left_at side port x && is_stranger t x.arrival) ≡ false) fs
+  unfolding left_at
+  strange-frames side port [] all = tt
+  strange-frames side port (x ∷ fs) all = by x.role x.arrival all (λ rest. strange-frames side port fs rest)
+    where
+      by : (role : Role) (a : Arrival)
+          → AllByRecursion (λ y. is_stranger t y ≡ false)
+          (map (λ x. x.arrival) (if not (is_of_came role)
+          then record { role = role; arrival = a } ∷ filter (λ x. not (is_of_came x.role)) fs
+          else filter (λ x. not (is_of_came x.role)) fs))
+          → (AllByRecursion (λ y. is_stranger t y ≡ false) (left_among fs)
+          → AllByRecursion (λ x. (left_at side port x && is_stranger t x.arrival) ≡ false) fs)
+          → AllByRecursion (λ x. (left_at side port x && is_stranger t x.arrival) ≡ false)
+          (record { role = role; arrival = a } ∷ fs)
+      by Came a all later = (refl, later all)
+      by Left a all later =
+          (rw all.0 (and-false ((is_side a.side side) && nat_eq a.port port)), later all.1)
+
+  no-strangers : (side : Side) (port : ℕ) → strangers_of t c side port frames ≡ []
+  no-strangers side port =
+      ap (λ (fs : List Frame). map (λ x. x.arrival) fs)
+      (filter-none (λ x. left_at side port x && is_stranger t x.arrival) (counted t c frames)
+      (filter-keeps (λ (x : Frame). (left_at side port x && is_stranger t x.arrival) ≡ false) (counts t c) frames
+      (strange-frames side port frames
+      (strange-none (filter (λ d. c.taps Left d.side d.port) left) (left_among frames)
+      (filter-keeps (LeavesAsPromised t) (λ d. c.taps Left d.side d.port) left promised.each) recorded.left_are))))
+
+  -- what is recorded is of a right switch
+  pub are-right : AreOfRight t c until frames
+  are-right = record {
+    none_strange = λ side port below. no-strangers side port;
+    streams = λ side place port l h. one-right side place port l h;
+  }

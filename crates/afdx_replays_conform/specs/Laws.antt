@@ -1,0 +1,87 @@
+-- What a replay tells conforms. Lists have the newest first.
+use Rattle.std.specs.Prelude.{◌≡◌, ℕ, List, []}
+use Rattle.std.specs.Option.{ForSome}
+use Rattle.afdx_config.specs.Lawful.{IsLawfulSwitch}
+use Rattle.afdx_config.specs.Rows.{Rows}
+use Rattle.afdx_conform.specs.Leeways.{IsLeeway}
+use Rattle.afdx_inputs.specs.Joining.{Frame}
+use Rattle.afdx_police.specs.Arrival.{Arrival}
+use Rattle.afdx_bounds.specs.Outputs.{AreTimed}
+use Rattle.afdx_switch.specs.Admitted.{IsAdmittedRun}
+use Rattle.afdx_promises.specs.Lines.{Leaving, Line, left_in}
+use Rattle.afdx_promises.specs.Promises.{KeepsPromises, told}
+use Rattle.afdx_acceptance.specs.Choices.{Choices, until_or}
+use Rattle.afdx_acceptance.specs.Lines.{AreLines, Due}
+use Rattle.afdx_acceptance.specs.RunLaws.{AreOfRight, IsExactBy, NothingIsFound}
+use Rattle.afdx_replays_conform.specs.Leaving.{LeaveAsPromised}
+use Rattle.afdx_replays_conform.specs.Recorded.{AreRecorded}
+
+-- lines that keep the promises, as those of a replay of admitted tables do, tell of frames that
+-- leave as promised
+abbrev pub ToldLeaveAsPromised : Type 0
+ToldLeaveAsPromised =
+    (t : Rows) (arrivals : List Arrival) (lines : List Line) →
+    IsLawfulSwitch t →
+    KeepsPromises t arrivals lines →
+    LeaveAsPromised t arrivals (left_in lines)
+
+-- what is recorded of a switch whose frames leave as promised is that of a right switch, whatever
+-- is asked: leeway, start, end, links that are left out, and recorded ports
+abbrev pub PromisedIsRight : Type 0
+PromisedIsRight =
+    (t : Rows) (c : Choices) (until : ℕ) (arrivals : List Arrival) (left : List Leaving)
+    (frames : List Frame) →
+    IsLawfulSwitch t →
+    AreTimed arrivals →
+    LeaveAsPromised t arrivals left →
+    AreRecorded c.taps arrivals left frames →
+    ForSome c.until (λ end. until ≡ end) →
+    AreOfRight t c until frames
+
+-- ---- so it conforms
+
+-- what is asked of a recording of arrivals and of these frames that left, and the lines of it
+pub record AreLinesOf (t : Rows) (c : Choices) (arrivals : List Arrival) (left : List Leaving)
+    (frames : List Frame) (lines : List Due) : Type 0 where
+  pub leeway : IsLeeway c.by
+  pub recorded : AreRecorded c.taps arrivals left frames
+  pub are_lines : AreLines t c (until_or c.until frames) frames lines
+
+-- no line is a finding
+abbrev pub PromisedConforms : Type 0
+PromisedConforms =
+    (t : Rows) (c : Choices) (arrivals : List Arrival) (left : List Leaving) (frames : List Frame)
+    (lines : List Due) →
+    IsLawfulSwitch t →
+    AreTimed arrivals →
+    LeaveAsPromised t arrivals left →
+    AreLinesOf t c arrivals left frames lines →
+    NothingIsFound lines
+
+-- and with exact stamps and clocks, from a reset on, there is no line at all
+abbrev pub PromisedConformsExactly : Type 0
+PromisedConformsExactly =
+    (t : Rows) (c : Choices) (arrivals : List Arrival) (left : List Leaving) (frames : List Frame)
+    (lines : List Due) →
+    IsLawfulSwitch t →
+    AreTimed arrivals →
+    LeaveAsPromised t arrivals left →
+    IsExactBy c.by →
+    AreLinesOf t c arrivals left frames lines →
+    lines ≡ []
+
+-- so it is with the frames that the lines of a replay of admitted tables tell of
+abbrev pub ReplaysConform : Type 0
+ReplaysConform =
+    (t : Rows) (c : Choices) (arrivals : List Arrival) (frames : List Frame) (lines : List Due) →
+    IsAdmittedRun t arrivals →
+    AreLinesOf t c arrivals (left_in (told t arrivals)) frames lines →
+    NothingIsFound lines
+
+abbrev pub ReplaysConformExactly : Type 0
+ReplaysConformExactly =
+    (t : Rows) (c : Choices) (arrivals : List Arrival) (frames : List Frame) (lines : List Due) →
+    IsAdmittedRun t arrivals →
+    IsExactBy c.by →
+    AreLinesOf t c arrivals (left_in (told t arrivals)) frames lines →
+    lines ≡ []
