@@ -4,8 +4,8 @@
 -- For every admitted configuration and every timed frame list, each virtual link's verdicts, and
 -- its frames that leave each switch port, in order, are the window rule's answer on that link's
 -- own arrivals alone; every accepted frame leaves each of its ports within the link's configured
--- latency, and no sooner than its time on the wire after it came; and what a receiver delivers on a link is the integrity and redundancy rules' answer
--- on that link's arrivals there alone.
+-- latency, and no sooner than its time on the wire after it came; and what a receiver delivers on a
+-- link is the integrity and redundancy rules' answer on that link's arrivals there alone.
 use Rattle.std.specs.Prelude.{◌≡◌, ℕ, ◌+◌, ◌*◌, ◌<◌, ◌≤◌, true, false, if◌then◌else◌, Some, None, max, List, [], ◌++◌, filter, length, map, reverse, slice_get, take}
 use Rattle.afdx_frame.specs.declared.link.Side.{Side}
 use Rattle.afdx_frame.specs.declared.link.Side.TheVariants.{A, B}
