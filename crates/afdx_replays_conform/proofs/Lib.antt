@@ -5,3 +5,4 @@ pub mod PromisedLemmas
 pub mod FrameLemmas
 pub mod StreamLemmas
 pub mod ConformLemmas
+pub mod JoinedLemmas

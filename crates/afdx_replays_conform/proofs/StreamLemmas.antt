@@ -30,7 +30,7 @@ use Rattle.afdx_conform.specs.LimitRanges.{most_bytes}
 use Rattle.afdx_conform.specs.Right.{Asked, IsRight}
 use Rattle.afdx_conform.specs.Streams.{Gone, Terms}
 use Rattle.afdx_conform.proofs.CutLemmas.{right_cut}
-use Rattle.afdx_conform.proofs.EveryLemmas.{every-append, every-on, every-reverse, every-unmap, reverse-first}
+use Rattle.afdx_conform.proofs.EveryLemmas.{every-append, every-map, every-on, every-reverse, every-unmap, reverse-first}
 use Rattle.afdx_acceptance.specs.Choices.{Choices, is_behind, is_in_time, is_passed, counts, counted}
 use Rattle.afdx_acceptance.specs.Frames.{arrivals_of, frames_of, gone_of, left_at, strangers_of, is_stranger, terms_at}
 use Rattle.afdx_acceptance.specs.RunLaws.{AreByTime, IsOfRight, AreOfRight}
@@ -54,6 +54,14 @@ timed-go (x ∷ past) h = (all-in past h.0, timed-go past h.1)
     all-in [] k = tt
     all-in (w ∷ ws) k = (k 0 w (omega arith), all-in ws (λ i d below. k (suc i) d (omega (arith, below))))
 
+pub timed-descend : (xs : List Arrival) → AreTimed xs → Descend (λ (x : Arrival). x.time) xs
+unfolding Descend GoByTime
+timed-descend xs h = by xs (timed-go xs h)
+  where
+    by : (ws : List Arrival) → GoByTime ws → Descend (λ (x : Arrival). x.time) ws
+    by [] k = tt
+    by (w ∷ ws) k = (k.0, by ws k.1)
+
 own-go : (p : Arrival → Bool) (xs : List Arrival) → GoByTime xs → GoByTime (filter p xs)
 unfolding GoByTime
 own-go p [] h = tt
@@ -70,21 +78,20 @@ go-up-push [] n h all = (tt, tt)
 go-up-push (m ∷ ns) n h all =
     (every-append (λ k. m ≤ k) ns (n ∷ []) h.0 (all.0, tt), go-up-push ns n h.1 all.1)
 
-go-up-back : (ys : List Gone) → Descend (λ y. y.time) ys → GoUp (reverse (map (λ y. y.time) ys))
+go-up-back : {X : Type 0} (time : X → ℕ) (xs : List X) → Descend time xs → GoUp (reverse (map time xs))
 unfolding GoUp Descend
-go-up-back [] h = tt
-go-up-back (y ∷ ys) h =
-    subst (λ (ns : List ℕ). GoUp ns) (sym (reverse-first y.time (map (λ y. y.time) ys)))
-    (go-up-push (reverse (map (λ y. y.time) ys)) y.time (go-up-back ys h.1)
-    (every-reverse (λ m. m ≤ y.time) (map (λ y. y.time) ys) (times ys h.0)))
-  where
-    times : (zs : List Gone) → AllByRecursion (λ w. w.time ≤ y.time) zs
-        → AllByRecursion (λ m. m ≤ y.time) (map (λ y. y.time) zs)
-    times [] all = tt
-    times (z ∷ zs) all = (all.0, times zs all.1)
+go-up-back time [] h = tt
+go-up-back {X} time (x ∷ xs) h =
+    subst (λ (ns : List ℕ). GoUp ns) (sym (reverse-first (time x) (map time xs)))
+    (go-up-push (reverse (map time xs)) (time x) (go-up-back time xs h.1)
+    (every-reverse (λ m. m ≤ time x) (map time xs) (every-map (λ m. m ≤ time x) time xs h.0)))
+
+pub go-up-list : (xs : List Arrival) → Descend (λ x. x.time) xs → GoUp (map (λ x. x.time) (reverse xs))
+go-up-list xs h =
+    subst (λ (ns : List ℕ). GoUp ns) (sym (map-reverse (λ (x : Arrival). x.time) xs)) (go-up-back (λ x. x.time) xs h)
 
 frames-up : (ys : List Gone) → Descend (λ y. y.time) ys → GoUp (frame_times (reverse ys))
-frames-up ys h = subst (λ (ns : List ℕ). GoUp ns) (sym (map-reverse (λ (y : Gone). y.time) ys)) (go-up-back ys h)
+frames-up ys h = subst (λ (ns : List ℕ). GoUp ns) (sym (map-reverse (λ (y : Gone). y.time) ys)) (go-up-back (λ (y : Gone). y.time) ys h)
 
 -- the end that is said
 later-ends : (o : Option ℕ) (m n : ℕ) → m ≤ n → is_behind m o ≡ true → is_behind n o ≡ true

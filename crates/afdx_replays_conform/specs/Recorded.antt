@@ -1,10 +1,11 @@
 -- What is recorded of a switch: the frames that came in at it and those that left it, as one list.
 -- Lists have the newest first.
-use Rattle.std.specs.Prelude.{◌≡◌, ℕ, Bool, not, List, [], ◌∷◌, filter, map}
+use Rattle.std.specs.Prelude.{◌≡◌, ℕ, ◌≤◌, Bool, not, None, List, [], ◌∷◌, filter, map, reverse}
+use Rattle.std.specs.List.{AllByRecursion}
 use Rattle.afdx_frame.specs.declared.link.Side.{Side}
 use Rattle.afdx_lists.specs.declared.role.Role.{Role}
 use Rattle.afdx_lists.specs.declared.role.Role.TheVariants.{Came, Left}
-use Rattle.afdx_inputs.specs.Joining.{Frame}
+use Rattle.afdx_inputs.specs.Joining.{Coming, Frame, joined}
 use Rattle.afdx_police.specs.Arrival.{Arrival}
 use Rattle.afdx_promises.specs.Lines.{Leaving}
 use Rattle.afdx_acceptance.specs.RunLaws.{AreByTime}
@@ -37,3 +38,18 @@ pub record AreRecorded (taps : Taps) (arrivals : List Arrival) (left : List Leav
   pub came_are : came_among frames ≡ filter (λ x. taps Came x.side x.port) arrivals
   pub left_are : AreRecordsOf (filter (λ d. taps Left d.side d.port) left) (left_among frames)
   pub by_time : AreByTime frames
+
+-- ---- two lists
+
+-- frames leave one after another
+unfoldable pub LeaveInOrder : List Leaving → Type 0
+LeaveInOrder [] = Unit {0}
+LeaveInOrder (d ∷ before) = AllByRecursion (λ e. e.time ≤ d.time) before × LeaveInOrder before
+
+-- what comes of a list without a fault
+abbrev pub list_of : List Arrival → Coming
+list_of xs = record { next = reverse xs; fault = None }
+
+-- of two that are read at once, what came in and what left
+abbrev pub both_lists : (came left : List Arrival) → List Frame
+both_lists came left = (joined (list_of came) (list_of left)).frames
