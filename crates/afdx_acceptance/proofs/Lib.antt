@@ -14,3 +14,8 @@ pub mod GivenLemmas
 pub mod JoinLemmas
 pub mod FullLemmas
 pub mod EndLemmas
+pub mod OfKeyLemmas
+pub mod OneAnswerLemmas
+pub mod RunLawLemmas
+pub mod FoundLemmas
+pub mod ByTimeLemmas

@@ -16,3 +16,4 @@ pub mod Judging
 pub mod Told
 pub mod Ran
 pub mod Written
+pub mod RunLaws

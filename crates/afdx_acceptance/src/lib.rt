@@ -11,6 +11,7 @@ mod command;
 mod judging;
 mod kept;
 mod key;
+pub mod laws;
 mod outlets;
 mod run;
 mod slot;

@@ -208,7 +208,7 @@ impl<'a> Streams<'a> {
         leeway: Leeway,
         taps: &'a Taps,
     ) -> Result<Streams<'a>, AllocError>
-        ensures stands { (c : Choices) (until : ℕ) → leeway_of leeway ≡ c.by → 
+        ensures stands { (c : Choices) (until : ℕ) → leeway_of leeway ≡ c.by →
             taps_in taps.entry.now ≡ c.taps →
             IfOk result (λ s. StreamsStand tables.now c until [] [] 0 s) }
         ensures running { IfOk result (λ s. s.ended ≡ None) }

@@ -1,0 +1,5 @@
+use Rattle.afdx_acceptance.proofs.RunLawLemmas.{is_the_headline}
+use Rattle.afdx_acceptance.proofs.laws.conforms_is_the_headline.Goals as goal
+
+pub returns : goal.returns
+returns c = is_the_headline

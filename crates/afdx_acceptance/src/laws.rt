@@ -1,0 +1,35 @@
+//! Laws over the lines of a run.
+
+ghost use Rattle.afdx_acceptance.specs.RunLaws.{ConformsIsTheHeadline, NoLineIsExplained};
+ghost use Rattle.afdx_acceptance.specs.RunLaws.{NothingFoundIsExplained, RightConforms};
+ghost use Rattle.afdx_acceptance.specs.RunLaws.{ThereIsOneAnswer};
+
+/// Of the same tables, choices, end and frames there is one list of lines: what a run tells is a
+/// function of these.
+pub fn there_is_one_answer()
+    ensures { ThereIsOneAnswer }
+{}
+
+/// Nothing is found exactly where what was recorded has an explanation: no frame left that is of no
+/// stream, and in each stream that is judged each frame is of an arrival that may have been
+/// accepted, in order and in time, and what wasn't accepted didn't have to be. What passed keeps
+/// every window, as far as clocks and stamps can tell.
+///
+/// There is no line exactly where that is so and no stream is unsure.
+pub fn conforms_is_explained()
+    ensures found { NothingFoundIsExplained }
+    ensures none { NoLineIsExplained }
+{}
+
+/// With exact stamps and clocks, from a reset on, no stream is unsure, and nothing is found exactly
+/// where at each port left, of each link that goes there, the first frames that the window rule
+/// accepts of the link's own arrivals, in order, within the latency, and nothing else; those that
+/// didn't leave may have left behind the end.
+pub fn conforms_is_the_headline()
+    ensures { ConformsIsTheHeadline }
+{}
+
+/// A right switch is never accused, if stamps and clocks keep their accuracy and nothing else left.
+pub fn right_conforms()
+    ensures { RightConforms }
+{}
