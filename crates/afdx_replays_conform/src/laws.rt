@@ -1,14 +1,41 @@
 //! A replay's own frames conform.
 
-ghost use Rattle.afdx_replays_conform.specs.Laws.{ListsAreRecorded, PromisedIsRight, ToldLeaveAsPromised, ToldLeaveInOrder};
+ghost use Rattle.afdx_replays_conform.specs.Laws.{ListsAreRecorded, PromisedConforms};
+ghost use Rattle.afdx_replays_conform.specs.Laws.{PromisedConformsExactly, PromisedIsRight};
+ghost use Rattle.afdx_replays_conform.specs.Laws.{ReplaysConform, ReplaysConformExactly};
+ghost use Rattle.afdx_replays_conform.specs.Laws.{ToldLeaveAsPromised, ToldLeaveInOrder};
 
-/// Whatever keeps the promises of a replay tells of frames that leave as promised; and what is
+use afdx_acceptance::laws::{conforms_is_the_headline, right_conforms};
+use afdx_promises::laws::promises_are_kept;
+
+/// Lines that keep the promises of a replay tell of frames that leave as promised; and what is
 /// recorded of a switch whose frames do is that of a right switch, whatever is asked: any leeway,
 /// start and end, any links left out, any ports recorded. No frame is foreign.
 pub fn promised_is_right()
     ensures leave { ToldLeaveAsPromised }
     ensures right { PromisedIsRight }
 {}
+
+/// So no line of such a recording is a finding; with exact stamps and clocks, from a reset on,
+/// there is none at all: no stream is unsure.
+pub fn promised_conforms()
+    ensures found { PromisedConforms }
+    ensures exactly { PromisedConformsExactly }
+{
+    right_conforms();
+    conforms_is_the_headline()
+}
+
+/// A replay conforms: of its list, and of the frames that its D lines say left, no line is a
+/// finding, and with exact stamps and clocks, from a reset on, there is none at all.
+pub fn replays_conform()
+    ensures found { ReplaysConform }
+    ensures exactly { ReplaysConformExactly }
+{
+    right_conforms();
+    conforms_is_the_headline();
+    promises_are_kept()
+}
 
 /// The list of a replay and the frames that left by its text, one after another, are such a
 /// recording, read as two lists at once.

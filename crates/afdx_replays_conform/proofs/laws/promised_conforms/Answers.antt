@@ -1,0 +1,8 @@
+use Rattle.afdx_replays_conform.proofs.ConformLemmas.{promised-conforms, promised-conforms-exactly}
+use Rattle.afdx_replays_conform.proofs.laws.promised_conforms.Goals as goal
+
+pub returns-clause-found : goal.returns-clause-found
+returns-clause-found c = promised-conforms c.right_conforms.ensures
+
+pub returns-clause-exactly : goal.returns-clause-exactly
+returns-clause-exactly c = promised-conforms-exactly c.right_conforms.ensures c.conforms_is_the_headline.ensures
