@@ -1,12 +1,12 @@
 -- A switch that asks each account as its frame comes, by the clock of the list. Lists have the newest first.
-use Rattle.std.proofs.Common.{◌≡◌, ℕ, ◌+◌, ◌*◌, ◌-◌, ◌≤◌, ◌<◌, Bool, true, false, not, ◌&&◌, List, [], ◌∷◌, map, refl, sym, ap, ◌∙◌, subst, arith, inl, inr}
+use Rattle.std.proofs.Common.{◌≡◌, ℕ, ◌-◌, ◌≤◌, Bool, true, false, not, ◌&&◌, List, [], ◌∷◌, map, refl, sym, ap, ◌∙◌, subst, arith, inl, inr}
 use Rattle.std.proofs.Math.Nat.{mul-le-mul_right}
 use Rattle.std.proofs.lemmas.Bool.{ltb-true, lt-ltb, ltb-false, le-ltb}
 use Rattle.std.proofs.lemmas.List.Elements.{All-from_recursion}
-use Rattle.std.specs.Prelude.{IsTrue, nat_lt, is_none, filter, if◌then◌else◌, ◌⊎◌, Option, Some, None}
+use Rattle.std.specs.Prelude.{IsTrue, nat_lt, is_none, filter, if◌then◌else◌, Option, Some, None}
 use Rattle.std.specs.Option.{option_or}
 use Rattle.std.specs.List.{AllByRecursion}
-use Rattle.afdx_frame.specs.Regulation.{Regulation, byte_units, cap, is_bag}
+use Rattle.afdx_frame.specs.Regulation.{cap, is_bag}
 use Rattle.afdx_police.specs.Account.{missing, overdrawn}
 use Rattle.afdx_police.specs.Arrival.{Arrival}
 use Rattle.afdx_police.specs.Rule.{Rule, regulation_of}
@@ -20,8 +20,7 @@ use Rattle.afdx_police.proofs.AccountLemmas.{fits-room, missing-accept, missing-
 use Rattle.afdx_conform.specs.Explanations.{from_time, link}
 use Rattle.afdx_conform.specs.Headline.{sound_of, accepted_by_rule, GoByTime}
 use Rattle.afdx_conform.specs.Leeway.{Leeway}
-use Rattle.afdx_conform.specs.Levels.{parts}
-use Rattle.afdx_conform.specs.Right.{Asked, Comes, GoesOn, seen, accepted_after, is_accepted, accepted_asked, IsFirst, IsFrom, GoByClock}
+use Rattle.afdx_conform.specs.Right.{Asked, Comes, GoesOn, accepted_after, is_accepted, accepted_asked, IsFirst, IsFrom, GoByClock}
 use Rattle.afdx_conform.specs.Streams.{Terms}
 use Rattle.afdx_replays_conform.proofs.ListLemmas.{filter-none, filter-whole, filter-keeps, bool-cases}
 
@@ -121,9 +120,9 @@ module _ (rule : Rule) where
   own-keep time (x ∷ past) all =
       elim (bool-cases (is_none (reason_after rule past x))) [
         | inl yes_ ↦ subst (λ (l : List Charged). AllByRecursion (λ c. c.time ≤ time) l) (sym (own-by past x true yes_))
-          (all.0, own-keep time past all.1)
+            (all.0, own-keep time past all.1)
         | inr no_ ↦ subst (λ (l : List Charged). AllByRecursion (λ c. c.time ≤ time) l) (sym (own-by past x false no_))
-          (own-keep time past all.1)
+            (own-keep time past all.1)
       ]
 
   none-missing : (time : ℕ) → missing (regulation_of rule) (accepted_own rule []) time ≤ cap (regulation_of rule)

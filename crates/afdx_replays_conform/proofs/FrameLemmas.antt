@@ -1,7 +1,7 @@
 -- What of a recording is a stream's. Lists have the newest first.
-use Rattle.std.proofs.Common.{◌≡◌, ℕ, ◌+◌, ◌≤◌, ◌==◌, Bool, true, false, not, ◌&&◌, ◌||◌, List, [], ◌∷◌, length, map, refl, sym, ap, ◌∙◌, subst, arith}
-use Rattle.std.proofs.lemmas.Bool.{and_parts, eqb-true, eq-eqb, le-leb}
-use Rattle.std.specs.Prelude.{Option, Some, None, filter, is_some, nat_eq, nat_le, if◌then◌else◌, option_and_then, slice_get}
+use Rattle.std.proofs.Common.{◌≡◌, ℕ, ◌≤◌, ◌==◌, Bool, true, false, not, ◌&&◌, ◌||◌, List, [], ◌∷◌, length, map, refl, sym, ap, ◌∙◌, subst, arith}
+use Rattle.std.proofs.lemmas.Bool.{and_parts, eqb-true}
+use Rattle.std.specs.Prelude.{Option, Some, None, filter, nat_eq, nat_le, if◌then◌else◌, option_and_then, slice_get}
 use Rattle.std.specs.List.{AllByRecursion, list_any}
 use Rattle.std.specs.Option.{option_map_or}
 use Rattle.afdx_frame.specs.Layout.{link_named_by}
@@ -9,7 +9,6 @@ use Rattle.afdx_frame.specs.declared.link.Side.{Side}
 use Rattle.afdx_frame.specs.declared.link.Side.TheVariants.{A, B}
 use Rattle.afdx_frame.specs.declared.link.VlId.{VlId}
 use Rattle.afdx_config.specs.Lawful.{IsLawfulSwitch}
-use Rattle.afdx_config.specs.Reading.{link_of}
 use Rattle.afdx_config.specs.Rows.{LinkRow, Rows}
 use Rattle.afdx_config.proofs.LookUpLemmas.{each_row-found}
 use Rattle.afdx_lists.specs.declared.role.Role.{Role}
@@ -20,14 +19,13 @@ use Rattle.afdx_bounds.specs.Tables.{goes_to, port_of}
 use Rattle.afdx_promises.specs.Lines.{Leaving, is_leaving}
 use Rattle.afdx_conform.specs.LimitRanges.{most_bytes}
 use Rattle.afdx_conform.specs.Streams.{Gone}
-use Rattle.afdx_conform.proofs.EveryLemmas.{every-map, every-on}
-use Rattle.afdx_acceptance.specs.Choices.{Choices, is_in_time, is_left_out, is_passed, is_same_link, counts, counted, latest_of}
-use Rattle.afdx_acceptance.specs.Frames.{arrivals_of, frames_of, strangers_of, is_arrival_of, left_at, gone_of, is_stranger}
+use Rattle.afdx_conform.proofs.EveryLemmas.{every-on}
+use Rattle.afdx_acceptance.specs.Choices.{Choices, is_in_time, is_left_out, is_passed, is_same_link, counts, latest_of}
+use Rattle.afdx_acceptance.specs.Frames.{arrivals_of, frames_of, is_arrival_of, left_at, gone_of, is_stranger}
 use Rattle.afdx_acceptance.specs.RunLaws.{AreByTime}
-use Rattle.afdx_acceptance.specs.Tapped.{Taps, is_of_came, place_named, link_to, is_judged, is_heard, is_heard_at, is_unheard, judged_to}
-use Rattle.afdx_replays_conform.specs.Leaving.{LeavesAsPromised}
-use Rattle.afdx_replays_conform.specs.Recorded.{came_among, left_among, IsRecordOf, AreRecordsOf}
-use Rattle.afdx_replays_conform.proofs.ListLemmas.{filter-same, filter-twice, filter-map, filter-none, filter-keeps, filter-passes, both-hold, Descend, descend-filter, descend-map, and-false}
+use Rattle.afdx_acceptance.specs.Tapped.{Taps, is_of_came, place_named, link_to, is_judged, is_unheard, judged_to}
+use Rattle.afdx_replays_conform.specs.Recorded.{came_among, left_among, AreRecordsOf}
+use Rattle.afdx_replays_conform.proofs.ListLemmas.{filter-same, filter-twice, Descend, descend-filter, descend-map, and-false}
 use Rattle.afdx_replays_conform.proofs.PromisedLemmas.{AreGone}
 
 -- ---- a frame of a role
@@ -88,9 +86,11 @@ frames-descend (x ∷ frames) h =
     below : (fs : List Frame) → latest_of fs ≤ x.arrival.time → Descend (λ x. x.arrival.time) fs
         → AllByRecursion (λ w. w.arrival.time ≤ x.arrival.time) fs
     below [] h rest = tt
-    below (w ∷ fs) h rest =
-        (h, every-on (λ v. v.arrival.time ≤ w.arrival.time) (λ v. v.arrival.time ≤ x.arrival.time)
-        (λ v k. omega (arith, k, h)) fs rest.0)
+    below (w ∷ fs) h rest = (
+      h,
+      every-on (λ v. v.arrival.time ≤ w.arrival.time) (λ v. v.arrival.time ≤ x.arrival.time)
+          (λ v k. omega (arith, k, h)) fs rest.0,
+    )
 
 pub left-descend : (frames : List Frame) → AreByTime frames → Descend (λ (x : Arrival). x.time) (left_among frames)
 left-descend frames h =

@@ -1,29 +1,25 @@
 -- Two lists that are read at once are recorded.
-use Rattle.std.proofs.Common.{◌≡◌, ℕ, ◌+◌, ◌≤◌, ◌<◌, Bool, true, false, List, [], ◌∷◌, ◌++◌, map, reverse, refl, sym, ap, ◌∙◌, subst, arith}
+use Rattle.std.proofs.Common.{◌≡◌, ℕ, ◌≤◌, ◌<◌, Bool, true, false, List, [], ◌∷◌, ◌++◌, map, reverse, refl, sym, ap, ◌∙◌, subst, arith}
 use Rattle.std.proofs.lemmas.Bool.{ltb-true, ltb-false}
 use Rattle.std.proofs.lemmas.List.{append-nil, append_assoc, reverse-reverse}
-use Rattle.std.specs.Prelude.{Option, Some, None, IsTrue, filter, nat_lt, if◌then◌else◌}
+use Rattle.std.specs.Prelude.{None, IsTrue, nat_lt, if◌then◌else◌}
 use Rattle.std.specs.List.{AllByRecursion}
-use Rattle.afdx_config.specs.Rows.{Rows}
 use Rattle.afdx_lists.specs.declared.role.Role.TheVariants.{Came, Left}
-use Rattle.afdx_inputs.specs.Joining.{Frame, Joined, frame_with, joined, join, at_came, behind_came, rest_of_left}
+use Rattle.afdx_inputs.specs.Joining.{Frame, Joined, frame_with, join, at_came, rest_of_left}
 use Rattle.afdx_police.specs.Arrival.{Arrival}
-use Rattle.afdx_bounds.specs.Outputs.{AreTimed}
 use Rattle.afdx_network.specs.Events as network
 use Rattle.afdx_network.specs.Events.{Event, Departure}
-use Rattle.afdx_network.specs.Order.{is_below, is_before, key, phase_of, side_number, AreInOrder, events_of}
+use Rattle.afdx_network.specs.Order.{is_below, is_before, phase_of, side_number, AreInOrder, events_of}
 use Rattle.afdx_network.proofs.OrderedLemmas.{are-events}
-use Rattle.afdx_promises.specs.Lines.{Leaving, leaving, left_in, told_by}
-use Rattle.afdx_promises.specs.Promises.{told}
+use Rattle.afdx_promises.specs.Lines.{Leaving, leaving}
 use Rattle.afdx_promises.proofs.LineLemmas.{departures_in, told-left}
-use Rattle.afdx_promises.proofs.ListLemmas.{map-reverse}
 use Rattle.afdx_conform.specs.Events.{GoUp}
 use Rattle.afdx_conform.proofs.EveryLemmas.{every-on, every-unmap, reverse-first}
 use Rattle.afdx_acceptance.specs.Choices.{latest_of}
 use Rattle.afdx_acceptance.specs.RunLaws.{AreByTime}
-use Rattle.afdx_acceptance.specs.Tapped.{all_taps, is_of_came}
+use Rattle.afdx_acceptance.specs.Tapped.{all_taps}
 use Rattle.afdx_replays_conform.specs.Laws.{ListsAreRecorded, ToldLeaveInOrder}
-use Rattle.afdx_replays_conform.specs.Recorded.{came_among, left_among, AreRecordsOf, LeaveInOrder, AreRecorded, both_lists}
+use Rattle.afdx_replays_conform.specs.Recorded.{came_among, left_among, AreRecordsOf, LeaveInOrder, both_lists}
 use Rattle.afdx_replays_conform.proofs.ListLemmas.{Descend, filter-whole}
 use Rattle.afdx_replays_conform.proofs.StreamLemmas.{go-up-list, timed-descend}
 

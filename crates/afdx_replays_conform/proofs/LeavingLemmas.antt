@@ -1,16 +1,16 @@
 -- A switch whose frames leave in order, in time and no sooner than they can, is right. Lists have the newest first.
-use Rattle.std.proofs.Common.{◌≡◌, ℕ, ◌+◌, ◌*◌, ◌≤◌, ◌<◌, Bool, true, false, not, ◌&&◌, List, [], ◌∷◌, ◌++◌, map, refl, sym, ap, ◌∙◌, subst, arith}
+use Rattle.std.proofs.Common.{◌≡◌, ℕ, ◌+◌, ◌≤◌, ◌<◌, Bool, true, false, not, ◌&&◌, List, [], ◌∷◌, ◌++◌, map, refl, sym, ap, ◌∙◌, subst, arith}
 use Rattle.std.proofs.lemmas.Bool.{ltb-true, lt-ltb, ltb-false, le-ltb}
-use Rattle.std.specs.Prelude.{IsTrue, nat_lt, filter, if◌then◌else◌, Option, Some, None}
+use Rattle.std.specs.Prelude.{IsTrue, nat_lt, filter, Option, Some, None}
 use Rattle.std.specs.List.{AllByRecursion}
 use Rattle.afdx_frame.specs.Regulation.{is_bag}
 use Rattle.afdx_police.specs.Arrival.{Arrival}
 use Rattle.afdx_conform.specs.Explanations.{from_time}
-use Rattle.afdx_conform.specs.Headline.{sound_of, accepted_by_rule, GoByTime, IsItsFrame, AreTheirFrames}
+use Rattle.afdx_conform.specs.Headline.{accepted_by_rule, GoByTime, IsItsFrame, AreTheirFrames}
 use Rattle.afdx_conform.specs.Leeway.{both_slacks}
-use Rattle.afdx_conform.specs.Right.{Asked, LeavesAs, LeavesLater, IsUnseen, EachLeaves, AllLeaveLater, IsRight}
+use Rattle.afdx_conform.specs.Right.{Asked, LeavesAs, IsUnseen, EachLeaves, AllLeaveLater, IsRight}
 use Rattle.afdx_conform.specs.Streams.{Gone, Terms}
-use Rattle.afdx_replays_conform.proofs.AskedLemmas.{goes-on, ask, asks, first, spans, in_span, IsHarmless, accepted-by-time, asked-accepted, asks-by-clock, is-first}
+use Rattle.afdx_replays_conform.proofs.AskedLemmas.{goes-on, ask, asks, first, spans, IsHarmless, accepted-by-time, asked-accepted, asks-by-clock, is-first}
 use Rattle.afdx_replays_conform.proofs.ListLemmas.{filter-none, filter-keeps, and-false, Descend}
 
 -- frames go by time

@@ -1,25 +1,25 @@
 -- What a replay tells leaves as it is promised; and so does what is a stream's of it.
 use Rattle.std.proofs.Common.{◌≡◌, ℕ, ◌+◌, ◌*◌, ◌≤◌, ◌==◌, ◌&&◌, Bool, true, false, List, [], ◌∷◌, length, map, filter, refl, sym, ap, ◌∙◌, subst, arith, inl, inr}
-use Rattle.std.specs.Prelude.{Option, Some, None, is_none, slice_get, if◌then◌else◌, ◌⊎◌}
+use Rattle.std.specs.Prelude.{Some, is_none, slice_get, if◌then◌else◌}
 use Rattle.std.specs.List.{AllByRecursion}
 use Rattle.std.proofs.lemmas.Bool.{and_parts, eqb-true}
-use Rattle.afdx_frame.specs.Regulation.{wire_of, is_bag}
+use Rattle.afdx_frame.specs.Regulation.{wire_of}
 use Rattle.afdx_frame.specs.declared.link.Side.{Side}
 use Rattle.afdx_frame.proofs.ListLemmas.{AllByRecursion-slice_get}
 use Rattle.afdx_config.specs.Lawful.{IsLawfulSwitch, AreDistinct, IsSystem}
-use Rattle.afdx_config.specs.Rows.{LinkRow, Rows, SystemRow}
+use Rattle.afdx_config.specs.Rows.{LinkRow, Rows}
 use Rattle.afdx_police.specs.Arrival.{Arrival, is_side, names, own}
 use Rattle.afdx_police.specs.Rule.{Rule}
 use Rattle.afdx_police.specs.Verdicts.{reason_after}
 use Rattle.afdx_bounds.proofs.VerdictLemmas.{one-name}
-use Rattle.afdx_switch.specs.Admitted.{IsAdmittedRun, Passing, passing, accepted_arrivals, accepted_on}
+use Rattle.afdx_switch.specs.Admitted.{Passing, passing, accepted_arrivals, accepted_on}
 use Rattle.afdx_switch.specs.Tables.{rule_of, goes_to, byte_ns_at}
 use Rattle.afdx_switch.proofs.AdmittedLemmas.{goes-at}
-use Rattle.afdx_promises.specs.Lines.{Line, Judged, Leaving, IsIn, judged_in, arrivals_judged, verdicts_on, accepted_in, left_in, is_leaving}
-use Rattle.afdx_promises.specs.Promises.{AreVerdicts, KeepsPromises, LeavesInTime, PromisesAreKept, told}
+use Rattle.afdx_promises.specs.Lines.{Line, Judged, Leaving, IsIn, judged_in, verdicts_on, accepted_in, left_in, is_leaving}
+use Rattle.afdx_promises.specs.Promises.{AreVerdicts, KeepsPromises, LeavesInTime}
 use Rattle.afdx_promises.proofs.LineLemmas.{map-filter, verdicts-arrivals}
 use Rattle.afdx_promises.proofs.RuleLemmas.{own_verdicts, own-verdicts, one-verdicts, verdicts_of}
-use Rattle.afdx_conform.specs.Headline.{accepted_by_rule, IsItsFrame, AreTheirFrames}
+use Rattle.afdx_conform.specs.Headline.{accepted_by_rule, AreTheirFrames}
 use Rattle.afdx_conform.specs.Streams.{Gone, Terms}
 use Rattle.afdx_replays_conform.specs.Leaving.{LeavesAsPromised, LeaveAsPromised}
 
@@ -130,12 +130,14 @@ their-frames z (x ∷ xs) (d ∷ ds) (y ∷ ys) e all are =
     let gone : y.time ≡ d.time = are.0 in
     let soon : x.time + (length x.bytes + 8) * z.byte_ns ≤ d.time =
     subst (λ (p : Passing). p.time + (length p.bytes + 8) * z.byte_ns ≤ d.time) frame all.0.no_sooner in
-    let late = all.0.in_time in
-    (record {
-      bytes = sym bytes ∙ sym are.1;
-      no_sooner = omega (arith, soon, gone);
-      in_time = omega (arith, late, gone, time);
-    }, their-frames z xs ds ys rest all.1 are.2)
+    let late = all.0.in_time in (
+      record {
+        bytes = sym bytes ∙ sym are.1;
+        no_sooner = omega (arith, soon, gone);
+        in_time = omega (arith, late, gone, time);
+      },
+      their-frames z xs ds ys rest all.1 are.2,
+    )
 
 module _ (t : Rows) (lawful : IsLawfulSwitch t) (side : Side) (port place : ℕ) (l : LinkRow)
     (at : slice_get t.links place ≡ Some l) (goes : goes_to t l port ≡ true) (z : Terms)

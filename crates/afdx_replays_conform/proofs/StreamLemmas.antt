@@ -1,8 +1,7 @@
 -- Each stream of what is recorded of a switch is that of a right switch. Lists have the newest first.
-use Rattle.std.proofs.Common.{◌≡◌, ℕ, suc, ◌+◌, ◌*◌, ◌≤◌, ◌<◌, ◌==◌, Bool, true, false, not, ◌&&◌, List, [], ◌∷◌, ◌++◌, length, map, reverse, refl, sym, ap, ◌∙◌, subst, arith, inl, inr}
-use Rattle.std.proofs.lemmas.Bool.{and_parts, eqb-true, lt-ltb, ltb-true, le-leb}
-use Rattle.std.proofs.lemmas.List.{reverse-append}
-use Rattle.std.specs.Prelude.{IsTrue, All, Option, Some, None, is_none, filter, nat_eq, nat_le, nat_lt, slice_get, if◌then◌else◌}
+use Rattle.std.proofs.Common.{◌≡◌, ℕ, suc, ◌≤◌, ◌<◌, Bool, true, false, not, ◌&&◌, List, [], ◌∷◌, ◌++◌, length, map, reverse, refl, sym, ap, ◌∙◌, subst, arith, inl, inr}
+use Rattle.std.proofs.lemmas.Bool.{and_parts, lt-ltb, ltb-true, le-leb}
+use Rattle.std.specs.Prelude.{IsTrue, All, Option, Some, None, is_none, filter, nat_eq, nat_le, if◌then◌else◌}
 use Rattle.std.specs.List.{AllByRecursion}
 use Rattle.std.specs.Option.{ForSome}
 use Rattle.afdx_frame.specs.Regulation.{is_bag, jitter_from_any}
@@ -30,17 +29,17 @@ use Rattle.afdx_conform.specs.LimitRanges.{most_bytes}
 use Rattle.afdx_conform.specs.Right.{Asked, IsRight}
 use Rattle.afdx_conform.specs.Streams.{Gone, Terms}
 use Rattle.afdx_conform.proofs.CutLemmas.{right_cut}
-use Rattle.afdx_conform.proofs.EveryLemmas.{every-append, every-map, every-on, every-reverse, every-unmap, reverse-first}
-use Rattle.afdx_acceptance.specs.Choices.{Choices, is_behind, is_in_time, is_passed, counts, counted}
+use Rattle.afdx_conform.proofs.EveryLemmas.{every-append, every-map, every-reverse, every-unmap, reverse-first}
+use Rattle.afdx_acceptance.specs.Choices.{Choices, is_behind, is_in_time, counts, counted}
 use Rattle.afdx_acceptance.specs.Frames.{arrivals_of, frames_of, gone_of, left_at, strangers_of, is_stranger, terms_at}
-use Rattle.afdx_acceptance.specs.RunLaws.{AreByTime, IsOfRight, AreOfRight}
+use Rattle.afdx_acceptance.specs.RunLaws.{IsOfRight, AreOfRight}
 use Rattle.afdx_acceptance.specs.Tapped.{judged_to, is_of_came}
 use Rattle.afdx_replays_conform.specs.Leaving.{LeavesAsPromised, LeaveAsPromised}
 use Rattle.afdx_replays_conform.specs.Recorded.{AreRecorded, AreRecordsOf, left_among}
-use Rattle.afdx_replays_conform.proofs.AskedLemmas.{ask, asks, IsHarmless, accepted-keep}
+use Rattle.afdx_replays_conform.proofs.AskedLemmas.{ask, asks}
 use Rattle.afdx_replays_conform.proofs.FrameLemmas.{IsJudgedOf, judged-of, leaves_out, came-passed, left-passed, asks_of, came_of, arrivals-are, left_here, all_gone, frames-are, gone-are, left-descend, side-here, none-strange}
 use Rattle.afdx_replays_conform.proofs.LeavingLemmas.{is_seen, stream-right}
-use Rattle.afdx_replays_conform.proofs.ListLemmas.{filter-same, filter-map, filter-none, filter-keeps, filter-passes, both-hold, map-id, Descend, descend-filter, descend-map, bool-cases, and-false}
+use Rattle.afdx_replays_conform.proofs.ListLemmas.{filter-same, filter-map, filter-none, filter-keeps, filter-passes, both-hold, Descend, descend-filter, descend-map, bool-cases, and-false}
 use Rattle.afdx_replays_conform.proofs.PromisedLemmas.{stream-frames}
 
 -- ---- times
@@ -175,8 +174,14 @@ module _ (t : Rows) (c : Choices) (until : ℕ) (lawful : IsLawfulSwitch t) (arr
           let there : side ≡ x.side = side-here side x.side parts.0 in
           let here : x.port ≡ port_of t l.from = sym shape.at_port ∙ rule-port in
           let longest = shape.longest in
-          rw (came-passed t c lawful side place port l is x parts.1, stays, sym there, here, is.heard,
-          le-leb (length x.bytes) most_bytes (omega (arith, longest))) refl
+          rw (
+            came-passed t c lawful side place port l is x parts.1,
+            stays,
+            sym there,
+            here,
+            is.heard,
+            le-leb (length x.bytes) most_bytes (omega (arith, longest)),
+          ) refl
 
       harmless : (xs : List Arrival) → AllByRecursion (λ x. (is_side side x.side && names l.vl x.bytes) ≡ true) xs
           → AllByRecursion (λ x. fault_of (Some z.rule) x.port x.bytes ≡ None → asks_it x ≡ true) xs
@@ -264,9 +269,11 @@ module _ (t : Rows) (c : Choices) (until : ℕ) (lawful : IsLawfulSwitch t) (arr
           → AllByRecursion (λ x. came_of t c lawful side place port l is x ≡ false) xs
       none-came [] all = tt
       none-came (x ∷ xs) all =
-          let parts = and_parts (is_side side x.side) (names l.vl x.bytes) all.0 in
-          (rw (came-passed t c lawful side place port l is x parts.1, goes_out)
-          (ends-false (is_in_time c (record { role = Came; arrival = x })) (c.taps Came x.side x.port)), none-came xs all.1)
+          let parts = and_parts (is_side side x.side) (names l.vl x.bytes) all.0 in (
+            rw (came-passed t c lawful side place port l is x parts.1, goes_out)
+                (ends-false (is_in_time c (record { role = Came; arrival = x })) (c.taps Came x.side x.port)),
+            none-came xs all.1,
+          )
         where
           ends-false : (a b : Bool) → (a && (b && false)) ≡ false
           ends-false true true = refl
@@ -279,9 +286,11 @@ module _ (t : Rows) (c : Choices) (until : ℕ) (lawful : IsLawfulSwitch t) (arr
       none-left [] all = tt
       none-left (y ∷ ys) all =
           let parts = and_parts (is_side y.side side && nat_eq y.port port) (names l.vl y.bytes) all.0 in
-          let at = and_parts (is_side y.side side) (nat_eq y.port port) parts.0 in
-          (rw (left-passed t c lawful side place port l is y at.0 parts.1, goes_out)
-          (ends-false (is_in_time c (record { role = Left; arrival = y })) (nat_le (length y.bytes) most_bytes)), none-left ys all.1)
+          let at = and_parts (is_side y.side side) (nat_eq y.port port) parts.0 in (
+            rw (left-passed t c lawful side place port l is y at.0 parts.1, goes_out)
+                (ends-false (is_in_time c (record { role = Left; arrival = y })) (nat_le (length y.bytes) most_bytes)),
+            none-left ys all.1,
+          )
         where
           ends-false : (a b : Bool) → (a && false && b) ≡ false
           ends-false true b = refl

@@ -1,15 +1,21 @@
 -- What a replay tells conforms. Lists have the newest first.
-use Rattle.std.specs.Prelude.{◌≡◌, ℕ, List, []}
+use Rattle.std.specs.Prelude.{◌≡◌, ℕ, ◌<◌, List, [], length}
 use Rattle.std.specs.Option.{ForSome}
 use Rattle.afdx_config.specs.Lawful.{IsLawfulSwitch}
 use Rattle.afdx_config.specs.Rows.{Rows}
+use Rattle.afdx_config.specs.Switches.{NamedRows}
 use Rattle.afdx_conform.specs.Leeways.{IsLeeway}
 use Rattle.afdx_inputs.specs.Joining.{Frame}
 use Rattle.afdx_police.specs.Arrival.{Arrival}
 use Rattle.afdx_bounds.specs.Outputs.{AreTimed}
 use Rattle.afdx_switch.specs.Admitted.{IsAdmittedRun}
-use Rattle.afdx_promises.specs.Lines.{Leaving, Line, left_in}
+use Rattle.afdx_promises.specs.Lines.{Leaving, Line, left_in, told_by}
 use Rattle.afdx_promises.specs.Promises.{KeepsPromises, told}
+use Rattle.afdx_cascade.specs.Cascade.{StandsFor}
+use Rattle.afdx_cascade.specs.EndToEnd.{AreAllEvents}
+use Rattle.afdx_cascade.specs.Plans.{plan_of, tables_of}
+use Rattle.afdx_cascade.specs.SwitchEvents.{SwitchEvent, at_switch, came_to}
+use Rattle.afdx_cascade.specs.declared.cascade.Cascade.{Cascade}
 use Rattle.afdx_acceptance.specs.Choices.{Choices, until_or}
 use Rattle.afdx_acceptance.specs.Lines.{AreLines, Due}
 use Rattle.afdx_acceptance.specs.RunLaws.{AreOfRight, IsExactBy, NothingIsFound}
@@ -101,3 +107,38 @@ ListsAreRecorded =
 -- of any tables, admitted or not
 abbrev pub ToldLeaveInOrder : Type 0
 ToldLeaveInOrder = (t : Rows) (arrivals : List Arrival) → LeaveInOrder (left_in (told t arrivals))
+
+-- ---- several switches
+
+-- the frames that left the switch of a number, by the lines that tell its events
+abbrev pub left_from_switch : List NamedRows → ℕ → List SwitchEvent → List Leaving
+left_from_switch switches k events = left_in (told_by (tables_of switches k) (at_switch k events))
+
+-- all events of an admitted cascade, and a switch of it
+pub record IsSwitchOf (switches : List NamedRows) (events : List SwitchEvent) (k : ℕ) :
+    Type 0 where
+  pub all : AreAllEvents switches events
+  pub cascade : Cascade
+  pub stands : StandsFor (plan_of switches) cascade events
+  pub within : k < length switches
+
+-- each switch conforms, by its own tables: of all that came to it, of the list and by cables, and
+-- of all that left it
+abbrev pub SwitchesConform : Type 0
+SwitchesConform =
+    (switches : List NamedRows) (events : List SwitchEvent) (k : ℕ) (c : Choices)
+    (frames : List Frame) (lines : List Due) →
+    IsSwitchOf switches events k →
+    AreLinesOf (tables_of switches k) c (came_to k events) (left_from_switch switches k events)
+    frames lines →
+    NothingIsFound lines
+
+abbrev pub SwitchesConformExactly : Type 0
+SwitchesConformExactly =
+    (switches : List NamedRows) (events : List SwitchEvent) (k : ℕ) (c : Choices)
+    (frames : List Frame) (lines : List Due) →
+    IsSwitchOf switches events k →
+    IsExactBy c.by →
+    AreLinesOf (tables_of switches k) c (came_to k events) (left_from_switch switches k events)
+    frames lines →
+    lines ≡ []

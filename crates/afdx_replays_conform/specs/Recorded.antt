@@ -1,9 +1,7 @@
 -- What is recorded of a switch: the frames that came in at it and those that left it, as one list.
 -- Lists have the newest first.
-use Rattle.std.specs.Prelude.{◌≡◌, ℕ, ◌≤◌, Bool, not, None, List, [], ◌∷◌, filter, map, reverse}
+use Rattle.std.specs.Prelude.{◌≡◌, ◌≤◌, not, None, List, [], ◌∷◌, filter, map, reverse}
 use Rattle.std.specs.List.{AllByRecursion}
-use Rattle.afdx_frame.specs.declared.link.Side.{Side}
-use Rattle.afdx_lists.specs.declared.role.Role.{Role}
 use Rattle.afdx_lists.specs.declared.role.Role.TheVariants.{Came, Left}
 use Rattle.afdx_inputs.specs.Joining.{Coming, Frame, joined}
 use Rattle.afdx_police.specs.Arrival.{Arrival}

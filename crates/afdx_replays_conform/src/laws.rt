@@ -3,6 +3,7 @@
 ghost use Rattle.afdx_replays_conform.specs.Laws.{ListsAreRecorded, PromisedConforms};
 ghost use Rattle.afdx_replays_conform.specs.Laws.{PromisedConformsExactly, PromisedIsRight};
 ghost use Rattle.afdx_replays_conform.specs.Laws.{ReplaysConform, ReplaysConformExactly};
+ghost use Rattle.afdx_replays_conform.specs.Laws.{SwitchesConform, SwitchesConformExactly};
 ghost use Rattle.afdx_replays_conform.specs.Laws.{ToldLeaveAsPromised, ToldLeaveInOrder};
 
 use afdx_acceptance::laws::{conforms_is_the_headline, right_conforms};
@@ -31,6 +32,17 @@ pub fn promised_conforms()
 pub fn replays_conform()
     ensures found { ReplaysConform }
     ensures exactly { ReplaysConformExactly }
+{
+    right_conforms();
+    conforms_is_the_headline();
+    promises_are_kept()
+}
+
+/// So does each switch of an admitted cascade, by its own tables: of all that came to it, of the list
+/// and by cables, and of all that left it.
+pub fn switches_conform()
+    ensures found { SwitchesConform }
+    ensures exactly { SwitchesConformExactly }
 {
     right_conforms();
     conforms_is_the_headline();
