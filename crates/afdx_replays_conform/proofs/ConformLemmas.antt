@@ -29,7 +29,8 @@ pub promised-conforms : RightConforms → PromisedConforms
 promised-conforms right t c arrivals left frames lines lawful timed promised are =
     let drift = are.leeway.drift in
     right t c (until_or c.until frames) frames lines lawful are.recorded.by_time (omega (arith, drift)) are.are_lines
-    (are-right t c (until_or c.until frames) lawful arrivals timed left promised frames are.recorded (end-is c.until frames))
+    (are-right t c (until_or c.until frames) lawful arrivals timed left promised frames are.recorded
+    (end-is c.until frames))
 
 pub promised-conforms-exactly : RightConforms → ConformsIsTheHeadline → PromisedConformsExactly
 promised-conforms-exactly right headline t c arrivals left frames lines lawful timed promised exact are =
@@ -64,7 +65,8 @@ run-there switches events k is =
 lines-there : (switches : List NamedRows) (events : List SwitchEvent) (k : ℕ) (c : Choices) (frames : List Frame)
     (lines : List Due) → IsSwitchOf switches events k
     → AreLinesOf (tables_of switches k) c (came_to k events) (left_from_switch switches k events) frames lines
-    → AreLinesOf (tables_of switches k) c (came_to k events) (left_in (told (tables_of switches k) (came_to k events))) frames lines
+    → AreLinesOf (tables_of switches k) c (came_to k events) (left_in
+    (told (tables_of switches k) (came_to k events))) frames lines
 lines-there switches events k c frames lines is are =
     subst (λ (left : List Leaving). AreLinesOf (tables_of switches k) c (came_to k events) left frames lines)
     (told-alone switches events k is) are

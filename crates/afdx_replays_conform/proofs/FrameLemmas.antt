@@ -152,7 +152,8 @@ judged-of t taps side place port l h = by (slice_get t.links place) refl h
     both k false e f = absurd (cc f)
 
     goes-on : (k : LinkRow) → slice_get t.links place ≡ Some k → (b : Bool) → goes_to t k port ≡ b
-        → option_and_then (λ l. if is_judged t taps side l port then Some l else None) (if b then Some k else None) ≡ Some l
+        → option_and_then (λ l. if is_judged t taps side l port then Some l else None) (if b then Some k else None)
+        ≡ Some l
         → IsJudgedOf t taps side place port l
     goes-on k e false f g = absurd (cc g)
     goes-on k e true f g =
@@ -174,7 +175,8 @@ judged-of t taps side place port l h = by (slice_get t.links place) refl h
 abbrev pub leaves_out : Choices → ℕ → Bool
 leaves_out c vl = list_any (λ link. is_same_link link (Some (record { 0 = vl }))) c.left_out
 
-pub left-out-is : (c : Choices) (vl : ℕ) (x : Frame) → names vl x.arrival.bytes ≡ true → is_left_out c x ≡ leaves_out c vl
+pub left-out-is : (c : Choices) (vl : ℕ) (x : Frame) → names vl x.arrival.bytes ≡ true
+    → is_left_out c x ≡ leaves_out c vl
 left-out-is c vl x named =
     ap (λ (o : Option VlId). list_any (λ link. is_same_link link o) c.left_out) (named-link vl x.arrival.bytes named)
 
@@ -215,7 +217,8 @@ module _ (t : Rows) (c : Choices) (lawful : IsLawfulSwitch t) (side : Side) (pla
   came_of x = is_in_time c (frame_as Came x) && asks_of x
 
   turned : (tapped time passed short here named : Bool)
-      → (tapped && ((time && passed && short) && (here && named))) ≡ ((here && named) && (time && (tapped && (passed && short))))
+      → (tapped && ((time && passed && short) && (here && named))) ≡
+      ((here && named) && (time && (tapped && (passed && short))))
   turned true true passed short true true = turned-by (passed && short)
     where
       turned-by : (b : Bool) → (b && true) ≡ b
@@ -236,7 +239,8 @@ module _ (t : Rows) (c : Choices) (lawful : IsLawfulSwitch t) (side : Side) (pla
   abbrev counts_came : Arrival → Bool
   counts_came x = counts t c (frame_as Came x) && (is_side x.side side && names l.vl x.bytes)
 
-  came-test : (x : Arrival) → (counts t c (frame_as Came x) && is_arrival_of l.vl side (frame_as Came x)) ≡ counts_came x
+  came-test : (x : Arrival)
+      → (counts t c (frame_as Came x) && is_arrival_of l.vl side (frame_as Came x)) ≡ counts_came x
   unfolding is_arrival_of
   came-test x = refl
 
@@ -279,12 +283,14 @@ module _ (t : Rows) (c : Choices) (lawful : IsLawfulSwitch t) (side : Side) (pla
   abbrev pub all_gone : List Frame → List Arrival
   all_gone frames = filter left_here (left_among frames)
 
-  left-test : (x : Arrival) → (counts t c (frame_as Left x) && (left_at side port (frame_as Left x) && names l.vl x.bytes))
+  left-test : (x : Arrival)
+      → (counts t c (frame_as Left x) && (left_at side port (frame_as Left x) && names l.vl x.bytes))
       ≡ (counts t c (frame_as Left x) && left_here x)
   unfolding left_at
   left-test x = refl
 
-  came-none : (x : Arrival) → (counts t c (frame_as Came x) && (left_at side port (frame_as Came x) && names l.vl x.bytes)) ≡ false
+  came-none : (x : Arrival)
+      → (counts t c (frame_as Came x) && (left_at side port (frame_as Came x) && names l.vl x.bytes)) ≡ false
   unfolding left_at
   came-none x = and-false (counts t c (frame_as Came x))
 
@@ -303,7 +309,8 @@ module _ (t : Rows) (c : Choices) (lawful : IsLawfulSwitch t) (side : Side) (pla
       ∙ ap (λ (xs : List Arrival). map gone_of xs)
       (left-filter (λ x. counts t c x && (left_at side port x && names l.vl x.arrival.bytes))
       (λ x. counts t c (frame_as Left x) && left_here x) left-test came-none frames
-      ∙ filter-same (λ x. counts t c (frame_as Left x) && left_here x) (λ x. left_here x && counts t c (frame_as Left x))
+      ∙ filter-same (λ x. counts t c (frame_as Left x) && left_here x)
+      (λ x. left_here x && counts t c (frame_as Left x))
       (left_among frames) (all (left_among frames))
       ∙ sym (filter-twice (λ x. counts t c (frame_as Left x)) left_here (left_among frames)))
     where

@@ -21,7 +21,7 @@ use Rattle.afdx_acceptance.specs.Tapped.{all_taps}
 use Rattle.afdx_replays_conform.specs.Laws.{ListsAreRecorded, ToldLeaveInOrder}
 use Rattle.afdx_replays_conform.specs.Recorded.{came_among, left_among, AreRecordsOf, LeaveInOrder, both_lists}
 use Rattle.afdx_replays_conform.proofs.ListLemmas.{Descend, filter-whole}
-use Rattle.afdx_replays_conform.proofs.StreamLemmas.{go-up-list, timed-descend}
+use Rattle.afdx_replays_conform.proofs.TimeLemmas.{go-up-list, timed-descend}
 
 -- what is still to be read of both is no earlier than what was
 record Fits (past : List Frame) (xs ys : List Arrival) : Type 0 where
@@ -38,7 +38,8 @@ record IsBoth (past : List Frame) (xs ys : List Arrival) (r : Joined) : Type 0 w
   pub by_time : AreByTime r.frames
 
 one-more : (x : Arrival) (xs zs : List Arrival) → reverse xs ++ (x ∷ zs) ≡ reverse (x ∷ xs) ++ zs
-one-more x xs zs = sym (append_assoc (reverse xs) (x ∷ []) zs) ∙ ap (λ (l : List Arrival). l ++ zs) (sym (reverse-first x xs))
+one-more x xs zs = sym (append_assoc (reverse xs) (x ∷ []) zs) ∙ ap (λ (l : List Arrival). l ++ zs)
+    (sym (reverse-first x xs))
 
 fits-left : (past : List Frame) (xs : List Arrival) (y : Arrival) (ys : List Arrival)
     → AllByRecursion (λ x. y.time ≤ x.time) xs → Fits past xs (y ∷ ys) → Fits (frame_with Left y ∷ past) xs ys
@@ -95,23 +96,27 @@ up-second : (past : List Frame) (xs : List Arrival) (y : Arrival) (ys : List Arr
 unfolding GoUp
 up-second past xs y ys f = every-unmap (λ n. y.time ≤ n) (λ (x : Arrival). x.time) ys f.up_left.0
 
-left-first : (x : Arrival) (xs : List Arrival) (y : Arrival) → AllByRecursion (λ w. x.time ≤ w.time) xs → y.time < x.time
+left-first : (x : Arrival) (xs : List Arrival) (y : Arrival) → AllByRecursion (λ w. x.time ≤ w.time) xs
+    → y.time < x.time
     → AllByRecursion (λ w. y.time ≤ w.time) (x ∷ xs)
 left-first x xs y all below = (
   omega (arith, below),
-  every-on (λ (w : Arrival). x.time ≤ w.time) (λ (w : Arrival). y.time ≤ w.time) (λ w h. omega (arith, h, below)) xs all,
+  every-on (λ (w : Arrival). x.time ≤ w.time) (λ (w : Arrival). y.time ≤ w.time)
+      (λ w h. omega (arith, h, below)) xs all,
 )
 
 came-first : (x y : Arrival) (ys : List Arrival) → AllByRecursion (λ w. y.time ≤ w.time) ys → x.time ≤ y.time
     → AllByRecursion (λ w. x.time ≤ w.time) (y ∷ ys)
 came-first x y ys all below = (
   below,
-  every-on (λ (w : Arrival). y.time ≤ w.time) (λ (w : Arrival). x.time ≤ w.time) (λ w h. omega (arith, h, below)) ys all,
+  every-on (λ (w : Arrival). y.time ≤ w.time) (λ (w : Arrival). x.time ≤ w.time)
+      (λ w h. omega (arith, h, below)) ys all,
 )
 
 at-came-is : (x : Arrival) (xs : List Arrival) (next : List Frame → List Arrival → Joined)
     → ((past : List Frame) (ys : List Arrival) → Fits past xs ys → IsBoth past xs ys (next past ys))
-    → (past : List Frame) (ys : List Arrival) → Fits past (x ∷ xs) ys → IsBoth past (x ∷ xs) ys (at_came x next past ys None)
+    → (past : List Frame) (ys : List Arrival) → Fits past (x ∷ xs) ys
+    → IsBoth past (x ∷ xs) ys (at_came x next past ys None)
 unfolding at_came
 at-came-is x xs next is past [] f =
     with-came past x xs [] (next (frame_with Came x ∷ past) [])
@@ -126,10 +131,12 @@ at-came-is x xs next is past (y ∷ ys) f =
         else next (frame_with Came x ∷ past) (y ∷ ys))
     by true e later =
         with-left past (x ∷ xs) y ys (at_came x next (frame_with Left y ∷ past) ys None)
-        (later (fits-left past (x ∷ xs) y ys (left-first x xs y (up-first past x xs (y ∷ ys) f) (ltb-true y.time x.time e)) f))
+        (later (fits-left past (x ∷ xs) y ys
+        (left-first x xs y (up-first past x xs (y ∷ ys) f) (ltb-true y.time x.time e)) f))
     by false e later =
         with-came past x xs (y ∷ ys) (next (frame_with Came x ∷ past) (y ∷ ys))
-        (is (frame_with Came x ∷ past) (y ∷ ys) (fits-came past x xs (y ∷ ys) (came-first x y ys (up-second past (x ∷ xs) y ys f) (ltb-false y.time x.time e)) f))
+        (is (frame_with Came x ∷ past) (y ∷ ys) (fits-came past x xs (y ∷ ys)
+        (came-first x y ys (up-second past (x ∷ xs) y ys f) (ltb-false y.time x.time e)) f))
 
 join-is : (past : List Frame) (xs ys : List Arrival) → Fits past xs ys → IsBoth past xs ys (join past xs None ys None)
 unfolding join
@@ -139,7 +146,8 @@ join-is past (x ∷ xs) ys f =
 
 -- ---- lists
 
-records-descend : (ds : List Leaving) (ys : List Arrival) → LeaveInOrder ds → AreRecordsOf ds ys → Descend (λ (y : Arrival). y.time) ys
+records-descend : (ds : List Leaving) (ys : List Arrival) → LeaveInOrder ds → AreRecordsOf ds ys
+    → Descend (λ (y : Arrival). y.time) ys
 unfolding LeaveInOrder AreRecordsOf Descend
 records-descend [] [] order are = tt
 records-descend [] (y ∷ ys) order are = absurd are

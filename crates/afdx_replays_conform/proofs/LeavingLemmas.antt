@@ -10,7 +10,8 @@ use Rattle.afdx_conform.specs.Headline.{accepted_by_rule, GoByTime, IsItsFrame, 
 use Rattle.afdx_conform.specs.Leeway.{both_slacks}
 use Rattle.afdx_conform.specs.Right.{Asked, LeavesAs, IsUnseen, EachLeaves, AllLeaveLater, IsRight}
 use Rattle.afdx_conform.specs.Streams.{Gone, Terms}
-use Rattle.afdx_replays_conform.proofs.AskedLemmas.{goes-on, ask, asks, first, spans, IsHarmless, accepted-by-time, asked-accepted, asks-by-clock, is-first}
+use Rattle.afdx_replays_conform.proofs.AskedLemmas.{goes-on, ask, asks, first, spans, IsHarmless, asked-accepted, asks-by-clock, is-first}
+use Rattle.afdx_replays_conform.proofs.RuleLemmas.{accepted-by-time}
 use Rattle.afdx_replays_conform.proofs.ListLemmas.{filter-none, filter-keeps, and-false, Descend}
 
 -- frames go by time
@@ -32,7 +33,8 @@ module _ (z : Terms) where
     in_time = f.in_time;
   }
 
-  unseen-by : (start : Option ℕ) (x : Arrival) (y : Gone) → IsItsFrame z x y → x.time < from_time start → IsUnseen z start y
+  unseen-by : (start : Option ℕ) (x : Arrival) (y : Gone) → IsItsFrame z x y → x.time < from_time start
+      → IsUnseen z start y
   unseen-by None x y f before = absurd (omega (arith, before))
   unseen-by (Some start) x y f before = record {
     of = ask x;
@@ -62,7 +64,8 @@ module _ (z : Terms) (ends : ℕ → Bool) (later : (m n : ℕ) → m ≤ n → 
 
   -- frames of arrivals before the start
   all-unseen : (time : ℕ) (xs : List Arrival) (ys : List Gone) → time < from_time z.by.start
-      → AllByRecursion (λ w. w.time ≤ time) xs → AreTheirFrames z xs ys → AllByRecursion (λ y. IsUnseen z z.by.start y) ys
+      → AllByRecursion (λ w. w.time ≤ time) xs → AreTheirFrames z xs ys
+      → AllByRecursion (λ y. IsUnseen z z.by.start y) ys
   unfolding AreTheirFrames
   all-unseen time [] [] before all are = tt
   all-unseen time [] (y ∷ ys) before all are = absurd are
@@ -79,7 +82,8 @@ module _ (z : Terms) (ends : ℕ → Bool) (later : (m n : ℕ) → m ≤ n → 
     pub later_leave : AllLeaveLater z waiting
     pub leave : EachLeaves z took ys
 
-  none-asked : (x : Arrival) (xs : List Arrival) (y : Gone) (ys : List Gone) → nat_lt x.time (from_time z.by.start) ≡ true
+  none-asked : (x : Arrival) (xs : List Arrival) (y : Gone) (ys : List Gone)
+      → nat_lt x.time (from_time z.by.start) ≡ true
       → AllByRecursion (λ w. w.time ≤ x.time) xs → AreTheirFrames z (x ∷ xs) (y ∷ ys)
       → IsSplit (map ask (spanned (x ∷ xs))) (filter is_seen (y ∷ ys))
   unfolding EachLeaves AllLeaveLater
@@ -93,7 +97,8 @@ module _ (z : Terms) (ends : ℕ → Bool) (later : (m n : ℕ) → m ≤ n → 
         (all-unseen x.time (x ∷ xs) (y ∷ ys) (ltb-true x.time (from_time z.by.start) early) (omega arith, all) are);
   }
 
-  seen-frame : (x : Arrival) (y : Gone) → nat_lt x.time (from_time z.by.start) ≡ false → x.time ≤ y.time → ends y.time ≡ false
+  seen-frame : (x : Arrival) (y : Gone) → nat_lt x.time (from_time z.by.start) ≡ false → x.time ≤ y.time
+      → ends y.time ≡ false
       → is_seen y ≡ true
   seen-frame x y late h off =
       let above = ltb-false x.time (from_time z.by.start) late in
@@ -122,13 +127,15 @@ module _ (z : Terms) (ends : ℕ → Bool) (later : (m n : ℕ) → m ≤ n → 
       here : nat_lt x.time (from_time z.by.start) ≡ false → spans z ends later q x ≡ true
       here late = rw (late, not-ended x.time y.time (no-earlier z x y are.0) on.0) refl
 
-      by : (b : Bool) → nat_lt x.time (from_time z.by.start) ≡ b → EachLeaves z (map ask (spanned xs)) (filter is_seen ys)
+      by : (b : Bool) → nat_lt x.time (from_time z.by.start) ≡ b
+          → EachLeaves z (map ask (spanned xs)) (filter is_seen ys)
           → EachLeaves z (map ask (spanned (x ∷ xs))) (filter is_seen (y ∷ ys))
       by true early rest =
           subst (λ (l : List Arrival). EachLeaves z (map ask l) (filter is_seen (y ∷ ys)))
           (sym (filter-none (spans z ends later q) (x ∷ xs) (rw early refl, no-span x xs early order.0)))
           (filter-keeps (λ (w : Gone). IsUnseen z z.by.start w) is_seen (y ∷ ys)
-          (all-unseen x.time (x ∷ xs) (y ∷ ys) (ltb-true x.time (from_time z.by.start) early) (omega arith, order.0) are))
+          (all-unseen x.time (x ∷ xs) (y ∷ ys) (ltb-true x.time (from_time z.by.start) early)
+          (omega arith, order.0) are))
       by false late rest =
           rw (here late, seen-frame x y late (no-earlier z x y are.0) on.0) (leaves-as z x y are.0, rest)
 
@@ -168,17 +175,21 @@ module _ (z : Terms) (ends : ℕ → Bool) (later : (m n : ℕ) → m ≤ n → 
       by (nat_lt x.time (from_time z.by.start)) refl (ends y.time) refl (ends x.time) refl
       (split xs ys order.1 leave.1 are.1)
     where
-      by : (b : Bool) → nat_lt x.time (from_time z.by.start) ≡ b → (c : Bool) → ends y.time ≡ c → (d : Bool) → ends x.time ≡ d
-          → IsSplit (map ask (spanned xs)) (filter is_seen ys) → IsSplit (map ask (spanned (x ∷ xs))) (filter is_seen (y ∷ ys))
+      by : (b : Bool) → nat_lt x.time (from_time z.by.start) ≡ b → (c : Bool) → ends y.time ≡ c → (d : Bool)
+          → ends x.time ≡ d
+          → IsSplit (map ask (spanned xs)) (filter is_seen ys)
+          → IsSplit (map ask (spanned (x ∷ xs))) (filter is_seen (y ∷ ys))
       by true early c e d f rest = none-asked x xs y ys early order.0 are
       by false late false e d f rest =
           none-left (x ∷ xs) (y ∷ ys) (none-waits (x ∷ xs) (y ∷ ys) order (e, all-on y ys e leave.0) are)
       by false late true e true f rest = rw (f, late, unseen-frame y e) rest
-      by false late true e false f rest = rw (f, late, unseen-frame y e) (one-waits x y (map ask (spanned xs)) (filter is_seen ys)
+      by false late true e false f rest = rw (f, late, unseen-frame y e)
+          (one-waits x y (map ask (spanned xs)) (filter is_seen ys)
           (leaves-as z x y are.0) (behind y.time e) rest)
 
   -- a right switch: its account is asked as frames come, and what it accepts leaves
-  pub stream-right : (own : List Arrival) (gone : List Gone) → IsTrue (is_bag z.rule.bag_ms) → GoByTime own → LeaveByTime gone
+  pub stream-right : (own : List Arrival) (gone : List Gone) → IsTrue (is_bag z.rule.bag_ms) → GoByTime own
+      → LeaveByTime gone
       → AllByRecursion (IsHarmless z ends later q) own → AreTheirFrames z (accepted_by_rule z.rule own) gone
       → IsRight z (asks z ends later q own) (filter is_seen gone)
   stream-right own gone is order leave fine are =

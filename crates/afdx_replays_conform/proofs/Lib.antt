@@ -1,8 +1,10 @@
 pub mod ListLemmas
+pub mod RuleLemmas
 pub mod AskedLemmas
 pub mod LeavingLemmas
 pub mod PromisedLemmas
 pub mod FrameLemmas
+pub mod TimeLemmas
 pub mod StreamLemmas
 pub mod ConformLemmas
 pub mod JoinedLemmas

@@ -45,7 +45,8 @@ filter-keeps P p (x ∷ xs) all = by (p x) (filter-keeps P p xs all.1)
     by true rest = (all.0, rest)
     by false rest = rest
 
-pub filter-map : {X Y : Type 0} (p : Y → Bool) (f : X → Y) (xs : List X) → filter p (map f xs) ≡ map f (filter (λ x. p (f x)) xs)
+pub filter-map : {X Y : Type 0} (p : Y → Bool) (f : X → Y) (xs : List X)
+    → filter p (map f xs) ≡ map f (filter (λ x. p (f x)) xs)
 filter-map p f [] = refl
 filter-map {X} {Y} p f (x ∷ xs) = by (p (f x)) (filter-map p f xs)
   where
@@ -91,7 +92,8 @@ unfoldable pub Descend : {X : Type 0} → (X → ℕ) → List X → Type 0
 Descend time [] = Unit {0}
 Descend time (x ∷ before) = AllByRecursion (λ w. time w ≤ time x) before × Descend time before
 
-pub descend-filter : {X : Type 0} (time : X → ℕ) (p : X → Bool) (xs : List X) → Descend time xs → Descend time (filter p xs)
+pub descend-filter : {X : Type 0} (time : X → ℕ) (p : X → Bool) (xs : List X) → Descend time xs
+    → Descend time (filter p xs)
 unfolding Descend
 descend-filter time p [] h = tt
 descend-filter time p (x ∷ xs) h =

@@ -54,7 +54,8 @@ leaves-promised t lines d h =
       named = subst (λ (p : Passing). names h.link.vl p.bytes ≡ true) is h.named;
       goes = h.goes;
       within = subst (λ (p : Passing). d.time ≤ p.time + 1000 * h.link.latency_us) is h.within;
-      no_sooner = subst (λ (p : Passing). p.time + wire_of (length p.bytes) * byte_ns_at t d.port ≤ d.time) is h.no_sooner;
+      no_sooner = subst
+          (λ (p : Passing). p.time + wire_of (length p.bytes) * byte_ns_at t d.port ≤ d.time) is h.no_sooner;
     }
 
 pub kept-leave : (t : Rows) (arrivals : List Arrival) (lines : List Line) → IsLawfulSwitch t
@@ -95,7 +96,8 @@ pub record IsPortHere (port : ℕ) : Type 0 where
 pub port-here : (t : Rows) (l : LinkRow) (port : ℕ) → IsLawfulSwitch t → goes_to t l port ≡ true → IsPortHere port
 port-here t l port lawful goes =
     let at = goes-at t l port goes in
-    let range = (AllByRecursion-slice_get (IsSystem t.profile) t.systems at.system at.s lawful.systems.each at.stands).port in
+    let range =
+    (AllByRecursion-slice_get (IsSystem t.profile) t.systems at.system at.s lawful.systems.each at.stands).port in
     let here = at.here in
     record { low = omega (arith, range.0, here); high = omega (arith, range.1, here) }
 
@@ -141,7 +143,8 @@ their-frames z (x ∷ xs) (d ∷ ds) (y ∷ ys) e all are =
 
 module _ (t : Rows) (lawful : IsLawfulSwitch t) (side : Side) (port place : ℕ) (l : LinkRow)
     (at : slice_get t.links place ≡ Some l) (goes : goes_to t l port ≡ true) (z : Terms)
-    (rule : z.rule ≡ rule_of t l) (latency : z.latency_ns ≡ 1000 * l.latency_us) (byte : z.byte_ns ≡ byte_ns_at t port) where
+    (rule : z.rule ≡ rule_of t l) (latency : z.latency_ns ≡ 1000 * l.latency_us)
+    (byte : z.byte_ns ≡ byte_ns_at t port) where
   one-in-time : (d : Leaving) → is_leaving l.vl side port d ≡ true → LeavesAsPromised t d → IsInTime z d
   one-in-time d own h =
       let parts = and_parts (is_side side d.side && (d.port == port)) (names l.vl d.frame.bytes) own in
@@ -163,7 +166,8 @@ module _ (t : Rows) (lawful : IsLawfulSwitch t) (side : Side) (port place : ℕ)
   all-in-time [] all = tt
   all-in-time (d ∷ ds) all = by (is_leaving l.vl side port d) refl (all-in-time ds all.1)
     where
-      by : (b : Bool) → is_leaving l.vl side port d ≡ b → AllByRecursion (IsInTime z) (filter (is_leaving l.vl side port) ds)
+      by : (b : Bool) → is_leaving l.vl side port d ≡ b
+          → AllByRecursion (IsInTime z) (filter (is_leaving l.vl side port) ds)
           → AllByRecursion (IsInTime z)
           (if b then d ∷ filter (is_leaving l.vl side port) ds else filter (is_leaving l.vl side port) ds)
       by true e rest = (one-in-time d e all.0, rest)

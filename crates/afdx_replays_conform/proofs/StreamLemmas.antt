@@ -1,7 +1,7 @@
 -- Each stream of what is recorded of a switch is that of a right switch. Lists have the newest first.
-use Rattle.std.proofs.Common.{◌≡◌, ℕ, suc, ◌≤◌, ◌<◌, Bool, true, false, not, ◌&&◌, List, [], ◌∷◌, ◌++◌, length, map, reverse, refl, sym, ap, ◌∙◌, subst, arith, inl, inr}
-use Rattle.std.proofs.lemmas.Bool.{and_parts, lt-ltb, ltb-true, le-leb}
-use Rattle.std.specs.Prelude.{IsTrue, All, Option, Some, None, is_none, filter, nat_eq, nat_le, if◌then◌else◌}
+use Rattle.std.proofs.Common.{◌≡◌, ℕ, Bool, true, false, not, ◌&&◌, List, [], ◌∷◌, length, map, refl, sym, ap, ◌∙◌, subst, arith, inl, inr}
+use Rattle.std.proofs.lemmas.Bool.{and_parts, le-leb}
+use Rattle.std.specs.Prelude.{IsTrue, Some, None, filter, nat_eq, nat_le, if◌then◌else◌}
 use Rattle.std.specs.List.{AllByRecursion}
 use Rattle.std.specs.Option.{ForSome}
 use Rattle.afdx_frame.specs.Regulation.{is_bag, jitter_from_any}
@@ -13,23 +13,18 @@ use Rattle.afdx_lists.specs.declared.role.Role.TheVariants.{Came, Left}
 use Rattle.afdx_lists.specs.declared.role.Role.{Role}
 use Rattle.afdx_inputs.specs.Joining.{Frame}
 use Rattle.afdx_police.specs.Arrival.{Arrival, is_side, names, own}
-use Rattle.afdx_police.specs.Rule.{Rule}
 use Rattle.afdx_police.specs.Shape.{fault_of}
-use Rattle.afdx_police.specs.Verdicts.{reason_after}
-use Rattle.afdx_police.specs.declared.shape.Reason.{Reason}
 use Rattle.afdx_police.proofs.ShapeLemmas.{faultless-is-sound}
 use Rattle.afdx_bounds.specs.Outputs.{AreTimed}
 use Rattle.afdx_bounds.specs.Tables.{rule_of, port_of, goes_to}
 use Rattle.afdx_promises.specs.Lines.{Leaving}
-use Rattle.afdx_promises.proofs.ListLemmas.{map-reverse}
-use Rattle.afdx_conform.specs.Events.{GoUp, frame_times}
 use Rattle.afdx_conform.specs.Headline.{sound_of, accepted_by_rule, GoByTime, AreTheirFrames}
 use Rattle.afdx_conform.specs.Histories.{uncut}
 use Rattle.afdx_conform.specs.LimitRanges.{most_bytes}
 use Rattle.afdx_conform.specs.Right.{Asked, IsRight}
 use Rattle.afdx_conform.specs.Streams.{Gone, Terms}
 use Rattle.afdx_conform.proofs.CutLemmas.{right_cut}
-use Rattle.afdx_conform.proofs.EveryLemmas.{every-append, every-map, every-reverse, every-unmap, reverse-first}
+use Rattle.afdx_conform.proofs.EveryLemmas.{every-unmap}
 use Rattle.afdx_acceptance.specs.Choices.{Choices, is_behind, is_in_time, counts, counted}
 use Rattle.afdx_acceptance.specs.Frames.{arrivals_of, frames_of, gone_of, left_at, strangers_of, is_stranger, terms_at}
 use Rattle.afdx_acceptance.specs.RunLaws.{IsOfRight, AreOfRight}
@@ -40,102 +35,8 @@ use Rattle.afdx_replays_conform.proofs.AskedLemmas.{ask, asks}
 use Rattle.afdx_replays_conform.proofs.FrameLemmas.{IsJudgedOf, judged-of, leaves_out, came-passed, left-passed, asks_of, came_of, arrivals-are, left_here, all_gone, frames-are, gone-are, left-descend, side-here, none-strange}
 use Rattle.afdx_replays_conform.proofs.LeavingLemmas.{is_seen, stream-right}
 use Rattle.afdx_replays_conform.proofs.ListLemmas.{filter-same, filter-map, filter-none, filter-keeps, filter-passes, both-hold, Descend, descend-filter, descend-map, bool-cases, and-false}
+use Rattle.afdx_replays_conform.proofs.TimeLemmas.{accepted-shape, behind-end, frames-up, later-ends, own-go, short-frames, timed-go}
 use Rattle.afdx_replays_conform.proofs.PromisedLemmas.{stream-frames}
-
--- ---- times
-
-timed-go : (xs : List Arrival) → AreTimed xs → GoByTime xs
-unfolding GoByTime
-timed-go [] h = tt
-timed-go (x ∷ past) h = (all-in past h.0, timed-go past h.1)
-  where
-    all-in : (ws : List Arrival) → All (λ w. w.time ≤ x.time) ws → AllByRecursion (λ w. w.time ≤ x.time) ws
-    all-in [] k = tt
-    all-in (w ∷ ws) k = (k 0 w (omega arith), all-in ws (λ i d below. k (suc i) d (omega (arith, below))))
-
-pub timed-descend : (xs : List Arrival) → AreTimed xs → Descend (λ (x : Arrival). x.time) xs
-unfolding Descend GoByTime
-timed-descend xs h = by xs (timed-go xs h)
-  where
-    by : (ws : List Arrival) → GoByTime ws → Descend (λ (x : Arrival). x.time) ws
-    by [] k = tt
-    by (w ∷ ws) k = (k.0, by ws k.1)
-
-own-go : (p : Arrival → Bool) (xs : List Arrival) → GoByTime xs → GoByTime (filter p xs)
-unfolding GoByTime
-own-go p [] h = tt
-own-go p (x ∷ xs) h = by (p x) (filter-keeps (λ (w : Arrival). w.time ≤ x.time) p xs h.0) (own-go p xs h.1)
-  where
-    by : (b : Bool) → AllByRecursion (λ w. w.time ≤ x.time) (filter p xs) → GoByTime (filter p xs)
-        → GoByTime (if b then x ∷ filter p xs else filter p xs)
-    by true below rest = (below, rest)
-    by false below rest = rest
-
-go-up-push : (ns : List ℕ) (n : ℕ) → GoUp ns → AllByRecursion (λ m. m ≤ n) ns → GoUp (ns ++ (n ∷ []))
-unfolding GoUp
-go-up-push [] n h all = (tt, tt)
-go-up-push (m ∷ ns) n h all =
-    (every-append (λ k. m ≤ k) ns (n ∷ []) h.0 (all.0, tt), go-up-push ns n h.1 all.1)
-
-go-up-back : {X : Type 0} (time : X → ℕ) (xs : List X) → Descend time xs → GoUp (reverse (map time xs))
-unfolding GoUp Descend
-go-up-back time [] h = tt
-go-up-back {X} time (x ∷ xs) h =
-    subst (λ (ns : List ℕ). GoUp ns) (sym (reverse-first (time x) (map time xs)))
-    (go-up-push (reverse (map time xs)) (time x) (go-up-back time xs h.1)
-    (every-reverse (λ m. m ≤ time x) (map time xs) (every-map (λ m. m ≤ time x) time xs h.0)))
-
-pub go-up-list : (xs : List Arrival) → Descend (λ x. x.time) xs → GoUp (map (λ x. x.time) (reverse xs))
-go-up-list xs h =
-    subst (λ (ns : List ℕ). GoUp ns) (sym (map-reverse (λ (x : Arrival). x.time) xs)) (go-up-back (λ x. x.time) xs h)
-
-frames-up : (ys : List Gone) → Descend (λ y. y.time) ys → GoUp (frame_times (reverse ys))
-frames-up ys h = subst (λ (ns : List ℕ). GoUp ns) (sym (map-reverse (λ (y : Gone). y.time) ys)) (go-up-back (λ (y : Gone). y.time) ys h)
-
--- the end that is said
-later-ends : (o : Option ℕ) (m n : ℕ) → m ≤ n → is_behind m o ≡ true → is_behind n o ≡ true
-later-ends None m n h e = absurd (cc e)
-later-ends (Some end) m n h e = let past = ltb-true end m e in lt-ltb end n (omega (arith, past, h))
-
-behind-end : (o : Option ℕ) (until : ℕ) → ForSome o (λ end. until ≡ end) → (n : ℕ) → is_behind n o ≡ true → until < n
-behind-end None until at n e = absurd (cc e)
-behind-end (Some end) until at n e =
-    let past = ltb-true end n e in let same : until ≡ end = at end refl in omega (arith, past, same)
-
--- ---- one stream
-
-faulted : (rule : Rule) (past : List Arrival) (x : Arrival) (why : Reason) → fault_of (Some rule) x.port x.bytes ≡ Some why
-    → reason_after rule past x ≡ Some why
-unfolding reason_after
-faulted rule past x why g = rw g refl
-
--- what a rule accepts has the right shape
-accepted-shape : (rule : Rule) (xs : List Arrival)
-    → AllByRecursion (λ x. fault_of (Some rule) x.port x.bytes ≡ None) (accepted_by_rule rule xs)
-unfolding accepted_by_rule
-accepted-shape rule [] = tt
-accepted-shape rule (x ∷ past) = by (reason_after rule past x) refl (fault_of (Some rule) x.port x.bytes) refl (accepted-shape rule past)
-  where
-    by : (o : Option Reason) → reason_after rule past x ≡ o → (f : Option Reason) → fault_of (Some rule) x.port x.bytes ≡ f
-        → AllByRecursion (λ x. fault_of (Some rule) x.port x.bytes ≡ None) (accepted_by_rule rule past)
-        → AllByRecursion (λ x. fault_of (Some rule) x.port x.bytes ≡ None)
-        (if is_none o then x ∷ accepted_by_rule rule past else accepted_by_rule rule past)
-    by (Some why) e f g rest = rest
-    by None e None g rest = (g, rest)
-    by None e (Some why) g rest = absurd (let reason = faulted rule past x why g in cc (reason, e))
-
--- so its frames are short
-short-frames : (z : Terms) (xs : List Arrival) (ys : List Gone)
-    → AllByRecursion (λ x. fault_of (Some z.rule) x.port x.bytes ≡ None) xs → AreTheirFrames z xs ys
-    → AllByRecursion (λ y. nat_le (length y.bytes) most_bytes ≡ true) ys
-unfolding AreTheirFrames
-short-frames z [] [] all are = tt
-short-frames z [] (y ∷ ys) all are = absurd are
-short-frames z (x ∷ xs) [] all are = tt
-short-frames z (x ∷ xs) (y ∷ ys) all are =
-    let longest = ((faultless-is-sound z.rule x.port x.bytes).0 all.0).longest in
-    let same : length x.bytes ≡ length y.bytes = ap (λ (b : List ℕ). length b) are.0.bytes in
-    (le-leb (length y.bytes) most_bytes (omega (arith, longest, same)), short-frames z xs ys all.1 are.1)
 
 module _ (t : Rows) (c : Choices) (until : ℕ) (lawful : IsLawfulSwitch t) (arrivals : List Arrival)
     (timed : AreTimed arrivals) (left : List Leaving) (promised : LeaveAsPromised t arrivals left) (frames : List Frame)
@@ -155,7 +56,8 @@ module _ (t : Rows) (c : Choices) (until : ℕ) (lawful : IsLawfulSwitch t) (arr
 
     bag-is : IsTrue (is_bag z.rule.bag_ms)
     unfolding rule_of
-    bag-is = (AllByRecursion-slice_get (IsLinkUpTo jitter_from_any (length t.systems)) t.links place l lawful.links.each is.stands).bag_ms
+    bag-is = (AllByRecursion-slice_get (IsLinkUpTo jitter_from_any
+        (length t.systems)) t.links place l lawful.links.each is.stands).bag_ms
 
     rule-port : (rule_of t l).port ≡ port_of t l.from
     unfolding rule_of
@@ -195,7 +97,8 @@ module _ (t : Rows) (c : Choices) (until : ℕ) (lawful : IsLawfulSwitch t) (arr
       gone-descend : Descend (λ (y : Gone). y.time) gone
       gone-descend =
           descend-map gone_of (λ (y : Gone). y.time) (all_gone t c lawful side place port l is frames)
-          (descend-filter (λ (x : Arrival). x.time) (λ x. left_here t c lawful side place port l is x) (left_among frames)
+          (descend-filter (λ (x : Arrival). x.time) (λ x. left_here t c lawful side place port l is x)
+          (left_among frames)
           (left-descend frames recorded.by_time))
 
       right-all : IsRight z (asks z ends (later-ends c.until) asks_it (own l.vl side arrivals))
@@ -244,18 +147,22 @@ module _ (t : Rows) (c : Choices) (until : ℕ) (lawful : IsLawfulSwitch t) (arr
           (filter-passes (λ y. left_here t c lawful side place port l is y) (left_among frames)) short)))
           ∙ sym (filter-map seen gone_of ys)
 
-      right-here : IsOfRight z (sound_of z.rule (arrivals_of t c l.vl side frames)) (uncut z (frames_of t c l.vl side port frames))
+      right-here : IsOfRight z (sound_of z.rule (arrivals_of t c l.vl side frames))
+          (uncut z (frames_of t c l.vl side port frames))
       right-here = record {
         asked = asks z ends (later-ends c.until) asks_it (own l.vl side arrivals);
-        arrivals = asked-arrivals (sound_of z.rule (filter (came_of t c lawful side place port l is) (own l.vl side arrivals)))
+        arrivals = asked-arrivals (sound_of z.rule (filter (came_of t c lawful side place port l is)
+            (own l.vl side arrivals)))
             ∙ ap (λ (xs : List Arrival). sound_of z.rule xs)
             (sym (arrivals-are t c lawful side place port l is arrivals frames recorded.came_are));
-        is_right = subst (λ (ys : List Gone). IsRight z (asks z ends (later-ends c.until) asks_it (own l.vl side arrivals))
+        is_right = subst (λ (ys : List Gone). IsRight z (asks z ends (later-ends c.until) asks_it
+            (own l.vl side arrivals))
             (uncut z ys)) (sym frames-seen)
             (right_cut z (asks z ends (later-ends c.until) asks_it (own l.vl side arrivals))
             (filter (is_seen z ends (later-ends c.until) (behind-end c.until until ended) asks_it) gone)
             (frames-up (filter (is_seen z ends (later-ends c.until) (behind-end c.until until ended) asks_it) gone)
-            (descend-filter (λ (y : Gone). y.time) (is_seen z ends (later-ends c.until) (behind-end c.until until ended) asks_it)
+            (descend-filter (λ (y : Gone). y.time) (is_seen z ends (later-ends c.until)
+            (behind-end c.until until ended) asks_it)
             gone gone-descend)) right-all);
       }
         where
@@ -329,7 +236,8 @@ module _ (t : Rows) (c : Choices) (until : ℕ) (lawful : IsLawfulSwitch t) (arr
       unfolding sound_of
       nothing-asked = refl
 
-      right-none : IsOfRight z (sound_of z.rule (arrivals_of t c l.vl side frames)) (uncut z (frames_of t c l.vl side port frames))
+      right-none : IsOfRight z (sound_of z.rule (arrivals_of t c l.vl side frames))
+          (uncut z (frames_of t c l.vl side port frames))
       right-none = record {
         asked = asks z ends (later-ends c.until) asks_it [];
         arrivals = nothing-asked ∙ ap (λ (xs : List Arrival). sound_of z.rule xs) (sym no-arrivals);
@@ -361,7 +269,8 @@ module _ (t : Rows) (c : Choices) (until : ℕ) (lawful : IsLawfulSwitch t) (arr
       let goes : goes_to t at.link y.port ≡ true = ap (λ (n : ℕ). goes_to t at.link n) are.0.port ∙ at.goes in
       (none-strange t lawful at.place at.link at.stands y named goes, strange-none ds ys all.1 are.1)
 
-  strange-frames : (side : Side) (port : ℕ) (fs : List Frame) → AllByRecursion (λ y. is_stranger t y ≡ false) (left_among fs)
+  strange-frames : (side : Side) (port : ℕ) (fs : List Frame)
+      → AllByRecursion (λ y. is_stranger t y ≡ false) (left_among fs)
       → AllByRecursion (λ x. (left_at side port x && is_stranger t x.arrival) ≡ false) fs
   unfolding left_at
   strange-frames side port [] all = tt

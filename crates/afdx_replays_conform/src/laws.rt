@@ -38,8 +38,8 @@ pub fn replays_conform()
     promises_are_kept()
 }
 
-/// So does each switch of an admitted cascade, by its own tables: of all that came to it, of the list
-/// and by cables, and of all that left it.
+/// So does each switch of an admitted cascade, by its own tables: of all that came to it, of the
+/// list and by cables, and of all that left it.
 pub fn switches_conform()
     ensures found { SwitchesConform }
     ensures exactly { SwitchesConformExactly }
