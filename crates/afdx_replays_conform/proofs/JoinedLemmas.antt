@@ -19,9 +19,10 @@ use Rattle.afdx_acceptance.specs.Choices.{latest_of}
 use Rattle.afdx_acceptance.specs.RunLaws.{AreByTime}
 use Rattle.afdx_acceptance.specs.Tapped.{all_taps}
 use Rattle.afdx_replays_conform.specs.Laws.{ListsAreRecorded, ToldLeaveInOrder}
-use Rattle.afdx_replays_conform.specs.Recorded.{came_among, left_among, AreRecordsOf, LeaveInOrder, both_lists}
+use Rattle.afdx_replays_conform.specs.Recorded.{came_among, left_among, AreRecordsOf, AreSameArrivals, LeaveInOrder, both_lists}
 use Rattle.afdx_replays_conform.proofs.ListLemmas.{Descend, filter-whole}
-use Rattle.afdx_replays_conform.proofs.TimeLemmas.{go-up-list, timed-descend}
+use Rattle.afdx_replays_conform.proofs.TimeLemmas.{go-descend, go-up-list, timed-go}
+use Rattle.afdx_replays_conform.proofs.NumberLemmas.{same-go}
 
 -- what is still to be read of both is no earlier than what was
 record Fits (past : List Frame) (xs ys : List Arrival) : Type 0 where
@@ -174,18 +175,20 @@ all-after [] = tt
 all-after (x ∷ xs) = (omega arith, all-after xs)
 
 pub lists-recorded : ListsAreRecorded
-lists-recorded arrivals left records timed order are =
-    let is = join-is [] (reverse arrivals) (reverse records) (record {
+lists-recorded arrivals came left records timed same order are =
+    let is = join-is [] (reverse came) (reverse records) (record {
       by_time = nothing-past;
-      up_came = go-up-list arrivals (timed-descend arrivals timed);
+      up_came = go-up-list came (go-descend came (same-go arrivals came same (timed-go arrivals timed)));
       up_left = go-up-list records (records-descend left records order are);
-      after_came = all-after (reverse arrivals);
+      after_came = all-after (reverse came);
       after_left = all-after (reverse records);
     }) in
     record {
-      came_are = is.came ∙ append-nil (reverse (reverse arrivals)) ∙ reverse-reverse arrivals
-          ∙ sym (filter-whole (λ (x : Arrival). all_taps Came x.side x.port) arrivals (every arrivals));
-      left_are = subst (λ (ds : List Leaving). AreRecordsOf ds (left_among (both_lists arrivals records)))
+      came_are = subst (λ (xs : List Arrival). AreSameArrivals xs (came_among (both_lists came records)))
+          (sym (filter-whole (λ (x : Arrival). all_taps Came x.side x.port) arrivals (every arrivals)))
+          (subst (λ (ys : List Arrival). AreSameArrivals arrivals ys)
+          (sym (is.came ∙ append-nil (reverse (reverse came)) ∙ reverse-reverse came)) same);
+      left_are = subst (λ (ds : List Leaving). AreRecordsOf ds (left_among (both_lists came records)))
           (sym (filter-whole (λ (d : Leaving). all_taps Left d.side d.port) left (every left)))
           (subst (λ (ys : List Arrival). AreRecordsOf left ys)
           (sym (is.left ∙ append-nil (reverse (reverse records)) ∙ reverse-reverse records)) are);

@@ -5,6 +5,7 @@ pub mod LeavingLemmas
 pub mod PromisedLemmas
 pub mod FrameLemmas
 pub mod TimeLemmas
+pub mod NumberLemmas
 pub mod StreamLemmas
 pub mod ConformLemmas
 pub mod JoinedLemmas

@@ -30,17 +30,20 @@ use Rattle.afdx_acceptance.specs.Frames.{arrivals_of, frames_of, gone_of, left_a
 use Rattle.afdx_acceptance.specs.RunLaws.{IsOfRight, AreOfRight}
 use Rattle.afdx_acceptance.specs.Tapped.{judged_to, is_of_came}
 use Rattle.afdx_replays_conform.specs.Leaving.{LeavesAsPromised, LeaveAsPromised}
-use Rattle.afdx_replays_conform.specs.Recorded.{AreRecorded, AreRecordsOf, left_among}
+use Rattle.afdx_replays_conform.specs.Recorded.{AreRecorded, AreRecordsOf, AreSameArrivals, came_among, left_among}
 use Rattle.afdx_replays_conform.proofs.AskedLemmas.{ask, asks}
 use Rattle.afdx_replays_conform.proofs.FrameLemmas.{IsJudgedOf, judged-of, leaves_out, came-passed, left-passed, asks_of, came_of, arrivals-are, left_here, all_gone, frames-are, gone-are, left-descend, side-here, none-strange}
 use Rattle.afdx_replays_conform.proofs.LeavingLemmas.{is_seen, stream-right}
 use Rattle.afdx_replays_conform.proofs.ListLemmas.{filter-same, filter-map, filter-none, filter-keeps, filter-passes, both-hold, Descend, descend-filter, descend-map, bool-cases, and-false}
 use Rattle.afdx_replays_conform.proofs.TimeLemmas.{accepted-shape, behind-end, frames-up, later-ends, own-go, short-frames, timed-go}
+use Rattle.afdx_replays_conform.proofs.NumberLemmas.{numbered-as, same-accepted, same-frames, same-go, same-own}
 use Rattle.afdx_replays_conform.proofs.PromisedLemmas.{stream-frames}
 
-module _ (t : Rows) (c : Choices) (until : ℕ) (lawful : IsLawfulSwitch t) (arrivals : List Arrival)
-    (timed : AreTimed arrivals) (left : List Leaving) (promised : LeaveAsPromised t arrivals left) (frames : List Frame)
-    (recorded : AreRecorded c.taps arrivals left frames) (ended : ForSome c.until (λ end. until ≡ end)) where
+module _ (t : Rows) (c : Choices) (until : ℕ) (lawful : IsLawfulSwitch t) (original : List Arrival)
+    (left : List Leaving) (promised : LeaveAsPromised t original left) (frames : List Frame)
+    (recorded : AreRecorded c.taps original left frames) (ended : ForSome c.until (λ end. until ≡ end))
+    (arrivals : List Arrival) (same : AreSameArrivals original arrivals) (go : GoByTime arrivals)
+    (came : came_among frames ≡ filter (λ x. c.taps Came x.side x.port) arrivals) where
   module _ (side : Side) (place port : ℕ) (l : LinkRow) (is : IsJudgedOf t c.taps side place port l) where
     abbrev z : Terms
     z = terms_at t c until l port
@@ -91,8 +94,13 @@ module _ (t : Rows) (c : Choices) (until : ℕ) (lawful : IsLawfulSwitch t) (arr
       harmless (x ∷ xs) all = (one-harmless x all.0, harmless xs all.1)
 
       frames-of : AreTheirFrames z (accepted_by_rule z.rule (own l.vl side arrivals)) gone
-      frames-of = stream-frames t lawful side port place l is.stands is.goes z refl refl refl arrivals left gone promised
-          (gone-are t c lawful side place port l is left frames recorded.left_are)
+      frames-of =
+          same-frames z (accepted_by_rule z.rule (own l.vl side original))
+          (accepted_by_rule z.rule (own l.vl side arrivals)) gone
+          (same-accepted z.rule (own l.vl side original) (own l.vl side arrivals)
+          (same-own l.vl side original arrivals same))
+          (stream-frames t lawful side port place l is.stands is.goes z refl refl refl original left gone promised
+          (gone-are t c lawful side place port l is left frames recorded.left_are))
 
       gone-descend : Descend (λ (y : Gone). y.time) gone
       gone-descend =
@@ -105,7 +113,7 @@ module _ (t : Rows) (c : Choices) (until : ℕ) (lawful : IsLawfulSwitch t) (arr
           (filter (is_seen z ends (later-ends c.until) (behind-end c.until until ended) asks_it) gone)
       right-all = stream-right z ends (later-ends c.until) (behind-end c.until until ended) asks_it
           (own l.vl side arrivals) gone bag-is
-          (own-go (λ x. is_side side x.side && names l.vl x.bytes) arrivals (timed-go arrivals timed)) gone-descend
+          (own-go (λ x. is_side side x.side && names l.vl x.bytes) arrivals go) gone-descend
           (harmless (own l.vl side arrivals) own-named) frames-of
 
       one-seen : (y : Arrival) → left_here t c lawful side place port l is y ≡ true
@@ -154,7 +162,7 @@ module _ (t : Rows) (c : Choices) (until : ℕ) (lawful : IsLawfulSwitch t) (arr
         arrivals = asked-arrivals (sound_of z.rule (filter (came_of t c lawful side place port l is)
             (own l.vl side arrivals)))
             ∙ ap (λ (xs : List Arrival). sound_of z.rule xs)
-            (sym (arrivals-are t c lawful side place port l is arrivals frames recorded.came_are));
+            (sym (arrivals-are t c lawful side place port l is arrivals frames came));
         is_right = subst (λ (ys : List Gone). IsRight z (asks z ends (later-ends c.until) asks_it
             (own l.vl side arrivals))
             (uncut z ys)) (sym frames-seen)
@@ -204,7 +212,7 @@ module _ (t : Rows) (c : Choices) (until : ℕ) (lawful : IsLawfulSwitch t) (arr
           ends-false false b = refl
 
       no-arrivals : arrivals_of t c l.vl side frames ≡ []
-      no-arrivals = arrivals-are t c lawful side place port l is arrivals frames recorded.came_are
+      no-arrivals = arrivals-are t c lawful side place port l is arrivals frames came
           ∙ filter-none (came_of t c lawful side place port l is) (own l.vl side arrivals)
           (none-came (own l.vl side arrivals) own-named)
 
@@ -299,8 +307,18 @@ module _ (t : Rows) (c : Choices) (until : ℕ) (lawful : IsLawfulSwitch t) (arr
       (filter-keeps (LeavesAsPromised t) (λ d. c.taps Left d.side d.port) left promised.each) recorded.left_are))))
 
   -- what is recorded is of a right switch
-  pub are-right : AreOfRight t c until frames
-  are-right = record {
+  all-right : AreOfRight t c until frames
+  all-right = record {
     none_strange = λ side port below. no-strangers side port;
     streams = λ side place port l h. one-right side place port l h;
   }
+
+pub are-right : (t : Rows) (c : Choices) (until : ℕ) → IsLawfulSwitch t → (arrivals : List Arrival) → AreTimed arrivals
+    → (left : List Leaving) → LeaveAsPromised t arrivals left → (frames : List Frame)
+    → AreRecorded c.taps arrivals left frames → ForSome c.until (λ end. until ≡ end) → AreOfRight t c until frames
+are-right t c until lawful arrivals timed left promised frames recorded ended =
+    let these = numbered-as (λ x. c.taps Came x.side x.port) (λ x y h. rw (h.side, h.port) refl) arrivals
+    (came_among frames)
+    recorded.came_are in
+    all-right t c until lawful arrivals left promised frames recorded ended these.numbered these.same
+    (same-go arrivals these.numbered these.same (timed-go arrivals timed)) these.kept

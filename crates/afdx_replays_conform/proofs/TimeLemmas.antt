@@ -29,13 +29,10 @@ timed-go (x ∷ past) h = (all-in past h.0, timed-go past h.1)
     all-in [] k = tt
     all-in (w ∷ ws) k = (k 0 w (omega arith), all-in ws (λ i d below. k (suc i) d (omega (arith, below))))
 
-pub timed-descend : (xs : List Arrival) → AreTimed xs → Descend (λ (x : Arrival). x.time) xs
+pub go-descend : (xs : List Arrival) → GoByTime xs → Descend (λ (x : Arrival). x.time) xs
 unfolding Descend GoByTime
-timed-descend xs h = by xs (timed-go xs h)
-  where
-    by : (ws : List Arrival) → GoByTime ws → Descend (λ (x : Arrival). x.time) ws
-    by [] k = tt
-    by (w ∷ ws) k = (k.0, by ws k.1)
+go-descend [] h = tt
+go-descend (x ∷ xs) h = (h.0, go-descend xs h.1)
 
 pub own-go : (p : Arrival → Bool) (xs : List Arrival) → GoByTime xs → GoByTime (filter p xs)
 unfolding GoByTime

@@ -20,7 +20,7 @@ use Rattle.afdx_acceptance.specs.Choices.{Choices, until_or}
 use Rattle.afdx_acceptance.specs.Lines.{AreLines, Due}
 use Rattle.afdx_acceptance.specs.RunLaws.{AreOfRight, IsExactBy, NothingIsFound}
 use Rattle.afdx_replays_conform.specs.Leaving.{LeaveAsPromised}
-use Rattle.afdx_replays_conform.specs.Recorded.{AreRecorded, AreRecordsOf, LeaveInOrder, both_lists}
+use Rattle.afdx_replays_conform.specs.Recorded.{AreRecorded, AreRecordsOf, AreSameArrivals, LeaveInOrder, both_lists}
 use Rattle.afdx_acceptance.specs.Tapped.{all_taps}
 
 -- lines that keep the promises, as those of a replay of admitted tables do, tell of frames that
@@ -95,14 +95,15 @@ ReplaysConformExactly =
 
 -- ---- there is such a recording
 
--- the list of a replay and its frames that left, as two lists that are read at once
+-- what came and what left, under any numbers, as two lists that are read at once
 abbrev pub ListsAreRecorded : Type 0
 ListsAreRecorded =
-    (arrivals : List Arrival) (left : List Leaving) (records : List Arrival) →
+    (arrivals came : List Arrival) (left : List Leaving) (records : List Arrival) →
     AreTimed arrivals →
+    AreSameArrivals arrivals came →
     LeaveInOrder left →
     AreRecordsOf left records →
-    AreRecorded all_taps arrivals left (both_lists arrivals records)
+    AreRecorded all_taps arrivals left (both_lists came records)
 
 -- of any tables, admitted or not
 abbrev pub ToldLeaveInOrder : Type 0

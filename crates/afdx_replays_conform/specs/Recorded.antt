@@ -30,10 +30,24 @@ AreRecordsOf [] (y ∷ ys) = ⊥
 AreRecordsOf (d ∷ ds) [] = ⊥
 AreRecordsOf (d ∷ ds) (y ∷ ys) = IsRecordOf d y × AreRecordsOf ds ys
 
+-- the same frame, which came at the same time to the same port, under any number
+pub record IsSameArrival (x y : Arrival) : Type 0 where
+  pub time : y.time ≡ x.time
+  pub side : y.side ≡ x.side
+  pub port : y.port ≡ x.port
+  pub bytes : y.bytes ≡ x.bytes
+
+unfoldable pub AreSameArrivals : List Arrival → List Arrival → Type 0
+AreSameArrivals [] [] = Unit {0}
+AreSameArrivals [] (y ∷ ys) = ⊥
+AreSameArrivals (x ∷ xs) [] = ⊥
+AreSameArrivals (x ∷ xs) (y ∷ ys) = IsSameArrival x y × AreSameArrivals xs ys
+
 -- of what came to a switch and what left it that which passed a recorded port, by time
 pub record AreRecorded (taps : Taps) (arrivals : List Arrival) (left : List Leaving)
     (frames : List Frame) : Type 0 where
-  pub came_are : came_among frames ≡ filter (λ x. taps Came x.side x.port) arrivals
+  pub came_are : AreSameArrivals (filter (λ x. taps Came x.side x.port) arrivals)
+      (came_among frames)
   pub left_are : AreRecordsOf (filter (λ d. taps Left d.side d.port) left) (left_among frames)
   pub by_time : AreByTime frames
 
