@@ -21,11 +21,10 @@ use Rattle.afdx_conform.proofs.QuietLemmas.{behind_one}
 use Rattle.afdx_acceptance.specs.Choices.{Choices}
 use Rattle.afdx_acceptance.specs.Frames.{strangers_of, terms_at}
 use Rattle.afdx_acceptance.specs.Keys.{key_with}
-use Rattle.afdx_acceptance.specs.Lines.{AreLines, Due, dues_by, dues_of, found_due, found_line, judged_at, judged_dues, of_key, stranger_due, stream_dues, unsure_dues}
+use Rattle.afdx_acceptance.specs.Lines.{AreLines, Due, dues_by, dues_of, found_due, found_line, judged_at, judged_dues, lines_of, of_key, stranger_due, stream_dues, unsure_dues}
 use Rattle.afdx_acceptance.specs.RunLaws.{AreAll, NoneIsStrange, NothingIsFound}
 use Rattle.afdx_acceptance.specs.Tapped.{judged_to}
 use Rattle.afdx_acceptance.specs.Telling.{findings_in, is_finding, one_if}
-use Rattle.afdx_acceptance.specs.Told.{lines_of}
 use Rattle.afdx_acceptance.specs.declared.key.Key.{Key}
 use Rattle.afdx_acceptance.proofs.KeyLemmas.{link-place}
 use Rattle.afdx_acceptance.proofs.OfKeyLemmas.{all-of-key, of-each-key}

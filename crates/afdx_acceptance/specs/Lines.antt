@@ -52,6 +52,10 @@ AreInOrder (d ∷ before) = (last_rank before ≤ rank d) × AreInOrder before
 abbrev pub of_key : Key → List Due → List Due
 of_key k lines = filter (λ d. is_key k d.key) lines
 
+-- what they say, the oldest first
+abbrev pub lines_of : List Due → List ConformLine
+lines_of lines = reverse (map (λ d. d.line) lines)
+
 -- ---- frames that are of no stream
 
 -- why the frame is none of the link's that its bytes name: the first that is true

@@ -1,6 +1,6 @@
 -- What a run over two lists answers and writes. A list of lines has the oldest first, one of frames
 -- the newest.
-use Rattle.std.specs.Prelude.{ℕ, ◌≡◌, List, ◌++◌, Option, None, Result, Ok, Err, min}
+use Rattle.std.specs.Prelude.{ℕ, ◌≡◌, List, ◌++◌, Option, None, Result, Ok, Err}
 use Rattle.std.specs.Io.KnownBytes.{Appends}
 use Rattle.afdx_config.specs.Rows.{Rows}
 use Rattle.afdx_engine.specs.Causes.{cause_of}
@@ -10,30 +10,21 @@ use Rattle.afdx_lists.specs.declared.fault.RunFault.{RunFault}
 use Rattle.afdx_lists.specs.declared.role.ByRole.{ByRole}
 use Rattle.afdx_lists.specs.declared.watched.Watched.{Watched}
 use Rattle.afdx_text.specs.ConformLines.{conform_text}
-use Rattle.afdx_text.specs.declared.conform_line.ConformLine.{ConformLine}
-use Rattle.afdx_acceptance.specs.Choices.{Choices, left_out_of, until_or}
-use Rattle.afdx_acceptance.specs.Lines.{AreLines, Due}
-use Rattle.afdx_acceptance.specs.Telling.{findings_in, lines_text, most_counted}
-use Rattle.afdx_acceptance.specs.Told.{BeginsLines, lines_of}
-use Rattle.afdx_acceptance.specs.Tapped.{unseen_of}
+use Rattle.afdx_acceptance.specs.Choices.{Choices, until_or}
+use Rattle.afdx_acceptance.specs.Counting.{totals_of}
+use Rattle.afdx_acceptance.specs.Lines.{AreLines, Due, lines_of}
+use Rattle.afdx_acceptance.specs.Telling.{lines_text}
 use Rattle.afdx_acceptance.specs.Totals.{last_line}
+use Rattle.afdx_acceptance.specs.Written.{BeginsWritten, IsWrittenSoFar}
 use Rattle.afdx_acceptance.specs.declared.totals.Totals.{Totals}
 
--- some lines are written
-abbrev pub WritesLines : Option (List ℕ) → Option (List ℕ) → Type 0
-WritesLines old new = (lines : List ConformLine) × Appends old new (lines_text lines)
-
--- all lines of these frames are written and then the last one, that of the counts: so many of the
--- lines are findings, so many of the frames are left out, so many streams aren't judged, and each
--- other is
+-- all lines of these frames are written and then the last one, that of the counts
 pub record WritesAll (k : Rows × Choices) (frames : List Frame) (old new : Option (List ℕ))
     (totals : Totals) : Type 0 where
   pub dues : List Due
   pub are_lines : AreLines k.0 k.1 (until_or k.1.until frames) frames dues
+  pub totals_are : totals ≡ totals_of k frames dues
   pub written : Appends old new (lines_text (lines_of dues) ++ conform_text (last_line totals))
-  pub findings_are : totals.findings ≡ min (findings_in (lines_of dues)) most_counted
-  pub left_out_are : totals.left_out ≡ min (left_out_of k.0 k.1 frames) most_counted
-  pub unseen_are : totals.unseen ≡ unseen_of k.0 k.1.taps
 
 -- the lists of these bytes; their inputs then are these, and the output held `old` and holds `new`
 module _ {R : Type 0} (remaining : R → Option (List ℕ)) (k : Rows × Choices)
@@ -46,5 +37,7 @@ module _ {R : Type 0} (remaining : R → Option (List ℕ)) (k : Rows × Choices
       × AreListed remaining bytes_came bytes_left rest came left
       × HoldsUpTo came left None (λ items. WritesAll k (frames_of items) old new totals)
   ConformAnswers (Err fault) =
-      TwoListsStop remaining bytes_came bytes_left rest (λ items. WritesLines old new)
-      (λ items. WritesLines old new) (λ items. BeginsLines old new) fault (cause_of fault)
+      TwoListsStop remaining bytes_came bytes_left rest
+      (λ items. IsWrittenSoFar k (frames_of items) old new)
+      (λ items. IsWrittenSoFar k (frames_of items) old new)
+      (λ items. BeginsWritten k (frames_of items) old new) fault (cause_of fault)

@@ -16,10 +16,9 @@ use Rattle.afdx_conform.specs.Right.{Asked, IsRight}
 use Rattle.afdx_conform.specs.Streams.{Gone, Terms}
 use Rattle.afdx_acceptance.specs.Choices.{Choices, latest_of, until_or}
 use Rattle.afdx_acceptance.specs.Frames.{arrivals_of, frames_of, strangers_of, terms_at}
-use Rattle.afdx_acceptance.specs.Lines.{AreLines, Due, judged_at}
+use Rattle.afdx_acceptance.specs.Lines.{AreLines, Due, judged_at, lines_of}
 use Rattle.afdx_acceptance.specs.Tapped.{judged_to}
 use Rattle.afdx_acceptance.specs.Telling.{findings_in}
-use Rattle.afdx_acceptance.specs.Told.{lines_of}
 
 -- frames go by time
 unfoldable pub AreByTime : List Frame → Type 0

@@ -23,7 +23,10 @@ ghost use Rattle.afdx_acceptance.specs.Frames.{frame_with, link_to};
 ghost use Rattle.afdx_acceptance.specs.Keeping.{AreKept, Given, IsNothingDue, IsSomeUpTo, is_known, with_came, with_left, with_strange};
 ghost use Rattle.afdx_acceptance.specs.Keys.{key_with};
 ghost use Rattle.afdx_acceptance.specs.Lines.{Due};
-ghost use Rattle.afdx_acceptance.specs.Slots.{AreFalling, IsCounted, IsStrange, IsStream, told_at, waiting_due};
+ghost use Rattle.afdx_acceptance.specs.Slots.{AreFalling, IsStrange, IsStream, told_at, waiting_due};
+ghost use Rattle.afdx_acceptance.specs.Awaited.{IsBefore, awaited};
+ghost use Rattle.afdx_acceptance.specs.Counting.{AreEnded, Counted, HasCounted, both_counted};
+ghost use Rattle.afdx_acceptance.specs.Counting.{counted_among, counted_of, counted_to, none_counted};
 ghost use Rattle.afdx_acceptance.specs.Keeping.{slot_at};
 ghost use Rattle.afdx_acceptance.specs.Tapped as spec;
 ghost use Rattle.afdx_acceptance.specs.Tapped.{taps_in};
@@ -344,6 +347,8 @@ impl<'a> Streams<'a> {
         ensures rules { IsSameButKept self.old self.new }
         ensures less { IfOk result (λ lines. IsSome lines →
             left_in self.new.kept.slots.items < left_in self.old.kept.slots.items) }
+        ensures in_time { IfOk result (λ taken. IfSome taken (λ l.
+            IsBefore before (awaited l.moment l.key))) }
     {
         let taken = self.kept.take_before(self.alloc, before, self.ended)?;
         Ok(taken)
@@ -370,14 +375,56 @@ impl<'a> Streams<'a> {
         unseen_of(self.tables, self.taps)
     }
 
-    /// What is counted of all streams.
+    /// What is counted of a link's streams on a side.
+    fn count_to(&self, side: Side, link: usize, totals: &mut Totals)
+        requires { link < length self.now.tables.now.links }
+        ensures findings { totals.new.findings ≡ totals.old.findings }
+        ensures left_out { totals.new.left_out ≡ totals.old.left_out }
+        ensures unseen { totals.new.unseen ≡ totals.old.unseen }
+        ensures counted { (c : Choices) (until : ℕ) (frames : List Seen) (n : Counted)
+            (l : LinkRow) → slice_get self.now.tables.now.links link ≡ Some l →
+            AreEnded self.now.tables.now c until frames self.now.kept → HasCounted n totals.old →
+            HasCounted
+            (both_counted n (counted_to self.now.tables.now c until frames side l l.to))
+            totals.new }
+    {
+        for rank in 0..self.tables.link(link).to.len() {
+            let system = receiver(self.tables, link, rank);
+            let key = Key {
+                side,
+                port: self.tables.system(system).port,
+                link: Some(link as u16),
+            };
+            self.kept.count(key, totals);
+        }
+    }
+
+    /// What is counted of all streams on a side.
+    fn count_on(&self, side: Side, totals: &mut Totals)
+        ensures findings { totals.new.findings ≡ totals.old.findings }
+        ensures left_out { totals.new.left_out ≡ totals.old.left_out }
+        ensures unseen { totals.new.unseen ≡ totals.old.unseen }
+        ensures counted { (c : Choices) (until : ℕ) (frames : List Seen) (n : Counted) →
+            AreEnded self.now.tables.now c until frames self.now.kept → HasCounted n totals.old →
+            HasCounted (both_counted n (counted_among self.now.tables.now c until frames side
+            self.now.tables.now.links)) totals.new }
+    {
+        for link in 0..self.tables.link_count() {
+            self.count_to(side, link, totals);
+        }
+    }
+
+    /// What is counted of all streams, on both sides.
     pub(crate) fn count(&self, totals: &mut Totals)
         ensures findings { totals.new.findings ≡ totals.old.findings }
         ensures left_out { totals.new.left_out ≡ totals.old.left_out }
         ensures unseen { totals.new.unseen ≡ totals.old.unseen }
-        ensures judged { (i : ℕ) → i < length self.now.kept.slots.items →
-            IsCounted (get_or self.now.kept.slots.items i slot.Nothing) }
+        ensures counted { (c : Choices) (until : ℕ) (frames : List Seen) →
+            AreEnded self.now.tables.now c until frames self.now.kept →
+            HasCounted none_counted totals.old →
+            HasCounted (counted_of self.now.tables.now c until frames) totals.new }
     {
-        self.kept.count(totals);
+        self.count_on(Side::A, totals);
+        self.count_on(Side::B, totals);
     }
 }

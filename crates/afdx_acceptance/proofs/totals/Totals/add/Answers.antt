@@ -1,22 +1,18 @@
-use Rattle.std.proofs.Common.{refl, sym, subst}
-use Rattle.afdx_acceptance.specs.Slots.{IsCounted}
-use Rattle.afdx_acceptance.proofs.SlotLemmas.{counted-other, counted-stream}
+use Rattle.std.proofs.Common.{◌≡◌, true, false, refl, sym, ap, ◌∙◌, subst}
+use Rattle.std.specs.Prelude.{is_some}
+use Rattle.afdx_conform.specs.Findings.{Judged}
+use Rattle.afdx_conform.specs.Histories.{judged_of, unsure_in}
+use Rattle.afdx_conform.specs.Standing.{IsEnding, due_of}
+use Rattle.afdx_acceptance.specs.Slots.{StreamEnds}
+use Rattle.afdx_acceptance.specs.Waiting.{slot_due}
+use Rattle.afdx_acceptance.proofs.CountingLemmas.{has-other, has-stream, or-none, or-some, unsure-behind}
 use Rattle.afdx_acceptance.proofs.totals.Totals.add.Goals as goal
-
-pub returns-then-is_some-clause-judged : goal.returns-then-is_some-clause-judged
-returns-then-is_some-clause-judged c =
-    subst IsCounted (sym c.in-Stream.is) (counted-stream c.in-Stream.stream c.deref.result.now c.deref.ensures
-    c.counts-counts.ensures.judged)
-
-pub returns-else-is_some-clause-judged : goal.returns-else-is_some-clause-judged
-returns-else-is_some-clause-judged c =
-    subst IsCounted (sym c.in-Stream.is) (counted-stream c.in-Stream.stream c.deref.result.now c.deref.ensures
-    c.counts-counts.ensures.judged)
 
 pub returns-in_default : goal.returns-in_default
 returns-in_default c = record {
   findings = refl;
   left_out = refl;
   unseen = refl;
-  judged = counted-other c.args.slot.now c.in_default.not-Stream;
+  counted = λ n z k xs ys lines due ends has. has-other n z k xs ys lines c.args.slot.now c.args.self.now
+      c.in_default.not-Stream ends has;
 }
