@@ -21,7 +21,7 @@ use Rattle.afdx_replays_conform.proofs.PromisedLemmas.{kept-leave}
 use Rattle.afdx_replays_conform.proofs.StreamLemmas.{are-right}
 
 -- where an end is said, it is the end
-end-is : (o : Option ℕ) (frames : List Frame) → ForSome o (λ end. until_or o frames ≡ end)
+pub end-is : (o : Option ℕ) (frames : List Frame) → ForSome o (λ end. until_or o frames ≡ end)
 end-is None frames end e = absurd (cc e)
 end-is (Some time) frames end e = cc e
 
@@ -50,19 +50,19 @@ replays-conform-exactly right headline kept t c arrivals frames lines run exact 
 -- ---- several switches
 
 -- the switch told its events as if it were alone
-told-alone : (switches : List NamedRows) (events : List SwitchEvent) (k : ℕ) → IsSwitchOf switches events k
+pub told-alone : (switches : List NamedRows) (events : List SwitchEvent) (k : ℕ) → IsSwitchOf switches events k
     → left_from_switch switches k events ≡ left_in (told (tables_of switches k) (came_to k events))
 told-alone switches events k is =
     ap (λ (es : List Event). left_in (told_by (tables_of switches k) es))
     (runs-alone (plan_of switches) is.cascade events k is.stands is.all.none is.within)
 
-run-there : (switches : List NamedRows) (events : List SwitchEvent) (k : ℕ) → IsSwitchOf switches events k
+pub run-there : (switches : List NamedRows) (events : List SwitchEvent) (k : ℕ) → IsSwitchOf switches events k
     → IsAdmittedRun (tables_of switches k) (came_to k events)
 run-there switches events k is =
     let s = slice_get-within switches k is.within in
     run-at switches events k s.0 is.all.cascade s.1
 
-lines-there : (switches : List NamedRows) (events : List SwitchEvent) (k : ℕ) (c : Choices) (frames : List Frame)
+pub lines-there : (switches : List NamedRows) (events : List SwitchEvent) (k : ℕ) (c : Choices) (frames : List Frame)
     (lines : List Due) → IsSwitchOf switches events k
     → AreLinesOf (tables_of switches k) c (came_to k events) (left_from_switch switches k events) frames lines
     → AreLinesOf (tables_of switches k) c (came_to k events) (left_in

@@ -169,6 +169,13 @@ judged-of t taps side place port l h = by (slice_get t.links place) refl h
     by None e g = absurd (cc g)
     by (Some k) e g = goes-on k e (goes_to t k port) refl g
 
+-- and with both ports recorded it is
+pub to-judged : (t : Rows) (taps : Taps) (side : Side) (place port : ℕ) (l : LinkRow)
+    → slice_get t.links place ≡ Some l → goes_to t l port ≡ true → taps Came side (port_of t l.from) ≡ true
+    → taps Left side port ≡ true → judged_to t taps side place port ≡ Some l
+unfolding judged_to link_to
+to-judged t taps side place port l at goes heard seen = rw (at, goes, heard, seen) refl
+
 -- ---- what is passed over
 
 -- the link is left out

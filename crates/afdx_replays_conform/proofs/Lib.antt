@@ -9,3 +9,5 @@ pub mod NumberLemmas
 pub mod StreamLemmas
 pub mod ConformLemmas
 pub mod JoinedLemmas
+pub mod SomeLemmas
+pub mod AnsweredLemmas

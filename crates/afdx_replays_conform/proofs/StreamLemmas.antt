@@ -139,7 +139,7 @@ module _ (t : Rows) (c : Choices) (until : ℕ) (lawful : IsLawfulSwitch t) (ori
       all-seen [] all = tt
       all-seen (y ∷ ys) all = (one-seen y all.0.0 all.0.1, all-seen ys all.1)
 
-      frames-seen : frames_of t c l.vl side port frames
+      pub frames-seen : frames_of t c l.vl side port frames
           ≡ filter (is_seen z ends (later-ends c.until) (behind-end c.until until ended) asks_it) gone
       frames-seen =
           let ys = all_gone t c lawful side place port l is frames in

@@ -1,11 +1,13 @@
 -- What a replay tells conforms. Lists have the newest first.
-use Rattle.std.specs.Prelude.{◌≡◌, ℕ, ◌<◌, List, [], length}
+use Rattle.std.specs.Prelude.{◌≡◌, ℕ, ◌<◌, true, None, List, [], length}
 use Rattle.std.specs.Option.{ForSome}
+use Rattle.afdx_frame.specs.declared.link.Side.{Side}
 use Rattle.afdx_config.specs.Lawful.{IsLawfulSwitch}
 use Rattle.afdx_config.specs.Rows.{Rows}
 use Rattle.afdx_config.specs.Switches.{NamedRows}
 use Rattle.afdx_conform.specs.Leeways.{IsLeeway}
 use Rattle.afdx_inputs.specs.Joining.{Frame}
+use Rattle.afdx_lists.specs.declared.role.Role.{Role}
 use Rattle.afdx_police.specs.Arrival.{Arrival}
 use Rattle.afdx_bounds.specs.Outputs.{AreTimed}
 use Rattle.afdx_switch.specs.Admitted.{IsAdmittedRun}
@@ -16,12 +18,14 @@ use Rattle.afdx_cascade.specs.EndToEnd.{AreAllEvents}
 use Rattle.afdx_cascade.specs.Plans.{plan_of, tables_of}
 use Rattle.afdx_cascade.specs.SwitchEvents.{SwitchEvent, at_switch, came_to}
 use Rattle.afdx_cascade.specs.declared.cascade.Cascade.{Cascade}
+use Rattle.afdx_text.specs.declared.conform_line.Answer.TheVariants.{Conforms, Deviates}
 use Rattle.afdx_acceptance.specs.Choices.{Choices, until_or}
 use Rattle.afdx_acceptance.specs.Lines.{AreLines, Due}
 use Rattle.afdx_acceptance.specs.RunLaws.{AreOfRight, IsExactBy, NothingIsFound}
+use Rattle.afdx_acceptance.specs.Tapped.{all_taps}
+use Rattle.afdx_acceptance.specs.VerdictLaws.{SomeLeft, answered}
 use Rattle.afdx_replays_conform.specs.Leaving.{LeaveAsPromised}
 use Rattle.afdx_replays_conform.specs.Recorded.{AreRecorded, AreRecordsOf, AreSameArrivals, LeaveInOrder, both_lists}
-use Rattle.afdx_acceptance.specs.Tapped.{all_taps}
 
 -- lines that keep the promises, as those of a replay of admitted tables do, tell of frames that
 -- leave as promised
@@ -93,6 +97,40 @@ ReplaysConformExactly =
     AreLinesOf t c arrivals (left_in (told t arrivals)) frames lines →
     lines ≡ []
 
+-- ---- what is answered
+
+-- stamps and clocks are exact, the switch was reset before, and nothing is passed over: neither
+-- what came or left before or behind some time, nor a link, nor a port
+pub record IsPlain (c : Choices) : Type 0 where
+  pub exact : IsExactBy c.by
+  pub until : c.until ≡ None
+  pub left_out : c.left_out ≡ []
+  pub taps : (role : Role) (side : Side) (port : ℕ) → c.taps role side port ≡ true
+
+-- then it conforms, if a frame left; whatever is asked, it never deviates
+pub record IsAnswered (t : Rows) (c : Choices) (left : List Leaving) (frames : List Frame)
+    (lines : List Due) : Type 0 where
+  pub plain : IsPlain c → 0 < length left → answered (t, c) frames lines ≡ Conforms
+  pub exact : IsExactBy c.by → SomeLeft (t, c) frames → answered (t, c) frames lines ≡ Conforms
+  pub never : (findings : ℕ) → answered (t, c) frames lines ≡ Deviates findings → ⊥
+
+abbrev pub PromisedIsAnswered : Type 0
+PromisedIsAnswered =
+    (t : Rows) (c : Choices) (arrivals : List Arrival) (left : List Leaving) (frames : List Frame)
+    (lines : List Due) →
+    IsLawfulSwitch t →
+    AreTimed arrivals →
+    LeaveAsPromised t arrivals left →
+    AreLinesOf t c arrivals left frames lines →
+    IsAnswered t c left frames lines
+
+abbrev pub ReplaysAreAnswered : Type 0
+ReplaysAreAnswered =
+    (t : Rows) (c : Choices) (arrivals : List Arrival) (frames : List Frame) (lines : List Due) →
+    IsAdmittedRun t arrivals →
+    AreLinesOf t c arrivals (left_in (told t arrivals)) frames lines →
+    IsAnswered t c (left_in (told t arrivals)) frames lines
+
 -- ---- there is such a recording
 
 -- what came and what left, under any numbers, as two lists that are read at once
@@ -143,3 +181,12 @@ SwitchesConformExactly =
     AreLinesOf (tables_of switches k) c (came_to k events) (left_from_switch switches k events)
     frames lines →
     lines ≡ []
+
+abbrev pub SwitchesAreAnswered : Type 0
+SwitchesAreAnswered =
+    (switches : List NamedRows) (events : List SwitchEvent) (k : ℕ) (c : Choices)
+    (frames : List Frame) (lines : List Due) →
+    IsSwitchOf switches events k →
+    AreLinesOf (tables_of switches k) c (came_to k events) (left_from_switch switches k events)
+    frames lines →
+    IsAnswered (tables_of switches k) c (left_from_switch switches k events) frames lines

@@ -1,9 +1,11 @@
 //! A replay's own frames conform.
 
 ghost use Rattle.afdx_replays_conform.specs.Laws.{ListsAreRecorded, PromisedConforms};
-ghost use Rattle.afdx_replays_conform.specs.Laws.{PromisedConformsExactly, PromisedIsRight};
+ghost use Rattle.afdx_replays_conform.specs.Laws.{PromisedConformsExactly, PromisedIsAnswered};
+ghost use Rattle.afdx_replays_conform.specs.Laws.{PromisedIsRight, ReplaysAreAnswered};
 ghost use Rattle.afdx_replays_conform.specs.Laws.{ReplaysConform, ReplaysConformExactly};
-ghost use Rattle.afdx_replays_conform.specs.Laws.{SwitchesConform, SwitchesConformExactly};
+ghost use Rattle.afdx_replays_conform.specs.Laws.{SwitchesAreAnswered, SwitchesConform};
+ghost use Rattle.afdx_replays_conform.specs.Laws.{SwitchesConformExactly};
 ghost use Rattle.afdx_replays_conform.specs.Laws.{ToldLeaveAsPromised, ToldLeaveInOrder};
 
 use afdx_acceptance::laws::{conforms_is_the_headline, right_conforms};
@@ -18,20 +20,24 @@ pub fn promised_is_right()
 {}
 
 /// So no line of such a recording is a finding; with exact stamps and clocks, from a reset on,
-/// there is none at all: no stream is unsure.
+/// there is none at all: no stream is unsure. A run never answers `deviates`, and where, besides,
+/// nothing is passed over and a frame left, it answers `conforms`.
 pub fn promised_conforms()
     ensures found { PromisedConforms }
     ensures exactly { PromisedConformsExactly }
+    ensures answer { PromisedIsAnswered }
 {
     right_conforms();
     conforms_is_the_headline()
 }
 
 /// A replay conforms: of its list, and of the frames that its D lines say left, no line is a
-/// finding, and with exact stamps and clocks, from a reset on, there is none at all.
+/// finding, and with exact stamps and clocks, from a reset on, there is none at all. It is answered
+/// so, too.
 pub fn replays_conform()
     ensures found { ReplaysConform }
     ensures exactly { ReplaysConformExactly }
+    ensures answer { ReplaysAreAnswered }
 {
     right_conforms();
     conforms_is_the_headline();
@@ -43,6 +49,7 @@ pub fn replays_conform()
 pub fn switches_conform()
     ensures found { SwitchesConform }
     ensures exactly { SwitchesConformExactly }
+    ensures answer { SwitchesAreAnswered }
 {
     right_conforms();
     conforms_is_the_headline();
