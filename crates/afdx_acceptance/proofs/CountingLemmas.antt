@@ -89,7 +89,8 @@ or-some true = refl
 or-some false = refl
 
 -- it is unsure behind an arrival
-pub unsure-behind : (z : Terms) (xs : List Arrival) (ys : List Gone) → is_some (unsure_in (judged_of z xs ys)) ≡ (judged_of z xs ys).is_unsure
+pub unsure-behind : (z : Terms) (xs : List Arrival) (ys : List Gone)
+    → is_some (unsure_in (judged_of z xs ys)) ≡ (judged_of z xs ys).is_unsure
 unsure-behind z xs ys = by (judged_of z xs ys).is_unsure refl
   where
     some : (l : List Marked) → (before : List Marked) × (one : Marked) × (l ≡ before ++ one ∷ []) → is_some (newest_tag l) ≡ true

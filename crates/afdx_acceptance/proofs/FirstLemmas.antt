@@ -72,7 +72,8 @@ module _ (t : Rows) (c : Choices) (more frames : List Frame) where
   left-to-both k None = refl
   left-to-both k (Some l) =
       let test : Frame → Bool = λ x. left_at k.side k.port x && names l.vl x.arrival.bytes in
-      ap (λ fs. reverse (map (λ (x : Frame). gone_of x.arrival) (filter (λ x. left_at k.side k.port x && names l.vl x.arrival.bytes) fs))) counted-both
+      ap (λ fs. reverse (map (λ (x : Frame). gone_of x.arrival) (filter
+      (λ x. left_at k.side k.port x && names l.vl x.arrival.bytes) fs))) counted-both
       ∙ ap (λ fs. reverse (map (λ (x : Frame). gone_of x.arrival) fs)) (filter-append test (counted t c more) (counted t c frames))
       ∙ reverse-more (λ (x : Frame). gone_of x.arrival) (filter test (counted t c more)) (filter test (counted t c frames))
 
@@ -96,7 +97,8 @@ module _ (t : Rows) (c : Choices) (more frames : List Frame) where
       ≡ map (stranger_due t k) (strangers_of t c k.side k.port more) ++ map (stranger_due t k) (strangers_of t c k.side k.port frames)
   strange-both k =
       let test : Frame → Bool = λ x. left_at k.side k.port x && is_stranger t x.arrival in
-      ap (λ fs. map (stranger_due t k) (map (λ (x : Frame). x.arrival) (filter (λ x. left_at k.side k.port x && is_stranger t x.arrival) fs)))
+      ap (λ fs. map (stranger_due t k) (map (λ (x : Frame). x.arrival) (filter
+      (λ x. left_at k.side k.port x && is_stranger t x.arrival) fs)))
       counted-both
       ∙ ap (λ fs. map (stranger_due t k) (map (λ (x : Frame). x.arrival) fs)) (filter-append test (counted t c more) (counted t c frames))
       ∙ ap (λ l. map (stranger_due t k) l)

@@ -359,7 +359,8 @@ and-all false b c e f g = absurd (true≢false (sym e))
 and-all true true c e f g = absurd (true≢false f)
 and-all true false false e f g = absurd (true≢false (sym g))
 
-pub does-count : (t : Rows) (c : Choices) (x : Frame) → is_in_time c x ≡ true → is_passed t c x ≡ false → length x.arrival.bytes ≤ most_bytes
+pub does-count : (t : Rows) (c : Choices) (x : Frame) → is_in_time c x ≡ true → is_passed t c x ≡ false
+    → length x.arrival.bytes ≤ most_bytes
     → counts t c x ≡ true
 unfolding counts
 does-count t c x in-time out le = and-all (is_in_time c x) (is_passed t c x) (nat_le (length x.arrival.bytes) most_bytes) in-time out

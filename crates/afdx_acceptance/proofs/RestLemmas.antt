@@ -166,7 +166,8 @@ module _ (z : Terms) where
         let rest = events_of z (coming xs over) (unclosed ys over) in
         subst (λ (l : List Arrival). AddsAt z At (judged_after z ys l over) (judged_whole z xs ys))
         (came-are (coming xs over) (unclosed ys over))
-        (subst (λ (j : Judged). AddsAt z At (judged_after z ys (reverse (arrivals_came (reverse (events_of z (coming xs over) (unclosed ys over)))) ++ []) over) j)
+        (subst (λ (j : Judged). AddsAt z At (judged_after z ys (reverse (arrivals_came (reverse (events_of z
+        (coming xs over) (unclosed ys over)))) ++ []) over) j)
         (sym (rest-are xs ys over h))
         (adds-at z At ys [] (reverse rest) over
         (every-reverse (λ e. At (event_time z e)) rest

@@ -33,7 +33,8 @@ module _ (r : Rows × Choices) (start : Option (List ℕ)) (frames : List Frame)
   chosen-same : k.streams.taps ≡ j.streams.taps → k.choices ≡ j.choices
       → choices_of (taps_in j.streams.taps.now) j.choices.now ≡ r.1 → choices_of (taps_in k.streams.taps.now) k.choices.now ≡ r.1
   chosen-same taps choices is =
-      ap (λ (p : Bor Taps). choices_of (taps_in p.now) k.choices.now) taps ∙ ap (λ b. choices_of (taps_in j.streams.taps.now) b.now) choices ∙ is
+      ap (λ (p : Bor Taps). choices_of (taps_in p.now) k.choices.now) taps
+      ∙ ap (λ b. choices_of (taps_in j.streams.taps.now) b.now) choices ∙ is
 
   -- what else changes doesn't matter
   pub tells-same : (output : Option (List ℕ)) (lines : List ConformLine) → IsSameButKept j.streams k.streams → k.choices ≡ j.choices
@@ -110,7 +111,8 @@ tells-next r start frames j k l output lines x others streams choices findings l
     let by-r = subst (λ (o : Choices). j.left_out ≡ min (left_out_of r.0 o frames) most_counted
     → k.left_out ≡ min (left_out_of r.0 o (x ∷ frames)) most_counted) h.choices_are
     (subst (λ (t : Rows). j.left_out ≡ min (left_out_of t (choices_of (taps_in j.streams.taps.now) j.choices.now) frames) most_counted
-    → k.left_out ≡ min (left_out_of t (choices_of (taps_in j.streams.taps.now) j.choices.now) (x ∷ frames)) most_counted) h.tables_are counted) in
+    → k.left_out ≡ min (left_out_of t (choices_of (taps_in j.streams.taps.now) j.choices.now)
+    (x ∷ frames)) most_counted) h.tables_are counted) in
     record {
       tables_are = ap (λ (s : Streams). s.tables.now) streams ∙ ap (λ (b : Bor Rows). b.now) others.rules.tables ∙ h.tables_are;
       choices_are = chosen-same r start frames j l (ap (λ (s : Streams). s.taps) streams ∙ others.rules.taps) (choices ∙ others.choices)

@@ -22,8 +22,8 @@ use Rattle.afdx_acceptance.specs.declared.key.Key.{Key}
 use Rattle.afdx_acceptance.specs.declared.totals.Totals.{Totals}
 
 -- how many frames are explained; how many left, or may have left, where the recordings had ended;
--- of how many arrivals both answers were right; and whether there were too many ways to explain some
--- stream
+-- of how many arrivals both answers were right; and whether some stream could be explained in too
+-- many ways
 pub record Counted : Type 0 where
   pub explained : ℕ
   pub waiting : ℕ
@@ -62,7 +62,7 @@ module _ (t : Rows) (c : Choices) (until : ℕ) (frames : List Frame) where
       (reverse (arrivals_of t c l.vl side frames)) (reverse (frames_of t c l.vl side port frames))
       else none_counted
 
-  -- of its streams on a side to these systems, of all of these links on it, and of all on both sides
+  -- of its streams on a side to these systems; of all of these links' on it; of all on both sides
   unfoldable pub counted_to : Side → LinkRow → (to : List ℕ) → Counted
   counted_to side l [] = none_counted
   counted_to side l (system ∷ to) =

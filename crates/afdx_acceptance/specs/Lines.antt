@@ -1,5 +1,5 @@
--- The lines that a run writes of the frames of both roles, before its last line. Lists of frames and
--- of lines have the newest first.
+-- The lines that a run writes of the frames of both roles, before its last line. Lists of frames
+-- and of lines have the newest first.
 use Rattle.std.specs.Prelude.{ℕ, ◌+◌, ◌*◌, ◌<◌, ◌≤◌, ◌≡◌, Bool, true, ⊤, Option, Some, None, List, [], ◌∷◌, ◌++◌, filter, map, is_some, reverse, if◌then◌else◌}
 use Rattle.std.specs.Option.{option_map_or}
 use Rattle.afdx_config.specs.Rows.{Rows, LinkRow}

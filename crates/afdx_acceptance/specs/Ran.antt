@@ -1,5 +1,5 @@
--- What a run answers and writes, whatever gives it its frames. A list of lines has the oldest first,
--- one of frames the newest.
+-- What a run answers and writes, whatever gives it its frames. A list of lines has the oldest
+-- first, one of frames the newest.
 use Rattle.std.specs.Prelude.{ℕ, ◌≡◌, ◌⊎◌, Bool, true, false, List, ◌++◌, Option, None, Some, Result, Ok, Err, nat_lt, if◌then◌else◌}
 use Rattle.std.specs.Io.KnownBytes.{Appends}
 use Rattle.afdx_config.specs.Rows.{Rows}
@@ -47,8 +47,8 @@ loss_told false lost = if nat_lt 0 lost then Some (Recording (Lossy lost)) else 
 module _ (Takes : List Frame → Result SeenCount RunFault → Type 0) (k : Rows × Choices)
     (is_lossy : Bool) (old new : Option (List ℕ)) where
   -- A run stops before it took all frames. At a fault of the inputs exactly the lines of moments
-  -- before the time of the last frame are written; after a failed write, or want of memory, these or
-  -- a beginning of the first lines.
+  -- before the time of the last frame are written; after a failed write, or want of memory, these,
+  -- or a beginning of the first lines.
   abbrev pub StopsAmong : RunFault → Type 0
   StopsAmong fault = (frames : List Frame) × Takes frames (Err fault)
       × ByCause (cause_of fault) (IsWrittenSoFar k frames old new)
@@ -59,7 +59,8 @@ module _ (Takes : List Frame → Result SeenCount RunFault → Type 0) (k : Rows
   abbrev pub StopsBehind : RunFault → Type 0
   StopsBehind fault = (frames : List Frame) × (count : SeenCount) × Takes frames (Ok count)
       × (((loss_told is_lossy (lost_of count) ≡ Some fault) × WritesDues k frames old new)
-      ⊎ ((loss_told is_lossy (lost_of count) ≡ None) × IsOfOutput fault × BeginsLast k frames old new))
+      ⊎ ((loss_told is_lossy (lost_of count) ≡ None) × IsOfOutput fault
+      × BeginsLast k frames old new))
 
   -- all frames were taken, none was lost that matters, and all lines are written; or it stops with
   -- a fault, without a last line

@@ -88,8 +88,8 @@ HasBegun k last time ended old new frames =
     (j : Judging) × (lines : List ConformLine) × AppendsFront old new (lines_text lines)
     × (j.streams.ended ≡ ended) × Stands k last time j frames lines
 
--- of the frames of a run: all lines of moments before the time of the last one are written, whatever
--- comes
+-- of the frames of a run: all lines of moments before the time of the last one are written,
+-- whatever comes
 abbrev pub TellsItems : Rows × Choices → Judging → Option (List ℕ) → Option (List ℕ) →
     List (Item Seen) → Type 0
 TellsItems k j old new past =

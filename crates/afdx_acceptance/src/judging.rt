@@ -237,8 +237,8 @@ impl<'a> Judging<'a> {
         self.tell_due(Some(time), output)
     }
 
-    /// Whether a line that names this link is passed over: the link is left out, or the line left and
-    /// its sender's port isn't recorded.
+    /// Whether a line that names this link is passed over: the link is left out, or the line left
+    /// and its sender's port isn't recorded.
     fn is_passed(&self, seen: &Seen, vl: Option<VlId>) -> bool
         ensures { (x : Frame) → x.role ≡ seen.now.role → x.arrival.side ≡ seen.now.heading.side →
             vl ≡ link_named_by x.arrival.bytes →

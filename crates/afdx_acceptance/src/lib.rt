@@ -8,6 +8,7 @@ mod agenda;
 mod asked;
 mod choices;
 mod command;
+mod counting;
 mod judging;
 mod kept;
 mod key;
@@ -23,6 +24,7 @@ mod totals;
 mod whole;
 
 pub use afdx_conform::Leeway;
+pub use afdx_inputs::{AsLists, SeenCount, SeenFrames};
 pub use afdx_lists::{ByRole, Watched};
 pub use choices::Choices;
 pub use command::{Judged, conform};

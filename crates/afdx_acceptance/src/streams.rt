@@ -25,13 +25,13 @@ ghost use Rattle.afdx_acceptance.specs.Keys.{key_with};
 ghost use Rattle.afdx_acceptance.specs.Lines.{Due};
 ghost use Rattle.afdx_acceptance.specs.Slots.{AreFalling, IsStrange, IsStream, told_at, waiting_due};
 ghost use Rattle.afdx_acceptance.specs.Awaited.{IsBefore, awaited};
-ghost use Rattle.afdx_acceptance.specs.Counting.{AreEnded, Counted, HasCounted, both_counted};
-ghost use Rattle.afdx_acceptance.specs.Counting.{counted_among, counted_of, counted_to, none_counted};
+ghost use Rattle.afdx_acceptance.specs.Counting.{AreEnded, HasCounted, counted_of, none_counted};
 ghost use Rattle.afdx_acceptance.specs.Keeping.{slot_at};
 ghost use Rattle.afdx_acceptance.specs.Tapped as spec;
 ghost use Rattle.afdx_acceptance.specs.Tapped.{taps_in};
 ghost use Rattle.afdx_acceptance.specs.Waiting.{left_in};
 
+use crate::counting::count_streams;
 use crate::kept::{Kept, Lines};
 use crate::key::Key;
 use crate::outlets::{link_named, new_stream, outlet_at, receiver, rule_at};
@@ -227,8 +227,8 @@ impl<'a> Streams<'a> {
         })
     }
 
-    /// A frame came in that names this link: it comes to each of the link's streams on its side that
-    /// is judged.
+    /// A frame came in that names this link: it comes to each of the link's streams on its side
+    /// that is judged.
     pub(crate) fn came(
         &mut self,
         vl: Option<VlId>,
@@ -270,7 +270,8 @@ impl<'a> Streams<'a> {
         Ok(())
     }
 
-    /// Whether a frame that names this link left on a side on which its sender's port isn't recorded.
+    /// Whether a frame that names this link left on a side on which its sender's port isn't
+    /// recorded.
     pub(crate) fn is_unheard(&self, role: Role, side: Side, vl: Option<VlId>) -> bool
         ensures { (x : Seen) → x.role ≡ role → x.arrival.side ≡ side →
             vl ≡ link_named_by x.arrival.bytes →
@@ -376,45 +377,6 @@ impl<'a> Streams<'a> {
         unseen_of(self.tables, self.taps)
     }
 
-    /// What is counted of a link's streams on a side.
-    fn count_to(&self, side: Side, link: usize, totals: &mut Totals)
-        requires { link < length self.now.tables.now.links }
-        ensures findings { totals.new.findings ≡ totals.old.findings }
-        ensures left_out { totals.new.left_out ≡ totals.old.left_out }
-        ensures unseen { totals.new.unseen ≡ totals.old.unseen }
-        ensures counted { (c : Choices) (until : ℕ) (frames : List Seen) (n : Counted)
-            (l : LinkRow) → slice_get self.now.tables.now.links link ≡ Some l →
-            AreEnded self.now.tables.now c until frames self.now.kept → HasCounted n totals.old →
-            HasCounted
-            (both_counted n (counted_to self.now.tables.now c until frames side l l.to))
-            totals.new }
-    {
-        for rank in 0..self.tables.link(link).to.len() {
-            let system = receiver(self.tables, link, rank);
-            let key = Key {
-                side,
-                port: self.tables.system(system).port,
-                link: Some(link as u16),
-            };
-            self.kept.count(key, totals);
-        }
-    }
-
-    /// What is counted of all streams on a side.
-    fn count_on(&self, side: Side, totals: &mut Totals)
-        ensures findings { totals.new.findings ≡ totals.old.findings }
-        ensures left_out { totals.new.left_out ≡ totals.old.left_out }
-        ensures unseen { totals.new.unseen ≡ totals.old.unseen }
-        ensures counted { (c : Choices) (until : ℕ) (frames : List Seen) (n : Counted) →
-            AreEnded self.now.tables.now c until frames self.now.kept → HasCounted n totals.old →
-            HasCounted (both_counted n (counted_among self.now.tables.now c until frames side
-            self.now.tables.now.links)) totals.new }
-    {
-        for link in 0..self.tables.link_count() {
-            self.count_to(side, link, totals);
-        }
-    }
-
     /// What is counted of all streams, on both sides.
     pub(crate) fn count(&self, totals: &mut Totals)
         ensures findings { totals.new.findings ≡ totals.old.findings }
@@ -425,7 +387,6 @@ impl<'a> Streams<'a> {
             HasCounted none_counted totals.old →
             HasCounted (counted_of self.now.tables.now c until frames) totals.new }
     {
-        self.count_on(Side::A, totals);
-        self.count_on(Side::B, totals);
+        count_streams(self.tables, &self.kept, totals);
     }
 }

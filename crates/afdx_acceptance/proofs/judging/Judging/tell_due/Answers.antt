@@ -38,7 +38,8 @@ returns-in_err-tell_lines-clause-begun g c = λ k last time to start frames on h
           (c.in_ok-lines.ensures.told k.0 k.1 until to frames dues
           (λ none. up-to to c.args.before (on.running (sym c.loop-lines.invariant.ended ∙ none))) s)))
           (λ e. in-time to c.args.before (awaited l.moment l.key) (up-to to c.args.before (on.early e))
-          (some-there c.in_ok-lines.field-0 l (λ x. IsBefore c.args.before (awaited x.moment x.key)) c.in-Some.is c.in_ok-lines.ensures.in_time))
+          (some-there c.in_ok-lines.field-0 l (λ x. IsBefore c.args.before
+          (awaited x.moment x.key)) c.in-Some.is c.in_ok-lines.ensures.in_time))
           ended c.tell_lines.ensures.others.is_over old.2,
     )
 

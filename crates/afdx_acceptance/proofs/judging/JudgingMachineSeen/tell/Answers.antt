@@ -16,7 +16,8 @@ returns-in_err-reach-clause-begins g c = λ k start past h.
     let x : Frame = frame_of (item_of c.args.n c.args.seen.now c.args.message.now) in
     let some = c.requires.told in
     let latest : latest_of (frames_of past) ≤ c.args.seen.now.heading.time =
-    (let a = h.1.latest_is in let b = some.3.1.latest_is in let d = latest-same some.2 in let o = some.4.order in omega (arith, a, b, d, o)) in
+    (let a = h.1.latest_is in let b = some.3.1.latest_is in let d = latest-same some.2 in
+    let o = some.4.order in omega (arith, a, b, d, o)) in
     let b = c.in_err-reach.ensures.begun k (latest_of (frames_of past)) start (frames_of past) latest (omega arith) (h.0, h.1, h.2) in
     on-err c.from_residual.result _ (inr (inl (record {
       lines = b.0;
@@ -30,12 +31,14 @@ returns-in_err-take-clause-begins g c = λ k start past h.
     let x : Frame = frame_of (item_of c.args.n c.args.seen.now c.args.message.now) in
     let some = c.requires.told in
     let latest : latest_of (frames_of past) ≤ c.args.seen.now.heading.time =
-    (let a = h.1.latest_is in let b = some.3.1.latest_is in let d = latest-same some.2 in let o = some.4.order in omega (arith, a, b, d, o)) in
+    (let a = h.1.latest_is in let b = some.3.1.latest_is in let d = latest-same some.2 in
+    let o = some.4.order in omega (arith, a, b, d, o)) in
     let mid = (c.in_ok-reach.ensures.stands k (latest_of (frames_of past)) start (frames_of past) latest (omega arith) (h.0, h.1, h.2)).0 in
     on-err c.from_residual-in_err-take.result _ (inr (inl (record {
       lines = mid.0;
       begun = text-front start _ mid.0 mid.1.written;
-      are_first = comes-next (λ until all dues. AreFirstLines k.0 k.1 until all dues) k c.args.seen.now.heading.time x (frames_of past) mid.0
+      are_first = comes-next
+          (λ until all dues. AreFirstLines k.0 k.1 until all dues) k c.args.seen.now.heading.time x (frames_of past) mid.0
           (omega arith) (stands-begun k (frames_of past) c.args.seen.now.heading.time c.reach.new.self mid.0 latest mid.2);
     })))
 

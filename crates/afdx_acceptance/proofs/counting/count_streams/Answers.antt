@@ -2,11 +2,11 @@ use Rattle.std.proofs.Common.{subst}
 use Rattle.afdx_acceptance.specs.Counting.{HasCounted, both_counted, counted_among, none_counted}
 use Rattle.afdx_frame.specs.declared.link.Side.TheVariants.{A, B}
 use Rattle.afdx_acceptance.proofs.CountingLemmas.{none-both}
-use Rattle.afdx_acceptance.proofs.streams.Streams.count.Goals as goal
+use Rattle.afdx_acceptance.proofs.counting.count_streams.Goals as goal
 
 pub returns-clause-counted : goal.returns-clause-counted
 returns-clause-counted c c' until frames ended has =
-    let t = c.args.self.now.tables.now in
+    let t = c.args.tables.now in
     let a = counted_among t c' until frames A t.links in
     let b = counted_among t c' until frames B t.links in
     subst (λ n. HasCounted (both_counted n b) c.count_on-2.new.totals) (none-both a)

@@ -5,7 +5,7 @@ use Rattle.afdx_config.specs.Rows.{LinkRow}
 use Rattle.afdx_acceptance.specs.Counting.{HasCounted, both_counted, counted_among, counted_to}
 use Rattle.afdx_acceptance.proofs.CountingLemmas.{among-next, among-none, both-assoc, has-none}
 use Rattle.afdx_acceptance.proofs.GivenLemmas.{blank}
-use Rattle.afdx_acceptance.proofs.streams.Streams.count_on.Goals as goal
+use Rattle.afdx_acceptance.proofs.counting.count_on.Goals as goal
 
 pub loop-link-init : goal.loop-link-init
 loop-link-init c = record {
@@ -13,7 +13,7 @@ loop-link-init c = record {
   left_out = refl;
   unseen = refl;
   counted = λ c' until frames n ended has.
-      subst (λ m. HasCounted (both_counted n m) c.args.totals.now) (sym (among-none c.args.self.now.tables.now c' until frames c.args.side))
+      subst (λ m. HasCounted (both_counted n m) c.args.totals.now) (sym (among-none c.args.tables.now c' until frames c.args.side))
       (has-none n c.args.totals.now has);
 }
 
@@ -23,7 +23,7 @@ loop-link-preserved c = record {
   left_out = c.count_to.ensures.left_out ∙ c.loop-link.invariant.left_out;
   unseen = c.count_to.ensures.unseen ∙ c.loop-link.invariant.unseen;
   counted = λ c' until frames n ended has.
-      let t = c.args.self.now.tables.now in
+      let t = c.args.tables.now in
       let place = c.loop-link.link in
       let l : LinkRow = get_or t.links place blank in
       let at = slice_get-get_or t.links place blank (let test = c.loop-link-test.true in let len = c.link_count-link-end.ensures in
@@ -38,7 +38,7 @@ loop-link-preserved c = record {
 
 pub returns-clause-counted : goal.returns-clause-counted
 returns-clause-counted c c' until frames n ended has =
-    let t = c.args.self.now.tables.now in
+    let t = c.args.tables.now in
     let test = c.loop-link-test.false in
     let len = c.link_count-link-end.ensures in
     subst (λ ls. HasCounted (both_counted n (counted_among t c' until frames c.args.side ls)) c.loop-link.totals)

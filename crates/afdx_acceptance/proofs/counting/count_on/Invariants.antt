@@ -2,7 +2,7 @@ use Rattle.std.proofs.Common.{◌≡◌, ℕ, List, take}
 use Rattle.afdx_inputs.specs.Joining.{Frame}
 use Rattle.afdx_acceptance.specs.Choices.{Choices}
 use Rattle.afdx_acceptance.specs.Counting.{AreEnded, Counted, HasCounted, both_counted, counted_among}
-use Rattle.afdx_acceptance.proofs.streams.Streams.count_on.Given as goal
+use Rattle.afdx_acceptance.proofs.counting.count_on.Given as goal
 
 abbrev pub invariant-loop-link : goal.invariant-loop-link
 invariant-loop-link l = record {
@@ -10,7 +10,7 @@ invariant-loop-link l = record {
   left_out : l.totals.left_out ≡ l.fn.totals.left_out;
   unseen : l.totals.unseen ≡ l.fn.totals.unseen;
   counted : (c : Choices) (until : ℕ) (frames : List Frame) (n : Counted)
-      → AreEnded l.self.tables.now c until frames l.self.kept → HasCounted n l.fn.totals
-      → HasCounted (both_counted n (counted_among l.self.tables.now c until frames l.side
-      (take l.link l.self.tables.now.links))) l.totals;
+      → AreEnded l.tables c until frames l.kept → HasCounted n l.fn.totals
+      → HasCounted (both_counted n (counted_among l.tables c until frames l.side
+      (take l.link l.tables.links))) l.totals;
 }

@@ -4,7 +4,7 @@ use Rattle.afdx_config.specs.Rows.{LinkRow}
 use Rattle.afdx_inputs.specs.Joining.{Frame}
 use Rattle.afdx_acceptance.specs.Choices.{Choices}
 use Rattle.afdx_acceptance.specs.Counting.{AreEnded, Counted, HasCounted, both_counted, counted_to}
-use Rattle.afdx_acceptance.proofs.streams.Streams.count_to.Given as goal
+use Rattle.afdx_acceptance.proofs.counting.count_to.Given as goal
 
 abbrev pub invariant-loop-rank : goal.invariant-loop-rank
 invariant-loop-rank l = record {
@@ -12,7 +12,7 @@ invariant-loop-rank l = record {
   left_out : l.totals.left_out ≡ l.fn.totals.left_out;
   unseen : l.totals.unseen ≡ l.fn.totals.unseen;
   counted : (c : Choices) (until : ℕ) (frames : List Frame) (n : Counted) (row : LinkRow)
-      → slice_get l.self.tables.now.links l.link ≡ Some row → AreEnded l.self.tables.now c until frames l.self.kept
+      → slice_get l.tables.links l.link ≡ Some row → AreEnded l.tables c until frames l.kept
       → HasCounted n l.fn.totals
-      → HasCounted (both_counted n (counted_to l.self.tables.now c until frames l.side row (take l.rank row.to))) l.totals;
+      → HasCounted (both_counted n (counted_to l.tables c until frames l.side row (take l.rank row.to))) l.totals;
 }

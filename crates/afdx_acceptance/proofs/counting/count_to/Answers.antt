@@ -11,7 +11,7 @@ use Rattle.afdx_acceptance.specs.declared.key.Key.{Key}
 use Rattle.afdx_acceptance.proofs.CountingLemmas.{both-assoc, given-counted, has-none, to-next, to-none}
 use Rattle.afdx_acceptance.proofs.JoinLemmas.{any-in}
 use Rattle.afdx_acceptance.proofs.OutletLemmas.{goes-port, port-is}
-use Rattle.afdx_acceptance.proofs.streams.Streams.count_to.Goals as goal
+use Rattle.afdx_acceptance.proofs.counting.count_to.Goals as goal
 
 pub loop-rank-init : goal.loop-rank-init
 loop-rank-init c = record {
@@ -19,7 +19,7 @@ loop-rank-init c = record {
   left_out = refl;
   unseen = refl;
   counted = λ c' until frames n row at ended has.
-      subst (λ m. HasCounted (both_counted n m) c.args.totals.now) (sym (to-none c.args.self.now.tables.now c' until frames c.args.side row))
+      subst (λ m. HasCounted (both_counted n m) c.args.totals.now) (sym (to-none c.args.tables.now c' until frames c.args.side row))
       (has-none n c.args.totals.now has);
 }
 
@@ -29,7 +29,7 @@ loop-rank-preserved c = record {
   left_out = c.count.ensures.left_out ∙ c.loop-rank.invariant.left_out;
   unseen = c.count.ensures.unseen ∙ c.loop-rank.invariant.unseen;
   counted = λ c' until frames n row at ended has.
-      let t = c.args.self.now.tables.now in
+      let t = c.args.tables.now in
       let side = c.args.side in
       let place = c.args.link in
       let s : ℕ = c.receiver-system.result.0 in
@@ -58,7 +58,7 @@ loop-rank-preserved c = record {
 
 pub returns-clause-counted : goal.returns-clause-counted
 returns-clause-counted c c' until frames n row at ended has =
-    let t = c.args.self.now.tables.now in
+    let t = c.args.tables.now in
     let mine : link_row c.link.result.now ≡ row = same_Some (link_row c.link.result.now) row (sym c.link.ensures.row ∙ at) in
     let count = length-map c.link.result.now.to.items (λ i. i.0) in
     let test = c.loop-rank-test.false in
