@@ -5,7 +5,6 @@ use Rattle.std.proofs.lemmas.List.{drop_more}
 use Rattle.std.specs.Prelude.{if◌then◌else◌, Some, None}
 use Rattle.std.specs.List.{AllByRecursion}
 use Rattle.afdx_police.specs.Arrival.{Arrival}
-use Rattle.afdx_conform.specs.Courses.{AreFrames}
 use Rattle.afdx_conform.specs.Events.{GoUp, closings_in, frame_times}
 use Rattle.afdx_conform.specs.Findings.{Finding, Judged, Marked, closed_by, closed_to, frames_in, front_rest, judged_after, lead, skipped, sound_events, unexplained}
 use Rattle.afdx_conform.specs.Forgetting.{FitNone, with_gone}
@@ -13,7 +12,7 @@ use Rattle.afdx_conform.specs.Growing.{Continues, IsAfter, IsKept, most_found}
 use Rattle.afdx_conform.specs.Histories.{AreEvents, coming, judged_by, newest_tag, next_of, unclosed, unsure_in}
 use Rattle.afdx_conform.specs.Judging.{StandsFor, AreFound}
 use Rattle.afdx_conform.specs.Leeway.{both_slacks}
-use Rattle.afdx_conform.specs.Limits.{gone_of}
+use Rattle.afdx_conform.specs.Limits.{AreFrames, gone_of}
 use Rattle.afdx_conform.specs.States.{Event, Closing, State, are_behind, kept}
 use Rattle.afdx_conform.specs.Streams.{Gone, Terms}
 use Rattle.afdx_conform.specs.declared.arrived.Arrived.{Arrived}
@@ -87,11 +86,12 @@ module _ (z : Terms) where
   -- ---- the closing of a frame
 
   module _ (xs : List Arrival) (ys : List Gone) (cut : ℕ) (over : List Event) (f : Frame) (old : Growth) (judging' : Judging)
-      (found : List Finding) where
+      (found : List Finding) (to : ℕ) where
     abbrev pub Close : Growth
     Close = record old {
       judging = judging';
       closed = old.closed + 1;
+      closing = to;
       is_started = true;
       found = min (old.found + frames_in found) most_found;
     }

@@ -28,8 +28,7 @@ pub mod ArrivalLemmas
 pub mod SkipLemmas
 pub mod ArrivalSteps
 pub mod FirstLemmas
-pub mod CourseLemmas
-pub mod StreamLemmas
+pub mod ClosedLemmas
 pub mod HistoryLemmas
 pub mod OverLemmas
 pub mod GrowthLemmas
@@ -66,3 +65,6 @@ pub mod EndingLemmas
 pub mod EndDueLemmas
 pub mod CountLemmas
 pub mod DueNowLemmas
+pub mod QuietLemmas
+pub mod CutLemmas
+pub mod OpenLemmas

@@ -16,8 +16,6 @@ pub mod Naming
 pub mod Bounds
 pub mod Testing
 pub mod Judging
-pub mod Courses
-pub mod TermsOf
 pub mod FindingLaws
 pub mod Thinned
 pub mod Right
@@ -34,5 +32,7 @@ pub mod Forgetting
 pub mod Sure
 pub mod SomeKnown
 pub mod Histories
+pub mod RightCut
+pub mod Open
 pub mod Growing
 pub mod Standing

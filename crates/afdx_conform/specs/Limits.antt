@@ -1,5 +1,5 @@
 -- What the code keeps of a stream to tell which frame may be of which arrival.
-use Rattle.std.specs.Prelude.{◌≡◌}
+use Rattle.std.specs.Prelude.{◌≡◌, ℕ, ◌<◌, ◌≤◌, List, get_or, length}
 use Rattle.afdx_conform.specs.Leeway.{both_slacks}
 use Rattle.afdx_conform.specs.Streams.{Gone, Terms, latency}
 use Rattle.afdx_conform.specs.declared.limits.Frame.{Frame}
@@ -15,3 +15,8 @@ pub record AreLimits (z : Terms) (limits : Limits) : Type 0 where
   pub slacks : limits.slacks ≡ both_slacks z.by
   pub byte_ns : limits.byte_ns ≡ z.byte_ns
   pub drift : limits.drift ≡ z.by.drift
+
+-- frames that go by time
+abbrev pub AreFrames : List Frame → Type 0
+AreFrames frames = (i k : ℕ) (f g : Frame) → i ≤ k → k < length frames
+    → f ≡ get_or frames i f → g ≡ get_or frames k g → f.time ≤ g.time

@@ -1,7 +1,7 @@
 //! The next event of a stream is judged.
 
 ghost use Rattle.std.specs.Prelude.{◌≡◌, ◌≤◌, ◌<◌, ◌+◌, ℕ, List, min, length, get_or, true, false};
-ghost use Rattle.std.specs.Prelude.{IfOk, OnOk, OnErr, Some, None, if◌then◌else◌};
+ghost use Rattle.std.specs.Prelude.{IfOk, OnOk, OnErr, Some, None, is_none, if◌then◌else◌};
 ghost use Rattle.afdx_police.specs.Arrival.{Arrival};
 ghost use Rattle.afdx_conform.specs.Findings.{frames_in, frames_of};
 ghost use Rattle.afdx_conform.specs.Histories.{coming, next_of, unclosed};
@@ -14,7 +14,7 @@ ghost use Rattle.afdx_conform.specs.Streams.{Gone, Terms, is_open};
 
 use crate::arrived::Arrived;
 use crate::arriving::judge_arrival;
-use crate::course::{closed_by, last_after};
+use crate::closing::closed_by;
 use crate::finding::Finding;
 use crate::first::first_held;
 use crate::growth::Growth;
@@ -63,6 +63,17 @@ fn number_if(is_asked: bool, number: u64) -> Option<u64>
     ensures { result ≡ (if is_asked then Some number else None) }
 {
     if is_asked { Some(number) } else { None }
+}
+
+/// When the last arrival of the right shape came, once this one did.
+fn last_after(arrived: &Arrived, last: u64) -> u64
+    ensures { result ≡ (if is_none arrived.now.fault then arrived.now.time else last) }
+{
+    if arrived.fault.is_none() {
+        arrived.time
+    } else {
+        last
+    }
 }
 
 impl Growth {
@@ -150,7 +161,8 @@ impl Growth {
         ensures refused { OnErr result (IsSame self.old self.new) }
     {
         let time = self.frames[self.closed].time;
-        let to = closed_by(self.frames.as_slice(), self.closed + 1, time);
+        let frames = self.frames.as_slice();
+        let to = closed_by(frames, self.closed + 1, self.closing, time);
         let found = judge_closing(
             &mut self.judging,
             alloc,
@@ -160,6 +172,7 @@ impl Growth {
             to,
         )?;
         self.closed += 1;
+        self.closing = to;
         self.count(found.as_slice());
         self.forget();
         Ok(found)

@@ -30,8 +30,10 @@ const MOST_HELD: u64 = 1 << 56;
 /// What is kept of a stream: what it is judged by, the arrivals and frames that are held and how
 /// far they are judged, and what is counted of all of them.
 ///
-/// `rule` is that of its link. `closed` of the frames that are held are closed; `last` is when the
-/// last arrival of the right shape came, or the start. `is_started` says whether an event is over.
+/// `rule` is that of its link. `closed` of the frames that are held are closed; `closing` were as
+/// old as the one that was closed last, by which a guess saves to count them for each frame of one
+/// time. `last` is when the last arrival of the right shape came, or the start. `is_started` says
+/// whether an event is over.
 /// `came` arrivals and `left` frames were told, without the `cut` that left where the recordings
 /// had ended; `found` of the frames are in findings. `unsure` is the arrival behind which there
 /// were too many states.
@@ -44,6 +46,7 @@ pub(crate) struct Growth {
     pub(crate) frames: Vec<Frame>,
     pub(crate) judging: Judging,
     pub(crate) closed: usize,
+    pub(crate) closing: usize,
     pub(crate) last: u64,
     pub(crate) is_started: bool,
     pub(crate) came: u64,
@@ -87,6 +90,7 @@ impl Growth {
             frames: Vec::new(alloc),
             judging,
             closed: 0,
+            closing: 0,
             last,
             is_started: false,
             came: 0,

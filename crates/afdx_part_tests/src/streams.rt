@@ -2,8 +2,8 @@
 //! and a latency of 17 us, at a port of 100 Mbit/s.
 
 use crate::growing::told_in_turn;
-use afdx_conform::{Arrived, Finding, Frame, Leeway, Strangeness, StreamTerms, judge_stream};
-use afdx_frame::{Policing, Side, VlId};
+use afdx_conform::{Finding, Leeway, Strangeness};
+use afdx_frame::{Policing, VlId};
 use afdx_police::{LinkRule, Reason};
 use afdx_samples::all_right;
 use std::alloc::{AllocError, Global};
@@ -16,35 +16,6 @@ pub(super) const BYTES: [u8; 64] = [
     0, 0, 0, 0, 0, 0, 149, 23, 139, 81,
 ];
 
-/// The arrivals of such frames at these times.
-fn arrivals(alloc: Global, rule: &LinkRule, times: &[u32]) -> Result<Vec<Arrived>, AllocError> {
-    let mut out = Vec::new(alloc);
-    let mut number = 0_u64;
-    for time in times {
-        number = number.saturating_add(1);
-        let bytes = Vec::from_slice(alloc, &BYTES)?;
-        let arrived = Arrived::new(rule, number, (*time).into(), Side::A, 1, bytes);
-        out.push(arrived)?;
-    }
-    Ok(out)
-}
-
-/// Such frames that left at these times.
-fn frames(alloc: Global, times: &[u32]) -> Result<Vec<Frame>, AllocError> {
-    let mut out = Vec::new(alloc);
-    let mut number = 0_u64;
-    for time in times {
-        number = number.saturating_add(1);
-        let bytes = Vec::from_slice(alloc, &BYTES)?;
-        out.push(Frame {
-            number,
-            time: (*time).into(),
-            bytes,
-        })?;
-    }
-    Ok(out)
-}
-
 /// A slack, a drift, an inner delay, the time until an account is asked, and a start.
 pub(super) type Given = (u64, u64, u64, u64, Option<u64>);
 
@@ -56,7 +27,7 @@ pub(super) fn link() -> Option<LinkRule> {
     LinkRule::new(VlId(1), 1, 1, 64, 64, 500, Policing::Frame)
 }
 
-/// Whether just this is found, also where the lines come one after another.
+/// Whether just this is found.
 fn is_found(alloc: Global, row: &Row) -> Result<bool, AllocError> {
     let (given, until, came, left, wanted) = *row;
     let (slack, drift, inner, asked, start) = given;
@@ -66,21 +37,9 @@ fn is_found(alloc: Global, row: &Row) -> Result<bool, AllocError> {
     let Some(by) = Leeway::new(slack, drift, inner, asked, start) else {
         return Ok(false);
     };
-    let terms = StreamTerms {
-        rule,
-        latency_ns: 17_000,
-        byte_ns: 80,
-        by,
-        until,
-    };
-    let arrivals = arrivals(alloc, &rule, came)?;
-    let frames = frames(alloc, left)?;
-    let verdict = judge_stream(alloc, &terms, arrivals.as_slice(), frames.as_slice())?;
-    let found = verdict.found.iter().copied();
-    let is_whole = !verdict.is_unsure && found.eq(wanted.iter().copied());
-    let told = told_in_turn(alloc, &rule, terms.by, until, came, left)?;
+    let told = told_in_turn(alloc, &rule, by, until, came, left)?;
     let found = told.found.iter().copied();
-    Ok(is_whole && found.eq(wanted.iter().copied()))
+    Ok(told.stream.unsure_behind().is_none() && found.eq(wanted.iter().copied()))
 }
 
 /// The place of the first row that is otherwise.

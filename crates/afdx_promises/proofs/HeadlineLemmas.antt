@@ -1,10 +1,11 @@
 -- The promises, of the lines that tell of events.
-use Rattle.std.proofs.Common.{◌≡◌, ℕ, ◌≤◌, ◌&&◌, Bool, true, false, List, [], ◌∷◌, ◌++◌, map}
+use Rattle.std.proofs.Common.{◌≡◌, ℕ, ◌+◌, ◌*◌, ◌≤◌, ◌&&◌, Bool, true, false, List, [], ◌∷◌, ◌++◌, length, map}
 use Rattle.std.proofs.Common.{filter, refl, sym, ap, ◌∙◌, subst, arith, inl, inr}
 use Rattle.std.specs.Prelude.{Option, Some, None, is_none, slice_get, reverse, if◌then◌else◌, ◌⊎◌}
 use Rattle.std.specs.List.{AllByRecursion}
 use Rattle.std.proofs.lemmas.Bool.{eq-eqb, and_parts}
 use Rattle.afdx_frame.specs.declared.link.Side.{Side}
+use Rattle.afdx_frame.specs.Regulation.{wire_of}
 use Rattle.afdx_frame.proofs.SideLemmas.{is_side-same}
 use Rattle.afdx_config.specs.Lawful.{IsLawfulSwitch}
 use Rattle.afdx_config.specs.Rows.{LinkRow, Rows}
@@ -19,7 +20,7 @@ use Rattle.afdx_switch.specs.Admitted.{accepted_arrivals, accepted_on, accepted_
 use Rattle.afdx_switch.specs.Admitted.{frames_among, frames_left, slots}
 use Rattle.afdx_switch.specs.HeldFrames.{HeldFrame}
 use Rattle.afdx_switch.specs.Laws.{is_of}
-use Rattle.afdx_switch.specs.Tables.{rule_of, goes_to}
+use Rattle.afdx_switch.specs.Tables.{rule_of, goes_to, byte_ns_at}
 use Rattle.afdx_switch.specs.Verdicts.{reason_of}
 use Rattle.afdx_network.specs.Events.{Event, Came, Left, Departure, departures, admissions, all_events, turns_at}
 use Rattle.afdx_network.specs.Order.{IsAmong, events_of, events_so_far}
@@ -40,6 +41,7 @@ use Rattle.afdx_promises.proofs.LineLemmas.{verdicts-told-so-far, departures_in,
 use Rattle.afdx_promises.proofs.LineLemmas.{left-among, frames-told, slots-back}
 use Rattle.afdx_promises.proofs.ListLemmas.{filter-reverse, map-reverse, same-reversed}
 use Rattle.afdx_promises.proofs.PortLemmas.{entries_back, in-reverse, in-time, left-are-accepted, left-back}
+use Rattle.afdx_promises.proofs.NoSoonerLemmas.{departs-no-sooner}
 use Rattle.afdx_promises.proofs.PromiseLemmas.{no-row, unknown-reason}
 use Rattle.afdx_police.proofs.FrameLemmas.{IsFrameOn}
 use Rattle.afdx_promises.proofs.ReceiverLemmas.{accepted-frames, vl-is, none-is}
@@ -310,6 +312,8 @@ module _ (t : Rows) (arrivals : List Arrival) (events : List Event) (run : IsAdm
         named = is.accepted.named;
         goes = is.accepted.goes;
         within = (let late = is.in_time.within in omega (arith, late, time));
+        no_sooner = subst (λ (p : Passing). p.time + wire_of (length p.bytes) * byte_ns_at t e.0.port ≤ e.0.turn.end)
+            is.accepted.frame (departs-no-sooner t arrivals e.0 run.timed (own_events (Left e.0) among) is.in_time.not_old);
       })
 
 -- ---- alone

@@ -7,6 +7,7 @@ pub mod RuleLemmas
 pub mod BroughtLemmas
 pub mod OnceLemmas
 pub mod EventLemmas
+pub mod NoSoonerLemmas
 pub mod LineLemmas
 pub mod AcceptedLemmas
 pub mod DefinitionLemmas

@@ -1,6 +1,7 @@
 pub mod Ports
 pub mod Receptions
 pub mod NetworkPromises
+pub mod NoSooner
 pub mod Lines
 pub mod ByDefinition
 pub mod WindowRule

@@ -4,12 +4,13 @@
 -- For every admitted configuration and every timed frame list, each virtual link's verdicts, and
 -- its frames that leave each switch port, in order, are the window rule's answer on that link's
 -- own arrivals alone; every accepted frame leaves each of its ports within the link's configured
--- latency; and what a receiver delivers on a link is the integrity and redundancy rules' answer
--- on that link's arrivals there alone.
+-- latency, and no sooner than its time on the wire after it came; and what a receiver delivers on a
+-- link is the integrity and redundancy rules' answer on that link's arrivals there alone.
 use Rattle.std.specs.Prelude.{◌≡◌, ℕ, ◌+◌, ◌*◌, ◌<◌, ◌≤◌, true, false, if◌then◌else◌, Some, None, max, List, [], ◌++◌, filter, length, map, reverse, slice_get, take}
 use Rattle.afdx_frame.specs.declared.link.Side.{Side}
 use Rattle.afdx_frame.specs.declared.link.Side.TheVariants.{A, B}
 use Rattle.afdx_frame.specs.Ports.{last_port}
+use Rattle.afdx_frame.specs.Regulation.{wire_of}
 use Rattle.afdx_config.specs.LawfulStream.{Sending}
 use Rattle.afdx_config.specs.Reading.{has_port, listener_at}
 use Rattle.afdx_config.specs.Lawful.{IsLawfulSwitch, IsBetweenSystems}
@@ -21,7 +22,7 @@ use Rattle.afdx_bounds.specs.Outputs.{AreTimed}
 use Rattle.afdx_receive.specs.Answers.{Answer}
 use Rattle.afdx_receive.specs.Arrivals.{frames_of}
 use Rattle.afdx_switch.specs.Admitted.{IsAdmittedRun, Passing, passing}
-use Rattle.afdx_switch.specs.Tables.{rule_of, goes_to}
+use Rattle.afdx_switch.specs.Tables.{rule_of, goes_to, byte_ns_at}
 use Rattle.afdx_network.specs.Order.{events_of, events_so_far}
 use Rattle.afdx_promises.specs.Lines.{Line, Verdict, Received, Judged, Leaving, IsIn, judged_in, arrivals_judged, verdicts_on, accepted_in, left_in, frames_at, came_at, answers_told, messages_told, told_by}
 use Rattle.afdx_switch.specs.Streams.{IsStreamOf}
@@ -59,7 +60,8 @@ AreFrames t lines = (side : Side) (port place : ℕ) (l : LinkRow) → 1 ≤ por
 
 -- ---- every accepted frame leaves each of its ports within the link's configured latency
 
--- a D line: it is of an accepted frame, of a link that goes to that port, and in time
+-- a D line: it is of an accepted frame, of a link that goes to that port, and in time: not before
+-- the frame came and had its time on the wire
 pub record LeavesInTime (t : Rows) (lines : List Line) (d : Leaving) : Type 0 where
   pub arrival : Arrival
   pub accepted : IsIn (Verdict (record { arrival = arrival; reason = None })) lines
@@ -71,6 +73,7 @@ pub record LeavesInTime (t : Rows) (lines : List Line) (d : Leaving) : Type 0 wh
   pub named : names link.vl arrival.bytes ≡ true
   pub goes : goes_to t link d.port ≡ true
   pub within : d.time ≤ arrival.time + 1000 * link.latency_us
+  pub no_sooner : arrival.time + wire_of (length arrival.bytes) * byte_ns_at t d.port ≤ d.time
 
 abbrev pub AllLeaveInTime : Rows → List Line → Type 0
 AllLeaveInTime t lines = (d : Leaving) → IsIn d (left_in lines) → LeavesInTime t lines d

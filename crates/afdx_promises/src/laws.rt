@@ -3,6 +3,7 @@
 ghost use Rattle.afdx_promises.specs.ByDefinition.{LossesAreByDefinition, EventsAreByDefinition, EventsSoFarAreByDefinition};
 ghost use Rattle.afdx_promises.specs.Examples.{PremisesAreMet, AdmissionIsNeeded, TimesAreNeeded};
 ghost use Rattle.afdx_promises.specs.NetworkPromises.{PortsAreAsPromised, LeftSoFarAreFirst, ReceptionsAreOne, ReceptionsExist, EventsBringReceptions, LinksAreApart, MessagesComeSoFar, MessagesComeOnce, EventsAreAsPromised, EventsSoFarAreAsPromised};
+ghost use Rattle.afdx_promises.specs.NoSooner.{NoneEndsTooSoon, NoneLeavesTooSoon, NoneLeavesTooSoonSoFar};
 ghost use Rattle.afdx_promises.specs.Sent.{SentIsFed, StreamIsOfSendings, ReleasedAreToldOnce};
 ghost use Rattle.afdx_promises.specs.Sent.{ReleasedAreToldSoFar, OneSideIsEnough};
 ghost use Rattle.afdx_promises.specs.Promises.{PromisesAreKept, PromisesAreKeptSoFar, MessagesAreToldOnce, MessagesAreToldOnceSoFar, StreamsAreToldAccepted, StreamsAreToldAcceptedSoFar};
@@ -51,6 +52,15 @@ pub fn ports_are_as_promised()
 pub fn events_are_as_promised()
     ensures all { EventsAreAsPromised }
     ensures so_far { EventsSoFarAreAsPromised }
+{}
+
+/// No frame leaves a port before it came and had its time on the wire, whatever the tables: no slot
+/// of a port ends sooner, and no departure among events, all of them or those up to the last
+/// arrival.
+pub fn none_leaves_too_soon()
+    ensures slots { NoneEndsTooSoon }
+    ensures all { NoneLeavesTooSoon }
+    ensures so_far { NoneLeavesTooSoonSoFar }
 {}
 
 /// Also where tables aren't admitted, events are those of the definition: each verdict, each copy

@@ -1,21 +1,19 @@
 use Rattle.std.proofs.Common.{rules, ◌≡◌, ℕ, ◌+◌, ◌<◌, ◌∷◌, List, get_or, length, map, sym, ap, ◌∙◌, subst, arith}
 use Rattle.std.specs.Prelude.{All, Some}
-use Rattle.afdx_conform.specs.Courses.{AreFrames}
 use Rattle.afdx_conform.specs.Growing.{IsAfter, IsSound, undecided_by}
 use Rattle.afdx_conform.specs.HeldStates.{AreClosed, IsWithin}
 use Rattle.afdx_conform.specs.Histories.{coming, judged_by, next_of, unclosed}
 use Rattle.afdx_conform.specs.Judging.{AreFound, StandsFor}
 use Rattle.afdx_conform.specs.Leeway.{both_slacks}
-use Rattle.afdx_conform.specs.Limits.{gone_of}
+use Rattle.afdx_conform.specs.Limits.{AreFrames, gone_of}
 use Rattle.afdx_conform.specs.States.{Closing}
 use Rattle.afdx_conform.specs.declared.arrived.Arrived.{Arrived}
 use Rattle.afdx_conform.specs.declared.finding.Finding.{Finding}
 use Rattle.afdx_conform.specs.declared.growth.Growth.{Growth}
 use Rattle.afdx_conform.specs.declared.limits.Frame.{Frame}
-use Rattle.afdx_conform.proofs.CourseLemmas.{same-frame}
 use Rattle.afdx_conform.proofs.GrowthDecides.{forgot}
 use Rattle.afdx_conform.proofs.GrowthCloses.{Close, after-close, closed-of, frames-held}
-use Rattle.afdx_conform.proofs.StreamLemmas.{closes}
+use Rattle.afdx_conform.proofs.ClosedLemmas.{closes, same-frame}
 use Rattle.afdx_conform.proofs.UndecidedLemmas.{undecided-less}
 use Rattle.afdx_conform.proofs.growth.Growth.close.Goals as goal
 
@@ -25,14 +23,14 @@ forget-requires c =
     let marks = c.in_ok-found.ensures.marks in
     let within = c.in_ok-found.ensures.within (length c.args.self.now.judging.marks.items)
     (subst (λ (fs : List Frame). All (λ h. IsWithin c.args.self.now.bounds.rates (length fs)
-    (length c.args.self.now.judging.marks.items) h) c.args.self.now.judging.held.items) (sym c.as_slice-3.ensures.value) s.within) in
+    (length c.args.self.now.judging.marks.items) h) c.args.self.now.judging.held.items) (sym c.as_slice-2.ensures.value) s.within) in
     subst (λ (g : Growth). IsSound g) (sym c.count.ensures) (record {
       rates = s.rates;
       within = subst (λ (n : ℕ). All (λ h. IsWithin c.args.self.now.bounds.rates (length c.args.self.now.frames.items) n h)
           c.judge_closing.new.judging.held.items) (sym marks)
           (subst (λ (fs : List Frame). All (λ h. IsWithin c.args.self.now.bounds.rates (length fs)
           (length c.args.self.now.judging.marks.items) h) c.judge_closing.new.judging.held.items)
-          c.as_slice-3.ensures.value within);
+          c.as_slice-2.ensures.value within);
       closed = (let p = c.requires.place in omega (arith, p));
       places = (let p = s.places in omega (arith, p, marks));
       uncertain = (let u = s.uncertain in let m = c.in_ok-found.ensures.uncertain in omega (arith, u, m, marks));
@@ -47,21 +45,23 @@ returns-clause-decides c z xs ys cut over f sure at next r =
     let is : c.index.result.now ≡ get_or c.args.self.now.frames.items c.args.self.now.closed c.index.result.now = search rules in
     let same = same-frame c.args.self.now.frames.items c.args.self.now.closed f c.index.result.now c.requires.place at is in
     let order = frames-held r.past ys c.args.self.now.frames.items r.after.told.left r.kept.left in
-    let order' = subst (λ (l : List Frame). AreFrames l) (sym c.as_slice.ensures.value) order in
-    let lt = subst (λ (l : List Frame). c.args.self.now.closed < length l) (sym c.as_slice.ensures.value) c.requires.place in
-    let there = is ∙ ap (λ (l : List Frame). get_or l c.args.self.now.closed c.index.result.now) (sym c.as_slice.ensures.value) in
-    let closed = closes c.as_slice.result.now c.args.self.now.closed c.closed_by-to.result c.index.result.now order' lt there
-    c.closed_by-to.ensures.low c.closed_by-to.ensures.high c.closed_by-to.ensures.closed c.closed_by-to.ensures.behind in
+    let order' = subst (λ (l : List Frame). AreFrames l) (sym c.as_slice-frames.ensures.value) order in
+    let lt = subst (λ (l : List Frame). c.args.self.now.closed < length l) (sym c.as_slice-frames.ensures.value) c.requires.place in
+    let there = is ∙ ap (λ (l : List Frame). get_or l c.args.self.now.closed c.index.result.now) (sym c.as_slice-frames.ensures.value) in
+    let closed = closes c.as_slice-frames.result.now c.args.self.now.closed c.closed_by-to.result c.index.result.now order' lt there
+    c.closed_by-to.ensures.low c.closed_by-to.ensures.high (c.closed_by-to.ensures.closed order')
+    c.closed_by-to.ensures.behind in
     let closed' = subst (λ (l : List Frame). AreClosed c.index.result.now.time c.closed_by-to.result (map gone_of l))
-    (c.as_slice.ensures.value ∙ sym c.as_slice-3.ensures.value) closed in
+    (c.as_slice-frames.ensures.value ∙ sym c.as_slice-2.ensures.value) closed in
     let sure' = sym r.continues.stands.unsure ∙ sure in
-    let given = subst (λ (l : List Arrived). StandsFor c.args.self.now.bounds.rates c.as_slice-3.result.now l r.continues.j
-    c.args.self.now.judging) (sym c.as_slice-2.ensures.value)
+    let given = subst (λ (l : List Arrived). StandsFor c.args.self.now.bounds.rates c.as_slice-2.result.now l r.continues.j
+    c.args.self.now.judging) (sym c.as_slice.ensures.value)
     (subst (λ (l : List Frame). StandsFor c.args.self.now.bounds.rates l c.args.self.now.arrivals.items r.continues.j
-    c.args.self.now.judging) (sym c.as_slice-3.ensures.value) r.continues.stands) in
+    c.args.self.now.judging) (sym c.as_slice-2.ensures.value) r.continues.stands) in
     let out = c.in_ok-found.ensures.defined z c.index.result.now.time r.continues.j r.after.bounds closed' sure' given in
     let held = closed-of z c.index.result.now c.args.self.now c.judge_closing.new.judging r.continues.j
-    c.as_slice-2.result.now c.as_slice-3.result.now c.as_slice-2.ensures.value c.as_slice-3.ensures.value out.0 in
+    c.as_slice.result.now c.as_slice-2.result.now c.as_slice.ensures.value c.as_slice-2.ensures.value out.0 in
+    let to = c.closed_by-to.result in
     let next' = subst (λ (v : Frame). next_of z (coming xs over) (unclosed ys over) ≡ Some (Closing v.time)) (sym same) next in
     subst (λ (v : Frame). IsAfter z xs ys cut (Closing v.time ∷ over) c.forget.new.self
     × AreFound (v.time + both_slacks z.by) c.in_ok-found.found.items (judged_by z xs ys over)
@@ -70,10 +70,10 @@ returns-clause-decides c z xs ys cut over f sure at next r =
     (subst (λ (s : Growth). IsAfter z xs ys cut (Closing c.index.result.now.time ∷ over) s
     × AreFound (c.index.result.now.time + both_slacks z.by) c.in_ok-found.found.items (judged_by z xs ys over)
     (judged_by z xs ys (Closing c.index.result.now.time ∷ over))) (sym (c.count.ensures
-    ∙ ap (λ (l : List Finding). Close z xs ys cut over c.index.result.now c.args.self.now c.judge_closing.new.judging l)
-    c.as_slice-4.ensures.value))
+    ∙ ap (λ (l : List Finding). Close z xs ys cut over c.index.result.now c.args.self.now c.judge_closing.new.judging l to)
+    c.as_slice-3.ensures.value))
     (after-close z xs ys cut over c.index.result.now c.args.self.now c.judge_closing.new.judging c.in_ok-found.found.items
-    r.gone r.past r.kept r.continues sure held out.1 c.in_ok-found.ensures.marks r.after next')))
+    c.closed_by-to.result r.gone r.past r.kept r.continues sure held out.1 c.in_ok-found.ensures.marks r.after next')))
 
 pub returns-clause-less : goal.returns-clause-less
 returns-clause-less c sure =

@@ -15,7 +15,7 @@ use Rattle.afdx_conform.specs.States.{Came, arrivals_came}
 use Rattle.afdx_conform.specs.declared.arrived.Arrived.{Arrived}
 use Rattle.afdx_conform.specs.declared.growth.Growth.{Growth}
 use Rattle.afdx_conform.specs.declared.limits.Frame.{Frame}
-use Rattle.afdx_conform.proofs.CourseLemmas.{same-arrived}
+use Rattle.afdx_conform.proofs.ClosedLemmas.{same-arrived}
 use Rattle.afdx_conform.proofs.GrowthDecides.{Come, forgot, after-come, outcome-of}
 use Rattle.afdx_conform.proofs.UndecidedLemmas.{undecided-less}
 use Rattle.afdx_conform.proofs.growth.Growth.come.Goals as goal

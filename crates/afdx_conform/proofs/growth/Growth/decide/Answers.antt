@@ -7,7 +7,7 @@ use Rattle.afdx_conform.specs.declared.finding.Mark.{Mark}
 use Rattle.afdx_conform.specs.declared.limits.Frame.{Frame}
 use Rattle.afdx_conform.specs.declared.upcoming.Upcoming.{Upcoming}
 use Rattle.afdx_conform.proofs.GrowthNext.{arrives-at, closes-at, next-held, no-event, none-at, none-of, some-frame, the-event}
-use Rattle.afdx_conform.proofs.StreamLemmas.{on-ok, some-arrived}
+use Rattle.afdx_conform.proofs.ClosedLemmas.{on-ok, some-arrived}
 use Rattle.afdx_conform.proofs.GrowthLemmas.{true-false}
 use Rattle.afdx_conform.proofs.StandingDecides.{due-sure}
 use Rattle.afdx_conform.proofs.UndecidedLemmas.{due-nothing, not-due, undecided-unchanged}
