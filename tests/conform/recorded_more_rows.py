@@ -2,11 +2,11 @@
 what was seen, stamps, and what `--summary` writes."""
 from __future__ import annotations
 
-from edge_rows import block, low
+from edge_rows import block, low, option
 from recorded_forms import packet as any_packet
-from recorded_rows import ALL_OF_A, BAD, CAME, HERE, PAIR, RIGHT, SAME, TWO, RecordedRow, X, one
-from recorded_rows import packet
-from recording_rows import FCS, FIRST_NS, H1, H2, IL9, IW, PL, SL, ZERO, R, Z
+from recorded_rows import ALL_OF_A, BACK, BAD, CAME, HERE, PAIR, RIGHT, SAME, SEALED, TWO, X
+from recorded_rows import RecordedRow, one, packet
+from recording_rows import FCS, FIRST_NS, H1, H2, IL9, IW, PB, PL, SL, ZERO, R, Z
 from rows import HEADS, list_of
 
 K1 = "--switch k1"
@@ -72,6 +72,7 @@ WORD_ROWS = (
 FAULTY: tuple[tuple[str, str], ...] = (
     ("NotRecording 0", b"F 0 A 1 -\n".hex()),
     ("NotRecording 0", SL[:6]),
+    ("NotRecording 0", ""),
     ("Packed", "1f8b0800 00000000"),
     ("BadVersion 0", PL[:8] + "02000300" + PL[17:]),
     ("Ended 0", PL[:-2]),
@@ -105,6 +106,7 @@ def fault_rows() -> list[RecordedRow]:
     return rows
 
 
+FAR = PL + R(ZERO, H1) + R(low(1), H1, seconds="40336365")
 FAULT_ROWS = (
     *fault_rows(),
     RecordedRow("faults of both", (PL[:-2], PL[:-4]), "", "", "recording Ended 0 came", SAME),
@@ -134,6 +136,10 @@ FAULT_ROWS = (
                 "recording TimeBack 2 left", f"{SAME} --reorder 0"),
     RecordedRow("times of what came that go back", (PL + R(low(7), H1) + R(low(6), H1), PAIR[1]),
                 "", "", "recording TimeBack 2 came", f"{SAME} --reorder 0"),
+    *(RecordedRow(f"a fault of what {name}, by {words}", data, "", "",
+                  f"recording TimeTooLarge 2 {name}", f"{words} --until 1000000000000000")
+      for words in ("--interface 0=B:1 --left 0=A:3", "--interface 0=A --left 0=B:3")
+      for name, data in (("came", (FAR, PAIR[1])), ("left", (PAIR[0], FAR)))),
     RecordedRow("what left is of no Ethernet", (SL + IL9 + IW + packet(0, 0, H1)
                                                 + packet(1, 6720, H1),), "", "",
                 "recording NotEthernet 2"),
@@ -172,6 +178,14 @@ AT_ENDS = (TWO + "".join(any_packet(place, FIRST_NS + 10_000 * place, bytes.from
                          for place, each in enumerate(ENDS)),)
 LENIENT = f"{HERE} --slack 1000000 --until 3000000"
 NINTH = HEADS["9"] + "00"
+
+
+def wrong(interface: int, time: int) -> str:
+    """A packet of H1, whose check sequence the recorder found wrong."""
+    head = low(interface) + low(FIRST_NS + time >> 32) + low(FIRST_NS + time) + 2 * low(60)
+    return block(6, head + H1 + option(2, "00000001"))
+
+
 SEEN_ROWS = (
     RecordedRow("a link under another's port", one((0, 0, H1), (0, 0, H2), (1, 6720, H1)), "",
                 "1/0/0/0"),
@@ -203,6 +217,40 @@ SEEN_ROWS = (
                 "early 1 A 3 1", "0/0/0/0", "", f"{HERE} --stamps start --inner 60000",
                 config="rates"),
 )
+LATE = ((0, 0, H1), (0, 100_000, H1), (0, 100_001, H1), (1, 6720, H1))
+ORDER_ROWS = (
+    RecordedRow("behind two that came", one(*LATE), "", "1/0/0/0", "", f"{HERE} --reorder 2"),
+    RecordedRow("behind two that came, of which one is held", one(*LATE), "stopped 1 A 3", "",
+                "recording TimeBack 4", f"{HERE} --reorder 1"),
+    RecordedRow("in order, each of its own",
+                (SL + IL9 + "".join(packet(*each) for each in LATE[:3]), LEFT), "", "1/0/0/0", "",
+                f"{SAME} --reorder 0"),
+    RecordedRow("out of order, as it is read", BACK, "", "", "recording TimeBack 2",
+                f"{HERE} --line-buffered"),
+    RecordedRow("out of order, as it is read, but one", BACK, "late 2 A 3 1", "0/0/0/0", "",
+                f"{HERE} --line-buffered --reorder 1"),
+)
+FORM_ROWS = (
+    RecordedRow("two sections", (TWO + packet(0, 0, H1) + TWO + packet(1, 6720, H1),), "",
+                "1/0/0/0"),
+    RecordedRow("two interfaces of each port",
+                (TWO + IL9 + IL9 + packet(0, 0, H1) + packet(1, 6720, H1)
+                 + packet(2, 1_000_000, H1) + packet(3, 1_006_720, H1),), "", "2/0/0/0", "",
+                f"{HERE} --interface 2=A:1 --left 3=A:3"),
+    RecordedRow("found wrong as it came and as it left", (TWO + wrong(0, 0) + wrong(1, 6720),),
+                "passed 1 A 3 bad-fcs", "0/0/0/0"),
+    RecordedRow("found wrong as it left", (TWO + packet(0, 0, H1) + wrong(1, 6720),),
+                "strange 2 A 3 bad-fcs / stopped 1 A 3", "0/0/0/0", "", f"{HERE} --until 40000"),
+    RecordedRow("check sequences that aren't said", (PL + R(ZERO, H1 + FCS, 2 * low(64)),
+                                                     PL + R(low(7), H1 + FCS, 2 * low(64))), "",
+                "1/0/0/0", "", f"{SAME} --fcs yes"),
+    RecordedRow("check sequences that were taken off", (PL + R(ZERO, H1, low(60) + low(64)),
+                                                        PL + R(low(7), H1, low(60) + low(64))), "",
+                "1/0/0/0", "", f"{SAME} --fcs no"),
+    RecordedRow("check sequences, one said and one not", (f"{PB} 6553f100 00000000 {SEALED}",
+                                                          SL + IL9 + packet(0, 6720, H1)), "",
+                "1/0/0/0", "", SAME),
+)
 SUMMARY_ROWS = (
     RecordedRow("nothing was skipped", RIGHT, "", "1/0/0/0", "", f"{HERE} --summary", 3, NONE),
     RecordedRow("nothing was skipped of two", PAIR, "", "1/0/0/0", "", f"{SAME} --summary", 3,
@@ -219,4 +267,6 @@ SUMMARY_ROWS = (
 )
 
 
-MORE_RECORDED_ROWS = (*WORD_ROWS, *FAULT_ROWS, *LOSSY_ROWS, *SEEN_ROWS, *SUMMARY_ROWS)
+MORE_RECORDED_ROWS = (
+    *WORD_ROWS, *FAULT_ROWS, *LOSSY_ROWS, *SEEN_ROWS, *ORDER_ROWS, *FORM_ROWS, *SUMMARY_ROWS,
+)
