@@ -28,10 +28,12 @@ use Rattle.afdx_acceptance.specs.Keeping.{AreKept, Given, KeyStands, came_to, gi
 use Rattle.afdx_acceptance.specs.Keys.{is_key, is_link, key_with}
 use Rattle.afdx_acceptance.specs.Lines.{Due, of_key, stranger_due}
 use Rattle.afdx_acceptance.specs.Slots.{AreFalling}
+use Rattle.afdx_acceptance.specs.Tapped.{Taps, is_heard, is_judged, judged_to}
 use Rattle.afdx_acceptance.specs.declared.kept.Kept.{Kept}
 use Rattle.afdx_acceptance.specs.declared.key.Key.{Key}
-use Rattle.afdx_acceptance.proofs.KeyLemmas.{key-same, known-link, link-to, system-at}
+use Rattle.afdx_acceptance.proofs.KeyLemmas.{key-same, known-link, link-to, same-side, system-at}
 use Rattle.afdx_acceptance.proofs.OutletLemmas.{port-is}
+use Rattle.afdx_acceptance.proofs.TappedLemmas.{any-kept, any-passes, judged-cases, judged-is, seen_ports}
 
 -- ---- what is kept, of the same
 
@@ -61,29 +63,31 @@ linked k fs (Some l) = given_with (reverse (map (λ x. x.arrival) (filter (is_ar
     (reverse (map (λ x. gone_of x.arrival) (filter (λ x. left_at k.side k.port x && names l.vl x.arrival.bytes) fs))) []
 
 -- what these frames give
-abbrev pub given_from : Rows → Key → List Frame → Option ℕ → Given
-given_from t k fs None = given_with [] []
+abbrev pub given_from : Rows → Taps → Key → List Frame → Option ℕ → Given
+given_from t taps k fs None = given_with [] []
     (map (stranger_due t k) (map (λ x. x.arrival) (filter (λ x. left_at k.side k.port x && is_stranger t x.arrival) fs)))
-given_from t k fs (Some place) = linked k fs (link_to t place k.port)
+given_from t taps k fs (Some place) = linked k fs (judged_to t taps k.side place k.port)
 
 pub given-from : (t : Rows) (c : Choices) (frames : List Frame) (k : Key)
-    → given_of t c frames k ≡ given_from t k (counted c frames) k.link
+    → given_of t c frames k ≡ given_from t c.taps k (counted t c frames) k.link
 unfolding given_of
 given-from t c frames k = by k.link
   where
-    by-link : (o : Option LinkRow) → given_to c k frames o ≡ linked k (counted c frames) o
+    by-link : (o : Option LinkRow) → given_to t c k frames o ≡ linked k (counted t c frames) o
     by-link None = refl
     by-link (Some l) = refl
 
-    by : (o : Option ℕ) → given_by t c frames k o ≡ given_from t k (counted c frames) o
+    by : (o : Option ℕ) → given_by t c frames k o ≡ given_from t c.taps k (counted t c frames) o
     by None = refl
-    by (Some place) = by-link (link_to t place k.port)
+    by (Some place) = by-link (judged_to t c.taps k.side place k.port)
 
-pub counted-more : (c : Choices) (x : Frame) (frames : List Frame) → counts c x ≡ true → counted c (x ∷ frames) ≡ x ∷ counted c frames
-counted-more c x frames e = ap (λ b. cond b (x ∷ counted c frames) (counted c frames)) e
+pub counted-more : (t : Rows) (c : Choices) (x : Frame) (frames : List Frame) → counts t c x ≡ true
+    → counted t c (x ∷ frames) ≡ x ∷ counted t c frames
+counted-more t c x frames e = ap (λ b. cond b (x ∷ counted t c frames) (counted t c frames)) e
 
-pub counted-less : (c : Choices) (x : Frame) (frames : List Frame) → counts c x ≡ false → counted c (x ∷ frames) ≡ counted c frames
-counted-less c x frames e = ap (λ b. cond b (x ∷ counted c frames) (counted c frames)) e
+pub counted-less : (t : Rows) (c : Choices) (x : Frame) (frames : List Frame) → counts t c x ≡ false
+    → counted t c (x ∷ frames) ≡ counted t c frames
+counted-less t c x frames e = ap (λ b. cond b (x ∷ counted t c frames) (counted t c frames)) e
 
 -- ---- which link is named
 
@@ -178,7 +182,7 @@ never-last : {X : Type 0} (b : Bool) (u v : X) → (if b && false then u else v)
 never-last true u v = refl
 never-last false u v = refl
 
-comes : (x : Frame) (s n among : Bool) (came : List Frame) (left : List Gone) → (n ≡ true → among ≡ true)
+comes : (x : Frame) (s n among : Bool) (came : List Frame) (left : List Gone) → (s ≡ true → n ≡ true → among ≡ true)
     → given_with (reverse (map (λ y. y.arrival) (cond (s && n) (x ∷ came) came))) left []
     ≡ (if s && n && among then given_with (reverse (map (λ y. y.arrival) came) ++ x.arrival ∷ []) left []
     else given_with (reverse (map (λ y. y.arrival) came)) left [])
@@ -187,75 +191,147 @@ comes x true false among came left h = refl
 comes x true true among came left h =
     ap (λ l. given_with l left []) (reverse-append (x.arrival ∷ []) (map (λ y. y.arrival) came))
     ∙ ap (λ b. if b then given_with (reverse (map (λ y. y.arrival) came) ++ x.arrival ∷ []) left []
-    else given_with (reverse (map (λ y. y.arrival) came)) left []) (sym (h refl))
+    else given_with (reverse (map (λ y. y.arrival) came)) left []) (sym (h refl refl))
+
+if-false : {X : Type 0} (b : Bool) (u v : X) → (b ≡ true → ⊥) → (if b then u else v) ≡ v
+if-false true u v none = absurd (none refl)
+if-false false u v none = refl
+
+three-parts : (a b c : Bool) → a && b && c ≡ true → (a ≡ true) × (b ≡ true) × (c ≡ true)
+three-parts true true true e = (refl, refl, refl)
+three-parts true true false e = absurd (true≢false (sym e))
+three-parts true false c e = absurd (true≢false (sym e))
+three-parts false b c e = absurd (true≢false (sym e))
+
+-- the link at this place, where it is the one that a frame names
+same-row : (t : Rows) (place p : ℕ) (l m : LinkRow) → nat_eq place p ≡ true → slice_get t.links place ≡ Some l
+    → slice_get t.links p ≡ Some m → m ≡ l
+same-row t place p l m e at there = same_Some m l (sym there ∙ ap (λ i. slice_get t.links i) (sym (eqb-true place p e)) ∙ at)
 
 -- of a link that is named so
-pub given-came : (t : Rows) (k : Key) (fs : List Frame) (a : Arrival) (place : ℕ) (l : LinkRow) → IsLawfulSwitch t
+pub given-came : (t : Rows) (taps : Taps) (k : Key) (fs : List Frame) (a : Arrival) (place : ℕ) (l : LinkRow) → IsLawfulSwitch t
     → place_named t a.bytes ≡ Some place → slice_get t.links place ≡ Some l → is_known t k ≡ true
-    → given_from t k (frame_with Came a ∷ fs) k.link
-    ≡ came_to a.side place (map (port_of t) l.to) a (λ k'. given_from t k' fs k'.link) k
+    → is_heard t taps a.side l ≡ true
+    → given_from t taps k (frame_with Came a ∷ fs) k.link
+    ≡ came_to a.side place (seen_ports t taps a.side l.to) a (λ k'. given_from t taps k' fs k'.link) k
 unfolding is_known is_arrival_of left_at
-given-came t k fs a place l lawful named at known = by k.link known
+given-came t taps k fs a place l lawful named at known heard = by k.link known
   where
-    by : (o : Option ℕ) → is_known_by t k o ≡ true → given_from t k (frame_with Came a ∷ fs) o
-        ≡ (if is_side a.side k.side && is_link (Some place) o && list_any (λ q. nat_eq q k.port) (map (port_of t) l.to)
-        then given_with ((given_from t k fs o).came ++ a ∷ []) (given_from t k fs o).left (given_from t k fs o).strange
-        else given_from t k fs o)
-    by None h = sym (never (is_side a.side k.side) (list_any (λ q. nat_eq q k.port) (map (port_of t) l.to))
-        (given_with ((given_from t k fs None).came ++ a ∷ []) (given_from t k fs None).left (given_from t k fs None).strange)
-        (given_from t k fs None))
+    among : Bool
+    among = list_any (λ q. nat_eq q k.port) (seen_ports t taps a.side l.to)
+
+    judged : (p : ℕ) (m : LinkRow) → judged_to t taps k.side p k.port ≡ Some m → linked k (frame_with Came a ∷ fs) (Some m)
+        ≡ (if is_side a.side k.side && nat_eq place p && among
+        then given_with ((linked k fs (Some m)).came ++ a ∷ []) (linked k fs (Some m)).left []
+        else linked k fs (Some m))
+    judged p m is =
+        let both = judged-is t taps k.side p k.port m is in
+        let there = link-to t p k.port m both.0 in
+        let n-is : names m.vl a.bytes ≡ nat_eq place p = named-is t p m a.bytes lawful there.at
+        ∙ ap (λ o. is_link o (Some p)) named in
+        subst (λ n. given_with (reverse (map (λ y. y.arrival)
+        (cond (is_side a.side k.side && n) (frame_with Came a ∷ filter (is_arrival_of m.vl k.side) fs)
+        (filter (is_arrival_of m.vl k.side) fs))))
+        (reverse (map (λ x. gone_of x.arrival) (filter (λ x. left_at k.side k.port x && names m.vl x.arrival.bytes) fs))) []
+        ≡ (if is_side a.side k.side && nat_eq place p && among
+        then given_with ((linked k fs (Some m)).came ++ a ∷ []) (linked k fs (Some m)).left []
+        else linked k fs (Some m))) (sym n-is)
+        (comes (frame_with Came a) (is_side a.side k.side) (nat_eq place p) among (filter (is_arrival_of m.vl k.side) fs)
+        (reverse (map (λ x. gone_of x.arrival) (filter (λ x. left_at k.side k.port x && names m.vl x.arrival.bytes) fs)))
+        (λ s e. any-passes (taps Left a.side) k.port (map (port_of t) l.to)
+        (ap (λ d. taps Left d k.port) (same-side a.side k.side s)
+        ∙ (and_parts (is_heard t taps k.side m) (taps Left k.side k.port) both.1).1)
+        (subst (λ (r : LinkRow). list_any (λ q. nat_eq q k.port) (map (port_of t) r.to) ≡ true)
+        (same-row t place p l m e at there.at) (port-among t m k.port there.goes))))
+
+    unjudged : (p : ℕ) (m : LinkRow) → link_to t p k.port ≡ Some m → is_judged t taps k.side m k.port ≡ false
+        → linked k (frame_with Came a ∷ fs) None
+        ≡ (if is_side a.side k.side && nat_eq place p && among
+        then given_with ((linked k fs None).came ++ a ∷ []) (linked k fs None).left []
+        else linked k fs None)
+    unjudged p m to none = sym (if-false (is_side a.side k.side && nat_eq place p && among)
+        (given_with ((linked k fs None).came ++ a ∷ []) (linked k fs None).left []) (linked k fs None)
+        (λ e. let parts = three-parts (is_side a.side k.side) (nat_eq place p) among e in
+        let side = same-side a.side k.side parts.0 in
+        let row = same-row t place p l m parts.1 at (link-to t p k.port m to).at in
+        let hears : is_heard t taps k.side m ≡ true = subst (λ (r : LinkRow). is_heard t taps k.side r ≡ true) (sym row)
+        (subst (λ d. is_heard t taps d l ≡ true) side heard) in
+        let sees : taps Left k.side k.port ≡ true = subst (λ d. taps Left d k.port ≡ true) side
+        (any-kept (taps Left a.side) k.port (map (port_of t) l.to) parts.2) in
+        true≢false (sym (ap (λ v. v && taps Left k.side k.port) hears ∙ sees) ∙ none)))
+
+    by : (o : Option ℕ) → is_known_by t k o ≡ true → given_from t taps k (frame_with Came a ∷ fs) o
+        ≡ (if is_side a.side k.side && is_link (Some place) o && among
+        then given_with ((given_from t taps k fs o).came ++ a ∷ []) (given_from t taps k fs o).left (given_from t taps k fs o).strange
+        else given_from t taps k fs o)
+    by None h = sym (never (is_side a.side k.side) among
+        (given_with ((given_from t taps k fs None).came ++ a ∷ []) (given_from t taps k fs None).left
+        (given_from t taps k fs None).strange)
+        (given_from t taps k fs None))
     by (Some p) h =
         let found = known-link t p k.port h in
-        let there = link-to t p k.port found.0 found.1 in
-        let n-is : names found.0.vl a.bytes ≡ nat_eq place p = named-is t p found.0 a.bytes lawful there.at
-        ∙ ap (λ o. is_link o (Some p)) named in
-        subst (λ o. linked k (frame_with Came a ∷ fs) o
-        ≡ (if is_side a.side k.side && nat_eq place p && list_any (λ q. nat_eq q k.port) (map (port_of t) l.to)
-        then given_with ((linked k fs o).came ++ a ∷ []) (linked k fs o).left (linked k fs o).strange
-        else linked k fs o)) (sym found.1)
-        (subst (λ n. given_with (reverse (map (λ y. y.arrival)
-        (cond (is_side a.side k.side && n) (frame_with Came a ∷ filter (is_arrival_of found.0.vl k.side) fs)
-        (filter (is_arrival_of found.0.vl k.side) fs))))
-        (reverse (map (λ x. gone_of x.arrival) (filter (λ x. left_at k.side k.port x && names found.0.vl x.arrival.bytes) fs))) []
-        ≡ (if is_side a.side k.side && nat_eq place p && list_any (λ q. nat_eq q k.port) (map (port_of t) l.to)
-        then given_with ((linked k fs (Some found.0)).came ++ a ∷ []) (linked k fs (Some found.0)).left []
-        else linked k fs (Some found.0))) (sym n-is)
-        (comes (frame_with Came a) (is_side a.side k.side) (nat_eq place p)
-        (list_any (λ q. nat_eq q k.port) (map (port_of t) l.to)) (filter (is_arrival_of found.0.vl k.side) fs)
-        (reverse (map (λ x. gone_of x.arrival) (filter (λ x. left_at k.side k.port x && names found.0.vl x.arrival.bytes) fs)))
-        (λ e. subst (λ (r : LinkRow). list_any (λ q. nat_eq q k.port) (map (port_of t) r.to) ≡ true)
-        (same_Some found.0 l (sym there.at ∙ ap (λ i. slice_get t.links i) (sym (eqb-true place p e)) ∙ at))
-        (port-among t found.0 k.port there.goes))))
+        elim (judged-cases t taps k.side p k.port found.0 found.1) [
+          | inl is ↦ subst (λ o. linked k (frame_with Came a ∷ fs) o
+              ≡ (if is_side a.side k.side && nat_eq place p && among
+              then given_with ((linked k fs o).came ++ a ∷ []) (linked k fs o).left (linked k fs o).strange
+              else linked k fs o)) (sym is.0) (judged p found.0 is.0)
+          | inr none ↦ subst (λ o. linked k (frame_with Came a ∷ fs) o
+              ≡ (if is_side a.side k.side && nat_eq place p && among
+              then given_with ((linked k fs o).came ++ a ∷ []) (linked k fs o).left (linked k fs o).strange
+              else linked k fs o)) (sym none.0) (unjudged p found.0 found.1 none.1)
+        ]
 
--- of none
-pub given-unnamed : (t : Rows) (k : Key) (fs : List Frame) (a : Arrival) → IsLawfulSwitch t
-    → place_named t a.bytes ≡ None → is_known t k ≡ true
-    → given_from t k (frame_with Came a ∷ fs) k.link ≡ given_from t k fs k.link
-unfolding is_known is_arrival_of left_at
-given-unnamed t k fs a lawful named known = by k.link known
+-- one that comes to no stream that is judged
+pub given-deaf : (t : Rows) (taps : Taps) (k : Key) (fs : List Frame) (a : Arrival)
+    → ((p : ℕ) (m : LinkRow) → judged_to t taps k.side p k.port ≡ Some m
+    → (is_side a.side k.side && names m.vl a.bytes) ≡ false)
+    → given_from t taps k (frame_with Came a ∷ fs) k.link ≡ given_from t taps k fs k.link
+unfolding is_arrival_of left_at
+given-deaf t taps k fs a none = by k.link
   where
-    skips : (s : Bool) (x : Frame) (l : LinkRow) (left : List Gone) (came : List Frame)
-        → given_with (reverse (map (λ y. y.arrival) (cond (s && false) (x ∷ came) came))) left []
-        ≡ given_with (reverse (map (λ y. y.arrival) came)) left []
-    skips true x l left came = refl
-    skips false x l left came = refl
+    by-link : (p : ℕ) (o : Option LinkRow) → judged_to t taps k.side p k.port ≡ o
+        → linked k (frame_with Came a ∷ fs) o ≡ linked k fs o
+    by-link p None is = refl
+    by-link p (Some m) is = ap (λ v. given_with (reverse (map (λ y. y.arrival)
+        (cond v (frame_with Came a ∷ filter (is_arrival_of m.vl k.side) fs) (filter (is_arrival_of m.vl k.side) fs))))
+        (reverse (map (λ x. gone_of x.arrival) (filter (λ x. left_at k.side k.port x && names m.vl x.arrival.bytes) fs))) [])
+        (none p m is)
 
-    by : (o : Option ℕ) → is_known_by t k o ≡ true → given_from t k (frame_with Came a ∷ fs) o ≡ given_from t k fs o
-    by None h = refl
-    by (Some p) h =
-        let found = known-link t p k.port h in
-        let there = link-to t p k.port found.0 found.1 in
-        let n-is : names found.0.vl a.bytes ≡ false = named-is t p found.0 a.bytes lawful there.at
-        ∙ ap (λ o. is_link o (Some p)) named in
-        subst (λ o. linked k (frame_with Came a ∷ fs) o ≡ linked k fs o) (sym found.1)
-        (subst (λ n. given_with (reverse (map (λ y. y.arrival)
-        (cond (is_side a.side k.side && n) (frame_with Came a ∷ filter (is_arrival_of found.0.vl k.side) fs)
-        (filter (is_arrival_of found.0.vl k.side) fs))))
-        (reverse (map (λ x. gone_of x.arrival) (filter (λ x. left_at k.side k.port x && names found.0.vl x.arrival.bytes) fs))) []
-        ≡ linked k fs (Some found.0)) (sym n-is)
-        (skips (is_side a.side k.side) (frame_with Came a) found.0
-        (reverse (map (λ x. gone_of x.arrival) (filter (λ x. left_at k.side k.port x && names found.0.vl x.arrival.bytes) fs)))
-        (filter (is_arrival_of found.0.vl k.side) fs)))
+    by : (o : Option ℕ) → given_from t taps k (frame_with Came a ∷ fs) o ≡ given_from t taps k fs o
+    by None = refl
+    by (Some p) = by-link p (judged_to t taps k.side p k.port) refl
+
+pub and-false : (b : Bool) → (b && false) ≡ false
+and-false true = refl
+and-false false = refl
+
+-- it names no link
+pub given-unnamed : (t : Rows) (taps : Taps) (k : Key) (fs : List Frame) (a : Arrival) → IsLawfulSwitch t
+    → place_named t a.bytes ≡ None
+    → given_from t taps k (frame_with Came a ∷ fs) k.link ≡ given_from t taps k fs k.link
+given-unnamed t taps k fs a lawful named = given-deaf t taps k fs a (λ p m is.
+    let there = link-to t p k.port m (judged-is t taps k.side p k.port m is).0 in
+    let n-is : names m.vl a.bytes ≡ false = named-is t p m a.bytes lawful there.at ∙ ap (λ o. is_link o (Some p)) named in
+    ap (λ n. is_side a.side k.side && n) n-is ∙ and-false (is_side a.side k.side))
+
+-- its link's port isn't recorded
+pub given-unheard : (t : Rows) (taps : Taps) (k : Key) (fs : List Frame) (a : Arrival) (place : ℕ) (l : LinkRow) → IsLawfulSwitch t
+    → place_named t a.bytes ≡ Some place → slice_get t.links place ≡ Some l → is_heard t taps a.side l ≡ false
+    → given_from t taps k (frame_with Came a ∷ fs) k.link ≡ given_from t taps k fs k.link
+given-unheard t taps k fs a place l lawful named at deaf = given-deaf t taps k fs a (λ p m is.
+    let both = judged-is t taps k.side p k.port m is in
+    let there = link-to t p k.port m both.0 in
+    let n-is : names m.vl a.bytes ≡ nat_eq place p = named-is t p m a.bytes lawful there.at ∙ ap (λ o. is_link o (Some p)) named in
+    by (is_side a.side k.side) (names m.vl a.bytes) (λ s n.
+    let row = same-row t place p l m (sym n-is ∙ n) at there.at in
+    let hears = (and_parts (is_heard t taps k.side m) (taps Left k.side k.port) both.1).0 in
+    true≢false (sym (subst (λ (r : LinkRow). is_heard t taps k.side r ≡ true) row hears)
+    ∙ subst (λ d. is_heard t taps d l ≡ false) (same-side a.side k.side s) deaf)))
+  where
+    by : (s n : Bool) → (s ≡ true → n ≡ true → ⊥) → (s && n) ≡ false
+    by false n none = refl
+    by true false none = refl
+    by true true none = absurd (none refl refl)
 
 -- ---- a frame that left
 
@@ -279,12 +355,23 @@ unfolding is_stranger
 stranger-none t a named is none =
     ap (λ o. not (is_some (option_and_then (λ p. link_to t p a.port) o))) is ∙ ap (λ o. not (is_some o)) none
 
-pub given-left : (t : Rows) (k : Key) (fs : List Frame) (a : Arrival) (place : ℕ) (l : LinkRow) → IsLawfulSwitch t
+-- a stream at the port of a frame is that of its link
+judged-there : (t : Rows) (taps : Taps) (a : Arrival) (k : Key) (place p : ℕ) (l m : LinkRow)
+    → link_to t place a.port ≡ Some l → link_to t p k.port ≡ Some m → is_side a.side k.side ≡ true → nat_eq a.port k.port ≡ true
+    → nat_eq place p ≡ true → is_judged t taps a.side l a.port ≡ is_judged t taps k.side m k.port
+judged-there t taps a k place p l m to there s q n =
+    let port : a.port ≡ k.port = eqb-true a.port k.port q in
+    let row : m ≡ l = same-row t place p l m n (link-to t place a.port l to).at (link-to t p k.port m there).at in
+    ap (λ d. is_judged t taps d l a.port) (same-side a.side k.side s) ∙ ap (λ r. is_judged t taps k.side r a.port) (sym row)
+    ∙ ap (λ x. is_judged t taps k.side m x) port
+
+pub given-left : (t : Rows) (taps : Taps) (k : Key) (fs : List Frame) (a : Arrival) (place : ℕ) (l : LinkRow) → IsLawfulSwitch t
     → place_named t a.bytes ≡ Some place → link_to t place a.port ≡ Some l → is_known t k ≡ true
-    → given_from t k (frame_with Left a ∷ fs) k.link
-    ≡ with_left (key_with a.side a.port (Some place)) (gone_of a) (λ k'. given_from t k' fs k'.link) k
+    → is_judged t taps a.side l a.port ≡ true
+    → given_from t taps k (frame_with Left a ∷ fs) k.link
+    ≡ with_left (key_with a.side a.port (Some place)) (gone_of a) (λ k'. given_from t taps k' fs k'.link) k
 unfolding is_known is_arrival_of left_at is_key
-given-left t k fs a place l lawful named to known = by k.link known
+given-left t taps k fs a place l lawful named to known judges = by k.link known
   where
     strange : (b : Bool) (fs' : List Frame) (d : Arrival → Due) (u : Given)
         → given_with [] [] (map d (map (λ x. x.arrival) (cond (b && false) (frame_with Left a ∷ fs') fs')))
@@ -292,48 +379,108 @@ given-left t k fs a place l lawful named to known = by k.link known
     strange true fs' d u = refl
     strange false fs' d u = refl
 
-    by : (o : Option ℕ) → is_known_by t k o ≡ true → given_from t k (frame_with Left a ∷ fs) o
+    judged : (p : ℕ) (m : LinkRow) → judged_to t taps k.side p k.port ≡ Some m → linked k (frame_with Left a ∷ fs) (Some m)
+        ≡ (if is_side a.side k.side && nat_eq a.port k.port && nat_eq place p
+        then given_with (linked k fs (Some m)).came ((linked k fs (Some m)).left ++ gone_of a ∷ []) []
+        else linked k fs (Some m))
+    judged p m is =
+        let there = link-to t p k.port m (judged-is t taps k.side p k.port m is).0 in
+        let n-is : names m.vl a.bytes ≡ nat_eq place p = named-is t p m a.bytes lawful there.at
+        ∙ ap (λ o. is_link o (Some p)) named in
+        subst (λ n. given_with (linked k fs (Some m)).came (reverse (map (λ y. gone_of y.arrival)
+        (cond (is_side a.side k.side && nat_eq a.port k.port && n)
+        (frame_with Left a ∷ filter (λ x. left_at k.side k.port x && names m.vl x.arrival.bytes) fs)
+        (filter (λ x. left_at k.side k.port x && names m.vl x.arrival.bytes) fs)))) []
+        ≡ (if is_side a.side k.side && nat_eq a.port k.port && nat_eq place p
+        then given_with (linked k fs (Some m)).came ((linked k fs (Some m)).left ++ gone_of a ∷ []) []
+        else linked k fs (Some m))) (sym n-is)
+        (leaves (frame_with Left a) (is_side a.side k.side && nat_eq a.port k.port && nat_eq place p)
+        (linked k fs (Some m)).came
+        (filter (λ x. left_at k.side k.port x && names m.vl x.arrival.bytes) fs))
+
+    unjudged : (p : ℕ) (m : LinkRow) → link_to t p k.port ≡ Some m → is_judged t taps k.side m k.port ≡ false
+        → linked k (frame_with Left a ∷ fs) None
+        ≡ (if is_side a.side k.side && nat_eq a.port k.port && nat_eq place p
+        then given_with (linked k fs None).came ((linked k fs None).left ++ gone_of a ∷ []) []
+        else linked k fs None)
+    unjudged p m there none = sym (if-false (is_side a.side k.side && nat_eq a.port k.port && nat_eq place p)
+        (given_with (linked k fs None).came ((linked k fs None).left ++ gone_of a ∷ []) []) (linked k fs None)
+        (λ e. let parts = three-parts (is_side a.side k.side) (nat_eq a.port k.port) (nat_eq place p) e in
+        true≢false (sym judges ∙ judged-there t taps a k place p l m to there parts.0 parts.1 parts.2 ∙ none)))
+
+    by : (o : Option ℕ) → is_known_by t k o ≡ true → given_from t taps k (frame_with Left a ∷ fs) o
         ≡ (if is_side a.side k.side && nat_eq a.port k.port && is_link (Some place) o
-        then given_with (given_from t k fs o).came ((given_from t k fs o).left ++ gone_of a ∷ []) (given_from t k fs o).strange
-        else given_from t k fs o)
+        then given_with (given_from t taps k fs o).came ((given_from t taps k fs o).left ++ gone_of a ∷ [])
+        (given_from t taps k fs o).strange
+        else given_from t taps k fs o)
     by None h =
         subst (λ n. given_with [] [] (map (stranger_due t k) (map (λ x. x.arrival)
         (cond (is_side a.side k.side && nat_eq a.port k.port && n)
         (frame_with Left a ∷ filter (λ x. left_at k.side k.port x && is_stranger t x.arrival) fs)
         (filter (λ x. left_at k.side k.port x && is_stranger t x.arrival) fs))))
         ≡ (if is_side a.side k.side && nat_eq a.port k.port && false
-        then given_with (given_from t k fs None).came ((given_from t k fs None).left ++ gone_of a ∷ []) (given_from t k fs None).strange
-        else given_from t k fs None)) (sym (stranger-no t a place l named to))
+        then given_with (given_from t taps k fs None).came ((given_from t taps k fs None).left ++ gone_of a ∷ [])
+        (given_from t taps k fs None).strange
+        else given_from t taps k fs None)) (sym (stranger-no t a place l named to))
         (strange (is_side a.side k.side && nat_eq a.port k.port)
         (filter (λ x. left_at k.side k.port x && is_stranger t x.arrival) fs) (stranger_due t k)
-        (given_with (given_from t k fs None).came ((given_from t k fs None).left ++ gone_of a ∷ []) (given_from t k fs None).strange))
+        (given_with (given_from t taps k fs None).came ((given_from t taps k fs None).left ++ gone_of a ∷ [])
+        (given_from t taps k fs None).strange))
     by (Some p) h =
         let found = known-link t p k.port h in
-        let there = link-to t p k.port found.0 found.1 in
-        let n-is : names found.0.vl a.bytes ≡ nat_eq place p = named-is t p found.0 a.bytes lawful there.at
-        ∙ ap (λ o. is_link o (Some p)) named in
-        subst (λ o. linked k (frame_with Left a ∷ fs) o
-        ≡ (if is_side a.side k.side && nat_eq a.port k.port && nat_eq place p
-        then given_with (linked k fs o).came ((linked k fs o).left ++ gone_of a ∷ []) (linked k fs o).strange
-        else linked k fs o)) (sym found.1)
-        (subst (λ n. given_with (linked k fs (Some found.0)).came (reverse (map (λ y. gone_of y.arrival)
-        (cond (is_side a.side k.side && nat_eq a.port k.port && n)
-        (frame_with Left a ∷ filter (λ x. left_at k.side k.port x && names found.0.vl x.arrival.bytes) fs)
-        (filter (λ x. left_at k.side k.port x && names found.0.vl x.arrival.bytes) fs)))) []
-        ≡ (if is_side a.side k.side && nat_eq a.port k.port && nat_eq place p
-        then given_with (linked k fs (Some found.0)).came ((linked k fs (Some found.0)).left ++ gone_of a ∷ []) []
-        else linked k fs (Some found.0))) (sym n-is)
-        (leaves (frame_with Left a) (is_side a.side k.side && nat_eq a.port k.port && nat_eq place p)
-        (linked k fs (Some found.0)).came
-        (filter (λ x. left_at k.side k.port x && names found.0.vl x.arrival.bytes) fs)))
+        elim (judged-cases t taps k.side p k.port found.0 found.1) [
+          | inl is ↦ subst (λ o. linked k (frame_with Left a ∷ fs) o
+              ≡ (if is_side a.side k.side && nat_eq a.port k.port && nat_eq place p
+              then given_with (linked k fs o).came ((linked k fs o).left ++ gone_of a ∷ []) (linked k fs o).strange
+              else linked k fs o)) (sym is.0) (judged p found.0 is.0)
+          | inr none ↦ subst (λ o. linked k (frame_with Left a ∷ fs) o
+              ≡ (if is_side a.side k.side && nat_eq a.port k.port && nat_eq place p
+              then given_with (linked k fs o).came ((linked k fs o).left ++ gone_of a ∷ []) (linked k fs o).strange
+              else linked k fs o)) (sym none.0) (unjudged p found.0 found.1 none.1)
+        ]
 
-pub given-strange : (t : Rows) (k : Key) (fs : List Frame) (a : Arrival) → IsLawfulSwitch t
+-- one that left where its stream isn't judged
+pub given-unseen : (t : Rows) (taps : Taps) (k : Key) (fs : List Frame) (a : Arrival) (place : ℕ) (l : LinkRow) → IsLawfulSwitch t
+    → place_named t a.bytes ≡ Some place → link_to t place a.port ≡ Some l → is_judged t taps a.side l a.port ≡ false
+    → given_from t taps k (frame_with Left a ∷ fs) k.link ≡ given_from t taps k fs k.link
+unfolding is_arrival_of left_at
+given-unseen t taps k fs a place l lawful named to none = by k.link
+  where
+    by-three : (s p n : Bool) → (s ≡ true → p ≡ true → n ≡ true → ⊥) → (s && p && n) ≡ false
+    by-three false p n never' = refl
+    by-three true false n never' = refl
+    by-three true true false never' = refl
+    by-three true true true never' = absurd (never' refl refl refl)
+
+    by-link : (p : ℕ) (o : Option LinkRow) → judged_to t taps k.side p k.port ≡ o
+        → linked k (frame_with Left a ∷ fs) o ≡ linked k fs o
+    by-link p None is = refl
+    by-link p (Some m) is =
+        let both = judged-is t taps k.side p k.port m is in
+        let there = link-to t p k.port m both.0 in
+        let n-is : names m.vl a.bytes ≡ nat_eq place p = named-is t p m a.bytes lawful there.at
+        ∙ ap (λ o. is_link o (Some p)) named in
+        ap (λ v. given_with (linked k fs (Some m)).came (reverse (map (λ y. gone_of y.arrival)
+        (cond v (frame_with Left a ∷ filter (λ x. left_at k.side k.port x && names m.vl x.arrival.bytes) fs)
+        (filter (λ x. left_at k.side k.port x && names m.vl x.arrival.bytes) fs)))) [])
+        (by-three (is_side a.side k.side) (nat_eq a.port k.port) (names m.vl a.bytes) (λ s q n.
+        true≢false (sym (judged-there t taps a k place p l m to both.0 s q (sym n-is ∙ n) ∙ both.1) ∙ none)))
+
+    by : (o : Option ℕ) → given_from t taps k (frame_with Left a ∷ fs) o ≡ given_from t taps k fs o
+    by None = ap (λ v. given_with [] [] (map (stranger_due t k) (map (λ x. x.arrival)
+        (cond v (frame_with Left a ∷ filter (λ x. left_at k.side k.port x && is_stranger t x.arrival) fs)
+        (filter (λ x. left_at k.side k.port x && is_stranger t x.arrival) fs)))))
+        (ap (λ n. is_side a.side k.side && nat_eq a.port k.port && n) (stranger-no t a place l named to)
+        ∙ and-false (is_side a.side k.side && nat_eq a.port k.port))
+    by (Some p) = by-link p (judged_to t taps k.side p k.port) refl
+
+pub given-strange : (t : Rows) (taps : Taps) (k : Key) (fs : List Frame) (a : Arrival) → IsLawfulSwitch t
     → is_stranger t a ≡ true → is_known t k ≡ true
-    → given_from t k (frame_with Left a ∷ fs) k.link
+    → given_from t taps k (frame_with Left a ∷ fs) k.link
     ≡ with_strange (key_with a.side a.port None) (stranger_due t (key_with a.side a.port None) a)
-    (λ k'. given_from t k' fs k'.link) k
+    (λ k'. given_from t taps k' fs k'.link) k
 unfolding is_known is_arrival_of left_at is_key
-given-strange t k fs a lawful strange known = by k.link refl known
+given-strange t taps k fs a lawful strange known = by k.link refl known
   where
     tells : (b : Bool) (fs' : List Frame) (d : Arrival → Due) (e : Due) → (b ≡ true → d a ≡ e)
         → given_with [] [] (map d (map (λ x. x.arrival) (cond (b && true) (frame_with Left a ∷ fs') fs')))
@@ -359,42 +506,53 @@ given-strange t k fs a lawful strange known = by k.link refl known
     same-key o none e =
         key-same (key_with a.side a.port None) k (ap (λ v. v && is_link None k.link) e ∙ ap (λ o'. is_link None o') none)
 
-    by : (o : Option ℕ) → k.link ≡ o → is_known_by t k o ≡ true → given_from t k (frame_with Left a ∷ fs) o
+    judged : (p : ℕ) (m : LinkRow) → judged_to t taps k.side p k.port ≡ Some m → linked k (frame_with Left a ∷ fs) (Some m)
+        ≡ (if is_side a.side k.side && nat_eq a.port k.port && false
+        then given_with (linked k fs (Some m)).came (linked k fs (Some m)).left
+        (stranger_due t (key_with a.side a.port None) a ∷ [])
+        else linked k fs (Some m))
+    judged p m is =
+        let to = (judged-is t taps k.side p k.port m is).0 in
+        let there = link-to t p k.port m to in
+        passes (is_side a.side k.side && nat_eq a.port k.port && names m.vl a.bytes)
+        (linked k fs (Some m)).came
+        (filter (λ x. left_at k.side k.port x && names m.vl x.arrival.bytes) fs)
+        (given_with (linked k fs (Some m)).came (linked k fs (Some m)).left
+        (stranger_due t (key_with a.side a.port None) a ∷ []))
+        (λ e. let first = and_parts (is_side a.side k.side && nat_eq a.port k.port) (names m.vl a.bytes) e in
+        let port : a.port ≡ k.port = eqb-true a.port k.port (and_parts (is_side a.side k.side) (nat_eq a.port k.port) first.0).1 in
+        let place : place_named t a.bytes ≡ Some p = same-place (place_named t a.bytes) p
+        (sym (named-is t p m a.bytes lawful there.at) ∙ first.1) in
+        true≢false (sym strange ∙ stranger-no t a p m place (ap (λ q. link_to t p q) port ∙ to)))
+        (is_side a.side k.side && nat_eq a.port k.port)
+
+    by-link : (p : ℕ) (o : Option LinkRow) → judged_to t taps k.side p k.port ≡ o → linked k (frame_with Left a ∷ fs) o
+        ≡ (if is_side a.side k.side && nat_eq a.port k.port && false
+        then given_with (linked k fs o).came (linked k fs o).left
+        (stranger_due t (key_with a.side a.port None) a ∷ (linked k fs o).strange)
+        else linked k fs o)
+    by-link p None is = sym (never-last (is_side a.side k.side && nat_eq a.port k.port)
+        (given_with [] [] (stranger_due t (key_with a.side a.port None) a ∷ [])) (given_with [] [] []))
+    by-link p (Some m) is = judged p m is
+
+    by : (o : Option ℕ) → k.link ≡ o → is_known_by t k o ≡ true → given_from t taps k (frame_with Left a ∷ fs) o
         ≡ (if is_side a.side k.side && nat_eq a.port k.port && is_link None o
-        then given_with (given_from t k fs o).came (given_from t k fs o).left
-        (stranger_due t (key_with a.side a.port None) a ∷ (given_from t k fs o).strange)
-        else given_from t k fs o)
+        then given_with (given_from t taps k fs o).came (given_from t taps k fs o).left
+        (stranger_due t (key_with a.side a.port None) a ∷ (given_from t taps k fs o).strange)
+        else given_from t taps k fs o)
     by None none h =
         subst (λ n. given_with [] [] (map (stranger_due t k) (map (λ x. x.arrival)
         (cond (is_side a.side k.side && nat_eq a.port k.port && n)
         (frame_with Left a ∷ filter (λ x. left_at k.side k.port x && is_stranger t x.arrival) fs)
         (filter (λ x. left_at k.side k.port x && is_stranger t x.arrival) fs))))
         ≡ (if is_side a.side k.side && nat_eq a.port k.port && true
-        then given_with [] [] (stranger_due t (key_with a.side a.port None) a ∷ (given_from t k fs None).strange)
-        else given_from t k fs None)) (sym strange)
+        then given_with [] [] (stranger_due t (key_with a.side a.port None) a ∷ (given_from t taps k fs None).strange)
+        else given_from t taps k fs None)) (sym strange)
         (tells (is_side a.side k.side && nat_eq a.port k.port)
         (filter (λ x. left_at k.side k.port x && is_stranger t x.arrival) fs) (stranger_due t k)
         (stranger_due t (key_with a.side a.port None) a)
         (λ e. ap (λ q. stranger_due t q a) (sym (same-key None none e))))
-    by (Some p) is h =
-        let found = known-link t p k.port h in
-        let there = link-to t p k.port found.0 found.1 in
-        subst (λ o. linked k (frame_with Left a ∷ fs) o
-        ≡ (if is_side a.side k.side && nat_eq a.port k.port && false
-        then given_with (linked k fs o).came (linked k fs o).left
-        (stranger_due t (key_with a.side a.port None) a ∷ (linked k fs o).strange)
-        else linked k fs o)) (sym found.1)
-        (passes (is_side a.side k.side && nat_eq a.port k.port && names found.0.vl a.bytes)
-        (linked k fs (Some found.0)).came
-        (filter (λ x. left_at k.side k.port x && names found.0.vl x.arrival.bytes) fs)
-        (given_with (linked k fs (Some found.0)).came (linked k fs (Some found.0)).left
-        (stranger_due t (key_with a.side a.port None) a ∷ []))
-        (λ e. let first = and_parts (is_side a.side k.side && nat_eq a.port k.port) (names found.0.vl a.bytes) e in
-        let port : a.port ≡ k.port = eqb-true a.port k.port (and_parts (is_side a.side k.side) (nat_eq a.port k.port) first.0).1 in
-        let place : place_named t a.bytes ≡ Some p = same-place (place_named t a.bytes) p
-        (sym (named-is t p found.0 a.bytes lawful there.at) ∙ first.1) in
-        true≢false (sym strange ∙ stranger-no t a p found.0 place (ap (λ q. link_to t p q) port ∙ found.1)))
-        (is_side a.side k.side && nat_eq a.port k.port))
+    by (Some p) is h = by-link p (judged_to t taps k.side p k.port) refl
 
 -- ---- times
 
@@ -416,49 +574,49 @@ all-reverse P (x ∷ xs) all = subst (λ l. AllByRecursion P l) (sym (reverse-ap
     (AllByRecursion-push P (reverse xs) x (all-reverse P xs all.1) all.0)
 
 module _ (t : Rows) (c : Choices) (frames : List Frame) (time : ℕ)
-    (all : AllByRecursion (λ x. x.arrival.time ≤ time) (counted c frames)) (k : Key) where
+    (all : AllByRecursion (λ x. x.arrival.time ≤ time) (counted t c frames)) (k : Key) where
   pub came-times : AllByRecursion (λ x. x.time ≤ time) (given_of t c frames k).came
   came-times = subst (λ g. AllByRecursion (λ x. x.time ≤ time) g.came) (sym (given-from t c frames k)) (by k.link)
     where
-      by-link : (o : Option LinkRow) → AllByRecursion (λ x. x.time ≤ time) (linked k (counted c frames) o).came
+      by-link : (o : Option LinkRow) → AllByRecursion (λ x. x.time ≤ time) (linked k (counted t c frames) o).came
       by-link None = tt
-      by-link (Some l) = all-reverse (λ x. x.time ≤ time) (map (λ x. x.arrival) (filter (is_arrival_of l.vl k.side) (counted c frames)))
-          (all-map (λ x. x.time ≤ time) (λ (x : Frame). x.arrival) (filter (is_arrival_of l.vl k.side) (counted c frames))
-          (all-filter (λ x. x.arrival.time ≤ time) (is_arrival_of l.vl k.side) (counted c frames) all))
+      by-link (Some l) = all-reverse (λ x. x.time ≤ time) (map (λ x. x.arrival) (filter (is_arrival_of l.vl k.side) (counted t c frames)))
+          (all-map (λ x. x.time ≤ time) (λ (x : Frame). x.arrival) (filter (is_arrival_of l.vl k.side) (counted t c frames))
+          (all-filter (λ x. x.arrival.time ≤ time) (is_arrival_of l.vl k.side) (counted t c frames) all))
 
-      by : (o : Option ℕ) → AllByRecursion (λ x. x.time ≤ time) (given_from t k (counted c frames) o).came
+      by : (o : Option ℕ) → AllByRecursion (λ x. x.time ≤ time) (given_from t c.taps k (counted t c frames) o).came
       by None = tt
-      by (Some place) = by-link (link_to t place k.port)
+      by (Some place) = by-link (judged_to t c.taps k.side place k.port)
 
   pub left-times : AllByRecursion (λ y. y.time ≤ time) (given_of t c frames k).left
   left-times = subst (λ g. AllByRecursion (λ y. y.time ≤ time) g.left) (sym (given-from t c frames k)) (by k.link)
     where
-      by-link : (o : Option LinkRow) → AllByRecursion (λ y. y.time ≤ time) (linked k (counted c frames) o).left
+      by-link : (o : Option LinkRow) → AllByRecursion (λ y. y.time ≤ time) (linked k (counted t c frames) o).left
       by-link None = tt
       by-link (Some l) = all-reverse (λ y. y.time ≤ time)
-          (map (λ x. gone_of x.arrival) (filter (λ x. left_at k.side k.port x && names l.vl x.arrival.bytes) (counted c frames)))
+          (map (λ x. gone_of x.arrival) (filter (λ x. left_at k.side k.port x && names l.vl x.arrival.bytes) (counted t c frames)))
           (all-map (λ y. y.time ≤ time) (λ (x : Frame). gone_of x.arrival)
-          (filter (λ x. left_at k.side k.port x && names l.vl x.arrival.bytes) (counted c frames))
-          (all-filter (λ x. x.arrival.time ≤ time) (λ x. left_at k.side k.port x && names l.vl x.arrival.bytes) (counted c frames) all))
+          (filter (λ x. left_at k.side k.port x && names l.vl x.arrival.bytes) (counted t c frames))
+          (all-filter (λ x. x.arrival.time ≤ time) (λ x. left_at k.side k.port x && names l.vl x.arrival.bytes) (counted t c frames) all))
 
-      by : (o : Option ℕ) → AllByRecursion (λ y. y.time ≤ time) (given_from t k (counted c frames) o).left
+      by : (o : Option ℕ) → AllByRecursion (λ y. y.time ≤ time) (given_from t c.taps k (counted t c frames) o).left
       by None = tt
-      by (Some place) = by-link (link_to t place k.port)
+      by (Some place) = by-link (judged_to t c.taps k.side place k.port)
 
   pub strange-times : AllByRecursion (λ d. d.moment ≤ time) (given_of t c frames k).strange
   strange-times = subst (λ g. AllByRecursion (λ d. d.moment ≤ time) g.strange) (sym (given-from t c frames k)) (by k.link)
     where
-      by-link : (o : Option LinkRow) → AllByRecursion (λ d. d.moment ≤ time) (linked k (counted c frames) o).strange
+      by-link : (o : Option LinkRow) → AllByRecursion (λ d. d.moment ≤ time) (linked k (counted t c frames) o).strange
       by-link None = tt
       by-link (Some l) = tt
 
-      by : (o : Option ℕ) → AllByRecursion (λ d. d.moment ≤ time) (given_from t k (counted c frames) o).strange
+      by : (o : Option ℕ) → AllByRecursion (λ d. d.moment ≤ time) (given_from t c.taps k (counted t c frames) o).strange
       by None = all-map (λ d. d.moment ≤ time) (stranger_due t k)
-          (map (λ x. x.arrival) (filter (λ x. left_at k.side k.port x && is_stranger t x.arrival) (counted c frames)))
+          (map (λ x. x.arrival) (filter (λ x. left_at k.side k.port x && is_stranger t x.arrival) (counted t c frames)))
           (all-map (λ x. x.time ≤ time) (λ (x : Frame). x.arrival)
-          (filter (λ x. left_at k.side k.port x && is_stranger t x.arrival) (counted c frames))
-          (all-filter (λ x. x.arrival.time ≤ time) (λ x. left_at k.side k.port x && is_stranger t x.arrival) (counted c frames) all))
-      by (Some place) = by-link (link_to t place k.port)
+          (filter (λ x. left_at k.side k.port x && is_stranger t x.arrival) (counted t c frames))
+          (all-filter (λ x. x.arrival.time ≤ time) (λ x. left_at k.side k.port x && is_stranger t x.arrival) (counted t c frames) all))
+      by (Some place) = by-link (judged_to t c.taps k.side place k.port)
 
 pub falling-more : (d : Due) (ds : List Due) → AllByRecursion (λ e. e.moment ≤ d.moment) ds → AreFalling ds → AreFalling (d ∷ ds)
 unfolding AreFalling
@@ -477,9 +635,9 @@ given-none t c until kept are =
     by-link k None = refl
     by-link k (Some l) = refl
 
-    by : (k : Key) (o : Option ℕ) → given_from t k [] o ≡ given_with [] [] []
+    by : (k : Key) (o : Option ℕ) → given_from t c.taps k [] o ≡ given_with [] [] []
     by k None = refl
-    by k (Some place) = by-link k (link_to t place k.port)
+    by k (Some place) = by-link k (judged_to t c.taps k.side place k.port)
 
     none : (k : Key) → given_of t c [] k ≡ nothing_given k
     none k = given-from t c [] k ∙ by k k.link

@@ -1,4 +1,5 @@
 pub mod AgendaLemmas
+pub mod TappedLemmas
 pub mod OutletLemmas
 pub mod WaitingLemmas
 pub mod TellingLemmas
@@ -12,4 +13,20 @@ pub mod StepLemmas
 pub mod GivenLemmas
 pub mod JoinLemmas
 pub mod FullLemmas
+pub mod LaterLemmas
+pub mod RestLemmas
+pub mod BehindLemmas
+pub mod FirstLemmas
+pub mod EarlyLemmas
+pub mod BegunLemmas
+pub mod CountingLemmas
 pub mod EndLemmas
+pub mod OfKeyLemmas
+pub mod OneAnswerLemmas
+pub mod RunLawLemmas
+pub mod FoundLemmas
+pub mod ByTimeLemmas
+pub mod RunExampleLemmas
+pub mod PartLemmas
+pub mod VerdictLemmas
+pub mod ShownLemmas

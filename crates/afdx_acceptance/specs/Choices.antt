@@ -1,8 +1,9 @@
--- What a run is asked: by how much stamps may be off, and which frames of the two lists count. A
--- list of frames has the newest first.
-use Rattle.std.specs.Prelude.{ℕ, ◌+◌, ◌≤◌, Bool, true, false, not, ◌&&◌, nat_eq, nat_le, nat_lt, List, [], ◌∷◌, length, filter, Option, Some, None}
+-- What a run is asked: by how much stamps may be off, and which of the frames of both roles count.
+-- A list of frames has the newest first.
+use Rattle.std.specs.Prelude.{ℕ, ◌+◌, ◌≤◌, Bool, true, false, not, ◌&&◌, ◌||◌, nat_eq, nat_le, nat_lt, List, [], ◌∷◌, length, filter, Option, Some, None}
 use Rattle.std.specs.List.{list_any}
 use Rattle.std.specs.Option.{ForSome}
+use Rattle.afdx_config.specs.Rows.{Rows}
 use Rattle.afdx_frame.specs.Times.{latest_listed}
 use Rattle.afdx_frame.specs.Layout.{link_named_by}
 use Rattle.afdx_frame.specs.declared.link.VlId.{VlId}
@@ -12,13 +13,16 @@ use Rattle.afdx_inputs.specs.Joining.{Frame}
 use Rattle.afdx_conform.specs.Explanations.{from_time}
 use Rattle.afdx_conform.specs.Leeway.{Leeway, both_slacks}
 use Rattle.afdx_conform.specs.LimitRanges.{most_bytes}
+use Rattle.afdx_acceptance.specs.Tapped.{Taps, is_unheard}
 
 -- The leeway, with the start from which on frames count; the end after which they don't, if one is
--- said; the links whose frames are left out, `None` for those of no link.
+-- said; the links whose frames are left out, `None` for those of no link; the ports that were
+-- recorded.
 pub record Choices : Type 0 where
   pub by : Leeway
   pub until : Option ℕ
   pub left_out : List (Option VlId)
+  pub taps : Taps
 
 -- the end of the recordings, if one is said, is no later than any time of a list
 abbrev pub IsUntil : Option ℕ → Type 0
@@ -49,16 +53,21 @@ module _ (c : Choices) where
   abbrev pub is_left_out : Frame → Bool
   is_left_out x = list_any (λ link. is_same_link link (link_named_by x.arrival.bytes)) c.left_out
 
+module _ (t : Rows) (c : Choices) where
+  -- it is passed over, for its link or because its sender's port isn't recorded
+  abbrev pub is_passed : Frame → Bool
+  is_passed x = is_left_out c x || is_unheard t c.taps x
+
   -- it counts, if it isn't longer than any frame on a line
   unfoldable pub counts : Frame → Bool
-  counts x = is_in_time x && not (is_left_out x) && nat_le (length x.arrival.bytes) most_bytes
+  counts x = is_in_time c x && not (is_passed x) && nat_le (length x.arrival.bytes) most_bytes
 
-  -- those that do, and how many are left out from start to end
+  -- those that do, and how many are passed over from start to end
   abbrev pub counted : List Frame → List Frame
   counted frames = filter counts frames
 
   unfoldable pub is_missed : Frame → Bool
-  is_missed x = is_in_time x && is_left_out x
+  is_missed x = is_in_time c x && is_passed x
 
   abbrev pub left_out_of : List Frame → ℕ
   left_out_of frames = length (filter is_missed frames)

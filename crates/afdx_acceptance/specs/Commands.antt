@@ -1,5 +1,5 @@
 -- What the command conform does, whatever its run answers.
-use Rattle.std.specs.Prelude.{ℕ, ◌≡◌, ◌⊎◌, ◌||◌, Bool, true, List, Option, Some, None, Result, Ok, Err, OnOk, OnErr}
+use Rattle.std.specs.Prelude.{ℕ, ◌≡◌, ◌⊎◌, Bool, List, Option, Some, None, Result, Ok, Err, OnOk, OnErr}
 use Rattle.std.specs.Prelude.{codes, option_and_then, option_map, slice_get}
 use Rattle.afdx_commands.specs.Checking.{IsRead}
 use Rattle.afdx_commands.specs.Taking.{IsUnread}
@@ -7,15 +7,15 @@ use Rattle.afdx_config.specs.Rows.{Rows}
 use Rattle.afdx_config.specs.Switches.{switch_named}
 use Rattle.afdx_config.specs.declared.describing.Described.{Described}
 use Rattle.afdx_config.specs.declared.describing.Described.TheVariants.{One, Several}
+use Rattle.afdx_inputs.specs.declared.seen_frames.SeenCount.{SeenCount}
 use Rattle.afdx_lists.specs.Calls.{is_failed_read, is_failed_write}
 use Rattle.afdx_lists.specs.Faults as lists
-use Rattle.afdx_lists.specs.Watching.{has_ended, has_failed}
-use Rattle.afdx_lists.specs.declared.role.ByRole.{ByRole}
 use Rattle.afdx_lists.specs.declared.fault.RunFault.{RunFault}
 use Rattle.afdx_lists.specs.declared.watched.Watched.{Watched}
 use Rattle.afdx_text.specs.Telling.{Tells, TellsLine}
 use Rattle.afdx_acceptance.specs.Totals.{status_of}
-use Rattle.afdx_acceptance.specs.declared.totals.Totals.{Totals}
+use Rattle.afdx_acceptance.specs.declared.command.Judged.{Judged}
+use Rattle.afdx_acceptance.specs.declared.run.RunCounts.{RunCounts}
 
 -- the tables of the switch that is judged: the one switch where none is named, else the one of this
 -- name
@@ -31,42 +31,51 @@ tables_judged (Several switches) (Some name) =
 abbrev pub no_switch_line : List ℕ
 no_switch_line = codes "words NoSuchSwitch\n"
 
--- the exit status of what a run answers
-abbrev pub status_of_answer : Result Totals RunFault → ℕ
-status_of_answer (Ok totals) = status_of totals
+-- the exit status of what a run answers, and what was read, if the last line was written
+abbrev pub status_of_answer : Result RunCounts RunFault → ℕ
+status_of_answer (Ok counted) = status_of counted.totals
 status_of_answer (Err fault) = lists.status_of fault
 
+abbrev pub count_of_answer : Result RunCounts RunFault → Option SeenCount
+count_of_answer (Ok counted) = Some counted.count
+count_of_answer (Err fault) = None
+
+-- so the command ends where no last line is written
+abbrev pub ended_with : ℕ → Judged
+ended_with status = record { status = status; count = None }
+
 -- what the error output is told, and the exit status
-module _ {E : Type 0} (error_bytes : E → Option (List ℕ)) (old new : Watched E) (status : ℕ) where
+module _ {E : Type 0} (error_bytes : E → Option (List ℕ)) (old new : Watched E) where
   -- a run answered so: a fault is told in one line, and nothing else
-  pub record EndsAs (answer : Result Totals RunFault) : Type 0 where
-    pub status_is : status ≡ status_of_answer answer
+  pub record EndsAs (ended : Judged) (answer : Result RunCounts RunFault) : Type 0 where
+    pub status_is : ended.status ≡ status_of_answer answer
+    pub count_is : ended.count ≡ count_of_answer answer
     pub told : OnErr answer (TellsLine error_bytes old new)
     pub silent : OnOk answer (new ≡ old)
 
   -- there is no such switch
-  pub record IsToldNoSwitch : Type 0 where
+  pub record IsToldNoSwitch (status : ℕ) : Type 0 where
     pub status_is : status ≡ 2
     pub told : Tells error_bytes old new no_switch_line
 
--- a run that answers so came to the end of both inputs, or one of its devices failed
-pub record IsRun {R : Type 0} (rest : ByRole (Watched R)) (output_failed : Bool)
-    (answer : Result Totals RunFault) : Type 0 where
-  pub ended : OnOk answer ((has_ended rest.came ≡ true) × (has_ended rest.left ≡ true))
-  pub read : (has_failed rest.came || has_failed rest.left) ≡ is_failed_read answer
+-- a run that answers so came to the end of its inputs, or one of its devices failed
+pub record IsRun (all_read : Type 0) (input_failed output_failed : Bool)
+    (answer : Result RunCounts RunFault) : Type 0 where
+  pub ended : OnOk answer all_read
+  pub read : input_failed ≡ is_failed_read answer
   pub write : output_failed ≡ is_failed_write answer
 
 -- what is judged, by a configuration and a name
 module _ {E : Type 0} (error_bytes : E → Option (List ℕ)) (config : List ℕ)
-    (name : Option (List ℕ)) (old new : Watched E) (status : ℕ) where
+    (name : Option (List ℕ)) (old new : Watched E) (ended : Judged) where
   -- a run by the tables of the switch ended the command, of which this holds
-  pub record IsJudged (ran : Rows → Result Totals RunFault → Type 0) : Type 0 where
+  pub record IsJudged (ran : Rows → Result RunCounts RunFault → Type 0) : Type 0 where
     pub described : Described
     pub read : IsRead config described
     pub tables : Rows
     pub judged : tables_judged described name ≡ Some tables
-    pub answer : Result Totals RunFault
-    pub ends : EndsAs error_bytes old new status answer
+    pub answer : Result RunCounts RunFault
+    pub ends : EndsAs error_bytes old new ended answer
     pub runs : ran tables answer
 
   -- the configuration describes no such switch
@@ -74,8 +83,9 @@ module _ {E : Type 0} (error_bytes : E → Option (List ℕ)) (config : List ℕ
     pub described : Described
     pub read : IsRead config described
     pub unjudged : tables_judged described name ≡ None
-    pub told : IsToldNoSwitch error_bytes old new status
+    pub told : IsToldNoSwitch error_bytes old new ended.status
 
   -- there are no tables to judge by
   abbrev pub IsUnjudged : Type 0
-  IsUnjudged = IsUnread error_bytes old new config status ⊎ HasNoSwitch
+  IsUnjudged = (ended.count ≡ None)
+      × (IsUnread error_bytes old new config ended.status ⊎ HasNoSwitch)

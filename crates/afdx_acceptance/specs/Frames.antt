@@ -1,22 +1,17 @@
--- Of the frames of two lists those of a stream, and those of none. Lists of frames have the newest
+-- Of the frames of both roles those of a stream, and those of none. Lists of frames have the newest
 -- first.
-use Rattle.std.specs.Prelude.{ℕ, ◌*◌, Bool, true, false, not, ◌&&◌, nat_eq, Option, Some, None, List, filter, map, is_some, slice_get, option_and_then, if◌then◌else◌}
-use Rattle.afdx_bounds.specs.Tables.{rule_of, byte_ns_at, goes_to}
-use Rattle.afdx_config.specs.Reading.{link_of}
+use Rattle.std.specs.Prelude.{ℕ, ◌*◌, Bool, not, ◌&&◌, nat_eq, List, filter, map, is_some, option_and_then}
+use Rattle.afdx_bounds.specs.Tables.{rule_of, byte_ns_at}
 use Rattle.afdx_config.specs.Rows.{Rows, LinkRow}
-use Rattle.afdx_frame.specs.Layout.{link_named_by}
 use Rattle.afdx_frame.specs.declared.link.Side.{Side}
 use Rattle.afdx_frame.specs.Sides.{is_side}
 use Rattle.afdx_lists.specs.declared.role.Role.{Role}
-use Rattle.afdx_lists.specs.declared.role.Role.TheVariants.{Came, Left}
 use Rattle.afdx_inputs.specs.Joining.{Frame}
 use Rattle.afdx_police.specs.Arrival.{Arrival, names}
 use Rattle.afdx_conform.specs.Streams.{Gone, Terms}
 use Rattle.afdx_acceptance.specs.Choices.{Choices, counted}
-
-abbrev pub is_of_came : Role → Bool
-is_of_came Came = true
-is_of_came Left = false
+use Rattle.afdx_acceptance.specs.Tapped.{is_of_came}
+unfoldable pub use Rattle.afdx_acceptance.specs.Tapped.{link_to, place_named}
 
 abbrev pub frame_with : Role → Arrival → Frame
 frame_with role x = record { role = role; arrival = x }
@@ -34,15 +29,6 @@ left_at side port x =
 abbrev pub gone_of : Arrival → Gone
 gone_of x = record { number = x.tag; time = x.time; bytes = x.bytes }
 
--- the place of the link that bytes name
-unfoldable pub place_named : Rows → List ℕ → Option ℕ
-place_named t bytes = option_and_then (λ v. link_of t.links v.0) (link_named_by bytes)
-
--- the link at this place, if it goes to the port
-unfoldable pub link_to : Rows → ℕ → ℕ → Option LinkRow
-link_to t place port = option_and_then (λ l. if goes_to t l port then Some l else None)
-    (slice_get t.links place)
-
 -- what left at a port is of no stream: its bytes name no link that goes there
 unfoldable pub is_stranger : Rows → Arrival → Bool
 is_stranger t x =
@@ -50,17 +36,17 @@ is_stranger t x =
 
 -- the frames that count: a link's arrivals on a side, what left of it at a port, and what left
 -- there that is of no stream
-abbrev pub arrivals_of : Choices → ℕ → Side → List Frame → List Arrival
-arrivals_of c vl side frames =
-    map (λ x. x.arrival) (filter (is_arrival_of vl side) (counted c frames))
+abbrev pub arrivals_of : Rows → Choices → ℕ → Side → List Frame → List Arrival
+arrivals_of t c vl side frames =
+    map (λ x. x.arrival) (filter (is_arrival_of vl side) (counted t c frames))
 
-abbrev pub frames_of : Choices → ℕ → Side → ℕ → List Frame → List Gone
-frames_of c vl side port frames = map (λ x. gone_of x.arrival)
-    (filter (λ x. left_at side port x && names vl x.arrival.bytes) (counted c frames))
+abbrev pub frames_of : Rows → Choices → ℕ → Side → ℕ → List Frame → List Gone
+frames_of t c vl side port frames = map (λ x. gone_of x.arrival)
+    (filter (λ x. left_at side port x && names vl x.arrival.bytes) (counted t c frames))
 
 abbrev pub strangers_of : Rows → Choices → Side → ℕ → List Frame → List Arrival
 strangers_of t c side port frames = map (λ x. x.arrival)
-    (filter (λ x. left_at side port x && is_stranger t x.arrival) (counted c frames))
+    (filter (λ x. left_at side port x && is_stranger t x.arrival) (counted t c frames))
 
 -- what the stream of a link at a port is judged by
 abbrev pub terms_at : Rows → Choices → (until : ℕ) → LinkRow → (port : ℕ) → Terms

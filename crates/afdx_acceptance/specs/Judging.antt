@@ -1,5 +1,6 @@
 -- What a run works with.
 use Rattle.std.specs.Prelude.{◌≡◌}
+use Rattle.afdx_acceptance.specs.Standing.{IsSameButKept}
 use Rattle.afdx_acceptance.specs.declared.judging.Judging.{Judging}
 
 -- but for the number of findings
@@ -10,9 +11,10 @@ pub record IsSameButFindings (old new : Judging) : Type 0 where
   pub left_out : new.left_out ≡ old.left_out
   pub is_over : new.is_over ≡ old.is_over
 
--- but for the streams and for what is left out
+-- but for what is kept of the streams and what is left out
 pub record IsSameButTaken (old new : Judging) : Type 0 where
   pub choices : new.choices ≡ old.choices
+  pub rules : IsSameButKept old.streams new.streams
   pub latest : new.latest ≡ old.latest
   pub findings : new.findings ≡ old.findings
   pub is_over : new.is_over ≡ old.is_over

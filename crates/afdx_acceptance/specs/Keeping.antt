@@ -13,6 +13,7 @@ use Rattle.afdx_acceptance.specs.Choices.{Choices}
 use Rattle.afdx_acceptance.specs.Frames.{arrivals_of, frames_of, link_to, strangers_of, terms_at}
 use Rattle.afdx_acceptance.specs.Keys.{is_key, is_link, key_place}
 use Rattle.afdx_acceptance.specs.Lines.{AreInOrder, Due, last_rank, of_key, stranger_due}
+use Rattle.afdx_acceptance.specs.Tapped.{judged_to}
 use Rattle.afdx_acceptance.specs.Slots.{AreFalling, StrangersStand, StreamEnds, StreamStands}
 use Rattle.afdx_acceptance.specs.Waiting.{slot_due}
 use Rattle.afdx_acceptance.specs.declared.agenda.Entry.{Entry}
@@ -57,16 +58,17 @@ came_to side place ports x given k =
     then given_with ((given k).came ++ x ∷ []) (given k).left (given k).strange
     else given k
 
--- what the frames of two lists give, newest first
-abbrev pub given_to : Choices → Key → List Frame → Option LinkRow → Given
-given_to c k frames None = given_with [] [] []
-given_to c k frames (Some l) = given_with (reverse (arrivals_of c l.vl k.side frames))
-    (reverse (frames_of c l.vl k.side k.port frames)) []
+-- what the frames of both roles give, newest first
+abbrev pub given_to : Rows → Choices → Key → List Frame → Option LinkRow → Given
+given_to t c k frames None = given_with [] [] []
+given_to t c k frames (Some l) = given_with (reverse (arrivals_of t c l.vl k.side frames))
+    (reverse (frames_of t c l.vl k.side k.port frames)) []
 
 abbrev pub given_by : Rows → Choices → List Frame → Key → Option ℕ → Given
 given_by t c frames k None =
     given_with [] [] (map (stranger_due t k) (strangers_of t c k.side k.port frames))
-given_by t c frames k (Some place) = given_to c k frames (link_to t place k.port)
+given_by t c frames k (Some place) =
+    given_to t c k frames (judged_to t c.taps k.side place k.port)
 
 unfoldable pub given_of : Rows → Choices → List Frame → Key → Given
 given_of t c frames k = given_by t c frames k k.link

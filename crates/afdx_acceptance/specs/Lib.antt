@@ -1,3 +1,4 @@
+pub mod Tapped
 pub mod Choices
 pub mod ChoicesOf
 pub mod Keys
@@ -6,12 +7,17 @@ pub mod Waiting
 pub mod Totals
 pub mod Commands
 pub mod Telling
-pub mod Judging
 pub mod Frames
 pub mod Lines
 pub mod Slots
 pub mod Keeping
 pub mod Standing
+pub mod Judging
+pub mod Beginning
+pub mod Counting
 pub mod Told
-pub mod Ran
 pub mod Written
+pub mod Ran
+pub mod RunLaws
+pub mod VerdictLaws
+pub mod RunExample

@@ -1,5 +1,5 @@
--- The lines that a run writes of the frames of two lists, before its last line. Lists of frames and
--- of lines have the newest first.
+-- The lines that a run writes of the frames of both roles, before its last line. Lists of frames
+-- and of lines have the newest first.
 use Rattle.std.specs.Prelude.{ℕ, ◌+◌, ◌*◌, ◌<◌, ◌≤◌, ◌≡◌, Bool, true, ⊤, Option, Some, None, List, [], ◌∷◌, ◌++◌, filter, map, is_some, reverse, if◌then◌else◌}
 use Rattle.std.specs.Option.{option_map_or}
 use Rattle.afdx_config.specs.Rows.{Rows, LinkRow}
@@ -22,8 +22,9 @@ use Rattle.afdx_text.specs.declared.conform_line.ConformLine.TheVariants.{Strang
 use Rattle.afdx_text.specs.declared.strange.StrangeReason.{StrangeReason}
 use Rattle.afdx_text.specs.declared.strange.StrangeReason.TheVariants.{Shape, NotItsPort, OutOfTurn, NoArrival}
 use Rattle.afdx_acceptance.specs.Choices.{Choices}
-use Rattle.afdx_acceptance.specs.Frames.{arrivals_of, frames_of, strangers_of, link_to, place_named, terms_at}
+use Rattle.afdx_acceptance.specs.Frames.{arrivals_of, frames_of, strangers_of, place_named, terms_at}
 use Rattle.afdx_acceptance.specs.Keys.{is_key, key_rank}
+use Rattle.afdx_acceptance.specs.Tapped.{judged_to}
 use Rattle.afdx_acceptance.specs.declared.key.Key.{Key}
 
 -- a line, the moment at which it is due, in ns, and whose it is
@@ -50,6 +51,10 @@ AreInOrder (d ∷ before) = (last_rank before ≤ rank d) × AreInOrder before
 -- those of a key
 abbrev pub of_key : Key → List Due → List Due
 of_key k lines = filter (λ d. is_key k d.key) lines
+
+-- what they say, the oldest first
+abbrev pub lines_of : List Due → List ConformLine
+lines_of lines = reverse (map (λ d. d.line) lines)
 
 -- ---- frames that are of no stream
 
@@ -100,14 +105,15 @@ module _ (t : Rows) (c : Choices) (until : ℕ) (frames : List Frame) where
   -- how the stream of a link is judged
   abbrev pub judged_at : LinkRow → Side → ℕ → Judged
   judged_at l side port = judged_of (terms_at t c until l port)
-      (reverse (arrivals_of c l.vl side frames)) (reverse (frames_of c l.vl side port frames))
+      (reverse (arrivals_of t c l.vl side frames)) (reverse (frames_of t c l.vl side port frames))
 
   abbrev pub stream_dues : Key → LinkRow → List Due
   stream_dues k l = judged_dues (terms_at t c until l k.port) k (judged_at l k.side k.port)
 
   abbrev pub dues_by : Key → Option ℕ → List Due
   dues_by k None = map (stranger_due t k) (strangers_of t c k.side k.port frames)
-  dues_by k (Some place) = option_map_or (stream_dues k) (link_to t place k.port) []
+  dues_by k (Some place) =
+      option_map_or (stream_dues k) (judged_to t c.taps k.side place k.port) []
 
   -- the lines of a key: a stream's depend on its own arrivals and frames alone
   abbrev pub dues_of : Key → List Due

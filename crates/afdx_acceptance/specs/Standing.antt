@@ -1,4 +1,4 @@
--- What is kept of all streams stands for the frames of two lists, and for the lines that are told.
+-- What is kept of all streams stands for the frames of both roles, and for the lines that are told.
 use Rattle.std.specs.Prelude.{◌≡◌, ℕ, ◌≤◌, List}
 use Rattle.std.specs.List.{AllByRecursion}
 use Rattle.afdx_config.specs.Lawful.{IsLawfulSwitch}
@@ -8,8 +8,14 @@ use Rattle.afdx_inputs.specs.Joining.{Frame}
 use Rattle.afdx_acceptance.specs.Choices.{Choices}
 use Rattle.afdx_acceptance.specs.Keeping.{AreKept, given_of}
 use Rattle.afdx_acceptance.specs.Lines.{Due}
+use Rattle.afdx_acceptance.specs.Tapped.{taps_in}
 use Rattle.afdx_acceptance.specs.declared.kept.Kept.{Kept}
 use Rattle.afdx_acceptance.specs.declared.streams.Streams.{Streams}
+
+-- but for what is kept, and the end
+pub record IsSameButKept (old new : Streams) : Type 0 where
+  pub tables : new.tables ≡ old.tables
+  pub taps : new.taps ≡ old.taps
 
 abbrev pub streams_with : Streams → Kept → Streams
 streams_with s kept = record s { kept = kept }
@@ -25,4 +31,5 @@ pub record StreamsStand (t : Rows) (c : Choices) (until : ℕ) (frames : List Fr
   pub lawful : IsLawfulSwitch t
   pub tables : s.tables.now ≡ t
   pub by : leeway_of s.leeway ≡ c.by
+  pub taps : taps_in s.taps.now ≡ c.taps
   pub kept : AreKept t c until s.ended time (given_of t c frames) lines s.kept

@@ -5,6 +5,7 @@ ghost use Rattle.std.specs.List.{list_any};
 ghost use Rattle.afdx_acceptance.specs.Choices as asked;
 ghost use Rattle.afdx_acceptance.specs.Choices.{Choices as Chosen};
 ghost use Rattle.afdx_acceptance.specs.ChoicesOf.{choices_of};
+ghost use Rattle.afdx_acceptance.specs.Tapped.{Taps};
 ghost use Rattle.afdx_conform.specs.LeewayOf.{leeway_of};
 ghost use Rattle.afdx_engine.specs.Engine.{item_of};
 ghost use Rattle.afdx_inputs.specs.Joining.{frame_of};
@@ -40,7 +41,8 @@ fn is_before(leeway: &Leeway, role: Role, time: u64) -> bool
 
 /// Whether a line lies from the start to the end.
 pub(crate) fn is_in_time(choices: &Choices, seen: &Seen) -> bool
-    ensures { (bytes : List ℕ) (n : ℕ) → result ≡ asked.is_in_time (choices_of choices.now)
+    ensures { (taps : Taps) (bytes : List ℕ) (n : ℕ) →
+        result ≡ asked.is_in_time (choices_of taps choices.now)
         (frame_of (item_of n seen.now bytes)) }
 {
     let time = seen.heading.time;

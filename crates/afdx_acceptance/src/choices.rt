@@ -8,7 +8,7 @@ use afdx_conform::Leeway;
 use afdx_frame::{LATEST_LISTED, VlId};
 
 /// What is asked for: by how much a right switch may seem to differ from the rules, the end of the
-/// recordings and what is left out.
+/// recordings, what is left out, and whether it doesn't matter that recorders lost frames.
 ///
 /// `until` is in ns, at most 10^15; None: the greatest time of all lines. Of `left_out` each is a
 /// link whose frames are passed over, None all frames that name no link.
@@ -17,15 +17,22 @@ pub struct Choices {
     pub leeway: Leeway,
     pub until: Option<u64>,
     pub left_out: Vec<Option<VlId>>,
+    pub is_lossy: bool,
     pub ghost in_range: { IsUntil until },
 }
 
 impl Choices {
     /// These; None exactly if the end is over 10^15 ns.
-    pub fn new(leeway: Leeway, until: Option<u64>, left_out: Vec<Option<VlId>>) -> Option<Choices>
+    pub fn new(
+        leeway: Leeway,
+        until: Option<u64>,
+        left_out: Vec<Option<VlId>>,
+        is_lossy: bool,
+    ) -> Option<Choices>
         ensures in_range { IsSome result ↔ IsUntil until }
         ensures given { IfSome result (λ choices. (choices.leeway ≡ leeway)
-            × (choices.until ≡ until) × (choices.left_out ≡ left_out)) }
+            × (choices.until ≡ until) × (choices.left_out ≡ left_out)
+            × (choices.is_lossy ≡ is_lossy)) }
     {
         let has_end = match until {
             Some(until) => until <= LATEST_LISTED,
@@ -36,6 +43,7 @@ impl Choices {
                 leeway,
                 until,
                 left_out,
+                is_lossy,
             })
         } else {
             None

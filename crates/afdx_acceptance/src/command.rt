@@ -1,25 +1,40 @@
 //! The command `conform`.
 
-ghost use Rattle.std.specs.Prelude.{◌≡◌, ◌≤◌, ◌+◌, ◌||◌, ◌⊎◌, true, false, option_map};
+ghost use Rattle.std.specs.Prelude.{◌≡◌, ◌||◌, ◌⊎◌, IfSome, None, true, false, option_map};
 ghost use Rattle.afdx_acceptance.specs.Commands as spec;
 ghost use Rattle.afdx_acceptance.specs.ChoicesOf.{choices_of};
 ghost use Rattle.afdx_acceptance.specs.Commands.{EndsAs, IsJudged, IsRun, IsToldNoSwitch};
 ghost use Rattle.afdx_acceptance.specs.Commands.{IsUnjudged};
 ghost use Rattle.afdx_acceptance.specs.Ran.{ConformAnswers};
-ghost use Rattle.afdx_inputs.specs.TwoListsRun.{IfBothGiven};
-ghost use Rattle.afdx_lists.specs.Lines.{most_reads};
-ghost use Rattle.afdx_lists.specs.Watching.{calls_of, has_ended, has_failed};
+ghost use Rattle.afdx_recorded.specs.Claims.{ports_of_one};
 
 use crate::choices::Choices;
-use crate::run::run_conform;
-use crate::totals::Totals;
+use crate::run::{RunCounts, run_conform};
 use afdx_commands::read_described;
 use afdx_commands::status::WRONG_WORDS;
 use afdx_config::{Described, Tables};
-use afdx_lists::{ByRole, RunFault, Watched};
+use afdx_inputs::{SeenCount, SeenFrames};
+use afdx_lists::{RunFault, Watched};
 use afdx_text::{Sink, tell, tell_fault};
 use std::alloc::Global;
-use std::io::{Read, Write};
+use std::io::Write;
+
+/// How the command ended: its exit status, and what was read, if the last line was written.
+#[derive(Clone, Copy, Debug)]
+pub struct Judged {
+    pub status: u8,
+    pub count: Option<SeenCount>,
+}
+
+/// It ended before its last line.
+fn ended_with(status: u8) -> Judged
+    ensures { result ≡ spec.ended_with status }
+{
+    Judged {
+        status,
+        count: None,
+    }
+}
 
 /// The tables of the switch of this name, or those of the one switch where no name is given. None:
 /// no switch has the name, one is wanted, or none may be.
@@ -47,67 +62,71 @@ fn refuse_switch<E: Write>(errors: &mut Watched<E>) -> u8
     WRONG_WORDS
 }
 
-/// Tells the fault of a run in one line, if it has one, and gives the exit status.
-fn status_of<E: Write>(answer: Result<Totals, RunFault>, errors: &mut Watched<E>) -> u8
+/// Tells the fault of a run in one line, if it has one, and says how the command ended.
+fn end<E: Write>(answer: Result<RunCounts, RunFault>, errors: &mut Watched<E>) -> Judged
     ensures { EndsAs E.contents errors.old errors.new result answer }
 {
     match answer {
-        Ok(totals) => totals.status(),
+        Ok(counted) => Judged {
+            status: counted.totals.status(),
+            count: Some(counted.count),
+        },
         Err(fault) => {
             tell_fault(errors, &fault);
-            fault.status()
+            ended_with(fault.status())
         }
     }
 }
 
-/// Judges whether the switch of a configuration did what its tables say, by a list of the frames
-/// that came to it and one of those that left it. Where the configuration describes several
-/// switches, `switch` is the name of the one that is judged. The lines go to `output`, the one line
-/// of a fault to `errors`.
+/// Judges whether the switch of a configuration did what its tables say, by the frames that came to
+/// it and those that left it: of two lists, of one recording of both, or of two recordings. Where
+/// the configuration describes several switches, `switch` is the name of the one that is judged.
+/// The lines go to `output`, the one line of a fault to `errors`. Where the last line was written
+/// it also gives what was read.
 ///
 /// Nothing of the inputs is read before the tables are taken. The exit status is 0 conforms, 5
-/// deviates, 3 undecided or a fault of a list, 1 a fault of the configuration, 2 no such switch, or
-/// 4 a device or memory.
-pub fn conform<R: Read, O: Sink, E: Write>(
+/// deviates, 3 undecided or a fault of a list or a recording, 1 a fault of the configuration, 2 no
+/// such switch, or 4 a device or memory.
+pub fn conform<P: Drop, A: SeenFrames<P>, O: Sink, E: Write>(
     alloc: Global,
     choices: &Choices,
     switch: Option<&str>,
+    options: P,
     config: &[u8],
-    inputs: &mut ByRole<Watched<R>>,
+    inputs: &mut A,
     output: &mut O,
     errors: &mut Watched<E>,
-) -> u8
-    requires sound_came { has_failed inputs.old.came ≡ false }
-    requires sound_left { has_failed inputs.old.left ≡ false }
-    requires unended_came { has_ended inputs.old.came ≡ false }
-    requires unended_left { has_ended inputs.old.left ≡ false }
+) -> Judged
+    requires new { A.IsNew inputs.old }
     requires sound_output { O.failed output.old ≡ false }
-    ensures statuses { (result ≡ 0) ⊎ (result ≡ 1) ⊎ (result ≡ 2) ⊎ (result ≡ 3) ⊎ (result ≡ 4)
-        ⊎ (result ≡ 5) }
-    ensures device { ((has_failed inputs.new.came || has_failed inputs.new.left)
-        || O.failed output.new) ≡ true → result ≡ 4 }
-    ensures calls_came { calls_of inputs.new.came ≤ calls_of inputs.old.came + most_reads }
-    ensures calls_left { calls_of inputs.new.left ≤ calls_of inputs.old.left + most_reads }
+    ensures statuses { let status = result.status in
+        (status ≡ 0) ⊎ (status ≡ 1) ⊎ (status ≡ 2) ⊎ (status ≡ 3) ⊎ (status ≡ 4)
+        ⊎ (status ≡ 5) }
+    ensures device { (A.failed inputs.new || O.failed output.new) ≡ true → result.status ≡ 4 }
+    ensures asked { A.IsAskedFew options inputs.old inputs.new }
 
     // The command ends as a run by the tables of the switch answered; or the configuration isn't
     // read, or has no such switch: then nothing is read and nothing is written.
     ensures judges { IsJudged E.contents config.now
         (option_map (λ name. name.now) switch.entry) errors.old errors.new result
-        (λ t answer. IsRun inputs.new (O.failed output.new) answer
-        × IfBothGiven R.remaining inputs.old (λ came left.
-        ConformAnswers R.remaining (t, choices_of choices.now) came left inputs.new
+        (λ t answer. IsRun (A.ended inputs.new) (A.failed inputs.new) (O.failed output.new) answer
+        × IfSome (A.known inputs.old) (λ bytes. ConformAnswers
+        (A.Takes options (ports_of_one t) bytes inputs.new)
+        (t, choices_of (A.tapped options) choices.now) choices.now.is_lossy
         (O.written output.old) (O.written output.new) answer))
         ⊎ (IsUnjudged E.contents config.now
         (option_map (λ name. name.now) switch.entry) errors.old errors.new result
         × (inputs.new ≡ inputs.old) × (output.new ≡ output.old)) }
 {
+    // (a law of the inputs: before they are asked for anything they haven't failed)
+    A::starts();
     let described = match read_described(alloc, config, errors) {
         Ok(described) => described,
-        Err(status) => return status,
+        Err(status) => return ended_with(status),
     };
     let Some(tables) = tables_named(described, switch) else {
-        return refuse_switch(errors);
+        return ended_with(refuse_switch(errors));
     };
-    let answer = run_conform(alloc, &tables, choices, inputs, output);
-    status_of(answer, errors)
+    let answer = run_conform(alloc, &tables, choices, options, inputs, output);
+    end(answer, errors)
 }

@@ -5,17 +5,21 @@ ghost use Rattle.std.specs.Prelude.{◌≡◌, ◌<◌, ◌≤◌, ◌+◌, ◌�
 ghost use Rattle.std.specs.Prelude.{OnOk, None, Some, false, is_some, length, min, true};
 ghost use Rattle.std.specs.Io.KnownBytes.{Appends};
 ghost use Rattle.afdx_acceptance.specs.Choices.{Choices as Chosen, latest_of, left_out_of};
+ghost use Rattle.afdx_acceptance.specs.Choices as asked;
 ghost use Rattle.afdx_acceptance.specs.ChoicesOf.{choices_of};
 ghost use Rattle.afdx_acceptance.specs.Judging.{IsSameButFindings, IsSameButTaken};
+ghost use Rattle.afdx_acceptance.specs.Tapped.{taps_in};
 ghost use Rattle.afdx_acceptance.specs.Telling as spec;
-ghost use Rattle.afdx_acceptance.specs.Told.{BeginsLines, HasTold, IsEndFor, IsEnding, Stands};
-ghost use Rattle.afdx_acceptance.specs.Told.{TellsAll, TellsToEnd};
-ghost use Rattle.afdx_acceptance.specs.Written.{IsWritten};
+ghost use Rattle.afdx_acceptance.specs.Beginning.{BeginsFrom};
+ghost use Rattle.afdx_acceptance.specs.Told.{GoesOn, HasBegun, IsEndFor, IsEnding, Stands};
+ghost use Rattle.afdx_acceptance.specs.Told.{TellsAll, TellsItems, TellsToEnd};
+ghost use Rattle.afdx_acceptance.specs.Written.{BeginsAll, IsWritten};
 ghost use Rattle.afdx_acceptance.specs.Keeping.{IsNothingDue};
 ghost use Rattle.afdx_config.specs.Rows.{Rows};
 ghost use Rattle.afdx_conform.specs.Ranges.{most_held};
 ghost use Rattle.afdx_text.specs.declared.conform_line.ConformLine.{ConformLine as Line};
 ghost use Rattle.afdx_engine.specs.Engine.{Item, item_of};
+ghost use Rattle.afdx_frame.specs.Layout.{link_named_by};
 ghost use Rattle.afdx_frame.specs.Seals.{IsSealedAs};
 ghost use Rattle.afdx_frame.specs.Times.{latest_listed};
 ghost use Rattle.afdx_inputs.specs.Joining.{Frame, frame_of, frames_of};
@@ -31,9 +35,10 @@ use crate::totals::Totals;
 use crate::whole::whole_frame;
 use afdx_config::Tables;
 use afdx_engine::Machine;
-use afdx_frame::vl_of;
+use afdx_frame::{VlId, vl_of};
 use afdx_inputs::Seen;
 use afdx_lists::{Role, RunFault};
+use afdx_recorded::Taps;
 use afdx_text::{ConformLine, Sink};
 use std::alloc::{AllocError, Global};
 
@@ -59,12 +64,13 @@ impl<'a> Judging<'a> {
         alloc: Global,
         tables: &'a Tables,
         choices: &'a Choices,
+        taps: &'a Taps,
     ) -> Result<Judging<'a>, AllocError>
         ensures { (output : Option (List ℕ)) → IfOk result (λ judging.
-            TellsAll (tables.entry.now, choices_of choices.entry.now) false 0 judging output output
-            []) }
+            TellsItems (tables.entry.now, choices_of (taps_in taps.entry.now) choices.entry.now)
+            judging output output []) }
     {
-        let streams = Streams::new(alloc, tables, choices.leeway)?;
+        let streams = Streams::new(alloc, tables, choices.leeway, taps)?;
         Ok(Judging {
             alloc,
             choices,
@@ -82,7 +88,8 @@ impl<'a> Judging<'a> {
             (past : List (Item Passed)) → TellsToEnd k self.now start end past →
             IsWritten k (frames_of past) start end result }
     {
-        let mut totals = Totals::new(self.findings, self.left_out);
+        let unseen = self.streams.unseen();
+        let mut totals = Totals::new(self.findings, self.left_out, unseen);
         self.streams.count(&mut totals);
         totals
     }
@@ -112,24 +119,18 @@ impl<'a> Judging<'a> {
         ensures failed { O.failed output.new ≡ is_failed_write result }
         ensures fault { IfErr result IsOfOutput }
         ensures settings { O.settings output.new ≡ O.settings output.old }
-        ensures told { (c : Chosen) (start : Option (List ℕ)) (frames : List Frame) →
-            HasTold c self.old start (O.written output.old) frames →
-            OnOk result (HasTold c self.new start (O.written output.new) frames) }
-        ensures begun { (c : Chosen) (start : Option (List ℕ)) (frames : List Frame) →
-            HasTold c self.old start (O.written output.old) frames →
-            OnErr result (BeginsLines start (O.written output.new)) }
+        ensures begun { (k : Rows × Chosen) (last : Bool) (time to : ℕ)
+            (start : Option (List ℕ)) (frames : List Frame) →
+            GoesOn k last time to before self.old.streams.ended frames →
+            TellsAll k last time self.old start (O.written output.old) frames →
+            OnErr result (HasBegun k last to self.old.streams.ended start (O.written output.new)
+            frames) }
         ensures stands { (k : Rows × Chosen) (last : Bool) (time to : ℕ)
-            (start : Option (List ℕ)) (frames : List Frame) → time ≤ to →
-            (self.old.streams.ended ≡ None → before ≡ Some to) →
-            ((end : ℕ) → self.old.streams.ended ≡ None → k.1.until ≡ Some end → to ≤ end) →
-            ((end : ℕ) → self.old.streams.ended ≡ Some end →
-            IsEnding last k.1.until frames to end) →
+            (start : Option (List ℕ)) (frames : List Frame) →
+            GoesOn k last time to before self.old.streams.ended frames →
             TellsAll k last time self.old start (O.written output.old) frames →
-            OnOk result (TellsAll k last to self.new start (O.written output.new) frames) }
-        ensures nothing { (k : Rows × Chosen) (last : Bool) (time end : ℕ)
-            (start : Option (List ℕ)) (frames : List Frame) → self.old.streams.ended ≡ Some end →
-            TellsAll k last time self.old start (O.written output.old) frames →
-            OnOk result (IsNothingDue k.0 before self.new.streams.kept) }
+            OnOk result (TellsAll k last to self.new start (O.written output.new) frames
+            × IsNothingDue k.0 before self.new.streams.kept) }
         ensures ended { self.new.streams.ended ≡ self.old.streams.ended }
     {
         while let Some(lines) = self.streams.take_before(before)? {
@@ -144,18 +145,17 @@ impl<'a> Judging<'a> {
         ensures failed { O.failed output.new ≡ is_failed_write result }
         ensures fault { IfErr result IsOfOutput }
         ensures settings { O.settings output.new ≡ O.settings output.old }
-        ensures told { (c : Chosen) (start : Option (List ℕ)) (frames : List Frame) →
-            HasTold c self.old start (O.written output.old) frames →
-            OnOk result (HasTold c self.new start (O.written output.new) frames) }
-        ensures begun { (c : Chosen) (start : Option (List ℕ)) (frames : List Frame) →
-            HasTold c self.old start (O.written output.old) frames →
-            OnErr result (BeginsLines start (O.written output.new)) }
-        ensures stands { (k : Rows × Chosen) (last after : Bool) (time to : ℕ)
+        ensures begun { (k : Rows × Chosen) (time : ℕ) (start : Option (List ℕ))
+            (frames : List Frame) → time ≤ until →
+            ((end : ℕ) → k.1.until ≡ Some end → until ≤ end) → self.old.streams.ended ≡ None →
+            TellsAll k false time self.old start (O.written output.old) frames →
+            OnErr result (HasBegun k false until None start (O.written output.new) frames) }
+        ensures stands { (k : Rows × Chosen) (after : Bool) (time to : ℕ)
             (start : Option (List ℕ)) (frames : List Frame) → time ≤ until → until ≤ to →
             latest_of frames ≤ until → IsEndFor k.1.until frames until →
             ((end : ℕ) → k.1.until ≡ Some end → until ≤ end) →
             IsEnding after k.1.until frames to until → self.old.streams.ended ≡ None →
-            TellsAll k last time self.old start (O.written output.old) frames →
+            TellsAll k false time self.old start (O.written output.old) frames →
             OnOk result (TellsAll k after to self.new start (O.written output.new) frames
             × (self.new.streams.ended ≡ Some until)) }
     {
@@ -171,12 +171,10 @@ impl<'a> Judging<'a> {
         ensures failed { O.failed output.new ≡ is_failed_write result }
         ensures fault { IfErr result IsOfOutput }
         ensures settings { O.settings output.new ≡ O.settings output.old }
-        ensures told { (c : Chosen) (start : Option (List ℕ)) (frames : List Frame) →
-            HasTold c self.old start (O.written output.old) frames →
-            OnOk result (HasTold c self.new start (O.written output.new) frames) }
-        ensures begun { (c : Chosen) (start : Option (List ℕ)) (frames : List Frame) →
-            HasTold c self.old start (O.written output.old) frames →
-            OnErr result (BeginsLines start (O.written output.new)) }
+        ensures begun { (k : Rows × Chosen) (before : ℕ) (start : Option (List ℕ))
+            (frames : List Frame) → before ≤ time → latest_of frames ≤ before →
+            TellsAll k false before self.old start (O.written output.old) frames →
+            OnErr result (BeginsFrom k time start (O.written output.new) frames) }
         ensures stands { (k : Rows × Chosen) (before : ℕ) (start : Option (List ℕ))
             (frames : List Frame) → before ≤ time → latest_of frames ≤ before →
             TellsAll k false before self.old start (O.written output.old) frames →
@@ -201,12 +199,9 @@ impl<'a> Judging<'a> {
         ensures failed { O.failed output.new ≡ is_failed_write result }
         ensures fault { IfErr result IsOfOutput }
         ensures settings { O.settings output.new ≡ O.settings output.old }
-        ensures told { (c : Chosen) (start : Option (List ℕ)) (frames : List Frame) →
-            HasTold c self.old start (O.written output.old) frames →
-            OnOk result (HasTold c self.new start (O.written output.new) frames) }
-        ensures begun { (c : Chosen) (start : Option (List ℕ)) (frames : List Frame) →
-            HasTold c self.old start (O.written output.old) frames →
-            OnErr result (BeginsLines start (O.written output.new)) }
+        ensures begun { (k : Rows × Chosen) (start : Option (List ℕ)) (frames : List Frame) →
+            TellsAll k false (latest_of frames) self.old start (O.written output.old) frames →
+            OnErr result (BeginsAll k frames start (O.written output.new)) }
         ensures stands { (k : Rows × Chosen) (start : Option (List ℕ)) (frames : List Frame) →
             TellsAll k false (latest_of frames) self.old start (O.written output.old) frames →
             OnOk result ((time : ℕ)
@@ -228,19 +223,29 @@ impl<'a> Judging<'a> {
         ensures failed { O.failed output.new ≡ is_failed_write result }
         ensures fault { IfErr result IsOfOutput }
         ensures settings { O.settings output.new ≡ O.settings output.old }
-        ensures told { (c : Chosen) (start : Option (List ℕ)) (frames : List Frame) →
-            HasTold c self.old start (O.written output.old) frames →
-            OnOk result (HasTold c self.new start (O.written output.new) frames) }
-        ensures begun { (c : Chosen) (start : Option (List ℕ)) (frames : List Frame) →
-            HasTold c self.old start (O.written output.old) frames →
-            OnErr result (BeginsLines start (O.written output.new)) }
+        ensures begun { (k : Rows × Chosen) (before : ℕ) (start : Option (List ℕ))
+            (frames : List Frame) → before ≤ time → latest_of frames ≤ before →
+            TellsAll k false before self.old start (O.written output.old) frames →
+            OnErr result (BeginsFrom k time start (O.written output.new) frames) }
         ensures stands { (k : Rows × Chosen) (before : ℕ) (start : Option (List ℕ))
             (frames : List Frame) → before ≤ time → latest_of frames ≤ before →
             TellsAll k false before self.old start (O.written output.old) frames →
-            OnOk result (TellsAll k false time self.new start (O.written output.new) frames) }
+            OnOk result (TellsAll k false time self.new start (O.written output.new) frames
+            × IsNothingDue k.0 (Some time) self.new.streams.kept) }
     {
         self.close_before(time, output)?;
         self.tell_due(Some(time), output)
+    }
+
+    /// Whether a line that names this link is passed over: the link is left out, or the line left
+    /// and its sender's port isn't recorded.
+    fn is_passed(&self, seen: &Seen, vl: Option<VlId>) -> bool
+        ensures { (x : Frame) → x.role ≡ seen.now.role → x.arrival.side ≡ seen.now.heading.side →
+            vl ≡ link_named_by x.arrival.bytes →
+            result ≡ asked.is_passed self.now.streams.tables.now
+            (choices_of (taps_in self.now.streams.taps.now) self.now.choices.now) x }
+    {
+        is_left_out(self.choices, vl) || self.streams.is_unheard(seen.role, seen.heading.side, vl)
     }
 
     /// Takes a line: it is passed over, or goes to its streams.
@@ -249,14 +254,17 @@ impl<'a> Judging<'a> {
         requires known { IsSealedAs seen.now.heading.seal message.now }
         ensures others { IsSameButTaken self.old self.new }
         ensures counted { (frames : List Frame) →
-            let c = choices_of self.old.choices.now in
+            let t = self.old.streams.tables.now in
+            let c = choices_of (taps_in self.old.streams.taps.now) self.old.choices.now in
             let x = frame_of (item_of n seen.now message.now) in
-            self.old.left_out ≡ min (left_out_of c frames) spec.most_counted →
+            self.old.left_out ≡ min (left_out_of t c frames) spec.most_counted →
             OnOk result
-            (self.new.left_out ≡ min (left_out_of c (x ∷ frames)) spec.most_counted) }
+            (self.new.left_out ≡ min (left_out_of t c (x ∷ frames)) spec.most_counted) }
         ensures stands { (k : Rows × Chosen) (frames : List Frame) (lines : List Line) →
             let x = frame_of (item_of n seen.now message.now) in
-            choices_of self.old.choices.now ≡ k.1 → latest_of frames ≤ seen.now.heading.time →
+            self.old.streams.tables.now ≡ k.0 →
+            choices_of (taps_in self.old.streams.taps.now) self.old.choices.now ≡ k.1 →
+            latest_of frames ≤ seen.now.heading.time →
             length frames + 1 < most_held →
             Stands k false seen.now.heading.time self.old frames lines →
             OnOk result (Stands k false seen.now.heading.time self.new (x ∷ frames) lines) }
@@ -266,7 +274,7 @@ impl<'a> Judging<'a> {
         }
         let bytes = whole_frame(self.alloc, seen.heading.seal, message)?;
         let vl = vl_of(bytes.as_slice());
-        if is_left_out(self.choices, vl) {
+        if self.is_passed(seen, vl) {
             self.left_out = self.left_out.saturating_add(1);
             return Ok(());
         }
@@ -282,7 +290,9 @@ impl<'a> Judging<'a> {
 
 impl Machine<Seen> for Judging<'_> {
     ghost use Rattle.afdx_acceptance.specs.Choices.{Choices as Chosen};
-    ghost use Rattle.afdx_acceptance.specs.Told.{BeginsLines, TellsItems, TellsToEnd};
+    ghost use Rattle.afdx_acceptance.specs.Told.{TellsItems, TellsToEnd};
+    ghost use Rattle.afdx_acceptance.specs.Written.{BeginsWritten};
+    ghost use Rattle.afdx_inputs.specs.Joining.{frames_of};
     ghost use Rattle.afdx_config.specs.Rows.{Rows};
 
     ghost Rules = { Rows × Chosen };
@@ -291,7 +301,8 @@ impl Machine<Seen> for Judging<'_> {
 
     ghost Told = { TellsItems };
 
-    ghost Begins = { λ rules judging old new past. BeginsLines old new };
+    ghost Begins = { λ rules judging old new past.
+        BeginsWritten rules (frames_of past) old new };
 
     ghost Done = { TellsToEnd };
 

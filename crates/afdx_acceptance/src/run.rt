@@ -1,60 +1,82 @@
-//! A run over two lists: of what came, and of what left.
+//! A run over what came and what left, whatever gives the frames.
 
-ghost use Rattle.std.specs.Prelude.{◌≡◌, ◌≤◌, ◌+◌, ◌||◌, OnOk, true, false};
+ghost use Rattle.std.specs.Prelude.{◌≡◌, IfSome, OnOk, false};
 ghost use Rattle.afdx_acceptance.specs.ChoicesOf.{choices_of};
+ghost use Rattle.afdx_acceptance.specs.Ran as spec;
 ghost use Rattle.afdx_acceptance.specs.Ran.{ConformAnswers};
-ghost use Rattle.afdx_inputs.specs.TwoListsRun.{IfBothGiven};
 ghost use Rattle.afdx_lists.specs.Calls.{is_failed_read, is_failed_write};
-ghost use Rattle.afdx_lists.specs.Lines.{most_reads};
-ghost use Rattle.afdx_lists.specs.Watching.{calls_of, has_ended, has_failed};
+ghost use Rattle.afdx_recorded.specs.Claims.{ports_of_one};
 
 use crate::choices::Choices;
 use crate::judging::Judging;
 use crate::totals::Totals;
 use afdx_config::Tables;
-use afdx_inputs::run_two_lists;
-use afdx_lists::{ByRole, RunFault, Watched};
+use afdx_inputs::{SeenCount, SeenFrames};
+use afdx_lists::{RecordingFault, RunFault};
+use afdx_recorded::UnsaidPort;
 use afdx_text::{OutLine, Sink};
 use std::alloc::Global;
-use std::io::Read;
 
-/// Judges whether a switch of these tables did what they say, by a list of the frames that came to
-/// it and one of those that left it; gives what it counted.
+/// What a run to the end counted: of what it judged, and of what it read.
+#[derive(Clone, Copy, Debug)]
+pub struct RunCounts {
+    pub totals: Totals,
+    pub count: SeenCount,
+}
+
+/// The fault that is told in the place of the last line: recorders lost so many frames, and that
+/// matters.
+fn loss_told(is_lossy: bool, lost: u64) -> Option<RunFault>
+    ensures { result ≡ spec.loss_told is_lossy lost }
+{
+    if !is_lossy && lost > 0 {
+        Some(RunFault::Recording(RecordingFault::Lossy(lost)))
+    } else {
+        None
+    }
+}
+
+/// Judges whether a switch of these tables did what they say, by the frames that came to it and
+/// those that left it; gives what it counted. What came in at a port of which nothing is said came
+/// in at the port of the sender that it names.
 ///
-/// The first line of what came is read, then that of what left; then the line of lesser time is
-/// taken, at one time that of what came, and the next one of its list is read. Before a line is
-/// taken all findings of moments before its time are written. The last line is written when both
-/// lists have ended. The first fault ends the run, without a last line: a fault of a list is
-/// `RunFault::ListOfCame` or `RunFault::ListOfLeft`. `RunFault::Read` and `RunFault::Write` come
-/// exactly where the device of an input, or the output's, failed; none is tried again.
-pub fn run_conform<R: Read, O: Sink>(
+/// Frames are taken by time, at one time what came first. Before a frame is taken all findings of
+/// moments before its time are written. The last line is written when the inputs have ended. The
+/// first fault ends the run, without a last line. In the place of the last line
+/// `RecordingFault::Lossy` comes where recorders lost frames, unless the choices allow it.
+/// `RunFault::Read` and `RunFault::Write` come exactly where the device of an input, or the
+/// output's, failed; none is tried again.
+pub fn run_conform<P: Drop, A: SeenFrames<P>, O: Sink>(
     alloc: Global,
     tables: &Tables,
     choices: &Choices,
-    inputs: &mut ByRole<Watched<R>>,
+    options: P,
+    inputs: &mut A,
     output: &mut O,
-) -> Result<Totals, RunFault>
-    requires sound_came { has_failed inputs.old.came ≡ false }
-    requires sound_left { has_failed inputs.old.left ≡ false }
-    requires unended_came { has_ended inputs.old.came ≡ false }
-    requires unended_left { has_ended inputs.old.left ≡ false }
+) -> Result<RunCounts, RunFault>
+    requires new { A.IsNew inputs.old }
     requires sound_output { O.failed output.old ≡ false }
-    ensures ended { OnOk result
-        ((has_ended inputs.new.came ≡ true) × (has_ended inputs.new.left ≡ true)) }
-    ensures read { (has_failed inputs.new.came || has_failed inputs.new.left)
-        ≡ is_failed_read result }
+    ensures ended { OnOk result (A.ended inputs.new) }
+    ensures read { A.failed inputs.new ≡ is_failed_read result }
     ensures write { O.failed output.new ≡ is_failed_write result }
-    ensures calls_came { calls_of inputs.new.came ≤ calls_of inputs.old.came + most_reads }
-    ensures calls_left { calls_of inputs.new.left ≤ calls_of inputs.old.left + most_reads }
+    ensures asked { A.IsAskedFew options inputs.old inputs.new }
 
-    // Where the bytes of both are known: what is answered and written for the lists that they are.
-    ensures answer { IfBothGiven R.remaining inputs.old (λ came left.
-        ConformAnswers R.remaining (tables.now, choices_of choices.now) came left inputs.new
+    // Where the bytes are known: what is answered and written for the frames that it takes.
+    ensures answer { IfSome (A.known inputs.old) (λ bytes. ConformAnswers
+        (A.Takes options (ports_of_one tables.now) bytes inputs.new)
+        (tables.now, choices_of (A.tapped options) choices.now) choices.now.is_lossy
         (O.written output.old) (O.written output.new) result) }
 {
-    let mut judging = Judging::new(alloc, tables, choices)?;
-    run_two_lists(alloc, &mut judging, inputs, output)?;
+    // (a law of the inputs: where memory is wanting at once nothing is taken)
+    A::starts();
+    let taps = A::taps(&options);
+    let mut judging = Judging::new(alloc, tables, choices, &taps)?;
+    let unsaid = UnsaidPort::OfSender(tables);
+    let count = inputs.tell_all(alloc, options, unsaid, &mut judging, output)?;
     let totals = judging.totals();
+    if let Some(fault) = loss_told(choices.is_lossy, count.lost()) {
+        return Err(fault);
+    }
     output.put(&OutLine::Conform(totals.line()))?;
-    Ok(totals)
+    Ok(RunCounts { totals, count })
 }

@@ -23,19 +23,26 @@ ghost use Rattle.afdx_acceptance.specs.Frames.{frame_with, link_to};
 ghost use Rattle.afdx_acceptance.specs.Keeping.{AreKept, Given, IsNothingDue, IsSomeUpTo, is_known, with_came, with_left, with_strange};
 ghost use Rattle.afdx_acceptance.specs.Keys.{key_with};
 ghost use Rattle.afdx_acceptance.specs.Lines.{Due};
-ghost use Rattle.afdx_acceptance.specs.Slots.{AreFalling, IsCounted, IsStrange, IsStream, told_at, waiting_due};
+ghost use Rattle.afdx_acceptance.specs.Slots.{AreFalling, IsStrange, IsStream, told_at, waiting_due};
+ghost use Rattle.afdx_acceptance.specs.Awaited.{IsBefore, awaited};
+ghost use Rattle.afdx_acceptance.specs.Counting.{AreEnded, HasCounted, counted_of, none_counted};
 ghost use Rattle.afdx_acceptance.specs.Keeping.{slot_at};
+ghost use Rattle.afdx_acceptance.specs.Tapped as spec;
+ghost use Rattle.afdx_acceptance.specs.Tapped.{taps_in};
 ghost use Rattle.afdx_acceptance.specs.Waiting.{left_in};
 
+use crate::counting::count_streams;
 use crate::kept::{Kept, Lines};
 use crate::key::Key;
 use crate::outlets::{link_named, new_stream, outlet_at, receiver, rule_at};
 use crate::strangers::{Stranger, why_strange};
+use crate::tapped::{is_heard, is_seen, unseen_of};
 use crate::totals::Totals;
 use afdx_config::{SystemId, Tables};
 use afdx_conform::{Arrived, Frame, Leeway};
 use afdx_frame::{Side, VlId};
-use afdx_lists::Heading;
+use afdx_lists::{Heading, Role};
+use afdx_recorded::Taps;
 use std::alloc::{AllocError, Global};
 
 /// How many places a link has, and how many stand before those of the first link.
@@ -43,13 +50,14 @@ const OF_LINK: usize = 64;
 
 const OF_STRANGERS: usize = 512;
 
-/// What is kept of each key of the tables, and the time in ns at which the recordings end, once it
-/// is known.
+/// What is kept of each key of the tables, which ports were recorded, and the time in ns at which
+/// the recordings end, once it is known.
 #[derive(Drop)]
 pub(crate) struct Streams<'a> {
     alloc: Global,
     tables: &'a Tables,
     leeway: Leeway,
+    taps: &'a Taps,
     kept: Kept,
     ended: Option<u64>,
 }
@@ -194,15 +202,17 @@ fn leave_strange(
 }
 
 impl<'a> Streams<'a> {
-    ghost use Rattle.afdx_acceptance.specs.Standing.{IsBehindAll, StreamsStand};
+    ghost use Rattle.afdx_acceptance.specs.Standing.{IsBehindAll, IsSameButKept, StreamsStand};
 
     /// Those of the tables, of which nothing came.
     pub(crate) fn new(
         alloc: Global,
         tables: &'a Tables,
         leeway: Leeway,
+        taps: &'a Taps,
     ) -> Result<Streams<'a>, AllocError>
         ensures stands { (c : Choices) (until : ℕ) → leeway_of leeway ≡ c.by →
+            taps_in taps.entry.now ≡ c.taps →
             IfOk result (λ s. StreamsStand tables.now c until [] [] 0 s) }
         ensures running { IfOk result (λ s. s.ended ≡ None) }
     {
@@ -211,12 +221,14 @@ impl<'a> Streams<'a> {
             alloc,
             tables,
             leeway,
+            taps,
             kept: Kept::new(alloc, count)?,
             ended: None,
         })
     }
 
-    /// A frame came in that names this link: it comes to each of the link's streams on its side.
+    /// A frame came in that names this link: it comes to each of the link's streams on its side
+    /// that is judged.
     pub(crate) fn came(
         &mut self,
         vl: Option<VlId>,
@@ -228,7 +240,7 @@ impl<'a> Streams<'a> {
         requires short { length bytes.now ≤ most_bytes }
         ensures stands { (t : Rows) (c : Choices) (until time : ℕ) (frames : List Seen)
             (lines : List Due) → vl ≡ link_named_by bytes.now →
-            counts c (frame_with role.Came (arrival_with n heading.now.time heading.now.side
+            counts t c (frame_with role.Came (arrival_with n heading.now.time heading.now.side
             heading.now.port bytes.now)) ≡ true →
             time ≤ heading.now.time → IsBehindAll heading.now.time frames →
             length frames + 1 < most_held →
@@ -238,17 +250,40 @@ impl<'a> Streams<'a> {
             (arrival_with n heading.now.time heading.now.side heading.now.port bytes.now)
             ∷ frames) lines time self.new) }
         ensures ended { self.new.ended ≡ self.old.ended }
+        ensures rules { IsSameButKept self.old self.new }
     {
-        let (alloc, tables, leeway) = (self.alloc, self.tables, self.leeway);
+        let (alloc, tables, leeway, taps) = (self.alloc, self.tables, self.leeway, self.taps);
         let Some(link) = link_named(tables, vl) else {
             return Ok(());
         };
+        if !is_heard(tables, taps, heading.side, link) {
+            return Ok(());
+        }
         for rank in 0..tables.link(link).to.len() {
             let system = receiver(tables, link, rank);
+            if !is_seen(tables, taps, heading.side, system) {
+                continue;
+            }
             let kept = &mut self.kept;
             come_to(alloc, tables, leeway, kept, link, system, n, heading, bytes)?;
         }
         Ok(())
+    }
+
+    /// Whether a frame that names this link left on a side on which its sender's port isn't
+    /// recorded.
+    pub(crate) fn is_unheard(&self, role: Role, side: Side, vl: Option<VlId>) -> bool
+        ensures { (x : Seen) → x.role ≡ role → x.arrival.side ≡ side →
+            vl ≡ link_named_by x.arrival.bytes →
+            result ≡ spec.is_unheard self.now.tables.now (taps_in self.now.taps.now) x }
+    {
+        match role {
+            Role::Came => false,
+            Role::Left => match link_named(self.tables, vl) {
+                Some(link) => !is_heard(self.tables, self.taps, side, link),
+                None => false,
+            },
+        }
     }
 
     /// A frame left that names this link, or that is of no stream.
@@ -262,7 +297,7 @@ impl<'a> Streams<'a> {
         requires time { heading.now.time ≤ latest_listed }
         ensures stands { (t : Rows) (c : Choices) (until time : ℕ) (frames : List Seen)
             (lines : List Due) → vl ≡ link_named_by bytes.items →
-            counts c (frame_with role.Left (arrival_with n heading.now.time heading.now.side
+            counts t c (frame_with role.Left (arrival_with n heading.now.time heading.now.side
             heading.now.port bytes.items)) ≡ true →
             time ≤ heading.now.time → IsBehindAll heading.now.time frames →
             length frames + 1 < most_held →
@@ -272,12 +307,16 @@ impl<'a> Streams<'a> {
             (arrival_with n heading.now.time heading.now.side heading.now.port bytes.items)
             ∷ frames) lines time self.new) }
         ensures ended { self.new.ended ≡ self.old.ended }
+        ensures rules { IsSameButKept self.old self.new }
     {
         let (alloc, tables, leeway) = (self.alloc, self.tables, self.leeway);
         let (side, port, time) = (heading.side, heading.port, heading.time);
         let named = link_named(tables, vl);
         let kept = &mut self.kept;
         if let Some((link, system)) = outlet_at(tables, named, port) {
+            if !self.taps.is_tapped(Role::Left, side, port) {
+                return Ok(());
+            }
             let frame = Frame {
                 number: n,
                 time,
@@ -307,8 +346,11 @@ impl<'a> Streams<'a> {
             IfOk result (λ taken. IfNone taken (StreamsStand t c until frames lines time self.new
             × IsNothingDue t before self.new.kept)) }
         ensures ended { self.new.ended ≡ self.old.ended }
+        ensures rules { IsSameButKept self.old self.new }
         ensures less { IfOk result (λ lines. IsSome lines →
             left_in self.new.kept.slots.items < left_in self.old.kept.slots.items) }
+        ensures in_time { IfOk result (λ taken. IfSome taken (λ l.
+            IsBefore before (awaited l.moment l.key))) }
     {
         let taken = self.kept.take_before(self.alloc, before, self.ended)?;
         Ok(taken)
@@ -318,23 +360,33 @@ impl<'a> Streams<'a> {
     pub(crate) fn end(&mut self, until: u64)
         ensures stands { (t : Rows) (c : Choices) (time : ℕ) (frames : List Seen)
             (lines : List Due) → time ≤ until → self.old.ended ≡ None →
-            IsBehindAll until (counted c frames) →
+            IsBehindAll until (counted t c frames) →
             StreamsStand t c until frames lines time self.old →
             StreamsStand t c until frames lines time self.new }
         ensures ended { self.new.ended ≡ Some until }
+        ensures rules { IsSameButKept self.old self.new }
     {
         self.kept.end(until);
         self.ended = Some(until);
     }
 
-    /// What is counted of all streams.
+    /// How many streams aren't judged.
+    pub(crate) fn unseen(&self) -> u64
+        ensures { result ≡ spec.unseen_of self.now.tables.now (taps_in self.now.taps.now) }
+    {
+        unseen_of(self.tables, self.taps)
+    }
+
+    /// What is counted of all streams, on both sides.
     pub(crate) fn count(&self, totals: &mut Totals)
         ensures findings { totals.new.findings ≡ totals.old.findings }
         ensures left_out { totals.new.left_out ≡ totals.old.left_out }
         ensures unseen { totals.new.unseen ≡ totals.old.unseen }
-        ensures judged { (i : ℕ) → i < length self.now.kept.slots.items →
-            IsCounted (get_or self.now.kept.slots.items i slot.Nothing) }
+        ensures counted { (c : Choices) (until : ℕ) (frames : List Seen) →
+            AreEnded self.now.tables.now c until frames self.now.kept →
+            HasCounted none_counted totals.old →
+            HasCounted (counted_of self.now.tables.now c until frames) totals.new }
     {
-        self.kept.count(totals);
+        count_streams(self.tables, &self.kept, totals);
     }
 }

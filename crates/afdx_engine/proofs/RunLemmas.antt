@@ -349,6 +349,8 @@ module _ {Y X : Type 0} (k : Kind Y X) where
     stop_answers _ _ _ _ _ _ _ _ _ _ (run.RecordingOfB m) _ stop _ _ _ _ _ = absurd stop
     stop_answers _ _ _ _ _ _ _ _ _ _ (run.ListOfCame m) _ stop _ _ _ _ _ = absurd stop
     stop_answers _ _ _ _ _ _ _ _ _ _ (run.ListOfLeft m) _ stop _ _ _ _ _ = absurd stop
+    stop_answers _ _ _ _ _ _ _ _ _ _ (run.RecordingOfCame m) _ stop _ _ _ _ _ = absurd stop
+    stop_answers _ _ _ _ _ _ _ _ _ _ (run.RecordingOfLeft m) _ stop _ _ _ _ _ = absurd stop
     stop_answers _ _ _ _ _ _ _ _ _ _ (run.Recording f) _ stop _ _ _ _ _ = absurd stop
 
     pub stops-reader : (all beginning : List X → Type 0) (input left between after : Option (List ℕ))

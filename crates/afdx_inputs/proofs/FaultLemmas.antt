@@ -31,6 +31,8 @@ named-cause role (run.RecordingOfA f) = refl
 named-cause role (run.RecordingOfB f) = refl
 named-cause role (run.ListOfCame f) = refl
 named-cause role (run.ListOfLeft f) = refl
+named-cause role (run.RecordingOfCame f) = refl
+named-cause role (run.RecordingOfLeft f) = refl
 
 -- the one whose cause is a failed read
 pub read-cause : (fault : RunFault) → cause_of fault ≡ FailedRead → fault ≡ run.Read
@@ -49,6 +51,8 @@ read-cause (run.RecordingOfA f) e = absurd (cc)
 read-cause (run.RecordingOfB f) e = absurd (cc)
 read-cause (run.ListOfCame f) e = absurd (cc)
 read-cause (run.ListOfLeft f) e = absurd (cc)
+read-cause (run.RecordingOfCame f) e = absurd (cc)
+read-cause (run.RecordingOfLeft f) e = absurd (cc)
 
 in-list-read : (role : Role) (fault : ListFault) → is_read (in_list role fault) ≡ false
 in-list-read Came fault = refl
@@ -71,3 +75,5 @@ named-read role (run.RecordingOfA f) = refl
 named-read role (run.RecordingOfB f) = refl
 named-read role (run.ListOfCame f) = refl
 named-read role (run.ListOfLeft f) = refl
+named-read role (run.RecordingOfCame f) = refl
+named-read role (run.RecordingOfLeft f) = refl

@@ -10,6 +10,7 @@ use Rattle.afdx_recorded.specs.Becoming.{Options}
 use Rattle.afdx_recorded.specs.Claims.{Ports, Agree}
 use Rattle.afdx_recorded.specs.NumberLines.{Lines, arrivals_listed}
 use Rattle.afdx_inputs.specs.RecordingRun.{RecordingAnswers}
+use Rattle.afdx_inputs.specs.TakenRun.{TakenAnswers}
 use Rattle.afdx_recorded.specs.Ordering.{Sequence}
 use Rattle.afdx_recorded.specs.Taking.{AreCutOff, late_of_one, taken_of, taken_of_bytes}
 use Rattle.afdx_recorded.specs.Timing.{timed}
@@ -33,17 +34,27 @@ module _ (options : Options) (p q : Ports) (a : Agree p q) where
         (sequences-agree options p q (recorded h.0) a),
   )
 
-  module _ (done told begins : List (Item Heading) → Type 0) where
+  module _ {H : Type 0} (items_of : Lines → List (Item H)) (done told begins : List (Item H) → Type 0) where
+    abbrev Answers-by : Ports → List ℕ → Option (List ℕ) → Result Tally RunFault → Type 0
+    Answers-by ports bytes rest r =
+        TakenAnswers (taken_of_bytes options ports bytes) (AreCutOff options ports bytes rest)
+        items_of done told begins r
+
     pub answers-agree : (bytes : List ℕ) (rest : Option (List ℕ)) (r : Result Tally RunFault)
-        → RecordingAnswers options p done told begins bytes rest r
-        → RecordingAnswers options q done told begins bytes rest r
+        → Answers-by p bytes rest r → Answers-by q bytes rest r
     answers-agree bytes rest r h =
         answers-same (taken_of_bytes options p bytes) (taken_of_bytes options q bytes)
-        (AreCutOff options p bytes rest) (AreCutOff options q bytes rest) arrivals_listed done told begins r
+        (AreCutOff options p bytes rest) (AreCutOff options q bytes rest) items_of done told begins r
         (taken-agree bytes) (λ lines c. cut-agree bytes rest lines c) h
 
-    pub if-agree : (left rest : Option (List ℕ)) (r : Result Tally RunFault)
-        → IfSome left (λ bytes. RecordingAnswers options p done told begins bytes rest r)
-        → IfSome left (λ bytes. RecordingAnswers options q done told begins bytes rest r)
-    if-agree None rest r h = tt
-    if-agree (Some bytes) rest r h = answers-agree bytes rest r h
+    pub seen-agree : (left rest : Option (List ℕ)) (r : Result Tally RunFault)
+        → IfSome left (λ bytes. Answers-by p bytes rest r)
+        → IfSome left (λ bytes. Answers-by q bytes rest r)
+    seen-agree None rest r h = tt
+    seen-agree (Some bytes) rest r h = answers-agree bytes rest r h
+
+  pub if-agree : (done told begins : List (Item Heading) → Type 0) (left rest : Option (List ℕ))
+      (r : Result Tally RunFault)
+      → IfSome left (λ bytes. RecordingAnswers options p done told begins bytes rest r)
+      → IfSome left (λ bytes. RecordingAnswers options q done told begins bytes rest r)
+  if-agree done told begins left rest r h = seen-agree arrivals_listed done told begins left rest r h

@@ -118,12 +118,12 @@ each-list Left came left =
 -- ---- they are in order
 
 -- these come by time, behind one of this time
-abbrev AreFrom : ℕ → List Arrival → Type 0
+abbrev pub AreFrom : ℕ → List Arrival → Type 0
 AreFrom latest [] = Unit {0}
 AreFrom latest (x ∷ xs) = (latest ≤ x.time) × AreFrom x.time xs
 
 -- these of a role can come behind those frames
-abbrev CanCome : Role → List Arrival → List Frame → Type 0
+abbrev pub CanCome : Role → List Arrival → List Frame → Type 0
 CanCome role [] past = Unit {0}
 CanCome role (x ∷ xs) past = IsBehind (frame_with role x) past × AreFrom x.time xs
 
@@ -166,7 +166,7 @@ order-at x xs next from h past (y ∷ ys) fy order first can =
     (λ e. h (frame_with Came x ∷ past) (y ∷ ys) (first, order) (came-more x xs past from)
     (ltb-false y.time x.time e, can.1))
 
-order-join : (past : List Frame) (xs : List Arrival) (fx : Option RunFault) (ys : List Arrival) (fy : Option RunFault)
+pub order-join : (past : List Frame) (xs : List Arrival) (fx : Option RunFault) (ys : List Arrival) (fy : Option RunFault)
     → AreInOrder past → CanCome Came xs past → CanCome Left ys past → AreInOrder (join past xs fx ys fy).frames
 unfolding join
 order-join past [] fx ys fy order came left = order-behind past fx ys fy order left
@@ -184,20 +184,20 @@ from-reverse (x ∷ past) rest back from =
     subst (λ (l : List Arrival). AreFrom 0 l) (sym (reverse-taken x past rest))
     (from-reverse past (x ∷ rest) back.1 (back.0, from))
 
-first-from : (bytes : List ℕ) (n : ℕ) → AreFrom 0 (reverse (first_of bytes n))
+pub first-from : (bytes : List ℕ) (n : ℕ) → AreFrom 0 (reverse (first_of bytes n))
 first-from bytes n =
     subst (λ (l : List Arrival). AreFrom 0 l) (append-nil (reverse (first_of bytes n)))
     (from-reverse (first_of bytes n) [] (arrivals-ordered (lines_of bytes) n) tt)
 
-from-same : (xs ys : List Arrival) → xs ≡ ys → AreFrom 0 ys → AreFrom 0 xs
+pub from-same : (xs ys : List Arrival) → xs ≡ ys → AreFrom 0 ys → AreFrom 0 xs
 from-same xs ys e h = subst (λ (l : List Arrival). AreFrom 0 l) (sym e) h
 
-lists-from : (role : Role) (bytes : List ℕ) (next : List Arrival) (fault : Option RunFault)
+pub lists-from : (role : Role) (bytes : List ℕ) (next : List Arrival) (fault : Option RunFault)
     → ListsTo role bytes next fault → AreFrom 0 next
 lists-from role bytes next None h = from-same _ _ h.1 (first-from bytes _)
 lists-from role bytes next (Some fault) h = from-same _ _ h.4 (first-from bytes h.0)
 
-can-start : (role : Role) (xs : List Arrival) → AreFrom 0 xs → CanCome role xs []
+pub can-start : (role : Role) (xs : List Arrival) → AreFrom 0 xs → CanCome role xs []
 can-start role [] h = tt
 can-start role (x ∷ xs) h = (tt, h.1)
 

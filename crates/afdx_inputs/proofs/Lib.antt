@@ -18,3 +18,7 @@ pub mod HeadedLemmas
 pub mod BothAskedLemmas
 pub mod TwoListsRunLemmas
 pub mod JoinLawLemmas
+pub mod SeeingLemmas
+pub mod SeenRunLemmas
+pub mod SeenTookLemmas
+pub mod SeenOrderLemmas

@@ -30,8 +30,8 @@ use Rattle.afdx_recorded.specs.OrderedRecording.{OrderedRecording, IsSetInOrder,
 use Rattle.afdx_recorded.specs.OrderedRecording.{number_taken, tally_of_source}
 use Rattle.afdx_recorded.specs.Ordering.{Sequence}
 use Rattle.afdx_recorded.specs.Places.{place_of}
-use Rattle.afdx_inputs.specs.ReadPair.{IsNewPair}
-use Rattle.afdx_inputs.specs.RecordingRun.{AreCutOffInPair, IfBoth, of_a, of_b, taken_of_pair}
+use Rattle.afdx_inputs.specs.ReadPair.{IsNewPair, IsNewTwo}
+use Rattle.afdx_inputs.specs.RecordingRun.{AreCutOffInPair, IfBoth, taken_of_pair}
 use Rattle.afdx_recorded.specs.RecordingSource.{first_standing}
 use Rattle.afdx_recorded.specs.Sequences.{Numbers, latest_of, numbers_read}
 use Rattle.afdx_recorded.specs.Taking.{AreCutOffAtOne, sequence_of_bytes, side_of, taken_of_both}
@@ -277,42 +277,65 @@ cut-same said said' a a' b b' e f g fa fb bytes_a bytes_b rest_a rest_b lines (i
 cut-same said said' a a' b b' e f g fa fb bytes_a bytes_b rest_a rest_b lines (inr (failed, (read, gave, is))) =
     inr (failed, (read, gave, rw (← e, ← f bytes_a, ← g read) is))
 
-module _ (options : PairOptions) (ports : Ports) (source : TimedPair OrderedRecording)
-    (new : IsNewPair options ports source) where
-  same-a : (bytes : List ℕ) → of_set (way_of_two source).0 bytes ≡ of_a options ports bytes
+module _ (of_a of_b : Options) (said : Option ℕ) (ports : Ports) (source : TimedPair OrderedRecording)
+    (new : IsNewTwo of_a of_b said ports source) where
+  abbrev sequence-a : List ℕ → Sequence
+  sequence-a bytes = sequence_of_bytes of_a ports bytes
+
+  abbrev sequence-b : List ℕ → Sequence
+  sequence-b bytes = sequence_of_bytes of_b ports bytes
+
+  pub same-a : (bytes : List ℕ) → of_set (way_of_two source).0 bytes ≡ sequence-a bytes
   same-a bytes =
-      let of_a = source.pair.a.source.source in
-      ap (λ (o : Options). sequence_of_bytes o (ports_of of_a.ports) bytes) new.options_a
-      ∙ sequences-agree (options_of_a options) (ports_of of_a.ports) ports _ new.ports_a
+      let a = source.pair.a.source.source in
+      ap (λ (o : Options). sequence_of_bytes o (ports_of a.ports) bytes) new.options_a
+      ∙ sequences-agree of_a (ports_of a.ports) ports _ new.ports_a
 
-  same-b : (bytes : List ℕ) → of_set (way_of_two source).1 bytes ≡ of_b options ports bytes
+  pub same-b : (bytes : List ℕ) → of_set (way_of_two source).1 bytes ≡ sequence-b bytes
   same-b bytes =
-      let of_b = source.pair.b.source.source in
-      ap (λ (o : Options). sequence_of_bytes o (ports_of of_b.ports) bytes) new.options_b
-      ∙ sequences-agree (options_of_b options) (ports_of of_b.ports) ports _ new.ports_b
+      let b = source.pair.b.source.source in
+      ap (λ (o : Options). sequence_of_bytes o (ports_of b.ports) bytes) new.options_b
+      ∙ sequences-agree of_b (ports_of b.ports) ports _ new.ports_b
 
-  pub two-by : {H : Type 0} (items_of : Lines → List (Item H)) (done told begins : List (Item H) → Type 0)
-      (r : Result Tally RunFault) {R : Type 0} (remaining : R → Option (List ℕ)) (start rest : BySide (Watched R))
-      → IfSome (both (remaining start.a.inner) (remaining start.b.inner)) (λ bytes.
-      TakenAnswers (whole_of_two (way_of_two source) bytes) (CutOfTwo remaining (way_of_two source) bytes rest)
-      items_of done told begins r)
-      → IfBoth (remaining start.a.inner) (remaining start.b.inner) (λ a b.
-      TakenAnswers (taken_of_pair options ports a b) (AreCutOffInPair options ports remaining a b rest)
-      items_of done told begins r)
-  two-by items_of done told begins r remaining start rest =
-      both-more (remaining start.a.inner) (remaining start.b.inner)
-      (λ bytes. TakenAnswers (whole_of_two (way_of_two source) bytes)
-      (CutOfTwo remaining (way_of_two source) bytes rest)
-      items_of done told begins r)
-      (λ a b. TakenAnswers (taken_of_pair options ports a b) (AreCutOffInPair options ports remaining a b rest)
-      items_of done told begins r)
-      (λ a b h. answers-same (whole_of_two (way_of_two source) (a, b)) (taken_of_pair options ports a b)
-      (CutOfTwo remaining (way_of_two source) (a, b) rest) (AreCutOffInPair options ports remaining a b rest)
-      items_of done told begins r (same-taken _ _ _ _ _ _ (same-a a) (same-b b) new.said)
-      (λ lines k. cut-same source.clock.said options.origin
-      (of_set (way_of_two source).0) (of_a options ports) (of_set (way_of_two source).1) (of_b options ports)
-      new.said same-a same-b (has_failed rest.a) (has_failed rest.b) a b (remaining (device_of rest.a))
-      (remaining (device_of rest.b)) lines k) h)
+  pub two-answers : {H : Type 0} (items_of : Lines → List (Item H)) (done told begins : List (Item H) → Type 0)
+      (r : Result Tally RunFault) {R : Type 0} (remaining : R → Option (List ℕ)) (rest : BySide (Watched R))
+      (a b : List ℕ)
+      → TakenAnswers (whole_of_two (way_of_two source) (a, b)) (CutOfTwo remaining (way_of_two source) (a, b) rest)
+      items_of done told begins r
+      → TakenAnswers (taken_of_both said (sequence-a a) (sequence-b b))
+      (λ lines. AreCutOffAtOne said sequence-a sequence-b (has_failed rest.a) (has_failed rest.b) a b
+      (remaining (device_of rest.a)) (remaining (device_of rest.b)) lines)
+      items_of done told begins r
+  two-answers items_of done told begins r remaining rest a b h =
+      answers-same (whole_of_two (way_of_two source) (a, b)) (taken_of_both said (sequence-a a) (sequence-b b))
+      (CutOfTwo remaining (way_of_two source) (a, b) rest)
+      (λ lines. AreCutOffAtOne said sequence-a sequence-b (has_failed rest.a) (has_failed rest.b) a b
+      (remaining (device_of rest.a)) (remaining (device_of rest.b)) lines)
+      items_of done told begins r (same-taken _ _ _ _ _ _ (same-a a) (same-b b) new.said_is)
+      (λ lines k. cut-same source.clock.said said
+      (of_set (way_of_two source).0) sequence-a (of_set (way_of_two source).1) sequence-b
+      new.said_is same-a same-b (has_failed rest.a) (has_failed rest.b) a b (remaining (device_of rest.a))
+      (remaining (device_of rest.b)) lines k) h
+
+pub two-by : (options : PairOptions) (ports : Ports) (source : TimedPair OrderedRecording)
+    → IsNewPair options ports source
+    → {H : Type 0} (items_of : Lines → List (Item H)) (done told begins : List (Item H) → Type 0)
+    (r : Result Tally RunFault) {R : Type 0} (remaining : R → Option (List ℕ)) (start rest : BySide (Watched R))
+    → IfSome (both (remaining start.a.inner) (remaining start.b.inner)) (λ bytes.
+    TakenAnswers (whole_of_two (way_of_two source) bytes) (CutOfTwo remaining (way_of_two source) bytes rest)
+    items_of done told begins r)
+    → IfBoth (remaining start.a.inner) (remaining start.b.inner) (λ a b.
+    TakenAnswers (taken_of_pair options ports a b) (AreCutOffInPair options ports remaining a b rest)
+    items_of done told begins r)
+two-by options ports source new items_of done told begins r remaining start rest =
+    both-more (remaining start.a.inner) (remaining start.b.inner)
+    (λ bytes. TakenAnswers (whole_of_two (way_of_two source) bytes)
+    (CutOfTwo remaining (way_of_two source) bytes rest)
+    items_of done told begins r)
+    (λ a b. TakenAnswers (taken_of_pair options ports a b) (AreCutOffInPair options ports remaining a b rest)
+    items_of done told begins r)
+    (λ a b h. two-answers (options_of_a options) (options_of_b options) options.origin ports source new
+    items_of done told begins r remaining rest a b h)
 
 -- ---- before the first read
 
@@ -327,13 +350,13 @@ ahead-start remaining input ahead e gave = record {
       (sym e) (omega arith);
 }
 
-pub pair-start : {R : Type 0} (remaining : R → Option (List ℕ)) (inputs : BySide (Watched R))
-    (source : TimedPair OrderedRecording) (options : PairOptions) (ports : Ports) → inputs.a.failed ≡ false
+pub two-start : {R : Type 0} (remaining : R → Option (List ℕ)) (inputs : BySide (Watched R))
+    (source : TimedPair OrderedRecording) (of_a of_b : Options) (said : Option ℕ) (ports : Ports) → inputs.a.failed ≡ false
     → inputs.b.failed ≡ false → has_ended inputs.a ≡ false → has_ended inputs.b ≡ false
-    → IsNewPair options ports source
+    → IsNewTwo of_a of_b said ports source
     → HasPaired number_taken (HasTaken remaining) (HasTakenAll remaining) inputs source inputs []
 unfolding timed origin_in
-pair-start remaining inputs source options ports sound_a sound_b ended_a ended_b new = record {
+two-start remaining inputs source of_a of_b said ports sound_a sound_b ended_a ended_b new = record {
   past = [];
   is_paired = record {
     taken_a = [];
@@ -345,8 +368,17 @@ pair-start remaining inputs source options ports sound_a sound_b ended_a ended_b
     sum = refl;
     joins = λ xs ys fx fy ca cb. refl;
   };
-  are_timed = record { timed_as = refl; zero = new.zero ∙ sym new.said };
+  are_timed = record { timed_as = refl; zero = new.zero ∙ sym new.said_is };
 }
+
+pub pair-start : {R : Type 0} (remaining : R → Option (List ℕ)) (inputs : BySide (Watched R))
+    (source : TimedPair OrderedRecording) (options : PairOptions) (ports : Ports) → inputs.a.failed ≡ false
+    → inputs.b.failed ≡ false → has_ended inputs.a ≡ false → has_ended inputs.b ≡ false
+    → IsNewPair options ports source
+    → HasPaired number_taken (HasTaken remaining) (HasTakenAll remaining) inputs source inputs []
+pair-start remaining inputs source options ports sound_a sound_b ended_a ended_b new =
+    two-start remaining inputs source (options_of_a options) (options_of_b options) options.origin ports
+    sound_a sound_b ended_a ended_b new
 
 -- memory ran out before anything was read
 pub pair-unread : {R : Type 0} (remaining : R → Option (List ℕ)) (inputs : BySide (Watched R)) (options : PairOptions)

@@ -112,6 +112,8 @@ named-read side (run.RecordingOfA f) = refl
 named-read side (run.RecordingOfB f) = refl
 named-read side (run.ListOfCame f) = refl
 named-read side (run.ListOfLeft f) = refl
+named-read side (run.RecordingOfCame f) = refl
+named-read side (run.RecordingOfLeft f) = refl
 named-read side run.Read = refl
 named-read side run.Write = refl
 named-read side run.Memory = refl
@@ -310,6 +312,8 @@ module _ {R : Type 0} (remaining : R → Option (List ℕ)) (start inputs : BySi
     stop-a (run.RecordingOfB m) h = absurd (no-other-a (run.RecordingOfB m) h)
     stop-a (run.ListOfCame m) h = absurd (no-other-a (run.ListOfCame m) h)
     stop-a (run.ListOfLeft m) h = absurd (no-other-a (run.ListOfLeft m) h)
+    stop-a (run.RecordingOfCame m) h = absurd (no-other-a (run.RecordingOfCame m) h)
+    stop-a (run.RecordingOfLeft m) h = absurd (no-other-a (run.RecordingOfLeft m) h)
 
   -- the recording of B stopped
   module _ (past taken taken-o : Numbers) (lines : Lines)
@@ -358,6 +362,8 @@ module _ {R : Type 0} (remaining : R → Option (List ℕ)) (start inputs : BySi
     stop-b (run.RecordingOfB m) h = absurd (no-other-b (run.RecordingOfB m) h)
     stop-b (run.ListOfCame m) h = absurd (no-other-b (run.ListOfCame m) h)
     stop-b (run.ListOfLeft m) h = absurd (no-other-b (run.ListOfLeft m) h)
+    stop-b (run.RecordingOfCame m) h = absurd (no-other-b (run.RecordingOfCame m) h)
+    stop-b (run.RecordingOfLeft m) h = absurd (no-other-b (run.RecordingOfLeft m) h)
 
   pub pair-stopped : (lines : Lines) (fault : RunFault) → Stopped lines fault
       → StopsBehindLines Whole AreCut lines fault

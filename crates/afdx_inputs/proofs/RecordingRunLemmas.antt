@@ -221,6 +221,8 @@ module _ {R : Type 0} (remaining : R → Option (List ℕ)) (start input : Watch
     stops-known numbers lines (run.RecordingOfB fault) t s = absurd (no-other numbers (run.RecordingOfB fault) s)
     stops-known numbers lines (run.ListOfCame fault) t s = absurd (no-other numbers (run.ListOfCame fault) s)
     stops-known numbers lines (run.ListOfLeft fault) t s = absurd (no-other numbers (run.ListOfLeft fault) s)
+    stops-known numbers lines (run.RecordingOfCame fault) t s = absurd (no-other numbers (run.RecordingOfCame fault) s)
+    stops-known numbers lines (run.RecordingOfLeft fault) t s = absurd (no-other numbers (run.RecordingOfLeft fault) s)
     stops-known numbers lines run.TooManyLines t s = absurd (no-other numbers run.TooManyLines s)
     stops-known numbers lines (run.LineTooLong m) t s = absurd (no-other numbers (run.LineTooLong m) s)
     stops-known numbers lines (run.BadLine m) t s = absurd (no-other numbers (run.BadLine m) s)

@@ -33,7 +33,7 @@ arrivals-peeled (x ∷ lines) = by x x.head refl (arrivals-peeled lines)
   where
     by : (x : Item NumberLine) (head : NumberLine) → x.head ≡ head → WithoutNewest arrivals_listed lines
         → WithoutNewest arrivals_listed (x ∷ lines)
-    by x (line.Arrival kind time side switch port) e w = record {
+    by x (line.Arrival kind time role side switch port) e w = record {
       before = lines;
       after = x ∷ [];
       parts = refl;
@@ -144,7 +144,7 @@ listed-append (x ∷ later) past =
   where
     by : (n : ℕ) (bytes : List ℕ) (head : NumberLine) (xs ys : List (Item Heading))
         → as_arrival n bytes head (xs ++ ys) ≡ as_arrival n bytes head xs ++ ys
-    by n bytes (line.Arrival kind time side switch port) xs ys = refl
+    by n bytes (line.Arrival kind time role side switch port) xs ys = refl
     by n bytes (line.Skipped reason) xs ys = refl
 
 -- what some first lines stand for are the first of the arrivals

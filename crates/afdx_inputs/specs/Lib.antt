@@ -10,3 +10,7 @@ pub mod Seeing
 pub mod TwoListsSource
 pub mod TwoListsRun
 pub mod JoiningLaws
+pub mod SeenLines
+pub mod SeeingSource
+pub mod SeenRun
+pub mod SeenFrames

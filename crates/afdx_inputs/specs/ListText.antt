@@ -31,7 +31,7 @@ name_in (Several switches) k = switch_name switches k
 module _ (d : Described) where
   -- the line of number n of a recording, with its recorded bytes; one that is skipped is named
   abbrev pub number_text : (n : ℕ) → NumberLine → List ℕ → List ℕ
-  number_text n (Arrival kind time side switch port) bytes =
+  number_text n (Arrival kind time role side switch port) bytes =
       frame_line kind (place_text side (name_in d switch)) port time bytes
   number_text n (Skipped reason) bytes = remark_line (skipped_word reason) n
 

@@ -1,15 +1,17 @@
 -- A recording, or two that are read at once, before the first read.
-use Rattle.std.specs.Prelude.{◌≡◌}
+use Rattle.std.specs.Prelude.{ℕ, ◌≡◌, Option}
+use Rattle.afdx_lists.specs.declared.role.ByRole.{ByRole}
 use Rattle.afdx_recorded.specs.declared.ahead.AtHead.TheVariants.{Unknown}
 use Rattle.afdx_recorded.specs.declared.becoming.RecordingOptions.{RecordingOptions}
 use Rattle.afdx_recorded.specs.declared.pair_options.PairOptions.{PairOptions}
 use Rattle.afdx_recorded.specs.declared.senders.SystemPorts.{SystemPorts}
 use Rattle.afdx_recorded.specs.declared.timed_numbers.TimedNumbers.{TimedNumbers}
 use Rattle.afdx_recorded.specs.declared.timed_pair.TimedPair.{TimedPair}
-use Rattle.afdx_recorded.specs.Becoming.{options_of}
+use Rattle.afdx_recorded.specs.Becoming.{Options, options_of}
 use Rattle.afdx_recorded.specs.Claims.{Agree, Ports, ports_of}
 use Rattle.afdx_recorded.specs.OrderedRecording.{IsSetInOrder, IsUnread, OrderedRecording}
 use Rattle.afdx_recorded.specs.PairOptions.{options_of_a, options_of_b}
+use Rattle.afdx_inputs.specs.SeenRun.{options_of_came, options_of_left}
 
 -- nothing of one was read, by these options and ports
 pub record IsNewOne (options : RecordingOptions) (ports : SystemPorts)
@@ -21,11 +23,12 @@ pub record IsNewOne (options : RecordingOptions) (ports : SystemPorts)
   pub said : source.clock.said ≡ options.origin
   pub zero : source.clock.zero ≡ options.origin
 
--- nothing of either of two was read, by these options and ports that agree with these
-pub record IsNewPair (options : PairOptions) (ports : Ports) (source : TimedPair OrderedRecording)
-    : Type 0 where
-  pub options_a : options_of source.pair.a.source.source.options ≡ options_of_a options
-  pub options_b : options_of source.pair.b.source.source.options ≡ options_of_b options
+-- nothing of either of two was read, by these options, and ports that agree with these; that moment
+-- is time 0, if one is said
+pub record IsNewTwo (of_a of_b : Options) (said : Option ℕ) (ports : Ports)
+    (source : TimedPair OrderedRecording) : Type 0 where
+  pub options_a : options_of source.pair.a.source.source.options ≡ of_a
+  pub options_b : options_of source.pair.b.source.source.options ≡ of_b
   pub ports_a : Agree (ports_of source.pair.a.source.source.ports) ports
   pub ports_b : Agree (ports_of source.pair.b.source.source.ports) ports
   pub order_a : IsSetInOrder source.pair.a.source
@@ -34,5 +37,15 @@ pub record IsNewPair (options : PairOptions) (ports : Ports) (source : TimedPair
   pub unread_b : IsUnread source.pair.b.source
   pub head_a : source.pair.a.head ≡ Unknown
   pub head_b : source.pair.b.head ≡ Unknown
-  pub said : source.clock.said ≡ options.origin
-  pub zero : source.clock.zero ≡ options.origin
+  pub said_is : source.clock.said ≡ said
+  pub zero : source.clock.zero ≡ said
+
+-- of network A and of network B
+abbrev pub IsNewPair : PairOptions → Ports → TimedPair OrderedRecording → Type 0
+IsNewPair options ports source =
+    IsNewTwo (options_of_a options) (options_of_b options) options.origin ports source
+
+-- of what came in and of what left
+abbrev pub IsNewByRole : ByRole RecordingOptions → Ports → TimedPair OrderedRecording → Type 0
+IsNewByRole options ports source =
+    IsNewTwo (options_of_came options) (options_of_left options) options.came.origin ports source

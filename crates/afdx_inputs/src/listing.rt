@@ -59,6 +59,7 @@ fn put_number<O: Sink>(
             side,
             switch,
             port,
+            ..
         } => {
             let site = Site {
                 side: *side,

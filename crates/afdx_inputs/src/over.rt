@@ -262,6 +262,9 @@ pub(crate) fn run_over<H: OfLines, I: Input, S: Reads<H, I>, M: Machine<H>, O: S
     ensures read { I.failed input.new ≡ is_failed_read result }
     ensures write { O.failed output.new ≡ is_failed_write result }
     ensures calls { I.asked input.old input.new }
+    ensures settings { S.settings source.new ≡ S.settings source.old }
+    ensures whole { OnOk result ((past : List (Item H))
+        × S.Ended input.old source.new input.new past) }
     ensures answer { (rules : M.Rules) → M.Told rules machine.old
         (O.written output.old) (O.written output.old) [] →
         CanTell (S.Gives (S.settings source.old)) (M.Can rules) →

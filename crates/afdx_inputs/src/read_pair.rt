@@ -2,8 +2,9 @@
 
 ghost use Rattle.std.specs.Prelude.{IfOk};
 ghost use Rattle.afdx_recorded.specs.Claims.{ports_unsaid};
-ghost use Rattle.afdx_inputs.specs.ReadPair.{IsNewOne, IsNewPair};
+ghost use Rattle.afdx_inputs.specs.ReadPair.{IsNewByRole, IsNewOne, IsNewPair};
 
+use afdx_lists::ByRole;
 use afdx_recorded::{
     Ordered, PairOptions, ReadRecording, RecordingOptions, SystemPorts, TimedNumbers, TimedPair,
     UnsaidPort, read_in_order,
@@ -35,5 +36,22 @@ pub(crate) fn read_pair(
     let (of_a, of_b) = options.split();
     let a = read_in_order(alloc, of_a, SystemPorts::unsaid(alloc, unsaid)?)?;
     let b = read_in_order(alloc, of_b, SystemPorts::unsaid(alloc, unsaid)?)?;
+    Ok(TimedPair::new(a, b, origin))
+}
+
+/// Two recordings of which nothing was read yet, of what came in and of what left.
+pub(crate) fn read_by_role(
+    alloc: Global,
+    options: ByRole<RecordingOptions>,
+    unsaid: UnsaidPort<'_>,
+) -> Result<TimedPair<Ordered<ReadRecording>>, AllocError>
+    ensures { IfOk result (λ source. IsNewByRole options (ports_unsaid unsaid.entry) source) }
+{
+    let ByRole { mut came, mut left } = options;
+    let origin = came.origin;
+    came.is_second = false;
+    left.is_second = true;
+    let a = read_in_order(alloc, came, SystemPorts::unsaid(alloc, unsaid)?)?;
+    let b = read_in_order(alloc, left, SystemPorts::unsaid(alloc, unsaid)?)?;
     Ok(TimedPair::new(a, b, origin))
 }

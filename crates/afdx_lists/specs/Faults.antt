@@ -56,6 +56,18 @@ abbrev pub fault_of_network : Side → RecordingFault → RunFault
 fault_of_network A fault = run.RecordingOfA fault
 fault_of_network B fault = run.RecordingOfB fault
 
+-- the fault of the recording of this role, of two that are read at once
+abbrev pub fault_of_role : Role → RecordingFault → RunFault
+fault_of_role Came fault = run.RecordingOfCame fault
+fault_of_role Left fault = run.RecordingOfLeft fault
+
+-- a fault of two recordings, where the first is that of what came in, and the second that of what
+-- left; each other one stays
+abbrev pub fault_by_role : RunFault → RunFault
+fault_by_role (run.RecordingOfA fault) = fault_of_role Came fault
+fault_by_role (run.RecordingOfB fault) = fault_of_role Left fault
+fault_by_role fault = fault
+
 -- the fault of the list of this role, of two that are read at once
 abbrev pub in_list : Role → ListFault → RunFault
 in_list Came fault = run.ListOfCame fault

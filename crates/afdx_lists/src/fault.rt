@@ -90,6 +90,13 @@ pub enum RunFault {
     /// That of network B has it.
     #[error("{0} B")]
     RecordingOfB(RecordingFault),
+    /// The recording of what came in, of two that are read at once, has this fault, or a frame of
+    /// it.
+    #[error("{0} came")]
+    RecordingOfCame(RecordingFault),
+    /// That of what left has it.
+    #[error("{0} left")]
+    RecordingOfLeft(RecordingFault),
     /// The list of what came in, of two that are read at once, has this fault.
     #[error("list came {0}")]
     ListOfCame(ListFault),
@@ -100,7 +107,8 @@ pub enum RunFault {
 
 /// Each fault of a run, in the order of `RunFault`: the form of its line (`n` is the number of a
 /// line of the list), and what it means, with what may be done. Those of a recording are
-/// `RECORDING_FAULTS`; one of two lists has ` came` or ` left` behind the first word.
+/// `RECORDING_FAULTS`; one of two lists has ` came` or ` left` behind the first word, one of two
+/// recordings at its end.
 pub const RUN_FAULTS: [(&str, &str); 10] = [
     (
         "list BadLine n",
@@ -179,7 +187,8 @@ fn in_list(role: Role, fault: ListFault) -> RunFault
 }
 
 impl RunFault {
-    ghost use Rattle.afdx_lists.specs.Faults.{fault_of_list, fault_of_network, status_of};
+    ghost use Rattle.afdx_lists.specs.Faults.{fault_by_role, fault_of_list, fault_of_network};
+    ghost use Rattle.afdx_lists.specs.Faults.{fault_of_role, status_of};
 
     /// The fault of the recording of this network, of two that are read at once.
     pub fn of_network(side: Side, fault: RecordingFault) -> RunFault
@@ -188,6 +197,28 @@ impl RunFault {
         match side {
             Side::A => RunFault::RecordingOfA(fault),
             Side::B => RunFault::RecordingOfB(fault),
+        }
+    }
+
+    /// The fault of the recording of this role, of two that are read at once.
+    pub fn of_role(role: Role, fault: RecordingFault) -> RunFault
+        ensures { result ≡ fault_of_role role fault }
+    {
+        match role {
+            Role::Came => RunFault::RecordingOfCame(fault),
+            Role::Left => RunFault::RecordingOfLeft(fault),
+        }
+    }
+
+    /// This fault of two recordings, of which the first is that of what came in, and the second
+    /// that of what left. One that isn't a recording's stays.
+    pub fn by_role(self) -> RunFault
+        ensures { result ≡ fault_by_role self }
+    {
+        match self {
+            RunFault::RecordingOfA(fault) => RunFault::of_role(Role::Came, fault),
+            RunFault::RecordingOfB(fault) => RunFault::of_role(Role::Left, fault),
+            other => other,
         }
     }
 

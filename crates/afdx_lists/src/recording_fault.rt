@@ -48,17 +48,20 @@ pub enum RecordingFault {
     /// It begins as a packed file does.
     #[error("recording Packed")]
     Packed,
+    /// The recorder lost so many frames, by its own word.
+    #[error("recording Lossy {0}")]
+    Lossy(u64),
 }
 
 /// Each fault of a recording, in the order of `RecordingFault`: the form of its line (`n` is the
-/// number of a frame, or a count of numbers), and what it means, with what may be done.
-pub const RECORDING_FAULTS: [(&str, &str); 13] = [
+/// number of a frame, or a count), and what it means, with what may be done.
+pub const RECORDING_FAULTS: [(&str, &str); 14] = [
     (
         "recording NotRecording n",
         "\
 The input isn't a recording: its first four bytes are those of no pcap and no pcapng. The
-option that was given, or the command, needs one; two LISTs both have to be recordings. Make
-one of another format by: editcap -F pcapng IN OUT.",
+option that was given, or the command, needs one; two LISTs both have to be recordings, and so has
+the one input of 'conform'. Make one of another format by: editcap -F pcapng IN OUT.",
     ),
     (
         "recording BadVersion n",
@@ -82,21 +85,23 @@ is cut short. n is how many numbers come before it. Keep the whole frames by: ed
     (
         "recording NoArrival n",
         "\
-The recording has n numbers, and none is an arrival.
+The recording has n numbers, and none is an arrival; of 'conform', none came in or left.
 'afdx list' says why each was skipped; --interface K=PLACE says where the frames of interface K
-came in: A:1, of several switches 'A fwd:1'.",
+came in: A:1, of several switches 'A fwd:1'; of 'conform' --left K=A:3 says where they left, and
+interfaces that aren't named are left out.",
     ),
     (
         "recording NotEthernet n",
         "\
 The frame can't be an arrival: its interface has another link type than Ethernet.
-Leave the interface out: --interface K=-.",
+Leave the interface out: --interface K=-; of 'conform', name it nowhere.",
     ),
     (
         "recording NoTime n",
         "\
 The frame can't be an arrival: it has no stamp, as in each simple packet block.
-Record enhanced packets, or leave the interface out: --interface K=-.",
+Record enhanced packets, or leave the interface out: --interface K=-; of 'conform', name it
+nowhere.",
     ),
     (
         "recording BadTime n",
@@ -128,16 +133,24 @@ later. reordercap IN OUT puts a file in order. A clock that was set back also lo
     (
         "recording TimeTooLarge n",
         "\
-The frame came too late: its moment is more than 10^15 ns behind the origin, about eleven days
-and a half. The origin is the moment of the first arrival, or that of --origin.
-Cut the recording in pieces by: editcap -A START -B STOP IN OUT.",
+The frame came or left too late: its moment is more than 10^15 ns behind the origin, about eleven
+days and a half. The origin is the moment of the first arrival, of 'conform' of the first frame, or
+that of --origin. Cut the recording in pieces by: editcap -A START -B STOP IN OUT.",
     ),
     (
         "recording Packed",
         "\
 The input isn't read: its first four bytes are those of a packed file: gzip, zstd, bzip2, xz or
 zip. Unpack it on the way, with - in the place of FILE: zcat FILE | afdx .. -
-So do zstdcat, bzcat and xzcat, and unzip -p for zip. Of two LISTs, A or B behind the word says
-which, and one alone may be -.",
+So do zstdcat, bzcat and xzcat, and unzip -p for zip. Of two inputs, A or B, or came or left,
+behind the word says which, and one alone may be -.",
+    ),
+    (
+        "recording Lossy n",
+        "\
+The recorder lost n frames by its own word, of all interfaces together. So a frame that it didn't
+keep would stand for one that the switch stopped, or for one that never came.
+Record with a larger buffer (dumpcap -B 512), on a faster disk, or less at once. With --lossy the
+last line comes all the same: then any 'stopped' and 'no-arrival' may be the recorder's.",
     ),
 ];

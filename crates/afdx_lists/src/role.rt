@@ -1,6 +1,7 @@
-//! Two lists that are read at once: which of them a frame stands in.
+//! What came in at switches and what left them: of which a frame is.
 
-/// What a list says of switches: which frames came in at them, or which ones left them.
+/// What a list, or an interface of a recording, says of switches: which frames came in at them, or
+/// which ones left them.
 #[derive(Clone, Copy, Debug, PartialEq, Eq)]
 pub enum Role {
     /// The frames that came in.
@@ -9,7 +10,7 @@ pub enum Role {
     Left,
 }
 
-/// One of something for the list of what came in, and one for that of what left.
+/// One of something for what came in, and one for what left.
 #[derive(Clone, Copy, Debug, Drop)]
 pub struct ByRole<T> {
     pub came: T,

@@ -36,10 +36,8 @@ fn options(alloc: Global, said: Said) -> Result<RecordingOptions, AllocError> {
         interfaces,
         fcs,
         origin,
-        network: None,
-        reorder: 0,
-        from_start: false,
         are_given: true,
+        ..RecordingOptions::none(alloc)?
     })
 }
 

@@ -1,6 +1,6 @@
 //! Tests of what a run stands on: frames, policing, output ports, configurations, admission,
-//! bounds, lists, two lists at once, recordings' arrivals, lines of the output, and what explains a
-//! line. And of what a recorded switch shows.
+//! bounds, lists, two lists at once, what came in and left by recordings, lines of the output, and
+//! what explains a line. And of what a recorded switch shows.
 #![tactic(auto)]
 
 #[cfg(test)]
@@ -15,6 +15,8 @@ mod cascade;
 mod config;
 #[cfg(test)]
 mod conform;
+#[cfg(test)]
+mod departures;
 #[cfg(test)]
 mod explain;
 #[cfg(test)]
@@ -31,6 +33,8 @@ mod police;
 mod port;
 #[cfg(test)]
 mod recordings;
+#[cfg(test)]
+mod seen_recordings;
 #[cfg(test)]
 mod solve;
 #[cfg(test)]

@@ -13,7 +13,7 @@ use std::test::Fail;
 
 /// Tells each frame by two lines: its list and its number, and the frame itself.
 #[derive(Drop)]
-struct Noting;
+pub struct Noting;
 
 impl Machine<Seen> for Noting {
     ghost Rules = { Unit {0} };

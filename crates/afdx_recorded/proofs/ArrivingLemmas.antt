@@ -8,6 +8,7 @@ use Rattle.afdx_engine.specs.Engine.{Item, item_of}
 use Rattle.afdx_engine.specs.Items.{CanFollow, arrivals}
 use Rattle.afdx_engine.specs.Lists.{latest_in}
 use Rattle.afdx_engine.specs.Listed.{frames}
+use Rattle.afdx_lists.specs.declared.role.Role.{Role}
 use Rattle.afdx_recorded.specs.declared.number_line.NumberLine.{NumberLine}
 use Rattle.afdx_recorded.specs.declared.number_line.NumberLine.TheVariants as line
 use Rattle.afdx_recorded.specs.declared.skipped.Skipped.{Skipped}
@@ -19,7 +20,7 @@ use Rattle.afdx_recorded.proofs.Sealing.{known}
 latest-next : (n : ℕ) (bytes : List ℕ) (head : NumberLine) (past : List (Item Heading)) (latest : ℕ)
     → latest_in frames (arrivals past) ≡ latest
     → latest_in frames (arrivals (as_arrival n bytes head past)) ≡ time_or head latest
-latest-next n bytes (line.Arrival kind time side switch port) past latest h = refl
+latest-next n bytes (line.Arrival kind time role side switch port) past latest h = refl
 latest-next n bytes (line.Skipped reason) past latest h = h
 
 pub listed-latest : (lines : Lines) → latest_in frames (arrivals (arrivals_listed lines)) ≡ latest_time lines
@@ -30,7 +31,7 @@ listed-latest (x ∷ past) =
 
 few-next : (n : ℕ) (bytes : List ℕ) (head : NumberLine) (past : List (Item Heading)) (m : ℕ) → length past ≤ m
     → length (as_arrival n bytes head past) ≤ suc m
-few-next n bytes (line.Arrival kind time side switch port) past m h = omega (arith, h)
+few-next n bytes (line.Arrival kind time role side switch port) past m h = omega (arith, h)
 few-next n bytes (line.Skipped reason) past m h = omega (arith, h)
 
 pub listed-few : (lines : Lines) → length (arrivals_listed lines) ≤ length lines
@@ -44,8 +45,8 @@ pub skipped-none : (x : Item NumberLine) (reason : Skipped) (lines : Lines) → 
 unfolding arrivals_listed
 skipped-none x reason lines e = rw e refl
 
-module _ (x : Item NumberLine) (lines : Lines) (kind : FrameKind) (time : ℕ) (side : Side)
-    (switch port : ℕ) (own : Bool) (seal : Seal) (is : x.head ≡ line.Arrival kind time side switch port)
+module _ (x : Item NumberLine) (lines : Lines) (kind : FrameKind) (time : ℕ) (role : Role) (side : Side)
+    (switch port : ℕ) (own : Bool) (seal : Seal) (is : x.head ≡ line.Arrival kind time role side switch port)
     (own-is : own ≡ has_own kind x.bytes)
     (seal-is : seal ≡ seal_by kind own) where
   abbrev Arrives : Item Heading

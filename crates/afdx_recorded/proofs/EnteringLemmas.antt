@@ -1,8 +1,7 @@
 -- Where the arrivals of recordings came in: at ports that the options say, or the bytes of frames do.
 use Rattle.std.specs.Option.{option_or}
 use Rattle.std.proofs.Common.{◌≡◌, ◌+◌, ℕ, List, [], ◌∷◌, ◌++◌, length, take, drop, reverse, refl, ap, sym, ◌∙◌, subst}
-use Rattle.std.proofs.Common.{◌⊎◌, inl, inr, Bool, true, false, not, Option, Some, None, is_some, Result, Ok, Err}
-use Rattle.afdx_frame.specs.Layout.{link_named_by}
+use Rattle.std.proofs.Common.{◌⊎◌, inl, inr, Bool, true, false, not, Option, Some, None, Result, Ok, Err}
 use Rattle.afdx_frame.specs.declared.by_side.BySide.{BySide}
 use Rattle.afdx_frame.specs.declared.link.Side.{Side}
 use Rattle.afdx_lists.specs.declared.fault.RunFault.{RunFault}
@@ -37,7 +36,8 @@ use Rattle.afdx_recorded.specs.declared.places.Place.{Place}
 use Rattle.afdx_recorded.specs.declared.skipped.Skipped.TheVariants as why
 use Rattle.afdx_recorded.specs.declared.timed_pair.TimedPair.{TimedPair}
 use Rattle.afdx_recorded.specs.Becoming.{Options, becomes, check, ends_with_sequence, entrance_of, entrance_with, entry_of}
-use Rattle.afdx_recorded.specs.Becoming.{found_with, frame_becomes, is_before, is_claimed, is_contradicted, kind_used}
+use Rattle.afdx_recorded.specs.Becoming.{found_with, frame_becomes, is_before, is_claimed, is_contradicted}
+use Rattle.afdx_recorded.specs.Becoming.{is_from_start, is_taken, kind_used}
 use Rattle.afdx_recorded.specs.Becoming.{kind_with, line_time, moment_by, options_of, or_else, side_said, whole_moment}
 use Rattle.afdx_recorded.specs.Becoming.{◌>>=◌, ◌>>◌, only_if}
 use Rattle.afdx_recorded.specs.Claims.{Agree, Ports, ports_of, side_claimed}
@@ -49,7 +49,7 @@ use Rattle.afdx_recorded.specs.OrderedRecording.{HasTaken, HasTakenAll, OrderedR
 use Rattle.afdx_recorded.specs.OrderedSource.{AreLeft, StopsAt}
 use Rattle.afdx_recorded.specs.Ordering.{handed_on, in_order}
 use Rattle.afdx_recorded.specs.PairSource.{CanCome, IsAheadBy, IsPaired, head_by}
-use Rattle.afdx_recorded.specs.Places.{allows, entry_at, entry_said, is_left_out}
+use Rattle.afdx_recorded.specs.Places.{allows, entry_at, entry_said, is_left_out, role_of}
 use Rattle.afdx_recorded.specs.RecordingSource.{HasEnded, HasGiven, HasRead, HasReadAll, HasStopped, HasStoppedReading, first_standing}
 use Rattle.afdx_recorded.specs.Sequences.{Numbers, Outcome, and_then, as_read, number_after, number_by}
 use Rattle.afdx_recorded.specs.Sequences.{numbers_read, read_of_items, with_number}
@@ -89,14 +89,15 @@ module _ (options : Options) (ports : Ports) where
       → IfGood (Says place bytes) (entrance_of options.network place ports bytes)
   unfolding entrance_of
   entrance-says place bytes =
-      by (is_some (link_named_by bytes)) (entry_of place ports bytes) refl
+      by (is_taken (role_of place) bytes) (entry_of place ports bytes) refl
       (option_or (side_said options.network place) (side_claimed bytes))
     where
       by : (named : Bool) (entry : Option Entry) → entry_of place ports bytes ≡ entry → (side : Option Side)
           → IfGood (Says place bytes) (check named (no.Skipped why.NotAfdx)
           >> (or_else entry (no.Skipped why.UnknownSender) >>= (λ entry.
           or_else side (no.Skipped why.NoNetwork) >>= (λ side.
-          Ok (entrance_with side entry (is_claimed options.network place ports) (is_contradicted side bytes))))))
+          Ok (entrance_with (role_of place) side entry (is_claimed options.network place ports)
+          (is_contradicted (role_of place) side bytes))))))
       by false entry e side = tt
       by true None e side = tt
       by true (Some entry) e None = tt
@@ -107,13 +108,13 @@ module _ (options : Options) (ports : Ports) where
       → IsEntry options ports entrance.entry → (moment : Result ℕ NoArrival) (kind : Result FrameKind NoArrival)
       → IfGood HasEntry (moment >>= (λ moment.
       check (not (is_before options.origin moment)) (no.Skipped why.BeforeOrigin)
-      >> (kind >>= (λ kind. Ok (found_with moment entrance (kind_used kind bytes))))))
+      >> (kind >>= (λ kind. Ok (found_with options.is_second moment entrance (kind_used kind bytes))))))
   behind-entered n frame bytes stamp entrance h (Err reason) kind = tt
   behind-entered n frame bytes stamp entrance h (Ok moment) kind = by (not (is_before options.origin moment)) kind
     where
       by : (early : Bool) (kind : Result FrameKind NoArrival)
           → IfGood HasEntry (check early (no.Skipped why.BeforeOrigin)
-          >> (kind >>= (λ kind. Ok (found_with moment entrance (kind_used kind bytes)))))
+          >> (kind >>= (λ kind. Ok (found_with options.is_second moment entrance (kind_used kind bytes)))))
       by false kind = tt
       by true (Err reason) = tt
       by true (Ok kind) = h
@@ -122,7 +123,7 @@ module _ (options : Options) (ports : Ports) where
       → IfGood HasEntry (frame_becomes options ports n frame bytes)
   unfolding frame_becomes
   frame-entered n frame bytes =
-      by (not (is_left_out place)) (whole_moment options.fcs n frame (length bytes))
+      by (not (is_left_out options.leaves_unsaid place)) (whole_moment options.fcs n frame (length bytes))
       (entrance_of options.network place ports bytes) (entrance-says place bytes)
     where
       place : Option Place
@@ -131,18 +132,19 @@ module _ (options : Options) (ports : Ports) where
       by : (taken : Bool) (stamp : Result ℕ NoArrival) (entrance : Result Entrance NoArrival)
           → IfGood (Says place bytes) entrance
           → IfGood HasEntry (check taken (no.Skipped why.LeftOut) >> (stamp >>= (λ stamp. entrance >>= (λ entrance.
-          moment_by options.from_start n stamp (line_time ports entrance.entry
+          moment_by (is_from_start options entrance.role) n stamp (line_time ports entrance.entry
           (ends_with_sequence options.fcs frame.check_sequence) bytes)
           >>= (λ moment. check (not (is_before options.origin moment)) (no.Skipped why.BeforeOrigin)
           >> (or_else (kind_with (ends_with_sequence options.fcs frame.check_sequence) frame.found_wrong bytes)
-          (no.Faulted (fault.FcsUnclear n)) >>= (λ kind. Ok (found_with moment entrance (kind_used kind bytes)))))))))
+          (no.Faulted (fault.FcsUnclear n)) >>= (λ kind.
+          Ok (found_with options.is_second moment entrance (kind_used kind bytes)))))))))
       by false stamp entrance h = tt
       by true (Err reason) entrance h = tt
       by true (Ok stamp) (Err reason) h = tt
       by true (Ok stamp) (Ok entrance) h =
           behind-entered n frame bytes stamp entrance
           (record { interface = frame.interface; bytes = bytes; says = h })
-          (moment_by options.from_start n stamp (line_time ports entrance.entry
+          (moment_by (is_from_start options entrance.role) n stamp (line_time ports entrance.entry
           (ends_with_sequence options.fcs frame.check_sequence) bytes))
           (or_else (kind_with (ends_with_sequence options.fcs frame.check_sequence) frame.found_wrong bytes)
           (no.Faulted (fault.FcsUnclear n)))
@@ -277,7 +279,7 @@ module _ {R : Type 0} (remaining : R → Option (List ℕ)) (start input : Watch
 
 module _ (Enters : Entry → Type 0) where
   abbrev IsLineOf : NumberLine → Type 0
-  IsLineOf (line.Arrival kind time side switch port) = Enters (entry_at switch port)
+  IsLineOf (line.Arrival kind time role side switch port) = Enters (entry_at switch port)
   IsLineOf (line.Skipped reason) = Unit {0}
 
   abbrev IsLineItem : Item NumberLine → Type 0
@@ -303,7 +305,7 @@ module _ (Enters : Entry → Type 0) where
 
   arrival-next : (n : ℕ) (bytes : List ℕ) (head : NumberLine) (past : List (Item Heading)) → IsLineOf head
       → Each IsArrivalOf past → Each IsArrivalOf (as_arrival n bytes head past)
-  arrival-next n bytes (line.Arrival kind time side switch port) past h k = (h, k)
+  arrival-next n bytes (line.Arrival kind time role side switch port) past h k = (h, k)
   arrival-next n bytes (line.Skipped reason) past h k = k
 
   arrivals-come : (lines : Lines) → Each IsLineItem lines → Each IsArrivalOf (arrivals_listed lines)

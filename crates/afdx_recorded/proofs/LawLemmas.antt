@@ -30,7 +30,8 @@ use Rattle.afdx_lists.specs.declared.recording_fault.RecordingFault.TheVariants 
 use Rattle.afdx_recorded.specs.declared.number.Number.{Number}
 use Rattle.afdx_recorded.specs.declared.places.Place.{Place}
 use Rattle.afdx_recorded.specs.Becoming.{Options, becomes, frame_becomes, entrance_of, without_own}
-use Rattle.afdx_recorded.specs.Becoming.{seal_by, check, ends_with_sequence, found_with, is_before, kind_used, kind_with}
+use Rattle.afdx_recorded.specs.Becoming.{seal_by, check, ends_with_sequence, found_with, is_before}
+use Rattle.afdx_recorded.specs.Becoming.{is_from_start, kind_used, kind_with}
 use Rattle.afdx_recorded.specs.Becoming.{line_time, moment_by, or_else, whole_moment, ◌>>=◌, ◌>>◌}
 use Rattle.afdx_recorded.specs.Places.{is_left_out}
 use Rattle.afdx_recorded.specs.Claims.{Ports, Agree}
@@ -63,11 +64,12 @@ module _ (options : Options) (p q : Ports) (a : Agree p q) where
   -- what a frame becomes, once it is known where it came in
   abbrev behind : Ports → (n : ℕ) → RecordedFrame → List ℕ → (stamp : ℕ) → Entrance → Result Found NoArrival
   behind ports n frame bytes stamp entrance =
-      moment_by options.from_start n stamp (line_time ports entrance.entry
+      moment_by (is_from_start options entrance.role) n stamp (line_time ports entrance.entry
       (ends_with_sequence options.fcs frame.check_sequence) bytes)
       >>= (λ moment. check (not (is_before options.origin moment)) (no.Skipped why.BeforeOrigin)
       >> (or_else (kind_with (ends_with_sequence options.fcs frame.check_sequence) frame.found_wrong bytes)
-      (no.Faulted (fault.FcsUnclear n)) >>= (λ kind. Ok (found_with moment entrance (kind_used kind bytes)))))
+      (no.Faulted (fault.FcsUnclear n)) >>= (λ kind.
+      Ok (found_with options.is_second moment entrance (kind_used kind bytes)))))
 
   same-behind : (n : ℕ) (frame : RecordedFrame) (bytes : List ℕ) (stamp : ℕ) (entrance : Entrance)
       → behind p n frame bytes stamp entrance ≡ behind q n frame bytes stamp entrance
@@ -78,7 +80,8 @@ module _ (options : Options) (p q : Ports) (a : Agree p q) where
   unfolding frame_becomes
   same-frame n frame bytes =
       let place = options.place frame.interface in
-      ap (λ (r : Result Found NoArrival). check (not (is_left_out place)) (no.Skipped why.LeftOut) >> r)
+      ap (λ (r : Result Found NoArrival). check (not (is_left_out options.leaves_unsaid place))
+      (no.Skipped why.LeftOut) >> r)
       (same-bind (whole_moment options.fcs n frame (length bytes))
       (λ stamp. entrance_of options.network place p bytes >>= behind p n frame bytes stamp)
       (λ stamp. entrance_of options.network place q bytes >>= behind q n frame bytes stamp)

@@ -22,3 +22,5 @@ mod PlacingLemmas
 pub mod UnusedLemmas
 pub mod EachLemmas
 pub mod EnteringLemmas
+pub mod TapLemmas
+pub mod FaultLemmas

@@ -276,4 +276,6 @@ can-stop remaining start input source past fault (inr (inl s)) =
     by (run.RecordingOfB m) h = absurd h.stops
     by (run.ListOfCame m) h = absurd h.stops
     by (run.ListOfLeft m) h = absurd h.stops
+    by (run.RecordingOfCame m) h = absurd h.stops
+    by (run.RecordingOfLeft m) h = absurd h.stops
 can-stop remaining start input source past fault (inr (inr s)) = subst CanStop (sym s.fault_is) tt

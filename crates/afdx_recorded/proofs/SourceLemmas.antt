@@ -52,6 +52,8 @@ fails-unread (run.RecordingOfA m) said h = absurd h
 fails-unread (run.RecordingOfB m) said h = absurd h
 fails-unread (run.ListOfCame m) said h = absurd h
 fails-unread (run.ListOfLeft m) said h = absurd h
+fails-unread (run.RecordingOfCame m) said h = absurd h
+fails-unread (run.RecordingOfLeft m) said h = absurd h
 
 pub fails-unwritten : (fault : RunFault) (said : Result Number RecordingFault) → FailsBy fault said
     → is_write fault ≡ false
@@ -70,6 +72,8 @@ fails-unwritten (run.RecordingOfA m) said h = absurd h
 fails-unwritten (run.RecordingOfB m) said h = absurd h
 fails-unwritten (run.ListOfCame m) said h = absurd h
 fails-unwritten (run.ListOfLeft m) said h = absurd h
+fails-unwritten (run.RecordingOfCame m) said h = absurd h
+fails-unwritten (run.RecordingOfLeft m) said h = absurd h
 
 module _ (options : Options) (ports : Ports) (first old new : Standing) (past : Numbers) (before after : State)
     (item : Numbered) (s : Sorts options ports first old past before) where
@@ -91,6 +95,8 @@ module _ (options : Options) (ports : Ports) (first old new : Standing) (past : 
   stops-reader (run.RecordingOfB m) h = absurd h
   stops-reader (run.ListOfCame m) h = absurd h
   stops-reader (run.ListOfLeft m) h = absurd h
+  stops-reader (run.RecordingOfCame m) h = absurd h
+  stops-reader (run.RecordingOfLeft m) h = absurd h
 
   -- and the input gave some bytes
   abbrev Given : (given : List ℕ) → Gives old new given → GivesSome first new
@@ -112,6 +118,8 @@ module _ (options : Options) (ports : Ports) (first old new : Standing) (past : 
   gives-reader (run.RecordingOfB m) h = absurd h
   gives-reader (run.ListOfCame m) h = absurd h
   gives-reader (run.ListOfLeft m) h = absurd h
+  gives-reader (run.RecordingOfCame m) h = absurd h
+  gives-reader (run.RecordingOfLeft m) h = absurd h
 
   pub gives-number : SaysFirst old new before after item → GivesSome first new
   gives-number says = Given says.given says.gives
@@ -134,6 +142,8 @@ module _ (options : Options) (ports : Ports) (first old new : Standing) (past : 
   stops-number (run.RecordingOfB m) says h = absurd h
   stops-number (run.ListOfCame m) says h = absurd h
   stops-number (run.ListOfLeft m) says h = absurd h
+  stops-number (run.RecordingOfCame m) says h = absurd h
+  stops-number (run.RecordingOfLeft m) says h = absurd h
 
 -- ---- the end
 

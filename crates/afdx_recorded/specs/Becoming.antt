@@ -1,4 +1,5 @@
--- What a number of a recording becomes: an arrival, or it is skipped, or a fault of the recording.
+-- What a number of a recording becomes: an arrival, or a frame that left, or it is skipped, or a
+-- fault of the recording.
 use Rattle.std.specs.Prelude.{ℕ, ◌+◌, ◌-◌, Bool, true, false, not, ◌&&◌, ◌||◌, ◌==◌, ◌*◌, nat_lt, List, length, take}
 use Rattle.std.specs.Prelude.{Option, Some, None, is_some, Result, Ok, Err, if◌then◌else◌}
 use Rattle.std.specs.Option.{option_or, unwrap_or}
@@ -10,6 +11,8 @@ use Rattle.afdx_frame.specs.declared.link.Side.{Side}
 use Rattle.afdx_frame.specs.declared.link.Side.TheVariants.{A, B}
 use Rattle.afdx_lists.specs.declared.frame_line.FrameKind.{FrameKind}
 use Rattle.afdx_lists.specs.declared.frame_line.FrameKind.TheVariants.{Good, Bad, Raw}
+use Rattle.afdx_lists.specs.declared.role.Role.{Role}
+use Rattle.afdx_lists.specs.declared.role.Role.TheVariants.{Came, Left}
 use Rattle.afdx_lists.specs.declared.recording_fault.RecordingFault.TheVariants.{NotEthernet, NoTime}
 use Rattle.afdx_lists.specs.declared.recording_fault.RecordingFault.TheVariants.{BadTime, Cut}
 use Rattle.afdx_lists.specs.declared.recording_fault.RecordingFault.TheVariants.{FcsUnclear}
@@ -30,28 +33,35 @@ use Rattle.afdx_recorded.specs.declared.skipped.Skipped.TheVariants.{NoFrame, Le
 use Rattle.afdx_recorded.specs.declared.skipped.Skipped.TheVariants.{UnknownSender, NoNetwork}
 use Rattle.afdx_recorded.specs.declared.skipped.Skipped.TheVariants.{BeforeOrigin}
 use Rattle.afdx_recorded.specs.declared.places.Entry.{Entry}
-use Rattle.afdx_recorded.specs.Places.{place_of, is_left_out, side_of, entry_said, allows}
+use Rattle.afdx_recorded.specs.Places.{place_of, role_of, is_left_out, side_of, entry_said, allows}
 use Rattle.afdx_recorded.specs.Claims.{Ports, side_claimed}
 
--- what the options say: the place of each interface, whether frames end with their check sequence,
--- the moment that is time 0, the network whose recording it is, by how many arrivals times may go
--- back, and whether stamps are those of first bits
+-- what the options say: the place of each interface, whether one of which nothing is said is left
+-- out, whether frames end with their check sequence, the moment that is time 0, the network whose
+-- recording it is, whether it is the second of two, by how many arrivals times may go back, and
+-- whether stamps are those of first bits, of what came in and of what left
 pub record Options : Type 0 where
   pub place : ℕ → Option Place
+  pub leaves_unsaid : Bool
   pub fcs : Option Bool
   pub origin : Option ℕ
   pub network : Option Side
+  pub is_second : Bool
   pub reorder : ℕ
   pub from_start : Bool
+  pub left_from_start : Bool
 
 abbrev pub options_of : RecordingOptions → Options
 options_of options = record {
   place = place_of options.interfaces;
+  leaves_unsaid = options.leaves_unsaid;
   fcs = options.fcs;
   origin = options.origin;
   network = options.network;
+  is_second = options.is_second;
   reorder = options.reorder;
   from_start = options.from_start;
+  left_from_start = options.left_from_start;
 }
 
 -- ---- one check after another: the first that is false decides
@@ -138,11 +148,19 @@ is_other A (Some B) = true
 is_other B (Some A) = true
 is_other side named = false
 
-abbrev pub is_contradicted : Side → List ℕ → Bool
-is_contradicted side bytes = is_other side (side_claimed bytes)
+-- which is asked of what came in alone
+abbrev pub is_contradicted : Role → Side → List ℕ → Bool
+is_contradicted Came side bytes = is_other side (side_claimed bytes)
+is_contradicted Left side bytes = false
 
-abbrev pub entrance_with : Side → Entry → (claimed contradicted : Bool) → Entrance
-entrance_with side entry claimed contradicted = record {
+-- the address names a link; of what left any frame is taken
+abbrev pub is_taken : Role → List ℕ → Bool
+is_taken Came bytes = is_some (link_named_by bytes)
+is_taken Left bytes = true
+
+abbrev pub entrance_with : Role → Side → Entry → (claimed contradicted : Bool) → Entrance
+entrance_with role side entry claimed contradicted = record {
+  role = role;
   side = side;
   entry = entry;
   is_claimed = claimed;
@@ -152,10 +170,11 @@ entrance_with side entry claimed contradicted = record {
 unfoldable pub entrance_of : (network : Option Side) → Option Place → Ports → List ℕ →
     Result Entrance NoArrival
 entrance_of network place ports bytes = do
-  check (is_some (link_named_by bytes)) (Skipped NotAfdx)
+  check (is_taken (role_of place) bytes) (Skipped NotAfdx)
   entry ← or_else (entry_of place ports bytes) (Skipped UnknownSender)
   side ← or_else (option_or (side_said network place) (side_claimed bytes)) (Skipped NoNetwork)
-  Ok (entrance_with side entry (is_claimed network place ports) (is_contradicted side bytes))
+  Ok (entrance_with (role_of place) side entry (is_claimed network place ports)
+      (is_contradicted (role_of place) side bytes))
 
 -- ---- its check sequence
 
@@ -203,7 +222,7 @@ abbrev pub whole_length : Option Bool → List ℕ → ℕ
 whole_length (Some true) bytes = length bytes
 whole_length _ bytes = length bytes + 4
 
--- how long it lasts where it came in, in ns
+-- how long it lasts where it came in, or left, in ns
 abbrev pub line_time : Ports → Entry → Option Bool → List ℕ → ℕ
 line_time ports entry has_sequence bytes =
     whole_length has_sequence bytes * unwrap_or (ports.byte_ns entry.switch entry.port) 0
@@ -216,6 +235,11 @@ latest_moment = 18446744073709551615
 abbrev pub last_bit : (n stamp time : ℕ) → Result ℕ NoArrival
 last_bit n stamp time =
     if nat_lt latest_moment (stamp + time) then Err (Faulted (BadTime n)) else Ok (stamp + time)
+
+-- stamps of frames of this role are those of first bits
+abbrev pub is_from_start : Options → Role → Bool
+is_from_start options Came = options.from_start
+is_from_start options Left = options.left_from_start
 
 -- that of its last bit, by its stamp
 abbrev pub moment_by : (from_start : Bool) → (n stamp time : ℕ) → Result ℕ NoArrival
@@ -239,9 +263,11 @@ abbrev pub is_before : Option ℕ → ℕ → Bool
 is_before (Some origin) moment = nat_lt moment origin
 is_before None moment = false
 
-abbrev pub found_with : ℕ → Entrance → FrameKind → Found
-found_with moment entrance kind = record {
+abbrev pub found_with : (is_second : Bool) → ℕ → Entrance → FrameKind → Found
+found_with is_second moment entrance kind = record {
   moment = moment;
+  role = entrance.role;
+  is_second = is_second;
   side = entrance.side;
   switch = entrance.entry.switch;
   port = entrance.entry.port;
@@ -254,15 +280,15 @@ found_with moment entrance kind = record {
 unfoldable pub frame_becomes : Options → Ports → (n : ℕ) → RecordedFrame → List ℕ →
     Result Found NoArrival
 frame_becomes options ports n frame bytes = do
-  check (not (is_left_out (options.place frame.interface))) (Skipped LeftOut)
+  check (not (is_left_out options.leaves_unsaid (options.place frame.interface))) (Skipped LeftOut)
   stamp ← whole_moment options.fcs n frame (length bytes)
   entrance ← entrance_of options.network (options.place frame.interface) ports bytes
-  moment ← moment_by options.from_start n stamp (line_time ports entrance.entry
+  moment ← moment_by (is_from_start options entrance.role) n stamp (line_time ports entrance.entry
       (ends_with_sequence options.fcs frame.check_sequence) bytes)
   check (not (is_before options.origin moment)) (Skipped BeforeOrigin)
   kind ← or_else (kind_with (ends_with_sequence options.fcs frame.check_sequence)
       frame.found_wrong bytes) (Faulted (FcsUnclear n))
-  Ok (found_with moment entrance (kind_used kind bytes))
+  Ok (found_with options.is_second moment entrance (kind_used kind bytes))
 
 -- the same of whatever takes the number n
 abbrev pub becomes : Options → Ports → (n : ℕ) → Recorded → List ℕ → Result Found NoArrival

@@ -11,6 +11,7 @@ pub mod Holding
 pub mod NumberLines
 pub mod Entering
 pub mod Placing
+pub mod Tapping
 pub mod Timing
 pub mod Merging
 pub mod Taking

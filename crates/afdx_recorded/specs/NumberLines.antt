@@ -19,7 +19,7 @@ Lines = List (Item NumberLine)
 
 -- the arrival that a line is read as, in front of those before it
 abbrev pub as_arrival : ℕ → List ℕ → NumberLine → List (Item Heading) → List (Item Heading)
-as_arrival n bytes (line.Arrival kind time side switch port) past =
+as_arrival n bytes (line.Arrival kind time role side switch port) past =
     let seal = seal_with kind bytes in
     item_of n (record { time = time; side = side; switch = switch; port = port; seal = seal })
     (message_with kind bytes) ∷ past
@@ -53,7 +53,7 @@ module _ {H : Type 0} (items_of : Lines → List (Item H)) where
 
 -- the time of an arrival, else this one
 abbrev pub time_or : NumberLine → ℕ → ℕ
-time_or (line.Arrival kind time side switch port) latest = time
+time_or (line.Arrival kind time role side switch port) latest = time
 time_or (line.Skipped reason) latest = latest
 
 -- the time of the newest arrival, or 0

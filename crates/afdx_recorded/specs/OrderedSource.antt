@@ -1,5 +1,6 @@
 -- What is known of a source of numbers in order, from call to call.
 use Rattle.std.specs.Prelude.{ℕ, ◌≡◌, ◌+◌, ◌≤◌, ◌⊎◌, ⊤, Bool, true, false, List, [], ◌∷◌, ◌++◌, length, take, drop, Option, Some, None}
+use Rattle.std.specs.Prelude.{Result, Ok, Err}
 use Rattle.std.specs.List.Sorted.{IsPermutation}
 use Rattle.afdx_lists.specs.declared.fault.RunFault.{RunFault}
 use Rattle.afdx_lists.specs.declared.fault.RunFault.TheVariants as run
@@ -48,6 +49,11 @@ pub record AreLeft (most : ℕ) (read : List (Item AsRead)) (held : List (Item N
   pub are_held : IsPermutation held (take left (take most (in_order (numbers_read read))))
   pub handed : past ≡ drop left (take most (in_order (numbers_read read)))
       ++ handed_on most (numbers_read read)
+
+-- the fault of a recording, if it is one; else the fault itself
+abbrev pub recorded_in : RunFault → Result RecordingFault RunFault
+recorded_in (run.Recording fault) = Ok fault
+recorded_in fault = Err fault
 
 -- a fault of no recording
 abbrev pub IsNotRecorded : RunFault → Type 0

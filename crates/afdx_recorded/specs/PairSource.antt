@@ -4,6 +4,7 @@ use Rattle.afdx_frame.specs.declared.by_side.BySide.{BySide}
 use Rattle.afdx_frame.specs.declared.link.Side.{Side}
 use Rattle.afdx_frame.specs.declared.link.Side.TheVariants.{A, B}
 use Rattle.afdx_lists.specs.Faults.{fault_of_network}
+use Rattle.afdx_lists.specs.declared.role.ByRole.{ByRole}
 use Rattle.afdx_lists.specs.declared.fault.RunFault.{RunFault}
 use Rattle.afdx_lists.specs.declared.fault.RunFault.TheVariants as run
 use Rattle.afdx_recordings.specs.Recordings.{most_numbers}
@@ -153,6 +154,14 @@ module _ {S I : Type 0} (current : S → Item Number) (gave ended : I → S → 
       abbrev pub StopsPairing : BySide I → Pair S → BySide I → Numbers → RunFault → Type 0
       StopsPairing start pair inputs past fault =
           StopsAtA start pair inputs past fault ⊎ StopsAtB start pair inputs past fault
+
+-- the inputs of both
+abbrev pub inputs_of : {I : Type 0} → (a b : I) → BySide I
+inputs_of a b = record { a = a; b = b }
+
+-- of what came in, and of what left
+abbrev pub inputs_by_role : {I : Type 0} → ByRole I → BySide I
+inputs_by_role inputs = inputs_of inputs.came inputs.left
 
 -- the number that was given last, of the recording of this side
 abbrev pub given_by : {S : Type 0} → (S → Item Number) → Side → Pair S → Item Number

@@ -10,7 +10,7 @@ use Rattle.afdx_recorded.specs.declared.becoming.RecordingOptions.{RecordingOpti
 use Rattle.afdx_recorded.specs.declared.pair_options.PairOptions.{PairOptions}
 use Rattle.afdx_recorded.specs.declared.places.Interfaces.{Interfaces}
 use Rattle.afdx_recorded.specs.declared.places.Place.{Place}
-use Rattle.afdx_recorded.specs.declared.places.Place.TheVariants.{AtNamed, AtPort, AtSwitch}
+use Rattle.afdx_recorded.specs.declared.places.Place.TheVariants.{AtNamed, AtPort, AtSwitch, Left}
 
 -- where there is one switch on a side none has a name
 abbrev pub place_at_one : Place → Option Place
@@ -34,9 +34,11 @@ module _ (switches : List NamedRows) where
   abbrev pub at_known : Side → (port : Option ℕ) → ℕ → Option Place
   at_known side port k = if nat_lt k (length switches) then at_switch side port k else None
 
-  -- where there are several a port alone is at none of them, and a name is that of one
+  -- where there are several a port alone is at none of them, and a name is that of one; nothing is
+  -- said of what left
   abbrev pub place_among : (names : List (List ℕ)) → Place → Option Place
   place_among names (AtPort side port) = None
+  place_among names (Left side port) = None
   place_among names (AtNamed side name port) =
       option_and_then (at_switch side port) (switch_by names name)
   place_among names (AtSwitch side switch port) = at_known side port switch

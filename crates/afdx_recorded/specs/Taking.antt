@@ -1,5 +1,6 @@
 -- What a run takes of a recording, or of two that are read at once, and how that ends.
 use Rattle.std.specs.Prelude.{ℕ, ◌≡◌, ◌⊎◌, Bool, true, List, reverse, Option, Some, None}
+use Rattle.std.specs.Prelude.{if◌then◌else◌}
 use Rattle.std.specs.Io.KnownBytes.{Consumes}
 use Rattle.afdx_frame.specs.declared.link.Side.{Side}
 use Rattle.afdx_frame.specs.declared.link.Side.TheVariants.{A, B}
@@ -72,9 +73,9 @@ AreCutOff options ports bytes rest lines =
 
 -- ---- of two
 
--- that of an arrival by this network
+-- the network of the recording that a number is of: the second is that of network B
 abbrev pub side_of : Number → Side
-side_of (IsArrival found) = found.side
+side_of (IsArrival found) = if found.is_second then B else A
 side_of (Skipped reason) = A
 
 abbrev pub late_of_both : Item Number → RunFault

@@ -28,8 +28,8 @@ origin_in said (x ∷ past) = origin_with x.head (origin_in said past)
 -- the line of a number
 unfoldable pub line_by : Option ℕ → Number → NumberLine
 line_by origin (Arrival found) =
-    line.Arrival found.kind (found.moment - origin_or origin found.moment) found.side found.switch
-    found.port
+    line.Arrival found.kind (found.moment - origin_or origin found.moment) found.role found.side
+    found.switch found.port
 line_by origin (Skipped reason) = line.Skipped reason
 
 -- its time is too large

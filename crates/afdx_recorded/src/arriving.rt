@@ -1,4 +1,4 @@
-//! The arrivals among the lines of recordings.
+//! The arrivals among the lines of recordings of which nothing left.
 
 ghost use Rattle.std.specs.Prelude.{◌≡◌, true, false};
 ghost use Rattle.afdx_recorded.specs.Becoming as spec;
@@ -8,7 +8,8 @@ use afdx_engine::Source;
 use afdx_frame::{Seal, Side, is_sealed};
 use afdx_lists::{FrameKind, Heading, Next, RunFault};
 
-/// Gives the arrivals among the lines that a source gives.
+/// Gives the arrivals among the lines that a source gives. A frame that left is given like one that
+/// came in: where arrivals are told alone, no option says that something left.
 #[derive(Drop)]
 pub struct Arriving<S> {
     pub lines: S,
@@ -17,8 +18,8 @@ pub struct Arriving<S> {
     has_own: bool,
 }
 
-/// Whether the check sequence of an arrival is the last four of these bytes, which were recorded.
-fn has_own(kind: FrameKind, bytes: &[u8]) -> bool
+/// Whether the check sequence of a frame is the last four of these bytes, which were recorded.
+pub fn has_own(kind: FrameKind, bytes: &[u8]) -> bool
     ensures { result ≡ spec.has_own kind bytes.now }
 {
     match kind {
@@ -27,8 +28,8 @@ fn has_own(kind: FrameKind, bytes: &[u8]) -> bool
     }
 }
 
-/// How an arrival is sealed.
-fn seal_by(kind: FrameKind, own: bool) -> Seal
+/// How a frame is sealed whose recorded bytes end with its check sequence, or don't.
+pub fn seal_by(kind: FrameKind, own: bool) -> Seal
     ensures { result ≡ spec.seal_by kind own }
 {
     match (kind, own) {
@@ -38,8 +39,9 @@ fn seal_by(kind: FrameKind, own: bool) -> Seal
     }
 }
 
-/// What stands before the last four of these bytes, or all of them.
-fn without_own(own: bool, bytes: &[u8]) -> &[u8]
+/// What stands before the last four of these bytes, if those are the check sequence; else all of
+/// them.
+pub fn without_own(own: bool, bytes: &[u8]) -> &[u8]
     ensures { result.now ≡ spec.without_own own bytes.entry.now }
 {
     if own {
@@ -100,6 +102,7 @@ impl<I, S: Source<NumberLine, I>> Source<Heading, I> for Arriving<S> {
                 side,
                 switch,
                 port,
+                ..
             } = self.lines.head()
             {
                 let own = has_own(kind, self.lines.bytes());

@@ -11,7 +11,7 @@ use crate::places::{Entry, Interfaces, Place};
 use crate::senders::SystemPorts;
 use crate::skipped::Skipped;
 use afdx_frame::{Side, fcs};
-use afdx_lists::{FrameKind, RecordingFault};
+use afdx_lists::{FrameKind, RecordingFault, Role};
 use afdx_recordings::{CheckSequence, Recorded, RecordedFrame, Stamp};
 use std::alloc::{AllocError, Global};
 
@@ -24,18 +24,25 @@ const RESIDUE: u32 = 0x2144_df1c;
 /// What the options of a run over a recording say.
 #[derive(Debug, Drop)]
 pub struct RecordingOptions {
-    /// Where the frames of each interface came in.
+    /// Where the frames of each interface came in, or left.
     pub interfaces: Interfaces,
+    /// Whether the frames of an interface of which nothing is said are left out.
+    pub leaves_unsaid: bool,
     /// Whether each frame ends with its check sequence, where that is said.
     pub fcs: Option<bool>,
     /// The moment that is time 0, in ns since 1970, where that is said.
     pub origin: Option<u64>,
     /// The network whose recording it is, of two that are read at once.
     pub network: Option<Side>,
+    /// Whether it is the second of two that are read at once.
+    pub is_second: bool,
     /// How many arrivals may have a later moment than one that stands behind them.
     pub reorder: u32,
-    /// Whether stamps are those of frames' first bits, else of their last ones.
+    /// Whether the stamps of what came in are those of frames' first bits, else of their last
+    /// ones.
     pub from_start: bool,
+    /// The same of what left.
+    pub left_from_start: bool,
     /// Whether an option was given: then the input has to be a recording.
     pub are_given: bool,
 }
@@ -49,32 +56,42 @@ impl RecordingOptions {
         ensures network { IfOk result (λ options. options.network ≡ None) }
         ensures reorder { IfOk result (λ options. options.reorder ≡ 0) }
         ensures start { IfOk result (λ options. options.from_start ≡ false) }
+        ensures left_start { IfOk result (λ options. options.left_from_start ≡ false) }
+        ensures unsaid { IfOk result (λ options. options.leaves_unsaid ≡ false) }
+        ensures second { IfOk result (λ options. options.is_second ≡ false) }
         ensures place { IfOk result (λ options. (k : ℕ) →
             places.place_of options.interfaces k ≡ None) }
     {
         Ok(RecordingOptions {
             interfaces: Interfaces::new(alloc)?,
+            leaves_unsaid: false,
             fcs: None,
             origin: None,
             network: None,
+            is_second: false,
             reorder: 0,
             from_start: false,
+            left_from_start: false,
             are_given: false,
         })
     }
 }
 
-/// An arrival, beside its number and its recorded bytes.
+/// An arrival, or a frame that left, beside its number and its recorded bytes.
 #[derive(Clone, Copy, Debug, PartialEq, Eq)]
 pub struct Found {
-    /// When it came, in ns since 1970.
+    /// When it came, or left, in ns since 1970.
     pub moment: u64,
-    /// The network by which it came.
+    /// Which of both it did.
+    pub role: Role,
+    /// Whether it is of the second of two recordings that are read at once.
+    pub is_second: bool,
+    /// The network by which it came, or left.
     pub side: Side,
     /// The place of the switch at which it came in among those of its side, from 0; 0 where there
-    /// is one.
+    /// is one, and of what left.
     pub switch: u8,
-    /// The port at which it came in.
+    /// The port at which it came in, or left.
     pub port: u8,
     /// Whether its side, its switch or its port was taken from its bytes.
     pub is_claimed: bool,
@@ -184,7 +201,7 @@ fn whole_length(has_sequence: Option<bool>, bytes: &[u8]) -> u128
     }
 }
 
-/// How long a frame lasts where it came in, in ns.
+/// How long a frame lasts where it came in, or left, in ns.
 fn line_time(ports: &SystemPorts, entry: Entry, has_sequence: Option<bool>, bytes: &[u8]) -> u128
     ensures time { result ≡ spec.line_time (ports_of ports.now) entry has_sequence bytes.now }
     ensures small { result < 0x20000000000000000000000000 }
@@ -237,6 +254,27 @@ fn is_before(origin: Option<u64>, moment: u64) -> bool
     }
 }
 
+/// Whether the frames of an interface with this place are left out.
+fn is_left_out(leaves_unsaid: bool, place: Option<Place>) -> bool
+    ensures { result ≡ places.is_left_out leaves_unsaid place }
+{
+    match place {
+        Some(Place::LeftOut) => true,
+        Some(_) => false,
+        None => leaves_unsaid,
+    }
+}
+
+/// Whether stamps of frames of this role are those of first bits.
+fn is_from_start(options: &RecordingOptions, role: Role) -> bool
+    ensures { result ≡ spec.is_from_start (options_of options.now) role }
+{
+    match role {
+        Role::Came => options.from_start,
+        Role::Left => options.left_from_start,
+    }
+}
+
 /// What frame n becomes.
 #[inline(always)]
 #[tactic(auto, unfolding(crate::specs::Becoming::frame_becomes))]
@@ -251,13 +289,13 @@ fn frame_becomes(
         n frame.now bytes.now }
 {
     let place = options.interfaces.place(frame.interface);
-    if let Some(Place::LeftOut) = place {
+    if is_left_out(options.leaves_unsaid, place) {
         return Err(NoArrival::Skipped(Skipped::LeftOut));
     }
     let stamp = whole_moment(options.fcs, n, frame, bytes.len())?;
     let entrance = entrance_of(options.network, place, ports, bytes)?;
     let has_sequence = ends_with_sequence(options.fcs, frame.check_sequence);
-    let moment = if options.from_start {
+    let moment = if is_from_start(options, entrance.role) {
         let time = line_time(ports, entrance.entry, has_sequence, bytes);
         last_bit(n, stamp, time)?
     } else {
@@ -271,6 +309,8 @@ fn frame_becomes(
     };
     Ok(Found {
         moment,
+        role: entrance.role,
+        is_second: options.is_second,
         side: entrance.side,
         switch: entrance.entry.switch,
         port: entrance.entry.port,
@@ -285,8 +325,9 @@ fn frame_becomes(
 /// The first check that is false decides, in this order. A block that is no frame, and a frame
 /// whose interface is left out, are skipped. Faults are `NotEthernet`, `NoTime`, `BadTime` and
 /// `Cut`. A frame of no link, of no known port, of no known side, and one before the origin are
-/// skipped. The last fault is `FcsUnclear`. An arrival of more than 2,000 bytes is taken as its
-/// first 2,000, as they are.
+/// skipped; but none of an interface whose frames left is skipped for what its bytes say. The last
+/// fault is `FcsUnclear`. A frame of more than 2,000 bytes is taken as its first 2,000, as they
+/// are.
 #[inline(always)]
 pub fn becomes(
     options: &RecordingOptions,

@@ -56,6 +56,7 @@ impl Clock {
                 Some(NumberLine::Arrival {
                     kind: found.kind,
                     time,
+                    role: found.role,
                     side: found.side,
                     switch: found.switch,
                     port: found.port,

@@ -9,7 +9,7 @@ use afdx_engine::Head;
 /// What a number of a recording is.
 #[derive(Clone, Copy, Debug, PartialEq, Eq)]
 pub enum Number {
-    /// An arrival.
+    /// An arrival, or a frame that left.
     Arrival(Found),
     /// It is skipped.
     Skipped(Skipped),

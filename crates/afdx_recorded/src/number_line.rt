@@ -5,21 +5,23 @@ ghost use Rattle.afdx_recorded.specs.NumberLines.{LineFollows};
 use crate::skipped::Skipped;
 use afdx_engine::Head;
 use afdx_frame::Side;
-use afdx_lists::FrameKind;
+use afdx_lists::{FrameKind, Role};
 
 /// What the line of a number says.
 #[derive(Clone, Copy, Debug, PartialEq, Eq)]
 pub enum NumberLine {
-    /// It is an arrival, of which this is done with the recorded bytes.
+    /// It is an arrival, or a frame that left, of which this is done with the recorded bytes.
     Arrival {
         kind: FrameKind,
-        /// When it comes, in ns, at most 10^15.
+        /// When it comes, or leaves, in ns, at most 10^15.
         time: u64,
-        /// The network by which it comes.
+        /// Which of both it does.
+        role: Role,
+        /// The network by which it comes, or leaves.
         side: Side,
         /// The place of its switch among those of its side, from 0; 0 where there is one.
         switch: u8,
-        /// The port at which it comes in, 1 to 24.
+        /// The port at which it comes in, or leaves, 1 to 24.
         port: u8,
     },
     /// It is skipped.

@@ -85,6 +85,16 @@ impl<S> Ordered<S> {
     }
 }
 
+/// The fault of a recording, if it is one; else the fault itself.
+fn recorded_fault(fault: RunFault) -> Result<RecordingFault, RunFault>
+    ensures { result ≡ spec.recorded_in fault }
+{
+    match fault {
+        RunFault::Recording(fault) => Ok(fault),
+        other => Err(other),
+    }
+}
+
 /// Reads one number more. If none is given it is held, or the end is known. A fault that is
 /// returned is none of the recording.
 #[inline(always)]
@@ -124,11 +134,13 @@ fn read_one<I, S: Source<AsRead, I>>(
             ordered.stage = Stage::Over;
             Ok(Progress::NotYet)
         }
-        Err(RunFault::Recording(fault)) => {
-            ordered.stage = Stage::Stopped(fault);
-            Ok(Progress::NotYet)
-        }
-        Err(fault) => Err(fault),
+        Err(fault) => match recorded_fault(fault) {
+            Ok(fault) => {
+                ordered.stage = Stage::Stopped(fault);
+                Ok(Progress::NotYet)
+            }
+            Err(other) => Err(other),
+        },
     }
 }
 

@@ -1,20 +1,23 @@
-//! The numbers of two recordings, one of each network: the earlier arrival first.
+//! The numbers of two recordings, of network A and of network B, or of what came in and of what
+//! left: the earlier arrival first.
 
 ghost use Rattle.std.specs.Prelude.{◌≡◌, ◌≤◌, ◌<◌, ◌∷◌, ℕ, length, IfErr, Ok, true, false};
 ghost use Rattle.afdx_lists.specs.Calls.{is_failed_write};
 ghost use Rattle.afdx_engine.specs.Items.{most_frames};
+ghost use Rattle.afdx_frame.specs.declared.by_side.BySide.{BySide};
 ghost use Rattle.afdx_recorded.specs.PairSource as spec;
 ghost use Rattle.afdx_recorded.specs.PairSource.{IsPaired, IsPairedToEnd, StopsPairing};
-ghost use Rattle.afdx_recorded.specs.PairSource.{left_in_pair, number_given};
+ghost use Rattle.afdx_recorded.specs.PairSource.{inputs_of, left_in_pair, number_given};
 ghost use Rattle.afdx_recorded.specs.Sequences.{Numbers, latest_of};
 
 use crate::ahead::{Ahead, AtHead, seek};
 use crate::number::Number;
 use afdx_engine::Source;
-use afdx_frame::{BySide, Side};
+use afdx_frame::Side;
 use afdx_lists::{Next, Progress, RunFault};
 
-/// Two recordings that are read at once, of network A and of network B.
+/// Two recordings that are read at once, of network A and of network B, or of what came in and of
+/// what left.
 #[derive(Drop)]
 pub struct Pair<S> {
     pub a: Ahead<S>,
@@ -65,33 +68,42 @@ fn next_side(a: AtHead, b: AtHead) -> Option<Side>
 ///
 /// Their heads are looked for, that of A first. A number that is skipped, and a fault, come as soon
 /// as they are found; else the earlier arrival, that of A where both have the same moment.
+#[inline(always)]
 pub(crate) fn next_of<I, S: Source<Number, I>>(
     pair: &mut Pair<S>,
-    inputs: &mut BySide<I>,
+    input_a: &mut I,
+    input_b: &mut I,
 ) -> Result<Next, RunFault>
     requires { (start : BySide I) × (past : Numbers)
-        × IsPaired S.current S.Gave S.Ended start pair.old inputs.old past }
+        × IsPaired S.current S.Gave S.Ended start pair.old
+        (inputs_of input_a.old input_b.old) past }
     ensures item { (start : BySide I) (past : Numbers) →
-        IsPaired S.current S.Gave S.Ended start pair.old inputs.old past →
-        result ≡ Ok Next.Given → IsPaired S.current S.Gave S.Ended start pair.new inputs.new
+        IsPaired S.current S.Gave S.Ended start pair.old
+        (inputs_of input_a.old input_b.old) past →
+        result ≡ Ok Next.Given → IsPaired S.current S.Gave S.Ended start pair.new
+        (inputs_of input_a.new input_b.new)
         (number_given S.current pair.new ∷ past)
         × (latest_of past ≤ latest_of (number_given S.current pair.new ∷ past))
         × (length past < most_frames) }
     ensures end { (start : BySide I) (past : Numbers) →
-        IsPaired S.current S.Gave S.Ended start pair.old inputs.old past →
+        IsPaired S.current S.Gave S.Ended start pair.old
+        (inputs_of input_a.old input_b.old) past →
         result ≡ Ok Next.Ended →
-        IsPairedToEnd S.current S.Gave S.Ended start pair.new inputs.new past }
+        IsPairedToEnd S.current S.Gave S.Ended start pair.new
+        (inputs_of input_a.new input_b.new) past }
     ensures stop { (start : BySide I) (past : Numbers) →
-        IsPaired S.current S.Gave S.Ended start pair.old inputs.old past →
+        IsPaired S.current S.Gave S.Ended start pair.old
+        (inputs_of input_a.old input_b.old) past →
         IfErr result
-        (StopsPairing S.current S.Gave S.Ended S.Stopped start pair.new inputs.new past) }
+        (StopsPairing S.current S.Gave S.Ended S.Stopped start pair.new
+        (inputs_of input_a.new input_b.new) past) }
     ensures unwritten { is_failed_write result ≡ false }
     ensures settings_a { S.settings pair.new.a.source ≡ S.settings pair.old.a.source }
     ensures settings_b { S.settings pair.new.b.source ≡ S.settings pair.old.b.source }
     ensures less { result ≡ Ok Next.Given →
         left_in_pair S.left_of pair.new < left_in_pair S.left_of pair.old }
 {
-    match seek(&mut pair.a, &mut inputs.a) {
+    match seek(&mut pair.a, input_a) {
         Ok(Progress::Given) => {
             pair.from = Side::A;
             return Ok(Next::Given);
@@ -99,7 +111,7 @@ pub(crate) fn next_of<I, S: Source<Number, I>>(
         Ok(Progress::NotYet) => {}
         Err(fault) => return Err(fault_named(Side::A, fault)),
     }
-    match seek(&mut pair.b, &mut inputs.b) {
+    match seek(&mut pair.b, input_b) {
         Ok(Progress::Given) => {
             pair.from = Side::B;
             return Ok(Next::Given);

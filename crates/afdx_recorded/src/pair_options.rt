@@ -32,15 +32,18 @@ impl PairOptions {
         let BySide { a, b } = self.interfaces;
         let (fcs, origin, reorder) = (self.fcs, self.origin, self.reorder);
         let from_start = self.from_start;
-        let of = |interfaces, network| RecordingOptions {
+        let of = |interfaces, network, is_second| RecordingOptions {
             interfaces,
+            leaves_unsaid: false,
             fcs,
             origin,
             network: Some(network),
+            is_second,
             reorder,
             from_start,
+            left_from_start: false,
             are_given: true,
         };
-        (of(a, Side::A), of(b, Side::B))
+        (of(a, Side::A, false), of(b, Side::B, true))
     }
 }

@@ -1,4 +1,4 @@
-//! Where the frames of each interface came in.
+//! Where the frames of each interface came in, or left.
 
 ghost use Rattle.std.specs.Prelude.{◌≡◌, ◌<◌, ◌≤◌, ℕ, IfOk, IfNone, IfSome, OnOk, OnErr, Ok, Some, None, true, false};
 ghost use Rattle.std.specs.Prelude.{length, vec_len};
@@ -10,7 +10,7 @@ use afdx_frame::Side;
 use afdx_recordings::MOST_INTERFACES;
 use std::alloc::{AllocError, Global};
 
-/// A port of a switch, at which frames come in.
+/// A port of a switch, at which frames come in, or leave.
 #[derive(Clone, Copy, Debug, PartialEq, Eq)]
 pub struct Entry {
     /// The place of the switch among those of its side, from 0; 0 where there is one.
@@ -19,7 +19,7 @@ pub struct Entry {
     pub port: u8,
 }
 
-/// Where the frames of an interface came in.
+/// Where the frames of an interface came in, or where they left.
 #[derive(Clone, Copy, Debug, PartialEq, Eq)]
 pub enum Place {
     /// Nowhere: they are left out.
@@ -35,9 +35,11 @@ pub enum Place {
     /// At the switch of this side at this place of the configuration, from 0, and, if it is said,
     /// at this of its ports.
     AtSwitch(Side, u8, Option<u8>),
+    /// Nowhere: they left at this port, 1 to 24, of this side's switch, where there is one.
+    Left(Side, u8),
 }
 
-/// Where the frames of each interface came in, where that is said.
+/// Where the frames of each interface came in, or left, where that is said.
 #[derive(Debug, Drop)]
 pub struct Interfaces {
     places: Vec<Option<Place>>,
@@ -62,7 +64,7 @@ impl Interfaces {
         })
     }
 
-    /// Where the frames of this interface came in, if that is said.
+    /// Where the frames of this interface came in, or left, if that is said.
     #[tactic(auto, unfolding(crate::specs::Places::place_of))]
     pub fn place(&self, interface: u16) -> Option<Place>
         ensures { result ≡ place_of self.now interface }
@@ -87,7 +89,8 @@ impl Interfaces {
         unused
     }
 
-    /// Says where the frames of this interface came in, in the place of what was said before.
+    /// Says where the frames of this interface came in, or left, in the place of what was said
+    /// before.
     #[tactic(auto, unfolding(crate::specs::Places::place_of))]
     pub fn put(&mut self, interface: u16, place: Place)
         requires { interface < most_interfaces }
@@ -116,7 +119,8 @@ impl Interfaces {
 
     /// Puts each place where it is in a configuration: a name is that of a switch. False: one is
     /// none there. Where there is one switch on a side, that is one with a name; where there are
-    /// several, a port without a name, a name that no switch has, or a port with a cable.
+    /// several, a port without a name, a name that no switch has, a port with a cable, or one where
+    /// frames left.
     pub fn place_in(&mut self, described: &Described) -> bool
         ensures placed { result ≡ true → ArePlaced described.now self.old self.new }
         ensures misplaced { result ≡ false → AreMisplaced described.now self.old }

@@ -51,7 +51,7 @@ fn place_among(switches: &Switches, names: &[String], place: Place) -> Option<Pl
 {
     match place {
         Place::LeftOut | Place::OnSide(_) => Some(place),
-        Place::AtPort(_, _) => None,
+        Place::AtPort(_, _) | Place::Left(_, _) => None,
         Place::AtNamed(side, number, port) => {
             let switch = switch_by(switches, names, number)?;
             at_switch(switches, side, port, switch)
@@ -71,7 +71,7 @@ fn place_at_one(place: Place) -> Option<Place>
     ensures { result ≡ spec.place_at_one place }
 {
     match place {
-        Place::LeftOut | Place::OnSide(_) | Place::AtPort(_, _) => Some(place),
+        Place::LeftOut | Place::OnSide(_) | Place::AtPort(_, _) | Place::Left(_, _) => Some(place),
         Place::AtNamed(_, _, _) | Place::AtSwitch(_, _, _) => None,
     }
 }
@@ -96,7 +96,7 @@ pub trait Placing {
 
     /// Puts each place where it is in a configuration. False: one is none there. Where there is one
     /// switch on a side, that is one with a name; where there are several, a port without a name, a
-    /// name that no switch has, or a port with a cable.
+    /// name that no switch has, a port with a cable, or one where frames left.
     fn place_in(&mut self, described: &Described) -> bool
         ensures placed { result ≡ true → ArePlaced described.now self.old self.new }
         ensures misplaced { result ≡ false → AreNotPlaced described.now self.old };

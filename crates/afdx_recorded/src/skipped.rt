@@ -30,7 +30,9 @@ pub const SKIPPED: [(Skipped, &str, &str); 6] = [
     (
         Skipped::LeftOut,
         "left-out",
-        "left-out: the frames of its interface are left out, by --interface K=-.",
+        "\
+left-out: the frames of its interface are left out, by --interface K=-, or with 'conform'
+since neither --interface nor --left names it.",
     ),
     (
         Skipped::NotAfdx,

@@ -1,7 +1,13 @@
 //! The numbers of two recordings, as lines: each arrival at its time.
 
-ghost use Rattle.std.specs.Prelude.{◌≡◌};
+ghost use Rattle.std.specs.Prelude.{◌≡◌, ◌<◌, ◌∷◌, IfErr, Ok, false};
+ghost use Rattle.afdx_frame.specs.declared.by_side.BySide.{BySide as Two};
+ghost use Rattle.afdx_lists.specs.Calls.{is_failed_write};
+ghost use Rattle.afdx_recorded.specs.NumberLines.{LineFollows, Lines};
+ghost use Rattle.afdx_recorded.specs.PairSource.{inputs_of, left_in_pair};
 ghost use Rattle.afdx_recorded.specs.Taking as taking;
+ghost use Rattle.afdx_recorded.specs.TimedPairSource.{HasPaired, HasPairedAll};
+ghost use Rattle.afdx_recorded.specs.TimedPairSource.{HasStoppedPairing, line_given};
 
 use crate::clock::Clock;
 use crate::number::Number;
@@ -10,9 +16,10 @@ use crate::pair::{Pair, next_of};
 use crate::skipped::Skipped;
 use afdx_engine::Source;
 use afdx_frame::{BySide, Side};
-use afdx_lists::{Next, RecordingFault, RunFault};
+use afdx_lists::{ByRole, Next, RecordingFault, RunFault};
 
-/// Gives the line of each number of two recordings.
+/// Gives the line of each number of two recordings. Of those of what came in and of what left the
+/// first is that of what came in.
 #[derive(Drop)]
 pub struct TimedPair<S> {
     pub pair: Pair<S>,
@@ -42,21 +49,68 @@ impl<S> TimedPair<S> {
     }
 }
 
-/// The side of an arrival.
+/// The network of the recording that an arrival is of.
 fn side_of(number: &Number) -> Side
     ensures { result ≡ taking.side_of number.now }
 {
     match number {
-        Number::Arrival(found) => found.side,
-        Number::Skipped(_) => Side::A,
+        Number::Arrival(found) if found.is_second => Side::B,
+        _ => Side::A,
     }
+}
+
+/// Gives the line of the next number of both, of which these are the inputs.
+#[inline(always)]
+fn next_line<I, S: Source<Number, I>>(
+    source: &mut TimedPair<S>,
+    input_a: &mut I,
+    input_b: &mut I,
+) -> Result<Next, RunFault>
+    requires { (start : Two I) × (past : Lines)
+        × HasPaired S.current S.Gave S.Ended start source.old
+        (inputs_of input_a.old input_b.old) past }
+    ensures item { (start : Two I) (past : Lines) →
+        HasPaired S.current S.Gave S.Ended start source.old
+        (inputs_of input_a.old input_b.old) past →
+        result ≡ Ok Next.Given → HasPaired S.current S.Gave S.Ended start source.new
+        (inputs_of input_a.new input_b.new) (line_given S.current source.new ∷ past)
+        × LineFollows past (line_given S.current source.new) }
+    ensures end { (start : Two I) (past : Lines) →
+        HasPaired S.current S.Gave S.Ended start source.old
+        (inputs_of input_a.old input_b.old) past →
+        result ≡ Ok Next.Ended → HasPairedAll S.current S.Gave S.Ended start source.new
+        (inputs_of input_a.new input_b.new) past }
+    ensures stop { (start : Two I) (past : Lines) →
+        HasPaired S.current S.Gave S.Ended start source.old
+        (inputs_of input_a.old input_b.old) past →
+        IfErr result (HasStoppedPairing S.current S.Gave S.Ended S.Stopped start source.new
+        (inputs_of input_a.new input_b.new) past) }
+    ensures unwritten { is_failed_write result ≡ false }
+    ensures settings_a { S.settings source.new.pair.a.source
+        ≡ S.settings source.old.pair.a.source }
+    ensures settings_b { S.settings source.new.pair.b.source
+        ≡ S.settings source.old.pair.b.source }
+    ensures said { source.new.clock.said ≡ source.old.clock.said }
+    ensures less { result ≡ Ok Next.Given → left_in_pair S.left_of source.new.pair
+        < left_in_pair S.left_of source.old.pair }
+{
+    if let Next::Ended = next_of(&mut source.pair, input_a, input_b)? {
+        return Ok(Next::Ended);
+    }
+    let (number, n) = match source.pair.from {
+        Side::A => (source.pair.a.source.head(), source.pair.a.source.number()),
+        Side::B => (source.pair.b.source.head(), source.pair.b.source.number()),
+    };
+    let Some(line) = source.clock.line(&number) else {
+        let fault = RecordingFault::TimeTooLarge(n);
+        return Err(RunFault::of_network(side_of(&number), fault));
+    };
+    source.line = line;
+    Ok(Next::Given)
 }
 
 impl<I, S: Source<Number, I>> Source<NumberLine, BySide<I>> for TimedPair<S> {
     ghost use Rattle.std.specs.Prelude.{ℕ, Option};
-    ghost use Rattle.afdx_recorded.specs.PairSource.{left_in_pair};
-    ghost use Rattle.afdx_recorded.specs.TimedPairSource.{line_given, HasPaired, HasPairedAll};
-    ghost use Rattle.afdx_recorded.specs.TimedPairSource.{HasStoppedPairing};
 
     ghost current = { line_given S.current };
 
@@ -79,19 +133,58 @@ impl<I, S: Source<Number, I>> Source<NumberLine, BySide<I>> for TimedPair<S> {
     ghost Stopped = { HasStoppedPairing S.current S.Gave S.Ended S.Stopped };
 
     fn next(&mut self, inputs: &mut BySide<I>) -> Result<Next, RunFault> {
-        if let Next::Ended = next_of(&mut self.pair, inputs)? {
-            return Ok(Next::Ended);
+        next_line(self, &mut inputs.a, &mut inputs.b)
+    }
+
+    fn number(&self) -> u64 {
+        match self.pair.from {
+            Side::A => self.pair.a.source.number(),
+            Side::B => self.pair.b.source.number(),
         }
-        let (number, n) = match self.pair.from {
-            Side::A => (self.pair.a.source.head(), self.pair.a.source.number()),
-            Side::B => (self.pair.b.source.head(), self.pair.b.source.number()),
-        };
-        let Some(line) = self.clock.line(&number) else {
-            let fault = RecordingFault::TimeTooLarge(n);
-            return Err(RunFault::of_network(side_of(&number), fault));
-        };
-        self.line = line;
-        Ok(Next::Given)
+    }
+
+    fn head(&self) -> NumberLine {
+        self.line
+    }
+
+    fn bytes(&self) -> &[u8] {
+        match self.pair.from {
+            Side::A => self.pair.a.source.bytes(),
+            Side::B => self.pair.b.source.bytes(),
+        }
+    }
+}
+
+impl<I, S: Source<Number, I>> Source<NumberLine, ByRole<I>> for TimedPair<S> {
+    ghost use Rattle.std.specs.Prelude.{ℕ, Option};
+    ghost use Rattle.afdx_recorded.specs.PairSource.{inputs_by_role};
+
+    ghost current = { line_given S.current };
+
+    ghost left_of = { λ source. left_in_pair S.left_of source.pair };
+
+    ghost Settings = { S.Settings × S.Settings × Option ℕ };
+
+    ghost settings = { λ source. (
+      S.settings source.pair.a.source,
+      S.settings source.pair.b.source,
+      source.clock.said,
+    ) };
+
+    ghost Gives = { λ settings item. Unit {0} };
+
+    ghost Gave = { λ start source inputs lines. HasPaired S.current S.Gave S.Ended
+        (inputs_by_role start) source (inputs_by_role inputs) lines };
+
+    ghost Ended = { λ start source inputs lines. HasPairedAll S.current S.Gave S.Ended
+        (inputs_by_role start) source (inputs_by_role inputs) lines };
+
+    ghost Stopped = { λ start source inputs lines fault.
+        HasStoppedPairing S.current S.Gave S.Ended S.Stopped
+        (inputs_by_role start) source (inputs_by_role inputs) lines fault };
+
+    fn next(&mut self, inputs: &mut ByRole<I>) -> Result<Next, RunFault> {
+        next_line(self, &mut inputs.came, &mut inputs.left)
     }
 
     fn number(&self) -> u64 {

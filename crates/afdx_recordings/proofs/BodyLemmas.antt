@@ -118,6 +118,8 @@ Meant-wrong meaning whole (run.RecordingOfA n) after next body item h means = ab
 Meant-wrong meaning whole (run.RecordingOfB n) after next body item h means = absurd means
 Meant-wrong meaning whole (run.ListOfCame n) after next body item h means = absurd means
 Meant-wrong meaning whole (run.ListOfLeft n) after next body item h means = absurd means
+Meant-wrong meaning whole (run.RecordingOfCame n) after next body item h means = absurd means
+Meant-wrong meaning whole (run.RecordingOfLeft n) after next body item h means = absurd means
 Meant-wrong meaning whole (run.LineTooLong n) after next body item h means = absurd means
 Meant-wrong meaning whole run.TooManyLines after next body item h means = absurd means
 

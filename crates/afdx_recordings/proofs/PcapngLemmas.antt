@@ -104,6 +104,12 @@ TellsBlock-meant (Err (run.ListOfCame n)) old new before after item head given h
 TellsBlock-meant (Err (run.ListOfLeft n)) old new before after item head given h k gives few told
     least within rest meant =
     absurd meant
+TellsBlock-meant (Err (run.RecordingOfCame n)) old new before after item head given h k gives few told
+    least within rest meant =
+    absurd meant
+TellsBlock-meant (Err (run.RecordingOfLeft n)) old new before after item head given h k gives few told
+    least within rest meant =
+    absurd meant
 TellsBlock-meant (Err (run.LineTooLong n)) old new before after item head given h k gives few told
     least within rest meant =
     absurd meant
@@ -263,5 +269,7 @@ Meant-not_read meaning (Err (run.RecordingOfA n)) after item meant = refl
 Meant-not_read meaning (Err (run.RecordingOfB n)) after item meant = refl
 Meant-not_read meaning (Err (run.ListOfCame n)) after item meant = refl
 Meant-not_read meaning (Err (run.ListOfLeft n)) after item meant = refl
+Meant-not_read meaning (Err (run.RecordingOfCame n)) after item meant = refl
+Meant-not_read meaning (Err (run.RecordingOfLeft n)) after item meant = refl
 Meant-not_read meaning (Err (run.LineTooLong n)) after item meant = refl
 Meant-not_read meaning (Err run.TooManyLines) after item meant = refl

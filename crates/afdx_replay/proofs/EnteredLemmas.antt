@@ -184,6 +184,7 @@ module _ (ss : List NamedRows) where
   -- a place of the switches: at one of them, and at no cable
   abbrev IsOneThere : Place → Type 0
   IsOneThere (place.AtPort side port) = ⊥
+  IsOneThere (place.Left side port) = ⊥
   IsOneThere (place.AtSwitch side k port) = (k < length ss) × (is_free ss k port ≡ true)
   IsOneThere _ = Unit {0}
 
@@ -213,6 +214,7 @@ module _ (ss : List NamedRows) where
     one-there place.LeftOut q h = subst IsOneThere (same_Some place.LeftOut q h) tt
     one-there (place.OnSide side) q h = subst IsOneThere (same_Some (place.OnSide side) q h) tt
     one-there (place.AtPort side port) q h = absurd (cc h)
+    one-there (place.Left side port) q h = absurd (cc h)
     one-there (place.AtNamed side name port) q h =
         let found = and-then (at_switch ss side port) (switch_by ss names name) q h in
         at-one side port found.0 q (named-within names name found.0 found.1) found.2
@@ -245,6 +247,7 @@ module _ (ss : List NamedRows) (are : AreSwitches ss) where
   of-place (Some place.LeftOut) there bytes e h = claimed (Some place.LeftOut) bytes e h
   of-place (Some (place.OnSide side)) there bytes e h = claimed (Some (place.OnSide side)) bytes e h
   of-place (Some (place.AtPort side port)) there bytes e h = absurd (there (place.AtPort side port) refl)
+  of-place (Some (place.Left side port)) there bytes e h = absurd (there (place.Left side port) refl)
   of-place (Some (place.AtNamed side name port)) there bytes e h =
       claimed (Some (place.AtNamed side name port)) bytes e h
   of-place (Some (place.AtSwitch side k None)) there bytes e h =

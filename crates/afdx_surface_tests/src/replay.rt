@@ -162,6 +162,7 @@ fn number_in(fault: RecordingFault) -> Option<u64> {
         RecordingFault::TimeBack(n) => Some(n),
         RecordingFault::TimeTooLarge(n) => Some(n),
         RecordingFault::Packed => None,
+        RecordingFault::Lossy(n) => Some(n),
     }
 }
 
@@ -190,6 +191,8 @@ fn number_of(fault: &RunFault) -> Option<u64> {
         RunFault::Recording(fault) => number_in(*fault),
         RunFault::RecordingOfA(fault) => number_in(*fault),
         RunFault::RecordingOfB(fault) => number_in(*fault),
+        RunFault::RecordingOfCame(fault) => number_in(*fault),
+        RunFault::RecordingOfLeft(fault) => number_in(*fault),
         RunFault::ListOfCame(fault) => line_in(*fault),
         RunFault::ListOfLeft(fault) => line_in(*fault),
         RunFault::TooManyLines | RunFault::Read | RunFault::Write | RunFault::Memory => None,

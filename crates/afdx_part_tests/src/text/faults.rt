@@ -17,7 +17,7 @@ fn told(alloc: Global, fault: &RunFault) -> Vec<u8> {
 }
 
 /// Each fault of a run, what is told of it, and its exit status.
-const FAULTS: [(RunFault, &str, u8); 32] = [
+const FAULTS: [(RunFault, &str, u8); 35] = [
     (RunFault::BadLine(20), "list BadLine 20\n", 3),
     (RunFault::BadHex(1), "list BadHex 1\n", 3),
     (RunFault::TimeBack(2), "list TimeBack 2\n", 3),
@@ -98,6 +98,21 @@ const FAULTS: [(RunFault, &str, u8); 32] = [
     (
         RunFault::RecordingOfA(RecordingFault::Packed),
         "recording Packed A\n",
+        3,
+    ),
+    (
+        RunFault::Recording(RecordingFault::Lossy(37)),
+        "recording Lossy 37\n",
+        3,
+    ),
+    (
+        RunFault::RecordingOfCame(RecordingFault::NoArrival(2)),
+        "recording NoArrival 2 came\n",
+        3,
+    ),
+    (
+        RunFault::RecordingOfLeft(RecordingFault::Ended(1)),
+        "recording Ended 1 left\n",
         3,
     ),
     (

@@ -1,62 +1,96 @@
-use Rattle.std.proofs.Common.{rules, ◌≡◌, List, Err, [], ℕ, subst, sym}
-use Rattle.std.proofs.KnownBytes.{Appends-nil}
+use Rattle.std.proofs.Common.{rules, ◌≡◌, Err, [], subst, sym, ap, ◌∙◌}
 use Rattle.std.specs.Io.KnownBytes.{Appends}
-use Rattle.afdx_inputs.proofs.TwoListsRunLemmas.{memory-answer}
+use Rattle.afdx_lists.specs.Calls.{AppendsFront}
 use Rattle.afdx_lists.specs.declared.fault.RunFault.TheVariants as run
+use Rattle.afdx_recorded.specs.Claims.{ports_of_one}
+use Rattle.afdx_recorded.specs.Tapping.{taps_in}
 use Rattle.afdx_text.specs.ConformLines.{conform_text}
 use Rattle.afdx_text.specs.declared.conform_line.ConformLine.{ConformLine}
-use Rattle.afdx_acceptance.proofs.RanLemmas.{answers-cut, answers-err, answers-ok, both-given}
-use Rattle.afdx_acceptance.proofs.TellingLemmas.{no-text}
+use Rattle.afdx_acceptance.proofs.AddedLemmas.{if-some}
+use Rattle.afdx_acceptance.proofs.RanLemmas.{answers-cut, answers-err, answers-lost, answers-memory, answers-ok, where-known}
 use Rattle.afdx_config.specs.Rows.{Rows}
 use Rattle.afdx_acceptance.specs.Choices.{Choices}
 use Rattle.afdx_acceptance.specs.ChoicesOf.{choices_of}
-use Rattle.afdx_acceptance.specs.Ran.{WritesLines}
-use Rattle.afdx_acceptance.specs.Told.{BeginsLines}
+use Rattle.afdx_acceptance.specs.Ran.{loss_told}
+use Rattle.afdx_acceptance.specs.Told.{TellsItems}
 use Rattle.afdx_acceptance.proofs.run.run_conform.Goals as goal
 
 -- there was no memory
 pub returns-in_err-judging-clause-answer : goal.returns-in_err-judging-clause-answer
 returns-in_err-judging-clause-answer g c =
     let old = g.O.Sink.written c.args.output.now in
-    let stop = memory-answer g.R.Read.remaining c.args.inputs.now (λ items. WritesLines old old)
-    (λ items. WritesLines old old) (λ items. BeginsLines old old)
-    ([], subst (λ (l : List ℕ). Appends old old l) (sym no-text) (Appends-nil old)) in
+    let k : Rows × Choices = (c.args.tables.now, choices_of (g.A.SeenFrames.tapped c.args.options) c.args.choices.now) in
     let e : c.from_residual.result ≡ Err run.Memory = search rules in
-    rw e stop
+    rw e (where-known (g.A.SeenFrames.known c.args.inputs.now) _ (λ bytes known. answers-memory
+    (g.A.SeenFrames.Takes c.args.options (ports_of_one c.args.tables.now) bytes c.args.inputs.now) k c.args.choices.now.is_lossy old
+    (c.starts.ensures.takes c.args.options (ports_of_one c.args.tables.now) bytes c.args.inputs.now c.requires.new known)))
 
-pub run_two_lists-requires-clause-told : goal.run_two_lists-requires-clause-told
-run_two_lists-requires-clause-told g c = (
-  (c.args.tables.now, choices_of c.args.choices.now),
+pub tell_all-requires-clause-told : goal.tell_all-requires-clause-told
+tell_all-requires-clause-told g c = (
+  (c.args.tables.now, choices_of (taps_in c.taps-taps.result) c.args.choices.now),
   c.in_ok-judging.ensures (g.O.Sink.written c.args.output.now),
   λ item. tt,
 )
 
-pub returns-in_err-run_two_lists-clause-answer : goal.returns-in_err-run_two_lists-clause-answer
-returns-in_err-run_two_lists-clause-answer g c =
+pub returns-in_err-count-clause-answer : goal.returns-in_err-count-clause-answer
+returns-in_err-count-clause-answer g c =
     let old = g.O.Sink.written c.args.output.now in
-    let k : Rows × Choices = (c.args.tables.now, choices_of c.args.choices.now) in
-    let e : c.from_residual-in_err-run_two_lists.result ≡ Err c.in_err-run_two_lists.field-0.0 = search rules in
-    rw e (both-given _ _ _ _ (λ came left h. answers-err g.R.Read.remaining k came left c.run_two_lists.new.inputs
-    c.run_two_lists.new.machine old (g.O.Sink.written c.run_two_lists.new.output) c.in_err-run_two_lists.field-0.0 h)
-    (c.in_err-run_two_lists.ensures.answer k (c.in_ok-judging.ensures old) (λ item. tt)))
+    let k : Rows × Choices = (c.args.tables.now, choices_of (g.A.SeenFrames.tapped c.args.options) c.args.choices.now) in
+    let e : c.from_residual-in_err-count.result ≡ Err c.in_err-count.field-0.0 = search rules in
+    rw e (if-some (λ bytes h. answers-err
+    (g.A.SeenFrames.Takes c.args.options (ports_of_one c.args.tables.now) bytes c.tell_all.new.self) k c.args.choices.now.is_lossy
+    c.tell_all.new.machine old (g.O.Sink.written c.tell_all.new.output) c.in_err-count.field-0.0 h)
+    (g.A.SeenFrames.known c.args.inputs.now)
+    (c.in_err-count.ensures.answer k
+    (subst (λ p. TellsItems (c.args.tables.now, choices_of p c.args.choices.now) c.in_ok-judging.judging old old [])
+    c.taps-taps.ensures (c.in_ok-judging.ensures old)) (λ item. tt)))
 
 pub returns-in_err-put-clause-answer : goal.returns-in_err-put-clause-answer
 returns-in_err-put-clause-answer g c =
     let old = g.O.Sink.written c.args.output.now in
-    let k : Rows × Choices = (c.args.tables.now, choices_of c.args.choices.now) in
+    let k : Rows × Choices = (c.args.tables.now, choices_of (g.A.SeenFrames.tapped c.args.options) c.args.choices.now) in
     let e : c.from_residual-in_err-put.result ≡ Err c.in_err-put.field-0.0 = search rules in
-    rw e (both-given _ _ _ _ (λ came left h. answers-cut g.R.Read.remaining k came left c.run_two_lists.new.inputs
-    c.run_two_lists.new.machine old (g.O.Sink.written c.run_two_lists.new.output) (g.O.Sink.written c.put.new.self)
-    c.in_ok-run_two_lists.field-0 c.line.result c.in_err-put.field-0.0 c.in_err-put.ensures.fault c.in_err-put.ensures.front h)
-    (c.in_ok-run_two_lists.ensures.answer k (c.in_ok-judging.ensures old) (λ item. tt)))
+    rw e (if-some (λ bytes h. answers-cut
+    (g.A.SeenFrames.Takes c.args.options (ports_of_one c.args.tables.now) bytes c.tell_all.new.self) k c.args.choices.now.is_lossy
+    c.tell_all.new.machine old (g.O.Sink.written c.tell_all.new.output) (g.O.Sink.written c.put.new.self)
+    c.in_ok-count.count c.totals-totals.result c.in_err-put.field-0.0 c.in_err-put.ensures.fault
+    (c.totals-totals.ensures.written k old (g.O.Sink.written c.tell_all.new.output))
+    (ap (λ n. loss_told c.args.choices.now.is_lossy n) (sym c.lost.ensures) ∙ sym c.loss_told.ensures ∙ c.in_default.is)
+    (subst (λ (l : ConformLine). AppendsFront (g.O.Sink.written c.tell_all.new.output) (g.O.Sink.written c.put.new.self)
+    (conform_text l)) c.line.ensures c.in_err-put.ensures.front) h)
+    (g.A.SeenFrames.known c.args.inputs.now)
+    (c.in_ok-count.ensures.answer k
+    (subst (λ p. TellsItems (c.args.tables.now, choices_of p c.args.choices.now) c.in_ok-judging.judging old old [])
+    c.taps-taps.ensures (c.in_ok-judging.ensures old)) (λ item. tt)))
+
+pub returns-in-Some-clause-answer : goal.returns-in-Some-clause-answer
+returns-in-Some-clause-answer g c =
+    let old = g.O.Sink.written c.args.output.now in
+    let k : Rows × Choices = (c.args.tables.now, choices_of (g.A.SeenFrames.tapped c.args.options) c.args.choices.now) in
+    if-some (λ bytes h. answers-lost
+    (g.A.SeenFrames.Takes c.args.options (ports_of_one c.args.tables.now) bytes c.tell_all.new.self) k c.args.choices.now.is_lossy
+    c.tell_all.new.machine old (g.O.Sink.written c.tell_all.new.output)
+    c.in_ok-count.count c.totals-totals.result c.in-Some.fault
+    (c.totals-totals.ensures.written k old (g.O.Sink.written c.tell_all.new.output))
+    (ap (λ n. loss_told c.args.choices.now.is_lossy n) (sym c.lost.ensures) ∙ sym c.loss_told.ensures ∙ c.in-Some.is) h)
+    (g.A.SeenFrames.known c.args.inputs.now)
+    (c.in_ok-count.ensures.answer k
+    (subst (λ p. TellsItems (c.args.tables.now, choices_of p c.args.choices.now) c.in_ok-judging.judging old old [])
+    c.taps-taps.ensures (c.in_ok-judging.ensures old)) (λ item. tt))
 
 pub returns-clause-answer : goal.returns-clause-answer
 returns-clause-answer g c =
     let old = g.O.Sink.written c.args.output.now in
-    let k : Rows × Choices = (c.args.tables.now, choices_of c.args.choices.now) in
-    both-given _ _ _ _ (λ came left h. answers-ok g.R.Read.remaining k came left c.run_two_lists.new.inputs
-    c.run_two_lists.new.machine old (g.O.Sink.written c.run_two_lists.new.output) (g.O.Sink.written c.put.new.self)
-    _ c.totals-totals.result (c.totals-totals.ensures.written k old (g.O.Sink.written c.run_two_lists.new.output))
-    (subst (λ (l : ConformLine). Appends (g.O.Sink.written c.run_two_lists.new.output) (g.O.Sink.written c.put.new.self)
+    let k : Rows × Choices = (c.args.tables.now, choices_of (g.A.SeenFrames.tapped c.args.options) c.args.choices.now) in
+    if-some (λ bytes h. answers-ok
+    (g.A.SeenFrames.Takes c.args.options (ports_of_one c.args.tables.now) bytes c.tell_all.new.self) k c.args.choices.now.is_lossy
+    c.tell_all.new.machine old (g.O.Sink.written c.tell_all.new.output) (g.O.Sink.written c.put.new.self)
+    c.in_ok-count.count c.totals-totals.result
+    (c.totals-totals.ensures.written k old (g.O.Sink.written c.tell_all.new.output))
+    (ap (λ n. loss_told c.args.choices.now.is_lossy n) (sym c.lost.ensures) ∙ sym c.loss_told.ensures ∙ c.in_default.is)
+    (subst (λ (l : ConformLine). Appends (g.O.Sink.written c.tell_all.new.output) (g.O.Sink.written c.put.new.self)
     (conform_text l)) c.line.ensures c.in_ok-put.ensures.whole) h)
-    (c.in_ok-run_two_lists.ensures.answer k (c.in_ok-judging.ensures old) (λ item. tt))
+    (g.A.SeenFrames.known c.args.inputs.now)
+    (c.in_ok-count.ensures.answer k
+    (subst (λ p. TellsItems (c.args.tables.now, choices_of p c.args.choices.now) c.in_ok-judging.judging old old [])
+    c.taps-taps.ensures (c.in_ok-judging.ensures old)) (λ item. tt))

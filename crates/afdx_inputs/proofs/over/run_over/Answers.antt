@@ -84,3 +84,9 @@ returns-clause-answer g c law first can =
     (c.stays.ensures source c.args.source.now c.in_ok-drive.ensures.settings) c.requires.set
     (g.S.Reads.counted source) (λ bytes e set. c.takes.ensures start input source bytes e set)
     c.tally.result c.tally.ensures (c.in_ok-drive.ensures.answer law first can)
+
+pub returns-clause-whole : goal.returns-clause-whole
+returns-clause-whole g c =
+    let h = c.in_ok-drive.ensures.answer c.requires.told.0 c.requires.told.1
+    c.requires.told.2 in
+    (h.0, h.1)

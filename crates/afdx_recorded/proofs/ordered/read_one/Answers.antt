@@ -1,4 +1,5 @@
-use Rattle.std.proofs.Common.{rules}
+use Rattle.std.proofs.Common.{rules, inl, inr, sym, ◌∙◌, subst}
+use Rattle.afdx_recorded.proofs.FaultLemmas.{is-other, is-recorded}
 use Rattle.afdx_recorded.proofs.StepLemmas.{is-reading, took-one, took-none, ends, stops}
 use Rattle.afdx_recorded.proofs.StepLemmas.{took-less, took-no-more, took-step, ends-less}
 use Rattle.afdx_recorded.proofs.ordered.read_one.Goals as goal
@@ -54,15 +55,34 @@ returns-in-Ok-Ended-clause-none g c start past h ok =
 pub returns-in-Ok-Ended-clause-no_more : goal.returns-in-Ok-Ended-clause-no_more
 returns-in-Ok-Ended-clause-no_more g c ok = ends-less g.S.Source.left_of c.args.ordered.now c.requires.reading
 
-pub returns-in-Err-Recording-clause-none : goal.returns-in-Err-Recording-clause-none
-returns-in-Err-Recording-clause-none g c start past h ok =
+-- a fault of the recording
+pub returns-in-Ok-clause-none : goal.returns-in-Ok-clause-none
+returns-in-Ok-clause-none g c start past h ok =
     let S = g.S.Source in
     let old = c.args.ordered.now in
     let r = is-reading S.current S.Gave S.Ended S.Stopped start old c.args.input.now past c.requires.reading h in
+    let is = is-recorded c.in-Err.fault c.in-Ok.fault
+    (sym c.recorded_fault.ensures ∙ c.in-Ok.is) in
     stops S.current S.Gave S.Ended S.Stopped start
     (record old { source = c.next.new.self }) c.next.new.input past r.read
-    r.are_forward r.latest r.are_held c.in-Err-Recording.fault
-    (rw c.in-Err-Recording.field-0-is at c.in-Err-Recording.ensures.stop start r.read r.gave_them)
+    r.are_forward r.latest r.are_held c.in-Ok.fault
+    (rw is at c.in-Err.ensures.stop start r.read r.gave_them)
 
-pub returns-in-Err-Recording-clause-no_more : goal.returns-in-Err-Recording-clause-no_more
-returns-in-Err-Recording-clause-no_more g c ok = ends-less g.S.Source.left_of c.args.ordered.now c.requires.reading
+pub returns-in-Ok-clause-no_more : goal.returns-in-Ok-clause-no_more
+returns-in-Ok-clause-no_more g c ok = ends-less g.S.Source.left_of c.args.ordered.now c.requires.reading
+
+-- another one
+pub returns-in-Err-recorded_fault-clause-stop : goal.returns-in-Err-recorded_fault-clause-stop
+returns-in-Err-recorded_fault-clause-stop g c start past h =
+    let S = g.S.Source in
+    let old = c.args.ordered.now in
+    let r = is-reading S.current S.Gave S.Ended S.Stopped start old c.args.input.now past c.requires.reading h in
+    let is = is-other c.in-Err.fault c.in-Err-recorded_fault.other (sym c.recorded_fault.ensures ∙ c.in-Err-recorded_fault.is) in
+    inr (inl (record {
+      read = r.read;
+      are_forward = r.are_forward;
+      other = is.1;
+      stopped_so = subst (λ f. S.Stopped start c.next.new.self c.next.new.input r.read f) is.0
+          (c.in-Err.ensures.stop start r.read r.gave_them);
+      known = r.are_held.handed;
+    }))

@@ -1,4 +1,4 @@
-use Rattle.std.proofs.Common.{true, ◌∷◌, ◌≡◌, ℕ, None, Some, get_or, refl, sym, ap, ◌∙◌, subst, arith}
+use Rattle.std.proofs.Common.{true, false, ◌&&◌, ◌∷◌, ◌≡◌, ℕ, None, Some, get_or, refl, sym, ap, ◌∙◌, subst, arith}
 use Rattle.std.proofs.lemmas.Option.{slice_get-get_or}
 use Rattle.std.specs.Prelude.{is_some}
 use Rattle.afdx_bounds.specs.Tables.{port_of}
@@ -7,6 +7,8 @@ use Rattle.afdx_police.specs.Arrival.{Arrival, arrival_with}
 use Rattle.afdx_police.specs.Shape.{fault_of}
 use Rattle.afdx_lists.specs.declared.role.Role.TheVariants.{Left}
 use Rattle.afdx_text.specs.declared.conform_line.ConformLine.TheVariants.{Strange}
+use Rattle.afdx_acceptance.specs.Choices.{counts}
+use Rattle.afdx_acceptance.specs.Tapped.{Taps, is_heard, is_judged}
 use Rattle.afdx_acceptance.specs.Frames.{frame_with, gone_of, is_stranger, place_named}
 use Rattle.afdx_acceptance.specs.Keeping.{AreKept, given_of, with_left, with_strange}
 use Rattle.afdx_acceptance.specs.Keys.{key_with}
@@ -14,9 +16,35 @@ use Rattle.afdx_acceptance.specs.Lines.{due_at, stranger_by, stranger_reason}
 use Rattle.afdx_acceptance.specs.Standing.{StreamsStand, streams_with}
 use Rattle.afdx_acceptance.specs.declared.key.Key.{Key}
 use Rattle.afdx_acceptance.proofs.AddedLemmas.{on-ok}
-use Rattle.afdx_acceptance.proofs.GivenLemmas.{blank, falling-more, left-times, strange-times, stranger-no, stranger-none}
-use Rattle.afdx_acceptance.proofs.JoinLemmas.{counted-behind, join-left, join-strange, left-few, left-start, place-is}
+use Rattle.afdx_acceptance.proofs.GivenLemmas.{and-false, blank, falling-more, left-times, strange-times, stranger-no, stranger-none}
+use Rattle.afdx_acceptance.proofs.JoinLemmas.{counted-behind, heard-as, join-left, join-strange, join-unseen, left-few, left-start, place-is}
 use Rattle.afdx_acceptance.proofs.streams.Streams.left.Goals as goal
+
+pub returns-then-not-is_tapped-clause-stands : goal.returns-then-not-is_tapped-clause-stands
+returns-then-not-is_tapped-clause-stands c t c' until time frames lines vl e le behind few running stand =
+    let r : Rows = c.args.self.now.tables.now in
+    let h = c.args.heading.now in
+    let a : Arrival = arrival_with c.args.n h.time h.side h.port c.args.bytes.items in
+    let link : ℕ = c.in-Some.link in
+    let mine : StreamsStand r c' until frames lines time c.args.self.now =
+    subst (λ (x : Rows). StreamsStand x c' until frames lines time c.args.self.now) (sym stand.tables) stand in
+    let named : place_named r a.bytes ≡ Some link =
+    sym (place-is r a.bytes c.args.vl vl) ∙ sym c.link_named-named.ensures.place ∙ c.in-Some.ensures.link.0 in
+    let l : LinkRow = get_or r.links link blank in
+    let at = slice_get-get_or r.links link blank c.in-Some.ensures.link.1 in
+    let to = c.in-Some.ensures.to l at in
+    let unseen : c'.taps Left h.side h.port ≡ false =
+    ap (λ (p : Taps). p Left h.side h.port) (sym stand.taps) ∙ sym c.is_tapped.ensures ∙ c.if-not-is_tapped.true in
+    subst (λ (x : Rows). StreamsStand x c' until (frame_with Left a ∷ frames) lines time c.args.self.now) stand.tables (record {
+      lawful = mine.lawful;
+      tables = refl;
+      by = mine.by;
+      taps = mine.taps;
+      kept = join-unseen r c' until c.args.self.now.ended time frames lines c.args.self.now.kept mine.lawful a link l
+          (subst (λ (x : Rows). counts x c' (frame_with Left a) ≡ true) (sym stand.tables) e) named to.0
+          (stranger-no r a link l named to.0)
+          (ap (λ v. is_heard r c'.taps h.side l && v) unseen ∙ and-false (is_heard r c'.taps h.side l)) mine.kept;
+    })
 
 pub returns-in-Some-clause-stands : goal.returns-in-Some-clause-stands
 returns-in-Some-clause-stands c t c' until time frames lines vl e le behind few running stand =
@@ -35,19 +63,26 @@ returns-in-Some-clause-stands c t c' until time frames lines vl e le behind few 
     let old : AreKept r c' until None time (given_of r c' frames) lines c.args.self.now.kept =
     subst (λ o. AreKept r c' until o time (given_of r c' frames) lines c.args.self.now.kept) running mine.kept in
     let n = left-few r c' frames key in
+    let mine-e : counts r c' (frame_with Left a) ≡ true =
+    subst (λ (x : Rows). counts x c' (frame_with Left a) ≡ true) (sym stand.tables) e in
+    let sees : c'.taps Left h.side h.port ≡ true =
+    ap (λ (p : Taps). p Left h.side h.port) (sym stand.taps) ∙ sym c.is_tapped.ensures ∙ c.if-not-is_tapped.false in
+    let judges : is_judged r c'.taps h.side l h.port ≡ true =
+    ap (λ v. v && c'.taps Left h.side h.port) (heard-as r c' a link l mine-e named at) ∙ sees in
     on-ok (λ k. subst (λ (x : Rows). StreamsStand x c' until (frame_with Left a ∷ frames) lines time
     (streams_with c.args.self.now c.leave_to.new.kept)) stand.tables (record {
       lawful = mine.lawful;
       tables = refl;
       by = mine.by;
+      taps = mine.taps;
       kept = subst (λ o. AreKept r c' until o time (given_of r c' (frame_with Left a ∷ frames)) lines c.leave_to.new.kept) (sym running)
-          (join-left r c' until None time frames lines c.leave_to.new.kept mine.lawful a link l e named to.0
-          (stranger-no r a link l named to.0) old.falling
+          (join-left r c' until None time frames lines c.leave_to.new.kept mine.lawful a link l mine-e named to.0
+          (stranger-no r a link l named to.0) judges old.falling
           (subst (λ p. AreKept r c' until None time (with_left (key_with h.side p (Some link)) (gone_of a) (given_of r c' frames)) lines
           c.leave_to.new.kept) to.1 k));
     })) c.leave_to.result
-    (c.leave_to.ensures c' until time (given_of r c' frames) lines l at to.2 mine.by le (left-start c' a e)
-    (left-times r c' frames h.time (counted-behind c' frames h.time behind) key) (omega (arith, n, few)) old)
+    (c.leave_to.ensures c' until time (given_of r c' frames) lines l at to.2 mine.by le (left-start r c' a mine-e)
+    (left-times r c' frames h.time (counted-behind r c' frames h.time behind) key) (omega (arith, n, few)) old)
 
 pub returns-clause-stands : goal.returns-clause-stands
 returns-clause-stands c t c' until time frames lines vl e le behind few running stand =
@@ -65,15 +100,17 @@ returns-clause-stands c t c' until time frames lines vl e le behind few running 
     ∙ ap (λ b. stranger_by (is_some (place_named r a.bytes)) (fault_of None 0 b)) c.as_slice.ensures.value in
     let old : AreKept r c' until None time (given_of r c' frames) lines c.args.self.now.kept =
     subst (λ o. AreKept r c' until o time (given_of r c' frames) lines c.args.self.now.kept) running mine.kept in
-    let all = counted-behind c' frames h.time behind in
+    let all = counted-behind r c' frames h.time behind in
     on-ok (λ k. subst (λ (x : Rows). StreamsStand x c' until (frame_with Left a ∷ frames) lines time
     (streams_with c.args.self.now c.leave_strange.new.kept)) stand.tables (record {
       lawful = mine.lawful;
       tables = refl;
       by = mine.by;
+      taps = mine.taps;
       kept = subst (λ o. AreKept r c' until o time (given_of r c'
           (frame_with Left a ∷ frames)) lines c.leave_strange.new.kept) (sym running)
-          (join-strange r c' until None time frames lines c.leave_strange.new.kept mine.lawful a e strange all old.falling
+          (join-strange r c' until None time frames lines c.leave_strange.new.kept mine.lawful a (subst (λ
+          (x : Rows). counts x c' (frame_with Left a) ≡ true) (sym stand.tables) e) strange all old.falling
           (subst (λ w. AreKept r c' until None time (with_strange key (due_at key h.time
           (Strange c.args.n h.side h.port w)) (given_of r c' frames))
           lines c.leave_strange.new.kept) why k));

@@ -3,10 +3,11 @@ use Rattle.afdx_acceptance.proofs.GivenLemmas.{given-none}
 use Rattle.afdx_acceptance.proofs.streams.Streams.new.Goals as goal
 
 pub returns-clause-stands : goal.returns-clause-stands
-returns-clause-stands c c' until by = record {
+returns-clause-stands c c' until by taps = record {
   lawful = c.link_count.ensures.lawful;
   tables = refl;
   by = by;
+  taps = taps;
   kept = given-none c.args.tables.now c' until c.in_ok-new.field-0
       (c.in_ok-new.ensures c.args.tables.now c' until 0 (ap (λ n. 512 + 64 * n) c.link_count.ensures.count));
 }

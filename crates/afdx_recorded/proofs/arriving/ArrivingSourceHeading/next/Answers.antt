@@ -12,7 +12,7 @@ returns-in-Arrival-clause-item g c start past h ok =
     let k = c.loop-kind.invariant.gave start past h in
     let item = c.in_ok-next.ensures.item start k.lines k.known_so (search rules) in
     let x = g.S.Source.current c.next.new.self in
-    let given = arrival-given x k.lines c.in-Arrival.kind c.in-Arrival.time c.in-Arrival.side
+    let given = arrival-given x k.lines c.in-Arrival.kind c.in-Arrival.time _ c.in-Arrival.side
     c.in-Arrival.switch c.in-Arrival.port c.has_own-own.result c.seal_by.result (sym c.head.ensures ∙ c.in-Arrival.is)
     (rw c.bytes.ensures at c.has_own-own.ensures) c.seal_by.ensures
     (g.S.Source.Gave start c.next.new.self c.next.new.input) past k.items_are item.0 item.1 in (
