@@ -99,8 +99,10 @@ _afdx_takes() { # COMMAND : its options, and those that take a value
             ;;
         'afdx conform')
             options=(--slack --drift --inner --asked --from --until --leave-out --switch \
-                --explain --line-buffered --progress --summary --help)
-            valued=(--slack --drift --inner --asked --from --until --leave-out --switch)
+                --interface --left --fcs --reorder --stamps --lossy --explain --line-buffered \
+                --progress --summary --help)
+            valued=(--slack --drift --inner --asked --from --until --leave-out --switch \
+                --interface --left --fcs --reorder --stamps)
             ;;
         'afdx explain')
             options=(--list --help)
@@ -179,6 +181,8 @@ _afdx_takes() { # COMMAND : its options, and those that take a value
 
 _afdx_value() { # COMMAND OPTION, in one word
     case $1 in
+        'afdx conform --fcs') _afdx_words yes no ;;
+        'afdx conform --stamps') _afdx_words end start start-end end-start ;;
         'afdx list --fcs') _afdx_words yes no ;;
         'afdx list --stamps') _afdx_words end start ;;
         'afdx police --policing') _afdx_words byte frame ;;
@@ -234,8 +238,8 @@ _afdx_place() { # COMMAND NUMBER, in one word : the word of that number, from 0
     case $1 in
         'afdx check '0) _afdx_files toml ;;
         'afdx conform '0) _afdx_files toml ;;
-        'afdx conform '1) _afdx_files list ;;
-        'afdx conform '2) _afdx_files list ;;
+        'afdx conform '1) _afdx_files list pcap pcapng ;;
+        'afdx conform '2) _afdx_files list pcap pcapng ;;
         'afdx list '0) _afdx_files toml ;;
         'afdx list '1) _afdx_files pcap pcapng ;;
         'afdx list '2) _afdx_files pcap pcapng ;;

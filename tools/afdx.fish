@@ -48,9 +48,9 @@ end
 
 # printed by bin/pages
 set -g __afdx_valued --slack --drift --inner --asked --from --until --leave-out --switch \
-    --interface --fcs --origin --reorder --stamps --vl --port --lmin --policing --keep --out -j \
-    --jobs -S --sshlogin --taps --fail-on --junit --config -o --split --side --cables --profile \
-    --reserve --since --link --rows --worst --compare --title --cover --seconds --seed
+    --interface --left --fcs --reorder --stamps --origin --vl --port --lmin --policing --keep \
+    --out -j --jobs -S --sshlogin --taps --fail-on --junit --config -o --split --side --cables \
+    --profile --reserve --since --link --rows --worst --compare --title --cover --seconds --seed
 
 complete -c afdx -f
 complete -c afdx -n '__afdx_at - 0 0' -l help -d 'Print help and leave'
@@ -77,17 +77,27 @@ complete -c afdx -n '__afdx_in conform' -x -l from -d 'There was traffic before 
 complete -c afdx -n '__afdx_in conform' -x -l until -d 'The end of the recordings, in ns'
 complete -c afdx -n '__afdx_in conform' -x -l leave-out -d 'The link'
 complete -c afdx -n '__afdx_in conform' -x -l switch -d 'The name of the switch that is judged'
+complete -c afdx -n '__afdx_in conform' -x -l interface \
+    -d 'Where the frames of interface K came in'
+complete -c afdx -n '__afdx_in conform' -x -l left -d 'Where the frames of interface K left'
+complete -c afdx -n '__afdx_in conform' -x -l fcs -a 'yes no' \
+    -d 'Whether each recorded frame ends with its check sequence'
+complete -c afdx -n '__afdx_in conform' -x -l reorder \
+    -d 'By how many frames times of a recording may go back'
+complete -c afdx -n '__afdx_in conform' -x -l stamps -a 'end start start-end end-start' \
+    -d 'Whether recorders stamp the end of a frame'
+complete -c afdx -n '__afdx_in conform' -l lossy \
+    -d 'Gives the last line though a recorder lost frames by its own word'
 complete -c afdx -n '__afdx_in conform' -l explain -a 'auto always never' \
     -d 'When a fault is explained, behind its one line'
 complete -c afdx -n '__afdx_in conform' -l line-buffered \
     -d 'Hands the text of each line over at once'
 complete -c afdx -n '__afdx_in conform' -l progress -d 'Says after two seconds how much was read'
-complete -c afdx -n '__afdx_in conform' -l summary \
-    -d 'Prints the counts of the run on standard error'
+complete -c afdx -n '__afdx_in conform' -l summary -d 'Prints behind the last line'
 complete -c afdx -n '__afdx_in conform' -l help -d 'Print help'
 complete -c afdx -n '__afdx_at conform 0 0' -a '(__afdx_files toml)'
-complete -c afdx -n '__afdx_at conform 1 1' -a '(__afdx_files list)'
-complete -c afdx -n '__afdx_at conform 2 2' -a '(__afdx_files list)'
+complete -c afdx -n '__afdx_at conform 1 1' -a '(__afdx_files list pcap pcapng)'
+complete -c afdx -n '__afdx_at conform 2 2' -a '(__afdx_files list pcap pcapng)'
 complete -c afdx -n '__afdx_at - 0 0' -a explain \
     -d 'Says in plain words what a line of the program means'
 complete -c afdx -n '__afdx_in explain' -l list -d 'Prints each word and each form of a line'

@@ -53,14 +53,20 @@ _afdx_takes() { # COMMAND
             '--until[The end of the recordings, in ns]:ns:' \
             '*--leave-out[The link]:vl:' \
             '--switch[The name of the switch that is judged]:name:' \
+            '*--interface[Where the frames of interface K came in]:k=place:' \
+            '*--left[Where the frames of interface K left]:k=place:' \
+            '--fcs[Whether each recorded frame ends with its check sequence]: :(yes no)' \
+            '--reorder[By how many frames times of a recording may go back]:n:' \
+            '--stamps[Whether recorders stamp the end of a frame]: :(end start start-end end-start)' \
+            '--lossy[Gives the last line though a recorder lost frames by its own word]' \
             '--explain=-[When a fault is explained, behind its one line]:: :(auto always never)' \
             '--line-buffered[Hands the text of each line over at once]' \
             '--progress[Says after two seconds how much was read]' \
-            '--summary[Prints the counts of the run on standard error]' \
+            '--summary[Prints behind the last line]' \
             $help \
             ':config:_files -g "*.toml(-.)"' \
-            ':came:_files -g "*.list(-.)"' \
-            ':left:_files -g "*.list(-.)"'
+            ':came:_files -g "*.(list|pcap|pcapng)(-.)"' \
+            '::left:_files -g "*.(list|pcap|pcapng)(-.)"'
         ;;
     'afdx explain')
         _arguments '--list[Prints each word and each form of a line]' \

@@ -25,7 +25,7 @@ KINDS: dict[str, Kind] = {
     "MESSAGES.csv": ("files", "csv"), "CABLES.csv": ("files", "csv"), "TAPS": ("files", "csv"),
     "RECORDING": ("files", *PCAPS),
     "LIST": ("files", *LISTS, *PCAPS), "SUBMISSIONS": ("files", *LISTS, "messages"),
-    "CAME": ("files", *LISTS), "LEFT": ("files", *LISTS),
+    "CAME": ("files", *LISTS, *PCAPS), "LEFT": ("files", *LISTS, *PCAPS),
     "DIR": ("folders",), "FOLDER": ("folders",), "SYSTEM": ("systems",),
     "BAG_MS": ("words", "1", "2", "4", "8", "16", "32", "64", "128"),
     "--taps": ("files", "csv"), "--cover": ("files", "toml"), "--junit": ("files", "xml"),
@@ -33,7 +33,8 @@ KINDS: dict[str, Kind] = {
     "--keep": ("words", "jitter", "buffer", "latency", "skew"),
     "afdx list LIST": ("files", *PCAPS), "afdx-capture pcap LIST": ("files", *LISTS),
 }
-SEVERAL = ("--interface", "--leave-out", "--sshlogin", "--link")  # may be given more than once
+# may be given more than once
+SEVERAL = ("--interface", "--left", "--leave-out", "--sshlogin", "--link")
 COMMAS = ("--keep", "--fail-on")  # take several words, with commas between
 LONGEST = 50  # letters of a text that is shown whole
 

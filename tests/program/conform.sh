@@ -119,7 +119,8 @@ for word in CONFIG CAME LEFT --slack --drift --inner --asked --from --until --le
     text_case "help of conform tells of $word" 0 out "$word" conform --help
 done
 text_case 'conform in the help' 0 out conform --help
-text_case 'conform without LEFT' 2 err LEFT conform "$rules" - # a recording may do later
+case_of 'conform without LEFT, and without interfaces' 2 '' $'words BadInterface\n' \
+    conform "$rules" -
 text_case 'a third list is too many for conform' 2 err third conform "$rules" one two third
 for word in --slack=x --drift=-1 --inner= --asked=1e3 --from=0x1 --until=99999999999999999999999 \
     --jitter=1; do

@@ -56,19 +56,23 @@ for line in ' ' 'config' 'config Twice link 1 key 7' 'config Missing link x key 
     case_of "no line of the program: '$line'" 2 '' $'words UnknownText\n' explain "$line"
 done
 for line in 'recording Ended 4 C' 'recording Ended 4 A B' 'recording Ended A' 'recording Ended 4A' \
-    'recording Ended 4  A' ' A' 'list BadHex 1 A'; do
+    'recording Ended 4  A' ' A' 'list BadHex 1 A' 'recording Ended 4 gone' 'recording Ended came' \
+    'recording Ended 4 came A' 'recording Ended 4 A left' 'recording Ended 4left' ' came'; do
     case_of "no line of two recordings: '$line'" 2 '' $'words UnknownText\n' explain "$line"
 done
 tell 'a fault is explained alike for each of two recordings' "$(
     meant=$("$program" explain recording Damaged 4)
-    for side in A B; do
-        [[ $("$program" explain recording Damaged 4 $side) == "$meant" ]] || echo "not for $side"
+    for which in A B came left; do
+        [[ $("$program" explain recording Damaged 4 $which) == "$meant" ]] || echo "not for $which"
     done
 )"
 for name in OutOfRange 'config OutOfRange' TooManyLines BadHex 'list BadHex' 'recording Cut' \
     NotToml NotText 'device Read' Config; do
     text_case "the name of a fault: '$name'" 0 out ' ' explain "$name"
 done
+text_case 'frames that a recorder lost' 0 out '--lossy' explain recording Lossy 37
+text_case 'of frames that a recorder lost, what was judged' 0 out 'All frames' \
+    explain recording Lossy 37
 text_case 'a name of two faults' 0 out "'recording TimeBack'" explain TimeBack
 text_case 'the other fault of this name' 0 out 'arrivals in front' explain recording TimeBack
 text_case 'help of explain' 0 out 'afdx explain over-rate' explain --help

@@ -96,6 +96,9 @@ def wanted_lines(rows: list[Row]) -> Wanted:
     wanted += [(line.replace("list ", f"list {role} "), [row.text]) for role in ("came", "left")
                for row in of_kind(rows, "fault") if row.word.startswith("list ")
                for line in examples_of(row.word)]
+    wanted += [(f"{line} {which}", [row.text]) for which in ("A", "B", "came", "left")
+               for row in of_kind(rows, "fault") if row.word.startswith("recording ")
+               for line in examples_of(row.word)]
     wanted += [(f"X 6720 s3 2 {row.word}", [row.text]) for row in of_kind(rows, "unread")]
     wanted += [(f"# 7 {row.word}", [row.text, "was refused"]) for row in of_kind(rows, "refusal")]
     wanted += [(f"# {row.word} 7", [row.text]) for row in of_kind(rows, "skipped")]

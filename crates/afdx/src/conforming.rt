@@ -1,59 +1,151 @@
 //! The command `conform`: its devices, and how it ends.
 
-use crate::devices::{Heard, Input, Traced};
+use crate::devices::{Heard, Input, Traced, name_of_input};
+use crate::explain_if_asked;
+use crate::explaining::Cause;
 use crate::progress::{Cleared, Count, Counted, is_told};
-use crate::running::{cause_in, end_run, open, output_room, refuse};
+use crate::running::{cause_in, open, output_room, refuse};
 use crate::telling::{error_lines, memory};
-use afdx_acceptance::{ByRole, Choices, Leeway, conform};
+use afdx_acceptance::{ByRole, Choices, Judged, Leeway, conform};
+use afdx_commands::status::DONE;
 use afdx_frame::BySide;
-use afdx_replay::{Ended, InputEnded, Output, Watched};
-use afdx_words::{Refused, STANDARD_INPUT, conform_options};
+use afdx_inputs::{AsLists, SeenCount};
+use afdx_replay::{Output, RunFault, Tally, Watched, finish};
+use afdx_text::{WholeLines, tell_fault};
+use afdx_words::{Refused, STANDARD_INPUT, conform_options, seen_options, seen_pair_options};
 use clap::ArgMatches;
 use std::alloc::Global;
+use std::io;
+use std::io::Write;
 
-/// What the words ask for, if their numbers are in range and the lists are two.
-fn choices_in(
-    alloc: Global,
-    matches: &ArgMatches<'_>,
-    lists: &ByRole<&str>,
-) -> Result<Choices, Refused> {
+/// What the words ask for, if their numbers are in range.
+fn choices_in(alloc: Global, matches: &ArgMatches<'_>) -> Result<Choices, Refused> {
     let said = conform_options(alloc, matches)?;
     let Some(leeway) = Leeway::new(said.slack, said.drift, said.inner, said.asked, said.from) else {
         return Err(Refused::BadNumber);
     };
-    let Some(choices) = Choices::new(leeway, said.until, said.left_out) else {
+    let Some(choices) = Choices::new(leeway, said.until, said.left_out, said.is_lossy) else {
         return Err(Refused::BadNumber);
     };
-    if lists.came == STANDARD_INPUT && lists.left == STANDARD_INPUT {
+    Ok(choices)
+}
+
+/// The same, if the inputs are two.
+fn choices_of_two(
+    alloc: Global,
+    matches: &ArgMatches<'_>,
+    words: &ByRole<&str>,
+) -> Result<Choices, Refused> {
+    let choices = choices_in(alloc, matches)?;
+    if words.came == STANDARD_INPUT && words.left == STANDARD_INPUT {
         return Err(Refused::SameInput);
     }
     Ok(choices)
 }
 
-/// How a run ended that counts nothing.
-fn ended_with(status: u8) -> InputEnded {
-    InputEnded {
-        ended: Ended {
-            status,
-            summary: None,
-        },
-        tally: None,
+/// What words say, or the status where they are refused.
+fn taken<T>(rt: &HostRuntime, matches: &ArgMatches<'_>, said: Result<T, Refused>) -> Result<T, u8> {
+    match said {
+        Ok(said) => Ok(said),
+        Err(refused) => Err(refuse(rt, matches, refused)),
     }
 }
 
-/// Judges a switch by what two inputs give, which these words name, and hands all lines to standard
-/// output.
-fn judge(
+/// Writes how much of each recording was left out, a line for each.
+fn write_skipped<W: Write>(count: SeenCount, device: &mut W) -> io::Result<()> {
+    match count {
+        SeenCount::Lists(_) => Ok(()),
+        SeenCount::Recorded(tally) => writeln!(device, "{tally}"),
+        SeenCount::Both(tallies) => {
+            writeln!(device, "{}", tallies.came)?;
+            writeln!(device, "{}", tallies.left)
+        }
+    }
+}
+
+/// Ends the command: hands over what its output still holds and, if that is asked for, how much of
+/// each recording was left out, explains its fault, and gives the exit status. `read` says why
+/// reading failed, if it did.
+fn end_judged<W: Write + Drop, E: Write + Drop>(
+    rt: &HostRuntime,
+    matches: &ArgMatches<'_>,
+    judged: Judged,
+    read: Cause<'_>,
+    mut output: Output<Traced<W>>,
+    mut errors: Watched<Heard<Cleared<'_, E>>>,
+) -> u8 {
+    let mut status = finish(judged.status, &mut output, &mut errors);
+    let is_told = !output.failed() && matches.get_flag("summary");
+    let mut device = WholeLines::new(output.into_device());
+    if let Some(count) = judged.count
+        && is_told
+        && write_skipped(count, &mut device).is_err()
+        && status == DONE
+    {
+        tell_fault(&mut errors, &RunFault::Write);
+        status = RunFault::Write.status();
+    }
+    let written = device.into_device().reason();
+    let cause = Cause {
+        config: read.config,
+        path: read.path,
+        reason: read.reason.or(written),
+    };
+    let mut errors = errors.into_inner();
+    errors.device_mut().notice_mut().clear();
+    explain_if_asked(rt, matches, errors.line(), &cause);
+    status
+}
+
+/// Judges a switch by one recording of what came and what left.
+fn judge_one(
     rt: &HostRuntime,
     matches: &ArgMatches<'_>,
     config: &[u8],
-    choices: &Choices,
-    lists: ByRole<&str>,
-    inputs: ByRole<Input>,
-) -> u8 {
+    word: &str,
+    input: Input,
+) -> Result<u8, u8> {
+    let options = taken(rt, matches, seen_options(rt.alloc(), matches))?;
+    let choices = taken(rt, matches, choices_in(rt.alloc(), matches))?;
     let device = Traced::new(rt.stdout());
     let Ok(mut output) = Output::new(rt.alloc(), output_room(rt, matches), device) else {
-        return memory(rt);
+        return Err(memory(rt));
+    };
+    let told = is_told(rt, matches);
+    let count = Count::new(rt, told);
+    let mut input = Watched::new(Traced::new(Counted::new(&count, input)));
+    let mut errors = Watched::new(Heard::new(Cleared::new(rt, told, error_lines(rt))));
+    let judged = conform(
+        rt.alloc(),
+        &choices,
+        matches.get_str("switch"),
+        options,
+        config,
+        &mut input,
+        &mut output,
+        &mut errors,
+    );
+    let read = Cause {
+        config,
+        path: name_of_input(word),
+        reason: input.into_inner().reason(),
+    };
+    Ok(end_judged(rt, matches, judged, read, output, errors))
+}
+
+/// Judges a switch by two inputs, of what came and of what left: two lists or two recordings.
+fn judge_two(
+    rt: &HostRuntime,
+    matches: &ArgMatches<'_>,
+    config: &[u8],
+    words: ByRole<&str>,
+    inputs: ByRole<Input>,
+) -> Result<u8, u8> {
+    let options = taken(rt, matches, seen_pair_options(rt.alloc(), matches))?;
+    let choices = taken(rt, matches, choices_of_two(rt.alloc(), matches, &words))?;
+    let device = Traced::new(rt.stdout());
+    let Ok(mut output) = Output::new(rt.alloc(), output_room(rt, matches), device) else {
+        return Err(memory(rt));
     };
     let told = is_told(rt, matches);
     let count = Count::new(rt, told);
@@ -62,41 +154,39 @@ fn judge(
         left: Watched::new(Traced::new(Counted::new(&count, inputs.left))),
     };
     let mut errors = Watched::new(Heard::new(Cleared::new(rt, told, error_lines(rt))));
-    let switch = matches.get_str("switch");
-    let alloc = rt.alloc();
-    let status = conform(
-        alloc,
-        choices,
-        switch,
-        config,
-        &mut inputs,
-        &mut output,
-        &mut errors,
-    );
+    let (alloc, switch) = (rt.alloc(), matches.get_str("switch"));
+    let (ins, outs, faults) = (&mut inputs, &mut output, &mut errors);
+    let judged = match options {
+        None => conform(alloc, &choices, switch, AsLists, config, ins, outs, faults),
+        Some(options) => conform(alloc, &choices, switch, options, config, ins, outs, faults),
+    };
     let names = BySide {
-        a: lists.came,
-        b: lists.left,
+        a: words.came,
+        b: words.left,
     };
     let ByRole { came, left } = inputs;
     let read = cause_in(config, names, BySide { a: came, b: left });
-    end_run(rt, matches, ended_with(status), read, output, errors)
+    Ok(end_judged(rt, matches, judged, read, output, errors))
 }
 
-/// Judges a switch by the lists that the words name. Err: the status where one can't be had, or
-/// where the words are refused.
-pub fn judge_lists(
+/// Judges a switch by the inputs that the words name: one, or two with `left`. Err: the status
+/// where one can't be had, or where the words are refused.
+pub fn judge_inputs(
     rt: &HostRuntime,
     matches: &ArgMatches<'_>,
     config: &[u8],
-    lists: ByRole<&str>,
+    came: &str,
+    left: Option<&str>,
 ) -> Result<u8, u8> {
-    let came = open(rt, matches, lists.came)?;
-    let left = open(rt, matches, lists.left)?;
-    match choices_in(rt.alloc(), matches, &lists) {
-        Ok(choices) => {
-            let inputs = ByRole { came, left };
-            Ok(judge(rt, matches, config, &choices, lists, inputs))
-        }
-        Err(refused) => Err(refuse(rt, matches, refused)),
-    }
+    let input = open(rt, matches, came)?;
+    let Some(left) = left else {
+        return judge_one(rt, matches, config, came, input);
+    };
+    let words = ByRole { came, left };
+    let second = open(rt, matches, left)?;
+    let inputs = ByRole {
+        came: input,
+        left: second,
+    };
+    judge_two(rt, matches, config, words, inputs)
 }

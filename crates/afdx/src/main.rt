@@ -13,12 +13,11 @@ mod searching;
 mod telling;
 
 use crate::configs::{check_config, solve_tables};
-use crate::conforming::judge_lists;
+use crate::conforming::judge_inputs;
 use crate::explaining::{Cause, explain, is_asked, line_of, print_lists, print_meaning};
 use crate::places::take_places;
 use crate::running::{Replaying, Run, run_inputs, run_sender};
 use crate::telling::{complain, end_with, memory, tell_text};
-use afdx_acceptance::ByRole;
 use afdx_commands::status::{DONE, NO_DEVICE_OR_MEMORY, WRONG_WORDS};
 use afdx_explain::meaning_of;
 use afdx_replay::{CommandedRule, Policing, RunFault};
@@ -131,14 +130,15 @@ fn replay_list(rt: &HostRuntime, matches: &ArgMatches<'_>) -> u8 {
 
 /// Judges a switch by what came and what left.
 fn judge_switch(rt: &HostRuntime, matches: &ArgMatches<'_>) -> u8 {
-    let (Some(came), Some(left)) = (matches.get_str("CAME"), matches.get_str("LEFT")) else {
+    let Some(came) = matches.get_str("CAME") else {
         return WRONG_WORDS;
     };
     let config = match read_config(rt, matches) {
         Ok(config) => config,
         Err(status) => return status,
     };
-    ended(judge_lists(rt, matches, config.as_slice(), ByRole { came, left }))
+    let left = matches.get_str("LEFT");
+    ended(judge_inputs(rt, matches, config.as_slice(), came, left))
 }
 
 fn list_numbers(rt: &HostRuntime, matches: &ArgMatches<'_>) -> u8 {

@@ -7,7 +7,7 @@ ghost use Rattle.afdx_acceptance.specs.RunLaws.{NothingFoundIsExplained, RightCo
 ghost use Rattle.afdx_acceptance.specs.RunLaws.{ThereIsOneAnswer};
 ghost use Rattle.afdx_acceptance.specs.VerdictLaws.{AllIsWrittenOnce, ConformsIsExplained};
 ghost use Rattle.afdx_acceptance.specs.VerdictLaws.{ConformsShowsAll, ExactConforms};
-ghost use Rattle.afdx_acceptance.specs.VerdictLaws.{RightNeverDeviates};
+ghost use Rattle.afdx_acceptance.specs.VerdictLaws.{ExactShowsTheRule, RightNeverDeviates};
 
 /// Of the same tables, choices, end and frames there is one list of lines; of the same tables,
 /// choices and frames one text and one count: what a run writes and answers is a function of these.
@@ -41,10 +41,11 @@ pub fn conforms_is_explained()
 /// where at each port left, of each link that goes there, the first frames that the window rule
 /// accepts of the link's own arrivals, in order, within the latency, and nothing else; those that
 /// didn't leave may have left behind the end. A run answers `conforms` exactly where that is so and
-/// some frame left.
+/// some frame left; where nothing is open, all that the window rule accepts left.
 pub fn conforms_is_the_headline()
     ensures found { ConformsIsTheHeadline }
     ensures answer { ExactConforms }
+    ensures shows { ExactShowsTheRule }
 {}
 
 /// A right switch is never accused, if stamps and clocks keep their accuracy and nothing else left.

@@ -55,14 +55,20 @@ list_fault line =
 abbrev pub is_network : List ℕ → Bool
 is_network word = bytes_eq word (codes " A") || bytes_eq word (codes " B")
 
--- the line but for the network at its end
-unfoldable pub without_network : List ℕ → List ℕ
-without_network line =
-    if is_network (drop (length line - 2) line) then take (length line - 2) line else line
+-- ` came` or ` left`, which stands there with `conform`
+abbrev pub is_role : List ℕ → Bool
+is_role word = bytes_eq word (codes " came") || bytes_eq word (codes " left")
+
+-- the line but for what says, at its end, of which of two recordings it is
+unfoldable pub without_recording : List ℕ → List ℕ
+without_recording line =
+    if is_network (drop (length line - 2) line) then take (length line - 2) line
+    else (if is_role (drop (length line - 5) line) then take (length line - 5) line else line)
 
 unfoldable pub recording_fault : List ℕ → Option (List ℕ)
 recording_fault line =
-    text_among (map (λ entry. (entry.0.now, entry.1.now)) RECORDING_FAULTS) (without_network line)
+    text_among (map (λ entry. (entry.0.now, entry.1.now)) RECORDING_FAULTS)
+    (without_recording line)
 
 unfoldable pub config_fault : List ℕ → Option (List ℕ)
 config_fault line =

@@ -7,46 +7,48 @@ pub const CONFORM_LINES: [Entry; 9] = [
     (
         "strange",
         "\
-strange m side port WORD: the frame of line m of LEFT left that output port, and nothing explains
-it. WORD says why; 'afdx explain --list' has each.",
+strange m side port WORD: frame m of LEFT left that output port, and nothing explains it.
+m is its line, of a recording its number. WORD says why; 'afdx explain --list' has each.",
     ),
     (
         "passed",
         "\
-passed n side port WORD: the frame of line n of CAME left that output port, and had to be dropped.
-WORD says why; 'afdx explain --list' has each.",
+passed n side port WORD: frame n of CAME left that output port, and had to be dropped.
+n is its line, of a recording its number. WORD says why; 'afdx explain --list' has each.
+If most are over-rate, a recorder's clock was set, or CAME has frames twice.",
     ),
     (
         "\
 stopped
 stopped n A|B n",
         "\
-stopped n side port: the frame of line n of CAME had to pass, and it didn't leave that output port
-in time, or not at all.
+stopped n side port: frame n of CAME had to pass, and it didn't leave that output port in time, or
+not at all. n is its line, of a recording its number.
 If all are at the begin, give --from; if all are at the end, --until. If it is so at the edge of a
 link's account, frames may wait before the account is asked: --asked. If 'strange .. no-arrival'
 comes too, the time inside may be longer than the latency: --inner.
-A recorder that loses frames makes such lines, and so does a frame that was damaged.",
+A recorder or a mirror that loses frames makes such lines, and so do a switch that was reset in the
+middle, and a frame that was damaged.",
     ),
     (
         "\
 late
 late n A|B n n",
         "\
-late n side port NS: the frame of line n of CAME left that output port NS ns later than its link's
-latency_us allows.
+late n side port NS: frame n of CAME left that output port NS ns later than its link's latency_us
+allows.
 If the switch may take longer inside, give --inner; if the stamps are less exact, --slack. Stamps
-of first bits at one side and of last bits at the other make frames early or late.",
+of first bits at one side and of last bits at the other make frames early or late: --stamps.",
     ),
     (
         "\
 early
 early n A|B n n",
         "\
-early n side port NS: the frame of line n of CAME left that output port NS ns before all of it can
-have gone over the line, so the stamps are wrong.
-They may be cut to 8 ns or to whole us, come from two clocks, or be those of first bits: give
---slack, or stamps of last bits on both sides.
+early n side port NS: frame n of CAME left that output port NS ns before all of it can have gone
+over the line, so the stamps are wrong.
+They may be cut to 8 ns or to whole us, or come from two clocks: --slack. If all are early, they are
+those of first bits: --stamps, of lists stamps of last bits on both sides.
 With --explain-drops, of several switches: port is a switch's name that is all digits, and the
 frame came NS ns too early for its link's account.",
     ),
@@ -55,7 +57,7 @@ frame came NS ns too early for its link's account.",
 unsure
 unsure n A|B n",
         "\
-unsure n side port: from the arrival of line n of CAME on nothing is said of its link at that
+unsure n side port: from the arrival of frame n of CAME on nothing is said of its link at that
 output port: with these options more than 1024 explanations were possible.
 Less --slack, --drift and --asked, or no --from, leave fewer; so do frames of unlike bytes.",
     ),
@@ -66,10 +68,12 @@ conforms explained n open n uncertain n left-out n unseen n",
         "\
 conforms: each frame that left is explained, and each that had to leave did.
 explained: frames that left rightly; open: arrivals whose frames may come behind the end;
-uncertain: where dropping and passing would both be right; left-out: lines that weren't looked at;
-unseen: links at output ports that weren't recorded.
+uncertain: where dropping and passing would both be right; left-out: frames that weren't looked at,
+by --leave-out, or since what their link's sender sends wasn't recorded; unseen: links at output
+ports that aren't judged, since the sender's port or the output port wasn't recorded.
 If uncertain is near explained, nothing was shown of the accounts: --slack is near jitter_us.
-Record with stamps of hardware, or test with greater bag_ms. Of what is unseen nothing is said.",
+Record with stamps of hardware, or test with greater bag_ms. Of what is unseen nothing is said:
+record these ports too, and name them by --interface and --left.",
     ),
     (
         "\
@@ -89,6 +93,7 @@ undecided explained n open n uncertain n left-out n unseen n",
 undecided: nothing wrong was found, but no frame was explained either, or a line 'unsure' stands
 above.
 If explained is 0, LEFT may be empty, or all its frames are left out, or its times are others than
-those of CAME: both count from one moment. The status is 3.",
+those of CAME: both count from one moment. If unseen is great, --interface or --left names other
+ports than those of the links; --summary says what was left out. The status is 3.",
     ),
 ];

@@ -68,18 +68,21 @@ fn list_fault(line: &[u8]) -> Option<&'static str>
     }
 }
 
-/// The line of a fault without the network that stands behind it, where it is that of one of two
-/// recordings.
-#[tactic(auto, unfolding(crate::specs::Explained::without_network))]
-fn without_network(line: &[u8]) -> &[u8]
-    ensures { result.now ≡ spec.without_network line.now }
+/// The line of a fault without what stands behind it where it is that of one of two recordings: a
+/// network, or which of what came and what left it is.
+#[tactic(auto, unfolding(crate::specs::Explained::without_recording))]
+fn without_recording(line: &[u8]) -> &[u8]
+    ensures { result.now ≡ spec.without_recording line.now }
 {
     let (fault, network) = line.split_at(line.len().saturating_sub(2));
     if network == b" A".as_slice() || network == b" B".as_slice() {
-        fault
-    } else {
-        line
+        return fault;
     }
+    let (fault, role) = line.split_at(line.len().saturating_sub(5));
+    if role == b" came".as_slice() || role == b" left".as_slice() {
+        return fault;
+    }
+    line
 }
 
 /// What the fault of a recording means.
@@ -87,7 +90,7 @@ fn without_network(line: &[u8]) -> &[u8]
 fn recording_fault(line: &[u8]) -> Option<&'static str>
     ensures { option_copied result ≡ spec.recording_fault line.now }
 {
-    text_among(&RECORDING_FAULTS, without_network(line))
+    text_among(&RECORDING_FAULTS, without_recording(line))
 }
 
 /// What the fault of a whole configuration means.

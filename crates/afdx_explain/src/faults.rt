@@ -13,12 +13,16 @@ Give the file another name, or name it by a path that is text.",
     (
         "words BadInterface",
         "\
-A word of --interface has another form than K=PLACE, an interface is given twice, or CONFIG
-hasn't the place. K is the interface's number as Wireshark shows it, 0 to 4095 in one to four
-digits; 0 in a pcap. PLACE is A or B, the side where its frames came in; A:P or B:P with the
-switch's port P, 1 to 24; of several switches 'A SWITCH' or 'A SWITCH:P', with the name of one
-and a port without a cable, and no A:P; or - to leave them out. Of two recordings each side has
-its own interface K: K=A and K=B may both be given, but K=-, which is for both, stands alone.",
+A word of --interface or --left has another form than K=PLACE, an interface is given twice, CONFIG
+hasn't the place, or 'conform' has recordings without one of both. K is the interface's number as
+Wireshark shows it, 0 to 4095 in one to four digits; 0 in a pcap. PLACE is A or B, the side where
+its frames came in; A:P or B:P with the switch's port P, 1 to 24; of several switches 'A SWITCH' or
+'A SWITCH:P', with the name of one and a port without a cable, and no A:P; or - to leave them out.
+Of two recordings each side has its own interface K: K=A and K=B may both be given, but K=-, which
+is for both, stands alone.
+Of 'conform' PLACE is A:P or B:P; of --interface also A or B, but not with --switch. One input is a
+recording of both, and has each K once. Of two --interface names those of CAME, --left those of
+LEFT.",
     ),
     (
         "words BadNumber",

@@ -3,7 +3,7 @@
 use crate::entry::Entry;
 
 /// What the lines of a kind have in common.
-pub const KINDS: [Entry; 20] = [
+pub const KINDS: [Entry; 21] = [
     (
         "list * n",
         "\
@@ -18,13 +18,21 @@ that list alone; empty lines and remarks count. What was found before it stands 
 without the last line.",
     ),
     (
+        "recording Lossy n",
+        "\
+All frames of the recordings were judged, and what was found stands on standard output, but for the
+last line. Of dumpcap at several interfaces it is mostly its own queue, of 1000 frames, that
+was full: dumpcap -N 1000000 -C 1000000000 has room for more.",
+    ),
+    (
         "\
 recording * n
-recording * n A|B",
+recording * n A|B
+recording * n came|left",
         "\
-The recording can't be replayed beyond this place; what the arrivals before it gave stands on
-standard output. Numbers are those of the frames in Wireshark, from 1. Of two recordings, A or
-B behind the number says which.",
+The recording can't be read beyond this place; what the frames before it gave stands on standard
+output. Numbers are those of the frames in Wireshark, from 1. Of two recordings, A or B behind the
+number says which, of 'conform' came or left.",
     ),
     (
         "config Missing switch n * n key n",
@@ -134,13 +142,14 @@ whose receiver dropped it.",
     (
         "strange n A|B n *",
         "\
-The frame of this line of LEFT left that output port, on this side, and nothing explains it.",
+The frame of this line of LEFT, of a recording of this number, left that output port, on this side,
+and nothing explains it.",
     ),
     (
         "passed n A|B n *",
         "\
-The frame of this line of CAME left that output port, on this side, though the switch had to drop
-it; here is why.",
+The frame of this line of CAME, of a recording of this number, left that output port, on this side,
+though the switch had to drop it; here is why.",
     ),
     (
         "# n *",

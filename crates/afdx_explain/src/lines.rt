@@ -145,7 +145,9 @@ bytes; then contradicted: arrivals whose own source address names another side t
 options say they came in: two cables may be crossed; then unused: interfaces that --interface
 names and the recording doesn't have.
 'afdx list' says of each number which reason it is. --interface says where frames came in, so
-that they aren't claimed.",
+that they aren't claimed.
+'conform' writes it behind its last line, of two recordings CAME's first; there a frame that left is
+as an arrival, --left as --interface, and interfaces that aren't named are left out.",
     ),
     (
         "\

@@ -177,6 +177,9 @@ fn lines_of_conform_are_explained() -> Result<(), Fail> {
         ("list came BadHex 12", "An odd number of digits"),
         ("list left TimeBack 2", "The time is before"),
         ("list left TooManyLines", "It is line 1,000,001"),
+        ("recording Cut 4 came", "The frame isn't whole"),
+        ("recording Packed left", "The input isn't read"),
+        ("recording Lossy 37", "The recorder lost n frames"),
         ("words NoSuchSwitch", "No switch of the configuration"),
     ];
     all_right(otherwise_explained(&rows))
@@ -211,6 +214,9 @@ fn other_lines_are_not(rt: HostRuntime) {
         "list came Read",
         "list in BadHex 12",
         "list left BadHex",
+        "recording Ended 4 gone",
+        "recording Ended 4 came A",
+        "recording Ended left",
     ] {
         assert!(rt; meaning_of(line).is_none());
     }
@@ -232,6 +238,8 @@ fn kinds_are_explained(rt: HostRuntime) {
             && kind_of("passed 1 A 3 over-rate").is_some()
             && kind_of("strange 1 A 3 no-arrival").is_some()
             && kind_of("list came BadHex 12").is_some()
+            && kind_of("recording Lossy 37").is_some()
+            && kind_of("recording Ended 4 left").is_some()
             && kind_of("stopped 1 A 3").is_none()
             && kind_of("over-rate").is_none()
     );

@@ -1,8 +1,12 @@
 //! The words of `conform`, and what they say.
 
 use crate::recording_words::Refused;
+use crate::seen_words::{
+    came_option, left_option, lossy_option, seen_fcs_option, seen_reorder_option,
+    seen_stamps_option,
+};
 use crate::words::{
-    CONFIG_HELP, command, explain_option, line_buffered, progress_option, summary_option, word,
+    CONFIG_HELP, command, explain_option, flag, line_buffered, progress_option, word,
 };
 use afdx_frame::VlId;
 use clap::{Arg, ArgAction, ArgMatches, Command, value_parser};
@@ -11,10 +15,13 @@ use std::alloc::{AllocError, Global};
 const CONFORM_ABOUT: &str = "Says whether a recorded switch did what its tables say";
 
 const CONFORM_AFTER: &str = "\
-CAME has the frames that came to both switches, LEFT those that left them: lines of
-a list as for 'replay', CAME's with the input port, LEFT's with the output port, both
-with the time of the last bit. A line is printed for each thing that a switch did
-wrong; n is a line of CAME, m one of LEFT:
+CAME has the frames that came to both switches, LEFT those that left them. Both are
+lists as for 'replay', CAME's with the input port, LEFT's with the output port, both
+with the time of the last bit; or both are recordings; or CAME alone is a recording
+of both. Of recordings --interface and --left say what was plugged in where.
+
+A line is printed for each thing that a switch did wrong; n is a line of CAME, m one
+of LEFT, of recordings the number of a frame, as Wireshark counts:
 
   strange m side port WORD  nothing explains this frame of LEFT; WORD says why
   passed n side port WORD   its frame left, and had to be dropped; WORD says why
@@ -34,24 +41,37 @@ Behind it stands how much that says:
   explained N    frames that left rightly
   open K         arrivals whose frames may come behind the end
   uncertain U    arrivals that may pass and may be dropped, by the options
-  left-out L     lines that were passed over
+  left-out L     lines and frames that were passed over
   unseen W       links at output ports that weren't recorded
 
 Without options the stamps are exact, and both switches were reset before the first
 line. It is never said of a right switch that it deviates, if stamps and clocks differ
 by no more than the options say. The tables of CONFIG need not be admitted.
 
+One input, or one of --interface, --left, --fcs, --stamps, --reorder and --lossy, says
+that each input is a recording. Of one input --interface and --left name interfaces of
+it, of two those of CAME and those of LEFT. What others recorded is left out. Only links
+of which the sender's port and an output port were recorded are judged there. Time 0 is
+the moment of the first frame. Where a recorder lost N frames by its own word, the last
+line doesn't come, and the fault is 'recording Lossy N', unless --lossy is given.
+
 CONFIG may describe several switches a side. --switch names the one that is judged;
-CAME then has all that came to it, from its systems and by its cables.
+CAME then has all that came to it, from its systems and by its cables, and each
+--interface says a port.
 
 A closed pipe, as with '| head', is the fault 'device Write', status 4.
 
-Example:
-  afdx conform --slack 500 --drift 100 network.toml came.list left.list";
+Examples:
+  afdx conform --slack 500 --drift 100 network.toml came.list left.list
+  afdx conform --interface 0=A:1 --left 1=A:3 network.toml bench.pcapng";
 
-const CAME_HELP: &str = "The path of a list of the frames that came, or - for standard input";
+const CAME_HELP: &str = "The path of a list or a recording (pcap) of the frames that came, or, \
+without LEFT, of a recording of both; - for standard input";
 
-const LEFT_HELP: &str = "The path of a list of the frames that left, or - for standard input";
+const LEFT_HELP: &str = "The path of a list or a recording of the frames that left, or - for \
+standard input";
+
+const SUMMARY_HELP: &str = "Prints how much of each recording was left out, behind the last line";
 
 const SLACK_HELP: &str = "By how many ns a stamp may be off, at most 1,000,000";
 
@@ -122,13 +142,19 @@ pub fn conform_command<'a>(alloc: Global) -> Result<Command<'a>, AllocError> {
         time_option(alloc, "until", UNTIL_HELP),
         leave_out_option(alloc),
         switch_option(alloc),
+        came_option(alloc),
+        left_option(alloc),
+        seen_fcs_option(alloc),
+        seen_reorder_option(alloc),
+        seen_stamps_option(alloc),
+        lossy_option(alloc),
         explain_option(alloc),
         line_buffered(alloc),
         progress_option(alloc),
-        summary_option(alloc),
+        flag(alloc, "summary", SUMMARY_HELP),
         word(alloc, "CONFIG", CONFIG_HELP),
         word(alloc, "CAME", CAME_HELP),
-        word(alloc, "LEFT", LEFT_HELP),
+        Arg::new(alloc, "LEFT").help(LEFT_HELP),
     ]?;
     command(alloc, "conform", CONFORM_ABOUT, CONFORM_AFTER).args(words)
 }
@@ -145,6 +171,8 @@ pub struct ConformOptions {
     pub until: Option<u64>,
     /// The links whose frames are passed over; None is for frames that name no link.
     pub left_out: Vec<Option<VlId>>,
+    /// Whether frames that recorders lost don't matter.
+    pub is_lossy: bool,
 }
 
 /// The link that a word of `--leave-out` names.
@@ -180,5 +208,6 @@ pub fn conform_options(alloc: Global, matches: &ArgMatches<'_>) -> Result<Confor
         from: matches.get_one::<u64>("from"),
         until: matches.get_one::<u64>("until"),
         left_out: links_in(alloc, words)?,
+        is_lossy: matches.get_flag("lossy"),
     })
 }

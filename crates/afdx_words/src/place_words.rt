@@ -126,6 +126,21 @@ fn place_of(alloc: Global, interfaces: &mut Interfaces, said: Said<'_>) -> Resul
     }
 }
 
+/// Says where the frames of an interface were, unless that was said before.
+pub(crate) fn put_new(
+    interfaces: &mut Interfaces,
+    interface: u16,
+    place: Place,
+) -> Result<(), Refused>
+    requires { interface < most_interfaces }
+{
+    if interfaces.place(interface).is_some() {
+        return Err(Refused::BadInterface);
+    }
+    interfaces.put(interface, place);
+    Ok(())
+}
+
 /// Says where the frames of an interface came in, unless that was said before.
 fn put_once(
     alloc: Global,
@@ -135,12 +150,19 @@ fn put_once(
 ) -> Result<(), Refused>
     requires { interface < most_interfaces }
 {
-    if interfaces.place(interface).is_some() {
-        return Err(Refused::BadInterface);
-    }
     let place = place_of(alloc, interfaces, said)?;
-    interfaces.put(interface, place);
-    Ok(())
+    put_new(interfaces, interface, place)
+}
+
+/// An interface, and the side and the port that a word `K=SIDE` or `K=SIDE:PORT` names.
+pub(crate) fn sided_in(word: &str) -> Option<(u16, Side, Option<u8>)>
+    ensures { IfSome result (λ at. at.0 < most_interfaces) }
+{
+    let (interface, said) = interface_in(word)?;
+    match said {
+        Said::At(side, None, port) => Some((interface, side, port)),
+        Said::At(_, Some(_), _) | Said::LeftOut => None,
+    }
 }
 
 /// Whether a switch is named.

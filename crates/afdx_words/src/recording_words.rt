@@ -104,8 +104,8 @@ pub fn second_list<'a>(alloc: Global) -> Arg<'a> {
 /// Why words are not taken.
 #[derive(Clone, Copy, Debug, PartialEq, Eq)]
 pub enum Refused {
-    /// A word of `--interface` has another form, its interface was named before, or a switch is
-    /// named where there can be none.
+    /// A word of `--interface` or `--left` has another form, its interface was named before, or a
+    /// switch is named where there can be none; or `conform` lacks one of both.
     BadInterface,
     /// The number of `--origin` is over 2^63 - 1, or that of `--reorder` over 100,000; a number of
     /// `conform` is out of its range.
@@ -123,7 +123,7 @@ impl From<AllocError> for Refused {
 }
 
 /// Whether each frame ends with its check sequence, where that is said.
-fn fcs_in(matches: &ArgMatches<'_>) -> Option<bool> {
+pub(crate) fn fcs_in(matches: &ArgMatches<'_>) -> Option<bool> {
     matches.get_str("fcs").map(|said| said == "yes")
 }
 
@@ -136,7 +136,7 @@ fn origin_in(matches: &ArgMatches<'_>) -> Result<Option<u64>, Refused> {
 }
 
 /// By how many arrivals times may go back, where that is said.
-fn reorder_in(matches: &ArgMatches<'_>) -> Result<Option<u32>, Refused> {
+pub(crate) fn reorder_in(matches: &ArgMatches<'_>) -> Result<Option<u32>, Refused> {
     match matches.get_one::<u64>("reorder") {
         Some(most) if most > MOST_REORDER => Err(Refused::BadNumber),
         Some(most) => Ok(Some(most as u32)),
@@ -145,7 +145,7 @@ fn reorder_in(matches: &ArgMatches<'_>) -> Result<Option<u32>, Refused> {
 }
 
 /// The same where it isn't said: a command that tells each line at once holds nothing.
-fn usual_reorder(matches: &ArgMatches<'_>) -> u32 {
+pub(crate) fn usual_reorder(matches: &ArgMatches<'_>) -> u32 {
     if matches.get_flag("line-buffered") {
         0
     } else {
@@ -189,11 +189,14 @@ pub fn recording_options(
     let of_moments = origin.is_some() || reorder.is_some() || from_start.is_some();
     Ok(RecordingOptions {
         interfaces,
+        leaves_unsaid: false,
         fcs,
         origin,
         network: None,
+        is_second: false,
         reorder: reorder.unwrap_or(usual_reorder(matches)),
         from_start: from_start.unwrap_or(false),
+        left_from_start: false,
         are_given: !words.is_empty() || fcs.is_some() || of_moments,
     })
 }

@@ -1,0 +1,177 @@
+//! What the words of `conform` say of recordings: where each interface was, and how to read them.
+
+use crate::place_words::{put_new, sided_in};
+use crate::recording_words::{
+    Refused, fcs_in, fcs_option, interface_option, reorder_in, reorder_option, usual_reorder,
+};
+use crate::words::flag;
+use afdx_lists::ByRole;
+use afdx_recorded::{Interfaces, Place, RecordingOptions};
+use clap::{Arg, ArgAction, ArgMatches};
+use std::alloc::Global;
+
+const INTERFACE_HELP: &str = "Where the frames of interface K came in: A:PORT or B:PORT, or A or B \
+where each names its sender; may be given again";
+
+const LEFT_HELP: &str =
+    "Where the frames of interface K left: A:PORT or B:PORT; may be given again";
+
+const FCS_HELP: &str = "Whether each recorded frame ends with its check sequence, whatever the \
+recording says";
+
+const REORDER_HELP: &str = "By how many frames times of a recording may go back, at most 100,000; \
+else 10,000, and with --line-buffered 0";
+
+const STAMPS_HELP: &str = "Whether recorders stamp the end of a frame, as most do, or its start; \
+in 'start-end' the first word is for what came, the second for what left";
+
+const LOSSY_HELP: &str = "Gives the last line though a recorder lost frames by its own word";
+
+/// Which bit of what came and of what left is stamped; one word is for both.
+const STAMPED: &[&str] = &["end", "start", "start-end", "end-start"];
+
+/// The option that says where an interface's frames came in.
+pub(crate) fn came_option<'a>(alloc: Global) -> Arg<'a> {
+    interface_option(alloc)
+        .value_name("K=PLACE")
+        .help(INTERFACE_HELP)
+}
+
+/// The option that says where an interface's frames left.
+pub(crate) fn left_option<'a>(alloc: Global) -> Arg<'a> {
+    Arg::new(alloc, "left")
+        .long("left")
+        .value_name("K=PLACE")
+        .help(LEFT_HELP)
+        .action(ArgAction::Append)
+}
+
+/// The option that says whether frames have their check sequence.
+pub(crate) fn seen_fcs_option<'a>(alloc: Global) -> Arg<'a> {
+    fcs_option(alloc).help(FCS_HELP)
+}
+
+/// The option that says by how many frames times may go back.
+pub(crate) fn seen_reorder_option<'a>(alloc: Global) -> Arg<'a> {
+    reorder_option(alloc).help(REORDER_HELP)
+}
+
+/// The option that says which bits of frames are stamped.
+pub(crate) fn seen_stamps_option<'a>(alloc: Global) -> Arg<'a> {
+    Arg::new(alloc, "stamps")
+        .long("stamps")
+        .value_name("BIT")
+        .help(STAMPS_HELP)
+        .value_parser(STAMPED)
+}
+
+/// The option by which lost frames don't matter.
+pub(crate) fn lossy_option<'a>(alloc: Global) -> Arg<'a> {
+    flag(alloc, "lossy", LOSSY_HELP)
+}
+
+/// Whether an option is given that is about recordings.
+fn are_recordings(matches: &ArgMatches<'_>) -> bool {
+    for name in ["interface", "left", "fcs", "reorder", "stamps"] {
+        if matches.contains_id(name) {
+            return true;
+        }
+    }
+    matches.get_flag("lossy")
+}
+
+/// Takes what each word of `--interface` says, of which there is one at least. Where a switch of
+/// several is judged each says a port: what a frame claims is its first sender.
+fn put_came(interfaces: &mut Interfaces, matches: &ArgMatches<'_>) -> Result<(), Refused> {
+    let needs_port = matches.contains_id("switch");
+    let words = matches.get_strs("interface").unwrap_or(&[]);
+    for word in words {
+        let Some((interface, side, port)) = sided_in(word) else {
+            return Err(Refused::BadInterface);
+        };
+        match port {
+            Some(port) => put_new(interfaces, interface, Place::AtPort(side, port))?,
+            None if needs_port => return Err(Refused::BadInterface),
+            None => put_new(interfaces, interface, Place::OnSide(side))?,
+        }
+    }
+    any_of(words)
+}
+
+/// Takes what each word of `--left` says, of which there is one at least; each says a port.
+fn put_left(interfaces: &mut Interfaces, matches: &ArgMatches<'_>) -> Result<(), Refused> {
+    let words = matches.get_strs("left").unwrap_or(&[]);
+    for word in words {
+        let Some((interface, side, Some(port))) = sided_in(word) else {
+            return Err(Refused::BadInterface);
+        };
+        put_new(interfaces, interface, Place::Left(side, port))?;
+    }
+    any_of(words)
+}
+
+/// Refuses that there is none.
+fn any_of(words: &[&str]) -> Result<(), Refused> {
+    if words.is_empty() {
+        return Err(Refused::BadInterface);
+    }
+    Ok(())
+}
+
+/// Whether stamps are those of first bits, of what came and of what left.
+fn stamps_in(matches: &ArgMatches<'_>) -> ByRole<bool> {
+    let (came, left) = match matches.get_str("stamps") {
+        Some("start") => (true, true),
+        Some("start-end") => (true, false),
+        Some("end-start") => (false, true),
+        _ => (false, false),
+    };
+    ByRole { came, left }
+}
+
+/// With these interfaces, what the words say of how a recording is read.
+fn options_of(
+    interfaces: Interfaces,
+    matches: &ArgMatches<'_>,
+) -> Result<RecordingOptions, Refused> {
+    let stamps = stamps_in(matches);
+    Ok(RecordingOptions {
+        interfaces,
+        leaves_unsaid: true,
+        fcs: fcs_in(matches),
+        origin: None,
+        network: None,
+        is_second: false,
+        reorder: reorder_in(matches)?.unwrap_or(usual_reorder(matches)),
+        from_start: stamps.came,
+        left_from_start: stamps.left,
+        are_given: true,
+    })
+}
+
+/// What the words say of one recording of what came and what left, if they are taken.
+pub fn seen_options(alloc: Global, matches: &ArgMatches<'_>) -> Result<RecordingOptions, Refused> {
+    let mut interfaces = Interfaces::new(alloc)?;
+    put_came(&mut interfaces, matches)?;
+    put_left(&mut interfaces, matches)?;
+    options_of(interfaces, matches)
+}
+
+/// What the words say of two recordings, of what came and of what left, if they are taken. None:
+/// they say that both inputs are lists.
+pub fn seen_pair_options(
+    alloc: Global,
+    matches: &ArgMatches<'_>,
+) -> Result<Option<ByRole<RecordingOptions>>, Refused> {
+    if !are_recordings(matches) {
+        return Ok(None);
+    }
+    let mut came = Interfaces::new(alloc)?;
+    let mut left = Interfaces::new(alloc)?;
+    put_came(&mut came, matches)?;
+    put_left(&mut left, matches)?;
+    Ok(Some(ByRole {
+        came: options_of(came, matches)?,
+        left: options_of(left, matches)?,
+    }))
+}
