@@ -11,6 +11,9 @@ pub mod KeptLemmas
 pub mod AddedLemmas
 pub mod StepLemmas
 pub mod GivenLemmas
+pub mod CameLemmas
+pub mod LeftLemmas
+pub mod PortLemmas
 pub mod JoinLemmas
 pub mod FullLemmas
 pub mod LaterLemmas
