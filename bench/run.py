@@ -7,8 +7,9 @@ PROGRAM is the built program, crates/afdx/out/afdx where it isn't given. The lis
 bench/make_list.py, bench/make_network.py, bench/make_cascade.py, bench/make_messages.py and, for
 `conform`, bench/make_two_lists.py, where a line is a frame that came, with those that left. Each
 list is run T times (3 where it isn't given) from a file into /dev/null. Where the program reads
-recordings, frames are also recorded, by bench/make_recording.py; each counts as a line. They stand
-in order, and none is held but in rows that say so. One table in Markdown is printed:
+recordings, frames are also recorded, by bench/make_recording.py; each counts as a line. So are
+those of `conform`, in one recording or in two. They stand in order, and none is held but in rows
+that say so. One table in Markdown is printed:
 
     seconds        user and system seconds together, the least of the runs
     user seconds   the least of the runs
@@ -43,12 +44,12 @@ import sys
 import tempfile
 
 sys.dont_write_bytecode = True
+from conform_rows import has_conform, show_conform, show_conform_growth  # noqa: E402
 from make_cascade import write_cascade  # noqa: E402
 from make_list import MOST_LINES, write_list  # noqa: E402
 from make_messages import write_messages  # noqa: E402
 from make_network import write_network  # noqa: E402
 from make_recording import write_recording  # noqa: E402
-from make_two_lists import LINKS, write_two_lists  # noqa: E402
 from measure import HERE, PROGRAM, instructions, timed  # noqa: E402
 from table import HEAD, RATIOS, Row, head, show  # noqa: E402
 
@@ -90,10 +91,6 @@ CASCADE = "replay, 8 switches a side, 984 links on ways of 1 to 4 switches"
 TENTH = "the same, a tenth of the lines"
 FURTHER = 22  # copies of a frame in the row `copies` beyond that in the row `one`
 SEND = "send, 20 links of one system"
-CONFORM = [  # and the ports of a link
-    ("conform, 400 links to one port each", 1),
-    ("conform, 400 links to four ports each", 4),
-]
 BY_HAND = "the same by hand-written C"
 GROWTH_HEAD = [
     "links",
@@ -227,29 +224,6 @@ class Bench:
 
         return self.rows([(SEND, [self.program, "send", config, "s1"])], lines, make)[0]
 
-    def two_lists(self, frames, ports):
-        """Writes the long lists of `conform`, of so many frames that came; its words but for LEFT,
-        and what writes short ones."""
-        config, came = self.path("judged.toml"), self.path("came.list")
-
-        def make(path, count):
-            write_two_lists(config, came, path, count, ports)
-
-        make(self.path("long.list"), frames)
-        return [self.program, "conform", config, came], make
-
-    def conform(self, name, ports, lines):
-        frames = lines // ports
-        words, make = self.two_lists(frames, ports)
-        beside = os.path.getsize(words[-1])
-        return self.rows([(name, words)], frames, make, FEW, beside)[0]
-
-    def conform_growth(self, frames):
-        words, _ = self.two_lists(frames, 1)
-        seconds, memory = self.best([*words, self.path("long.list")])
-        each, size = f"{seconds / frames * 1e6:.2f}", f"{memory / 1024:.1f} MiB"
-        return [f"{LINKS:,}", f"{frames:,}", f"{seconds:.2f}", "-", each, size]
-
     def line_of_64(self):
         """The instructions of a line of `police`."""
 
@@ -312,8 +286,7 @@ def show_growth(bench, lines):
     if has_conform(bench.program):
         print("\n`conform`:\n")
         head(GROWTH_HEAD)
-        for count in sizes:
-            show(bench.conform_growth(max(1, count)))
+        show_conform_growth(bench, sizes)
 
 
 def show_police(bench, given, baseline):
@@ -334,11 +307,6 @@ def knows(program, option):
     """Its help names an option of recordings."""
     told = subprocess.run([program, "police", "--help"], capture_output=True, check=True)
     return option in told.stdout
-
-
-def has_conform(program):
-    """It has the command."""
-    return subprocess.run([program, "conform", "--help"], capture_output=True).returncode == 0
 
 
 def show_recorded(bench, given, empty):
@@ -382,20 +350,6 @@ def show_cascade(bench, given, empty):
     return "" if hop is None else f"A frame through a switch of several: {hop:,.0f} instructions"
 
 
-def show_conform(bench, given, empty):
-    """The rows of `conform`; the lines of what a frame takes, which are printed last."""
-    told = []
-    for name, ports in CONFORM if has_conform(bench.program) else ():
-        if given.only in name:
-            row = bench.conform(name, ports, given.lines)
-            show([*row.cells(), *empty])
-            line = bench.line_of_64() if row.instructions is not None else None
-            if line:
-                times = row.instructions / (line * (1 + ports))
-                told.append(f"{name}: {times:.2f} times {1 + ports} lines of `police`")
-    return told
-
-
 def show_copies(one, copies):
     """What each further copy of a frame takes."""
     ns = (copies.seconds - one.seconds) / copies.lines / FURTHER * 1e9
@@ -424,7 +378,7 @@ def main():
         told = show_cascade(bench, given, empty)
         if given.only in SEND:
             show([*bench.send(given.lines).cells(), *empty])
-        judged = show_conform(bench, given, empty)
+        judged = show_conform(bench, given.only, given.lines, empty)
         show_shares(recorded, by_name)
         if {"one", "copies"} <= set(by_kind):
             show_copies(by_kind["one"], by_kind["copies"])

@@ -57,7 +57,7 @@ def sentence(text: str) -> str:
 
 def tagged(entry: Entry) -> str:
     """An option, or a word that is given, with what it means."""
-    value = "|".join(entry.words) if len(entry.words) in (2, 3) else entry.value
+    value = "|".join(entry.words) if 2 <= len(entry.words) <= 4 else entry.value
     value = f"\\fI{escaped(value)}\\fP" if value else ""
     between = "[=" if entry.names and entry.optional else " "
     names = ", ".join(f"\\fB{escaped(name)}\\fP" for name in entry.names)

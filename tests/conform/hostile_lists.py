@@ -28,12 +28,14 @@ SHORT, ODD_TIMES = b"R 0 A 1 -\n", (0, 1, MS, LATEST - 1, LATEST)
 FRAME = 132  # bytes of a line with a frame, beside its time and port
 
 
-def judged_soon(judge: Judge, pair: Pair) -> Answer:
-    """What it answers, which must come soon."""
-    began = time.monotonic()
-    found = judge.answer(pair)
-    must(time.monotonic() - began < SOON, f"it takes more than {SOON} s")
-    return found
+class SoonJudge(Judge):
+    """A program that must answer soon."""
+
+    def run(self, words: tuple[str, ...], inputs: dict[str, bytes], standard: str = "") -> Answer:
+        began = time.monotonic()
+        found = super().run(words, inputs, standard)
+        must(time.monotonic() - began < SOON, f"it takes more than {SOON} s")
+        return found
 
 
 class OneList:
@@ -52,7 +54,7 @@ class OneList:
 
     def run(self, given: bytes) -> Answer:
         """The answer to a list."""
-        return judged_soon(self.judge, self.pair(given))
+        return self.judge.answer(self.pair(given))
 
     def is_told(self, given: bytes) -> Answer:
         """It is answered as is computed here."""
@@ -63,7 +65,7 @@ class OneList:
 
 def one_list_commands(program: Program) -> dict[str, OneList]:
     """By their names."""
-    judge = Judge(program)
+    judge = SoonJudge(program)
     return {f"conform, {name}": OneList(judge, place) for place, name in enumerate(LISTS)}
 
 
@@ -88,21 +90,21 @@ def most_lines(judge: Judge) -> None:
     """1,000,000 lines of either list, and one more; all of one moment."""
     base, full = Pair(CONFIGS["base"], b"", b"", ()), SHORT * 1_000_000
     last = b"undecided explained 0 open 0 uncertain 0 left-out 0 unseen 0\n"
-    answers(judged_soon(judge, base._replace(came=full)), 3, last, b"")
+    answers(judge.answer(base._replace(came=full)), 3, last, b"")
     for place, name in enumerate(LISTS):
         one = base.with_list(place, full + SHORT)
-        answers(judged_soon(judge, one), 3, b"", b"list %s TooManyLines\n" % name.lower().encode())
+        answers(judge.answer(one), 3, b"", b"list %s TooManyLines\n" % name.lower().encode())
     told = b"".join(b"strange %d A 1 too-short\n" % n for n in range(1, 1_000_001))
     told += b"deviates 1000000" + last.removeprefix(b"undecided")
-    answers(judged_soon(judge, base._replace(left=full)), 5, told, b"")
+    answers(judge.answer(base._replace(left=full)), 5, told, b"")
 
 
 def equal_times(judge: Judge) -> None:
-    """5,000 equal frames come at one moment, and leave at one: one is right, and each other one
+    """20,000 equal frames come at one moment, and leave at one: one is right, and each other one
     that came has passed."""
-    count = 5_000
+    count = 20_000
     came, left = list_of("0", "came") * count, list_of("6720", "left") * count
-    found = judged_soon(judge, Pair(CONFIGS["base"], came, left, ()))
+    found = judge.answer(Pair(CONFIGS["base"], came, left, ()))
     told = b"".join(b"passed %d A 3 over-rate\n" % n for n in range(2, count + 1))
     last = b"deviates %d explained 1 open 0 uncertain 0 left-out 0 unseen 0\n" % (count - 1)
     answers(found, 5, told + last, b"")
@@ -111,10 +113,18 @@ def equal_times(judge: Judge) -> None:
 def nothing_came(judge: Judge) -> None:
     """30,000 frames of a stream leave at one moment, of which none came."""
     count = 30_000
-    found = judged_soon(judge, Pair(CONFIGS["base"], b"", list_of("0", "left") * count, ()))
+    found = judge.answer(Pair(CONFIGS["base"], b"", list_of("0", "left") * count, ()))
     told = b"".join(b"strange %d A 3 no-arrival\n" % n for n in range(1, count + 1))
     last = b"deviates %d explained 0 open 0 uncertain 0 left-out 0 unseen 0\n" % count
     answers(found, 5, told + last, b"")
+
+
+def many_begun(judge: Judge) -> None:
+    """30,000 frames of a stream leave at one moment, which all came before the begin."""
+    count = 30_000
+    pair = Pair(CONFIGS["base"], b"", list_of("1", "left") * count, ("--from", "0"))
+    last = b"conforms explained %d open 0 uncertain 0 left-out 0 unseen 0\n" % count
+    answers(judge.answer(pair), 0, last, b"")
 
 
 def largest_tables(judge: Judge) -> None:
@@ -130,7 +140,7 @@ def largest_tables(judge: Judge) -> None:
     told = "".join(f"stopped {place} A {port}\n" for port in range(1, 25)
                    for place, own in enumerate(ports, 1) if own != port)
     last = f"deviates {4096 * 23} explained 0 open 0 uncertain 0 left-out 0 unseen 0\n"
-    answers(judged_soon(judge, pair), 5, (told + last).encode(), b"")
+    answers(judge.answer(pair), 5, (told + last).encode(), b"")
 
 
 def largest_numbers(judge: Judge, seed: int) -> None:
@@ -160,7 +170,7 @@ def many_states(judge: Judge) -> None:
 
 def hostile_lists(program: Program) -> Iterator[tuple]:
     """What is tried of both lists."""
-    judge, rows = Judge(program), {row.name: row for row in ROWS}
+    judge, rows = SoonJudge(program), {row.name: row for row in ROWS}
     for seed, name in enumerate(CUT):
         yield f"conform, cut: {name}", cut_lists, judge, pair_of(rows[name]), seed
         yield f"conform, the greatest numbers, {seed}", largest_numbers, judge, seed
@@ -168,4 +178,5 @@ def hostile_lists(program: Program) -> Iterator[tuple]:
     yield "conform: equal times", equal_times, judge
     yield "conform: nothing came", nothing_came, judge
     yield "conform: the largest tables", largest_tables, judge
+    yield "conform: many have begun", many_begun, judge
     yield "conform: many states", many_states, judge

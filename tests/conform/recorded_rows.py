@@ -7,10 +7,13 @@ the base tables one was recorded.
 """
 from __future__ import annotations
 
+import shlex
 from typing import NamedTuple
 
 from edge_rows import low
 from program import Answer
+from recorded_arrivals import SKIPS
+from recorded_list import COUNTS
 from recording_rows import FCS, H1, H2, IL9, IW, PB, PL, SL, ZERO, R, Z
 from recording_rows import packet_ns
 from rows import NO_LINK, answer_of
@@ -28,7 +31,8 @@ def packet(interface: int, time: int, frame: str) -> str:
 
 
 class RecordedRow(NamedTuple):
-    """Options, one recording or two in hexadecimal, and what is answered."""
+    """Options, one recording or two in hexadecimal, and what is answered; `skipped` has the numbers
+    of the lines of `--summary`."""
 
     name: str
     data: tuple[str, ...]
@@ -37,10 +41,12 @@ class RecordedRow(NamedTuple):
     err: str = ""
     options: str = HERE
     unseen: int = 3
+    skipped: str = ""
+    config: str = "base"
 
     def words(self) -> tuple[str, ...]:
         """The words of the options."""
-        return tuple(self.options.split())
+        return tuple(shlex.split(self.options))
 
     def inputs(self) -> tuple[bytes, ...]:
         """The recordings."""
@@ -48,7 +54,17 @@ class RecordedRow(NamedTuple):
 
     def answer(self) -> Answer:
         """What must be answered."""
-        return answer_of(self.lines, self.counts, self.err, self.unseen)
+        answer = answer_of(self.lines, self.counts, self.err, self.unseen)
+        return answer._replace(out=answer.out + skipped_lines(self.skipped))
+
+
+def skipped_lines(numbers: str) -> bytes:
+    """The lines of what was skipped, with these numbers; ` / ` stands between them."""
+    lines = []
+    for each in filter(None, numbers.split(" / ")):
+        counts = zip([*SKIPS, *COUNTS], each.split("/"), strict=True)
+        lines.append(" ".join(["skipped", *(f"{word} {count}" for word, count in counts)]) + "\n")
+    return "".join(lines).encode()
 
 
 def one(*frames: tuple[int, int, str], more: str = "") -> tuple[str]:

@@ -106,8 +106,17 @@ def two_tables() -> dict:
     return {"switch": [first, second]}
 
 
+def rated_tables() -> dict:
+    """The base tables in profile 2, where s1 sends at 1 Gbit/s and s3 gets at 10 Mbit/s."""
+    tables = made.base_tables(2)
+    for system, rate in zip(tables["system"], (1000, 100, 10)):
+        system["rate"] = rate
+    return tables
+
+
 CONFIGS = {
     "base": made.text_of(made.base_tables()),
+    "rates": made.text_of(rated_tables()),
     "long": made.text_of(long_tables()),
     "two": cascade_text(two_tables()),
     "faulty": b"profile = 1\n",

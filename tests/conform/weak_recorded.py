@@ -8,7 +8,8 @@ from conform_claims import Judge
 from conform_recorded import NAMES, conform_recordings
 from program import Program, answers
 from recorded_cases import RecordedCase
-from recorded_claims import answer_to
+from recorded_judge import answer_to
+from recorded_more_rows import MORE_RECORDED_ROWS
 from recorded_rows import RECORDED_ROWS, RecordedRow
 from rows import CONFIGS
 from weak import Call, Weak, WeakOfTwo, weak_devices
@@ -19,12 +20,15 @@ TRIED = (  # rows of one recording and of two, of each ending, in which none is 
     "frames that the recorder lost", "other frames and interfaces",
     "the same interface of two recordings", "the second one breaks off",
     "a time too large, of what left", "nothing came", "at one moment what came first",
+    "nothing was skipped of two", "some of each kind was skipped", "lost of both",
+    "a fault before what was lost", "told before a fault", "no frames of two",
 )
+ROWS = {row.name: row for row in (*RECORDED_ROWS, *MORE_RECORDED_ROWS)}
 
 
 def case_of(row: RecordedRow) -> RecordedCase:
     """A row's configuration, recordings and options."""
-    return RecordedCase(CONFIGS["base"], row.inputs(), row.words())
+    return RecordedCase(CONFIGS[row.config], row.inputs(), row.words())
 
 
 def written(case: RecordedCase, data: tuple[bytes, ...], opens: str, at_once: bool) -> bytes:
@@ -78,8 +82,7 @@ def weak_case(program: Program, case: RecordedCase, place: int, by_path: bool) -
 
 def tried_rows() -> Iterator[RecordedRow]:
     """Those that are tried here."""
-    rows = {row.name: row for row in RECORDED_ROWS}
-    return (rows[name] for name in TRIED)
+    return (ROWS[name] for name in TRIED)
 
 
 def weak_recorded(program: Program) -> Iterator[tuple]:
@@ -87,6 +90,8 @@ def weak_recorded(program: Program) -> Iterator[tuple]:
     by_path = False
     for row in tried_rows() if program.knows("conform", "--left") else ():
         for place, name in enumerate(NAMES[: len(row.data)]):
+            if name == NAMES[1] and row.err.endswith(NAMES[0]):
+                continue  # it isn't read
             by_path = not by_path
             given = program, case_of(row), place, by_path
             yield f"conform, {name} is weak: {row.name}", weak_case, *given

@@ -6,7 +6,7 @@ from typing import NamedTuple, NoReturn
 
 from cascade_run import SIDES, Places
 from cascade_run import Arrival as Line
-from conform import BAD_NUMBER, Judging, Taken, judged_tables
+from conform import BAD_NUMBER, Judging, Taken, conform, judged_tables
 from conform_terms import Options, options_of
 from places import LEFT_OUT, interfaces, said
 from program import Answer
@@ -35,11 +35,19 @@ class Words(NamedTuple):
         values = self.of(name)
         return values[-1] if values else None
 
+    def says_recorded(self) -> bool:
+        """One of them says that each input is a recording."""
+        return not self.flags.union(name for name, _ in self.pairs).isdisjoint(OF_RECORDINGS)
+
+    def of_lists(self) -> tuple[str, ...]:
+        """Those that lists have too, with a value."""
+        own = [pair for pair in self.pairs if pair[0] not in OF_RECORDINGS]
+        return tuple(word for pair in own for word in pair)
+
     def options(self) -> Options | None:
         """What is judged, and how; None where a number is out of its range."""
-        own = [pair for pair in self.pairs if pair[0] not in OF_RECORDINGS]
         is_far = int(self.last("--reorder") or 0) > MOST_REORDER
-        return None if is_far else options_of(tuple(word for pair in own for word in pair))
+        return None if is_far else options_of(self.of_lists())
 
 
 def words_of(words: tuple[str, ...]) -> Words:
@@ -71,11 +79,13 @@ def systems_of(tables: dict) -> Systems:
     return Systems(ports, {("", end["port"]): end["rate"] for end in ends})
 
 
-def options_by_input(words: Words, is_one: bool) -> list[Recorded]:
+def options_by_input(
+    words: Words, is_one: bool, kind: type[Recorded] = Recorded
+) -> list[Recorded]:
     """The options of each recording."""
     halves = [dict(interfaces(words.of(name)) or []) for name in ("--interface", "--left")]
     fcs, reorder = words.last("--fcs"), words.last("--reorder")
-    others = Recorded(
+    others = kind(
         fcs=None if fcs is None else fcs == "yes",
         reorder=None if reorder is None else int(reorder),
         stamps=words.last("--stamps"),
@@ -203,12 +213,30 @@ class JudgingSeen(Judging):
                    for side in range(len(SIDES)) for port in self.ports_of(place))
 
 
+class Reads(NamedTuple):
+    """How recordings are read and judged; a wrong body has another part."""
+
+    options: type[Recorded] = Recorded
+    source: type[Input] = Input
+    judging: type[JudgingSeen] = JudgingSeen
+
+
+RIGHTLY = Reads()
+
+
 def conform_recordings(
-    config: bytes, data: tuple[bytes, ...], options: tuple[str, ...] = (), opens: str = ""
+    config: bytes,
+    data: tuple[bytes, ...],
+    options: tuple[str, ...] = (),
+    opens: str = "",
+    reads: Reads = RIGHTLY,
 ) -> Answer:
-    """What `conform` answers of a configuration, one recording or two, and these options. Of the
-    inputs whose names `opens` has, or of the one, the bytes are not all."""
+    """What `conform` answers of a configuration, one recording or two, and these options; two of
+    which no option says that they are recordings are lists. Of the inputs whose names `opens` has,
+    or of the one, the bytes are not all."""
     words, is_one = words_of(options), len(data) == 1
+    if not is_one and not words.says_recorded():
+        return conform(config, data[0], data[1], words.of_lists())
     if is_bad(words, is_one):
         return Answer(2, b"", b"words BadInterface\n")
     judged = words.options()
@@ -219,16 +247,17 @@ def conform_recordings(
         return tables
     names = ("",) if is_one else NAMES
     inputs = [
-        Input(own, systems_of(tables), text, name, (name or NAMES[0]) in opens)
-        for own, text, name in zip(options_by_input(words, is_one), data, names)
+        reads.source(own, systems_of(tables), text, name, (name or NAMES[0]) in opens)
+        for own, text, name in zip(options_by_input(words, is_one, reads.options), data, names)
     ]
-    return answer_of(words, tables, judged, Reading(inputs))
+    reading = Reading(inputs)
+    judging = reads.judging(tables, judged, reading.taken(), words)
+    return answer_of(words, judging, reading)
 
 
-def answer_of(words: Words, tables: dict, options: Options, reading: Reading) -> Answer:
+def answer_of(words: Words, judging: JudgingSeen, reading: Reading) -> Answer:
     """What is answered of what was read."""
     taken = reading.taken()
-    judging = JudgingSeen(tables, options, taken, words)
     if taken.fault:
         status = 4 if taken.fault == f"{BROKEN}\n".encode() else 3
         return Answer(status, judging.text(taken.latest), taken.fault)

@@ -158,7 +158,7 @@ def place_of(options: Options, systems: Systems, frame: Frame) -> Place:
         side or claimed_side,
         claimed_port if known is None else (place.switch, known),
         side == "" or known is None,
-        side != "" and claimed_side not in (None, side),
+        side != "" and claimed_side not in (None, side) and not options.has_left(frame),
     )
 
 

@@ -6,7 +6,7 @@ from __future__ import annotations
 import os
 import subprocess
 import threading
-from collections.abc import Iterator
+from collections.abc import Iterable, Iterator
 from typing import NamedTuple
 
 from frames import HELLO, sealed
@@ -72,39 +72,48 @@ def recording(run: Long) -> Iterator[bytes]:
         yield bytes(second)
 
 
-def write_to(pipe: int, run: Long) -> None:
+def write_to(pipe: int, pieces: Iterable[bytes]) -> None:
     """Writes a recording, as far as it is read."""
     try:
         with open(pipe, "wb", buffering=0) as file:
-            for piece in recording(run):
+            for piece in pieces:
                 file.write(piece)
     except BrokenPipeError:
         pass
 
 
-def streamed(program: Program, run: Long, room: int, *options: str) -> Answer:
-    """A run on standard input, and another pipe, in an address space of so many KiB. What it writes
-    is left out."""
-    pipes = [os.pipe() for _ in range(run.inputs)]
+def piped(
+    program: Program, words: list[str], room: int, recordings: list[Iterator[bytes]], out: int
+) -> Answer:
+    """A run on standard input, and another pipe, in an address space of so many KiB; what it writes
+    goes to `out`."""
+    pipes = [os.pipe() for _ in recordings]
     names = ["-", *(f"/dev/fd/{end}" for end, _ in pipes[1:])]
     limit = ["sh", "-c", 'ulimit -v "$0" && exec "$@"', str(room), program.path]
     with subprocess.Popen(
-        [*limit, *run.words, *options, *names],
+        [*limit, *words, *names],
         cwd=program.folder,
         stdin=pipes[0][0],
         pass_fds=[end for end, _ in pipes[1:]],
-        stdout=subprocess.DEVNULL,
+        stdout=out,
         stderr=subprocess.PIPE,
     ) as process:
         for end, _ in pipes:
             os.close(end)
-        writers = [threading.Thread(target=write_to, args=(pipe, run)) for _, pipe in pipes]
+        writers = [threading.Thread(target=write_to, args=(pipe, pieces))
+                   for (_, pipe), pieces in zip(pipes, recordings)]
         for writer in writers:
             writer.start()
-        _, err = process.communicate(timeout=LONGEST_RUN)
+        text, err = process.communicate(timeout=LONGEST_RUN)
         for writer in writers:
             writer.join()
-    return Answer(process.returncode, b"", err)
+    return Answer(process.returncode, text or b"", err)
+
+
+def streamed(program: Program, run: Long, room: int, *options: str) -> Answer:
+    """A run whose recordings are streamed. What it writes is left out."""
+    recordings = [recording(run) for _ in range(run.inputs)]
+    return piped(program, [*run.words, *options], room, recordings, subprocess.DEVNULL)
 
 
 def short_room(program: Program, run: Long) -> int:

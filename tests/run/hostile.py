@@ -7,8 +7,8 @@ Tried are all beginnings of a configuration, of frame lists, of a submission lis
 lines as long as they may be and one byte longer; fields that are nearly right; numbers of up to
 5,000 digits; as many lines as there may be and one more; configurations of 4 MB; both lists of
 `conform`, cut at each byte, of equal and of the greatest times; recordings that are large,
-senseless or far out of order, if the program reads them (tests/lib/reads.py). Each run
-must end at once with the status and the one line of the first fault, by the orders of
+senseless or far out of order, of `conform` too, if the program reads them (tests/lib/reads.py).
+Each run must end at once with the status and the one line of the first fault, by the orders of
 docs/FORMATS.md, which tests/lib/ follows apart from the program, and with the output of the lines
 before it. Prints `ok NAME` or `FAILED NAME` for each case, then `N passed, M failed`; ends with
 status 1 if a case failed. Needs Python 3.11.
@@ -28,6 +28,7 @@ import tables as made  # noqa: E402
 from first_fault import config_fault, list_fault, list_lines  # noqa: E402
 from frames import HELLO, frame_of, sealed  # noqa: E402
 from hostile_lists import OneList, hostile_lists, one_list_commands  # noqa: E402
+from hostile_recorded import hostile_recorded  # noqa: E402
 from hostile_recordings import hostile_recordings  # noqa: E402
 from least import solve_answer  # noqa: E402
 from program import Answer, Cases, Program, answers, main_of, must, same_text, short  # noqa: E402
@@ -424,6 +425,7 @@ def conform_cases(cases: Cases, program: Program) -> Iterator[tuple]:
         yield from line_cases(name, command)
     yield from hostile_lists(program)
     yield from cut_cases(program)
+    yield from hostile_recorded(program)
 
 
 def try_all(cases: Cases, program: Program) -> None:

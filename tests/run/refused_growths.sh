@@ -9,11 +9,11 @@
 # frame and its copy in base.toml, replays examples/gigabit.list, and sends five messages, of which
 # one is refused; it solves, replays and sends over examples/two_switches.toml. It polices and
 # replays recordings, and replays and lists two at once, over the two switches too, if it reads them
-# (tests/lib/reads.py). It judges two lists by `conform`. Each of these is run with the first
-# request refused, then the second, and so on, until a run meets no refusal; and again with all
-# requests refused from the first on, from the second on, and so on. Each run must write a beginning
-# of what the undisturbed run writes, and end either with the line `memory` and status 4, or as the
-# undisturbed run does.
+# (tests/lib/reads.py). It judges two lists by `conform`, and recordings, if it takes them. Each of
+# these is run with the first request refused, then the second, and so on, until a run meets no
+# refusal; and again with all requests refused from the first on, from the second on, and so on.
+# Each run must write a beginning of what the undisturbed run writes, and end either with the line
+# `memory` and status 4, or as the undisturbed run does.
 #
 # Of each RUNNER the tests whose names, with their modules', contain `refused` are run, with one
 # request refused at a time, and with all refused from one on. Such a test makes a call again where
@@ -175,6 +175,40 @@ refuse_conform() { # PROGRAM
         --line-buffered "$base" "$work/came" -
     refuse_program 'conform of a switch of two' "$1" conform --switch fwd "$two" "$work/came" -
     refuse_program 'conform, no such switch' "$1" conform --switch none "$two" "$work/came" -
+    refuse_conform_recorded "$1" "$base" "$two"
+}
+
+# The same of a recording and of two, either as standard input: frames out of order, of which all
+# are held; a recording that breaks off, one that has lost frames, and wrong words.
+refuse_conform_recorded() { # PROGRAM BASE TWO
+    local base=$2 two=$3 both=() each=()
+    if [[ $("$1" conform --help) != *--left* ]]; then
+        skip 'conform of recordings' 'the program takes lists alone'
+        return
+    fi
+    mapfile -t both <"$work/both.words"
+    mapfile -t each <"$work/two.words"
+    input=$work/both.pcapng
+    refuse_program 'conform of a recording' "$1" conform "${both[@]}" --summary "$base" -
+    refuse_program 'conform of a recording with leeway' "$1" conform "${both[@]}" --slack 1000 \
+        --drift 100 --from 5 --until 9000000 --leave-out other --stamps start --lossy --fcs yes \
+        "$base" -
+    refuse_program 'conform of a recording at a switch of two' "$1" conform "${both[@]}" \
+        --switch fwd "$two" -
+    refuse_program 'conform of a recording, as it is read' "$1" conform "${both[@]}" \
+        --line-buffered "$base" -
+    refuse_program 'conform of a recording, wrong words' "$1" conform "${both[@]}" --left 0=A \
+        "$base" -
+    input=$work/came.pcapng
+    refuse_program 'conform of two recordings' "$1" conform "${each[@]}" --summary "$base" - \
+        "$work/left.pcapng"
+    refuse_program 'conform of two, the second breaks off' "$1" conform "${each[@]}" "$base" - \
+        "$work/bad.pcapng"
+    refuse_program 'conform of two that lost frames' "$1" conform "${each[@]}" "$base" - \
+        "$work/lossy.pcapng"
+    input=$work/left.pcapng
+    refuse_program 'conform of two, the second as it comes' "$1" conform "${each[@]}" \
+        --reorder 100 "$base" "$work/came.pcapng" -
 }
 
 # What is wrong with the test that `launch` ran; left in `fault`. It must pass where one request was

@@ -64,23 +64,93 @@ conformance_tests() {
     )"
 }
 
+# Recordings of what `came_and_left` made: came.pcap, left.pcap, and both in run.pcapng.
+record_both() {
+    for part in came left; do
+        launch tools/afdx-capture pcap --fcs no "$judged/$part.list" "$judged/$part.pcap"
+    done
+    mergecap -I none -w "$judged/run.pcapng" "$judged/came.pcap" "$judged/left.pcap"
+}
+
+judge_recorded() { # WORD.. -- RECORDING..
+    local words=()
+    while [[ $1 != -- ]]; do words+=("$1"); shift; done
+    launch tools/afdx-report --conform "${words[@]}" examples/base.toml "${@:2}" --out "$judged/out"
+}
+
+recording_tests() {
+    local json=$judged/out/report.json places='"-".join(r["run"]["taps"])'
+    came_and_left '0 499999 3000000' '6720 506719 3017001'
+    record_both
+    judge_recorded --interface 0=A:1 --left 1=A:3 -- "$judged/run.pcapng"
+    tell 'a recording of a switch that deviates' "$(
+        is_status 5
+        says out 'finding     passed: frame 3 at 499999 ns, link 1, port 3 (s3) of A: over-rate'
+        says out 'finding     late: frame 5 at 3000000 ns, link 1, port 3 (s3) of A, by 1 ns'
+        says out 'what came in at B:1'
+        says out '0 not-afdx'
+        wants_number "$json" 'r["totals"]["unseen"], len(r["unseen"])' '(3, 3)'
+        wants_number "$json" 'r["deviations"][0]["interface"], r["run"]["time_0"]' \
+            "(0, '1970-01-01 00:00:00.000000000 UTC')"
+        wants_number "$json" "$places" '0=A:1-left 1=A:3'
+        wants_number "$json" 'r["streams"][0]["greatest_ns"]' 17001
+        wants_page "$judged/out/report.html"
+        "$python" tests/tools/html_access.py "$judged/out/report.html"
+        "$python" tests/tools/html_tags.py "$judged/out/report.html"
+    )"
+    printf 'interface,side,port,direction\n#0,A,1,in\n#1,A,3,out\n' >"$judged/taps.csv"
+    judge_recorded --taps "$judged/taps.csv" -- "$judged/run.pcapng"
+    tell 'places by a table of taps' "$(
+        is_status 5
+        wants_number "$json" "$places" '0=A:1-left 1=A:3'
+    )"
+    judge_recorded --taps "$judged/taps.csv" -- "$judged/came.pcap" "$judged/left.pcap"
+    tell 'a table of taps is of one recording' "$(is_status 2; says err 'one recording')"
+    judge_recorded --interface 0=A:1 --left 0=A:3 -- "$judged/came.pcap" "$judged/left.pcap"
+    tell 'two recordings of it' "$(
+        is_status 5
+        says out 'finding     passed: frame 2 of CAME at 499999 ns'
+        wants_number "$json" 'list(r["skipped"])' "['CAME', 'LEFT']"
+    )"
+    came_and_left 0 1600
+    record_both
+    judge_recorded --interface 0=A:1 --left 1=A:3 --stamps end-start -- "$judged/run.pcapng"
+    tell 'stamps of first bits where frames leave' "$(
+        is_status 0
+        wants_number "$json" 'r["streams"][0]["greatest_ns"]' 6720
+    )"
+    judge_recorded --interface 0=A:1 --left 1=B:3 -- "$judged/run.pcapng"
+    tell 'a side on which what came was not recorded' "$(
+        is_status 3
+        says out 'verdict     undecided'
+        wants_number "$json" 'r["streams"], r["totals"]["left_out"], len(r["unseen"])' '([], 1, 4)'
+    )"
+}
+
 refused_words() {
     came_and_left 0 6720
-    judge --interface 0=A
-    tell 'options of replays are refused' "$(is_status 2; says err '--interface')"
+    judge --origin 0
+    tell 'options of replays are refused' "$(is_status 2; says err '--origin')"
     launch tools/afdx-report --slack 1 examples/base.toml examples/one_link.list
     tell 'options of conform are refused for a replay' "$(is_status 2; says err '--slack')"
     launch tools/afdx-report --conform examples/base.toml "$judged/came.list"
-    tell 'a recorded switch has two lists' "$(is_status 2; says err 'CAME LEFT')"
+    tell 'a recorded switch has two lists' "$(is_status 2; says err 'CAME and LEFT')"
     printf '\xd4\xc3\xb2\xa1' >"$judged/left.list"
     judge
-    tell 'a recorded switch is judged by lists' "$(is_status 2; says err 'frame lists')"
+    tell 'of a recording interfaces are said' "$(is_status 2; says err '--interface and --left')"
 }
 
 if [[ -z $reporting ]]; then
     skip 'afdx-report --conform' "there is no program, or no package numpy"
-elif "$program" conform --help >"$work/out" 2>&1; then
+elif "$program" conform --help >"$judged/help" 2>&1; then
     conformance_tests
+    if ! grep -qF -- --left "$judged/help"; then
+        skip 'afdx-report --conform on recordings' 'conform takes no recordings'
+    elif [[ -n $dpkt ]] && has mergecap; then
+        recording_tests
+    else
+        skip 'afdx-report --conform on recordings' 'there is no package dpkt, or no mergecap'
+    fi
     refused_words
 else
     came_and_left 0 6720

@@ -145,8 +145,12 @@ pcap_faults_tests() {
 
 several_taps() { # ROW.. : of the table; then the tool is called
     printf '%s\n' interface,side,switch,port,direction "$@" >"$several/taps.csv"
-    launch env -C "$several" "$top/tools/afdx-taps" "$top/examples/two_switches.toml" taps.csv \
-        run.pcapng
+    words_by_taps
+}
+
+words_by_taps() { # WORD..
+    launch env -C "$several" "$top/tools/afdx-taps" "$@" "$top/examples/two_switches.toml" \
+        taps.csv run.pcapng
 }
 
 several_taps_tests() {
@@ -158,6 +162,16 @@ several_taps_tests() {
         is_status 0
         text_is out $'--interface=0=A fwd:1\n--interface=1=A aft:2\n--interface=2=-\n'"\
 --interface=3=-"$'\n'
+    )"
+    words_by_taps --conform --switch aft
+    tell 'words of conform at one of several switches, whose cables bring arrivals' "$(
+        is_status 0
+        text_is out $'--interface=1=A:2\n--left=2=A:3\n--interface=3=A:20\n'
+    )"
+    words_by_taps --conform
+    tell 'words of conform are of one switch' "$(
+        is_status 2
+        says err '--switch is missing: it has to be one of fwd, aft'
     )"
     several_taps eth1,A,aft,3,in "${usual[@]:1:2}" eth4,A,fwd,24,in
     tell 'rows that the frames contradict' "$(

@@ -52,6 +52,13 @@ sound_taps_tests() {
 '
         says_all 'A.pcapng: no interface of side B is in it'
     )"
+    taps --conform A.pcapng
+    tell 'words of conform: what came, what left' "$(
+        is_status 0
+        text_is out $'--interface=0=A:1\n--interface=2=A:2\n--left=3=A:3\n--interface=4=A:3\n'
+    )"
+    taps --conform A.pcapng A.pcapng
+    tell 'words of conform are of one recording' "$(is_status 2; says err 'one recording')"
     tap A.pcapng eth3=49A eth2=33A eth1=17A mgmt= eth4=17A
     taps A.pcapng B.pcapng
     tell 'places in two recordings' "$(

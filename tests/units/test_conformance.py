@@ -5,12 +5,20 @@ import argparse
 import unittest
 from typing import Iterator
 
+from afdx_tools.conformance.frames import Frame, frame_of_line
 from afdx_tools.conformance.judging import Deviation, judged_of
 from afdx_tools.conformance.measuring import Measured, Named, Pair, Stream
 from afdx_tools.conformance.numbers import Numbers, account_words, rank, totals_of
-from afdx_tools.conformance.options import Options, add_conform_words, conform_options, vl_or_other
+from afdx_tools.conformance.options import (
+    Options,
+    add_conform_words,
+    conform_options,
+    refuse_conform_options,
+    vl_or_other,
+)
+from afdx_tools.conformance.recorded import Recorders
 from afdx_tools.faults import Refused
-from afdx_tools.lists import Listed, listed_of
+from afdx_tools.lists import listed_of
 from afdx_tools.replay.checked import checked_of
 
 try:
@@ -24,9 +32,10 @@ LATENCY = 100_000  # of the small network's links, in ns
 LEAST = 57_600  # of 64 bytes and 8 more at 800 ns
 
 
-def lines(*texts: str) -> Iterator[Listed]:
-    """The lines of a list."""
-    return (listed_of(number, text.rstrip("\n")) for number, text in enumerate(texts, 1))
+def lines(*texts: str) -> Iterator[Frame]:
+    """The frames of a list."""
+    return (frame_of_line(listed_of(number, text.rstrip("\n")))
+            for number, text in enumerate(texts, 1))
 
 
 def left(time: int, number: int, vl: int = 10, side: str = "A") -> str:
@@ -159,6 +168,14 @@ class Words(unittest.TestCase):
         add_conform_words(parser)
         return parser.parse_args(words)
 
+    def test_those_of_recordings_are_handed_on(self) -> None:
+        words = ["--interface=0=A:1", "--fcs=no", "--reorder=0", "--stamps=end-start",
+                 "--left=1=A:3", "--lossy"]  # fmt: skip
+        options = conform_options(self.given("--conform", "--slack=1", *words))
+        self.assertEqual(options.of_recordings, tuple(words))
+        self.assertEqual(options.words(), ["--slack=1"])
+        self.assertEqual(options.recorders, Recorders(("0=A:1",), ("1=A:3",), False, "end-start"))
+
     def test_they_are_handed_on(self) -> None:
         words = ["--slack=100", "--until=5", "--from=0", "--leave-out=other", "--leave-out=7",
                  "--switch=fwd"]  # fmt: skip
@@ -166,9 +183,24 @@ class Words(unittest.TestCase):
         self.assertEqual(conform_options(self.given("--conform")).words(), [])
 
     def test_those_of_replays_are_refused(self) -> None:
-        for word in ("--interface=0=A", "--stamps=start", "--no-admission", "--link=1"):
+        for word in ("--origin=0", "--no-admission", "--link=1"):
             with self.assertRaises(Refused):
                 conform_options(self.given("--conform", word))
+
+    def test_those_of_a_table_of_taps(self) -> None:
+        options = conform_options(self.given("--conform", "--taps=taps.csv", "--fcs=no"))
+        options = options.tapped(["--interface=0=A:1", "--left=1=A:3", "--left=3=A:1"])
+        self.assertEqual(options.recorders, Recorders(("0=A:1",), ("1=A:3", "3=A:1"), False))
+        self.assertEqual(options.of_recordings,
+                         ("--interface=0=A:1", "--left=1=A:3", "--left=3=A:1", "--fcs=no"))
+        with self.assertRaises(Refused):
+            conform_options(self.given("--conform", "--taps=taps.csv", "--left=1=A:3"))
+
+    def test_those_of_conform_are_refused_for_a_replay(self) -> None:
+        for word in ("--left=1=A:3", "--lossy", "--stamps=end-start", "--slack=1"):
+            with self.assertRaises(Refused):
+                refuse_conform_options(self.given(word))
+        refuse_conform_options(self.given("--stamps=start", "--interface=0=A"))
 
     def test_a_link_or_other(self) -> None:
         self.assertEqual((vl_or_other("7"), vl_or_other("other")), (7, None))

@@ -17,6 +17,8 @@ use Rattle.afdx_acceptance.specs.Lines.{Due, due_at, of_key}
 use Rattle.afdx_acceptance.specs.Slots.{AreFalling, StreamStands, told_at}
 use Rattle.afdx_acceptance.specs.Standing.{IsBehindAll, StreamsStand}
 use Rattle.afdx_acceptance.specs.Told.{IsEndFor, IsEnding, MayEnd, StandsIf, Stands, lines_of}
+use Rattle.afdx_conform.proofs.EveryLemmas.{every-on}
+use Rattle.std.specs.List.{AllByRecursion}
 use Rattle.afdx_acceptance.specs.declared.judging.Judging.{Judging}
 use Rattle.afdx_acceptance.specs.declared.key.Key.{Key}
 use Rattle.afdx_acceptance.specs.declared.kept.Kept.{Kept}
@@ -125,31 +127,71 @@ lines-told key m out dues =
 
 -- ---- what stands
 
+-- until the last frame came they have moments before this time
+abbrev pub AreBefore : Bool → ℕ → List Due → Type 0
+AreBefore last time dues = last ≡ false → AllByRecursion (λ d. d.moment < time) dues
+
+before-later : (time to : ℕ) (dues : List Due) → time ≤ to → AllByRecursion (λ d. d.moment < time) dues
+    → AllByRecursion (λ d. d.moment < to) dues
+before-later time to dues le all = every-on (λ d. d.moment < time) (λ d. d.moment < to) (λ d lt. omega (arith, le, lt)) dues all
+
+told-before : (key : Key) (m time : ℕ) (items : List ConformLine) (dues : List Due) → m < time
+    → AllByRecursion (λ d. d.moment < time) dues → AllByRecursion (λ d. d.moment < time) (told_at key m items dues)
+told-before key m time items dues lt all = go (reverse items)
+  where
+    go : (xs : List ConformLine) → AllByRecursion (λ d. d.moment < time) (map (due_at key m) xs ++ dues)
+    go [] = all
+    go (x ∷ xs) = (lt, go xs)
+
 module _ (k : Rows × Choices) (frames : List Frame) where
   -- with other streams, of the same end
   pub stands-to : (last : Bool) (time : ℕ) (j i : Judging) (lines more : List ConformLine)
-      → ((until : ℕ) (dues : List Due) → StreamsStand k.0 k.1 until frames dues time j.streams
-      → (d : List Due) × (lines_of d ≡ lines_of dues ++ more) × StreamsStand k.0 k.1 until frames d time i.streams)
+      → ((until : ℕ) (dues : List Due) → StreamsStand k.0 k.1 until frames dues time j.streams → AreBefore last time dues
+      → (d : List Due) × (lines_of d ≡ lines_of dues ++ more) × StreamsStand k.0 k.1 until frames d time i.streams
+      × AreBefore last time d)
       → i.streams.ended ≡ j.streams.ended → i.is_over ≡ j.is_over
       → Stands k last time j frames lines → Stands k last time i frames (lines ++ more)
   stands-to last time j i lines more next ended over stands = record {
     all = λ until may.
         let old = stands.all until (subst (λ e. MayEnd k.1.until frames e until) ended may) in
-        let new = next until old.dues old.streams in
-        record { dues = new.0; are = ap (λ l. l ++ more) old.are ∙ sym new.1; streams = new.2 };
+        let new = next until old.dues old.streams old.early in
+        record { dues = new.0; are = ap (λ l. l ++ more) old.are ∙ sym new.1; streams = new.2; early = new.3 };
     by_time = stands.by_time;
     running = λ end none said. stands.running end (sym ended ∙ none) said;
     ends = λ end is. stands.ends end (sym ended ∙ is);
     over = over ∙ stands.over ∙ ap (λ e. is_some e) (sym ended);
   }
 
-  pub stands-later : (last after : Bool) (time to : ℕ) (j : Judging) (lines : List ConformLine) → time ≤ to
+  -- with the lines of one moment that are taken
+  pub stands-taken : (last : Bool) (time : ℕ) (j i : Judging) (lines out : List ConformLine) (key : Key) (m : ℕ) (items : List ConformLine)
+      → out ≡ items
+      → ((until : ℕ) (dues : List Due) → StreamsStand k.0 k.1 until frames dues time j.streams
+      → StreamsStand k.0 k.1 until frames (told_at key m items dues) time i.streams)
+      → (last ≡ false → m < time)
+      → i.streams.ended ≡ j.streams.ended → i.is_over ≡ j.is_over
+      → Stands k last time j frames lines → Stands k last time i frames (lines ++ out)
+  stands-taken last time j i lines out key m items same next early ended over stands =
+      stands-to last time j i lines out
+      (λ until dues s before. (
+        told_at key m items dues,
+        lines-told key m items dues ∙ ap (λ x. lines_of dues ++ x) (sym same),
+        next until dues s,
+        λ e. told-before key m time items dues (early e) (before e),
+      )) ended over stands
+
+  pub stands-later : (last after : Bool) → (after ≡ false → last ≡ false) → (time to : ℕ) (j : Judging) (lines : List ConformLine)
+      → time ≤ to
       → ((end : ℕ) → j.streams.ended ≡ None → k.1.until ≡ Some end → to ≤ end)
       → ((end : ℕ) → j.streams.ended ≡ Some end → IsEnding after k.1.until frames to end)
       → Stands k last time j frames lines → Stands k after to j frames lines
-  stands-later last after time to j lines le running ends stands = record {
+  stands-later last after same time to j lines le running ends stands = record {
     all = λ until may. let old = stands.all until may in
-        record { dues = old.dues; are = old.are; streams = stand-later k.0 k.1 until time to le frames old.dues j.streams old.streams };
+        record {
+          dues = old.dues;
+          are = old.are;
+          streams = stand-later k.0 k.1 until time to le frames old.dues j.streams old.streams;
+          early = λ e. before-later time to old.dues le (old.early (same e));
+        };
     by_time = stands.by_time;
     running = running;
     ends = ends;
@@ -157,22 +199,23 @@ module _ (k : Rows × Choices) (frames : List Frame) where
   }
 
   -- the end is known
-  pub stands-ended : (last after : Bool) (time until to : ℕ) (j i : Judging) (lines : List ConformLine) → time ≤ until → until ≤ to
+  pub stands-ended : (after : Bool) (time until to : ℕ) (j i : Judging) (lines : List ConformLine) → time ≤ until → until ≤ to
       → latest_of frames ≤ until → IsEndFor k.1.until frames until → IsEnding after k.1.until frames to until
       → j.streams.ended ≡ None → i.streams.ended ≡ Some until → i.is_over ≡ true
       → ((dues : List Due) → StreamsStand k.0 k.1 until frames dues time j.streams
       → StreamsStand k.0 k.1 until frames dues time i.streams)
-      → Stands k last time j frames lines → Stands k after to i frames lines
-  stands-ended last after time until to j i lines le-until le-to le-latest may ending none ended over next stands = record {
+      → Stands k false time j frames lines → Stands k after to i frames lines
+  stands-ended after time until to j i lines le-until le-to le-latest may ending none ended over next stands = record {
     all = λ u at.
         let same : u ≡ until = subst (λ e. MayEnd k.1.until frames e u) ended at in
         let old = stands.all until (subst (λ e. MayEnd k.1.until frames e until) (sym none) may) in
-        subst (λ n. StandsIf k.0 k.1 n frames lines to i.streams) (sym same)
+        subst (λ n. StandsIf k.0 k.1 after n frames lines to i.streams) (sym same)
         (record {
           dues = old.dues;
           are = old.are;
           streams = stand-later k.0 k.1 until time to (omega (arith, le-until, le-to)) frames old.dues i.streams
               (next old.dues old.streams);
+          early = λ e. before-later time to old.dues (omega (arith, le-until, le-to)) (old.early refl);
         });
     by_time = stands.by_time;
     running = λ end no said. let bad : None ≡ Some until = sym no ∙ ended in absurd (cc);
@@ -184,7 +227,7 @@ module _ (k : Rows × Choices) (frames : List Frame) where
   pub raised : (time to : ℕ) (j : Judging) (lines : List ConformLine) → time ≤ to
       → ((end : ℕ) → j.streams.ended ≡ None → k.1.until ≡ Some end → to ≤ end)
       → Stands k false time j frames lines → Stands k false to j frames lines
-  raised time to j lines le running stands = stands-later false false time to j lines le running
+  raised time to j lines le running stands = stands-later false false (λ e. e) time to j lines le running
       (λ end is. let e = stands.ends end is in (e.0, let lt = e.1 in omega (arith, lt, le))) stands
 
   pub not-ended : (time : ℕ) (j : Judging) (lines : List ConformLine) → j.is_over ≡ false → Stands k false time j frames lines
@@ -198,8 +241,14 @@ module _ (k : Rows × Choices) (frames : List Frame) where
   -- once all came, the end that was said is it
   pub stands-last : (time : ℕ) (j : Judging) (lines : List ConformLine) → Stands k false time j frames lines
       → Stands k true time j frames lines
-  stands-last time j lines stands = stands-later false true time time j lines (omega arith) stands.running
+  stands-last time j lines stands = stands-later false true (λ e. refl) time time j lines (omega arith) stands.running
       (λ end is. sym (ap (λ o. until_or o frames) (stands.ends end is).0)) stands
+
+-- some end may come
+pub some-end : (said : Option ℕ) (frames : List Frame) (ended : Option ℕ) → (until : ℕ) × MayEnd said frames ended until
+some-end None frames None = (latest_of frames, omega arith)
+some-end (Some u) frames None = (u, refl)
+some-end said frames (Some e) = (e, refl)
 
 pub said-end : (said : Option ℕ) (frames : List Frame) (end : ℕ) → said ≡ Some end → IsEndFor said frames end
 said-end None frames end is = absurd (cc is)
@@ -233,7 +282,7 @@ pub stands-same : (k : Rows × Choices) (frames : List Frame) (last : Bool) (tim
 stands-same k frames last time j i lines next ended over stands = record {
   all = λ until may.
       let old = stands.all until (subst (λ e. MayEnd k.1.until frames e until) ended may) in
-      record { dues = old.dues; are = old.are; streams = next until old.dues old.streams };
+      record { dues = old.dues; are = old.are; streams = next until old.dues old.streams; early = old.early };
   by_time = stands.by_time;
   running = λ end none said. stands.running end (sym ended ∙ none) said;
   ends = λ end is. stands.ends end (sym ended ∙ is);
@@ -259,7 +308,7 @@ stands-next k frames x j i lines le next ended over stands = record {
   all = λ until may.
       let old = stands.all until (subst (λ e. MayEnd k.1.until frames e until) ended
       (may-before k.1.until frames x i.streams.ended until le may)) in
-      record { dues = old.dues; are = old.are; streams = next until old.dues old.streams };
+      record { dues = old.dues; are = old.are; streams = next until old.dues old.streams; early = old.early };
   by_time = (omega arith, behind-later frames x.arrival.time le stands.by_time);
   running = λ end none said. stands.running end (sym ended ∙ none) said;
   ends = λ end is. stands.ends end (sym ended ∙ is);
@@ -310,7 +359,8 @@ and-all false b c e f g = absurd (true≢false (sym e))
 and-all true true c e f g = absurd (true≢false f)
 and-all true false false e f g = absurd (true≢false (sym g))
 
-pub does-count : (t : Rows) (c : Choices) (x : Frame) → is_in_time c x ≡ true → is_passed t c x ≡ false → length x.arrival.bytes ≤ most_bytes
+pub does-count : (t : Rows) (c : Choices) (x : Frame) → is_in_time c x ≡ true → is_passed t c x ≡ false
+    → length x.arrival.bytes ≤ most_bytes
     → counts t c x ≡ true
 unfolding counts
 does-count t c x in-time out le = and-all (is_in_time c x) (is_passed t c x) (nat_le (length x.arrival.bytes) most_bytes) in-time out

@@ -81,10 +81,12 @@ given-from t c frames k = by k.link
     by None = refl
     by (Some place) = by-link (judged_to t c.taps k.side place k.port)
 
-pub counted-more : (t : Rows) (c : Choices) (x : Frame) (frames : List Frame) → counts t c x ≡ true → counted t c (x ∷ frames) ≡ x ∷ counted t c frames
+pub counted-more : (t : Rows) (c : Choices) (x : Frame) (frames : List Frame) → counts t c x ≡ true
+    → counted t c (x ∷ frames) ≡ x ∷ counted t c frames
 counted-more t c x frames e = ap (λ b. cond b (x ∷ counted t c frames) (counted t c frames)) e
 
-pub counted-less : (t : Rows) (c : Choices) (x : Frame) (frames : List Frame) → counts t c x ≡ false → counted t c (x ∷ frames) ≡ counted t c frames
+pub counted-less : (t : Rows) (c : Choices) (x : Frame) (frames : List Frame) → counts t c x ≡ false
+    → counted t c (x ∷ frames) ≡ counted t c frames
 counted-less t c x frames e = ap (λ b. cond b (x ∷ counted t c frames) (counted t c frames)) e
 
 -- ---- which link is named

@@ -173,7 +173,8 @@ counts-time t c x e = by (is_before c x.role x.arrival.time)
 pub came-start : (t : Rows) (c : Choices) (a : Arrival) → counts t c (frame_with Came a) ≡ true → from_time c.by.start ≤ a.time
 came-start t c a e = let h = ltb-false a.time (from_time c.by.start) (counts-time t c (frame_with Came a) e) in omega (arith, h)
 
-pub left-start : (t : Rows) (c : Choices) (a : Arrival) → counts t c (frame_with Left a) ≡ true → from_time c.by.start ≤ a.time + both_slacks c.by
+pub left-start : (t : Rows) (c : Choices) (a : Arrival) → counts t c (frame_with Left a) ≡ true
+    → from_time c.by.start ≤ a.time + both_slacks c.by
 left-start t c a e = let h = ltb-false (a.time + both_slacks c.by) (from_time c.by.start) (counts-time t c (frame_with Left a) e) in
     omega (arith, h)
 
@@ -214,7 +215,8 @@ linked-falls k fs (Some l) = tt
 
 module _ (t : Rows) (c : Choices) (until : ℕ) (ended : Option ℕ) (time : ℕ) (frames : List Frame) (lines : List Due) (kept : Kept)
     (lawful : IsLawfulSwitch t) (a : Arrival) where
-  given-more : (x : Frame) (k : Key) → counts t c x ≡ true → given_of t c (x ∷ frames) k ≡ given_from t c.taps k (x ∷ counted t c frames) k.link
+  given-more : (x : Frame) (k : Key) → counts t c x ≡ true
+      → given_of t c (x ∷ frames) k ≡ given_from t c.taps k (x ∷ counted t c frames) k.link
   given-more x k e = given-from t c (x ∷ frames) k ∙ ap (λ fs. given_from t c.taps k fs k.link) (counted-more t c x frames e)
 
   strange-same : (x : Frame) (k : Key) → ((b : Bool) → left_at k.side k.port x && is_stranger t x.arrival ≡ false)
@@ -225,7 +227,8 @@ module _ (t : Rows) (c : Choices) (until : ℕ) (ended : Option ℕ) (time : ℕ
       by-link None = refl
       by-link (Some l) = refl
 
-      by : (o : Option ℕ) → (given_from t c.taps k (x ∷ counted t c frames) o).strange ≡ (given_from t c.taps k (counted t c frames) o).strange
+      by : (o : Option ℕ) → (given_from t c.taps k (x ∷ counted t c frames) o).strange ≡ (given_from t c.taps k
+          (counted t c frames) o).strange
       by None = ap (λ v. map (stranger_due t k) (map (λ y. y.arrival)
           (cond v (x ∷ filter (λ y. left_at k.side k.port y && is_stranger t y.arrival) (counted t c frames))
           (filter (λ y. left_at k.side k.port y && is_stranger t y.arrival) (counted t c frames))))) (none true)
@@ -253,7 +256,8 @@ module _ (t : Rows) (c : Choices) (until : ℕ) (ended : Option ℕ) (time : ℕ
       kept-same t c until ended time (came_to a.side place (seen_ports t c.taps a.side l.to) a (given_of t c frames))
       (given_of t c (frame_with Came a ∷ frames)) lines kept
       (λ k known. given-more (frame_with Came a) k e ∙ given-came t c.taps k (counted t c frames) a place l lawful named at known heard
-      ∙ ap (λ g. if is_side a.side k.side && is_link (Some place) k.link && list_any (λ q. nat_eq q k.port) (seen_ports t c.taps a.side l.to)
+      ∙ ap (λ g. if is_side a.side k.side && is_link (Some place) k.link && list_any (λ q. nat_eq q k.port)
+      (seen_ports t c.taps a.side l.to)
       then given_with (g.came ++ a ∷ []) g.left g.strange else g) (sym (given-from t c frames k)))
       (λ k. subst AreFalling (sym (strange-same (frame_with Came a) k (came-no-stranger k) e)) (falling k)) are
 

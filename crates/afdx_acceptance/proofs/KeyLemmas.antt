@@ -15,7 +15,7 @@ use Rattle.afdx_frame.specs.Ports.{last_port}
 use Rattle.afdx_frame.specs.declared.link.Side.{Side}
 use Rattle.afdx_frame.specs.declared.link.Side.TheVariants.{A, B}
 use Rattle.afdx_frame.specs.Sides.{is_side}
-use Rattle.afdx_acceptance.specs.Frames.{link_to}
+use Rattle.afdx_acceptance.specs.Tapped.{link_to}
 use Rattle.afdx_acceptance.specs.Keeping.{IsOfLink, IsStreamOf, is_known, is_known_by, slot_at}
 use Rattle.afdx_acceptance.specs.Keys.{is_key, is_link, key_place, key_with, place_of, side_rank}
 use Rattle.afdx_acceptance.specs.Waiting.{slot_due}
@@ -133,13 +133,13 @@ side-cases : (side : Side) → (side_rank side ≡ 0) ⊎ (side_rank side ≡ 1)
 side-cases A = inl refl
 side-cases B = inr refl
 
-side-of-rank : (a b : Side) → side_rank a ≡ side_rank b → is_side a b ≡ true
+pub side-of-rank : (a b : Side) → side_rank a ≡ side_rank b → is_side a b ≡ true
 side-of-rank A A e = refl
 side-of-rank A B e = absurd (cc)
 side-of-rank B A e = absurd (cc)
 side-of-rank B B e = refl
 
-side-small : (side : Side) → side_rank side ≤ 1
+pub side-small : (side : Side) → side_rank side ≤ 1
 side-small A = omega arith
 side-small B = omega arith
 

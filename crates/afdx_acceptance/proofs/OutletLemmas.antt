@@ -9,7 +9,7 @@ use Rattle.afdx_config.specs.Admission.{byte_ns}
 use Rattle.afdx_config.specs.Lawful.{IsLawfulSwitch}
 use Rattle.afdx_config.specs.Reading.{system_at_port}
 use Rattle.afdx_police.specs.Rule.{rule_with}
-use Rattle.afdx_acceptance.specs.Frames.{link_to}
+use Rattle.afdx_acceptance.specs.Tapped.{link_to}
 use Rattle.afdx_acceptance.proofs.KeyLemmas.{system-at, to-link}
 use Rattle.std.proofs.Common.{[]}
 use Rattle.afdx_frame.specs.declared.link.Policing.TheVariants.{Byte}

@@ -3,17 +3,16 @@ use Rattle.std.proofs.Common.{Box, Global, ◌≡◌, ℕ, ◌≤◌, ◌⊎◌,
 use Rattle.std.proofs.lemmas.List.{append_assoc, map-append, reverse-append, reverse-reverse}
 use Rattle.std.specs.Prelude.{if◌then◌else◌, Option, Some, None, Result, Ok, Err, IfOk, IfSome, IfNone}
 use Rattle.afdx_conform.specs.Events.{moment_at}
-use Rattle.afdx_conform.specs.Histories.{judged_of, newest_tag, shown, time_of, unsure_in}
+use Rattle.afdx_conform.specs.Histories.{newest_tag, time_of, unsure_in}
 use Rattle.afdx_conform.specs.Growing.{IsNoSooner}
-use Rattle.afdx_conform.specs.Standing.{Finds, IsEnding, due_of}
-use Rattle.afdx_police.specs.Arrival.{Arrival}
+use Rattle.afdx_conform.specs.Standing.{Finds, due_of}
 use Rattle.afdx_conform.specs.Findings.{Judged, Marked, found_at}
 use Rattle.afdx_conform.specs.declared.finding.Finding.{Finding}
-use Rattle.afdx_conform.specs.Streams.{Gone, Terms}
+use Rattle.afdx_conform.specs.Streams.{Terms}
 use Rattle.afdx_text.specs.declared.conform_line.ConformLine.{ConformLine}
 use Rattle.afdx_text.specs.declared.conform_line.ConformLine.TheVariants.{Unsure}
 use Rattle.afdx_acceptance.specs.Lines.{Due, due_at, found_due, found_line, judged_dues, unsure_dues}
-use Rattle.afdx_acceptance.specs.Slots.{AreFalling, Ends, IsCounted, IsStream, StrangersStand, StreamEnds, StreamStands, told_at, unsure_behind, waiting_due}
+use Rattle.afdx_acceptance.specs.Slots.{AreFalling, Ends, IsStream, StrangersStand, StreamEnds, StreamStands, told_at, unsure_behind, waiting_due}
 use Rattle.afdx_acceptance.specs.Waiting.{first_time, slot_due}
 use Rattle.afdx_acceptance.specs.declared.key.Key.{Key}
 use Rattle.afdx_acceptance.specs.declared.strangers.Stranger.{Stranger}
@@ -110,7 +109,7 @@ if-ok f (Err e) p = tt
 
 -- ---- frames of no stream
 
-falling-behind : (xs : List Due) (d e : Due) (more : List Due) → AreFalling (xs ++ d ∷ e ∷ more) → e.moment ≤ d.moment
+pub falling-behind : (xs : List Due) (d e : Due) (more : List Due) → AreFalling (xs ++ d ∷ e ∷ more) → e.moment ≤ d.moment
 unfolding AreFalling
 falling-behind [] d e more f = f.0
 falling-behind (x ∷ []) d e more f = f.1.0
@@ -175,17 +174,3 @@ pub not-stream : (x : Slot) → ((s : Box Stream Global) → x ≡ slot.Stream s
 not-stream slot.Nothing none is = is
 not-stream (slot.Strangers s) none is = is
 not-stream (slot.Stream s) none is = none s refl
-
-pub counted-stream : (s : Box Stream Global) (now : Stream) → now ≡ s.value
-    → ((z : Terms) (xs : List Arrival) (ys : List Gone) (j : Judged) → due_of now ≡ None → IsEnding z xs ys j now
-    → j ≡ shown (judged_of z xs ys))
-    → IsCounted (slot.Stream s)
-unfolding IsCounted
-counted-stream s now is judged z xs ys j due ending =
-    judged z xs ys j (ap due_of is ∙ due) (subst (λ x. IsEnding z xs ys j x) (sym is) ending)
-
-pub counted-other : (x : Slot) → ((s : Box Stream Global) → x ≡ slot.Stream s → ⊥) → IsCounted x
-unfolding IsCounted
-counted-other slot.Nothing none = tt
-counted-other (slot.Strangers s) none = tt
-counted-other (slot.Stream s) none = absurd (none s refl)

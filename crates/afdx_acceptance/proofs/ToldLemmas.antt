@@ -6,8 +6,6 @@ use Rattle.std.proofs.KnownBytes.{Appends-nil, Appends-trans}
 use Rattle.std.specs.Io.KnownBytes.{Appends}
 use Rattle.afdx_config.specs.Rows.{Rows}
 use Rattle.afdx_inputs.specs.Joining.{Frame}
-use Rattle.afdx_lists.specs.Calls.{AppendsFront}
-use Rattle.afdx_text.proofs.OutputLemmas.{front-more, whole_front}
 use Rattle.afdx_text.specs.declared.conform_line.ConformLine.{ConformLine}
 use Rattle.afdx_acceptance.proofs.TellingLemmas.{findings-append, no-findings, no-text, text-append}
 use Rattle.afdx_acceptance.specs.Tapped.{taps_in}
@@ -16,7 +14,7 @@ use Rattle.afdx_acceptance.specs.ChoicesOf.{choices_of}
 use Rattle.afdx_acceptance.specs.Judging.{IsSameButTaken}
 use Rattle.afdx_acceptance.specs.Telling.{findings_in, lines_text, most_counted, one_if}
 use Rattle.afdx_acceptance.specs.Standing.{IsSameButKept}
-use Rattle.afdx_acceptance.specs.Told.{BeginsLines, HasTold, TellsOf}
+use Rattle.afdx_acceptance.specs.Told.{TellsOf}
 use Rattle.afdx_acceptance.specs.declared.judging.Judging.{Judging}
 use Rattle.afdx_recorded.specs.declared.taps.Taps.{Taps}
 use Rattle.afdx_acceptance.specs.declared.streams.Streams.{Streams}
@@ -35,7 +33,8 @@ module _ (r : Rows × Choices) (start : Option (List ℕ)) (frames : List Frame)
   chosen-same : k.streams.taps ≡ j.streams.taps → k.choices ≡ j.choices
       → choices_of (taps_in j.streams.taps.now) j.choices.now ≡ r.1 → choices_of (taps_in k.streams.taps.now) k.choices.now ≡ r.1
   chosen-same taps choices is =
-      ap (λ (p : Bor Taps). choices_of (taps_in p.now) k.choices.now) taps ∙ ap (λ b. choices_of (taps_in j.streams.taps.now) b.now) choices ∙ is
+      ap (λ (p : Bor Taps). choices_of (taps_in p.now) k.choices.now) taps
+      ∙ ap (λ b. choices_of (taps_in j.streams.taps.now) b.now) choices ∙ is
 
   -- what else changes doesn't matter
   pub tells-same : (output : Option (List ℕ)) (lines : List ConformLine) → IsSameButKept j.streams k.streams → k.choices ≡ j.choices
@@ -49,12 +48,6 @@ module _ (r : Rows × Choices) (start : Option (List ℕ)) (frames : List Frame)
     left_out_are = left_out ∙ h.left_out_are;
     latest_is = latest ∙ h.latest_is;
   }
-
-  pub told-same : (output : Option (List ℕ)) → IsSameButKept j.streams k.streams → k.choices ≡ j.choices → k.findings ≡ j.findings
-      → k.left_out ≡ j.left_out → k.latest ≡ j.latest → HasTold r j start output frames
-      → HasTold r k start output frames
-  told-same output rules choices findings left_out latest h =
-      (h.0, tells-same output h.0 rules choices findings left_out latest h.1)
 
   -- more lines are told
   pub tells-more : (mid new : Option (List ℕ)) (lines more : List ConformLine) → IsSameButKept j.streams k.streams → k.choices ≡ j.choices
@@ -73,27 +66,6 @@ module _ (r : Rows × Choices) (start : Option (List ℕ)) (frames : List Frame)
     left_out_are = left_out ∙ h.left_out_are;
     latest_is = latest ∙ h.latest_is;
   }
-
-  pub told-more : (mid new : Option (List ℕ)) (more : List ConformLine) → IsSameButKept j.streams k.streams → k.choices ≡ j.choices
-      → k.left_out ≡ j.left_out → k.latest ≡ j.latest
-      → k.findings ≡ min (j.findings + findings_in more) most_counted → Appends mid new (lines_text more)
-      → HasTold r j start mid frames → HasTold r k start new frames
-  told-more mid new more rules choices left_out latest counted told h =
-      (h.0 ++ more, tells-more mid new h.0 more rules choices left_out latest counted told h.1)
-
--- a beginning is
-pub told-begun : (r : Rows × Choices) (start output : Option (List ℕ)) (frames : List Frame) (j : Judging)
-    → HasTold r j start output frames → BeginsLines start output
-told-begun r start output frames j h = (h.0, whole_front start output (lines_text h.0) h.1.written)
-
-pub begun-more : (r : Rows × Choices) (start mid new : Option (List ℕ)) (frames : List Frame) (j : Judging)
-    (more : List ConformLine) → HasTold r j start mid frames → AppendsFront mid new (lines_text more)
-    → BeginsLines start new
-begun-more r start mid new frames j more h begun = (
-  h.0 ++ more,
-  subst (λ (l : List ℕ). AppendsFront start new l) (sym (text-append h.0 more))
-      (front-more start mid new (lines_text h.0) (lines_text more) h.1.written begun),
-)
 
 -- ---- what is left out
 
@@ -139,7 +111,8 @@ tells-next r start frames j k l output lines x others streams choices findings l
     let by-r = subst (λ (o : Choices). j.left_out ≡ min (left_out_of r.0 o frames) most_counted
     → k.left_out ≡ min (left_out_of r.0 o (x ∷ frames)) most_counted) h.choices_are
     (subst (λ (t : Rows). j.left_out ≡ min (left_out_of t (choices_of (taps_in j.streams.taps.now) j.choices.now) frames) most_counted
-    → k.left_out ≡ min (left_out_of t (choices_of (taps_in j.streams.taps.now) j.choices.now) (x ∷ frames)) most_counted) h.tables_are counted) in
+    → k.left_out ≡ min (left_out_of t (choices_of (taps_in j.streams.taps.now) j.choices.now)
+    (x ∷ frames)) most_counted) h.tables_are counted) in
     record {
       tables_are = ap (λ (s : Streams). s.tables.now) streams ∙ ap (λ (b : Bor Rows). b.now) others.rules.tables ∙ h.tables_are;
       choices_are = chosen-same r start frames j l (ap (λ (s : Streams). s.taps) streams ∙ others.rules.taps) (choices ∙ others.choices)

@@ -1,5 +1,5 @@
--- What a run is asked: by how much stamps may be off, and which of the frames of both roles count. A
--- list of frames has the newest first.
+-- What a run is asked: by how much stamps may be off, and which of the frames of both roles count.
+-- A list of frames has the newest first.
 use Rattle.std.specs.Prelude.{ℕ, ◌+◌, ◌≤◌, Bool, true, false, not, ◌&&◌, ◌||◌, nat_eq, nat_le, nat_lt, List, [], ◌∷◌, length, filter, Option, Some, None}
 use Rattle.std.specs.List.{list_any}
 use Rattle.std.specs.Option.{ForSome}

@@ -1,14 +1,11 @@
 -- Of the frames of both roles those of a stream, and those of none. Lists of frames have the newest
 -- first.
-use Rattle.std.specs.Prelude.{ℕ, ◌*◌, Bool, true, false, not, ◌&&◌, nat_eq, Option, Some, None, List, filter, map, is_some, slice_get, option_and_then, if◌then◌else◌}
-use Rattle.afdx_bounds.specs.Tables.{rule_of, byte_ns_at, goes_to}
-use Rattle.afdx_config.specs.Reading.{link_of}
+use Rattle.std.specs.Prelude.{ℕ, ◌*◌, Bool, not, ◌&&◌, nat_eq, List, filter, map, is_some, option_and_then}
+use Rattle.afdx_bounds.specs.Tables.{rule_of, byte_ns_at}
 use Rattle.afdx_config.specs.Rows.{Rows, LinkRow}
-use Rattle.afdx_frame.specs.Layout.{link_named_by}
 use Rattle.afdx_frame.specs.declared.link.Side.{Side}
 use Rattle.afdx_frame.specs.Sides.{is_side}
 use Rattle.afdx_lists.specs.declared.role.Role.{Role}
-use Rattle.afdx_lists.specs.declared.role.Role.TheVariants.{Came, Left}
 use Rattle.afdx_inputs.specs.Joining.{Frame}
 use Rattle.afdx_police.specs.Arrival.{Arrival, names}
 use Rattle.afdx_conform.specs.Streams.{Gone, Terms}

@@ -13,6 +13,11 @@ pub mod Slots
 pub mod Keeping
 pub mod Standing
 pub mod Judging
+pub mod Beginning
+pub mod Counting
 pub mod Told
-pub mod Ran
 pub mod Written
+pub mod Ran
+pub mod RunLaws
+pub mod VerdictLaws
+pub mod RunExample

@@ -1,5 +1,5 @@
--- The lines that a run writes of the frames of both roles, before its last line. Lists of frames and
--- of lines have the newest first.
+-- The lines that a run writes of the frames of both roles, before its last line. Lists of frames
+-- and of lines have the newest first.
 use Rattle.std.specs.Prelude.{ℕ, ◌+◌, ◌*◌, ◌<◌, ◌≤◌, ◌≡◌, Bool, true, ⊤, Option, Some, None, List, [], ◌∷◌, ◌++◌, filter, map, is_some, reverse, if◌then◌else◌}
 use Rattle.std.specs.Option.{option_map_or}
 use Rattle.afdx_config.specs.Rows.{Rows, LinkRow}
@@ -51,6 +51,10 @@ AreInOrder (d ∷ before) = (last_rank before ≤ rank d) × AreInOrder before
 -- those of a key
 abbrev pub of_key : Key → List Due → List Due
 of_key k lines = filter (λ d. is_key k d.key) lines
+
+-- what they say, the oldest first
+abbrev pub lines_of : List Due → List ConformLine
+lines_of lines = reverse (map (λ d. d.line) lines)
 
 -- ---- frames that are of no stream
 

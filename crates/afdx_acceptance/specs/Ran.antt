@@ -1,6 +1,6 @@
--- What a run answers and writes, whatever gives it its frames. A list of lines has the oldest first,
--- one of frames the newest.
-use Rattle.std.specs.Prelude.{ℕ, ◌≡◌, ◌⊎◌, Bool, true, false, List, ◌++◌, Option, None, Some, Result, Ok, Err, min, nat_lt, if◌then◌else◌}
+-- What a run answers and writes, whatever gives it its frames. A list of lines has the oldest
+-- first, one of frames the newest.
+use Rattle.std.specs.Prelude.{ℕ, ◌≡◌, ◌⊎◌, Bool, true, false, List, ◌++◌, Option, None, Some, Result, Ok, Err, nat_lt, if◌then◌else◌}
 use Rattle.std.specs.Io.KnownBytes.{Appends}
 use Rattle.afdx_config.specs.Rows.{Rows}
 use Rattle.afdx_engine.specs.Causes.{cause_of}
@@ -13,38 +13,29 @@ use Rattle.afdx_lists.specs.declared.fault.RunFault.TheVariants.{Recording}
 use Rattle.afdx_lists.specs.declared.recording_fault.RecordingFault.TheVariants.{Lossy}
 use Rattle.afdx_text.specs.ConformLines.{conform_text}
 use Rattle.afdx_text.specs.Sinks.{IsOfOutput}
-use Rattle.afdx_text.specs.declared.conform_line.ConformLine.{ConformLine}
-use Rattle.afdx_acceptance.specs.Choices.{Choices, left_out_of, until_or}
-use Rattle.afdx_acceptance.specs.Lines.{AreLines, Due}
-use Rattle.afdx_acceptance.specs.Telling.{findings_in, lines_text, most_counted}
-use Rattle.afdx_acceptance.specs.Told.{BeginsLines, lines_of}
-use Rattle.afdx_acceptance.specs.Tapped.{unseen_of}
+use Rattle.afdx_acceptance.specs.Choices.{Choices, until_or}
+use Rattle.afdx_acceptance.specs.Counting.{totals_of}
+use Rattle.afdx_acceptance.specs.Lines.{AreLines, Due, lines_of}
+use Rattle.afdx_acceptance.specs.Telling.{lines_text}
 use Rattle.afdx_acceptance.specs.Totals.{last_line}
+use Rattle.afdx_acceptance.specs.Written.{BeginsLast, BeginsWritten, IsWrittenSoFar}
 use Rattle.afdx_acceptance.specs.declared.run.RunCounts.{RunCounts}
 use Rattle.afdx_acceptance.specs.declared.totals.Totals.{Totals}
 
--- some lines are written
-abbrev pub WritesLines : Option (List ℕ) → Option (List ℕ) → Type 0
-WritesLines old new = (lines : List ConformLine) × Appends old new (lines_text lines)
-
--- all lines of these frames are, but not the last one
+-- all lines of these frames are written, but not the last one
 pub record WritesDues (k : Rows × Choices) (frames : List Frame) (old new : Option (List ℕ)) :
     Type 0 where
   pub dues : List Due
   pub are_lines : AreLines k.0 k.1 (until_or k.1.until frames) frames dues
   pub written : Appends old new (lines_text (lines_of dues))
 
--- all lines of these frames are written and then the last one, that of the counts: so many of the
--- lines are findings, so many of the frames are left out, so many streams aren't judged, and each
--- other is
+-- all lines of these frames are written and then the last one, that of the counts
 pub record WritesAll (k : Rows × Choices) (frames : List Frame) (old new : Option (List ℕ))
     (totals : Totals) : Type 0 where
   pub dues : List Due
   pub are_lines : AreLines k.0 k.1 (until_or k.1.until frames) frames dues
+  pub totals_are : totals ≡ totals_of k frames dues
   pub written : Appends old new (lines_text (lines_of dues) ++ conform_text (last_line totals))
-  pub findings_are : totals.findings ≡ min (findings_in (lines_of dues)) most_counted
-  pub left_out_are : totals.left_out ≡ min (left_out_of k.0 k.1 frames) most_counted
-  pub unseen_are : totals.unseen ≡ unseen_of k.0 k.1.taps
 
 -- what is told in the place of the last line where recorders lost so many frames, if that matters
 abbrev pub loss_told : (is_lossy : Bool) → (lost : ℕ) → Option RunFault
@@ -55,18 +46,21 @@ loss_told false lost = if nat_lt 0 lost then Some (Recording (Lossy lost)) else 
 -- and holds `new`
 module _ (Takes : List Frame → Result SeenCount RunFault → Type 0) (k : Rows × Choices)
     (is_lossy : Bool) (old new : Option (List ℕ)) where
-  -- A run stops before it took all frames. At a fault of the inputs all is written so far; after a
-  -- failed write, or want of memory, a beginning of some lines.
+  -- A run stops before it took all frames. At a fault of the inputs exactly the lines of moments
+  -- before the time of the last frame are written; after a failed write, or want of memory, these,
+  -- or a beginning of the first lines.
   abbrev pub StopsAmong : RunFault → Type 0
   StopsAmong fault = (frames : List Frame) × Takes frames (Err fault)
-      × ByCause (cause_of fault) (WritesLines old new) (BeginsLines old new)
+      × ByCause (cause_of fault) (IsWrittenSoFar k frames old new)
+      (IsWrittenSoFar k frames old new ⊎ BeginsWritten k frames old new)
 
   -- Or it took them all. All lines are written, and the loss of frames is told; or else the last
-  -- line isn't written.
+  -- line isn't, or not all of it.
   abbrev pub StopsBehind : RunFault → Type 0
   StopsBehind fault = (frames : List Frame) × (count : SeenCount) × Takes frames (Ok count)
       × (((loss_told is_lossy (lost_of count) ≡ Some fault) × WritesDues k frames old new)
-      ⊎ ((loss_told is_lossy (lost_of count) ≡ None) × IsOfOutput fault × BeginsLines old new))
+      ⊎ ((loss_told is_lossy (lost_of count) ≡ None) × IsOfOutput fault
+      × BeginsLast k frames old new))
 
   -- all frames were taken, none was lost that matters, and all lines are written; or it stops with
   -- a fault, without a last line

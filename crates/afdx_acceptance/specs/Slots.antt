@@ -4,8 +4,7 @@ use Rattle.std.specs.Prelude.{◌≡◌, ℕ, ◌≤◌, ◌⊎◌, ⊤, List, [
 use Rattle.std.specs.List.{AllByRecursion}
 use Rattle.afdx_police.specs.Arrival.{Arrival}
 use Rattle.afdx_conform.specs.Findings.{Judged}
-use Rattle.afdx_conform.specs.Histories.{judged_of, shown}
-use Rattle.afdx_conform.specs.Standing.{IsEnding, StandsFor, due_of}
+use Rattle.afdx_conform.specs.Standing.{IsEnding, StandsFor}
 use Rattle.afdx_conform.specs.Streams.{Gone, Terms}
 use Rattle.afdx_text.specs.declared.conform_line.ConformLine.{ConformLine}
 use Rattle.afdx_text.specs.declared.conform_line.ConformLine.TheVariants as line
@@ -85,9 +84,3 @@ pub record Ends (until : ℕ) (before after : Slot) : Type 0 where
       → (slot_due after ≡ slot_due before) ⊎ (slot_due after ≡ None)
   pub due_strange : (k : Key) (all lines : List Due) → StrangersStand k all lines before
       → slot_due after ≡ slot_due before
-
--- once nothing is due, a stream is judged as a whole
-unfoldable pub IsCounted : Slot → Type 0
-IsCounted (Stream s) = (z : Terms) (xs : List Arrival) (ys : List Gone) (j : Judged)
-    → due_of s.value ≡ None → IsEnding z xs ys j s.value → j ≡ shown (judged_of z xs ys)
-IsCounted slot = Unit {0}

@@ -10,9 +10,10 @@ ghost use Rattle.afdx_acceptance.specs.ChoicesOf.{choices_of};
 ghost use Rattle.afdx_acceptance.specs.Judging.{IsSameButFindings, IsSameButTaken};
 ghost use Rattle.afdx_acceptance.specs.Tapped.{taps_in};
 ghost use Rattle.afdx_acceptance.specs.Telling as spec;
-ghost use Rattle.afdx_acceptance.specs.Told.{BeginsLines, HasTold, IsEndFor, IsEnding, Stands};
-ghost use Rattle.afdx_acceptance.specs.Told.{TellsAll, TellsToEnd};
-ghost use Rattle.afdx_acceptance.specs.Written.{IsWritten};
+ghost use Rattle.afdx_acceptance.specs.Beginning.{BeginsFrom};
+ghost use Rattle.afdx_acceptance.specs.Told.{GoesOn, HasBegun, IsEndFor, IsEnding, Stands};
+ghost use Rattle.afdx_acceptance.specs.Told.{TellsAll, TellsItems, TellsToEnd};
+ghost use Rattle.afdx_acceptance.specs.Written.{BeginsAll, IsWritten};
 ghost use Rattle.afdx_acceptance.specs.Keeping.{IsNothingDue};
 ghost use Rattle.afdx_config.specs.Rows.{Rows};
 ghost use Rattle.afdx_conform.specs.Ranges.{most_held};
@@ -66,8 +67,8 @@ impl<'a> Judging<'a> {
         taps: &'a Taps,
     ) -> Result<Judging<'a>, AllocError>
         ensures { (output : Option (List ℕ)) → IfOk result (λ judging.
-            TellsAll (tables.entry.now, choices_of (taps_in taps.entry.now) choices.entry.now) false 0 judging output
-            output []) }
+            TellsItems (tables.entry.now, choices_of (taps_in taps.entry.now) choices.entry.now)
+            judging output output []) }
     {
         let streams = Streams::new(alloc, tables, choices.leeway, taps)?;
         Ok(Judging {
@@ -118,24 +119,18 @@ impl<'a> Judging<'a> {
         ensures failed { O.failed output.new ≡ is_failed_write result }
         ensures fault { IfErr result IsOfOutput }
         ensures settings { O.settings output.new ≡ O.settings output.old }
-        ensures told { (k : Rows × Chosen) (start : Option (List ℕ)) (frames : List Frame) →
-            HasTold k self.old start (O.written output.old) frames →
-            OnOk result (HasTold k self.new start (O.written output.new) frames) }
-        ensures begun { (k : Rows × Chosen) (start : Option (List ℕ)) (frames : List Frame) →
-            HasTold k self.old start (O.written output.old) frames →
-            OnErr result (BeginsLines start (O.written output.new)) }
+        ensures begun { (k : Rows × Chosen) (last : Bool) (time to : ℕ)
+            (start : Option (List ℕ)) (frames : List Frame) →
+            GoesOn k last time to before self.old.streams.ended frames →
+            TellsAll k last time self.old start (O.written output.old) frames →
+            OnErr result (HasBegun k last to self.old.streams.ended start (O.written output.new)
+            frames) }
         ensures stands { (k : Rows × Chosen) (last : Bool) (time to : ℕ)
-            (start : Option (List ℕ)) (frames : List Frame) → time ≤ to →
-            (self.old.streams.ended ≡ None → before ≡ Some to) →
-            ((end : ℕ) → self.old.streams.ended ≡ None → k.1.until ≡ Some end → to ≤ end) →
-            ((end : ℕ) → self.old.streams.ended ≡ Some end →
-            IsEnding last k.1.until frames to end) →
+            (start : Option (List ℕ)) (frames : List Frame) →
+            GoesOn k last time to before self.old.streams.ended frames →
             TellsAll k last time self.old start (O.written output.old) frames →
-            OnOk result (TellsAll k last to self.new start (O.written output.new) frames) }
-        ensures nothing { (k : Rows × Chosen) (last : Bool) (time end : ℕ)
-            (start : Option (List ℕ)) (frames : List Frame) → self.old.streams.ended ≡ Some end →
-            TellsAll k last time self.old start (O.written output.old) frames →
-            OnOk result (IsNothingDue k.0 before self.new.streams.kept) }
+            OnOk result (TellsAll k last to self.new start (O.written output.new) frames
+            × IsNothingDue k.0 before self.new.streams.kept) }
         ensures ended { self.new.streams.ended ≡ self.old.streams.ended }
     {
         while let Some(lines) = self.streams.take_before(before)? {
@@ -150,18 +145,17 @@ impl<'a> Judging<'a> {
         ensures failed { O.failed output.new ≡ is_failed_write result }
         ensures fault { IfErr result IsOfOutput }
         ensures settings { O.settings output.new ≡ O.settings output.old }
-        ensures told { (k : Rows × Chosen) (start : Option (List ℕ)) (frames : List Frame) →
-            HasTold k self.old start (O.written output.old) frames →
-            OnOk result (HasTold k self.new start (O.written output.new) frames) }
-        ensures begun { (k : Rows × Chosen) (start : Option (List ℕ)) (frames : List Frame) →
-            HasTold k self.old start (O.written output.old) frames →
-            OnErr result (BeginsLines start (O.written output.new)) }
-        ensures stands { (k : Rows × Chosen) (last after : Bool) (time to : ℕ)
+        ensures begun { (k : Rows × Chosen) (time : ℕ) (start : Option (List ℕ))
+            (frames : List Frame) → time ≤ until →
+            ((end : ℕ) → k.1.until ≡ Some end → until ≤ end) → self.old.streams.ended ≡ None →
+            TellsAll k false time self.old start (O.written output.old) frames →
+            OnErr result (HasBegun k false until None start (O.written output.new) frames) }
+        ensures stands { (k : Rows × Chosen) (after : Bool) (time to : ℕ)
             (start : Option (List ℕ)) (frames : List Frame) → time ≤ until → until ≤ to →
             latest_of frames ≤ until → IsEndFor k.1.until frames until →
             ((end : ℕ) → k.1.until ≡ Some end → until ≤ end) →
             IsEnding after k.1.until frames to until → self.old.streams.ended ≡ None →
-            TellsAll k last time self.old start (O.written output.old) frames →
+            TellsAll k false time self.old start (O.written output.old) frames →
             OnOk result (TellsAll k after to self.new start (O.written output.new) frames
             × (self.new.streams.ended ≡ Some until)) }
     {
@@ -177,12 +171,10 @@ impl<'a> Judging<'a> {
         ensures failed { O.failed output.new ≡ is_failed_write result }
         ensures fault { IfErr result IsOfOutput }
         ensures settings { O.settings output.new ≡ O.settings output.old }
-        ensures told { (k : Rows × Chosen) (start : Option (List ℕ)) (frames : List Frame) →
-            HasTold k self.old start (O.written output.old) frames →
-            OnOk result (HasTold k self.new start (O.written output.new) frames) }
-        ensures begun { (k : Rows × Chosen) (start : Option (List ℕ)) (frames : List Frame) →
-            HasTold k self.old start (O.written output.old) frames →
-            OnErr result (BeginsLines start (O.written output.new)) }
+        ensures begun { (k : Rows × Chosen) (before : ℕ) (start : Option (List ℕ))
+            (frames : List Frame) → before ≤ time → latest_of frames ≤ before →
+            TellsAll k false before self.old start (O.written output.old) frames →
+            OnErr result (BeginsFrom k time start (O.written output.new) frames) }
         ensures stands { (k : Rows × Chosen) (before : ℕ) (start : Option (List ℕ))
             (frames : List Frame) → before ≤ time → latest_of frames ≤ before →
             TellsAll k false before self.old start (O.written output.old) frames →
@@ -207,12 +199,9 @@ impl<'a> Judging<'a> {
         ensures failed { O.failed output.new ≡ is_failed_write result }
         ensures fault { IfErr result IsOfOutput }
         ensures settings { O.settings output.new ≡ O.settings output.old }
-        ensures told { (k : Rows × Chosen) (start : Option (List ℕ)) (frames : List Frame) →
-            HasTold k self.old start (O.written output.old) frames →
-            OnOk result (HasTold k self.new start (O.written output.new) frames) }
         ensures begun { (k : Rows × Chosen) (start : Option (List ℕ)) (frames : List Frame) →
-            HasTold k self.old start (O.written output.old) frames →
-            OnErr result (BeginsLines start (O.written output.new)) }
+            TellsAll k false (latest_of frames) self.old start (O.written output.old) frames →
+            OnErr result (BeginsAll k frames start (O.written output.new)) }
         ensures stands { (k : Rows × Chosen) (start : Option (List ℕ)) (frames : List Frame) →
             TellsAll k false (latest_of frames) self.old start (O.written output.old) frames →
             OnOk result ((time : ℕ)
@@ -234,23 +223,22 @@ impl<'a> Judging<'a> {
         ensures failed { O.failed output.new ≡ is_failed_write result }
         ensures fault { IfErr result IsOfOutput }
         ensures settings { O.settings output.new ≡ O.settings output.old }
-        ensures told { (k : Rows × Chosen) (start : Option (List ℕ)) (frames : List Frame) →
-            HasTold k self.old start (O.written output.old) frames →
-            OnOk result (HasTold k self.new start (O.written output.new) frames) }
-        ensures begun { (k : Rows × Chosen) (start : Option (List ℕ)) (frames : List Frame) →
-            HasTold k self.old start (O.written output.old) frames →
-            OnErr result (BeginsLines start (O.written output.new)) }
+        ensures begun { (k : Rows × Chosen) (before : ℕ) (start : Option (List ℕ))
+            (frames : List Frame) → before ≤ time → latest_of frames ≤ before →
+            TellsAll k false before self.old start (O.written output.old) frames →
+            OnErr result (BeginsFrom k time start (O.written output.new) frames) }
         ensures stands { (k : Rows × Chosen) (before : ℕ) (start : Option (List ℕ))
             (frames : List Frame) → before ≤ time → latest_of frames ≤ before →
             TellsAll k false before self.old start (O.written output.old) frames →
-            OnOk result (TellsAll k false time self.new start (O.written output.new) frames) }
+            OnOk result (TellsAll k false time self.new start (O.written output.new) frames
+            × IsNothingDue k.0 (Some time) self.new.streams.kept) }
     {
         self.close_before(time, output)?;
         self.tell_due(Some(time), output)
     }
 
-    /// Whether a line that names this link is passed over: the link is left out, or the line left and
-    /// its sender's port isn't recorded.
+    /// Whether a line that names this link is passed over: the link is left out, or the line left
+    /// and its sender's port isn't recorded.
     fn is_passed(&self, seen: &Seen, vl: Option<VlId>) -> bool
         ensures { (x : Frame) → x.role ≡ seen.now.role → x.arrival.side ≡ seen.now.heading.side →
             vl ≡ link_named_by x.arrival.bytes →
@@ -302,7 +290,9 @@ impl<'a> Judging<'a> {
 
 impl Machine<Seen> for Judging<'_> {
     ghost use Rattle.afdx_acceptance.specs.Choices.{Choices as Chosen};
-    ghost use Rattle.afdx_acceptance.specs.Told.{BeginsLines, TellsItems, TellsToEnd};
+    ghost use Rattle.afdx_acceptance.specs.Told.{TellsItems, TellsToEnd};
+    ghost use Rattle.afdx_acceptance.specs.Written.{BeginsWritten};
+    ghost use Rattle.afdx_inputs.specs.Joining.{frames_of};
     ghost use Rattle.afdx_config.specs.Rows.{Rows};
 
     ghost Rules = { Rows × Chosen };
@@ -311,7 +301,8 @@ impl Machine<Seen> for Judging<'_> {
 
     ghost Told = { TellsItems };
 
-    ghost Begins = { λ rules judging old new past. BeginsLines old new };
+    ghost Begins = { λ rules judging old new past.
+        BeginsWritten rules (frames_of past) old new };
 
     ghost Done = { TellsToEnd };
 

@@ -11,14 +11,17 @@ ghost use Rattle.afdx_conform.specs.Marks.{IsJudged, arrival_of};
 ghost use Rattle.afdx_conform.specs.Histories.{nothing_judged};
 ghost use Rattle.afdx_conform.specs.Growing.{MayCome, MayLeave};
 ghost use Rattle.afdx_conform.specs.Standing.{StandsFor, due_of};
-ghost use Rattle.afdx_acceptance.specs.Awaited.{Awaits, awaited, rank_of};
+ghost use Rattle.afdx_conform.specs.Streams.{Gone, Terms};
+ghost use Rattle.afdx_police.specs.Arrival.{Arrival};
+ghost use Rattle.afdx_acceptance.specs.Awaited.{Awaits, IsBefore, awaited, rank_of};
 ghost use Rattle.afdx_acceptance.specs.Choices.{Choices};
+ghost use Rattle.afdx_acceptance.specs.Counting.{Counted, HasCounted, both_counted, stream_counted};
 ghost use Rattle.afdx_acceptance.specs.Frames.{link_to, terms_at};
 ghost use Rattle.afdx_acceptance.specs.Keys.{IsKey, key_place};
 ghost use Rattle.afdx_acceptance.specs.declared.slot.Slot.TheVariants as Slot;
 ghost use Rattle.afdx_acceptance.specs.Keeping.{AreKept, Given, IsNothingDue, IsSomeUpTo, IsStreamOf, is_known, kept_with, nothing_given, slot_at, with_came, with_left, with_strange};
 ghost use Rattle.afdx_acceptance.specs.Lines.{Due};
-ghost use Rattle.afdx_acceptance.specs.Slots.{AreFalling, IsCounted, IsStrange, IsStream, told_at, waiting_due};
+ghost use Rattle.afdx_acceptance.specs.Slots.{AreFalling, IsStrange, IsStream, StreamEnds, told_at, waiting_due};
 ghost use Rattle.afdx_acceptance.specs.Waiting.{left_in, slot_due};
 
 use crate::agenda::{Agenda, Entry};
@@ -237,6 +240,7 @@ impl Kept {
             IfOk result (λ l. AreKept t c until ended time given
             (told_at l.key l.moment l.lines.items lines) self.new) }
         ensures less { OnOk result (left_in self.new.slots.items < left_in self.old.slots.items) }
+        ensures of { IfOk result (λ l. awaited l.moment l.key ≡ entry.now) }
     {
         let (key, moment) = (entry.key, entry.moment);
         let place = key.place();
@@ -266,6 +270,8 @@ impl Kept {
             × IsNothingDue t before self.new)) }
         ensures less { IfOk result (λ lines. IsSome lines →
             left_in self.new.slots.items < left_in self.old.slots.items) }
+        ensures in_time { IfOk result (λ taken. IfSome taken (λ l.
+            IsBefore before (awaited l.moment l.key))) }
     {
         while let Some(entry) = self.agenda.take_before(before) {
             if is_due(self.slots.as_slice(), &entry) {
@@ -289,16 +295,20 @@ impl Kept {
         }
     }
 
-    /// What is counted of all streams.
-    pub(crate) fn count(&self, totals: &mut Totals)
+    /// What is counted of the stream of the key, if one is kept.
+    pub(crate) fn count(&self, key: Key, totals: &mut Totals)
         ensures findings { totals.new.findings ≡ totals.old.findings }
         ensures left_out { totals.new.left_out ≡ totals.old.left_out }
         ensures unseen { totals.new.unseen ≡ totals.old.unseen }
-        ensures judged { (i : ℕ) → i < length self.now.slots.items →
-            IsCounted (get_or self.now.slots.items i Slot.Nothing) }
+        ensures counted { (n : Counted) (z : Terms) (xs : List Arrival) (ys : List Gone)
+            (lines : List Due) → slot_due (slot_at self.now.slots.items key) ≡ None →
+            StreamEnds z key xs ys lines (slot_at self.now.slots.items key) →
+            HasCounted n totals.old → HasCounted (both_counted n (stream_counted z xs ys))
+            totals.new }
     {
-        for slot in self.slots.as_slice() {
-            totals.add(slot);
+        let place = key.place();
+        if place < self.slots.len() {
+            totals.add(&self.slots[place]);
         }
     }
 }

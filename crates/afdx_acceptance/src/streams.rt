@@ -23,12 +23,15 @@ ghost use Rattle.afdx_acceptance.specs.Frames.{frame_with, link_to};
 ghost use Rattle.afdx_acceptance.specs.Keeping.{AreKept, Given, IsNothingDue, IsSomeUpTo, is_known, with_came, with_left, with_strange};
 ghost use Rattle.afdx_acceptance.specs.Keys.{key_with};
 ghost use Rattle.afdx_acceptance.specs.Lines.{Due};
-ghost use Rattle.afdx_acceptance.specs.Slots.{AreFalling, IsCounted, IsStrange, IsStream, told_at, waiting_due};
+ghost use Rattle.afdx_acceptance.specs.Slots.{AreFalling, IsStrange, IsStream, told_at, waiting_due};
+ghost use Rattle.afdx_acceptance.specs.Awaited.{IsBefore, awaited};
+ghost use Rattle.afdx_acceptance.specs.Counting.{AreEnded, HasCounted, counted_of, none_counted};
 ghost use Rattle.afdx_acceptance.specs.Keeping.{slot_at};
 ghost use Rattle.afdx_acceptance.specs.Tapped as spec;
 ghost use Rattle.afdx_acceptance.specs.Tapped.{taps_in};
 ghost use Rattle.afdx_acceptance.specs.Waiting.{left_in};
 
+use crate::counting::count_streams;
 use crate::kept::{Kept, Lines};
 use crate::key::Key;
 use crate::outlets::{link_named, new_stream, outlet_at, receiver, rule_at};
@@ -224,8 +227,8 @@ impl<'a> Streams<'a> {
         })
     }
 
-    /// A frame came in that names this link: it comes to each of the link's streams on its side that
-    /// is judged.
+    /// A frame came in that names this link: it comes to each of the link's streams on its side
+    /// that is judged.
     pub(crate) fn came(
         &mut self,
         vl: Option<VlId>,
@@ -267,7 +270,8 @@ impl<'a> Streams<'a> {
         Ok(())
     }
 
-    /// Whether a frame that names this link left on a side on which its sender's port isn't recorded.
+    /// Whether a frame that names this link left on a side on which its sender's port isn't
+    /// recorded.
     pub(crate) fn is_unheard(&self, role: Role, side: Side, vl: Option<VlId>) -> bool
         ensures { (x : Seen) → x.role ≡ role → x.arrival.side ≡ side →
             vl ≡ link_named_by x.arrival.bytes →
@@ -345,6 +349,8 @@ impl<'a> Streams<'a> {
         ensures rules { IsSameButKept self.old self.new }
         ensures less { IfOk result (λ lines. IsSome lines →
             left_in self.new.kept.slots.items < left_in self.old.kept.slots.items) }
+        ensures in_time { IfOk result (λ taken. IfSome taken (λ l.
+            IsBefore before (awaited l.moment l.key))) }
     {
         let taken = self.kept.take_before(self.alloc, before, self.ended)?;
         Ok(taken)
@@ -371,14 +377,16 @@ impl<'a> Streams<'a> {
         unseen_of(self.tables, self.taps)
     }
 
-    /// What is counted of all streams.
+    /// What is counted of all streams, on both sides.
     pub(crate) fn count(&self, totals: &mut Totals)
         ensures findings { totals.new.findings ≡ totals.old.findings }
         ensures left_out { totals.new.left_out ≡ totals.old.left_out }
         ensures unseen { totals.new.unseen ≡ totals.old.unseen }
-        ensures judged { (i : ℕ) → i < length self.now.kept.slots.items →
-            IsCounted (get_or self.now.kept.slots.items i slot.Nothing) }
+        ensures counted { (c : Choices) (until : ℕ) (frames : List Seen) →
+            AreEnded self.now.tables.now c until frames self.now.kept →
+            HasCounted none_counted totals.old →
+            HasCounted (counted_of self.now.tables.now c until frames) totals.new }
     {
-        self.kept.count(totals);
+        count_streams(self.tables, &self.kept, totals);
     }
 }

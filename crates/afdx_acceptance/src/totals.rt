@@ -1,7 +1,13 @@
 //! What is counted in a run, and what that answers.
 
-ghost use Rattle.std.specs.Prelude.{◌≡◌, ◌⊎◌};
+ghost use Rattle.std.specs.Prelude.{◌≡◌, ◌⊎◌, List, None};
+ghost use Rattle.afdx_conform.specs.Streams.{Gone, Terms};
+ghost use Rattle.afdx_police.specs.Arrival.{Arrival};
+ghost use Rattle.afdx_acceptance.specs.Counting.{Counted, HasCounted, both_counted};
+ghost use Rattle.afdx_acceptance.specs.Counting.{none_counted, stream_counted};
+ghost use Rattle.afdx_acceptance.specs.Lines.{Due};
 ghost use Rattle.afdx_acceptance.specs.Totals as spec;
+ghost use Rattle.afdx_acceptance.specs.declared.key.Key.{Key};
 
 use crate::slot::Slot;
 use afdx_text::{Answer, ConformLine};
@@ -25,7 +31,8 @@ pub struct Totals {
 }
 
 impl Totals {
-    ghost use Rattle.afdx_acceptance.specs.Slots.{IsCounted};
+    ghost use Rattle.afdx_acceptance.specs.Slots.{StreamEnds};
+    ghost use Rattle.afdx_acceptance.specs.Waiting.{slot_due};
 
     /// So many findings, lines that were left out and streams that aren't judged; nothing of those
     /// that are.
@@ -33,6 +40,7 @@ impl Totals {
         ensures findings { result.findings ≡ findings }
         ensures left_out { result.left_out ≡ left_out }
         ensures unseen { result.unseen ≡ unseen }
+        ensures counted { HasCounted none_counted result }
     {
         Totals {
             findings,
@@ -46,11 +54,15 @@ impl Totals {
     }
 
     /// What is counted of one more.
+    #[tactic(auto, unfolding(crate::specs::Slots::StreamEnds, crate::specs::Waiting::slot_due))]
     pub(crate) fn add(&mut self, slot: &Slot)
         ensures findings { self.new.findings ≡ self.old.findings }
         ensures left_out { self.new.left_out ≡ self.old.left_out }
         ensures unseen { self.new.unseen ≡ self.old.unseen }
-        ensures judged { IsCounted slot.now }
+        ensures counted { (n : Counted) (z : Terms) (k : Key) (xs : List Arrival)
+            (ys : List Gone) (lines : List Due) → slot_due slot.now ≡ None →
+            StreamEnds z k xs ys lines slot.now → HasCounted n self.old →
+            HasCounted (both_counted n (stream_counted z xs ys)) self.new }
     {
         if let Slot::Stream(stream) = slot {
             let counts = stream.counts();

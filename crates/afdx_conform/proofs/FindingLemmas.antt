@@ -21,7 +21,7 @@ use Rattle.afdx_conform.proofs.StateLemmas.{states_explain}
 use Rattle.afdx_conform.proofs.ThinLemmas.{enough-on, enough-came, enough-closing, outdoes-itself}
 
 -- something was found
-abbrev IsFound : List Found → Type 0
+abbrev pub IsFound : List Found → Type 0
 IsFound [] = ⊥
 IsFound (f ∷ more) = Unit {0}
 
@@ -31,7 +31,7 @@ if-both P false u v p q = q
 
 -- ---- what gives a finding
 
-skipped-stays : (z : Terms) (time : ℕ) (front : List State) (rest : List Gone) (j : Judged)
+pub skipped-stays : (z : Terms) (time : ℕ) (front : List State) (rest : List Gone) (j : Judged)
     → IsFound j.findings → IsFound (skipped z time front rest j).findings
 unfolding skipped unexplained
 skipped-stays z time front [] j h = h
@@ -39,14 +39,14 @@ skipped-stays z time front (y ∷ rest) j h =
     if-both (λ (r : Judged). IsFound r.findings) (are_behind time rest) _ _ tt
     (skipped-stays z time front rest _ tt)
 
-skipped-finds : (z : Terms) (time : ℕ) (front : List State) (y : Gone) (rest : List Gone) (j : Judged)
+pub skipped-finds : (z : Terms) (time : ℕ) (front : List State) (y : Gone) (rest : List Gone) (j : Judged)
     → IsFound (skipped z time front (y ∷ rest) j).findings
 unfolding skipped unexplained
 skipped-finds z time front y rest j =
     if-both (λ (r : Judged). IsFound r.findings) (are_behind time rest) _ _ tt
     (skipped-stays z time front rest _ tt)
 
-deviates-finds : (z : Terms) (behind : List Arrival) (x : Arrival) (states : List State) (rest : List Gone) (j : Judged)
+pub deviates-finds : (z : Terms) (behind : List Arrival) (x : Arrival) (states : List State) (rest : List Gone) (j : Judged)
     → IsFound (deviates z behind x states rest j).findings
 unfolding deviates unexplained
 deviates-finds z behind x states [] j = tt
@@ -107,24 +107,24 @@ front-is (s ∷ t ∷ more) h = by (nat_lt (length s.rest) (length (front_rest (
 -- ---- one step
 
 -- nothing was found, and the states are enough of all; or something was, and there are none
-record IsGood (all : List State) (j : Judged) : Type 0 where
+pub record IsGood (all : List State) (j : Judged) : Type 0 where
   pub none : j.findings ≡ []
   pub enough : AreEnough all j.states
   pub some : IsSomeState j.states
 
-record IsBad (all : List State) (j : Judged) : Type 0 where
+pub record IsBad (all : List State) (j : Judged) : Type 0 where
   pub found : IsFound j.findings
   pub gone : all ≡ []
 
-abbrev IsEither : List State → Judged → Type 0
+abbrev pub IsEither : List State → Judged → Type 0
 IsEither all j = IsGood all j ⊎ IsBad all j
 
 module _ (z : Terms) (behind : List Arrival) (last : ℕ) (x : Arrival) (all : List State) (j : Judged)
     (mark : Option Reason) (n : ℕ) where
-  abbrev To : State → List State
+  abbrev pub To : State → List State
   To s = states_at z x (levels_then z s.levels last x) s
 
-  came-cases : (l : List State) → led_by To j.states ≡ l → IsEither all j
+  pub came-cases : (l : List State) → led_by To j.states ≡ l → IsEither all j
       → IsEither (led_by To all) (with_mark x mark (few_of z n (answered_by z behind last x l j)))
   unfolding led_by
   came-cases [] e (inl g) = inr (record {
@@ -150,7 +150,7 @@ module _ (z : Terms) (behind : List Arrival) (last : ℕ) (x : Arrival) (all : L
   })
 
 module _ (z : Terms) (time : ℕ) (all : List State) (j : Judged) where
-  abbrev Stays : State → Bool
+  abbrev pub Stays : State → Bool
   Stays s = are_behind time s.rest
 
   front-goes : (rest : List Gone) → front_rest j.states ≡ rest → IsSomeState j.states → kept Stays j.states ≡ []
@@ -162,7 +162,7 @@ module _ (z : Terms) (time : ℕ) (all : List State) (j : Judged) where
       (kept-among Stays j.states f.of f.among (ap (λ (r : List Gone). are_behind time r) (f.rest ∙ e))))
   front-goes (y ∷ rest) e some none = skipped-finds z time (lead j.states) y rest j
 
-  closed-cases : (l : List State) → kept Stays j.states ≡ l → IsEither all j
+  pub closed-cases : (l : List State) → kept Stays j.states ≡ l → IsEither all j
       → IsEither (kept Stays all) (closed_by z time l j)
   unfolding kept
   closed-cases [] e (inl g) = inr (record {
@@ -191,18 +191,18 @@ unfolding first_states
 first-some z levels [] = tt
 first-some z levels (y ∷ ys) = tt
 
-enough-itself : (all : List State) → AreEnough all all
+pub enough-itself : (all : List State) → AreEnough all all
 enough-itself all = record {
   among = λ s m. m;
   outdone = λ s m. record { by = s; among = m; outdoes = outdoes-itself s };
 }
 
-marked-either : (x : Arrival) (mark : Option Reason) (all : List State) (j : Judged) → IsEither all j
+pub marked-either : (x : Arrival) (mark : Option Reason) (all : List State) (j : Judged) → IsEither all j
     → IsEither all (with_mark x mark j)
 marked-either x mark all j (inl g) = inl (record { none = g.none; enough = g.enough; some = g.some })
 marked-either x mark all j (inr b) = inr (record { found = b.found; gone = b.gone })
 
-judged-is : (z : Terms) (ys : List Gone) (behind : List Arrival) (events : List Event)
+pub judged-is : (z : Terms) (ys : List Gone) (behind : List Arrival) (events : List Event)
     → (judged_after z ys behind events).is_unsure ≡ false
     → IsEither (states_after z ys (sound_events z events)) (judged_after z ys behind events)
 unfolding judged_after states_after sound_events came_to closed_to
@@ -257,7 +257,7 @@ judged-is z ys behind (Closing time ∷ before) h =
     by false e k more = closed-cases z time (states_after z ys (sound_events z before)) (judged_after z ys behind before)
         _ refl (more e)
 
-found-none : (found : List Found) → IsFound found → found ≡ [] → ⊥
+pub found-none : (found : List Found) → IsFound found → found ≡ [] → ⊥
 found-none [] h e = h
 found-none (f ∷ more) h e = absurd (cc)
 

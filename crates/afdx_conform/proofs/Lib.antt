@@ -65,3 +65,6 @@ pub mod EndingLemmas
 pub mod EndDueLemmas
 pub mod CountLemmas
 pub mod DueNowLemmas
+pub mod QuietLemmas
+pub mod CutLemmas
+pub mod OpenLemmas

@@ -13,7 +13,7 @@ use Rattle.afdx_conform.specs.Explanations.{Answered, answered, accepted_in, arr
 use Rattle.afdx_conform.specs.Laws.{IsSomeState, StatesAreExplanations}
 use Rattle.afdx_conform.specs.States.{Event, Came, Closing, State, state_with, arrivals_came, are_behind, first_states, accepted_states, states_at, states_after, IsBehindClosings, AreInOrder}
 use Rattle.afdx_conform.proofs.AmongLemmas.{Among, among-some, some-among, among-left, among-right, led-among, kept-among, kept-from}
-use Rattle.afdx_conform.proofs.ReachedLemmas.{first-among, reached, turn-cons}
+use Rattle.afdx_conform.proofs.ReachedLemmas.{Reached, first-among, reached, turn-cons}
 
 -- ---- from what explains a stream to a state
 
@@ -63,7 +63,7 @@ record Explained (z : Terms) (ys : List Gone) (events : List Event) (answers : L
   pub behind : AreBehindAll rest events
 
 -- the state where it stands
-abbrev standing : Terms → List Answered → List Arrival → List Gone → State
+abbrev pub standing : Terms → List Answered → List Arrival → List Gone → State
 standing z answers waiting rest = state_with rest (levels_after z answers) (length waiting)
 
 none-first : (waiting took : List Arrival) → [] ≡ waiting ++ took → (waiting ≡ []) × (took ≡ [])
@@ -280,6 +280,41 @@ behind-end end [] (y ∷ rest) all h =
     let early = all.0 in absurd (omega (arith, late, early))
 behind-end end (x ∷ before) rest all h = behind-end end before rest all.1 h
 
+-- where no frame is left, what leads to a state explains all frames, with as many arrivals that wait
+pub explains-so : (z : Terms) (ys : List Gone) (events : List Event) (s : State) → Reached z ys events s → s.rest ≡ []
+    → (e : Explains z (arrivals_came events) (reverse ys)) × (length e.waiting ≡ s.waiting)
+explains-so z ys events s r none =
+    let turned : reverse r.passed ≡ ys = sym (append-nil (reverse r.passed))
+    ∙ ap (λ (l : List Gone). reverse r.passed ++ l) (sym none) ∙ r.all in
+    let passed : r.passed ≡ reverse ys = sym (reverse-reverse r.passed) ∙ ap (λ (l : List Gone). reverse l) turned in (
+      record {
+        answers = r.answers;
+        are_answered = r.are_answered;
+        are_allowed = r.are_allowed;
+        waiting = r.waiting;
+        took = r.took;
+        accepted = r.accepted;
+        are_open = r.are_open;
+        are_pairs = subst (λ (l : List Gone). ArePairs z r.took l) passed r.are_pairs;
+      },
+      sym r.count,
+    )
+
+-- and what explains them is a state
+pub explained-state : (z : Terms) (ys : List Gone) (events : List Event) → AreInOrder z events
+    → (e : Explains z (arrivals_came events) (reverse ys)) → Among (standing z e.answers e.waiting []) (states_after z ys events)
+explained-state z ys events order e =
+    among-of z ys events order e.answers e.waiting e.took (reverse ys) [] (record {
+      are_answered = e.are_answered;
+      are_allowed = e.are_allowed;
+      accepted = e.accepted;
+      are_open = e.are_open;
+      are_pairs = e.are_pairs;
+      all = append-nil (reverse (reverse ys)) ∙ reverse-reverse ys;
+      last = inr refl;
+      behind = behind-none events;
+    })
+
 pub states_explain : StatesAreExplanations
 unfolding states_after are_behind
 states_explain z ys events end order all = (there, back)
@@ -288,21 +323,8 @@ states_explain z ys events end order all = (there, back)
     explains-by s h =
         let kept = kept-from (λ s. are_behind end s.rest) (states_after z ys events) s h in
         let r = reached z ys events s kept.0 in
-        let none : s.rest ≡ [] = behind-end end (reverse r.passed) s.rest
-        (subst (λ (l : List Gone). AllByRecursion (λ (y : Gone). y.time ≤ end) l) (sym r.all) all) kept.1 in
-        let turned : reverse r.passed ≡ ys = sym (append-nil (reverse r.passed))
-        ∙ ap (λ (l : List Gone). reverse r.passed ++ l) (sym none) ∙ r.all in
-        let passed : r.passed ≡ reverse ys = sym (reverse-reverse r.passed) ∙ ap (λ (l : List Gone). reverse l) turned in
-        record {
-          answers = r.answers;
-          are_answered = r.are_answered;
-          are_allowed = r.are_allowed;
-          waiting = r.waiting;
-          took = r.took;
-          accepted = r.accepted;
-          are_open = r.are_open;
-          are_pairs = subst (λ (l : List Gone). ArePairs z r.took l) passed r.are_pairs;
-        }
+        (explains-so z ys events s r (behind-end end (reverse r.passed) s.rest
+        (subst (λ (l : List Gone). AllByRecursion (λ (y : Gone). y.time ≤ end) l) (sym r.all) all) kept.1)).0
 
     there : IsSomeState (states_after z ys (Closing end ∷ events)) → Explains z (arrivals_came events) (reverse ys)
     there h = let s = some-among (states_after z ys (Closing end ∷ events)) h in explains-by s.0 s.1
@@ -311,13 +333,4 @@ states_explain z ys events end order all = (there, back)
     back e =
         among-some (standing z e.answers e.waiting []) (states_after z ys (Closing end ∷ events))
         (kept-among (λ s. are_behind end s.rest) (states_after z ys events) (standing z e.answers e.waiting [])
-        (among-of z ys events order e.answers e.waiting e.took (reverse ys) [] (record {
-          are_answered = e.are_answered;
-          are_allowed = e.are_allowed;
-          accepted = e.accepted;
-          are_open = e.are_open;
-          are_pairs = e.are_pairs;
-          all = append-nil (reverse (reverse ys)) ∙ reverse-reverse ys;
-          last = inr refl;
-          behind = behind-none events;
-        })) refl)
+        (explained-state z ys events order e) refl)

@@ -132,7 +132,7 @@ sound-behind z x (Came w ∷ l) h =
     (Came w ∷ sound_events z l) (sound_events z l) (sound-behind z x l h) (sound-behind z x l h)
 sound-behind z x (Closing time ∷ l) h = (h.0, sound-behind z x l h.1)
 
-sound-order : (z : Terms) (l : List Event) → AreInOrder z l → AreInOrder z (sound_events z l)
+pub sound-order : (z : Terms) (l : List Event) → AreInOrder z l → AreInOrder z (sound_events z l)
 unfolding sound_events AreInOrder
 sound-order z [] h = tt
 sound-order z (Came w ∷ l) h =
@@ -140,7 +140,7 @@ sound-order z (Came w ∷ l) h =
     (Came w ∷ sound_events z l) (sound_events z l) (sound-behind z w l h.0, sound-order z l h.1) (sound-order z l h.1)
 sound-order z (Closing time ∷ l) h = sound-order z l h
 
-sound-came : (z : Terms) (l : List Event) → arrivals_came (sound_events z l) ≡ sound_of z.rule (arrivals_came l)
+pub sound-came : (z : Terms) (l : List Event) → arrivals_came (sound_events z l) ≡ sound_of z.rule (arrivals_came l)
 unfolding sound_events sound_of
 sound-came z [] = refl
 sound-came z (Came w ∷ l) = by (is_none (fault_of (Some z.rule) w.port w.bytes)) (sound-came z l)
@@ -154,20 +154,21 @@ sound-came z (Closing time ∷ l) = sound-came z l
 
 -- ---- all of it
 
-abbrev total : List Gone → ℕ
+abbrev pub total : List Gone → ℕ
 total [] = 0
 total (y ∷ ys) = y.time + total ys
 
-all-within : (ys : List Gone) → AllByRecursion (λ y. y.time ≤ total ys) ys
+pub all-within : (ys : List Gone) → AllByRecursion (λ y. y.time ≤ total ys) ys
 all-within [] = tt
 all-within (y ∷ ys) = (
   omega arith,
   every-on (λ w. w.time ≤ total ys) (λ w. w.time ≤ y.time + total ys) (λ w h. omega (arith, h)) ys (all-within ys),
 )
 
-pub all_explained : AllEventsAreExplained
-unfolding judged_after
-all_explained z xs ys p q sure =
+-- once all events are over no frame is left
+pub none-whole : (z : Terms) (xs : List Arrival) (ys : List Gone) → (judged_whole z xs ys).is_unsure ≡ false
+    → AllByRecursion (λ s. s.rest ≡ []) (judged_whole z xs ys).states
+none-whole z xs ys sure =
     let events = reverse (events_of z xs ys) in
     let j = judged_whole z xs ys in
     let times = closings-reverse (events_of z xs ys) ∙ ap (λ (l : List ℕ). reverse l) (closed-all z xs ys) in
@@ -175,13 +176,25 @@ all_explained z xs ys p q sure =
     (subst (λ (l : List ℕ). AllPast j.states l) times (past-after z ys [] events sure)) in
     let here = every-unmap (λ t. Holds (IsPast t) j.states) (λ (y : Gone). y.time) ys
     (subst (λ (l : List ℕ). AllPast j.states l) (reverse-reverse (frame_times ys)) past) in
-    let none = none-are-left ys j.states (holds-after (λ y. IsOneOf y ys) z ys [] events (all-of ys)) here in
+    none-are-left ys j.states (holds-after (λ y. IsOneOf y ys) z ys [] events (all-of ys)) here
+
+-- its arrivals of the right shape
+pub sound-whole : (z : Terms) (xs : List Arrival) (ys : List Gone)
+    → arrivals_came (sound_events z (reverse (events_of z xs ys))) ≡ sound_of z.rule (reverse xs)
+sound-whole z xs ys =
+    sound-came z (reverse (events_of z xs ys)) ∙ ap (λ (l : List Arrival). sound_of z.rule l)
+    (came-reverse (events_of z xs ys) ∙ ap (λ (l : List Arrival). reverse l) (came-all z xs ys))
+
+pub all_explained : AllEventsAreExplained
+unfolding judged_after
+all_explained z xs ys p q sure =
+    let events = reverse (events_of z xs ys) in
+    let j = judged_whole z xs ys in
+    let none = none-whole z xs ys sure in
     let same : closed_to z (total ys) j ≡ j = closed-none z (total ys) j sure (some-after z ys [] events) none in
     let two = found_explained z ys events (total ys) (sound-order z events (in-order z xs ys p)) (all-within ys)
     (ap (λ (k : Judged). k.is_unsure) same ∙ sure) in
-    let came : arrivals_came (sound_events z events) ≡ sound_of z.rule (reverse xs) =
-    sound-came z events ∙ ap (λ (l : List Arrival). sound_of z.rule l)
-    (came-reverse (events_of z xs ys) ∙ ap (λ (l : List Arrival). reverse l) (came-all z xs ys)) in (
+    let came = sound-whole z xs ys in (
       λ e. subst (λ (l : List Arrival). Explains z l (reverse ys)) came
           (two.0 (ap (λ (k : Judged). k.findings) same ∙ e)),
       λ e. sym (ap (λ (k : Judged). k.findings) same)

@@ -1,5 +1,5 @@
 -- Laws over the events of a stream. Lists have the oldest first, but those of findings.
-use Rattle.std.specs.Prelude.{◌≡◌, ℕ, ◌+◌, ◌≤◌, ◌↔◌, ◌⊎◌, true, false, List, [], ◌∷◌, ◌++◌, map, reverse}
+use Rattle.std.specs.Prelude.{◌≡◌, ℕ, ◌+◌, ◌<◌, ◌≤◌, ◌↔◌, ◌⊎◌, true, false, List, [], ◌∷◌, ◌++◌, length, map, reverse}
 use Rattle.std.specs.List.{AllByRecursion}
 use Rattle.afdx_police.specs.Arrival.{Arrival}
 use Rattle.afdx_conform.specs.Ahead.{until_then}
@@ -92,3 +92,25 @@ AllEventsAreExplained =
     (judged_whole z xs ys).is_unsure ≡ false →
     ((judged_whole z xs ys).findings ≡ [])
     ↔ Explains z (sound_of z.rule (reverse xs)) (reverse ys)
+
+-- where something explains a stream nothing is found, also where there were too many states
+abbrev pub ExplainedFindsNothing : Type 0
+ExplainedFindsNothing =
+    (z : Terms) (xs : List Arrival) (ys : List Gone) →
+    GoUp (arrival_times xs) →
+    Explains z (sound_of z.rule (reverse xs)) (reverse ys) →
+    (judged_whole z xs ys).findings ≡ []
+
+-- too many states are behind an arrival
+abbrev pub UnsureIsBehindOne : Type 0
+UnsureIsBehindOne =
+    (z : Terms) (xs : List Arrival) (ys : List Gone) →
+    (judged_whole z xs ys).is_unsure ≡ true →
+    0 < length (judged_whole z xs ys).arrivals
+
+-- where nothing is found no frame is in a finding
+abbrev pub NothingFoundCountsNone : Type 0
+NothingFoundCountsNone =
+    (z : Terms) (xs : List Arrival) (ys : List Gone) →
+    (judged_whole z xs ys).findings ≡ [] →
+    (judged_whole z xs ys).frames ≡ 0

@@ -32,5 +32,7 @@ pub mod Forgetting
 pub mod Sure
 pub mod SomeKnown
 pub mod Histories
+pub mod RightCut
+pub mod Open
 pub mod Growing
 pub mod Standing

@@ -2,15 +2,19 @@
 
 ghost use Rattle.afdx_conform.specs.Ahead.{EndChangesNothing, LaterFramesChangeNothing};
 ghost use Rattle.afdx_conform.specs.EventLaws.{AllEventsAreExplained, EventsAreWhole, EventsJoin};
-ghost use Rattle.afdx_conform.specs.EventLaws.{FoundStays, WhatIsOverStays};
+ghost use Rattle.afdx_conform.specs.EventLaws.{ExplainedFindsNothing, FoundStays};
+ghost use Rattle.afdx_conform.specs.EventLaws.{NothingFoundCountsNone, UnsureIsBehindOne};
+ghost use Rattle.afdx_conform.specs.EventLaws.{WhatIsOverStays};
 ghost use Rattle.afdx_conform.specs.FindingLaws.{FoundWhereNoneIsLeft, NothingFoundIsExplained};
 ghost use Rattle.afdx_conform.specs.Forgetting.{ForgettingChangesNothing};
 ghost use Rattle.afdx_conform.specs.FromLevel.{AllowedIsSomeAccount};
 ghost use Rattle.afdx_conform.specs.Hiding.{WhatPassedKeepsWindows};
-ghost use Rattle.afdx_conform.specs.Laws.{StatesAreExplanations, ExactIsTheHeadline};
+ghost use Rattle.afdx_conform.specs.Laws.{StatesAreExplanations, ExactIsTheHeadline, ExactShowsAll};
 ghost use Rattle.afdx_conform.specs.Later.{EndFindsNothing, LaterArrivalsFindNothing};
 ghost use Rattle.afdx_conform.specs.Later.{LaterFramesFindNothing};
+ghost use Rattle.afdx_conform.specs.Open.{OpenIsLeast};
 ghost use Rattle.afdx_conform.specs.Right.{RightIsExplained, SomeIsRight};
+ghost use Rattle.afdx_conform.specs.RightCut.{RightIsCut};
 ghost use Rattle.afdx_conform.specs.SomeKnown.{SomeIsKnown};
 ghost use Rattle.afdx_conform.specs.Sure.{ExactIsSure};
 ghost use Rattle.afdx_conform.specs.Thinned.{KeptAreEnough};
@@ -22,9 +26,11 @@ pub fn states_are_explanations()
 {}
 
 /// With exact stamps and clocks, from a reset on, something explains a stream exactly where it is
-/// as the headline says.
+/// as the headline says. Where no accepted arrival waits, its frames are those of all arrivals that
+/// the window rule accepts.
 pub fn exact_is_the_headline()
-    ensures { ExactIsTheHeadline }
+    ensures headline { ExactIsTheHeadline }
+    ensures all { ExactShowsAll }
 {}
 
 /// Where after each event states are dropped that others outdo, what is kept outdoes all states.
@@ -108,4 +114,23 @@ pub fn all_events_are_explained()
 /// unsure.
 pub fn exact_is_sure()
     ensures { ExactIsSure }
+{}
+
+/// Where something explains a stream nothing is found, also where there were too many states, which
+/// are behind one of its arrivals. Where nothing is found no frame is counted as found.
+pub fn explained_finds_nothing()
+    ensures nothing { ExplainedFindsNothing }
+    ensures unsure { UnsureIsBehindOne }
+    ensures counted { NothingFoundCountsNone }
+{}
+
+/// A right switch is right too by what was recorded of it up to an end.
+pub fn right_is_cut()
+    ensures { RightIsCut }
+{}
+
+/// Where nothing is found, and the stream isn't unsure, what is counted as open are the least
+/// accepted arrivals that wait in what explains it.
+pub fn open_is_least()
+    ensures { OpenIsLeast }
 {}

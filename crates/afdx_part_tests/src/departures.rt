@@ -12,12 +12,12 @@ use afdx_samples::{HELLO, all_right, base_tables, equal};
 use std::alloc::{AllocError, Global};
 use std::test::Fail;
 
-/// A frame of interface 1, without its check sequence.
+/// A frame of interface 1, without its check sequence, of which no byte is missing.
 const FRAME: RecordedFrame = RecordedFrame {
     interface: 1,
     link_type: 1,
     stamp: Stamp::At(1_000),
-    original: 60,
+    original: 1,
     check_sequence: CheckSequence::Without,
     found_wrong: false,
 };
@@ -50,11 +50,7 @@ fn seventh(
         left_from_start: starts.1,
         ..RecordingOptions::none(alloc)?
     };
-    let frame = RecordedFrame {
-        interface,
-        original: bytes.len() as u32,
-        ..FRAME
-    };
+    let frame = RecordedFrame { interface, ..FRAME };
     let number = Recorded::Frame(frame);
     Ok(becomes(&options, &ports, 7, &number, bytes))
 }

@@ -1,7 +1,7 @@
 //! Whether a recorded switch did what its tables say: the command over two lists.
 
 use crate::texts::short_text;
-use afdx_acceptance::{ByRole, Choices, Leeway, conform};
+use afdx_acceptance::{AsLists, ByRole, Choices, Leeway, SeenCount, conform};
 use afdx_frame::VlId;
 use afdx_lists::Watched;
 use afdx_samples::{ShortText, all_right, base, equal, spelled};
@@ -9,8 +9,9 @@ use afdx_text::Output;
 use std::alloc::Global;
 use std::test::Fail;
 
-/// A status and both outputs.
-type Ended = (u8, ShortText, ShortText);
+/// A status, how many lines of both lists were read, if the last line was written, and both
+/// outputs.
+type Ended = (u8, Option<(u64, u64)>, ShortText, ShortText);
 
 /// What is asked for: by how much stamps may be off, from where on and until when the lists are
 /// known, and a link that is left out.
@@ -33,7 +34,7 @@ fn conformed(
     if let Some(link) = left_out {
         links.push(Some(VlId(link)))?;
     }
-    let choices = Choices::new(leeway, until, links).ok_or("choices")?;
+    let choices = Choices::new(leeway, until, links, false).ok_or("choices")?;
     let (came, left) = (spelled(alloc, came)?, spelled(alloc, left)?);
     let mut inputs = ByRole {
         came: Watched::new(came.as_bytes()),
@@ -42,17 +43,23 @@ fn conformed(
     let mut output = Output::new(alloc, 0, Vec::new(alloc))?;
     let mut errors = Watched::new(Vec::new(alloc));
     let config = base().as_bytes();
-    let status = conform(
+    let judged = conform(
         alloc,
         &choices,
         switch,
+        AsLists,
         config,
         &mut inputs,
         &mut output,
         &mut errors,
     );
     let text = short_text(output.into_device().as_slice())?;
-    Ok((status, text, short_text(errors.into_inner().as_slice())?))
+    let lines = match judged.count {
+        Some(SeenCount::Lists(lines)) => Some((lines.came, lines.left)),
+        _ => None,
+    };
+    let errors = short_text(errors.into_inner().as_slice())?;
+    Ok((judged.status, lines, text, errors))
 }
 
 /// What is asked for, what came and what left, the status and what is written.
@@ -132,11 +139,17 @@ const ROWS: [Row; 10] = [
     ),
 ];
 
+/// How many lines a list has.
+fn lines_in(list: &str) -> u64 {
+    list.bytes().filter(|byte| *byte == b'\n').count() as u64
+}
+
 /// Whether a row is answered and written as it should be.
 fn is_conformed(alloc: Global, row: &Row) -> Result<bool, Fail> {
     let (asked, came, left, status, text) = *row;
-    let (found, output, errors) = conformed(alloc, asked, None, came, left)?;
-    Ok((found, output.as_str(), errors.as_str()) == (status, text, ""))
+    let (found, lines, output, errors) = conformed(alloc, asked, None, came, left)?;
+    let read = Some((lines_in(came), lines_in(left)));
+    Ok((found, lines, output.as_str(), errors.as_str()) == (status, read, text, ""))
 }
 
 #[test]
@@ -154,15 +167,18 @@ fn recorded_switches_are_judged(rt: HostRuntime) -> Result<(), Fail> {
 fn what_is_before_a_fault_is_told(rt: HostRuntime) -> Result<(), Fail> {
     let came = "F 0 A 1 H1\nF 100000 A 2 H2\n";
     let left = "F 200000 A 3 H1\nF 1 A 3 H1\n";
-    let (status, output, errors) = conformed(rt.alloc(), EXACT, None, came, left)?;
+    let (status, lines, output, errors) = conformed(rt.alloc(), EXACT, None, came, left)?;
     let text = "stopped 1 A 3\nstopped 2 A 3\n";
     let line = "list left TimeBack 2\n";
-    equal((status, output.as_str(), errors.as_str()), (3, text, line))
+    equal(
+        (status, lines, output.as_str(), errors.as_str()),
+        (3, None, text, line),
+    )
 }
 
 #[test]
 fn one_switch_has_no_name(rt: HostRuntime) -> Result<(), Fail> {
-    let (status, output, errors) = conformed(rt.alloc(), EXACT, Some("k1"), "", "")?;
+    let (status, _, output, errors) = conformed(rt.alloc(), EXACT, Some("k1"), "", "")?;
     let line = "words NoSuchSwitch\n";
     equal((status, output.as_str(), errors.as_str()), (2, "", line))
 }
@@ -171,7 +187,7 @@ fn one_switch_has_no_name(rt: HostRuntime) -> Result<(), Fail> {
 fn the_end_is_in_its_range(rt: HostRuntime) -> Result<(), Fail> {
     let leeway = Leeway::new(0, 0, 0, 0, None).ok_or("a leeway")?;
     let last = 1_000_000_000_000_000;
-    let most = Choices::new(leeway, Some(last), Vec::new(rt.alloc()));
-    let more = Choices::new(leeway, Some(last + 1), Vec::new(rt.alloc()));
+    let most = Choices::new(leeway, Some(last), Vec::new(rt.alloc()), false);
+    let more = Choices::new(leeway, Some(last + 1), Vec::new(rt.alloc()), false);
     equal((most.is_some(), more.is_some()), (true, false))
 }

@@ -2,7 +2,7 @@
 
     afdx-report examples/network.toml examples/bench.list --out report
     afdx-report net.toml A.pcapng B.pcapng --out report
-    afdx-report --conform --slack 100 net.toml came.list left.list
+    afdx-report --conform --interface 0=A:1 --left 1=A:3 net.toml run.pcapng
 
 Runs `afdx check CONFIG` and `afdx replay --explain-drops CONFIG LIST`, prints
 the numbers as text, and writes into the folder of --out: report.html (one page
@@ -10,7 +10,8 @@ that needs nothing beside it), report.json, and a CSV file for each table. Times
 and links of recordings are those that `afdx list` writes. The exit status is
 that of the program; with --fail-on it is 6 where the program's is 0 and a
 criterion isn't met. With --conform it reports on a recorded switch: it runs
-`afdx conform CONFIG CAME LEFT`, and measures how long frames were inside.
+`afdx conform CONFIG RECORDING`, or `afdx conform CONFIG CAME LEFT` of two
+recordings or lists, and measures how long frames were inside.
 """
 from __future__ import annotations
 
@@ -20,6 +21,7 @@ from typing import NoReturn
 
 from afdx_tools.command_line import Parser, whole
 from afdx_tools.conformance.options import (
+    BY_ROLE,
     add_conform_words,
     conform_options,
     refuse_conform_options,
@@ -43,7 +45,7 @@ def words() -> argparse.ArgumentParser:
     add("config", metavar="CONFIG", help="the configuration of the network")
     add("list", metavar="LIST", help="a frame list, a recording, or - for standard input")
     add("other", metavar="LIST", nargs="?",
-        help="the recording of B, beside that of A; with --conform the list of what left")
+        help="the recording of B, beside that of A; with --conform what left, beside what came")
     add("--out", metavar="DIR", help="the folder for page, CSV and JSON (report)")
     add("--no-admission", action="store_true", help="also where the network isn't admitted")
     add(
@@ -66,7 +68,7 @@ def words() -> argparse.ArgumentParser:
     add("--cover", metavar="FILE", help="a cover from this TOML: title, fields, parts, signatures")
     add("--json", action="store_true",
         help="print the JSON instead of the text, and write a folder only where --out names one")
-    add_recording_words(parser)
+    add_recording_words(parser, BY_ROLE)
     add_words(parser)
     add_conform_words(parser)
     return parser

@@ -2,6 +2,7 @@
 
     afdx replay $(afdx-taps net.toml taps.csv run.pcapng) net.toml run.pcapng
     afdx-taps net.toml taps.csv A.pcapng B.pcapng
+    afdx-taps --conform net.toml taps.csv run.pcapng
 
 TAPS is a table as spreadsheets write it (CSV). Its first row names the columns:
 
@@ -10,9 +11,10 @@ TAPS is a table as spreadsheets write it (CSV). Its first row names the columns:
     switch      its name, where there are several a side
     direction   in (into the switch), out (from it to the system), or none
 
-Prints the words --interface, one a line, if recording and table agree: each
-interface has its row, each row its interface, and the source addresses of the
-frames name the place. Else it says what doesn't, with status 3.
+Prints the words --interface, with --conform also --left, one a line, if
+recording and table agree: each interface has its row, each row its interface,
+and the source addresses of the frames name the place. Else it says what
+doesn't, with status 3.
 """
 from __future__ import annotations
 
@@ -26,7 +28,7 @@ from afdx_tools.config import read_config
 from afdx_tools.faults import Refused, shown
 from afdx_tools.guard import guarded
 from afdx_tools.progress import Progress
-from afdx_tools.recordings.tapped import DISAGREE, checked
+from afdx_tools.recordings.tapped import DISAGREE, checked, word_for, word_of
 from afdx_tools.recordings.taps import WrongTaps, read_taps
 from afdx_tools.version import add_version
 
@@ -44,12 +46,15 @@ def say(lines: Iterable[str]) -> None:
 def words_of(args: argparse.Namespace) -> tuple[list[str], int]:
     """The words of the program, and the status."""
     recordings = [args.recording] if args.other is None else [args.recording, args.other]
+    if args.conform and len(recordings) > 1:
+        raise Refused("--conform takes one recording, of what came and of what left")
     for path in recordings:
         if os.path.exists(path) and not os.path.isfile(path):
             raise Refused(f"{shown(path)} is no file, and it has to be read twice")
     try:
-        taps = read_taps(args.taps)
-        found = checked(read_config(args.config), taps, recordings, recordings, Progress(TOOL))
+        taps, config = read_taps(args.taps), read_config(args.config)
+        word = word_for(config, args.switch) if args.conform else word_of
+        found = checked(config, taps, recordings, recordings, Progress(TOOL), word)
     except WrongTaps as wrong:
         say(wrong.lines)
         return [], 2
@@ -85,6 +90,8 @@ def parser() -> argparse.ArgumentParser:
     add("recording", metavar="RECORDING", help="pcap or pcapng, a file")
     add("other", metavar="RECORDING", nargs="?", help="the recording of B, beside that of A")
     add("--anyway", action="store_true", help="print the words also where they don't agree")
+    add("--conform", action="store_true", help="print the words of 'afdx conform'")
+    add("--switch", metavar="NAME", help="which of several switches is judged, with --conform")
     return words
 
 

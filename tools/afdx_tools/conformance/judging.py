@@ -8,11 +8,13 @@ from typing import Iterable, NamedTuple, Sequence
 
 from afdx_tools.faults import Failed, shown
 from afdx_tools.program import program
+from afdx_tools.replay.running import counts_of
 
 FINDINGS = ("stopped", "strange", "passed", "late", "early")
 COUNTS = ("explained", "open", "uncertain", "left-out", "unseen")
 OF_LEFT = ("strange",)  # findings that name a frame that left; others one that came
 TIMED = ("late", "early")
+SKIPPED = "skipped "  # how the line of what was skipped begins
 FINDING = re.compile(r"(?P<word>[a-z]+) (?P<n>[0-9]+) (?P<side>[AB]) (?P<port>[0-9]+)"
                      r"(?: (?P<more>[a-z0-9-]+))?")  # fmt: skip
 
@@ -37,11 +39,13 @@ class Deviation(NamedTuple):
 @dataclass
 class Judged:
     """What `conform` wrote: its lines; its last one as verdict and counts, which are missing where
-    a fault ended it; that fault, and the status."""
+    a fault ended it; of each recording the counts of what was skipped; that fault, and the
+    status."""
 
     deviations: list[Deviation] = field(default_factory=list)
     verdict: str = ""
     counts: dict[str, int] = field(default_factory=dict)
+    skipped: list[dict[str, int]] = field(default_factory=list)
     fault: str = ""
     status: int = 0
 
@@ -66,11 +70,12 @@ def judged_of(lines: Iterable[str]) -> Judged:
         deviation = deviation_of(line)
         if deviation:
             judged.deviations.append(deviation)
-            continue
-        verdict, _, counts = line.partition(" explained ")
-        words = f"explained {counts}".split()
-        judged.verdict = shown(verdict)
-        judged.counts = dict(zip(words[::2], map(int, words[1::2])))
+        elif line.startswith(SKIPPED):
+            judged.skipped.append(counts_of(line.split()[1:]))
+        else:
+            verdict, _, counts = line.partition(" explained ")
+            judged.verdict = shown(verdict)
+            judged.counts = counts_of(["explained", *counts.split()])
     return judged
 
 

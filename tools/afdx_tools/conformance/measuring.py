@@ -2,27 +2,18 @@
 came, and how long it was inside. The program's lines don't say it, and nothing here is judged."""
 from __future__ import annotations
 
-import hashlib
 from collections import defaultdict, deque
-from typing import Iterable, NamedTuple, Sequence
+from typing import Iterable, Iterator, NamedTuple, Sequence
 
 from afdx_tools.config import MOST_PORTS, Config, Link
+from afdx_tools.conformance.frames import Frame
 from afdx_tools.conformance.judging import Deviation
 from afdx_tools.conformance.options import Options
-from afdx_tools.lists import Listed, sealed
+from afdx_tools.conformance.recorded import Taps
 
 MILLION = 1_000_000
+SIDES = "AB"
 BEFORE_FRAME = 8  # bytes of the line: preamble and delimiter
-
-
-class Seen(NamedTuple):
-    """A frame as a list has it: its line, its time, what stands for its bytes, and how many these
-    are."""
-
-    line: int
-    time: int
-    bytes: bytes
-    length: int
 
 
 class Stream(NamedTuple):
@@ -51,13 +42,6 @@ def links_at(config: Config, switch: str | None) -> tuple[int, dict[int, Link]]:
     return place * MOST_PORTS, rows
 
 
-def seen_of(listed: Listed) -> Seen:
-    """A line of a list."""
-    content = sealed(listed)
-    key = hashlib.blake2b(content, digest_size=16).digest()
-    return Seen(listed.line, listed.time, key, len(content))
-
-
 class Named(NamedTuple):
     """A frame that a finding names: its time, and its link, None where its address is of none."""
 
@@ -65,50 +49,74 @@ class Named(NamedTuple):
     vl: int | None
 
 
+def numbers_in(found: Sequence[Deviation]) -> dict[bool, set[int]]:
+    """The frames that findings name, of those that came and of those that left."""
+    return {is_left: {each.number for each in found if each.is_left == is_left}
+            for is_left in (False, True)}  # fmt: skip
+
+
 class Measured:
-    """Two lists, of which the lines that aren't passed over are taken: of each stream what came,
-    what left, and the pairs; and the frames that the findings name, of CAME and of LEFT."""
+    """What came and what left, of which the frames that aren't passed over are taken: of each
+    stream that was recorded what came, what left, and the pairs; and the frames that the findings
+    name, of what came and of what left."""
 
     def __init__(
         self,
         config: Config,
         options: Options,
-        came: Iterable[Listed],
-        left: Iterable[Listed],
+        came: Iterable[Frame],
+        left: Iterable[Frame],
         found: Sequence[Deviation],
+        taps: Taps = Taps(),
     ) -> None:
-        self.options = options
+        self.options, self.taps = options, taps
         self.first, self.links = links_at(config, options.switch)
         self.by_port = config.by_port()
-        numbers = {is_left: {each.number for each in found if each.is_left == is_left}
-                   for is_left in (False, True)}
-        self.numbers, self.strange = numbers, numbers[True]
+        self.numbers = numbers_in(found)
+        self.strange = self.numbers[True]
         self.named: dict[bool, dict[int, Named]] = {False: {}, True: {}}
-        self.came: dict[tuple[str, int], list[Seen]] = defaultdict(list)
-        self.left: dict[Stream, list[Seen]] = defaultdict(list)
-        for listed in self.taken(came, False):
-            link = self.links.get(-1 if listed.vl is None else listed.vl)
-            if link is not None and link.port == self.first + listed.port:
-                self.came[listed.side, link.vl].append(seen_of(listed))
-        for listed in self.taken(left, True):
-            link = self.links.get(-1 if listed.vl is None else listed.vl)
-            if link is not None and self.first + listed.port in link.ports:
-                self.left[Stream(listed.side, link.vl, listed.port)].append(seen_of(listed))
+        self.came: dict[tuple[str, int], list[Frame]] = defaultdict(list)
+        self.left: dict[Stream, list[Frame]] = defaultdict(list)
+        for frame in self.taken(came, False):
+            link = self.link_of(frame)
+            if link is not None and link.port == self.first + frame.port:
+                self.came[frame.side, link.vl].append(frame)
+        for frame in self.taken(left, True):
+            link = self.link_of(frame)
+            if link is not None and self.first + frame.port in link.ports:
+                self.left[Stream(frame.side, link.vl, frame.port)].append(frame)
 
-    def taken(self, lines: Iterable[Listed], is_left: bool) -> Iterable[Listed]:
-        """The lines that aren't passed over."""
-        for listed in lines:
-            if self.options.is_taken(listed.time, listed.vl, is_left):
-                if listed.line in self.numbers[is_left]:
-                    self.named[is_left][listed.line] = Named(listed.time, listed.vl)
-                yield listed
+    def link_of(self, frame: Frame) -> Link | None:
+        """The row of the link that a frame names."""
+        return None if frame.vl is None else self.links.get(frame.vl)
+
+    def taken(self, frames: Iterable[Frame], is_left: bool) -> Iterator[Frame]:
+        """The frames that aren't passed over."""
+        for frame in frames:
+            if self.options.is_taken(frame.time, frame.vl, is_left):
+                if frame.line in self.numbers[is_left]:
+                    self.named[is_left][frame.line] = Named(frame.time, frame.vl)
+                yield frame
+
+    def all_streams(self) -> Iterator[Stream]:
+        """The streams of the tables, by link, port and side."""
+        for vl in sorted(self.links):
+            for port in sorted(self.links[vl].ports):
+                yield from (Stream(side, vl, port - self.first) for side in SIDES)
+
+    def lacks(self, stream: Stream) -> str:
+        """What wasn't recorded of a stream, so that it isn't judged; empty where all was."""
+        port = self.links[stream.vl].port - self.first
+        if not self.taps.has(stream.side, port, False):
+            return f"what came in at {stream.side}:{port}"
+        is_seen = self.taps.has(stream.side, stream.port, True)
+        return "" if is_seen else f"what left at {stream.side}:{stream.port}"
 
     def streams(self) -> list[Stream]:
-        """The streams of which something came or left, by link, port and side."""
-        found = set(self.left)
-        for side, vl in self.came:
-            found |= {Stream(side, vl, port - self.first) for port in self.links[vl].ports}
-        return sorted(found, key=lambda each: (each.vl, each.port, each.side))
+        """The streams that are judged and of which something came or left."""
+        some = set(self.came), set(self.left)
+        return [each for each in self.all_streams() if not self.lacks(each)
+                and ((each.side, each.vl) in some[0] or each in some[1])]  # fmt: skip
 
     def least(self, length: int, port: int) -> int:
         """What a frame takes at least to leave at a port, by the recorder's clock."""
@@ -121,12 +129,12 @@ class Measured:
         twice, drift = self.options.twice, self.options.drift or 0
         inside = self.links[stream.vl].latency_ns + (self.options.inner or 0)
         most = 2 * (MILLION * inside // (MILLION - drift)) + twice
-        waiting: dict[bytes, deque[Seen]] = defaultdict(deque)
-        for seen in self.came.get((stream.side, stream.vl), []):
-            waiting[seen.bytes].append(seen)
+        waiting: dict[bytes, deque[Frame]] = defaultdict(deque)
+        for frame in self.came.get((stream.side, stream.vl), []):
+            waiting[frame.key].append(frame)
         pairs = []
         for frame in self.left.get(stream, []):
-            others = waiting[frame.bytes]
+            others = waiting[frame.key]
             while others and others[0].time < frame.time - most:
                 others.popleft()
             latest = frame.time + twice - self.least(frame.length, stream.port)

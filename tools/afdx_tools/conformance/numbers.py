@@ -7,7 +7,10 @@ from typing import Sequence
 from afdx_tools.config import Config
 from afdx_tools.conformance.judging import FINDINGS, Deviation, Judged
 from afdx_tools.conformance.measuring import Measured, Named, Stream
+from afdx_tools.conformance.recorded import Stood
+from afdx_tools.faults import LONGEST_NAME, cut
 from afdx_tools.replay.checked import Checked
+from afdx_tools.report.where import utc
 from afdx_tools.tables import Row, percent
 
 LATE_SHARE = 1000  # a rank is a whole number of so many parts
@@ -29,12 +32,19 @@ def spread_of(latencies: Sequence[int]) -> Row:
 
 
 class Numbers:
-    """The rows of a recorded switch: measured, with what was found of each stream."""
+    """The rows of a recorded switch: measured, with what was found of each stream. `stood` says of
+    recordings where the frames stand that findings name."""
 
     def __init__(
-        self, config: Config, checked: Checked, judged: Judged, measured: Measured
+        self,
+        config: Config,
+        checked: Checked,
+        judged: Judged,
+        measured: Measured,
+        stood: dict[tuple[bool, int], Stood] | None = None,
     ) -> None:
         self.config, self.checked, self.measured, self.judged = config, checked, measured, judged
+        self.stood = stood
         self.pairs = {stream: measured.pairs(stream) for stream in measured.streams()}
         self.found: dict[tuple[str, int | None, int], Counter[str]] = {}
         for each in judged.deviations:
@@ -55,7 +65,8 @@ class Numbers:
         """A stream's row. Of several switches the bound is that of the judged one alone."""
         link, port = self.measured.links[stream.vl], self.measured.first + stream.port
         found = self.found.get((stream.side, stream.vl, stream.port), Counter())
-        latencies = sorted(pair.latency for pair in self.pairs[stream])
+        pairs = sorted((pair.latency, pair.left) for pair in self.pairs[stream])
+        latencies = [latency for latency, _ in pairs]
         bound = self.checked.bound_of(link, port)
         spread = spread_of(latencies)
         greatest = spread["greatest_ns"]
@@ -70,6 +81,7 @@ class Numbers:
             "left": len(self.measured.left.get(stream, [])),
             **{word: found[word] for word in FINDINGS},
             **spread,
+            "greatest_line": pairs[-1][1] if pairs else None,
             "bound_ns": bound,
             "margin_ns": None if bound is None else link.latency_ns - bound,
             "configured_ns": link.latency_ns,
@@ -95,7 +107,30 @@ class Numbers:
             "system": port.name if port else None,
             "reason": each.why or None,
             "by_ns": each.by,
+            **self.standing(each),
         }
+
+    def standing(self, each: Deviation) -> Row:
+        """Where a recording has the frame that a line names."""
+        if self.stood is None:
+            return {}
+        frame = self.stood.get((each.is_left, each.number))
+        if frame is None:
+            return dict.fromkeys(("interface", "name", "stamp"))
+        name = cut(frame.name, LONGEST_NAME) or None
+        return {"interface": frame.interface, "name": name, "stamp": utc(frame.stamp)}
+
+    def unseen(self) -> list[Row]:
+        """A row for each stream that isn't judged, with what wasn't recorded of it."""
+        rows = []
+        for stream in self.measured.all_streams():
+            lacks = self.measured.lacks(stream)
+            if lacks:
+                link, port = self.measured.links[stream.vl], self.measured.first + stream.port
+                system = self.measured.by_port[port].name
+                rows.append({"link": stream.vl, "from": link.source, **self.config.keys_of(port),
+                             "system": system, "side": stream.side, "lacks": lacks})  # fmt: skip
+        return rows
 
 
 def totals_of(judged: Judged, streams: Sequence[Row]) -> Row:

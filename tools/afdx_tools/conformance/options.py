@@ -2,10 +2,13 @@
 from __future__ import annotations
 
 import argparse
-from dataclasses import dataclass
+from dataclasses import dataclass, replace
+from typing import Sequence
 
 from afdx_tools.command_line import whole
+from afdx_tools.conformance.recorded import Recorders
 from afdx_tools.faults import Refused
+from afdx_tools.recordings.options import recording_options
 
 LATEST = 10**15
 OTHER = "other"  # frames that name no link
@@ -22,13 +25,9 @@ OF_REPLAYS = {
     "link": [],
     "compare": None,
     "fail_on": [],
-    "interface": [],
-    "taps": None,
-    "fcs": None,
     "origin": None,
-    "reorder": None,
-    "stamps": None,
 }
+BY_ROLE = ("start-end", "end-start")  # of --stamps
 
 
 def vl_or_other(text: str) -> int | None:
@@ -40,12 +39,17 @@ def add_conform_words(parser: argparse.ArgumentParser) -> None:
     """Teaches a parser --conform, and the options of `afdx conform`."""
     add = parser.add_argument
     add("--conform", action="store_true",
-        help="report on a recorded switch; CONFIG CAME LEFT and options as of afdx conform")
+        help="report on a recorded switch; the words are those of afdx conform")
     for name, (most, what, words) in AMOUNTS.items():
         add(f"--{name}", type=whole(0, most), metavar=what, help=words)
     add("--leave-out", type=vl_or_other, action="append", default=[], metavar="VL",
         help="a link that isn't judged, or other, with --conform; several times")
     add("--switch", metavar="NAME", help="which of several switches is judged, with --conform")
+    add("--left", action="append", default=[], metavar="K=PLACE",
+        help="where the frames of interface K left: A:PORT or B:PORT, with --conform; several "
+        "times")
+    add("--lossy", action="store_true",
+        help="also where the recorder lost frames, with --conform")
 
 
 @dataclass(frozen=True)
@@ -60,13 +64,22 @@ class Options:
     until: int | None = None
     left_out: tuple[int | None, ...] = ()
     switch: str | None = None
+    of_recordings: tuple[str, ...] = ()
+    recorders: Recorders = Recorders()
 
     def words(self) -> list[str]:
-        """The words that say the same to the program."""
+        """The words that say the same to the program; those of recordings stand apart."""
         amounts = {name: getattr(self, name) for name in AMOUNTS} | {"from": self.start}
         words = [f"--{name}={amount}" for name, amount in amounts.items() if amount is not None]
         words += [f"--leave-out={OTHER if vl is None else vl}" for vl in self.left_out]
         return words + ([] if self.switch is None else [f"--switch={self.switch}"])
+
+    def tapped(self, words: Sequence[str]) -> Options:
+        """The same, with the words of interfaces that a table of taps says."""
+        came, left = (tuple(word.removeprefix(name) for word in words if word.startswith(name))
+                      for name in ("--interface=", "--left="))
+        return replace(self, of_recordings=(*words, *self.of_recordings),
+                       recorders=replace(self.recorders, came=came, left=left))  # fmt: skip
 
     @property
     def twice(self) -> int:
@@ -87,12 +100,26 @@ def conform_options(args: argparse.Namespace) -> Options:
         if getattr(args, name) != default:
             raise Refused(f"--{name.replace('_', '-')} isn't an option with --conform")
     amounts = {name: getattr(args, name) for name in AMOUNTS}
-    return Options(**amounts, start=args.begin, left_out=tuple(args.leave_out), switch=args.switch)
+    if args.taps is not None and args.left:
+        raise Refused("--taps and --left say the same: give one of them")
+    words = recording_options(args) + [f"--left={each}" for each in args.left]
+    fcs = None if args.fcs is None else args.fcs == "yes"
+    return Options(
+        **amounts,
+        start=args.begin,
+        left_out=tuple(args.leave_out),
+        switch=args.switch,
+        of_recordings=(*words, *["--lossy"] * args.lossy),
+        recorders=Recorders(tuple(args.interface), tuple(args.left), fcs, args.stamps or "end"),
+    )
 
 
 def refuse_conform_options(args: argparse.Namespace) -> None:
     """Refused where options of `afdx conform` were given for a replay."""
     given = [name for name in AMOUNTS if getattr(args, name) is not None]
     given += ["leave-out"] * bool(args.leave_out) + ["switch"] * (args.switch is not None)
+    given += ["left"] * bool(args.left) + ["lossy"] * args.lossy
+    if args.stamps in BY_ROLE:
+        given.append(f"stamps {args.stamps}")
     if given:
         raise Refused(f"--{given[0]} is an option with --conform only")

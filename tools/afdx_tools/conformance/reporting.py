@@ -7,83 +7,139 @@ import contextlib
 import json
 import os
 import sys
-from typing import Iterator
+from typing import Iterable, Iterator, NamedTuple
 from xml.etree import ElementTree as xml
 
-from afdx_tools.config import read_config
+from afdx_tools.config import Config, read_config
+from afdx_tools.conformance.frames import Frame, frames_of_list
 from afdx_tools.conformance.judging import Judged, judge
-from afdx_tools.conformance.measuring import Measured
+from afdx_tools.conformance.measuring import Measured, links_at, numbers_in
 from afdx_tools.conformance.numbers import Numbers, account_words, totals_of
 from afdx_tools.conformance.options import Options
 from afdx_tools.conformance.page import COUNTED, PROVED, TABLES, page
+from afdx_tools.conformance.recorded import Ends, Reading, Recorded, Taps
 from afdx_tools.explaining import explain
 from afdx_tools.faults import Failed, Refused, shown
 from afdx_tools.inputs import as_file, at_hand
-from afdx_tools.lists import Listed, read_list
 from afdx_tools.outputs import write_folder
 from afdx_tools.program import program, version
 from afdx_tools.progress import Progress
 from afdx_tools.recordings.options import is_recording
+from afdx_tools.recordings.tapped import found_by, word_for
 from afdx_tools.replay.running import check
 from afdx_tools.report.cover import Cover
 from afdx_tools.report.criteria import suite_of, write_junit
 from afdx_tools.report.made import digest, run_of
 from afdx_tools.report.ranking import latency_text, nearest
-from afdx_tools.tables import WRITTEN, Row, as_text, csv_text
+from afdx_tools.report.where import utc
+from afdx_tools.tables import WRITTEN, Row, as_text, cell, csv_text
 
 MOST_TOLD = 10  # findings in the head of the text
 
 
+class Inputs(NamedTuple):
+    """What is judged, at hand to be read more than once: the configuration, what came and what
+    left; and whether these are recordings. One recording has both."""
+
+    config: str
+    paths: list[str]
+    are_recorded: bool
+
+    def names(self) -> list[str]:
+        """What the inputs are, one word each."""
+        return ["the recording"] if len(self.paths) == 1 else ["CAME", "LEFT"]
+
+
 @contextlib.contextmanager
-def files_of(args: argparse.Namespace) -> Iterator[list[str]]:
-    """Configuration and both lists, at hand to be read more than once."""
-    if args.other is None:
-        raise Refused("--conform takes CONFIG CAME LEFT: two frame lists")
+def inputs_of(args: argparse.Namespace, options: Options) -> Iterator[Inputs]:
+    """Configuration and inputs."""
     if args.list == args.other == "-":
         raise Failed("words SameInput", 2)
     with contextlib.ExitStack() as files:
         names = (args.config, args.list, args.other)
-        paths = [files.enter_context(at_hand(name)) for name in names]
-        if any(map(is_recording, paths[1:])):
-            raise Refused("--conform takes frame lists, which afdx list makes of a recording")
-        yield paths
+        paths = [files.enter_context(at_hand(name)) for name in names if name is not None]
+        are_said = bool(options.of_recordings) or args.taps is not None
+        if not are_said and (args.other is None or any(map(is_recording, paths[1:]))):
+            raise Refused(
+                "--interface and --left have to say where the frames of a recording came in and "
+                "left; frame lists are two: CAME and LEFT"
+            )
+        yield Inputs(paths[0], paths[1:], are_said)
 
 
-def measured_of(
-    paths: list[str], options: Options, judged: Judged, progress: Progress
-) -> Measured:
-    """What is measured; nothing where a fault ended the run."""
-    nothing: Iterator[Listed] = iter(())
-    came, left = (nothing if judged.fault else read_list(path) for path in paths[1:])
-    progress.report("measuring")
-    return Measured(read_config(paths[0]), options, came, left, judged.deviations)
+def tapped(
+    args: argparse.Namespace, inputs: Inputs, options: Options, progress: Progress
+) -> Options:
+    """The options, with the words of a table of taps where there is one."""
+    if args.taps is None:
+        return options
+    if len(inputs.paths) > 1:
+        raise Refused("--taps takes one recording with --conform, of what came and of what left")
+    word = word_for(read_config(inputs.config), options.switch)
+    found = found_by(args.taps, inputs.config, inputs.paths, [args.list], progress, word)
+    return options.tapped(found.words)
+
+
+def read(
+    inputs: Inputs, options: Options, judged: Judged, config: Config
+) -> tuple[Iterable[Frame], Iterable[Frame], Recorded]:
+    """What came and what left, nothing where a fault ended the run; and what recordings say."""
+    if judged.fault:
+        return (), (), Recorded()
+    if not inputs.are_recorded:
+        came, left = map(frames_of_list, inputs.paths)
+        return came, left, Recorded()
+    ends = Ends(config, links_at(config, options.switch)[0])
+    reading = Reading(options.recorders, ends, numbers_in(judged.deviations))
+    recorded = reading.read(inputs.paths)
+    return recorded.came, recorded.left, recorded
 
 
 def made_by(
-    args: argparse.Namespace, paths: list[str], called: str, cover: Cover | None
+    args: argparse.Namespace,
+    inputs: Inputs,
+    options: Options,
+    called: str,
+    cover: Cover | None,
+    time_0: int | None,
 ) -> Row:
     """What made the report."""
-    names = (args.config, args.list, args.other)
+    names = [name for name in (args.config, args.list, args.other) if name is not None]
+    heads = ["Configuration", *inputs.names()]
+    if inputs.are_recorded:
+        heads[1:] = ["Recording"] if len(inputs.paths) == 1 else ["Came", "Left"]
     files = [
         (head, shown(name), digest(path))
-        for head, name, path in zip(("Configuration", "CAME", "LEFT"), names, paths)
+        for head, name, path in zip(heads, names, (inputs.config, *inputs.paths))
     ]
-    return run_of(args, files + ([("Cover", cover.path, cover.digest)] if cover else []), called)
+    run = run_of(args, files + ([("Cover", cover.path, cover.digest)] if cover else []), called)
+    if inputs.are_recorded:
+        words = options.recorders
+        run["taps"] = [*words.came, *(f"left {word}" for word in words.left)]
+        run["time_0_ns"] = time_0
+        run["time_0"] = None if time_0 is None else f"{utc(time_0)} UTC"
+    return run
 
 
 def report_of(
-    args: argparse.Namespace, options: Options, paths: list[str], progress: Progress
+    args: argparse.Namespace, options: Options, inputs: Inputs, progress: Progress
 ) -> Row:
     """Runs the program, and measures: the report."""
     cover = Cover(args.cover) if args.cover else None
-    called, checked = version(), check(program(), paths[0])
+    called, checked = version(), check(program(), inputs.config)
     progress.report("judging")
-    judged = judge([*options.words(), *paths])
-    numbers = Numbers(read_config(paths[0]), checked, judged,
-                      measured_of(paths, options, judged, progress))  # fmt: skip
+    more = [*options.of_recordings, "--summary"] if inputs.are_recorded else []
+    judged = judge([*options.words(), *more, inputs.config, *inputs.paths])
+    progress.report("measuring")
+    config = read_config(inputs.config)
+    came, left, recorded = read(inputs, options, judged, config)
+    taps = options.recorders.taps() if inputs.are_recorded else Taps()
+    measured = Measured(config, options, came, left, judged.deviations, taps)
+    stood = recorded.stood if inputs.are_recorded else None
+    numbers = Numbers(config, checked, judged, measured, stood)
     streams = numbers.streams()
     return {
-        "run": made_by(args, paths, called, cover),
+        "run": made_by(args, inputs, options, called, cover, recorded.time_0),
         "cover": cover.content if cover else None,
         "admission": checked.answer,
         "fault": judged.fault,
@@ -92,17 +148,33 @@ def report_of(
         "totals": totals_of(judged, streams),
         "deviations": numbers.deviations(),
         "streams": streams,
+        **(of_recordings(inputs, judged, numbers) if inputs.are_recorded else {}),
         "proved": PROVED,
         "counted": COUNTED,
+    }
+
+
+def of_recordings(inputs: Inputs, judged: Judged, numbers: Numbers) -> Row:
+    """What a report has of recordings besides: what was skipped, and what isn't judged."""
+    return {
+        "skipped": dict(zip(inputs.names(), judged.skipped)),
+        "unseen": numbers.unseen(),
     }
 
 
 # ---- what is written -----------------------------------------------------------------------------
 
 
-def deviation_text(row: Row) -> str:
+def frame_text(row: Row, is_one: bool) -> str:
+    """Which frame a finding names; `is_one`: one recording has all numbers."""
+    if "stamp" not in row:
+        return f"line {row['line']} of {row['list']}"
+    return f"frame {row['line']}" + ("" if is_one else f" of {row['list']}")
+
+
+def deviation_text(row: Row, is_one: bool) -> str:
     """A finding in words."""
-    words = f"{row['what']}: line {row['line']} of {row['list']}"
+    words = f"{row['what']}: {frame_text(row, is_one)}"
     words += "" if row["time_ns"] is None else f" at {row['time_ns']} ns"
     words += ", no link" if row["link"] is None else f", link {row['link']}"
     words += f", port {row['port']}" + (f" ({row['system']})" if row["system"] else "")
@@ -118,7 +190,7 @@ def print_text(report: Row) -> None:
         if report[name]:
             print(f"{name:11} {report[name]}")
     for row in found[:MOST_TOLD]:
-        print(f"finding     {deviation_text(row)}")
+        print(f"finding     {deviation_text(row, len(report.get('skipped', ())) == 1)}")
     if len(found) > MOST_TOLD:
         print(f"finding     {len(found) - MOST_TOLD} more, in the table below")
     if report["verdict"]:
@@ -129,8 +201,11 @@ def print_text(report: Row) -> None:
         most = nearest([row for row in report["streams"] if row["frames"]])
         if most:
             print(f"nearest     {latency_text(most)}")
+    for name, counts in report.get("skipped", {}).items():
+        print(f"skipped     {cell(counts)} in {name}")
     for name, head in TABLES.items():
-        print(f"\n{head}\n{as_text(report[name])}", end="")
+        if name in report:
+            print(f"\n{head}\n{as_text(report[name])}", end="")
     print(f"\n{PROVED}\n{COUNTED}")
 
 
@@ -142,7 +217,7 @@ def json_of(report: Row) -> str:
 
 def write_files(report: Row, folder: str, most: int) -> None:
     """Writes page, tables and numbers."""
-    texts = {f"{name}.csv": csv_text(report[name]) for name in TABLES}
+    texts = {f"{name}.csv": csv_text(report[name]) for name in TABLES if name in report}
     texts |= {"report.json": json_of(report), "report.html": page(report, most)}
     write_folder(folder, texts, WRITTEN)
 
@@ -164,15 +239,15 @@ def report_conformance(tool: str, args: argparse.Namespace, options: Options) ->
     """Makes the report; the status, which is that of the program."""
     progress = Progress(tool)
     try:
-        with files_of(args) as paths:
-            report = report_of(args, options, paths, progress)
+        with inputs_of(args, options) as inputs:
+            report = report_of(args, tapped(args, inputs, options, progress), inputs, progress)
     finally:
         progress.done()
     if args.out or not args.json:
         write_files(report, as_file(args.out or "report"), args.rows)
     if args.junit:
-        name = f"{os.path.basename(args.list)},{os.path.basename(args.other)}"
-        write_junit(args.junit, [suite(name, report)])
+        names = [os.path.basename(name) for name in (args.list, args.other) if name is not None]
+        write_junit(args.junit, [suite(",".join(names), report)])
     if args.json:
         print(json.dumps(report))
     else:

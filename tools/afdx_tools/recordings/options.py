@@ -3,6 +3,7 @@ from __future__ import annotations
 
 import argparse
 import os
+from typing import Sequence
 
 from afdx_tools.faults import Refused
 
@@ -15,8 +16,11 @@ WRITER_CODE, WRITER = 4, b"afdx-capture annotate"  # an option of a section: who
 PACKED = tuple(map(bytes.fromhex, ("1f8b", "425a68", "28b52ffd", "fd377a58", "504b0304")))
 
 
-def add_recording_words(parser: argparse.ArgumentParser) -> None:
-    """The options of recordings, which are handed on to the program."""
+def add_recording_words(
+    parser: argparse.ArgumentParser, more_stamps: Sequence[str] = ()
+) -> None:
+    """The options of recordings, which are handed on to the program; some commands have words of
+    --stamps besides."""
     add = parser.add_argument
     add(
         "--interface",
@@ -34,7 +38,7 @@ def add_recording_words(parser: argparse.ArgumentParser) -> None:
     reorder = "how many arrivals in front of a frame may be later; it is put before them (10000)"
     add("--reorder", metavar="N", help=reorder)
     stamps = "whether stamps are those of a frame's last bit or of its first (end)"
-    add("--stamps", choices=("end", "start"), help=stamps)
+    add("--stamps", choices=("end", "start", *more_stamps), help=stamps)
 
 
 def recording_options(args: argparse.Namespace) -> list[str]:

@@ -3,10 +3,10 @@ from __future__ import annotations
 
 import filecmp
 import os
-from typing import Iterable, NamedTuple
+from typing import Callable, Iterable, NamedTuple
 
 from afdx_tools.config import MOST_PORTS, Config, Link, port_at, read_config
-from afdx_tools.faults import LONGEST_NAME, Failed, cut, shown
+from afdx_tools.faults import LONGEST_NAME, Failed, Refused, cut, shown
 from afdx_tools.progress import Progress
 from afdx_tools.recordings.interfaces import OTHERS, Interface, interfaces_of
 from afdx_tools.recordings.options import is_packed
@@ -189,16 +189,36 @@ def note_frames(found: Found, claims: Claims, tapped: Tapped) -> None:
 # ---- the words -----------------------------------------------------------------------------------
 
 
+Word = Callable[[Claims, Tap, int], str]
+
+
 def word_of(claims: Claims, tap: Tap, number: int) -> str:
     """The word of the program for an interface. What a cable brings is left out: it is computed."""
     is_in = tap.direction == IN and not claims.is_cable(tap.place)
     return f"--interface={number}={tap.place if is_in else '-'}"
 
 
-def note_words(found: Found, claims: Claims, rows: list[dict[int, Tap]]) -> None:
+def word_for(config: Config, switch: str | None) -> Word:
+    """The words of `conform`, of one switch of several: there cables bring arrivals, too, what
+    leaves counts, and an interface without a word is left out."""
+    if (switch or "") not in (config.names or ("",)):
+        names = ", ".join(config.names)
+        what = f"it has to be one of {names}" if names else "there is one switch a side"
+        raise Refused(f"--switch {switch or 'is missing'}: {what}")
+
+    def word(_: Claims, tap: Tap, number: int) -> str:
+        if tap.place is None or tap.place.switch != (switch or ""):
+            return ""
+        name = "interface" if tap.direction == IN else "left"
+        return f"--{name}={number}={tap.place.side}:{tap.place.port}"
+
+    return word
+
+
+def note_words(found: Found, claims: Claims, rows: list[dict[int, Tap]], word: Word) -> None:
     """The words for all recordings; an interface that is left out is so in both."""
     for number in sorted(set().union(*rows)):
-        words = {word_of(claims, each[number], number) for each in rows if number in each}
+        words = {word(claims, each[number], number) for each in rows if number in each} - {""}
         if f"--interface={number}=-" in words and len(words) > 1:
             found.faults.append(
                 f"interface {number} is left out of one recording and not of the other, which no "
@@ -237,10 +257,16 @@ def read(paths: list[str], names: list[str], progress: Progress) -> list[Recordi
 
 
 def checked(
-    config: Config, taps: list[Tap], paths: list[str], names: list[str], progress: Progress
+    config: Config,
+    taps: list[Tap],
+    paths: list[str],
+    names: list[str],
+    progress: Progress,
+    word: Word = word_of,
 ) -> Found:
     """Looks at one recording, or at those of A and B, and at the table. Recordings have to be files
-    that can be read again; `names` are what they are called."""
+    that can be read again; `names` are what they are called, `word` says the word of each
+    interface."""
     found = Found()
     want_switches(config, taps)
     if len(paths) == 2 and are_same(paths):
@@ -265,15 +291,20 @@ def checked(
     claims = Claims(config, all_tapped)
     for tapped in all_tapped:
         note_frames(found, claims, tapped)
-    note_words(found, claims, rows)
+    note_words(found, claims, rows, word)
     return found
 
 
 def found_by(
-    taps: str, config: str, paths: list[str], names: list[str], progress: Progress
+    taps: str,
+    config: str,
+    paths: list[str],
+    names: list[str],
+    progress: Progress,
+    word: Word = word_of,
 ) -> Found:
     """What the recordings are, by a table of --taps; Failed where they don't agree with it."""
-    found = checked(read_config(config), read_taps(taps), paths, names, progress)
+    found = checked(read_config(config), read_taps(taps), paths, names, progress, word)
     if found.faults:
         more = len(found.faults) - 1
         others = f" (and {more} more; afdx-taps says all)" if more else ""

@@ -5,6 +5,7 @@ import re
 import subprocess
 import tempfile
 from dataclasses import dataclass, field
+from typing import Sequence
 
 import numpy as np
 
@@ -84,9 +85,8 @@ def ended_by(status: int) -> str:
     return f"the program was ended by signal {-status}" if status < 0 else f"status {status}"
 
 
-def counts_of(line: str) -> dict[str, int]:
-    """The counts of a line `skipped WORD N WORD N ..`."""
-    words = line.split()[1:]
+def counts_of(words: Sequence[str]) -> dict[str, int]:
+    """Words that have their counts behind them, as in a line `skipped WORD N WORD N ..`."""
     return dict(zip(words[::2], map(int, words[1::2])))
 
 
@@ -128,7 +128,7 @@ def listed_of(source: Source, sites: Sites, progress: Progress, is_run: bool) ->
     if run.returncode not in ENDED:
         status = run.returncode if run.returncode > 0 else 128 - run.returncode
         raise Failed(said or ended_by(run.returncode), status)
-    return Listed(listing, {} if run.returncode else counts_of(said))
+    return Listed(listing, {} if run.returncode else counts_of(said.split()[1:]))
 
 
 def replay(

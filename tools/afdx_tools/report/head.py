@@ -5,6 +5,7 @@ from html import escape
 
 from afdx_tools.report.criteria import CRITERIA
 from afdx_tools.report.ranking import latencies_of, latency_words, nearest
+from afdx_tools.report.whole import cards_of
 from afdx_tools.tables import Row
 
 CARDS = {
@@ -85,13 +86,10 @@ def findings(report: Row) -> str:
 
 def cards(report: Row) -> str:
     """The sums, one a card."""
-    parts = []
-    for key, words in CARDS.items():
-        count = report["totals"][key]
-        bad = key in ("full_buffer", "late", "too_old", "missing", "silent")
-        styled = ' class="bad"' if count and bad else ""
-        parts.append(f'<div class="card"><dt>{words}</dt><dd{styled}>{count:,}</dd></div>')
-    return f'<dl class="cards">{"".join(parts)}</dl>'
+    bad = ("full_buffer", "late", "too_old", "missing", "silent")
+    return cards_of(
+        (words, report["totals"][key], key in bad) for key, words in CARDS.items()
+    )
 
 
 def words_section(report: Row) -> str:

@@ -2,7 +2,6 @@
 from __future__ import annotations
 
 import argparse
-from html import escape
 from typing import Sequence
 
 import numpy as np
@@ -10,41 +9,20 @@ import numpy as np
 from afdx_tools.replay.counting import Counting
 from afdx_tools.report import figures, tracks
 from afdx_tools.report.compare import words_of
-from afdx_tools.report.cover import cover_section
 from afdx_tools.report.findings import left_words
 from afdx_tools.report.head import answer, cards, words_section
 from afdx_tools.report.lanes import lanes
-from afdx_tools.report.made import made_section, made_table, sheet_style
 from afdx_tools.report.parts import paper_rows, section, table, table_section
-from afdx_tools.report.ranking import FEWEST, latencies_of, place_of, ranked
+from afdx_tools.report.ranking import FEWEST, latencies_of
 from afdx_tools.report.several import hops_section, network_sections
-from afdx_tools.report.style import POLICY, SCRIPT, STYLE
 from afdx_tools.report.where import Where
+from afdx_tools.report.whole import FIND, NEAREST, first_words, links_of, one_each, whole_page
 from afdx_tools.tables import COUNTED, EARLY, TROUBLES, UNPROMISED, Row, in_us, names_of
 
 EARLY_FRAMES = "Over-rate frames that came too early by most, in us"
 TAPS = "Taps: where the interfaces were plugged in, and frames that name another place"
 TRACKS_ON_PAPER = 6
 TROUBLES_SHOWN = 500
-FIND = (
-    "<p class='find' hidden><label>Find rows <input id='find' type='search' "
-    "placeholder='links and names, as 304 A'></label> <span id='found' role='status'></span></p>"
-)
-
-
-def one_each(latency: Sequence[Row]) -> list[list[Row]]:
-    """Of each ranked link both sides at the port where it has the greatest share, in that order; of
-    a link that is late, each port where it is."""
-    of_place: dict[tuple, list[Row]] = {}
-    for row in latency:
-        of_place.setdefault(place_of(row), []).append(row)
-    seen: set[int] = set()
-    places: dict[tuple, None] = {}
-    for row in ranked(latency):
-        if row["link"] not in seen or row["late"]:
-            places[place_of(row)] = None
-        seen.add(row["link"])
-    return [of_place[place] for place in places]
 
 
 def latency_section(report: Row, counting: Counting, most: int) -> str:
@@ -56,14 +34,8 @@ def latency_section(report: Row, counting: Counting, most: int) -> str:
     if not pairs:
         words = f"No link has {FEWEST} copies at a port." if report["latency"] else "None left."
         return section("picture", head, words, "")
-    words = (
-        "Each link at the port where it came nearest to its configured latency, the nearest first, "
-        f"late ones at each port; sides A and B apart; links with {FEWEST} copies there or more, "
-        "or a late one. "
-    )
-    if len(pairs) > most:
-        words += f"The first {most} of {len(pairs)}; the table below has all. "
-    words += "From a frame's arrival to the end of its slot."
+    words = f"{NEAREST}links with {FEWEST} copies there or more, or a late one. "
+    words += first_words(most, len(pairs)) + "From a frame's arrival to the end of its slot."
     if "ways" in report:
         words += " At the last switch; the bound is that of all ports of the way together."
     name = "proved bound" if report["admission"] == "ok" else "bound of check"
@@ -104,11 +76,6 @@ def track_section(counting: Counting, vl: int, wrong: np.ndarray, begin: int) ->
         words += f"{len(lines)} of {frames:,} arrivals{where}."
     shown = tracks.arrivals_of(counting, lines)
     return section(name, head, words, tracks.track(name, shown, tracks.lane_names(counting, vl)))
-
-
-def foot(report: Row) -> str:
-    """Which numbers are proved."""
-    return f"<footer><p>{escape(report['proved'])}</p><p>{escape(COUNTED)}</p></footer>"
 
 
 def arrivals_section(report: Row) -> str:
@@ -209,8 +176,7 @@ def links_to(report: Row) -> str:
     names |= {name: f"table of {name}" for name in (*names_of(report), "troubles")}
     names |= {"early": "table of over-rate frames"} if "early_ns" in report else {}
     names |= {"made": "what made it"}
-    parts = [f'<a href="#{name}">{escape(words)}</a>' for name, words in names.items()]
-    return f'<nav aria-label="Parts of the report">{" ".join(parts)}</nav>'
+    return links_of(names)
 
 
 def page(report: Row, counting: Counting, where: Where, args: argparse.Namespace) -> str:
@@ -225,21 +191,11 @@ def page(report: Row, counting: Counting, where: Where, args: argparse.Namespace
     if "skipped" in report:
         words += f" Left out of the recording: {left_words(report) or 'nothing'}."
     parts = [
-        "<!doctype html><html lang='en'><head><meta charset='utf-8'>",
-        f'<meta http-equiv="Content-Security-Policy" content="{POLICY}">',
-        "<meta name='viewport' content='width=device-width, initial-scale=1'>",
-        f"<title>{escape(title)}</title><style>{STYLE}{sheet_style(report['run'])}</style></head>",
-        "<body><main>",
-        cover_section(report["cover"], made_table(report["run"])),
-        f"<header><h1>{escape(title)}</h1><p>{escape(words)}</p></header>",
         answer(report),
         links_to(report),
         cards(report),
         words_section(report),
         pictures(report, counting, args),
         table_sections(report, where),
-        "" if report["cover"] else made_section(report["run"]),
-        foot(report),
-        f"</main><script>{SCRIPT}</script></body></html>\n",
     ]
-    return "".join(parts)
+    return whole_page(title, words, report, parts, (report["proved"], COUNTED))

@@ -1,5 +1,6 @@
-use Rattle.std.proofs.Common.{rules, ◌≡◌, Err, [], false, subst, sym, ap, ◌∙◌}
+use Rattle.std.proofs.Common.{rules, ◌≡◌, Err, [], subst, sym, ap, ◌∙◌}
 use Rattle.std.specs.Io.KnownBytes.{Appends}
+use Rattle.afdx_lists.specs.Calls.{AppendsFront}
 use Rattle.afdx_lists.specs.declared.fault.RunFault.TheVariants as run
 use Rattle.afdx_recorded.specs.Claims.{ports_of_one}
 use Rattle.afdx_recorded.specs.Tapping.{taps_in}
@@ -11,7 +12,7 @@ use Rattle.afdx_config.specs.Rows.{Rows}
 use Rattle.afdx_acceptance.specs.Choices.{Choices}
 use Rattle.afdx_acceptance.specs.ChoicesOf.{choices_of}
 use Rattle.afdx_acceptance.specs.Ran.{loss_told}
-use Rattle.afdx_acceptance.specs.Told.{TellsAll}
+use Rattle.afdx_acceptance.specs.Told.{TellsItems}
 use Rattle.afdx_acceptance.proofs.run.run_conform.Goals as goal
 
 -- there was no memory
@@ -41,7 +42,7 @@ returns-in_err-count-clause-answer g c =
     c.tell_all.new.machine old (g.O.Sink.written c.tell_all.new.output) c.in_err-count.field-0.0 h)
     (g.A.SeenFrames.known c.args.inputs.now)
     (c.in_err-count.ensures.answer k
-    (subst (λ p. TellsAll (c.args.tables.now, choices_of p c.args.choices.now) false 0 c.in_ok-judging.judging old old [])
+    (subst (λ p. TellsItems (c.args.tables.now, choices_of p c.args.choices.now) c.in_ok-judging.judging old old [])
     c.taps-taps.ensures (c.in_ok-judging.ensures old)) (λ item. tt)))
 
 pub returns-in_err-put-clause-answer : goal.returns-in_err-put-clause-answer
@@ -52,12 +53,14 @@ returns-in_err-put-clause-answer g c =
     rw e (if-some (λ bytes h. answers-cut
     (g.A.SeenFrames.Takes c.args.options (ports_of_one c.args.tables.now) bytes c.tell_all.new.self) k c.args.choices.now.is_lossy
     c.tell_all.new.machine old (g.O.Sink.written c.tell_all.new.output) (g.O.Sink.written c.put.new.self)
-    c.in_ok-count.count c.line.result c.in_err-put.field-0.0 c.in_err-put.ensures.fault
+    c.in_ok-count.count c.totals-totals.result c.in_err-put.field-0.0 c.in_err-put.ensures.fault
+    (c.totals-totals.ensures.written k old (g.O.Sink.written c.tell_all.new.output))
     (ap (λ n. loss_told c.args.choices.now.is_lossy n) (sym c.lost.ensures) ∙ sym c.loss_told.ensures ∙ c.in_default.is)
-    c.in_err-put.ensures.front h)
+    (subst (λ (l : ConformLine). AppendsFront (g.O.Sink.written c.tell_all.new.output) (g.O.Sink.written c.put.new.self)
+    (conform_text l)) c.line.ensures c.in_err-put.ensures.front) h)
     (g.A.SeenFrames.known c.args.inputs.now)
     (c.in_ok-count.ensures.answer k
-    (subst (λ p. TellsAll (c.args.tables.now, choices_of p c.args.choices.now) false 0 c.in_ok-judging.judging old old [])
+    (subst (λ p. TellsItems (c.args.tables.now, choices_of p c.args.choices.now) c.in_ok-judging.judging old old [])
     c.taps-taps.ensures (c.in_ok-judging.ensures old)) (λ item. tt)))
 
 pub returns-in-Some-clause-answer : goal.returns-in-Some-clause-answer
@@ -72,7 +75,7 @@ returns-in-Some-clause-answer g c =
     (ap (λ n. loss_told c.args.choices.now.is_lossy n) (sym c.lost.ensures) ∙ sym c.loss_told.ensures ∙ c.in-Some.is) h)
     (g.A.SeenFrames.known c.args.inputs.now)
     (c.in_ok-count.ensures.answer k
-    (subst (λ p. TellsAll (c.args.tables.now, choices_of p c.args.choices.now) false 0 c.in_ok-judging.judging old old [])
+    (subst (λ p. TellsItems (c.args.tables.now, choices_of p c.args.choices.now) c.in_ok-judging.judging old old [])
     c.taps-taps.ensures (c.in_ok-judging.ensures old)) (λ item. tt))
 
 pub returns-clause-answer : goal.returns-clause-answer
@@ -89,5 +92,5 @@ returns-clause-answer g c =
     (conform_text l)) c.line.ensures c.in_ok-put.ensures.whole) h)
     (g.A.SeenFrames.known c.args.inputs.now)
     (c.in_ok-count.ensures.answer k
-    (subst (λ p. TellsAll (c.args.tables.now, choices_of p c.args.choices.now) false 0 c.in_ok-judging.judging old old [])
+    (subst (λ p. TellsItems (c.args.tables.now, choices_of p c.args.choices.now) c.in_ok-judging.judging old old [])
     c.taps-taps.ensures (c.in_ok-judging.ensures old)) (λ item. tt))

@@ -1,7 +1,6 @@
-use Rattle.std.proofs.Common.{Some, sym, ap, ◌∙◌, true}
+use Rattle.std.proofs.Common.{sym, ap, ◌∙◌, true}
 use Rattle.std.proofs.lemmas.Option.{same_Some}
 use Rattle.std.specs.Option.{option_map_or}
-use Rattle.afdx_bounds.specs.Tables.{port_of}
 use Rattle.afdx_config.specs.Rows.{LinkRow, link_row, system_row}
 use Rattle.afdx_lists.specs.declared.role.Role.TheVariants.{Came}
 use Rattle.afdx_acceptance.specs.Tapped.{is_heard, taps_in}

@@ -2,7 +2,7 @@ use Rattle.std.proofs.Common.{◌&&◌, ap, sym, ◌∙◌}
 use Rattle.std.specs.Prelude.{if◌then◌else◌}
 use Rattle.afdx_bounds.specs.Tables.{port_of}
 use Rattle.afdx_lists.specs.declared.role.Role.TheVariants.{Left}
-use Rattle.afdx_acceptance.specs.Tapped.{is_heard, taps_in}
+use Rattle.afdx_acceptance.specs.Tapped.{taps_in}
 use Rattle.afdx_acceptance.proofs.tapped.unseen_at.Goals as goal
 
 pub returns-then-not-is_heard-clause-count : goal.returns-then-not-is_heard-clause-count

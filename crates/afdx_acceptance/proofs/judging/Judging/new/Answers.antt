@@ -2,6 +2,7 @@ use Rattle.std.proofs.Common.{[], refl, sym, ap, ◌∙◌, arith}
 use Rattle.std.specs.Prelude.{is_some}
 use Rattle.afdx_acceptance.specs.Tapped.{taps_in}
 use Rattle.afdx_acceptance.specs.ChoicesOf.{choices_of}
+use Rattle.afdx_acceptance.proofs.BegunLemmas.{nothing-early}
 use Rattle.afdx_acceptance.proofs.ToldLemmas.{tells-none}
 use Rattle.afdx_acceptance.proofs.judging.Judging.new.Goals as goal
 
@@ -18,10 +19,12 @@ returns c = λ output. (
       dues = [];
       are = refl;
       streams = c.in_ok-streams.ensures.stands (choices_of (taps_in c.args.taps.now) c.args.choices.now) until refl refl;
+      early = λ e. tt;
     };
     by_time = tt;
     running = λ end none said. omega arith;
     ends = λ end is. absurd (let bad = sym c.in_ok-streams.ensures.running ∙ is in cc bad);
     over = sym (ap (λ o. is_some o) c.in_ok-streams.ensures.running);
   },
+  nothing-early (c.args.tables.now, choices_of (taps_in c.args.taps.now) c.args.choices.now),
 )

@@ -24,7 +24,8 @@ returns-then-not-is_in_time-clause-counted c = λ frames before.
     let k = choices_of (taps_in c.args.self.now.streams.taps.now) c.args.self.now.choices.now in
     let x = frame_of (item_of c.args.n c.args.seen.now c.args.message.now) in
     missed-next t k x frames c.args.self.now.left_out c.args.self.now.left_out false
-    (missed-out t k x (sym (c.is_in_time.ensures (taps_in c.args.self.now.streams.taps.now) c.args.message.now c.args.n) ∙ c.if-not-is_in_time.true)) before
+    (missed-out t k x (sym (c.is_in_time.ensures
+    (taps_in c.args.self.now.streams.taps.now) c.args.message.now c.args.n) ∙ c.if-not-is_in_time.true)) before
     (let b = before in omega (arith, b))
 
 pub returns-then-is_passed-clause-counted : goal.returns-then-is_passed-clause-counted
@@ -33,7 +34,8 @@ returns-then-is_passed-clause-counted c = λ frames before.
     let k = choices_of (taps_in c.args.self.now.streams.taps.now) c.args.self.now.choices.now in
     let x = frame_of (item_of c.args.n c.args.seen.now c.args.message.now) in
     missed-next t k x frames c.args.self.now.left_out c.saturating_add-self.result true
-    (missed-in t k x true (sym (c.is_in_time.ensures (taps_in c.args.self.now.streams.taps.now) c.args.message.now c.args.n) ∙ c.if-not-is_in_time.false)
+    (missed-in t k x true (sym (c.is_in_time.ensures
+    (taps_in c.args.self.now.streams.taps.now) c.args.message.now c.args.n) ∙ c.if-not-is_in_time.false)
     (sym (c.is_passed.ensures x refl refl (c.vl_of-vl.ensures.computed
     ∙ ap link_named_by (c.as_slice.ensures.value ∙ c.in_ok-bytes.ensures))) ∙ c.if-is_passed.true)) before
     c.saturating_add-self.ensures
@@ -45,7 +47,8 @@ returns-in-Came-clause-counted c = λ frames before.
     let x = frame_of (item_of c.args.n c.args.seen.now c.args.message.now) in
     on-ok c.came.result _
     (missed-next t k x frames c.args.self.now.left_out c.args.self.now.left_out false
-    (missed-in t k x false (sym (c.is_in_time.ensures (taps_in c.args.self.now.streams.taps.now) c.args.message.now c.args.n) ∙ c.if-not-is_in_time.false)
+    (missed-in t k x false (sym (c.is_in_time.ensures
+    (taps_in c.args.self.now.streams.taps.now) c.args.message.now c.args.n) ∙ c.if-not-is_in_time.false)
     (sym (c.is_passed.ensures x refl refl (c.vl_of-vl.ensures.computed
     ∙ ap link_named_by (c.as_slice.ensures.value ∙ c.in_ok-bytes.ensures))) ∙ c.if-is_passed.false)) before
     (let b = before in omega (arith, b)))
@@ -57,7 +60,8 @@ returns-in-Left-clause-counted c = λ frames before.
     let x = frame_of (item_of c.args.n c.args.seen.now c.args.message.now) in
     on-ok c.left.result _
     (missed-next t k x frames c.args.self.now.left_out c.args.self.now.left_out false
-    (missed-in t k x false (sym (c.is_in_time.ensures (taps_in c.args.self.now.streams.taps.now) c.args.message.now c.args.n) ∙ c.if-not-is_in_time.false)
+    (missed-in t k x false (sym (c.is_in_time.ensures
+    (taps_in c.args.self.now.streams.taps.now) c.args.message.now c.args.n) ∙ c.if-not-is_in_time.false)
     (sym (c.is_passed.ensures x refl refl (c.vl_of-vl.ensures.computed
     ∙ ap link_named_by (c.as_slice.ensures.value ∙ c.in_ok-bytes.ensures))) ∙ c.if-is_passed.false)) before
     (let b = before in omega (arith, b)))
@@ -68,7 +72,8 @@ returns-then-len-gt-MOST_BYTES-clause-counted c = λ frames before.
     let k = choices_of (taps_in c.args.self.now.streams.taps.now) c.args.self.now.choices.now in
     let x = frame_of (item_of c.args.n c.args.seen.now c.args.message.now) in
     missed-next t k x frames c.args.self.now.left_out c.args.self.now.left_out false
-    (missed-in t k x false (sym (c.is_in_time.ensures (taps_in c.args.self.now.streams.taps.now) c.args.message.now c.args.n) ∙ c.if-not-is_in_time.false)
+    (missed-in t k x false (sym (c.is_in_time.ensures
+    (taps_in c.args.self.now.streams.taps.now) c.args.message.now c.args.n) ∙ c.if-not-is_in_time.false)
     (sym (c.is_passed.ensures x refl refl (c.vl_of-vl.ensures.computed
     ∙ ap link_named_by (c.as_slice.ensures.value ∙ c.in_ok-bytes.ensures))) ∙ c.if-is_passed.false)) before
     (let b = before in omega (arith, b))
@@ -79,7 +84,8 @@ returns-then-not-is_in_time-clause-stands c k frames lines same-tables chosen la
     stands-next k frames x c.args.self.now c.args.self.now lines latest
     (λ until dues s. stand-skipped k.0 k.1 until x.arrival.time x frames dues c.args.self.now.streams
     (out-of-time k.0 k.1 x (subst (λ o. is_in_time o x ≡ false) chosen (sym
-    (c.is_in_time.ensures (taps_in c.args.self.now.streams.taps.now) c.args.message.now c.args.n) ∙ c.if-not-is_in_time.true))) s) refl refl stands
+    (c.is_in_time.ensures (taps_in c.args.self.now.streams.taps.now) c.args.message.now c.args.n)
+    ∙ c.if-not-is_in_time.true))) s) refl refl stands
 
 pub returns-then-is_passed-clause-stands : goal.returns-then-is_passed-clause-stands
 returns-then-is_passed-clause-stands c k frames lines same-tables chosen latest few stands =
@@ -106,7 +112,8 @@ returns-in-Came-clause-stands c k frames lines same-tables chosen latest few sta
     let in-time : is_in_time k.1 x ≡ true = subst (λ (o : Choices). is_in_time o x ≡ true) chosen
     (sym (c.is_in_time.ensures (taps_in c.args.self.now.streams.taps.now) c.args.message.now c.args.n) ∙ c.if-not-is_in_time.false) in
     let out : is_passed k.0 k.1 x ≡ false = subst (λ (o : Choices). is_passed k.0 o x ≡ false) chosen
-    (subst (λ (t : Rows). is_passed t (choices_of (taps_in c.args.self.now.streams.taps.now) c.args.self.now.choices.now) x ≡ false) same-tables
+    (subst (λ (t : Rows). is_passed t (choices_of
+    (taps_in c.args.self.now.streams.taps.now) c.args.self.now.choices.now) x ≡ false) same-tables
     (sym (c.is_passed.ensures x refl refl (c.vl_of-vl.ensures.computed
     ∙ ap link_named_by (c.as_slice.ensures.value ∙ c.in_ok-bytes.ensures))) ∙ c.if-is_passed.false)) in
     let none = running-then k frames x c.args.self.now lines in-time stands in
@@ -131,7 +138,8 @@ returns-in-Left-clause-stands c k frames lines same-tables chosen latest few sta
     let in-time : is_in_time k.1 x ≡ true = subst (λ (o : Choices). is_in_time o x ≡ true) chosen
     (sym (c.is_in_time.ensures (taps_in c.args.self.now.streams.taps.now) c.args.message.now c.args.n) ∙ c.if-not-is_in_time.false) in
     let out : is_passed k.0 k.1 x ≡ false = subst (λ (o : Choices). is_passed k.0 o x ≡ false) chosen
-    (subst (λ (t : Rows). is_passed t (choices_of (taps_in c.args.self.now.streams.taps.now) c.args.self.now.choices.now) x ≡ false) same-tables
+    (subst (λ (t : Rows). is_passed t (choices_of
+    (taps_in c.args.self.now.streams.taps.now) c.args.self.now.choices.now) x ≡ false) same-tables
     (sym (c.is_passed.ensures x refl refl (c.vl_of-vl.ensures.computed
     ∙ ap link_named_by (c.as_slice.ensures.value ∙ c.in_ok-bytes.ensures))) ∙ c.if-is_passed.false)) in
     let none = running-then k frames x c.args.self.now lines in-time stands in

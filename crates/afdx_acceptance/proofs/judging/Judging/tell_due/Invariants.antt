@@ -3,7 +3,7 @@ use Rattle.afdx_config.specs.Rows.{Rows}
 use Rattle.afdx_acceptance.specs.Keeping.{IsSomeUpTo}
 use Rattle.afdx_inputs.specs.Joining.{Frame}
 use Rattle.afdx_acceptance.specs.Choices.{Choices}
-use Rattle.afdx_acceptance.specs.Told.{HasTold, TellsAll}
+use Rattle.afdx_acceptance.specs.Told.{TellsAll}
 use Rattle.afdx_acceptance.specs.Waiting.{left_in}
 use Rattle.afdx_acceptance.proofs.judging.Judging.tell_due.Given as goal
 
@@ -11,11 +11,8 @@ abbrev pub invariant-loop-lines : goal.invariant-loop-lines
 invariant-loop-lines g l = record {
   sound : g.O.Sink.failed l.output ≡ false;
   settings : g.O.Sink.settings l.output ≡ g.O.Sink.settings l.fn.output;
-  told : (k : Rows × Choices) (start : Option (List ℕ)) (frames : List Frame)
-      → HasTold k l.fn.self start (g.O.Sink.written l.fn.output) frames
-      → HasTold k l.self start (g.O.Sink.written l.output) frames;
   stands : (k : Rows × Choices) (last : Bool) (time : ℕ) (start : Option (List ℕ)) (frames : List Frame)
-      → (l.fn.self.streams.ended ≡ None → IsSomeUpTo time l.before)
+      → (l.fn.self.streams.ended ≡ None → IsSomeUpTo time l.before) → (last ≡ false → IsSomeUpTo time l.before)
       → TellsAll k last time l.fn.self start (g.O.Sink.written l.fn.output) frames
       → TellsAll k last time l.self start (g.O.Sink.written l.output) frames;
   ended : l.self.streams.ended ≡ l.fn.self.streams.ended;

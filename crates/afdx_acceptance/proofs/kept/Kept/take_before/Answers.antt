@@ -1,4 +1,4 @@
-use Rattle.std.proofs.Common.{◌≡◌, ◌∷◌, List, false, true≢false, refl, sym, ap, ◌∙◌, subst, arith}
+use Rattle.std.proofs.Common.{◌≡◌, ◌∷◌, List, false, true, true≢false, refl, sym, ap, ◌∙◌, subst, arith}
 use Rattle.std.proofs.lemmas.List.Elements.{All-contains}
 use Rattle.std.proofs.lemmas.List.Sorted.{All-permutation}
 use Rattle.afdx_acceptance.specs.Awaited.{awaited, is_before}
@@ -36,3 +36,7 @@ returns-clause-none c t c' until time given lines kept =
       λ k m known is. All-contains (λ x. is_before c.args.before x ≡ false) c.loop-entry.self.agenda (awaited m k)
           c.in_default.ensures.none (now.on_agenda k m known is),
     )
+
+pub returns-then-is_due-clause-in_time : goal.returns-then-is_due-clause-in_time
+returns-then-is_due-clause-in_time c =
+    subst (λ e. is_before c.args.before e ≡ true) (sym c.in_ok-lines.ensures.of) c.in-Some.ensures.in_time

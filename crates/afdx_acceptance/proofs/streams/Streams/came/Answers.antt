@@ -154,7 +154,8 @@ returns-clause-stands c t c' until time frames lines vl e le behind few running 
     (λ k. let n = came-few r c' frames k in omega (arith, n, few)) old in
     let joined = join-came r c' until None time frames lines c.loop-rank.self.kept c.link.ensures.lawful a link row mine-e
     named c.link.ensures.row heard
-    old.falling (subst (λ (l : List ℕ). AreKept r c' until None time (came_to h.side link (seen_ports r c'.taps h.side l) a (given_of r c' frames))
+    old.falling (subst (λ (l : List ℕ). AreKept r c' until None time (came_to h.side link
+    (seen_ports r c'.taps h.side l) a (given_of r c' frames))
     lines c.loop-rank.self.kept) whole new) in
     subst (λ (x : Rows). StreamsStand x c' until (frame_with Came a ∷ frames) lines time c.loop-rank.self) stand.tables (record {
       lawful = c.link.ensures.lawful;

@@ -109,7 +109,8 @@ returns-clause-stands c t c' until time frames lines vl e le behind few running 
       taps = mine.taps;
       kept = subst (λ o. AreKept r c' until o time (given_of r c'
           (frame_with Left a ∷ frames)) lines c.leave_strange.new.kept) (sym running)
-          (join-strange r c' until None time frames lines c.leave_strange.new.kept mine.lawful a (subst (λ (x : Rows). counts x c' (frame_with Left a) ≡ true) (sym stand.tables) e) strange all old.falling
+          (join-strange r c' until None time frames lines c.leave_strange.new.kept mine.lawful a (subst (λ
+          (x : Rows). counts x c' (frame_with Left a) ≡ true) (sym stand.tables) e) strange all old.falling
           (subst (λ w. AreKept r c' until None time (with_strange key (due_at key h.time
           (Strange c.args.n h.side h.port w)) (given_of r c' frames))
           lines c.leave_strange.new.kept) why k));

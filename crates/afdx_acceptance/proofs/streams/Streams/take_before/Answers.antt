@@ -8,5 +8,6 @@ returns-clause-told c t c' until time frames lines up stand =
 
 pub returns-clause-none : goal.returns-clause-none
 returns-clause-none c t c' until time frames lines stand =
-    if-none (λ k. (record { lawful = stand.lawful; tables = stand.tables; by = stand.by; taps = stand.taps; kept = k.0 }, k.1)) c.in_ok-taken.taken
+    if-none (λ k. (record { lawful = stand.lawful; tables = stand.tables; by = stand.by; taps = stand.taps; kept = k.0 }, k.1))
+    c.in_ok-taken.taken
     (c.in_ok-taken.ensures.none t c' until time _ lines stand.kept)

@@ -1,22 +1,48 @@
-use Rattle.std.proofs.Common.{refl, sym, subst}
-use Rattle.afdx_acceptance.specs.Slots.{IsCounted}
-use Rattle.afdx_acceptance.proofs.SlotLemmas.{counted-other, counted-stream}
+use Rattle.std.proofs.Common.{◌≡◌, None, true, false, refl, sym, ap, ◌∙◌, subst}
+use Rattle.std.specs.Prelude.{is_some}
+use Rattle.afdx_conform.specs.Findings.{Judged}
+use Rattle.afdx_conform.specs.Histories.{unsure_in}
+use Rattle.afdx_conform.specs.Standing.{IsEnding, due_of}
+use Rattle.afdx_acceptance.specs.Slots.{StreamEnds}
+use Rattle.afdx_acceptance.specs.Waiting.{slot_due}
+use Rattle.afdx_acceptance.proofs.CountingLemmas.{has-other, has-stream, or-none, or-some, unsure-behind}
 use Rattle.afdx_acceptance.proofs.totals.Totals.add.Goals as goal
 
-pub returns-then-is_some-clause-judged : goal.returns-then-is_some-clause-judged
-returns-then-is_some-clause-judged c =
-    subst IsCounted (sym c.in-Stream.is) (counted-stream c.in-Stream.stream c.deref.result.now c.deref.ensures
-    c.counts-counts.ensures.judged)
+pub returns-then-is_some-clause-counted : goal.returns-then-is_some-clause-counted
+unfolding StreamEnds slot_due
+returns-then-is_some-clause-counted c n z k xs ys lines due ends has =
+    let there = subst (λ v. StreamEnds z k xs ys lines v) c.in-Stream.is ends in
+    let none : due_of c.deref.result.now ≡ None = ap due_of c.deref.ensures ∙ sym (ap slot_due c.in-Stream.is) ∙ due in
+    let ending = subst (λ v. IsEnding z xs ys there.0 v) (sym c.deref.ensures) there.1 in
+    let again = subst (λ v. IsEnding z xs ys there.0 v) (sym c.deref-in-Stream.ensures) there.1 in
+    let unsure = sym (unsure-behind z xs ys)
+    ∙ ap (λ (j : Judged). is_some (unsure_in j)) (sym (c.counts-counts.ensures.judged z xs ys there.0 none ending))
+    ∙ ap (λ o. is_some o) (sym (c.unsure_behind.ensures.ends z xs ys there.0 again)) ∙ sym c.is_some.ensures ∙ c.if-is_some.true in
+    has-stream n z xs ys c.counts-counts.result c.args.self.now _ true has
+    (c.counts-counts.ensures.counted z xs ys there.0 none ending) unsure
+    c.saturating_add-self.ensures c.saturating_add-self-in-Stream.ensures c.saturating_add-self-in-Stream-2.ensures
+    (sym (or-some c.args.self.now.is_unsure))
 
-pub returns-else-is_some-clause-judged : goal.returns-else-is_some-clause-judged
-returns-else-is_some-clause-judged c =
-    subst IsCounted (sym c.in-Stream.is) (counted-stream c.in-Stream.stream c.deref.result.now c.deref.ensures
-    c.counts-counts.ensures.judged)
+pub returns-else-is_some-clause-counted : goal.returns-else-is_some-clause-counted
+unfolding StreamEnds slot_due
+returns-else-is_some-clause-counted c n z k xs ys lines due ends has =
+    let there = subst (λ v. StreamEnds z k xs ys lines v) c.in-Stream.is ends in
+    let none : due_of c.deref.result.now ≡ None = ap due_of c.deref.ensures ∙ sym (ap slot_due c.in-Stream.is) ∙ due in
+    let ending = subst (λ v. IsEnding z xs ys there.0 v) (sym c.deref.ensures) there.1 in
+    let again = subst (λ v. IsEnding z xs ys there.0 v) (sym c.deref-in-Stream.ensures) there.1 in
+    let unsure = sym (unsure-behind z xs ys)
+    ∙ ap (λ (j : Judged). is_some (unsure_in j)) (sym (c.counts-counts.ensures.judged z xs ys there.0 none ending))
+    ∙ ap (λ o. is_some o) (sym (c.unsure_behind.ensures.ends z xs ys there.0 again)) ∙ sym c.is_some.ensures ∙ c.if-is_some.false in
+    has-stream n z xs ys c.counts-counts.result c.args.self.now _ false has
+    (c.counts-counts.ensures.counted z xs ys there.0 none ending) unsure
+    c.saturating_add-self.ensures c.saturating_add-self-in-Stream.ensures c.saturating_add-self-in-Stream-2.ensures
+    (sym (or-none c.args.self.now.is_unsure))
 
 pub returns-in_default : goal.returns-in_default
 returns-in_default c = record {
   findings = refl;
   left_out = refl;
   unseen = refl;
-  judged = counted-other c.args.slot.now c.in_default.not-Stream;
+  counted = λ n z k xs ys lines due ends has. has-other n z k xs ys lines c.args.slot.now c.args.self.now
+      c.in_default.not-Stream ends has;
 }

@@ -1,0 +1,67 @@
+//! What is counted of all streams.
+
+ghost use Rattle.std.specs.Prelude.{◌≡◌, ◌<◌, ℕ, List, Some, length, slice_get};
+ghost use Rattle.afdx_config.specs.Rows.{LinkRow};
+ghost use Rattle.afdx_inputs.specs.Joining.{Frame as Seen};
+ghost use Rattle.afdx_acceptance.specs.Choices.{Choices};
+ghost use Rattle.afdx_acceptance.specs.Counting.{AreEnded, Counted, HasCounted, both_counted};
+ghost use Rattle.afdx_acceptance.specs.Counting.{counted_among, counted_of, counted_to};
+ghost use Rattle.afdx_acceptance.specs.Counting.{none_counted};
+
+use crate::kept::Kept;
+use crate::key::Key;
+use crate::outlets::receiver;
+use crate::totals::Totals;
+use afdx_config::Tables;
+use afdx_frame::Side;
+
+/// What is counted of a link's streams on a side.
+fn count_to(tables: &Tables, kept: &Kept, side: Side, link: usize, totals: &mut Totals)
+    requires { link < length tables.now.links }
+    ensures findings { totals.new.findings ≡ totals.old.findings }
+    ensures left_out { totals.new.left_out ≡ totals.old.left_out }
+    ensures unseen { totals.new.unseen ≡ totals.old.unseen }
+    ensures counted { (c : Choices) (until : ℕ) (frames : List Seen) (n : Counted) (l : LinkRow) →
+        slice_get tables.now.links link ≡ Some l → AreEnded tables.now c until frames kept.now →
+        HasCounted n totals.old →
+        HasCounted (both_counted n (counted_to tables.now c until frames side l l.to))
+        totals.new }
+{
+    for rank in 0..tables.link(link).to.len() {
+        let system = receiver(tables, link, rank);
+        let key = Key {
+            side,
+            port: tables.system(system).port,
+            link: Some(link as u16),
+        };
+        kept.count(key, totals);
+    }
+}
+
+/// What is counted of all streams on a side.
+fn count_on(tables: &Tables, kept: &Kept, side: Side, totals: &mut Totals)
+    ensures findings { totals.new.findings ≡ totals.old.findings }
+    ensures left_out { totals.new.left_out ≡ totals.old.left_out }
+    ensures unseen { totals.new.unseen ≡ totals.old.unseen }
+    ensures counted { (c : Choices) (until : ℕ) (frames : List Seen) (n : Counted) →
+        AreEnded tables.now c until frames kept.now → HasCounted n totals.old →
+        HasCounted (both_counted n (counted_among tables.now c until frames side
+        tables.now.links)) totals.new }
+{
+    for link in 0..tables.link_count() {
+        count_to(tables, kept, side, link, totals);
+    }
+}
+
+/// What is counted of all streams, on both sides.
+pub(crate) fn count_streams(tables: &Tables, kept: &Kept, totals: &mut Totals)
+    ensures findings { totals.new.findings ≡ totals.old.findings }
+    ensures left_out { totals.new.left_out ≡ totals.old.left_out }
+    ensures unseen { totals.new.unseen ≡ totals.old.unseen }
+    ensures counted { (c : Choices) (until : ℕ) (frames : List Seen) →
+        AreEnded tables.now c until frames kept.now → HasCounted none_counted totals.old →
+        HasCounted (counted_of tables.now c until frames) totals.new }
+{
+    count_on(tables, kept, Side::A, totals);
+    count_on(tables, kept, Side::B, totals);
+}

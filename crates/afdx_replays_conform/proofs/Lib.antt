@@ -1,0 +1,13 @@
+pub mod ListLemmas
+pub mod RuleLemmas
+pub mod AskedLemmas
+pub mod LeavingLemmas
+pub mod PromisedLemmas
+pub mod FrameLemmas
+pub mod TimeLemmas
+pub mod NumberLemmas
+pub mod StreamLemmas
+pub mod ConformLemmas
+pub mod JoinedLemmas
+pub mod SomeLemmas
+pub mod AnsweredLemmas

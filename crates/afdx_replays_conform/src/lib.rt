@@ -1,0 +1,4 @@
+//! Laws alone: what a replay tells conforms.
+#![tactic(auto)]
+
+pub mod laws;
