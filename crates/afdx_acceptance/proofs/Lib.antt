@@ -21,6 +21,7 @@ pub mod EarlyLemmas
 pub mod BegunLemmas
 pub mod CountingLemmas
 pub mod EndLemmas
+pub mod OverLemmas
 pub mod OfKeyLemmas
 pub mod OneAnswerLemmas
 pub mod RunLawLemmas
@@ -30,3 +31,4 @@ pub mod RunExampleLemmas
 pub mod PartLemmas
 pub mod VerdictLemmas
 pub mod ShownLemmas
+pub mod EarlyLawLemmas

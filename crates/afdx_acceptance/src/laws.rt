@@ -1,5 +1,6 @@
 //! Laws over the lines of a run.
 
+ghost use Rattle.afdx_acceptance.specs.EarlyLaw.{LinesBeginEarly};
 ghost use Rattle.afdx_acceptance.specs.RunExample.{PremisesAreMet};
 ghost use Rattle.afdx_acceptance.specs.RunLaws.{ConformsIsTheHeadline, NoLineIsExplained};
 ghost use Rattle.afdx_acceptance.specs.RunLaws.{NothingFoundIsExplained, RightConforms};
@@ -13,6 +14,12 @@ ghost use Rattle.afdx_acceptance.specs.VerdictLaws.{ExactShowsTheRule, RightNeve
 pub fn there_is_one_answer()
     ensures lines { ThereIsOneAnswer }
     ensures written { AllIsWrittenOnce }
+{}
+
+/// Of all lines the first are those of moments before a time. They depend on the frames before that
+/// time alone, whatever comes from then on and whenever the recordings end.
+pub fn lines_begin_early()
+    ensures { LinesBeginEarly }
 {}
 
 /// Nothing is found exactly where what was recorded has an explanation: no frame left that is of no
