@@ -64,7 +64,9 @@ offer_tests() { # SHELL
         offers "$1" 'afdx-capture pcap --fcs ' yes no
         offers "$1" 'afdx-capture list --interface 0=A --sp' --split
         offers "$1" 'afdx-capture list --reorder 7 --stamps ' end start
-        offers "$1" 'afdx-report --stamps ' end start
+        offers "$1" 'afdx-report --stamps ' end end-start start start-end
+        offers "$1" 'afdx conform --stamps end' end end-start
+        offers "$1" 'afdx conform --l' --leave-out --left --line-buffered --lossy
         offers "$1" 'afdx-campaign --stamps e' end
         offers "$1" "afdx send $files/one.toml " adc fcc
         offers "$1" 'afdx-icd --profile ' 1 2
@@ -81,6 +83,9 @@ offer_tests() { # SHELL
         offers "$1" "afdx list $files/one.toml $files/four.pcap $files/" four.pcap
         offers "$1" "afdx replay $files/one.toml $files/four.pcap $files/" four.pcap
         offers "$1" "afdx send $files/one.toml adc $files/" two.list three.messages
+        offers "$1" "afdx conform --left 1=A:3 $files/" one.toml
+        offers "$1" "afdx conform $files/one.toml $files/" two.list four.pcap
+        offers "$1" "afdx conform --lossy $files/one.toml - $files/" two.list four.pcap
         offers "$1" "afdx-capture list --config $files/" one.toml
         offers "$1" "afdx-capture list --config $files/one.toml $files/" four.pcap
         offers "$1" "afdx-capture list --config $files/one.toml $files/four.pcap $files/" four.pcap
@@ -134,7 +139,7 @@ each_help() { # FUNCTION WORD.. : calls it with the words, a command's name and 
         "$@" "$name" "$work/options"
     done
     if ! options_of "$program" replay | grep -x -- --summary >/dev/null; then return; fi
-    for name in check list police replay send solve; do
+    for name in check conform list police replay send solve; do
         options_of "$program" "$name" >"$work/options"
         "$@" "afdx $name" "$work/options"
     done
