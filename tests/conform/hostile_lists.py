@@ -100,9 +100,9 @@ def most_lines(judge: Judge) -> None:
 
 
 def equal_times(judge: Judge) -> None:
-    """20,000 equal frames come at one moment, and leave at one: one is right, and each other one
+    """5,000 equal frames come at one moment, and leave at one: one is right, and each other one
     that came has passed."""
-    count = 20_000
+    count = 5_000
     came, left = list_of("0", "came") * count, list_of("6720", "left") * count
     found = judge.answer(Pair(CONFIGS["base"], came, left, ()))
     told = b"".join(b"passed %d A 3 over-rate\n" % n for n in range(2, count + 1))
