@@ -163,14 +163,14 @@ _afdx_takes() { # COMMAND : its options, and those that take a value
             options=(--help --version --out --no-admission --link --from --rows --worst --compare \
                 --title --cover --json --interface --taps --fcs --origin --reorder --stamps \
                 --fail-on --junit --conform --slack --drift --inner --asked --until --leave-out \
-                --switch)
+                --switch --left --lossy)
             valued=(--out --link --from --rows --worst --compare --title --cover --interface \
                 --taps --fcs --origin --reorder --stamps --fail-on --junit --slack --drift \
-                --inner --asked --until --leave-out --switch)
+                --inner --asked --until --leave-out --switch --left)
             ;;
         'afdx-taps')
-            options=(--help --version --anyway)
-            valued=()
+            options=(--help --version --anyway --conform --switch)
+            valued=(--switch)
             ;;
         'afdx-traffic')
             options=(--help --version --cables --profile --fill --seconds --seed --config)
@@ -221,7 +221,7 @@ _afdx_value() { # COMMAND OPTION, in one word
         'afdx-report --cover') _afdx_files toml ;;
         'afdx-report --taps') _afdx_files csv ;;
         'afdx-report --fcs') _afdx_words yes no ;;
-        'afdx-report --stamps') _afdx_words end start ;;
+        'afdx-report --stamps') _afdx_words end start start-end end-start ;;
         'afdx-report --fail-on')
             _afdx_words silent contradicted clock twice late full-buffer too-old dropped unequal \
                 missing refused skew jitter first-number recorder-lost left-out unused claimed \

@@ -93,7 +93,8 @@ complete -c afdx -n '__afdx_in conform' -l explain -a 'auto always never' \
 complete -c afdx -n '__afdx_in conform' -l line-buffered \
     -d 'Hands the text of each line over at once'
 complete -c afdx -n '__afdx_in conform' -l progress -d 'Says after two seconds how much was read'
-complete -c afdx -n '__afdx_in conform' -l summary -d 'Prints behind the last line'
+complete -c afdx -n '__afdx_in conform' -l summary \
+    -d 'Prints how much of each recording was left out'
 complete -c afdx -n '__afdx_in conform' -l help -d 'Print help'
 complete -c afdx -n '__afdx_at conform 0 0' -a '(__afdx_files toml)'
 complete -c afdx -n '__afdx_at conform 1 1' -a '(__afdx_files list pcap pcapng)'
@@ -328,7 +329,7 @@ complete -c afdx-report -x -l fcs -a 'yes no' \
     -d 'do recorded frames end with their check sequence'
 complete -c afdx-report -x -l origin -d 'the moment that is time 0, in ns since 1970'
 complete -c afdx-report -x -l reorder -d 'how many arrivals in front of a frame may be later'
-complete -c afdx-report -x -l stamps -a 'end start' \
+complete -c afdx-report -x -l stamps -a 'end start start-end end-start' \
     -d 'whether stamps are those of a frame\'s last bit or of its first'
 complete -c afdx-report -x -l fail-on \
     -a 'silent contradicted clock twice late full-buffer too-old dropped unequal missing refused skew jitter first-number recorder-lost left-out unused claimed lost' \
@@ -343,6 +344,8 @@ complete -c afdx-report -x -l asked -d 'how much later the account may be asked'
 complete -c afdx-report -x -l until -d 'the end of the recordings, with --conform'
 complete -c afdx-report -x -l leave-out -d 'a link that isn\'t judged, or other, with --conform'
 complete -c afdx-report -x -l switch -d 'which of several switches is judged'
+complete -c afdx-report -x -l left -d 'where the frames of interface K left'
+complete -c afdx-report -l lossy -d 'also where the recorder lost frames'
 complete -c afdx-report -n '__afdx_at - 0 0' -a '(__afdx_files toml)'
 complete -c afdx-report -n '__afdx_at - 1 1' -a '(__afdx_files list pcap pcapng)'
 complete -c afdx-report -n '__afdx_at - 2 2' -a '(__afdx_files pcap pcapng)'
@@ -351,6 +354,8 @@ complete -c afdx-taps -f
 complete -c afdx-taps -l help -d 'show this help message and exit'
 complete -c afdx-taps -l version -d 'print the version and leave'
 complete -c afdx-taps -l anyway -d 'print the words also where they don\'t agree'
+complete -c afdx-taps -l conform -d 'print the words of \'afdx conform\''
+complete -c afdx-taps -x -l switch -d 'which of several switches is judged'
 complete -c afdx-taps -n '__afdx_at - 0 0' -a '(__afdx_files toml)'
 complete -c afdx-taps -n '__afdx_at - 1 1' -a '(__afdx_files csv)'
 complete -c afdx-taps -n '__afdx_at - 2 2' -a '(__afdx_files pcap pcapng)'

@@ -62,7 +62,7 @@ _afdx_takes() { # COMMAND
             '--explain=-[When a fault is explained, behind its one line]:: :(auto always never)' \
             '--line-buffered[Hands the text of each line over at once]' \
             '--progress[Says after two seconds how much was read]' \
-            '--summary[Prints behind the last line]' \
+            '--summary[Prints how much of each recording was left out]' \
             $help \
             ':config:_files -g "*.toml(-.)"' \
             ':came:_files -g "*.(list|pcap|pcapng)(-.)"' \
@@ -237,7 +237,7 @@ _afdx_takes() { # COMMAND
             '--fcs[do recorded frames end with their check sequence]: :(yes no)' \
             '--origin[the moment that is time 0, in ns since 1970]:ns:' \
             '--reorder[how many arrivals in front of a frame may be later]:n:' \
-            '--stamps[whether stamps are those of a frame'\''s last bit or of its first]: :(end start)' \
+            '--stamps[whether stamps are those of a frame'\''s last bit or of its first]: :(end start start-end end-start)' \
             '--fail-on[status 6 where one of these isn'\''t 0, with commas]: :_values -s , word silent contradicted clock twice late full-buffer too-old dropped unequal missing refused skew jitter first-number recorder-lost left-out unused claimed lost' \
             '--junit[write the run and each criterion as a JUnit test case]:file:_files -g "*.xml(-.)"' \
             '--conform[report on a recorded switch]' \
@@ -248,6 +248,8 @@ _afdx_takes() { # COMMAND
             '--until[the end of the recordings, with --conform]:ns:' \
             '*--leave-out[a link that isn'\''t judged, or other, with --conform]:vl:' \
             '--switch[which of several switches is judged]:name:' \
+            '*--left[where the frames of interface K left]:k=place:' \
+            '--lossy[also where the recorder lost frames]' \
             ':config:_files -g "*.toml(-.)"' \
             ':list:_files -g "*.(list|pcap|pcapng)(-.)"' \
             '::list:_files -g "*.(pcap|pcapng)(-.)"'
@@ -256,6 +258,8 @@ _afdx_takes() { # COMMAND
         _arguments $help \
             $version \
             '--anyway[print the words also where they don'\''t agree]' \
+            '--conform[print the words of '\''afdx conform'\'']' \
+            '--switch[which of several switches is judged]:name:' \
             ':config:_files -g "*.toml(-.)"' \
             ':taps:_files -g "*.csv(-.)"' \
             ':recording:_files -g "*.(pcap|pcapng)(-.)"' \

@@ -200,6 +200,8 @@ LATER_ROWS = (
 # ---- beside these: what else a program may get wrong ---------------------------------------------
 
 UNKNOWN = "--from 0 --until 2000000"
+# H1 with its check sequence, and with each bit of that inverted
+SEALED, DAMAGED = (HEADS["1"] + "00" + sequence for sequence in ("95178b51", "6ae874ae"))
 SIDES_CAME, SIDES_LEFT = "F 0 B 1 H1 / F 0 A 1 H1", "F 34000 B 3 H9 / F 34000 A 2 H1"
 MORE_ROWS = (
     Row("open by four slacks", "--slack 1 --until 17003", "0", "", "", "0/1/0/0"),
@@ -230,6 +232,12 @@ MORE_ROWS = (
         "passed 1 A 3 too-short", "0/0/0/0"),
     Row("a damaged frame of nothing", "", "0", "F 6720 A 3 H1 / B 6720 A 3 H1",
         "strange 2 A 3 bad-fcs", "1/0/0/0"),
+    Row("bytes that are said whole", "", f"R 0 A 1 {SEALED}", "6720", "", "1/0/0/0"),
+    Row("bytes that are said whole, left", "", "0", f"R 6720 A 3 {SEALED}", "", "1/0/0/0"),
+    Row("damaged, and said whole", "", "B 0 A 1 H1", f"R 6720 A 3 {DAMAGED}",
+        "passed 1 A 3 bad-fcs", "0/0/0/0"),
+    Row("damaged as it left, and said whole", "--until 40000", "0", f"R 6720 A 3 {DAMAGED}",
+        "strange 1 A 3 bad-fcs / stopped 1 A 3", "0/0/0/0"),
     Row("nothing at all", "", "", "", "", "0/0/0/0"),
 )
 

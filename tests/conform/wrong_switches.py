@@ -167,6 +167,22 @@ class Late(RecordedSwitch):
             self.tell("late", port, arriving)
 
 
+class OtherTurns(RecordedSwitch):
+    """Frames of other links pass by each ninth one: that is amiss where its latency is passed."""
+
+    def leave(self, port: int, end: int, arriving: Arriving) -> None:
+        vl = arriving.frame().link() or 0
+        latency = self.terms[vl, port].latency
+        self.turns = getattr(self, "turns", 0) + 1
+        if self.turns % NINTH == 0:
+            longer = self.chance.randint(0, latency)
+            end = min(end + longer, arriving.moment + 2 * latency - 1)
+        self.ends[arriving.side, vl, port] = end  # those of its link don't pass by
+        super().leave(port, end, arriving)
+        if end > arriving.moment + latency:
+            self.tell("late", port, arriving)
+
+
 class Early(RecordedSwitch):
     """Some frames leave a nanosecond early."""
 
@@ -183,5 +199,5 @@ class Early(RecordedSwitch):
 
 WRONG_SWITCHES: tuple[type[RecordedSwitch], ...] = (
     LargerAccount, SmallerAccount, NoJitter, OtherCharge, OneAccountAPort, PolicesNothing, Drops,
-    Doubles, OtherPort, Damages, Reorders, Late, Early,
+    Doubles, OtherPort, Damages, Reorders, OtherTurns, Late, Early,
 )

@@ -14,7 +14,7 @@ for byte, from files and standard input, with each option that changes nothing. 
 `--left`, recordings are judged too: those that are spelled out in tests/conform/recorded_rows.py,
 small cases as recorders would write them, and such that are cut, changed or of other options.
 N small cases (100 where it isn't given) are tried for each of the seeds S to S + 3 (0 to 3): N of
-25000 tries 100,000 on the program. The long run is of F frames of each side (1,500); R frames are
+25000 tries 100,000 on the program. The long run is of F frames of each side (20,000); R frames are
 recorded to see what memory they take (200,000).
 Prints `ok NAME` or `FAILED NAME` for each case, then `N passed, M failed`; ends with status 1 if a
 case failed. Needs Python 3.11.
@@ -154,7 +154,7 @@ def main() -> None:
     )
     words.add_argument("--seed", metavar="S", type=int, default=0)
     words.add_argument("--count", metavar="N", type=int, default=100)
-    words.add_argument("--frames", metavar="F", type=int, default=1_500)
+    words.add_argument("--frames", metavar="F", type=int, default=20_000)
     words.add_argument("--recorded", metavar="R", type=int, default=200_000)
     words.add_argument("program", metavar="PROGRAM", nargs="?", help="the built program")
     given = words.parse_args()

@@ -1,5 +1,5 @@
 -- What a run has begun to tell.
-use Rattle.std.proofs.Common.{◌≡◌, ℕ, ◌≤◌, Bool, true, false, List, [], ◌∷◌, ◌++◌, inl, inr, refl, sym, ap, ◌∙◌, subst, arith}
+use Rattle.std.proofs.Common.{◌≡◌, ℕ, ◌≤◌, Bool, true, false, List, [], ◌∷◌, ◌++◌, inr, refl, sym, ap, ◌∙◌, subst, arith}
 use Rattle.std.proofs.lemmas.Bool.{le-ltb}
 use Rattle.std.proofs.lemmas.List.{append-nil}
 use Rattle.std.specs.Io.KnownBytes.{Appends}
@@ -116,7 +116,7 @@ begun-last (Err e) k time ended end old new frames at (j, lines, begun, is, stan
 pub on-err-all : {V E : Type 0} (r : Result V E) (k : Rows × Choices) (frames : List Frame) (old new : Option (List ℕ))
     → OnErr r (BeginsAll k frames old new) → OnErr r (BeginsWritten k frames old new)
 on-err-all (Ok v) k frames old new h = tt
-on-err-all (Err e) k frames old new h = inr (inl h)
+on-err-all (Err e) k frames old new h = inr h
 
 -- ---- nothing is told
 

@@ -43,11 +43,11 @@ filter-every P test (x ∷ xs) h = by (test x) (filter-every P test xs h.1)
     by true k = (h.0, k)
     by false k = k
 
-filter-none : {X : Type 0} (test : X → Bool) (xs : List X) → AllByRecursion (λ x. test x ≡ false) xs → filter test xs ≡ []
+pub filter-none : {X : Type 0} (test : X → Bool) (xs : List X) → AllByRecursion (λ x. test x ≡ false) xs → filter test xs ≡ []
 filter-none test [] h = refl
 filter-none test (x ∷ xs) h = ap (λ b. cond b (x ∷ filter test xs) (filter test xs)) h.0 ∙ filter-none test xs h.1
 
-filter-all : {X : Type 0} (test : X → Bool) (xs : List X) → AllByRecursion (λ x. test x ≡ true) xs → filter test xs ≡ xs
+pub filter-all : {X : Type 0} (test : X → Bool) (xs : List X) → AllByRecursion (λ x. test x ≡ true) xs → filter test xs ≡ xs
 filter-all test [] h = refl
 filter-all test (x ∷ xs) h = ap (λ b. cond b (x ∷ filter test xs) (filter test xs)) h.0 ∙ ap (λ l. x ∷ l) (filter-all test xs h.1)
 
@@ -93,7 +93,7 @@ module _ (t : Rows) (c : Choices) (more frames : List Frame) where
       by None = refl
       by (Some place) = left-to-both k (judged_to t c.taps k.side place k.port)
 
-  strange-both : (k : Key) → map (stranger_due t k) (strangers_of t c k.side k.port (more ++ frames))
+  pub strange-both : (k : Key) → map (stranger_due t k) (strangers_of t c k.side k.port (more ++ frames))
       ≡ map (stranger_due t k) (strangers_of t c k.side k.port more) ++ map (stranger_due t k) (strangers_of t c k.side k.port frames)
   strange-both k =
       let test : Frame → Bool = λ x. left_at k.side k.port x && is_stranger t x.arrival in
@@ -104,6 +104,12 @@ module _ (t : Rows) (c : Choices) (more frames : List Frame) where
       ∙ ap (λ l. map (stranger_due t k) l)
       (map-append (λ (x : Frame). x.arrival) (filter test (counted t c more)) (filter test (counted t c frames)))
       ∙ map-append (stranger_due t k) (strangers_of t c k.side k.port more) (strangers_of t c k.side k.port frames)
+
+  -- where none counts it is the same
+  pub same-counted : (k : Key) → counted t c more ≡ [] → given_of t c (more ++ frames) k ≡ given_of t c frames k
+  same-counted k none = given-from t c (more ++ frames) k
+      ∙ ap (λ fs. given_from t c.taps k fs k.link) (counted-both ∙ ap (λ l. l ++ counted t c frames) none)
+      ∙ sym (given-from t c frames k)
 
 module _ (t : Rows) (c : Choices) (time : ℕ) (more : List Frame) (late : ComeFrom time more) where
   passed-late : (test : Frame → Bool) → ComeFrom time (filter test (counted t c more))
@@ -257,11 +263,6 @@ module _ (t : Rows) (c : Choices) (until time : ℕ) (more frames : List Frame) 
         (are.stand k known))))
   ]
 
-  same-given : counted t c more ≡ [] → given_of t c (more ++ frames) k ≡ given_of t c frames k
-  same-given none = given-from t c (more ++ frames) k
-      ∙ ap (λ fs. given_from t c.taps k fs k.link) (counted-both t c more frames ∙ ap (λ l. l ++ counted t c frames) none)
-      ∙ sym (given-from t c frames k)
-
   -- behind the end that is known
   pub known-behind : counted t c more ≡ [] → AreKept t c until (Some until) time (given_of t c frames) dues kept → Behind
   known-behind none are = elim (known-cases t k known) [
@@ -271,7 +272,7 @@ module _ (t : Rows) (c : Choices) (until time : ℕ) (more frames : List Frame) 
     | inr of ↦
         (let z = terms_at t c until of.0 k.port in
         subst (λ l. IsBehind k Q (of_key k dues) l)
-        (ap (λ g. judged_dues z k (judged_of z g.came g.left)) (sym (same-given none))
+        (ap (λ g. judged_dues z k (judged_of z g.came g.left)) (sym (same-counted t c more frames k none))
         ∙ sym (dues-are t c until (more ++ frames) k of.0 of.1))
         (ended-behind z k Q up (given_of t c frames k).came (given_of t c frames k).left (of_key k dues)
         (slot_at kept.slots.items k) due
@@ -281,8 +282,8 @@ module _ (t : Rows) (c : Choices) (until time : ℕ) (more frames : List Frame) 
 
 -- ---- all keys
 
-key-cases : (t : Rows) (k : Key) → (is_known t k ≡ true) ⊎ (is_known t k ≡ false)
-key-cases t k = by (is_known t k) refl
+pub known-or-not : (t : Rows) (k : Key) → (is_known t k ≡ true) ⊎ (is_known t k ≡ false)
+known-or-not t k = by (is_known t k) refl
   where
     by : (b : Bool) → is_known t k ≡ b → (is_known t k ≡ true) ⊎ (is_known t k ≡ false)
     by true e = inl e
@@ -298,7 +299,7 @@ ranked-up last k a b le h = omega (arith, le, h)
 module _ (t : Rows) (c : Choices) (until time : ℕ) (ended : Option ℕ) (frames all : List Frame) (dues : List Due)
     (lawful : IsLawfulSwitch t) (kept : Kept) (are : AreKept t c until ended time (given_of t c frames) dues kept) where
   only-known : (k : Key) → 256 ≤ k.port → of_key k dues ≡ []
-  only-known k large = elim (key-cases t k) [
+  only-known k large = elim (known-or-not t k) [
     | inl known ↦ absurd (let small = is-small t k lawful known in omega (arith, small, large))
     | inr unknown ↦ are.none k unknown
   ]
@@ -307,7 +308,7 @@ module _ (t : Rows) (c : Choices) (until time : ℕ) (ended : Option ℕ) (frame
       → IsBehind k (IsRanked (last_rank dues) k) (of_key k dues) (dues_of t c until all k))
       → AreFirstLines t c until all dues
   first-lines behind = record {
-    own = λ k small. elim (key-cases t k) [
+    own = λ k small. elim (known-or-not t k) [
       | inl known ↦
           (let b = behind k known in
           record {
@@ -331,7 +332,7 @@ module _ (t : Rows) (c : Choices) (until time : ℕ) (ended : Option ℕ) (frame
       → ((k : Key) → is_known t k ≡ true → IsBehind k (λ m. to ≤ m) (of_key k dues) (dues_of t c until all k))
       → AreLinesBefore t c until all to dues
   lines-before to early behind = record {
-    own = λ k small. elim (key-cases t k) [
+    own = λ k small. elim (known-or-not t k) [
       | inl known ↦
           (let b = behind k known in
           sym (ap (λ l. filter (λ d. nat_lt d.moment to) l) b.are
@@ -361,7 +362,7 @@ module _ (t : Rows) (c : Choices) (until time : ℕ) (ended : Option ℕ) (frame
   pub only-lines : ((k : Key) → is_known t k ≡ true → IsBehind k (λ m. ⊥) (of_key k dues) (dues_of t c until all k))
       → AreLines t c until all dues
   only-lines behind = record {
-    own = λ k small. elim (key-cases t k) [
+    own = λ k small. elim (known-or-not t k) [
       | inl known ↦ all-told k (behind k known)
       | inr unknown ↦ are.none k unknown ∙ sym (unknown-own t c until all k small unknown)
     ];

@@ -11,6 +11,9 @@ pub mod KeptLemmas
 pub mod AddedLemmas
 pub mod StepLemmas
 pub mod GivenLemmas
+pub mod CameLemmas
+pub mod LeftLemmas
+pub mod PortLemmas
 pub mod JoinLemmas
 pub mod FullLemmas
 pub mod LaterLemmas
@@ -21,6 +24,7 @@ pub mod EarlyLemmas
 pub mod BegunLemmas
 pub mod CountingLemmas
 pub mod EndLemmas
+pub mod OverLemmas
 pub mod OfKeyLemmas
 pub mod OneAnswerLemmas
 pub mod RunLawLemmas
@@ -30,3 +34,4 @@ pub mod RunExampleLemmas
 pub mod PartLemmas
 pub mod VerdictLemmas
 pub mod ShownLemmas
+pub mod EarlyLawLemmas

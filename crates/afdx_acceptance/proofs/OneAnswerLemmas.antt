@@ -79,7 +79,7 @@ below d e (f ∷ lines) h (inr m) = let le = h.0 in let less = below f e lines h
 
 -- ---- two lists
 
-abbrev AreRanged : List Due → Type 0
+abbrev pub AreRanged : List Due → Type 0
 AreRanged lines = AllByRecursion (λ d. IsRanged d.key) lines
 
 abbrev IsOnlyOne : List Due → List Due → Type 0
@@ -161,7 +161,7 @@ module _ (t : Rows) (c : Choices) (until : ℕ) (frames : List Frame) (few : len
       by None h = omega arith
       by (Some place) h = by-stream place (judged_to t c.taps k.side place k.port) refl h
 
-  ranged : (lines : List Due) → AreLines t c until frames lines → AreRanged lines
+  pub ranged : (lines : List Due) → AreLines t c until frames lines → AreRanged lines
   ranged lines are = of-each-key (λ d. IsRanged d.key) lines (λ k. by k (nat_lt k.port 256) refl)
     where
       by : (k : Key) (b : Bool) → nat_lt k.port 256 ≡ b → AllByRecursion (λ d. IsRanged d.key) (of_key k lines)

@@ -77,6 +77,9 @@ part-right n a b p = record {
   sure = λ h. p.sure (or-parts a.is_unsure b.is_unsure h).1;
 }
 
+whole-part : (n : Counted) → IsPart n n
+whole-part n = record { less = omega arith; open_less = omega arith; sure = λ h. h }
+
 part-part : (n m whole : Counted) → IsPart n m → IsPart m whole → IsPart n whole
 part-part n m whole p q = record {
   less = (let a = p.less in let b = q.less in omega (arith, a, b));
@@ -121,7 +124,7 @@ module _ (t : Rows) (c : Choices) (until : ℕ) (frames : List Frame) where
 
   side-part : (side : Side) → IsPart (Among side t.links) Sum
   side-part A = part-left (Among A t.links) (Among B t.links)
-  side-part B = part-right (Among B t.links) (Among A t.links) (Among B t.links) (record { less = omega arith; open_less = omega arith; sure = λ h. h })
+  side-part B = part-right (Among B t.links) (Among A t.links) (Among B t.links) (whole-part (Among B t.links))
 
   pub is-part : (side : Side) (place s : ℕ) (l : LinkRow) → slice_get t.links place ≡ Some l → IsIn s l.to → IsPart (At side l s) Sum
   is-part side place s l at m =

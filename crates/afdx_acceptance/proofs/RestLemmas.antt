@@ -1,5 +1,5 @@
 -- What is found at the events of a stream that aren't over, whatever comes later.
-use Rattle.std.proofs.Common.{◌≡◌, ℕ, zero, suc, ◌+◌, ◌-◌, ◌<◌, ◌≤◌, Bool, true, false, Option, List, [], ◌∷◌, ◌++◌, map, reverse, drop, length, refl, sym, ap, ◌∙◌, subst, arith, true≢false}
+use Rattle.std.proofs.Common.{◌≡◌, ℕ, zero, suc, ◌+◌, ◌-◌, ◌<◌, ◌≤◌, ◌⊎◌, inl, inr, Bool, true, false, Option, List, [], ◌∷◌, ◌++◌, map, reverse, drop, length, refl, sym, ap, ◌∙◌, subst, arith, true≢false}
 use Rattle.std.proofs.lemmas.Bool.{ltb-true, ltb-false}
 use Rattle.std.proofs.lemmas.List.{append-nil, append_assoc, drop-append-le, map-append, reverse-append, reverse-reverse}
 use Rattle.std.proofs.lemmas.List.Elements.{filter-append}
@@ -30,7 +30,7 @@ use Rattle.afdx_conform.proofs.StandingDecides.{due-is}
 use Rattle.afdx_conform.proofs.StandingEnds.{whole-unsure}
 use Rattle.afdx_acceptance.proofs.LaterLemmas.{AddsAt, adds-at}
 
-up-drop : {X : Type 0} (f : X → ℕ) (n : ℕ) (xs : List X) → GoUp (map f xs) → GoUp (map f (drop n xs))
+pub up-drop : {X : Type 0} (f : X → ℕ) (n : ℕ) (xs : List X) → GoUp (map f xs) → GoUp (map f (drop n xs))
 unfolding GoUp
 up-drop f zero xs h = h
 up-drop f (suc n) [] h = h
@@ -114,7 +114,7 @@ module _ (z : Terms) where
     at-later : (a b : ℕ) → a ≤ b → At a → At b
     at-later a b le h = up (moment_at z a) (moment_at z b) (omega (arith, le)) h
 
-    abbrev AreAt : List Arrival → List Gone → Type 0
+    abbrev pub AreAt : List Arrival → List Gone → Type 0
     AreAt cs us = AllByRecursion (λ x. At x.time) cs × AllByRecursion (λ y. At (y.time + both_slacks z.by)) us
 
     arrivals-at : (x : Arrival) (cs : List Arrival) → GoUp (arrival_times (x ∷ cs)) → At x.time
@@ -137,7 +137,7 @@ module _ (z : Terms) where
     )
 
     -- where the next event is at such a moment each is
-    all-at : (cs : List Arrival) (us : List Gone) → GoUp (arrival_times cs) → GoUp (frame_times us)
+    pub all-at : (cs : List Arrival) (us : List Gone) → GoUp (arrival_times cs) → GoUp (frame_times us)
         → ((e : Event) → next_of z cs us ≡ Some e → At (event_time z e)) → AreAt cs us
     all-at [] [] go gone h = (tt, tt)
     all-at [] (y ∷ us) go gone h = (tt, frames-at y us gone (h (Closing y.time) refl))
@@ -229,91 +229,99 @@ module _ (z : Terms) where
 
     -- ---- while arrivals and frames come
 
-    module _ (time : ℕ) (now-at : Q time) (xs ls : List Arrival) (ys ms : List Gone) (j : Judged) (s : Stream)
-        (h : StandsFor z xs ys j time s) (le : time ≤ z.until) (due : (m : ℕ) → due_of s ≡ Some m → Q m)
+    module _ (time : ℕ) (now-at : Q time) (xs ls : List Arrival) (ys ms : List Gone) (over : List Event) (o : AreOver z time over)
+        (told : AreTold z xs ys) (events : AreEvents z xs ys over) (le : time ≤ z.until)
         (come : AllByRecursion (λ x. time ≤ x.time) ls) (leave : AllByRecursion (λ y. time ≤ y.time) ms) where
-      f : IsAfter z xs ys 0 h.over s.growth
-      f = h.is_after z.until le
-
       abbrev us : List Gone
       us = uncut z ys
 
       abbrev ws : List Gone
       ws = uncut z ms
 
-      ends-at : ys ≡ us ++ (split z ys f.told.left).off
-      ends-at = (split z ys f.told.left).same
+      ends-at : ys ≡ us ++ (split z ys told.left).off
+      ends-at = (split z ys told.left).same
 
-      whole-events : AreEvents z xs (us ++ (split z ys f.told.left).off) h.over
-      whole-events = subst (λ (l : List Gone). AreEvents z xs l h.over) ends-at f.events
+      whole-events : AreEvents z xs (us ++ (split z ys told.left).off) over
+      whole-events = subst (λ (l : List Gone). AreEvents z xs l over) ends-at events
 
-      closed-low : length (closings_in h.over) ≤ length us
-      closed-low = closed-shown z xs us (split z ys f.told.left).off time h.over whole-events h.before le (split z ys f.told.left).are_off
+      closed-low : length (closings_in over) ≤ length us
+      closed-low = closed-shown z xs us (split z ys told.left).off time over whole-events o le (split z ys told.left).are_off
 
       told-uncut : AreTold z xs us
       told-uncut =
-          let off = (split z ys f.told.left).off in
+          let off = (split z ys told.left).off in
           record {
-            came = f.told.came;
+            came = told.came;
             left = up-left (frame_times us) (frame_times off)
                 (subst (λ (l : List ℕ). GoUp l) (map-append (λ (y : Gone). y.time) us off)
-                (subst (λ (l : List Gone). GoUp (frame_times l)) ends-at f.told.left));
-            start = f.told.start;
+                (subst (λ (l : List Gone). GoUp (frame_times l)) ends-at told.left));
+            start = told.start;
             begun = every-left (λ y. from_time z.by.start ≤ y.time + both_slacks z.by) us off
                 (subst (λ (l : List Gone). AllByRecursion (λ y. from_time z.by.start ≤ y.time + both_slacks z.by) l) ends-at
-                f.told.begun);
+                told.begun);
           }
 
-      events-uncut : AreEvents z xs us h.over
-      events-uncut = events-cut z xs us (split z ys f.told.left).off h.over closed-low whole-events
+      events-uncut : AreEvents z xs us over
+      events-uncut = events-cut z xs us (split z ys told.left).off over closed-low whole-events
 
-      events-more : AreEvents z xs (us ++ ws) h.over
-      events-more = events-left-all xs us ws time h.over (late-uncut time ms leave) h.before events-uncut
+      events-more : AreEvents z xs (us ++ ws) over
+      events-more = events-left-all xs us ws time over (late-uncut time ms leave) o events-uncut
 
-      events-all : AreEvents z (xs ++ ls) (us ++ ws) h.over
-      events-all = events-came-all xs ls (us ++ ws) time h.over come h.before events-more
+      events-all : AreEvents z (xs ++ ls) (us ++ ws) over
+      events-all = events-came-all xs ls (us ++ ws) time over come o events-more
 
       -- what is judged so far is the same
-      so-far : shown (judged_by z (xs ++ ls) (us ++ ws) h.over) ≡ j
+      so-far : shown (judged_by z (xs ++ ls) (us ++ ws) over) ≡ shown (judged_by z xs ys over)
       so-far =
-          let off = (split z ys f.told.left).off in
-          ap (λ (i : Judged). shown i) (judged-came-all xs ls (us ++ ws) time h.over come h.before events-more)
-          ∙ shown-late z xs us ws time h.over told-uncut events-uncut le (late-uncut time ms leave) h.before
-          ∙ sym (shown-late z xs us off time h.over told-uncut events-uncut le
-          (are-late z time off le (split z ys f.told.left).are_off) h.before)
-          ∙ ap (λ (l : List Gone). shown (judged_by z xs l h.over)) (sym ends-at) ∙ h.judged z.until le
+          let off = (split z ys told.left).off in
+          ap (λ (i : Judged). shown i) (judged-came-all xs ls (us ++ ws) time over come o events-more)
+          ∙ shown-late z xs us ws time over told-uncut events-uncut le (late-uncut time ms leave) o
+          ∙ sym (shown-late z xs us off time over told-uncut events-uncut le
+          (are-late z time off le (split z ys told.left).are_off) o)
+          ∙ ap (λ (l : List Gone). shown (judged_by z xs l over)) (sym ends-at)
 
-      left-at : s.growth.judging.is_unsure ≡ false → AreAt (coming (xs ++ ls) h.over) (unclosed (us ++ ws) h.over)
-      left-at sure =
-          let off = (split z ys f.told.left).off in
-          let all = due-at xs ys 0 h.over s.growth (due_of s) f sure (due-is z xs ys 0 h.over s.growth f sure) due in (
+      left-at : AreAt (coming xs over) (unclosed ys over) → AreAt (coming (xs ++ ls) over) (unclosed (us ++ ws) over)
+      left-at all =
+          let off = (split z ys told.left).off in (
             subst (λ (l : List Arrival). AllByRecursion (λ x. At x.time) l)
-                (sym (drop-append-le (length (arrivals_came h.over)) xs ls (came-within z xs (us ++ ws) h.over events-more)))
-                (every-append (λ x. At x.time) (coming xs h.over) ls all.0
-                (arrivals-late time now-at ls come)),
+                (sym (drop-append-le (length (arrivals_came over)) xs ls (came-within z xs (us ++ ws) over events-more)))
+                (every-append (λ x. At x.time) (coming xs over) ls all.0 (arrivals-late time now-at ls come)),
             subst (λ (l : List Gone). AllByRecursion (λ y. At (y.time + both_slacks z.by)) l)
-                (sym (unclosed-more z xs us ws h.over closed-low))
-                (every-append (λ y. At (y.time + both_slacks z.by)) (unclosed us h.over) ws
-                (every-left (λ y. At (y.time + both_slacks z.by)) (unclosed us h.over) off
+                (sym (unclosed-more z xs us ws over closed-low))
+                (every-append (λ y. At (y.time + both_slacks z.by)) (unclosed us over) ws
+                (every-left (λ y. At (y.time + both_slacks z.by)) (unclosed us over) off
                 (subst (λ (l : List Gone). AllByRecursion (λ y. At (y.time + both_slacks z.by)) l)
-                (ap (λ (l : List Gone). unclosed l h.over) ends-at ∙ unclosed-more z xs us off h.over closed-low) all.1))
+                (ap (λ (l : List Gone). unclosed l over) ends-at ∙ unclosed-more z xs us off over closed-low) all.1))
                 (frames-late time now-at ms leave)),
           )
 
       parts : uncut z (ys ++ ms) ≡ us ++ ws
       parts = filter-append (λ y. nat_le (y.time + both_slacks z.by) z.until) ys ms
 
-      pub running-adds : AddsAt z At j (shown (judged_of z (xs ++ ls) (ys ++ ms)))
-      running-adds =
-          subst (λ (l : List Gone). AddsAt z At j (shown (judged_whole z (xs ++ ls) l))) (sym parts)
+      -- where the events that are left are at such moments, or there were too many states
+      pub more-adds : ((judged_by z xs ys over).is_unsure ≡ true) ⊎ AreAt (coming xs over) (unclosed ys over)
+          → AddsAt z At (shown (judged_by z xs ys over)) (shown (judged_of z (xs ++ ls) (ys ++ ms)))
+      more-adds left =
+          subst (λ (l : List Gone). AddsAt z At (shown (judged_by z xs ys over)) (shown (judged_whole z (xs ++ ls) l))) (sym parts)
           (subst (λ (i : Judged). AddsAt z At i (shown (judged_whole z (xs ++ ls) (us ++ ws)))) so-far
-          (adds-shown z At (judged_by z (xs ++ ls) (us ++ ws) h.over) (judged_whole z (xs ++ ls) (us ++ ws))
-          (by s.growth.judging.is_unsure refl)))
+          (adds-shown z At (judged_by z (xs ++ ls) (us ++ ws) over) (judged_whole z (xs ++ ls) (us ++ ws)) (by left)))
         where
-          by : (b : Bool) → s.growth.judging.is_unsure ≡ b
-              → AddsAt z At (judged_by z (xs ++ ls) (us ++ ws) h.over) (judged_whole z (xs ++ ls) (us ++ ws))
-          by true e = adds-same z At (judged_by z (xs ++ ls) (us ++ ws) h.over) (judged_whole z (xs ++ ls) (us ++ ws))
-              (whole-unsure z (xs ++ ls) (us ++ ws) h.over events-all
-              (ap (λ (i : Judged). i.is_unsure) so-far
-              ∙ ap (λ (i : Judged). i.is_unsure) (sym (h.judged z.until le)) ∙ sym f.unsure ∙ e))
-          by false e = whole-adds (xs ++ ls) (us ++ ws) h.over events-all (left-at e)
+          by : ((judged_by z xs ys over).is_unsure ≡ true) ⊎ AreAt (coming xs over) (unclosed ys over)
+              → AddsAt z At (judged_by z (xs ++ ls) (us ++ ws) over) (judged_whole z (xs ++ ls) (us ++ ws))
+          by (inl un) = adds-same z At (judged_by z (xs ++ ls) (us ++ ws) over) (judged_whole z (xs ++ ls) (us ++ ws))
+              (whole-unsure z (xs ++ ls) (us ++ ws) over events-all (ap (λ (i : Judged). i.is_unsure) so-far ∙ un))
+          by (inr all) = whole-adds (xs ++ ls) (us ++ ws) over events-all (left-at all)
+
+    pub running-adds : (time : ℕ) → Q time → (xs ls : List Arrival) (ys ms : List Gone) (j : Judged) (s : Stream)
+        → StandsFor z xs ys j time s → time ≤ z.until → ((m : ℕ) → due_of s ≡ Some m → Q m)
+        → AllByRecursion (λ x. time ≤ x.time) ls → AllByRecursion (λ y. time ≤ y.time) ms
+        → AddsAt z At j (shown (judged_of z (xs ++ ls) (ys ++ ms)))
+    running-adds time here xs ls ys ms j s h le due come leave =
+        let f = h.is_after z.until le in
+        subst (λ (i : Judged). AddsAt z At i (shown (judged_of z (xs ++ ls) (ys ++ ms)))) (h.judged z.until le)
+        (more-adds time here xs ls ys ms h.over h.before f.told f.events le come leave (by s.growth.judging.is_unsure refl f))
+      where
+        by : (b : Bool) → s.growth.judging.is_unsure ≡ b → IsAfter z xs ys 0 h.over s.growth
+            → ((judged_by z xs ys h.over).is_unsure ≡ true) ⊎ AreAt (coming xs h.over) (unclosed ys h.over)
+        by true e f = inl (sym f.unsure ∙ e)
+        by false e f = inr (due-at xs ys 0 h.over s.growth (due_of s) f e (due-is z xs ys 0 h.over s.growth f e) due)

@@ -127,7 +127,7 @@ counted-until t c frames order = by c.until refl
 
 -- ---- all streams
 
-bag-of : (t : Rows) (c : Choices) (side : Side) (place port : ℕ) (l : LinkRow) → IsLawfulSwitch t
+pub bag-of : (t : Rows) (c : Choices) (side : Side) (place port : ℕ) (l : LinkRow) → IsLawfulSwitch t
     → judged_to t c.taps side place port ≡ Some l → IsTrue (is_bag (rule_of t l).bag_ms)
 unfolding rule_of
 bag-of t c side place port l lawful is =

@@ -1,13 +1,14 @@
 -- Where a run conforms and nothing is open.
-use Rattle.std.proofs.Common.{◌≡◌, ℕ, suc, ◌+◌, ◌-◌, ◌<◌, ◌≤◌, Bool, true, false, List, [], ◌∷◌, ◌++◌, length, min, reverse, refl, sym, ap, ◌∙◌, subst, arith}
+use Rattle.std.proofs.Common.{◌≡◌, ℕ, ◌+◌, ◌-◌, ◌≤◌, Bool, true, false, List, [], ◌∷◌, ◌++◌, length, reverse, refl, sym, ap, ◌∙◌, subst, arith}
 use Rattle.std.proofs.lemmas.List.{length-reverse, reverse-reverse}
 use Rattle.std.specs.Prelude.{nat_le, if◌then◌else◌}
 use Rattle.std.specs.List.{filter}
 use Rattle.afdx_police.specs.Arrival.{Arrival}
+use Rattle.afdx_conform.proofs.HeadlineLemmas.{exact_shows_all}
 use Rattle.afdx_conform.proofs.HidingLemmas.{what_passed}
 use Rattle.afdx_conform.proofs.OpenLemmas.{open_least}
 use Rattle.afdx_conform.specs.Events.{GoUp, arrival_times}
-use Rattle.afdx_conform.specs.Explanations.{ArePairs, Explains, accepted_in}
+use Rattle.afdx_conform.specs.Explanations.{ArePairs, accepted_in}
 use Rattle.afdx_conform.specs.Findings.{Judged}
 use Rattle.afdx_conform.specs.Headline.{GoByTime, sound_of}
 use Rattle.afdx_conform.specs.Hiding.{KeepAll}
@@ -18,12 +19,11 @@ use Rattle.afdx_conform.specs.Streams.{Gone, Terms}
 use Rattle.afdx_bounds.specs.Tables.{rule_of}
 use Rattle.afdx_acceptance.specs.Counting.{Counted, counted_at, totals_of}
 use Rattle.afdx_acceptance.specs.Frames.{arrivals_of, frames_of, terms_at}
-use Rattle.afdx_acceptance.specs.RunLaws.{sound_at}
-use Rattle.afdx_acceptance.specs.VerdictLaws.{ConformsShowsAll, IsShown, end_of}
+use Rattle.afdx_acceptance.specs.VerdictLaws.{ConformsShowsAll, ExactShowsTheRule, IsShown, end_of}
 use Rattle.afdx_acceptance.proofs.ByTimeLemmas.{arrivals-by-time, arrivals-go, sound-by-time}
 use Rattle.afdx_acceptance.proofs.FoundLemmas.{all-quiet, quiet-streams}
 use Rattle.afdx_acceptance.proofs.PartLemmas.{at-judged, is-part, judged-parts}
-use Rattle.afdx_acceptance.proofs.RunLawLemmas.{Whole, whole-is}
+use Rattle.afdx_acceptance.proofs.RunLawLemmas.{Whole, bag-of, whole-is}
 use Rattle.afdx_acceptance.proofs.VerdictLemmas.{conform-then, conforms-parts, found-zero, uncut-length}
 
 -- ---- what passes a test is no more
@@ -117,3 +117,19 @@ shows_all k frames lines run conforms closed side place port l is =
     (sound-by-time (rule_of k.0 l) own (arrivals-by-time k.0 k.1 frames run.by_time l.vl side))
     (sure side place port l is) (quiet.1 side place port l is)
     (ap (λ (n : Counted). n.waiting) (sym (at-judged k.0 k.1 (end_of k frames) frames side l port p.judged)) ∙ here)
+
+-- ---- with exact stamps and clocks
+
+pub shows_the_rule : ExactShowsTheRule
+shows_the_rule k frames lines exact run conforms closed =
+    let all = shows_all k frames lines run conforms closed in
+    record {
+      none_strange = (conform-then k frames lines run conforms).2.none_strange;
+      streams = λ side place port l is.
+          let s = all side place port l is in
+          exact_shows_all (terms_at k.0 k.1 (end_of k frames) l port) (arrivals_of k.0 k.1 l.vl side frames)
+          (frames_of k.0 k.1 l.vl side port frames) s.answers
+          (record { slack = exact.slack; drift = exact.drift; asked = exact.asked; start = exact.start })
+          (bag-of k.0 k.1 side place port l run.lawful is) (arrivals-by-time k.0 k.1 frames run.by_time l.vl side)
+          s.are_answered s.are_allowed s.are_pairs;
+    }

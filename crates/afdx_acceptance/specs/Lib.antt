@@ -20,4 +20,5 @@ pub mod Written
 pub mod Ran
 pub mod RunLaws
 pub mod VerdictLaws
+pub mod EarlyLaw
 pub mod RunExample

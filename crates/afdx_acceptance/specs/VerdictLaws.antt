@@ -1,11 +1,13 @@
 -- Laws over what a run answers. Lists have the newest first.
 use Rattle.std.specs.Prelude.{ℕ, ◌<◌, ◌≡◌, ◌↔◌, Option, Some, List, length}
+use Rattle.afdx_bounds.specs.Tables.{rule_of}
 use Rattle.afdx_config.specs.Lawful.{IsLawfulSwitch}
 use Rattle.afdx_config.specs.Rows.{Rows, LinkRow}
 use Rattle.afdx_frame.specs.declared.link.Side.{Side}
 use Rattle.afdx_inputs.specs.Joining.{Frame}
 use Rattle.afdx_police.specs.Arrival.{Arrival}
 use Rattle.afdx_conform.specs.Explanations.{Answered, AreAllowed, ArePairs, accepted_in, arrivals_in}
+use Rattle.afdx_conform.specs.Headline.{AreTheirFrames, accepted_by_rule}
 use Rattle.afdx_conform.specs.Hiding.{KeepAll}
 use Rattle.afdx_conform.specs.Levels.{parts}
 use Rattle.afdx_conform.specs.Streams.{Gone, Terms}
@@ -13,10 +15,10 @@ use Rattle.afdx_text.specs.declared.conform_line.Answer.{Answer}
 use Rattle.afdx_text.specs.declared.conform_line.Answer.TheVariants.{Conforms, Deviates}
 use Rattle.afdx_acceptance.specs.Choices.{Choices, until_or}
 use Rattle.afdx_acceptance.specs.Counting.{totals_of}
-use Rattle.afdx_acceptance.specs.Frames.{frames_of, terms_at}
+use Rattle.afdx_acceptance.specs.Frames.{arrivals_of, frames_of, terms_at}
 use Rattle.afdx_acceptance.specs.Lines.{AreLines, Due}
 use Rattle.afdx_acceptance.specs.Ran.{WritesAll}
-use Rattle.afdx_acceptance.specs.RunLaws.{AreAll, AreAsTheHeadline, AreByTime, AreExplained, AreOfRight, AreSure, IsExactBy, sound_at, uncut_at}
+use Rattle.afdx_acceptance.specs.RunLaws.{AreAll, AreAsTheHeadline, AreByTime, AreExplained, AreOfRight, AreSure, IsExactBy, NoneIsStrange, sound_at, uncut_at}
 use Rattle.afdx_acceptance.specs.Tapped.{judged_to}
 use Rattle.afdx_acceptance.specs.Totals.{answer_of}
 use Rattle.afdx_acceptance.specs.declared.totals.Totals.{Totals}
@@ -64,6 +66,25 @@ ExactConforms =
     IsRun k frames lines →
     (answered k frames lines ≡ Conforms)
     ↔ (SomeLeft k frames × AreAsTheHeadline k.0 k.1 (end_of k frames) frames)
+
+-- and where nothing is open, at each port left, of each link that goes there, the frames that the
+-- window rule accepts of the link's own arrivals, all of them, in order, within the latency, and
+-- nothing else
+pub record IsTheRule (k : Rows × Choices) (frames : List Frame) : Type 0 where
+  pub none_strange : NoneIsStrange k.0 k.1 (end_of k frames) frames
+  pub streams : AreAll k.0 k.1 (end_of k frames) frames (λ l side port.
+      AreTheirFrames (terms_at k.0 k.1 (end_of k frames) l port)
+      (accepted_by_rule (rule_of k.0 l) (arrivals_of k.0 k.1 l.vl side frames))
+      (frames_of k.0 k.1 l.vl side port frames))
+
+abbrev pub ExactShowsTheRule : Type 0
+ExactShowsTheRule =
+    (k : Rows × Choices) (frames : List Frame) (lines : List Due) →
+    IsExactBy k.1.by →
+    IsRun k frames lines →
+    answered k frames lines ≡ Conforms →
+    (totals_of k frames lines).waiting ≡ 0 →
+    IsTheRule k frames
 
 -- a right switch never deviates
 abbrev pub RightNeverDeviates : Type 0

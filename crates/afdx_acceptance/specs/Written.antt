@@ -43,12 +43,12 @@ module _ (k : Rows × Choices) (frames : List Frame) (old new : Option (List ℕ
     pub are_first : AreFirstLines k.0 k.1 (until_or k.1.until frames) frames dues
     pub begun : AppendsFront old new (lines_text (lines_of dues))
 
+  abbrev pub BeginsWritten : Type 0
+  BeginsWritten = BeginsSome ⊎ BeginsAll
+
   -- a beginning of all lines and the last one, or all that
   pub record BeginsLast : Type 0 where
     pub dues : List Due
     pub are_lines : AreLines k.0 k.1 (until_or k.1.until frames) frames dues
     pub begun : AppendsFront old new
         (lines_text (lines_of dues) ++ conform_text (last_line (totals_of k frames dues)))
-
-  abbrev pub BeginsWritten : Type 0
-  BeginsWritten = BeginsSome ⊎ BeginsAll ⊎ BeginsLast

@@ -1,18 +1,25 @@
 //! Laws over the lines of a run.
 
+ghost use Rattle.afdx_acceptance.specs.EarlyLaw.{LinesBeginEarly};
 ghost use Rattle.afdx_acceptance.specs.RunExample.{PremisesAreMet};
 ghost use Rattle.afdx_acceptance.specs.RunLaws.{ConformsIsTheHeadline, NoLineIsExplained};
 ghost use Rattle.afdx_acceptance.specs.RunLaws.{NothingFoundIsExplained, RightConforms};
 ghost use Rattle.afdx_acceptance.specs.RunLaws.{ThereIsOneAnswer};
 ghost use Rattle.afdx_acceptance.specs.VerdictLaws.{AllIsWrittenOnce, ConformsIsExplained};
 ghost use Rattle.afdx_acceptance.specs.VerdictLaws.{ConformsShowsAll, ExactConforms};
-ghost use Rattle.afdx_acceptance.specs.VerdictLaws.{RightNeverDeviates};
+ghost use Rattle.afdx_acceptance.specs.VerdictLaws.{ExactShowsTheRule, RightNeverDeviates};
 
 /// Of the same tables, choices, end and frames there is one list of lines; of the same tables,
 /// choices and frames one text and one count: what a run writes and answers is a function of these.
 pub fn there_is_one_answer()
     ensures lines { ThereIsOneAnswer }
     ensures written { AllIsWrittenOnce }
+{}
+
+/// Of all lines the first are those of moments before a time. They depend on the frames before that
+/// time alone, whatever comes from then on and whenever the recordings end.
+pub fn lines_begin_early()
+    ensures { LinesBeginEarly }
 {}
 
 /// Nothing is found exactly where what was recorded has an explanation: no frame left that is of no
@@ -34,10 +41,11 @@ pub fn conforms_is_explained()
 /// where at each port left, of each link that goes there, the first frames that the window rule
 /// accepts of the link's own arrivals, in order, within the latency, and nothing else; those that
 /// didn't leave may have left behind the end. A run answers `conforms` exactly where that is so and
-/// some frame left.
+/// some frame left; where nothing is open, all that the window rule accepts left.
 pub fn conforms_is_the_headline()
     ensures found { ConformsIsTheHeadline }
     ensures answer { ExactConforms }
+    ensures shows { ExactShowsTheRule }
 {}
 
 /// A right switch is never accused, if stamps and clocks keep their accuracy and nothing else left.

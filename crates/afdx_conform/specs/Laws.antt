@@ -1,11 +1,11 @@
 -- Laws over the definitions.
-use Rattle.std.specs.Prelude.{ℕ, ◌≤◌, ◌↔◌, IsTrue, List, [], ◌∷◌, reverse}
+use Rattle.std.specs.Prelude.{◌≡◌, ℕ, ◌≤◌, ◌↔◌, IsTrue, List, [], ◌∷◌, reverse}
 use Rattle.std.specs.List.{AllByRecursion}
 use Rattle.afdx_frame.specs.Regulation.{is_bag}
 use Rattle.afdx_police.specs.Arrival.{Arrival}
-use Rattle.afdx_conform.specs.Headline.{sound_of, GoByTime, IsExact, IsAsTheHeadline}
+use Rattle.afdx_conform.specs.Headline.{sound_of, accepted_by_rule, GoByTime, IsExact, AreTheirFrames, IsAsTheHeadline}
 use Rattle.afdx_conform.specs.Streams.{Gone, Terms}
-use Rattle.afdx_conform.specs.Explanations.{Explains}
+use Rattle.afdx_conform.specs.Explanations.{Answered, accepted_in, arrivals_in, AreAllowed, ArePairs, Explains}
 use Rattle.afdx_conform.specs.States.{Event, Closing, State, arrivals_came, states_after, AreInOrder}
 
 -- one is among these
@@ -31,3 +31,16 @@ ExactIsTheHeadline =
     IsTrue (is_bag z.rule.bag_ms) →
     GoByTime own →
     Explains z (sound_of z.rule own) frames ↔ IsAsTheHeadline z own frames
+
+-- and by what explains it with no arrival that waits, its frames are those of all arrivals that the
+-- window rule accepts
+abbrev pub ExactShowsAll : Type 0
+ExactShowsAll =
+    (z : Terms) (own : List Arrival) (frames : List Gone) (answers : List Answered) →
+    IsExact z →
+    IsTrue (is_bag z.rule.bag_ms) →
+    GoByTime own →
+    arrivals_in answers ≡ sound_of z.rule own →
+    AreAllowed z answers →
+    ArePairs z (accepted_in answers) frames →
+    AreTheirFrames z (accepted_by_rule z.rule own) frames

@@ -9,7 +9,7 @@ ghost use Rattle.afdx_conform.specs.FindingLaws.{FoundWhereNoneIsLeft, NothingFo
 ghost use Rattle.afdx_conform.specs.Forgetting.{ForgettingChangesNothing};
 ghost use Rattle.afdx_conform.specs.FromLevel.{AllowedIsSomeAccount};
 ghost use Rattle.afdx_conform.specs.Hiding.{WhatPassedKeepsWindows};
-ghost use Rattle.afdx_conform.specs.Laws.{StatesAreExplanations, ExactIsTheHeadline};
+ghost use Rattle.afdx_conform.specs.Laws.{StatesAreExplanations, ExactIsTheHeadline, ExactShowsAll};
 ghost use Rattle.afdx_conform.specs.Later.{EndFindsNothing, LaterArrivalsFindNothing};
 ghost use Rattle.afdx_conform.specs.Later.{LaterFramesFindNothing};
 ghost use Rattle.afdx_conform.specs.Open.{OpenIsLeast};
@@ -26,9 +26,11 @@ pub fn states_are_explanations()
 {}
 
 /// With exact stamps and clocks, from a reset on, something explains a stream exactly where it is
-/// as the headline says.
+/// as the headline says. Where no accepted arrival waits, its frames are those of all arrivals that
+/// the window rule accepts.
 pub fn exact_is_the_headline()
-    ensures { ExactIsTheHeadline }
+    ensures headline { ExactIsTheHeadline }
+    ensures all { ExactShowsAll }
 {}
 
 /// Where after each event states are dropped that others outdo, what is kept outdoes all states.

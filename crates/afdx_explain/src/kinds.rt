@@ -3,7 +3,7 @@
 use crate::entry::Entry;
 
 /// What the lines of a kind have in common.
-pub const KINDS: [Entry; 21] = [
+pub const KINDS: [Entry; 22] = [
     (
         "list * n",
         "\
@@ -138,6 +138,14 @@ or B; it came there by the list, or over a cable.",
         "\
 At this time, in ns, the frame of the list's line (the second number) came to this system,
 whose receiver dropped it.",
+    ),
+    (
+        "strange n A|B n bad-address",
+        "\
+The frame of this line of LEFT, of a recording of this number, left that output port, on this side,
+and nothing explains it.
+Mostly it is one that the recording host itself sent there (IPv6, ARP, LLDP): switch these off, or
+pass over what is no frame of a link: --leave-out other.",
     ),
     (
         "strange n A|B n *",

@@ -132,6 +132,19 @@ fn switch_option<'a>(alloc: Global) -> Arg<'a> {
         .help(SWITCH_HELP)
 }
 
+/// With what says how recordings are read.
+fn with_recordings<'a>(alloc: Global, command: Command<'a>) -> Result<Command<'a>, AllocError> {
+    let words = vec![in alloc;
+        came_option(alloc),
+        left_option(alloc),
+        seen_fcs_option(alloc),
+        seen_reorder_option(alloc),
+        seen_stamps_option(alloc),
+        lossy_option(alloc),
+    ]?;
+    command.args(words)
+}
+
 pub fn conform_command<'a>(alloc: Global) -> Result<Command<'a>, AllocError> {
     let words = vec![in alloc;
         leeway_option(alloc, "slack", "NS", SLACK_HELP),
@@ -142,12 +155,9 @@ pub fn conform_command<'a>(alloc: Global) -> Result<Command<'a>, AllocError> {
         time_option(alloc, "until", UNTIL_HELP),
         leave_out_option(alloc),
         switch_option(alloc),
-        came_option(alloc),
-        left_option(alloc),
-        seen_fcs_option(alloc),
-        seen_reorder_option(alloc),
-        seen_stamps_option(alloc),
-        lossy_option(alloc),
+    ]?;
+    let command = command(alloc, "conform", CONFORM_ABOUT, CONFORM_AFTER).args(words)?;
+    let words = vec![in alloc;
         explain_option(alloc),
         line_buffered(alloc),
         progress_option(alloc),
@@ -156,7 +166,7 @@ pub fn conform_command<'a>(alloc: Global) -> Result<Command<'a>, AllocError> {
         word(alloc, "CAME", CAME_HELP),
         Arg::new(alloc, "LEFT").help(LEFT_HELP),
     ]?;
-    command(alloc, "conform", CONFORM_ABOUT, CONFORM_AFTER).args(words)
+    with_recordings(alloc, command)?.args(words)
 }
 
 /// What the words of `conform` ask for, in whole ns, and the drift in millionths; but for those of

@@ -2,7 +2,7 @@
 
     afdx replay $(afdx-taps net.toml taps.csv run.pcapng) net.toml run.pcapng
     afdx-taps net.toml taps.csv A.pcapng B.pcapng
-    afdx conform $(afdx-taps --conform net.toml taps.csv run.pcapng) net.toml run.pcapng
+    afdx-taps --conform net.toml taps.csv run.pcapng
 
 TAPS is a table as spreadsheets write it (CSV). Its first row names the columns:
 

@@ -1,4 +1,4 @@
-use Rattle.std.proofs.Common.{true, ◌∙◌, ap, inl, inr}
+use Rattle.std.proofs.Common.{true, ◌∙◌, ap, inr}
 use Rattle.std.specs.Prelude.{is_some}
 use Rattle.afdx_inputs.specs.Joining.{frames_of}
 use Rattle.afdx_text.proofs.OutputLemmas.{on-err}
@@ -8,7 +8,7 @@ use Rattle.afdx_acceptance.proofs.judging.JudgingMachineSeen.end.Goals as goal
 
 pub returns-in_err-close_at_end-clause-begins : goal.returns-in_err-close_at_end-clause-begins
 returns-in_err-close_at_end-clause-begins g c = λ k start past h.
-    on-err c.from_residual.result _ (inr (inl (c.in_err-close_at_end.ensures.begun k start (frames_of past) (h.0, h.1, h.2))))
+    on-err c.from_residual.result _ (inr (c.in_err-close_at_end.ensures.begun k start (frames_of past) (h.0, h.1, h.2)))
 
 pub returns-clause-done : goal.returns-clause-done
 returns-clause-done g c = λ k start past h.

@@ -17,7 +17,8 @@ use Rattle.afdx_acceptance.specs.Keys.{key_with}
 use Rattle.afdx_acceptance.specs.Standing.{StreamsStand}
 use Rattle.afdx_acceptance.specs.declared.key.Key.{Key}
 use Rattle.afdx_acceptance.proofs.GivenLemmas.{blank, came-times}
-use Rattle.afdx_acceptance.proofs.JoinLemmas.{any-in, came-few, came-key, came-start, come-first, come-next, come-past, counted-behind, fresh-port, join-came, join-unheard, join-unnamed, place-is}
+use Rattle.afdx_acceptance.proofs.JoinLemmas.{any-in, came-few, came-start, come-first, come-next, come-past, counted-behind, join-came, join-unheard, join-unnamed, place-is}
+use Rattle.afdx_acceptance.proofs.PortLemmas.{came-key, fresh-port}
 use Rattle.afdx_acceptance.proofs.TappedLemmas.{any-fewer, seen_ports}
 use Rattle.afdx_acceptance.proofs.streams.Streams.came.Goals as goal
 

@@ -16,7 +16,9 @@ use Rattle.afdx_acceptance.specs.Lines.{due_at, stranger_by, stranger_reason}
 use Rattle.afdx_acceptance.specs.Standing.{StreamsStand, streams_with}
 use Rattle.afdx_acceptance.specs.declared.key.Key.{Key}
 use Rattle.afdx_acceptance.proofs.AddedLemmas.{on-ok}
-use Rattle.afdx_acceptance.proofs.GivenLemmas.{and-false, blank, falling-more, left-times, strange-times, stranger-no, stranger-none}
+use Rattle.afdx_acceptance.proofs.GivenLemmas.{blank, falling-more, left-times, strange-times}
+use Rattle.afdx_acceptance.proofs.CameLemmas.{and-false}
+use Rattle.afdx_acceptance.proofs.LeftLemmas.{stranger-no, stranger-none}
 use Rattle.afdx_acceptance.proofs.JoinLemmas.{counted-behind, heard-as, join-left, join-strange, join-unseen, left-few, left-start, place-is}
 use Rattle.afdx_acceptance.proofs.streams.Streams.left.Goals as goal
 
