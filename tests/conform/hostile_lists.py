@@ -99,10 +99,9 @@ def most_lines(judge: Judge) -> None:
     answers(judge.answer(base._replace(left=full)), 5, told, b"")
 
 
-def equal_times(judge: Judge) -> None:
-    """20,000 equal frames come at one moment, and leave at one: one is right, and each other one
+def equal_times(judge: Judge, count: int) -> None:
+    """So many equal frames come at one moment, and leave at one: one is right, and each other one
     that came has passed."""
-    count = 20_000
     came, left = list_of("0", "came") * count, list_of("6720", "left") * count
     found = judge.answer(Pair(CONFIGS["base"], came, left, ()))
     told = b"".join(b"passed %d A 3 over-rate\n" % n for n in range(2, count + 1))
@@ -175,7 +174,7 @@ def hostile_lists(program: Program) -> Iterator[tuple]:
         yield f"conform, cut: {name}", cut_lists, judge, pair_of(rows[name]), seed
         yield f"conform, the greatest numbers, {seed}", largest_numbers, judge, seed
     yield "conform: the most lines", most_lines, judge
-    yield "conform: equal times", equal_times, judge
+    yield "conform: equal times", equal_times, judge, 20_000
     yield "conform: nothing came", nothing_came, judge
     yield "conform: the largest tables", largest_tables, judge
     yield "conform: many have begun", many_begun, judge

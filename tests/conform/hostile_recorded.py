@@ -81,7 +81,7 @@ def hostile_recorded(program: Program) -> Iterator[tuple]:
         judge, name = RecordingJudge(soon, bool(is_one)), f"conform, recorded by {how_many}"
         for seed in range(4):
             yield f"{name}: the greatest numbers, {seed}", largest_numbers, judge, seed
-        yield f"{name}: equal times", equal_times, judge
+        yield f"{name}: equal times", equal_times, judge, 5_000
         yield f"{name}: nothing came", nothing_came, judge
         yield f"{name}: many have begun", many_begun, judge
         yield f"{name}: many states", many_states, judge

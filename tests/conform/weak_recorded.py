@@ -12,7 +12,7 @@ from recorded_judge import answer_to
 from recorded_more_rows import MORE_RECORDED_ROWS
 from recorded_rows import RECORDED_ROWS, RecordedRow
 from rows import CONFIGS
-from weak import Call, Weak, WeakOfTwo, weak_devices
+from weak import FEW, Call, Weak, WeakOfTwo, never_again, of_kind, weak_devices
 
 AT_ONCE = "--line-buffered"
 TRIED = (  # rows of one recording and of two, of each ending, in which none is out of order unsaid
@@ -20,9 +20,9 @@ TRIED = (  # rows of one recording and of two, of each ending, in which none is 
     "frames that the recorder lost", "other frames and interfaces",
     "the same interface of two recordings", "the second one breaks off",
     "a time too large, of what left", "nothing came", "at one moment what came first",
-    "nothing was skipped of two", "some of each kind was skipped", "lost of both",
-    "a fault before what was lost", "told before a fault", "no frames of two",
+    "lost of both", "a fault before what was lost", "told before a fault", "no frames of two",
 )
+SUMMED_UP = ("nothing was skipped of two", "some of each kind was skipped")
 ROWS = {row.name: row for row in (*RECORDED_ROWS, *MORE_RECORDED_ROWS)}
 
 
@@ -73,6 +73,22 @@ class WeakOne(WeakOfTwo):
         return written(self.case, pair, opens, at_once=True)
 
 
+def broken_summary(program: Program, case: RecordedCase) -> None:
+    """Each write in turn fails, or takes nothing, down to the last of what was skipped; where one
+    is interrupted, the text is whole or so it is said."""
+    weak = WeakBoth(program, case, True) if len(case.data) == 1 else WeakOne(program, case, 0, True)
+    fault, (_, calls) = weak.failed_write(False), weak.run(FEW)
+    written = 0
+    for k, whole in enumerate(of_kind(calls, "w"), 1):
+        for how in ("fails", "once", "none", "interrupted"):
+            found, calls = weak.run(FEW, write=f"{k}:{how}")
+            if how == "interrupted" and found == weak.whole:
+                continue
+            weak.ends(found, fault, weak.whole.out[:written])
+            never_again(calls, "w")
+        written += whole.answer
+
+
 def weak_case(program: Program, case: RecordedCase, place: int, by_path: bool) -> None:
     """All that weak devices do to a recording, or to one of two."""
     is_one = len(case.data) == 1
@@ -96,6 +112,8 @@ def weak_recorded(program: Program) -> Iterator[tuple]:
             given = program, case_of(row), place, by_path
             yield f"conform, {name} is weak: {row.name}", weak_case, *given
         by_path = not by_path
+    for name in SUMMED_UP if program.knows("conform", "--left") else ():
+        yield f"conform, a weak output: {name}", broken_summary, program, case_of(ROWS[name])
 
 
 def cut_recordings(judge: Judge, row: RecordedRow) -> None:
