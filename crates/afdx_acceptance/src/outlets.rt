@@ -85,6 +85,8 @@ pub(crate) fn rule_at(tables: &Tables, place: usize) -> LinkRule
 
 /// A stream of which nothing came, of the link at this place, where it leaves to this system or
 /// neighbour.
+#[cold]
+#[inline(never)]
 pub(crate) fn new_stream(
     alloc: Global,
     tables: &Tables,
