@@ -44,11 +44,6 @@ use afdx_lists::{Heading, Role};
 use afdx_recorded::Taps;
 use std::alloc::{AllocError, Global};
 
-/// How many places a link has, and how many stand before those of the first link.
-const OF_LINK: usize = 64;
-
-const OF_STRANGERS: usize = 512;
-
 /// What is kept of each key of the tables, which ports were recorded, and the time in ns at which
 /// the recordings end, once it is known.
 #[derive(Drop)]
@@ -176,6 +171,8 @@ fn strangers_at(alloc: Global, kept: &mut Kept, key: Key) -> Result<(), AllocErr
 }
 
 /// A frame of no stream left.
+#[cold]
+#[inline(never)]
 fn leave_strange(
     alloc: Global,
     kept: &mut Kept,
@@ -215,7 +212,8 @@ impl<'a> Streams<'a> {
             IfOk result (λ s. StreamsStand tables.now c until [] [] 0 s) }
         ensures running { IfOk result (λ s. s.ended ≡ None) }
     {
-        let count = OF_STRANGERS + OF_LINK * tables.link_count();
+        // (those of `Key::place`)
+        let count = 512 + 64 * tables.link_count();
         Ok(Streams {
             alloc,
             tables,
