@@ -1,10 +1,12 @@
 -- What is to be told first.
-use Rattle.std.proofs.Common.{◌≡◌, ◌≤◌, ◌<◌, ℕ, List, ◌∷◌, get_or, sym, subst, arith, refl}
+use Rattle.std.proofs.Common.{◌≡◌, ◌≤◌, ◌<◌, ◌+◌, ◌*◌, ◌∙◌, ℕ, List, ◌∷◌, ap, get_or, sym, subst, arith, refl}
 use Rattle.std.proofs.Common.{Option, Some, None, false, IfSome, IfNone}
 use Rattle.std.proofs.lemmas.Bool.{le-ltb, ltb-false}
 use Rattle.std.proofs.lemmas.Bool.Decides.{nat_tests}
 use Rattle.std.proofs.lemmas.List.Elements.{All-cons, All-from_recursion, All-tail, All-weaker}
 use Rattle.std.proofs.lemmas.List.Sorted.{All-permutation}
+use Rattle.std.proofs.Common.{Less, Greater}
+use Rattle.std.specs.Cmp.{nat_cmp_is}
 use Rattle.std.specs.BinaryHeap.{IsHeap, IsUpperBound, PopsGreatest}
 use Rattle.std.specs.List.{All}
 use Rattle.std.specs.List.Sorted.{IsPermutation}
@@ -29,6 +31,22 @@ link-small (Some link) h = omega (arith, h link refl)
 
 pub key-small : (key : Key) → IsKey key → key_rank key < 0x10000000000000000
 key-small key h = omega (arith, side-small key.side, link-small key.link h.link, h.port)
+
+-- ---- one entry and another: by moment, and at one moment by key
+
+pub sooner : (x y : Entry) → IsKey x.key → x.moment < y.moment → Less ≡ nat_cmp (rank_of x) (rank_of y)
+sooner x y small lt = nat_cmp_is (rank_of x) (rank_of y) Less (omega (arith, lt, key-small x.key small))
+
+pub later : (x y : Entry) → IsKey y.key → y.moment < x.moment → Greater ≡ nat_cmp (rank_of x) (rank_of y)
+later x y small lt = nat_cmp_is (rank_of x) (rank_of y) Greater (omega (arith, lt, key-small y.key small))
+
+behind-one : (k a b : ℕ) → nat_cmp a b ≡ nat_cmp (k + a) (k + b)
+behind-one k a b = grind (arith, nat_tests)
+
+pub by-key : (x y : Entry) → x.moment ≡ y.moment → nat_cmp (key_rank x.key) (key_rank y.key) ≡ nat_cmp (rank_of x) (rank_of y)
+by-key x y same =
+    behind-one (x.moment * 0x10000000000000000) (key_rank x.key) (key_rank y.key)
+    ∙ ap (λ m. nat_cmp (rank_of x) (m * 0x10000000000000000 + key_rank y.key)) same
 
 -- ---- the one on top
 

@@ -17,6 +17,7 @@ pub mod PortLemmas
 pub mod JoinLemmas
 pub mod FullLemmas
 pub mod LaterLemmas
+pub mod ReceiverLemmas
 pub mod RestLemmas
 pub mod BehindLemmas
 pub mod FirstLemmas

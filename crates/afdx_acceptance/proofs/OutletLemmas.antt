@@ -1,19 +1,14 @@
 -- Where the frames of a link leave.
-use Rattle.std.proofs.Common.{◌≡◌, ◌<◌, ℕ, true, false, Option, Some, None, length, get_or, subst, sym, ap, ◌∙◌}
-use Rattle.std.proofs.lemmas.Option.{slice_get-get_or}
+use Rattle.std.proofs.Common.{◌≡◌, ◌<◌, ℕ, true, false, Some, None, length, get_or, subst, sym, ap, ◌∙◌}
 use Rattle.std.specs.Prelude.{slice_get, option_and_then, if◌then◌else◌}
 use Rattle.std.specs.Option.{option_map_or}
 use Rattle.afdx_bounds.specs.Tables.{byte_ns_at, goes_to, port_of, rule_of}
 use Rattle.afdx_bounds.proofs.TableLemmas.{port-of-system}
 use Rattle.afdx_config.specs.Admission.{byte_ns}
 use Rattle.afdx_config.specs.Lawful.{IsLawfulSwitch}
-use Rattle.afdx_config.specs.Reading.{system_at_port}
 use Rattle.afdx_police.specs.Rule.{rule_with}
 use Rattle.afdx_acceptance.specs.Tapped.{link_to}
-use Rattle.afdx_acceptance.proofs.KeyLemmas.{system-at, to-link}
-use Rattle.std.proofs.Common.{[]}
-use Rattle.afdx_frame.specs.declared.link.Policing.TheVariants.{Byte}
-use Rattle.afdx_frame.specs.declared.link.Priority.TheVariants.{High}
+use Rattle.afdx_acceptance.proofs.KeyLemmas.{to-link}
 use Rattle.std.proofs.lemmas.List.{get_or-map, length-map}
 use Rattle.std.proofs.lemmas.List.Elements.{All-from_recursion}
 use Rattle.afdx_config.specs.Lawful.{IsLinkUpTo, jitter_from_any}
@@ -29,11 +24,6 @@ receiver-known t l rank system lawful within at =
     subst (λ (s : SystemId). s.0 < length t.systems) (sym at)
     (rw (← get_or-map (λ i. i.0) l.to.items rank system (system.0) (subst (λ (n : ℕ). rank < n) (length-map l.to.items (λ i. i.0)) within))
     (All-from_recursion (λ i. i < length t.systems) (link_row l).to lawful.to rank (system.0) within))
-
-goes-by : (t : Rows) (l : LinkRow) (port : ℕ) (system : Option ℕ) → system_at_port t.systems port ≡ system
-    → goes_to t l port ≡ option_map_or (λ k. is_to k l) system false
-unfolding goes_to
-goes-by t l port system found = ap (λ o. option_map_or (λ k. is_to k l) o false) found
 
 pub port-is : (t : Rows) (system : ℕ) (s : SystemRow) → slice_get t.systems system ≡ Some s → port_of t system ≡ s.port
 unfolding port_of
@@ -52,48 +42,11 @@ goes-there t place l system s lawful at sat to =
     subst (λ p. link_to t place p ≡ Some l) (sym (port-is t system s sat))
     (to-link t place s.port l at ((port-of-system t system s lawful sat).goes l ∙ to))
 
-pub at-port : (t : Rows) (place port : ℕ) (l : LinkRow) (system : ℕ) → slice_get t.links place ≡ Some l
-    → Some system ≡ system_at_port t.systems port → is_to system l ≡ true
-    → (link_to t place port ≡ Some l) × (port_of t system ≡ port) × (is_to system l ≡ true)
-at-port t place port l system at found to =
-    let s = system-at t port system (sym found) in
-    (to-link t place port l at (goes-by t l port (Some system) (sym found) ∙ to), port-is t system s.0 s.1 ∙ s.2, to)
-
-no-link : (t : Rows) (place port : ℕ) (l : LinkRow) → slice_get t.links place ≡ Some l → goes_to t l port ≡ false
+pub no-link : (t : Rows) (place port : ℕ) (l : LinkRow) → slice_get t.links place ≡ Some l → goes_to t l port ≡ false
     → link_to t place port ≡ None
 unfolding link_to
 no-link t place port l at goes =
     ap (λ o. option_and_then (λ k. if goes_to t k port then Some k else None) o) at ∙ ap (λ b. if b then Some l else None) goes
-
-abbrev no-row : LinkRow
-no-row = record {
-  vl = 0;
-  from = 0;
-  to = [];
-  bag_ms = 0;
-  lmin = 0;
-  lmax = 0;
-  jitter_us = 0;
-  priority = High;
-  policing = Byte;
-  latency_us = 0;
-  skew_us = 0;
-  subs = 0;
-}
-
-pub not-there : (t : Rows) (place port system : ℕ) → place < length t.links → Some system ≡ system_at_port t.systems port
-    → ((l : LinkRow) → slice_get t.links place ≡ Some l → is_to system l ≡ false)
-    → link_to t place port ≡ None
-not-there t place port system within found none =
-    let l = get_or t.links place no-row in
-    let at = slice_get-get_or t.links place no-row within in
-    no-link t place port l at (goes-by t l port (Some system) (sym found) ∙ none l at)
-
-pub none-there : (t : Rows) (place port : ℕ) → place < length t.links → None ≡ system_at_port t.systems port
-    → link_to t place port ≡ None
-none-there t place port within found =
-    let l = get_or t.links place no-row in
-    no-link t place port l (slice_get-get_or t.links place no-row within) (goes-by t l port None (sym found))
 
 pub rule-same : (t : Rows) (l : LinkRow) (s : SystemRow) → slice_get t.systems l.from ≡ Some s
     → rule_with l.vl s.port l.bag_ms l.lmin l.lmax l.jitter_us l.policing ≡ rule_of t l

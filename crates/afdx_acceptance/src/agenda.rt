@@ -1,12 +1,12 @@
 //! What is still to be told, by its moment.
 
-ghost use Rattle.std.specs.Prelude.{◌≡◌, ◌≤◌, ◌<◌, ◌+◌, ◌*◌, ◌∷◌, [], List, All, IfNone, IfSome, OnOk, length};
+ghost use Rattle.std.specs.Prelude.{◌≡◌, ◌≤◌, ◌<◌, ◌∷◌, [], List, All, IfNone, IfSome, OnOk, length};
 ghost use Rattle.std.proofs.Common.{rules};
 ghost use Rattle.std.specs.BinaryHeap.{IsHeap, heap_items};
 ghost use Rattle.std.specs.Cmp.{partial_order_from_own_ties};
 ghost use Rattle.std.specs.Cmp.Rules.{comparing};
 ghost use Rattle.std.specs.List.Sorted.{IsPermutation};
-ghost use Rattle.std.specs.Ordering.{as_partial_cmp};
+ghost use Rattle.std.specs.Ordering.{as_partial_cmp, nat_cmp};
 ghost use Rattle.afdx_acceptance.specs.Awaited as spec;
 ghost use Rattle.afdx_acceptance.specs.Awaited.{AreKeys, AreNotBefore, IsBefore, awaited};
 
@@ -23,19 +23,20 @@ pub(crate) struct Entry {
     pub(crate) key: Key,
 }
 
-/// A moment with a number behind it.
-fn joined(moment: u64, number: u64) -> u128
-    ensures { result ≡ moment * 0x10000000000000000 + number }
-{
-    u128::from(moment) * 0x1_0000_0000_0000_0000 + u128::from(number)
-}
-
 impl Entry {
-    /// What it comes by.
-    fn rank(&self) -> u128
-        ensures { result ≡ spec.rank_of self.now }
+    /// How it comes to another: by moment, and at one moment by key.
+    fn order(&self, other: &Entry) -> Ordering
+        ensures { result ≡ nat_cmp (spec.rank_of self.now) (spec.rank_of other.now) }
     {
-        joined(self.moment, self.key.rank())
+        are_small(self.key);
+        are_small(other.key);
+        if self.moment < other.moment {
+            return Ordering::Less;
+        }
+        if self.moment > other.moment {
+            return Ordering::Greater;
+        }
+        self.key.rank().cmp(&other.key.rank())
     }
 }
 
@@ -45,7 +46,7 @@ impl PartialEq for Entry {
     ghost laws = { Prim.search (comparing, rules) };
 
     fn eq(&self, other: &Entry) -> bool {
-        self.rank() == other.rank()
+        self.order(other).is_eq()
     }
 }
 
@@ -75,7 +76,7 @@ impl Ord for Entry {
     ghost matches_eq = { Prim.search (comparing, rules) };
 
     fn cmp(&self, other: &Entry) -> Ordering {
-        other.rank().cmp(&self.rank())
+        other.order(self)
     }
 }
 

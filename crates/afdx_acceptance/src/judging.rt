@@ -1,14 +1,14 @@
 //! The machine of a run: each frame goes to its streams, and what is found there is told at its
 //! moment.
 
-ghost use Rattle.std.specs.Prelude.{◌≡◌, ◌<◌, ◌≤◌, ◌+◌, ◌∷◌, [], ℕ, Bool, List, Option, IfErr, IfOk, OnErr};
+ghost use Rattle.std.specs.Prelude.{◌≡◌, ◌<◌, ◌≤◌, ◌+◌, ◌∷◌, [], ℕ, Bool, List, Option, IfErr, IfOk, IfSome, OnErr};
 ghost use Rattle.std.specs.Prelude.{OnOk, None, Some, false, is_some, length, min, true};
 ghost use Rattle.std.specs.Io.KnownBytes.{Appends};
 ghost use Rattle.afdx_acceptance.specs.Choices.{Choices as Chosen, latest_of, left_out_of};
 ghost use Rattle.afdx_acceptance.specs.Choices as asked;
 ghost use Rattle.afdx_acceptance.specs.ChoicesOf.{choices_of};
 ghost use Rattle.afdx_acceptance.specs.Judging.{IsSameButFindings, IsSameButTaken};
-ghost use Rattle.afdx_acceptance.specs.Tapped.{taps_in};
+ghost use Rattle.afdx_acceptance.specs.Tapped.{place_named, taps_in};
 ghost use Rattle.afdx_acceptance.specs.Telling as spec;
 ghost use Rattle.afdx_acceptance.specs.Beginning.{BeginsFrom};
 ghost use Rattle.afdx_acceptance.specs.Told.{GoesOn, HasBegun, IsEndFor, IsEnding, Stands};
@@ -237,15 +237,18 @@ impl<'a> Judging<'a> {
         self.tell_due(Some(time), output)
     }
 
-    /// Whether a line that names this link is passed over: the link is left out, or the line left
-    /// and its sender's port isn't recorded.
-    fn is_passed(&self, seen: &Seen, vl: Option<VlId>) -> bool
+    /// Whether a line that names this link, at that place of the tables, is passed over: the link
+    /// is left out, or the line left and its sender's port isn't recorded.
+    fn is_passed(&self, seen: &Seen, vl: Option<VlId>, named: Option<usize>) -> bool
+        requires { IfSome named (λ link. link < length self.now.streams.tables.now.links) }
         ensures { (x : Frame) → x.role ≡ seen.now.role → x.arrival.side ≡ seen.now.heading.side →
             vl ≡ link_named_by x.arrival.bytes →
+            named ≡ place_named self.now.streams.tables.now x.arrival.bytes →
             result ≡ asked.is_passed self.now.streams.tables.now
             (choices_of (taps_in self.now.streams.taps.now) self.now.choices.now) x }
     {
-        is_left_out(self.choices, vl) || self.streams.is_unheard(seen.role, seen.heading.side, vl)
+        is_left_out(self.choices, vl)
+            || self.streams.is_unheard(seen.role, seen.heading.side, named)
     }
 
     /// Takes a line: it is passed over, or goes to its streams.
@@ -274,7 +277,8 @@ impl<'a> Judging<'a> {
         }
         let bytes = whole_frame(self.alloc, seen.heading.seal, message)?;
         let vl = vl_of(bytes.as_slice());
-        if self.is_passed(seen, vl) {
+        let named = self.streams.place_named(vl);
+        if self.is_passed(seen, vl, named) {
             self.left_out = self.left_out.saturating_add(1);
             return Ok(());
         }
@@ -282,8 +286,8 @@ impl<'a> Judging<'a> {
             return Ok(());
         }
         match seen.role {
-            Role::Came => self.streams.came(vl, n, &seen.heading, bytes.as_slice()),
-            Role::Left => self.streams.left(vl, n, &seen.heading, bytes),
+            Role::Came => self.streams.came(named, n, &seen.heading, bytes.as_slice()),
+            Role::Left => self.streams.left(named, n, &seen.heading, bytes),
         }
     }
 }

@@ -115,6 +115,8 @@ impl Kept {
     }
 
     /// A stream of the key, of which nothing came, in the place of none.
+    #[cold]
+    #[inline(never)]
     pub(crate) fn put_stream(
         &mut self,
         alloc: Global,

@@ -41,7 +41,8 @@ pub(crate) fn receiver(tables: &Tables, link: usize, rank: usize) -> SystemId
     tables.link(link).to[rank]
 }
 
-/// The system or neighbour at an output port, if the link goes to it.
+/// The system or neighbour at an output port, if the link goes to it. It tries each to which the
+/// link goes.
 pub(crate) fn receiver_at(tables: &Tables, link: usize, port: u8) -> Option<SystemId>
     requires { link < length tables.now.links }
     ensures known { IfSome result (λ system. system.0 < length tables.now.systems) }
@@ -50,16 +51,13 @@ pub(crate) fn receiver_at(tables: &Tables, link: usize, port: u8) -> Option<Syst
         × (is_to system.0 l ≡ true)) }
     ensures none { IfNone result (link_to tables.now link port ≡ None) }
 {
-    match tables.system_at(port) {
-        Some(system) => {
-            if tables.goes_to(link, system) {
-                Some(system)
-            } else {
-                None
-            }
+    for rank in 0..tables.link(link).to.len() {
+        let system = receiver(tables, link, rank);
+        if tables.system(system).port == port {
+            return Some(system);
         }
-        None => None,
     }
+    None
 }
 
 /// The rule of the link at this place.
@@ -87,6 +85,8 @@ pub(crate) fn rule_at(tables: &Tables, place: usize) -> LinkRule
 
 /// A stream of which nothing came, of the link at this place, where it leaves to this system or
 /// neighbour.
+#[cold]
+#[inline(never)]
 pub(crate) fn new_stream(
     alloc: Global,
     tables: &Tables,

@@ -20,13 +20,12 @@ ghost use Rattle.afdx_lists.specs.declared.role.Role.TheVariants as role;
 ghost use Rattle.afdx_inputs.specs.Joining.{Frame as Seen};
 ghost use Rattle.afdx_acceptance.specs.Choices.{Choices, counted, counts};
 ghost use Rattle.afdx_acceptance.specs.Frames.{frame_with, link_to};
-ghost use Rattle.afdx_acceptance.specs.Keeping.{AreKept, Given, IsNothingDue, IsSomeUpTo, is_known, with_came, with_left, with_strange};
+ghost use Rattle.afdx_acceptance.specs.Keeping.{AreKept, Given, IsNothingDue, IsSomeUpTo, is_known, slot_at, with_came, with_left, with_strange};
 ghost use Rattle.afdx_acceptance.specs.Keys.{key_with};
 ghost use Rattle.afdx_acceptance.specs.Lines.{Due};
 ghost use Rattle.afdx_acceptance.specs.Slots.{AreFalling, IsStrange, IsStream, told_at, waiting_due};
 ghost use Rattle.afdx_acceptance.specs.Awaited.{IsBefore, awaited};
 ghost use Rattle.afdx_acceptance.specs.Counting.{AreEnded, HasCounted, counted_of, none_counted};
-ghost use Rattle.afdx_acceptance.specs.Keeping.{slot_at};
 ghost use Rattle.afdx_acceptance.specs.Tapped as spec;
 ghost use Rattle.afdx_acceptance.specs.Tapped.{taps_in};
 ghost use Rattle.afdx_acceptance.specs.Waiting.{left_in};
@@ -44,11 +43,6 @@ use afdx_frame::{Side, VlId};
 use afdx_lists::{Heading, Role};
 use afdx_recorded::Taps;
 use std::alloc::{AllocError, Global};
-
-/// How many places a link has, and how many stand before those of the first link.
-const OF_LINK: usize = 64;
-
-const OF_STRANGERS: usize = 512;
 
 /// What is kept of each key of the tables, which ports were recorded, and the time in ns at which
 /// the recordings end, once it is known.
@@ -177,6 +171,8 @@ fn strangers_at(alloc: Global, kept: &mut Kept, key: Key) -> Result<(), AllocErr
 }
 
 /// A frame of no stream left.
+#[cold]
+#[inline(never)]
 fn leave_strange(
     alloc: Global,
     kept: &mut Kept,
@@ -216,7 +212,8 @@ impl<'a> Streams<'a> {
             IfOk result (λ s. StreamsStand tables.now c until [] [] 0 s) }
         ensures running { IfOk result (λ s. s.ended ≡ None) }
     {
-        let count = OF_STRANGERS + OF_LINK * tables.link_count();
+        // (those of `Key::place`)
+        let count = 512 + 64 * tables.link_count();
         Ok(Streams {
             alloc,
             tables,
@@ -227,24 +224,33 @@ impl<'a> Streams<'a> {
         })
     }
 
-    /// A frame came in that names this link: it comes to each of the link's streams on its side
-    /// that is judged.
+    /// The place of the link that a frame names, if the tables have it.
+    pub(crate) fn place_named(&self, vl: Option<VlId>) -> Option<usize>
+        ensures known { IfSome result (λ link. link < length self.now.tables.now.links) }
+        ensures place { (bytes : List ℕ) → vl ≡ link_named_by bytes →
+            result ≡ spec.place_named self.now.tables.now bytes }
+    {
+        link_named(self.tables, vl)
+    }
+
+    /// A frame came in that names the link at this place: it comes to each of the link's streams on
+    /// its side that is judged.
     pub(crate) fn came(
         &mut self,
-        vl: Option<VlId>,
+        named: Option<usize>,
         n: u64,
         heading: &Heading,
         bytes: &[u8],
     ) -> Result<(), AllocError>
+        requires known { IfSome named (λ link. link < length self.old.tables.now.links) }
         requires time { heading.now.time ≤ latest_listed }
         requires short { length bytes.now ≤ most_bytes }
         ensures stands { (t : Rows) (c : Choices) (until time : ℕ) (frames : List Seen)
-            (lines : List Due) → vl ≡ link_named_by bytes.now →
+            (lines : List Due) → named ≡ spec.place_named self.old.tables.now bytes.now →
             counts t c (frame_with role.Came (arrival_with n heading.now.time heading.now.side
             heading.now.port bytes.now)) ≡ true →
             time ≤ heading.now.time → IsBehindAll heading.now.time frames →
-            length frames + 1 < most_held →
-            self.old.ended ≡ None →
+            length frames + 1 < most_held → self.old.ended ≡ None →
             StreamsStand t c until frames lines time self.old →
             OnOk result (StreamsStand t c until (frame_with role.Came
             (arrival_with n heading.now.time heading.now.side heading.now.port bytes.now)
@@ -253,7 +259,7 @@ impl<'a> Streams<'a> {
         ensures rules { IsSameButKept self.old self.new }
     {
         let (alloc, tables, leeway, taps) = (self.alloc, self.tables, self.leeway, self.taps);
-        let Some(link) = link_named(tables, vl) else {
+        let Some(link) = named else {
             return Ok(());
         };
         if !is_heard(tables, taps, heading.side, link) {
@@ -270,38 +276,39 @@ impl<'a> Streams<'a> {
         Ok(())
     }
 
-    /// Whether a frame that names this link left on a side on which its sender's port isn't
-    /// recorded.
-    pub(crate) fn is_unheard(&self, role: Role, side: Side, vl: Option<VlId>) -> bool
+    /// Whether a frame that names the link at this place left on a side on which its sender's port
+    /// isn't recorded.
+    pub(crate) fn is_unheard(&self, role: Role, side: Side, named: Option<usize>) -> bool
+        requires { IfSome named (λ link. link < length self.now.tables.now.links) }
         ensures { (x : Seen) → x.role ≡ role → x.arrival.side ≡ side →
-            vl ≡ link_named_by x.arrival.bytes →
+            named ≡ spec.place_named self.now.tables.now x.arrival.bytes →
             result ≡ spec.is_unheard self.now.tables.now (taps_in self.now.taps.now) x }
     {
         match role {
             Role::Came => false,
-            Role::Left => match link_named(self.tables, vl) {
+            Role::Left => match named {
                 Some(link) => !is_heard(self.tables, self.taps, side, link),
                 None => false,
             },
         }
     }
 
-    /// A frame left that names this link, or that is of no stream.
+    /// A frame left that names the link at this place, or that is of no stream.
     pub(crate) fn left(
         &mut self,
-        vl: Option<VlId>,
+        named: Option<usize>,
         n: u64,
         heading: &Heading,
         bytes: Vec<u8>,
     ) -> Result<(), AllocError>
+        requires known { IfSome named (λ link. link < length self.old.tables.now.links) }
         requires time { heading.now.time ≤ latest_listed }
         ensures stands { (t : Rows) (c : Choices) (until time : ℕ) (frames : List Seen)
-            (lines : List Due) → vl ≡ link_named_by bytes.items →
+            (lines : List Due) → named ≡ spec.place_named self.old.tables.now bytes.items →
             counts t c (frame_with role.Left (arrival_with n heading.now.time heading.now.side
             heading.now.port bytes.items)) ≡ true →
             time ≤ heading.now.time → IsBehindAll heading.now.time frames →
-            length frames + 1 < most_held →
-            self.old.ended ≡ None →
+            length frames + 1 < most_held → self.old.ended ≡ None →
             StreamsStand t c until frames lines time self.old →
             OnOk result (StreamsStand t c until (frame_with role.Left
             (arrival_with n heading.now.time heading.now.side heading.now.port bytes.items)
@@ -311,7 +318,6 @@ impl<'a> Streams<'a> {
     {
         let (alloc, tables, leeway) = (self.alloc, self.tables, self.leeway);
         let (side, port, time) = (heading.side, heading.port, heading.time);
-        let named = link_named(tables, vl);
         let kept = &mut self.kept;
         if let Some((link, system)) = outlet_at(tables, named, port) {
             if !self.taps.is_tapped(Role::Left, side, port) {

@@ -4,7 +4,7 @@ ghost use Rattle.std.specs.Prelude.{◌≡◌, IfOk, OnOk};
 ghost use Rattle.afdx_frame.specs.Sealing.{sealed_wrongly};
 ghost use Rattle.afdx_frame.specs.Seals.{whole};
 
-use afdx_frame::{Seal, fcs, seal};
+use afdx_frame::{CHECK_SEQUENCE, Seal, fcs, seal};
 use std::alloc::{AllocError, Global};
 
 /// Appends the complement of the check sequence.
@@ -24,7 +24,8 @@ pub(crate) fn whole_frame(
 ) -> Result<Vec<u8>, AllocError>
     ensures { IfOk result (λ bytes. bytes.items ≡ whole sealing message.now) }
 {
-    let mut bytes = Vec::from_slice(alloc, message)?;
+    let mut bytes = Vec::with_capacity(alloc, message.len() + CHECK_SEQUENCE)?;
+    bytes.extend_from_slice(message)?;
     match sealing {
         Seal::Right => seal(&mut bytes)?,
         Seal::Wrong => seal_wrongly(&mut bytes)?,

@@ -68,3 +68,4 @@ pub mod DueNowLemmas
 pub mod QuietLemmas
 pub mod CutLemmas
 pub mod OpenLemmas
+pub mod AloneLemmas

@@ -22,7 +22,7 @@ use crate::bounds::Bounds;
 use crate::deviate::{deviate, has_any};
 use crate::finding::{Finding, Mark};
 use crate::judging::Judging;
-use crate::leading::{Moment, led_from};
+use crate::leading::{Moment, led_alone, led_from};
 use crate::levels::Rates;
 use crate::limits::Frame;
 use crate::states::{Held, thinned};
@@ -118,6 +118,31 @@ fn go_on(
         is_named: false,
     })?;
     settle(judging, few, tested.is_uncertain);
+    Ok(())
+}
+
+/// The arrival led from the one state to one: its mark is kept, and this state in place of the one
+/// before. Fails only out of memory; then nothing has changed.
+fn go_on_alone(judging: &mut Judging, state: Held, tested: Tested) -> Result<(), AllocError>
+    requires counted { judging.old.uncertain < most_held }
+    requires alone { length judging.old.held.items ≡ 1 }
+    ensures held { OnOk result (judging.new.held.items ≡ state ∷ []) }
+    ensures marks { OnOk result (judging.new.marks.items
+        ≡ judging.old.marks.items ++ record { reason = tested.reason; is_named = false } ∷ []) }
+    ensures uncertain { OnOk result (judging.new.uncertain
+        ≡ judging.old.uncertain + (if tested.is_uncertain then 1 else 0)) }
+    ensures unsure { OnOk result (judging.new.is_unsure ≡ false) }
+    ensures refused { OnErr result (IsUnchanged judging.old judging.new) }
+{
+    judging.marks.push(Mark {
+        reason: tested.reason,
+        is_named: false,
+    })?;
+    judging.held[0] = state;
+    judging.is_unsure = false;
+    if tested.is_uncertain {
+        judging.uncertain += 1;
+    }
     Ok(())
 }
 
@@ -232,6 +257,10 @@ pub fn judge_arrival(
     }
     let states = judging.held.as_slice();
     let tested = test_arrival(&bounds.rates, states, arrived, moment.ns);
+    if let Some(state) = led_alone(bounds, states, frames, arrived, moment) {
+        go_on_alone(judging, state, tested)?;
+        return Ok(Vec::new(alloc));
+    }
     let led = led_from(alloc, bounds, states, frames, arrived, moment)?;
     let ahead = led.as_slice();
     if has_any(ahead) {

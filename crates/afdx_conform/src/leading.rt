@@ -1,6 +1,8 @@
 //! The states to which an arrival leads.
 
-ghost use Rattle.std.specs.Prelude.{◌≡◌, ◌≤◌, ◌-◌, ◌+◌, ℕ, List, length, map, All, IfOk, IsTrue};
+ghost use Rattle.std.specs.Prelude.{◌≡◌, ◌≤◌, ◌-◌, ◌+◌, ◌++◌, ◌∷◌, [], ℕ, List, length, map, All};
+ghost use Rattle.std.specs.Prelude.{IfOk, IfSome, IsTrue};
+ghost use Rattle.std.specs.Option.{option_to_list};
 ghost use Rattle.afdx_frame.specs.Regulation.{Regulation};
 ghost use Rattle.afdx_conform.specs.Accounts.{AreRates, AreLevels, AreNear};
 ghost use Rattle.afdx_conform.specs.Bounds.{AreBounds, HaveToPass};
@@ -29,6 +31,77 @@ use std::alloc::{AllocError, Global};
 pub struct Moment {
     pub ns: u64,
     pub is_open: bool,
+}
+
+/// The state that there is, if there is just one.
+fn only(accepted: Option<Held>, refused: Option<Held>) -> Option<Held>
+    ensures { IfSome result (λ h. option_to_list accepted ++ option_to_list refused ≡ h ∷ []) }
+{
+    match accepted {
+        Some(_) => match refused {
+            Some(_) => None,
+            None => accepted,
+        },
+        None => refused,
+    }
+}
+
+/// The state to which an arrival leads from this one, if it leads to one alone.
+fn led_one(
+    bounds: &Bounds,
+    state: Held,
+    frames: &[Frame],
+    arrived: &Arrived,
+    moment: Moment,
+) -> Option<Held>
+    requires { IsSmall bounds.now.rates state }
+    ensures defined { (z : Terms) (last : ℕ) →
+        AreBounds z bounds.now → IsCharged z arrived.now → moment.ns ≡ arrived.now.time - last →
+        moment.is_open ≡ is_open_by z (arrival_of arrived.now) →
+        IfSome result (λ h. states_at z (arrival_of arrived.now)
+        (levels_then z state.levels last (arrival_of arrived.now))
+        (state_of (map gone_of frames.now) state) ≡ state_of (map gone_of frames.now) h ∷ []) }
+    ensures within { (link : Regulation) (by : By) (count : ℕ) →
+        AreRates link by bounds.now.rates →
+        IsWithin bounds.now.rates (length frames.now) count state →
+        IfSome result (λ h. IsWithin bounds.now.rates (length frames.now) (count + 1) h) }
+{
+    let bytes = arrived.bytes.as_slice();
+    let next = bounds
+        .limits
+        .next(arrived.time, bytes, frames, state.passed, moment.is_open);
+    let levels = bounds.rates.later(state.levels, moment.ns);
+    let (accepted, refused) = state.lead(&bounds.rates, levels, arrived.charge, next);
+    only(accepted, refused)
+}
+
+/// The state to which an arrival leads, where there is one state and it leads to one alone.
+pub(crate) fn led_alone(
+    bounds: &Bounds,
+    held: &[Held],
+    frames: &[Frame],
+    arrived: &Arrived,
+    moment: Moment,
+) -> Option<Held>
+    requires { All (λ h. IsSmall bounds.now.rates h) held.now }
+    ensures alone { IfSome result (λ h. length held.now ≡ 1) }
+    ensures defined { (z : Terms) (last : ℕ) →
+        AreBounds z bounds.now → IsCharged z arrived.now → moment.ns ≡ arrived.now.time - last →
+        moment.is_open ≡ is_open_by z (arrival_of arrived.now) →
+        IfSome result (λ h. map (state_of (map gone_of frames.now)) (h ∷ []) ≡ led_by
+        (λ s. states_at z (arrival_of arrived.now)
+        (levels_then z s.levels last (arrival_of arrived.now)) s)
+        (map (state_of (map gone_of frames.now)) held.now)) }
+    ensures within { (link : Regulation) (by : By) (count : ℕ) →
+        AreRates link by bounds.now.rates →
+        All (λ h. IsWithin bounds.now.rates (length frames.now) count h) held.now →
+        IfSome result (λ h. All
+        (λ k. IsWithin bounds.now.rates (length frames.now) (count + 1) k) (h ∷ [])) }
+{
+    match held {
+        [state] => led_one(bounds, *state, frames, arrived, moment),
+        _ => None,
+    }
 }
 
 /// The states to which an arrival leads from these. Fails only out of memory.

@@ -1,14 +1,16 @@
-use Rattle.std.proofs.Common.{◌+◌, List, [], map, drop, length, refl, sym, ap, ◌∙◌, arith}
+use Rattle.std.proofs.Common.{◌+◌, List, [], ◌∷◌, map, drop, length, refl, sym, ap, ◌∙◌, arith}
 use Rattle.std.proofs.lemmas.List.{length_push}
 use Rattle.std.proofs.lemmas.List.Elements.{All-same}
 use Rattle.afdx_conform.specs.Explanations.{link, levels_then}
-use Rattle.afdx_conform.specs.Findings.{Finding, Judged, is_uncertain, rate_mark, thinned_onto, with_states}
+use Rattle.afdx_conform.specs.Findings.{Finding, Judged, is_uncertain, rate_mark, most_states, thinned_onto, with_states}
 use Rattle.afdx_conform.specs.HeldStates.{IsWithin, state_of}
 use Rattle.afdx_conform.specs.Limits.{gone_of}
 use Rattle.afdx_conform.specs.Marks.{arrival_of, marked_all, told}
 use Rattle.afdx_conform.specs.States.{State, led_by, states_at}
 use Rattle.afdx_conform.specs.declared.finding.Mark.{Mark}
 use Rattle.afdx_conform.specs.declared.states.Held.{Held}
+use Rattle.std.specs.Prelude.{nat_lt}
+use Rattle.afdx_conform.proofs.AloneLemmas.{thinned-alone}
 use Rattle.afdx_conform.proofs.ArrivalSteps.{stands-arrival, stands-fault, answered-led, more-marks, one-less}
 use Rattle.afdx_conform.proofs.DeviateSteps.{some-held, within-frames, within-more}
 use Rattle.afdx_conform.proofs.NamingLemmas.{told-none}
@@ -24,6 +26,48 @@ returns-in-Some-clause-defined c z last j b k at ns opens sure s =
     c.push.new.self.items _ c.args.judging.now.held.items c.in_ok-push-in-Some.ensures.items refl
     (within-more c.args.bounds.now.rates (length c.args.frames.now) (length c.args.judging.now.marks.items) c.args.judging.now.held.items
     s.within))
+
+pub returns-in-Some-led_alone-clause-defined : goal.returns-in-Some-led_alone-clause-defined
+returns-in-Some-led_alone-clause-defined c z last j b k at ns opens sure s =
+    let states = ap (λ (l : List Held). map (state_of (map gone_of c.args.frames.now)) l) c.as_slice-states.ensures.value ∙ s.states in
+    let led = sym (c.in-Some-led_alone.ensures.defined z last b (k.charged c.in-None.is) ns opens ∙ ap (λ (l : List State). (led_by
+    (λ s. states_at z (arrival_of c.args.arrived.now) (levels_then z s.levels last (arrival_of c.args.arrived.now)) s) l)) states) in
+    let nothing = ap (λ (l : List Finding). told c.args.arrived.now.time l
+    (marked_all c.args.arrivals.now c.args.judging.now.marks.items) j) c.new-in-Some-led_alone.ensures.items
+    ∙ told-none c.args.arrived.now.time (marked_all c.args.arrivals.now c.args.judging.now.marks.items) j (sym s.marks) in
+    let answered = answered-led z (map arrival_of (drop (length c.args.judging.now.marks.items + 1) c.args.arrivals.now)) last
+    (arrival_of c.args.arrived.now) j (map (state_of (map gone_of c.args.frames.now)) (c.in-Some-led_alone.state ∷ [])) led refl
+    ∙ ap (λ (q : Judged). with_states (map (state_of (map gone_of c.args.frames.now)) (c.in-Some-led_alone.state ∷ [])) q)
+    (sym nothing) in
+    let within = All-same (λ (h : Held). IsWithin c.args.bounds.now.rates (length c.args.frames.now)
+    (length c.args.judging.now.marks.items + 1) h) _ _ c.in_ok-go_on_alone.ensures.held
+    (c.in-Some-led_alone.ensures.within (link z) z.by (length c.args.judging.now.marks.items) b.rates
+    (All-same (λ (h : Held). IsWithin c.args.bounds.now.rates (length c.args.frames.now) (length c.args.judging.now.marks.items) h) _ _
+    c.as_slice-states.ensures.value s.within)) in
+    stands-arrival c.args.bounds.now.rates c.args.frames.now c.args.arrivals.now z (map arrival_of (drop (length
+    c.args.judging.now.marks.items + 1) c.args.arrivals.now)) last c.args.arrived.now j
+    c.args.judging.now c.go_on_alone.new.judging s c.requires.place at c.args.judging.now.marks.items (c.in-Some-led_alone.state ∷ [])
+    c.new-in-Some-led_alone.result.items c.test_arrival-tested.result.reason c.test_arrival-tested.result.is_uncertain sure
+    (sym k.fault ∙ c.in-None.is) answered
+    (ap (λ (l : List Held). map (state_of (map gone_of c.args.frames.now)) l) c.in_ok-go_on_alone.ensures.held
+    ∙ thinned-alone (map gone_of c.args.frames.now) c.in-Some-led_alone.state)
+    (c.test_arrival-tested.ensures.reason z (map gone_of c.args.frames.now) last b.rates (k.charged c.in-None.is) ns
+    ∙ ap (λ (l : List State). rate_mark z last (arrival_of c.args.arrived.now) l) states)
+    (c.test_arrival-tested.ensures.uncertain z (map gone_of c.args.frames.now) last b.rates (k.charged c.in-None.is) ns
+    ∙ ap (λ (l : List State). is_uncertain z last (arrival_of c.args.arrived.now) l) states)
+    refl c.in_ok-go_on_alone.ensures.marks c.in_ok-go_on_alone.ensures.uncertain
+    (c.in_ok-go_on_alone.ensures.unsure
+    ∙ ap (λ (l : List Held). nat_lt most_states (length l)) (sym c.in_ok-go_on_alone.ensures.held))
+    (more-marks c.args.bounds.now.rates (length c.args.frames.now) (length c.args.judging.now.marks.items) c.args.judging.now.marks.items
+    c.go_on_alone.new.judging.marks.items _ c.go_on_alone.new.judging.held.items c.in_ok-go_on_alone.ensures.marks refl within)
+
+pub returns-in-Some-led_alone-clause-within : goal.returns-in-Some-led_alone-clause-within
+returns-in-Some-led_alone-clause-within c l by count r all =
+    All-same (λ (h : Held). IsWithin c.args.bounds.now.rates (length c.args.frames.now) (count + 1) h) _ _
+    c.in_ok-go_on_alone.ensures.held
+    (c.in-Some-led_alone.ensures.within l by count r
+    (All-same (λ (h : Held). IsWithin c.args.bounds.now.rates (length c.args.frames.now) count h) _ _
+    c.as_slice-states.ensures.value all))
 
 pub returns-then-has_any-clause-defined : goal.returns-then-has_any-clause-defined
 returns-then-has_any-clause-defined c z last j b k at ns opens sure s =

@@ -37,7 +37,9 @@ returns-then-is_passed-clause-counted c = λ frames before.
     (missed-in t k x true (sym (c.is_in_time.ensures
     (taps_in c.args.self.now.streams.taps.now) c.args.message.now c.args.n) ∙ c.if-not-is_in_time.false)
     (sym (c.is_passed.ensures x refl refl (c.vl_of-vl.ensures.computed
-    ∙ ap link_named_by (c.as_slice.ensures.value ∙ c.in_ok-bytes.ensures))) ∙ c.if-is_passed.true)) before
+    ∙ ap link_named_by (c.as_slice.ensures.value ∙ c.in_ok-bytes.ensures))
+    (c.place_named-named.ensures.place x.arrival.bytes (c.vl_of-vl.ensures.computed
+    ∙ ap link_named_by (c.as_slice.ensures.value ∙ c.in_ok-bytes.ensures)))) ∙ c.if-is_passed.true)) before
     c.saturating_add-self.ensures
 
 pub returns-in-Came-clause-counted : goal.returns-in-Came-clause-counted
@@ -50,7 +52,9 @@ returns-in-Came-clause-counted c = λ frames before.
     (missed-in t k x false (sym (c.is_in_time.ensures
     (taps_in c.args.self.now.streams.taps.now) c.args.message.now c.args.n) ∙ c.if-not-is_in_time.false)
     (sym (c.is_passed.ensures x refl refl (c.vl_of-vl.ensures.computed
-    ∙ ap link_named_by (c.as_slice.ensures.value ∙ c.in_ok-bytes.ensures))) ∙ c.if-is_passed.false)) before
+    ∙ ap link_named_by (c.as_slice.ensures.value ∙ c.in_ok-bytes.ensures))
+    (c.place_named-named.ensures.place x.arrival.bytes (c.vl_of-vl.ensures.computed
+    ∙ ap link_named_by (c.as_slice.ensures.value ∙ c.in_ok-bytes.ensures)))) ∙ c.if-is_passed.false)) before
     (let b = before in omega (arith, b)))
 
 pub returns-in-Left-clause-counted : goal.returns-in-Left-clause-counted
@@ -63,7 +67,9 @@ returns-in-Left-clause-counted c = λ frames before.
     (missed-in t k x false (sym (c.is_in_time.ensures
     (taps_in c.args.self.now.streams.taps.now) c.args.message.now c.args.n) ∙ c.if-not-is_in_time.false)
     (sym (c.is_passed.ensures x refl refl (c.vl_of-vl.ensures.computed
-    ∙ ap link_named_by (c.as_slice.ensures.value ∙ c.in_ok-bytes.ensures))) ∙ c.if-is_passed.false)) before
+    ∙ ap link_named_by (c.as_slice.ensures.value ∙ c.in_ok-bytes.ensures))
+    (c.place_named-named.ensures.place x.arrival.bytes (c.vl_of-vl.ensures.computed
+    ∙ ap link_named_by (c.as_slice.ensures.value ∙ c.in_ok-bytes.ensures)))) ∙ c.if-is_passed.false)) before
     (let b = before in omega (arith, b)))
 
 pub returns-then-len-gt-MOST_BYTES-clause-counted : goal.returns-then-len-gt-MOST_BYTES-clause-counted
@@ -75,7 +81,9 @@ returns-then-len-gt-MOST_BYTES-clause-counted c = λ frames before.
     (missed-in t k x false (sym (c.is_in_time.ensures
     (taps_in c.args.self.now.streams.taps.now) c.args.message.now c.args.n) ∙ c.if-not-is_in_time.false)
     (sym (c.is_passed.ensures x refl refl (c.vl_of-vl.ensures.computed
-    ∙ ap link_named_by (c.as_slice.ensures.value ∙ c.in_ok-bytes.ensures))) ∙ c.if-is_passed.false)) before
+    ∙ ap link_named_by (c.as_slice.ensures.value ∙ c.in_ok-bytes.ensures))
+    (c.place_named-named.ensures.place x.arrival.bytes (c.vl_of-vl.ensures.computed
+    ∙ ap link_named_by (c.as_slice.ensures.value ∙ c.in_ok-bytes.ensures)))) ∙ c.if-is_passed.false)) before
     (let b = before in omega (arith, b))
 
 pub returns-then-not-is_in_time-clause-stands : goal.returns-then-not-is_in_time-clause-stands
@@ -95,7 +103,9 @@ returns-then-is_passed-clause-stands c k frames lines same-tables chosen latest 
     (out-of-choice k.0 k.1 x (subst (λ o. is_passed k.0 o x ≡ true) chosen
     (subst (λ t. is_passed t (choices_of (taps_in c.args.self.now.streams.taps.now) c.args.self.now.choices.now) x ≡ true) same-tables
     (sym (c.is_passed.ensures x refl refl (c.vl_of-vl.ensures.computed
-    ∙ ap link_named_by (c.as_slice.ensures.value ∙ c.in_ok-bytes.ensures))) ∙ c.if-is_passed.true)))) s) refl refl stands
+    ∙ ap link_named_by (c.as_slice.ensures.value ∙ c.in_ok-bytes.ensures))
+    (c.place_named-named.ensures.place x.arrival.bytes (c.vl_of-vl.ensures.computed
+    ∙ ap link_named_by (c.as_slice.ensures.value ∙ c.in_ok-bytes.ensures)))) ∙ c.if-is_passed.true)))) s) refl refl stands
 
 pub returns-then-len-gt-MOST_BYTES-clause-stands : goal.returns-then-len-gt-MOST_BYTES-clause-stands
 returns-then-len-gt-MOST_BYTES-clause-stands c k frames lines same-tables chosen latest few stands =
@@ -115,7 +125,9 @@ returns-in-Came-clause-stands c k frames lines same-tables chosen latest few sta
     (subst (λ (t : Rows). is_passed t (choices_of
     (taps_in c.args.self.now.streams.taps.now) c.args.self.now.choices.now) x ≡ false) same-tables
     (sym (c.is_passed.ensures x refl refl (c.vl_of-vl.ensures.computed
-    ∙ ap link_named_by (c.as_slice.ensures.value ∙ c.in_ok-bytes.ensures))) ∙ c.if-is_passed.false)) in
+    ∙ ap link_named_by (c.as_slice.ensures.value ∙ c.in_ok-bytes.ensures))
+    (c.place_named-named.ensures.place x.arrival.bytes (c.vl_of-vl.ensures.computed
+    ∙ ap link_named_by (c.as_slice.ensures.value ∙ c.in_ok-bytes.ensures)))) ∙ c.if-is_passed.false)) in
     let none = running-then k frames x c.args.self.now lines in-time stands in
     let bytes : List ℕ = c.as_slice-in-Came.result.now in
     let same : frame_with Came (arrival_with c.args.n h.time h.side h.port bytes) ≡ x =
@@ -127,7 +139,8 @@ returns-in-Came-clause-stands c k frames lines same-tables chosen latest few sta
     next-on c.came.result k frames x c.args.self.now _ lines latest
     (λ until dues s. subst (λ f. OnOk c.came.result (StreamsStand k.0 k.1 until (f ∷ frames) dues h.time c.came.new.self)) same
     (c.came.ensures.stands k.0 k.1 until h.time frames dues
-    (c.vl_of-vl.ensures.computed ∙ ap link_named_by (c.as_slice.ensures.value ∙ sym c.as_slice-in-Came.ensures.value))
+    (c.place_named-named.ensures.place bytes (c.vl_of-vl.ensures.computed
+    ∙ ap link_named_by (c.as_slice.ensures.value ∙ sym c.as_slice-in-Came.ensures.value)))
     (ap (λ f. counts k.0 k.1 f) same ∙ count) (omega arith)
     (behind-later frames h.time latest stands.by_time) few none s)) c.came.ensures.ended refl stands
 
@@ -141,7 +154,9 @@ returns-in-Left-clause-stands c k frames lines same-tables chosen latest few sta
     (subst (λ (t : Rows). is_passed t (choices_of
     (taps_in c.args.self.now.streams.taps.now) c.args.self.now.choices.now) x ≡ false) same-tables
     (sym (c.is_passed.ensures x refl refl (c.vl_of-vl.ensures.computed
-    ∙ ap link_named_by (c.as_slice.ensures.value ∙ c.in_ok-bytes.ensures))) ∙ c.if-is_passed.false)) in
+    ∙ ap link_named_by (c.as_slice.ensures.value ∙ c.in_ok-bytes.ensures))
+    (c.place_named-named.ensures.place x.arrival.bytes (c.vl_of-vl.ensures.computed
+    ∙ ap link_named_by (c.as_slice.ensures.value ∙ c.in_ok-bytes.ensures)))) ∙ c.if-is_passed.false)) in
     let none = running-then k frames x c.args.self.now lines in-time stands in
     let bytes : List ℕ = c.in_ok-bytes.bytes.items in
     let same : frame_with Left (arrival_with c.args.n h.time h.side h.port bytes) ≡ x =
@@ -152,5 +167,6 @@ returns-in-Left-clause-stands c k frames lines same-tables chosen latest few sta
     next-on c.left.result k frames x c.args.self.now _ lines latest
     (λ until dues s. subst (λ f. OnOk c.left.result (StreamsStand k.0 k.1 until (f ∷ frames) dues h.time c.left.new.self)) same
     (c.left.ensures.stands k.0 k.1 until h.time frames dues
-    (c.vl_of-vl.ensures.computed ∙ ap link_named_by c.as_slice.ensures.value) (ap (λ f. counts k.0 k.1 f) same ∙ count) (omega arith)
+    (c.place_named-named.ensures.place bytes (c.vl_of-vl.ensures.computed ∙ ap link_named_by c.as_slice.ensures.value))
+    (ap (λ f. counts k.0 k.1 f) same ∙ count) (omega arith)
     (behind-later frames h.time latest stands.by_time) few none s)) c.left.ensures.ended refl stands

@@ -1,5 +1,6 @@
 use Rattle.std.proofs.Common.{Bor, ◌∷◌, ◌≡◌, ℕ, ◌+◌, ◌<◌, ◌≤◌, List, true, false, length, get_or, map, take, None, Some, refl, sym, ap, ◌∙◌, subst, arith}
 use Rattle.std.proofs.lemmas.List.{length-map, take_all}
+use Rattle.std.specs.Prelude.{IfSome}
 use Rattle.std.proofs.lemmas.Option.{same_Some, slice_get-get_or}
 use Rattle.std.specs.List.{AllByRecursion}
 use Rattle.afdx_bounds.specs.Tables.{port_of}
@@ -17,17 +18,17 @@ use Rattle.afdx_acceptance.specs.Keys.{key_with}
 use Rattle.afdx_acceptance.specs.Standing.{StreamsStand}
 use Rattle.afdx_acceptance.specs.declared.key.Key.{Key}
 use Rattle.afdx_acceptance.proofs.GivenLemmas.{blank, came-times}
-use Rattle.afdx_acceptance.proofs.JoinLemmas.{any-in, came-few, came-start, come-first, come-next, come-past, counted-behind, join-came, join-unheard, join-unnamed, place-is}
+use Rattle.afdx_acceptance.proofs.JoinLemmas.{any-in, came-few, came-start, come-first, come-next, come-past, counted-behind, join-came, join-unheard, join-unnamed}
 use Rattle.afdx_acceptance.proofs.PortLemmas.{came-key, fresh-port}
 use Rattle.afdx_acceptance.proofs.TappedLemmas.{any-fewer, seen_ports}
 use Rattle.afdx_acceptance.proofs.streams.Streams.came.Goals as goal
 
 pub returns-in_default-clause-stands : goal.returns-in_default-clause-stands
-returns-in_default-clause-stands c t c' until time frames lines vl e le behind few running stand =
+returns-in_default-clause-stands c t c' until time frames lines named-is e le behind few running stand =
     let h = c.args.heading.now in
     let a : Arrival = arrival_with c.args.n h.time h.side h.port c.args.bytes.now in
     let named : place_named c.args.self.now.tables.now a.bytes ≡ None =
-    sym (place-is c.args.self.now.tables.now a.bytes c.args.vl vl) ∙ sym c.link_named.ensures.place ∙ c.in_default.is in
+    sym named-is ∙ c.in_default.is in
     record {
       lawful = stand.lawful;
       tables = stand.tables;
@@ -38,15 +39,16 @@ returns-in_default-clause-stands c t c' until time frames lines vl e le behind f
     }
 
 pub returns-then-not-is_heard-clause-stands : goal.returns-then-not-is_heard-clause-stands
-returns-then-not-is_heard-clause-stands c t c' until time frames lines vl e le behind few running stand =
+returns-then-not-is_heard-clause-stands c t c' until time frames lines named-is e le behind few running stand =
     let r : Rows = c.args.self.now.tables.now in
     let h = c.args.heading.now in
     let a : Arrival = arrival_with c.args.n h.time h.side h.port c.args.bytes.now in
     let link : ℕ = c.in-Some.link in
     let l : LinkRow = get_or r.links link blank in
-    let at = slice_get-get_or r.links link blank c.in-Some.ensures.known in
+    let at = slice_get-get_or r.links link blank
+    (subst (λ o. IfSome o (λ n. n < length r.links)) c.in-Some.is c.requires.known) in
     let named : place_named r a.bytes ≡ Some link =
-    sym (place-is r a.bytes c.args.vl vl) ∙ sym c.link_named.ensures.place ∙ c.in-Some.is in
+    sym named-is ∙ c.in-Some.is in
     let deaf : is_heard r c'.taps h.side l ≡ false =
     ap (λ p. is_heard r p h.side l) (sym stand.taps) ∙ sym (c.is_heard.ensures.is l at) ∙ c.if-not-is_heard.true in
     let mine : StreamsStand r c' until frames lines time c.args.self.now =
@@ -130,7 +132,7 @@ loop-rank-preserved-then-not-is_seen c = record {
 }
 
 pub returns-clause-stands : goal.returns-clause-stands
-returns-clause-stands c t c' until time frames lines vl e le behind few running stand =
+returns-clause-stands c t c' until time frames lines named-is e le behind few running stand =
     let r : Rows = c.args.self.now.tables.now in
     let h = c.args.heading.now in
     let a : Arrival = arrival_with c.args.n h.time h.side h.port c.args.bytes.now in
@@ -143,7 +145,7 @@ returns-clause-stands c t c' until time frames lines vl e le behind few running 
     let heard : is_heard r c'.taps h.side row ≡ true =
     ap (λ p. is_heard r p h.side row) (sym stand.taps) ∙ sym (c.is_heard.ensures.is row c.link.ensures.row) ∙ c.if-not-is_heard.false in
     let named : place_named r a.bytes ≡ Some link =
-    sym (place-is r a.bytes c.args.vl vl) ∙ sym c.link_named.ensures.place ∙ c.in-Some.is in
+    sym named-is ∙ c.in-Some.is in
     let count = length-map c.link.result.now.to.items (λ i. i.0) in
     let test = c.loop-rank-test.false in
     let len = c.len-rank-end.ensures in

@@ -19,11 +19,11 @@ use Rattle.afdx_acceptance.proofs.AddedLemmas.{on-ok}
 use Rattle.afdx_acceptance.proofs.GivenLemmas.{blank, falling-more, left-times, strange-times}
 use Rattle.afdx_acceptance.proofs.CameLemmas.{and-false}
 use Rattle.afdx_acceptance.proofs.LeftLemmas.{stranger-no, stranger-none}
-use Rattle.afdx_acceptance.proofs.JoinLemmas.{counted-behind, heard-as, join-left, join-strange, join-unseen, left-few, left-start, place-is}
+use Rattle.afdx_acceptance.proofs.JoinLemmas.{counted-behind, heard-as, join-left, join-strange, join-unseen, left-few, left-start}
 use Rattle.afdx_acceptance.proofs.streams.Streams.left.Goals as goal
 
 pub returns-then-not-is_tapped-clause-stands : goal.returns-then-not-is_tapped-clause-stands
-returns-then-not-is_tapped-clause-stands c t c' until time frames lines vl e le behind few running stand =
+returns-then-not-is_tapped-clause-stands c t c' until time frames lines named-is e le behind few running stand =
     let r : Rows = c.args.self.now.tables.now in
     let h = c.args.heading.now in
     let a : Arrival = arrival_with c.args.n h.time h.side h.port c.args.bytes.items in
@@ -31,7 +31,7 @@ returns-then-not-is_tapped-clause-stands c t c' until time frames lines vl e le 
     let mine : StreamsStand r c' until frames lines time c.args.self.now =
     subst (λ (x : Rows). StreamsStand x c' until frames lines time c.args.self.now) (sym stand.tables) stand in
     let named : place_named r a.bytes ≡ Some link =
-    sym (place-is r a.bytes c.args.vl vl) ∙ sym c.link_named-named.ensures.place ∙ c.in-Some.ensures.link.0 in
+    sym named-is ∙ c.in-Some.ensures.link.0 in
     let l : LinkRow = get_or r.links link blank in
     let at = slice_get-get_or r.links link blank c.in-Some.ensures.link.1 in
     let to = c.in-Some.ensures.to l at in
@@ -49,7 +49,7 @@ returns-then-not-is_tapped-clause-stands c t c' until time frames lines vl e le 
     })
 
 pub returns-in-Some-clause-stands : goal.returns-in-Some-clause-stands
-returns-in-Some-clause-stands c t c' until time frames lines vl e le behind few running stand =
+returns-in-Some-clause-stands c t c' until time frames lines named-is e le behind few running stand =
     let r : Rows = c.args.self.now.tables.now in
     let h = c.args.heading.now in
     let a : Arrival = arrival_with c.args.n h.time h.side h.port c.args.bytes.items in
@@ -57,7 +57,7 @@ returns-in-Some-clause-stands c t c' until time frames lines vl e le behind few 
     let mine : StreamsStand r c' until frames lines time c.args.self.now =
     subst (λ (x : Rows). StreamsStand x c' until frames lines time c.args.self.now) (sym stand.tables) stand in
     let named : place_named r a.bytes ≡ Some link =
-    sym (place-is r a.bytes c.args.vl vl) ∙ sym c.link_named-named.ensures.place ∙ c.in-Some.ensures.link.0 in
+    sym named-is ∙ c.in-Some.ensures.link.0 in
     let l : LinkRow = get_or r.links link blank in
     let at = slice_get-get_or r.links link blank c.in-Some.ensures.link.1 in
     let to = c.in-Some.ensures.to l at in
@@ -87,16 +87,16 @@ returns-in-Some-clause-stands c t c' until time frames lines vl e le behind few 
     (left-times r c' frames h.time (counted-behind r c' frames h.time behind) key) (omega (arith, n, few)) old)
 
 pub returns-clause-stands : goal.returns-clause-stands
-returns-clause-stands c t c' until time frames lines vl e le behind few running stand =
+returns-clause-stands c t c' until time frames lines named-is e le behind few running stand =
     let r : Rows = c.args.self.now.tables.now in
     let h = c.args.heading.now in
     let a : Arrival = arrival_with c.args.n h.time h.side h.port c.args.bytes.items in
     let key : Key = key_with h.side h.port None in
     let mine : StreamsStand r c' until frames lines time c.args.self.now =
     subst (λ (x : Rows). StreamsStand x c' until frames lines time c.args.self.now) (sym stand.tables) stand in
-    let named : place_named r a.bytes ≡ c.link_named-named.result =
-    sym (place-is r a.bytes c.args.vl vl) ∙ sym c.link_named-named.ensures.place in
-    let strange : is_stranger r a ≡ true = stranger-none r a c.link_named-named.result named c.in_default.ensures.none in
+    let named : place_named r a.bytes ≡ c.args.named =
+    sym named-is in
+    let strange : is_stranger r a ≡ true = stranger-none r a c.args.named named c.in_default.ensures.none in
     let why : c.why_strange-why.result ≡ stranger_reason r a.bytes =
     c.why_strange-why.ensures ∙ ap (λ b. stranger_by b (fault_of None 0 c.as_slice.result.now)) (c.is_some.ensures ∙ ap is_some (sym named))
     ∙ ap (λ b. stranger_by (is_some (place_named r a.bytes)) (fault_of None 0 b)) c.as_slice.ensures.value in
