@@ -27,7 +27,7 @@ import tempfile
 
 sys.dont_write_bytecode = True
 from make_cascade import LINKS, config_text, ways_of  # noqa: E402
-from measure import PROGRAM, instructions, timed  # noqa: E402
+from measure import PROGRAM, counted, timed  # noqa: E402
 
 SYSTEMS = 24
 SIZES = (400, 4096)
@@ -144,7 +144,8 @@ def measured(program, command, path, folder, times, status):
         runs = [timed(words, None, nothing, note, (status,), nothing) for _ in range(times)]
     seconds = min(run.seconds for run in runs)
     memory = max(run.memory for run in runs)
-    return seconds, memory, instructions(words, folder)
+    counts = counted(words, folder)
+    return seconds, memory, None if counts is None else counts.instructions
 
 
 def measure_tables(program, folder, times):

@@ -64,7 +64,7 @@ def show_conform(bench, only, lines, empty):
         if only not in name or (kind != LISTS and not told_by(bench.program, "--left")):
             continue
         measured = row_of(bench, row, lines)
-        show([*measured.cells(), *empty])
+        bench.show(measured, *empty)
         line = bench.line_of_64() if measured.instructions is not None else None
         if line:
             times = measured.instructions / (line * (1 + ports))

@@ -7,11 +7,12 @@ import re
 import shutil
 import subprocess
 import sys
-from typing import NamedTuple
+from typing import NamedTuple, Optional
 
 HERE = os.path.dirname(os.path.abspath(__file__))
 PROGRAM = os.path.join(HERE, "..", "crates", "afdx", "out", "afdx")
 STARTER = "/usr/bin/time"
+CACHE = ["--cache-sim=yes", "--LL=1048576,16,64"]  # of callgrind
 
 
 class Run(NamedTuple):
@@ -40,17 +41,40 @@ def timed(words, given, taken, note, statuses=(0,), told=None):
     return Run(usage.ru_utime + usage.ru_stime, usage.ru_utime, memory)
 
 
-def instructions(words, folder):
-    """The instructions of one run by callgrind; None where valgrind isn't installed."""
+class Counts(NamedTuple):
+    """What callgrind counted: instructions, and reads and writes that missed a cache of 1 MiB."""
+
+    instructions: float
+    reads: Optional[float] = None
+    writes: Optional[float] = None
+
+    def line(self, fewer, lines):
+        """The counts of a line, where a run of so many lines less takes those."""
+
+        def each(most, least):
+            return None if most is None else (most - least) / lines
+
+        return Counts(*(each(*both) for both in zip(self, fewer)))
+
+
+def counted(words, folder, misses=False):
+    """The counts of one run; those of misses where they are asked for, which takes longer. None
+    where valgrind isn't installed."""
     if shutil.which("valgrind") is None:
         return None
     out = os.path.join(folder, "callgrind.out")
     done = subprocess.run(
-        ["valgrind", "--tool=callgrind", f"--callgrind-out-file={out}", *words],
+        ["valgrind", "--tool=callgrind", f"--callgrind-out-file={out}"]
+        + (CACHE if misses else [])
+        + words,
         stdin=subprocess.DEVNULL,
         stdout=subprocess.DEVNULL,
         stderr=subprocess.PIPE,
         check=False,
     )
-    told = re.search(r"Collected : (\d+)", done.stderr.decode("ascii", "replace"))
-    return int(told[1]) if told else None
+    told = done.stderr.decode("ascii", "replace")
+    names, numbers = (re.search(rf"{word} +: (.+)", told) for word in ("Events", "Collected"))
+    if names is None or numbers is None:
+        return None
+    found = dict(zip(names[1].split(), map(int, numbers[1].split())))
+    return Counts(found["Ir"], found.get("DLmr"), found.get("DLmw"))

@@ -1,6 +1,7 @@
 """Measures `afdx police`, `afdx replay`, `afdx send` and `afdx conform` on long lists.
 
-    bench/run.py [PROGRAM] [--lines N] [--times T] [--only TEXT] [--baseline] [--scaling]
+    bench/run.py [PROGRAM] [--lines N] [--times T] [--only TEXT] [--baseline] [--misses]
+                 [--scaling | --short]
 
 PROGRAM is the built program, crates/afdx/out/afdx where it isn't given. The lists have N lines
 (1,000,000 where it isn't given), but at most about 500 MB, and are made in a temporary folder by
@@ -29,9 +30,13 @@ With --baseline the hand-written C program bench/handwritten/police_baseline.c i
 two more columns say how the program compares with it: the ratio of the instructions, and that of
 the user seconds, the median of the T turns. A ratio below 1 means that the program takes less.
 
+With --misses two more columns say how many reads and writes of a line miss a cache of 1 MiB, as
+callgrind reckons them.
+
 With --only the rows whose name has TEXT in it are measured. With --scaling another table is
 printed: how time and memory grow with the lines of a list and with the links of a network, and for
-`conform` with the frames that came.
+`conform` with the frames that came. With --short it is the table that stands in README, where user
+CPU is that of a million lines, and the ratios to C are the least and the greatest of the turns.
 
 Needs Linux and Python 3, no packages; with /usr/bin/time the figure for memory is the program's
 alone. It is a measurement and no test: it fails only where a run fails or the two programs differ.
@@ -44,14 +49,16 @@ import sys
 import tempfile
 
 sys.dont_write_bytecode = True
-from conform_rows import has_conform, show_conform, show_conform_growth  # noqa: E402
+from conform_rows import show_conform  # noqa: E402
+from growth import show_growth  # noqa: E402
 from make_cascade import write_cascade  # noqa: E402
 from make_list import MOST_LINES, write_list  # noqa: E402
 from make_messages import write_messages  # noqa: E402
 from make_network import write_network  # noqa: E402
 from make_recording import write_recording  # noqa: E402
-from measure import HERE, PROGRAM, instructions, timed  # noqa: E402
-from table import HEAD, RATIOS, Row, head, show  # noqa: E402
+from measure import HERE, PROGRAM, counted, timed  # noqa: E402
+from short_rows import show_short  # noqa: E402
+from table import HEAD, MISSES, RATIOS, Row, head, show  # noqa: E402
 
 BASELINE = os.path.join(HERE, "handwritten", "police_baseline.c")
 MOST_BYTES = 500_000_000
@@ -92,19 +99,12 @@ TENTH = "the same, a tenth of the lines"
 FURTHER = 22  # copies of a frame in the row `copies` beyond that in the row `one`
 SEND = "send, 20 links of one system"
 BY_HAND = "the same by hand-written C"
-GROWTH_HEAD = [
-    "links",
-    "lines",
-    "seconds",
-    "of these before the first line",
-    "us a line",
-    "peak memory",
-]
 
 
 class Bench:
     def __init__(self, given, folder):
         self.program, self.times, self.folder = os.path.abspath(given.program), given.times, folder
+        self.misses = given.misses
 
     def path(self, name):
         return os.path.join(self.folder, name)
@@ -124,15 +124,20 @@ class Bench:
         return min(run.seconds for run in runs), max(run.memory for run in runs)
 
     def a_line(self, make, words, first):
-        """Instructions for each line: a list less one of the first lines alone.
+        """What callgrind counts for each line: a list less one of the first lines alone.
 
         `make` writes a list of so many lines.
         """
         counts = []
         for count in (first, first + FEW):
             make(self.path("few.list"), count)
-            counts.append(instructions([*words, self.path("few.list")], self.folder))
-        return None if None in counts else (counts[1] - counts[0]) / FEW
+            counts.append(counted([*words, self.path("few.list")], self.folder, self.misses))
+        fewer, most = counts
+        return None if fewer is None or most is None else most.line(fewer, FEW)
+
+    def show(self, row, *more):
+        """Prints a row, and more cells."""
+        show([*row.cells(), *(row.misses() if self.misses else []), *more])
 
     def rows(self, programs, count, make, first=0, beside=0):
         """A row for each program, a name and its words, on the long list of so many lines. Those of
@@ -230,20 +235,8 @@ class Bench:
         def make(path, count):
             write_list(path, count, length=64)
 
-        return self.a_line(make, [self.program, "police", "1", "64", "500"], FEW)
-
-    def scaling(self, kind, lines, links):
-        words = self.network(kind, True, lines, links)
-        seconds, memory = self.best([*words, self.path("long.list")])
-        empty = self.best([*words, os.devnull])[0]
-        return [
-            f"{links:,}",
-            f"{lines:,}",
-            f"{seconds:.2f}",
-            f"{empty:.2f}",
-            f"{(seconds - empty) / lines * 1e6:.2f}",
-            f"{memory / 1024:.1f} MiB",
-        ]
+        counts = self.a_line(make, [self.program, "police", "1", "64", "500"], FEW)
+        return None if counts is None else counts.instructions
 
 
 def read_words():
@@ -262,7 +255,12 @@ def read_words():
     words.add_argument(
         "--baseline", action="store_true", help="measure the hand-written C program too"
     )
-    words.add_argument("--scaling", action="store_true", help="print the table of growth")
+    words.add_argument(
+        "--misses", action="store_true", help="count what misses a cache of 1 MiB, too"
+    )
+    tables = words.add_mutually_exclusive_group()
+    tables.add_argument("--scaling", action="store_true", help="print the table of growth")
+    tables.add_argument("--short", action="store_true", help="print the table of README")
     given = words.parse_args()
     if not 1 <= given.lines <= MOST_LINES:
         words.error(f"N is 1 to {MOST_LINES}")
@@ -275,20 +273,6 @@ def read_words():
     return given
 
 
-def show_growth(bench, lines):
-    """The table of growth, with the lines and then with the links."""
-    head(GROWTH_HEAD)
-    sizes = [lines // 100, lines // 10, lines]
-    for count in sizes:
-        show(bench.scaling("gigabit", max(1, count), 400))
-    for links in (1, 64, 1024, 4096):
-        show(bench.scaling("gigabit", max(1, sizes[1]), links))
-    if has_conform(bench.program):
-        print("\n`conform`:\n")
-        head(GROWTH_HEAD)
-        show_conform_growth(bench, sizes)
-
-
 def show_police(bench, given, baseline):
     """The rows of `police`, with the ratios where there is a baseline; the rows by their names."""
     by_name = {}
@@ -297,9 +281,9 @@ def show_police(bench, given, baseline):
             ours, *others = bench.police(name, options, given.lines, baseline)
             by_name[name] = ours
             ratios = ours.ratios(others[0]) if others else []
-            show([*ours.cells(), *ratios])
+            bench.show(ours, *ratios)
             for theirs in others:
-                show([*theirs.cells(), *("" for _ in ratios)])
+                bench.show(theirs, *("" for _ in ratios))
     return by_name
 
 
@@ -317,7 +301,7 @@ def show_recorded(bench, given, empty):
             options = [*options, "--reorder=0"]
         if given.only in name and (options is not HELD or orders):
             rows.append((bench.recording(name, form, length, options, given.lines), listed))
-            show([*rows[-1][0].cells(), *empty])
+            bench.show(rows[-1][0], *empty)
     return rows
 
 
@@ -336,7 +320,7 @@ def show_replay(bench, given, empty):
     for name, kind, is_admitted in REPLAY:
         if given.only in name:
             by_kind[kind] = bench.replay(name, kind, is_admitted, given.lines)
-            show([*by_kind[kind].cells(), *empty])
+            bench.show(by_kind[kind], *empty)
     return by_kind
 
 
@@ -346,7 +330,7 @@ def show_cascade(bench, given, empty):
         return ""
     rows, hop = bench.cascade(given.lines)
     for row in rows:
-        show([*row.cells(), *empty])
+        bench.show(row, *empty)
     return "" if hop is None else f"A frame through a switch of several: {hop:,.0f} instructions"
 
 
@@ -367,17 +351,20 @@ def main():
             show_growth(bench, given.lines)
             return
         built, empty = None, []
-        if given.baseline:
+        if given.baseline or given.short:
             built, empty = bench.path("police_baseline"), ["" for _ in RATIOS]
             subprocess.run(["cc", "-O2", "-o", built, BASELINE], check=True)
-        head([*HEAD, *(RATIOS if built else [])])
+        if given.short:
+            show_short(bench, given.lines, built)
+            return
+        head([*HEAD, *(MISSES if given.misses else []), *(RATIOS if built else [])])
         by_name, recorded = show_police(bench, given, built), []
         if knows(bench.program, b"--interface"):
             recorded = show_recorded(bench, given, empty)
         by_kind = show_replay(bench, given, empty)
         told = show_cascade(bench, given, empty)
         if given.only in SEND:
-            show([*bench.send(given.lines).cells(), *empty])
+            bench.show(bench.send(given.lines), *empty)
         judged = show_conform(bench, given.only, given.lines, empty)
         show_shares(recorded, by_name)
         if {"one", "copies"} <= set(by_kind):

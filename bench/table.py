@@ -2,7 +2,7 @@
 import statistics
 from typing import NamedTuple, Optional
 
-from measure import Run
+from measure import Counts, Run
 
 HEAD = [
     "run",
@@ -16,20 +16,34 @@ HEAD = [
     "instructions a line",
 ]
 RATIOS = ["instructions to C", "user CPU to C"]
+MISSES = ["reads that miss", "writes that miss"]
 
 
 class Row(NamedTuple):
-    """What a list took: its runs, and the instructions of a line where they are known."""
+    """What a list took: its runs, and what callgrind counts of a line where that is known."""
 
     name: str
     lines: int
     size: int
     runs: list[Run]
-    instructions: Optional[float]
+    counts: Optional[Counts]
 
     @property
     def seconds(self):
         return min(run.seconds for run in self.runs)
+
+    @property
+    def instructions(self):
+        return None if self.counts is None else self.counts.instructions
+
+    @property
+    def user(self):
+        return min(run.user for run in self.runs)
+
+    def misses(self):
+        """The cells of the misses, where they were counted."""
+        told = (None, None) if self.counts is None else (self.counts.reads, self.counts.writes)
+        return ["-" if count is None else f"{count:.1f}" for count in told]
 
     def cells(self):
         memory = max(run.memory for run in self.runs)
@@ -38,16 +52,20 @@ class Row(NamedTuple):
             f"{self.lines:,}",
             f"{self.size / 1e6:,.0f}",
             f"{self.seconds:.2f}",
-            f"{min(run.user for run in self.runs):.2f}",
+            f"{self.user:.2f}",
             f"{self.lines / self.seconds:,.0f}" if self.seconds else "-",
             f"{self.size / self.seconds / 1e6:,.0f}" if self.seconds else "-",
             f"{memory / 1024:.1f} MiB",
             "-" if self.instructions is None else f"{self.instructions:,.0f}",
         ]
 
+    def turns(self, other):
+        """The ratios of user seconds to those of another program, whose runs took turns."""
+        return [one.user / two.user for one, two in zip(self.runs, other.runs) if two.user]
+
     def ratios(self, other):
         """How it compares with another program's row, whose runs took turns with these."""
-        turns = [one.user / two.user for one, two in zip(self.runs, other.runs) if two.user]
+        turns = self.turns(other)
         return [
             f"{self.instructions / other.instructions:.2f}" if self.instructions else "-",
             f"{statistics.median(turns):.2f}" if turns else "-",

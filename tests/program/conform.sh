@@ -52,6 +52,20 @@ conform_of 'slack, drift, time inside and asking' 0 'F 0 A 1 H1 / F 499999 A 1 H
 conform_of 'a part of what was recorded' 0 'F 0 A 1 H1 / F 2000000 A 1 H1 / F 4000000 A 1 H1' \
     'F 2006720 A 3 H1 / F 5000000 A 3 H1' "$(judged conforms 1 0 1 0)" '' \
     --from 2000000 --until 3000000
+
+# What a line's bytes are, not its kind, says which frame left: those of H1 with their check
+# sequence, or with its complement. Four bytes name the link that theirs begins with.
+right=H195178b51 wrong=H16ae874ae
+conform_of 'bytes that are those of a frame' 0 "F 0 A 1 H1 / R 2000000 A 1 $right" \
+    "R 6720 A 3 $right / F 2006720 A 3 H1" "$(judged conforms 2 0 0 0)" ''
+conform_of 'a frame with a wrong check sequence leaves' 5 "B 0 A 1 H1 / R 1 A 1 $wrong" \
+    "R 6720 A 3 $wrong / B 13440 A 3 H1" \
+    "passed 1 A 3 bad-fcs / passed 2 A 3 bad-fcs / $(judged 'deviates 2' 0 0 0 0)" ''
+conform_of 'a frame leaves with another check sequence' 5 'F 0 A 1 H1' "R 6720 A 3 $wrong" \
+    "strange 1 A 3 bad-fcs / $(judged 'deviates 1' 0 1 0 0)" ''
+conform_of 'four bytes name a link' 3 'F 0 A 1 03000000' '' "$(judged undecided 0 0 0 1)" '' \
+    --leave-out 62064
+
 conform_of 'a bad line of CAME' 3 'F 0 A 1 H1 / F 0 A' 'F 40000 A 3 H1' '' 'list came BadLine 2'
 conform_of 'a bad line of LEFT behind a finding' 3 'F 0 A 1 H1' 'F 34001 A 3 H1 / F 0 C 1 -' \
     'stopped 1 A 3' 'list left BadLine 2'

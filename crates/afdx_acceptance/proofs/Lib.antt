@@ -36,3 +36,4 @@ pub mod PartLemmas
 pub mod VerdictLemmas
 pub mod ShownLemmas
 pub mod EarlyLawLemmas
+pub mod NamedLemmas

@@ -12,9 +12,10 @@ use Rattle.afdx_conform.specs.Growing.{AreTold}
 use Rattle.afdx_conform.specs.Histories.{AreEvents, AreOver, coming, judged_by, judged_of, next_of, shown, unclosed}
 use Rattle.afdx_conform.specs.States.{Event, Came, Closing, arrivals_came}
 use Rattle.afdx_conform.specs.Streams.{Gone, Terms}
-use Rattle.afdx_conform.proofs.HistoryLemmas.{drop-next, next-came, next-closing}
+use Rattle.afdx_conform.proofs.HistoryLemmas.{drop-next, next-came, next-closing, over-moment}
 use Rattle.afdx_conform.proofs.LaterEnd.{end_later}
 use Rattle.afdx_conform.proofs.OverLemmas.{not-open}
+use Rattle.afdx_conform.proofs.StandingLemmas.{at-until}
 use Rattle.afdx_acceptance.proofs.LaterLemmas.{AddsAt}
 use Rattle.afdx_acceptance.proofs.RestLemmas.{AreAt, all-at, more-adds, up-drop}
 
@@ -86,7 +87,8 @@ module _ (z : Terms) (time : ℕ) (xs : List Arrival) (ys : List Gone) (told : A
   go zero over few events before = step over events before
       (λ e next lt. absurd (let less = less-left over e next in omega (arith, less, few)))
   go (suc n) over few events before = step over events before
-      (λ e next lt. go n (e ∷ over) (let less = less-left over e next in omega (arith, less, few)) (next, events) (lt, before))
+      (λ e next lt. go n (e ∷ over) (let less = less-left over e next in omega (arith, less, few)) (next, events)
+      ((let le = over-moment z e over in omega (arith, lt, le)), before))
 
   pub up-to-time : IsUpTo
   unfolding AreEvents AreOver
@@ -117,7 +119,8 @@ over-same : (z : Terms) (until time : ℕ) (over : List Event) → AreOver z tim
 unfolding AreOver
 over-same z until time [] h = tt
 over-same z until time (Came x ∷ over) h = (h.0, over-same z until time over h.1)
-over-same z until time (Closing t ∷ over) h = (h.0, over-same z until time over h.1)
+over-same z until time (Closing t ∷ over) h =
+    ((let lt = h.0 in let same = at-until z until (Closing t) over in omega (arith, lt, same)), over-same z until time over h.1)
 
 none-open : (z : Terms) (time : ℕ) (over : List Event) → time ≤ z.until → AreOver z time over → NoneIsOpen z over
 unfolding AreOver NoneIsOpen

@@ -32,10 +32,10 @@ use crate::choices::Choices;
 use crate::streams::Streams;
 use crate::telling::{findings_in, put_lines};
 use crate::totals::Totals;
-use crate::whole::whole_frame;
+use crate::whole::vl_named;
 use afdx_config::Tables;
 use afdx_engine::Machine;
-use afdx_frame::{VlId, vl_of};
+use afdx_frame::VlId;
 use afdx_inputs::Seen;
 use afdx_lists::{Role, RunFault};
 use afdx_recorded::Taps;
@@ -43,7 +43,7 @@ use afdx_text::{ConformLine, Sink};
 use std::alloc::{AllocError, Global};
 
 /// The most bytes of a frame that counts: no list has longer ones.
-const MOST_BYTES: usize = 65_535;
+const MOST_BYTES: u64 = 65_535;
 
 /// What a run works with: what is asked for, the streams, the time of the last line in ns, and how
 /// many findings were told and lines left out.
@@ -275,19 +275,19 @@ impl<'a> Judging<'a> {
         if !is_in_time(self.choices, seen) {
             return Ok(());
         }
-        let bytes = whole_frame(self.alloc, seen.heading.seal, message)?;
-        let vl = vl_of(bytes.as_slice());
+        let frame = seen.heading.frame(message);
+        let vl = vl_named(self.alloc, frame)?;
         let named = self.streams.place_named(vl);
         if self.is_passed(seen, vl, named) {
             self.left_out = self.left_out.saturating_add(1);
             return Ok(());
         }
-        if bytes.len() > MOST_BYTES {
+        if frame.length() > MOST_BYTES {
             return Ok(());
         }
         match seen.role {
-            Role::Came => self.streams.came(named, n, &seen.heading, bytes.as_slice()),
-            Role::Left => self.streams.left(named, n, &seen.heading, bytes),
+            Role::Came => self.streams.came(named, n, &seen.heading, frame),
+            Role::Left => self.streams.left(named, n, &seen.heading, frame),
         }
     }
 }

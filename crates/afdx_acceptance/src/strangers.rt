@@ -1,11 +1,13 @@
 //! Frames that left and are of no stream.
 
 ghost use Rattle.std.specs.Prelude.{◌≡◌, ◌++◌, ◌∷◌, [], OnOk, None, Some, IfNone, IfSome, IsSome, length, ◌<◌};
+ghost use Rattle.afdx_frame.specs.Parts.{bytes_of};
 ghost use Rattle.afdx_police.specs.Shape.{fault_of};
 ghost use Rattle.afdx_acceptance.specs.Lines.{stranger_by};
 ghost use Rattle.afdx_acceptance.specs.Waiting.{first_time};
 
-use afdx_police::{Reason, judge};
+use afdx_frame::Checked;
+use afdx_police::{Reason, judge_checked};
 use afdx_text::StrangeReason;
 use std::alloc::{AllocError, Global};
 use std::collections::VecDeque;
@@ -19,10 +21,10 @@ pub(crate) struct Stranger {
 }
 
 /// Why a frame of no stream is strange; `is_named` says whether it names a link of the tables.
-pub(crate) fn why_strange(bytes: &[u8], is_named: bool) -> StrangeReason
-    ensures { result ≡ stranger_by is_named (fault_of None 0 bytes.now) }
+pub(crate) fn why_strange(frame: Checked<'_>, is_named: bool) -> StrangeReason
+    ensures { result ≡ stranger_by is_named (fault_of None 0 (bytes_of frame.entry)) }
 {
-    match judge(None, 0, bytes) {
+    match judge_checked(None, 0, frame) {
         Some(Reason::UnknownLink) => {
             if is_named {
                 StrangeReason::NotItsPort

@@ -1,7 +1,6 @@
 //! All streams of the tables, and what is to be told of them.
 
 ghost use Rattle.std.specs.Prelude.{◌≡◌, ◌≤◌, ◌<◌, ◌∷◌, ◌+◌, [], ℕ, List, None, Some, IfNone, IfOk, IfSome, IsSome, OnOk, get_or, length, slice_get, true};
-ghost use Rattle.afdx_acceptance.specs.declared.slot.Slot.TheVariants as slot;
 ghost use Rattle.std.specs.List.{AllByRecursion};
 ghost use Rattle.afdx_bounds.specs.Tables.{port_of};
 ghost use Rattle.afdx_config.specs.Lawful.{IsLawfulSwitch};
@@ -14,6 +13,7 @@ ghost use Rattle.afdx_conform.specs.Limits.{gone_of};
 ghost use Rattle.afdx_conform.specs.Ranges.{most_held};
 ghost use Rattle.afdx_conform.specs.Streams.{Gone};
 ghost use Rattle.afdx_frame.specs.Layout.{link_named_by};
+ghost use Rattle.afdx_frame.specs.Parts.{bytes_of};
 ghost use Rattle.afdx_frame.specs.Times.{latest_listed};
 ghost use Rattle.afdx_police.specs.Arrival.{Arrival, arrival_with};
 ghost use Rattle.afdx_lists.specs.declared.role.Role.TheVariants as role;
@@ -38,8 +38,8 @@ use crate::strangers::{Stranger, why_strange};
 use crate::tapped::{is_heard, is_seen, unseen_of};
 use crate::totals::Totals;
 use afdx_config::{SystemId, Tables};
-use afdx_conform::{Arrived, Frame, Leeway};
-use afdx_frame::{Side, VlId};
+use afdx_conform::{Arrived, CheckedBytes, Frame, Leeway};
+use afdx_frame::{Checked, Side, VlId};
 use afdx_lists::{Heading, Role};
 use afdx_recorded::Taps;
 use std::alloc::{AllocError, Global};
@@ -99,12 +99,12 @@ fn come_to(
     system: SystemId,
     n: u64,
     heading: &Heading,
-    bytes: &[u8],
+    frame: Checked<'_>,
 ) -> Result<(), AllocError>
     requires link { link < length tables.now.links }
     requires system { system.0 < length tables.now.systems }
     requires time { heading.now.time ≤ latest_listed }
-    requires short { length bytes.now ≤ most_bytes }
+    requires short { length (bytes_of frame) ≤ most_bytes }
     ensures { (c : Choices) (until time : ℕ) (given : Key → Given) (lines : List Due)
         (l : LinkRow) → slice_get tables.now.links link ≡ Some l → is_to system.0 l ≡ true →
         leeway_of leeway ≡ c.by → time ≤ heading.now.time →
@@ -116,12 +116,12 @@ fn come_to(
         AreKept tables.now c until None time given lines kept.old →
         OnOk result (AreKept tables.now c until None time
         (with_came (key_with heading.now.side (port_of tables.now system.0) (Some link))
-        (arrival_with n heading.now.time heading.now.side heading.now.port bytes.now) given)
-        lines kept.new) }
+        (arrival_with n heading.now.time heading.now.side heading.now.port
+        (bytes_of frame.entry)) given) lines kept.new) }
 {
     let key = stream_to(alloc, tables, leeway, kept, link, system, heading.side)?;
     let rule = rule_at(tables, link);
-    let bytes = Vec::from_slice(alloc, bytes)?;
+    let bytes = CheckedBytes::of(alloc, frame)?;
     let arrived = Arrived::new(&rule, n, heading.time, heading.side, heading.port, bytes);
     kept.add_arrival(key, arrived)
 }
@@ -240,21 +240,21 @@ impl<'a> Streams<'a> {
         named: Option<usize>,
         n: u64,
         heading: &Heading,
-        bytes: &[u8],
+        frame: Checked<'_>,
     ) -> Result<(), AllocError>
         requires known { IfSome named (λ link. link < length self.old.tables.now.links) }
         requires time { heading.now.time ≤ latest_listed }
-        requires short { length bytes.now ≤ most_bytes }
+        requires short { length (bytes_of frame) ≤ most_bytes }
         ensures stands { (t : Rows) (c : Choices) (until time : ℕ) (frames : List Seen)
-            (lines : List Due) → named ≡ spec.place_named self.old.tables.now bytes.now →
-            counts t c (frame_with role.Came (arrival_with n heading.now.time heading.now.side
-            heading.now.port bytes.now)) ≡ true →
+            (lines : List Due) → let a : Arrival = arrival_with n heading.now.time
+            heading.now.side heading.now.port (bytes_of frame.entry) in
+            named ≡ spec.place_named self.old.tables.now a.bytes →
+            counts t c (frame_with role.Came a) ≡ true →
             time ≤ heading.now.time → IsBehindAll heading.now.time frames →
             length frames + 1 < most_held → self.old.ended ≡ None →
             StreamsStand t c until frames lines time self.old →
-            OnOk result (StreamsStand t c until (frame_with role.Came
-            (arrival_with n heading.now.time heading.now.side heading.now.port bytes.now)
-            ∷ frames) lines time self.new) }
+            OnOk result (StreamsStand t c until (frame_with role.Came a ∷ frames) lines time
+            self.new) }
         ensures ended { self.new.ended ≡ self.old.ended }
         ensures rules { IsSameButKept self.old self.new }
     {
@@ -271,7 +271,7 @@ impl<'a> Streams<'a> {
                 continue;
             }
             let kept = &mut self.kept;
-            come_to(alloc, tables, leeway, kept, link, system, n, heading, bytes)?;
+            come_to(alloc, tables, leeway, kept, link, system, n, heading, frame)?;
         }
         Ok(())
     }
@@ -299,20 +299,20 @@ impl<'a> Streams<'a> {
         named: Option<usize>,
         n: u64,
         heading: &Heading,
-        bytes: Vec<u8>,
+        frame: Checked<'_>,
     ) -> Result<(), AllocError>
         requires known { IfSome named (λ link. link < length self.old.tables.now.links) }
         requires time { heading.now.time ≤ latest_listed }
         ensures stands { (t : Rows) (c : Choices) (until time : ℕ) (frames : List Seen)
-            (lines : List Due) → named ≡ spec.place_named self.old.tables.now bytes.items →
-            counts t c (frame_with role.Left (arrival_with n heading.now.time heading.now.side
-            heading.now.port bytes.items)) ≡ true →
+            (lines : List Due) → let a : Arrival = arrival_with n heading.now.time
+            heading.now.side heading.now.port (bytes_of frame.entry) in
+            named ≡ spec.place_named self.old.tables.now a.bytes →
+            counts t c (frame_with role.Left a) ≡ true →
             time ≤ heading.now.time → IsBehindAll heading.now.time frames →
             length frames + 1 < most_held → self.old.ended ≡ None →
             StreamsStand t c until frames lines time self.old →
-            OnOk result (StreamsStand t c until (frame_with role.Left
-            (arrival_with n heading.now.time heading.now.side heading.now.port bytes.items)
-            ∷ frames) lines time self.new) }
+            OnOk result (StreamsStand t c until (frame_with role.Left a ∷ frames) lines time
+            self.new) }
         ensures ended { self.new.ended ≡ self.old.ended }
         ensures rules { IsSameButKept self.old self.new }
     {
@@ -323,14 +323,15 @@ impl<'a> Streams<'a> {
             if !self.taps.is_tapped(Role::Left, side, port) {
                 return Ok(());
             }
-            let frame = Frame {
+            let bytes = CheckedBytes::of(alloc, frame)?;
+            let left = Frame {
                 number: n,
                 time,
                 bytes,
             };
-            return leave_to(alloc, tables, leeway, kept, link, system, side, frame);
+            return leave_to(alloc, tables, leeway, kept, link, system, side, left);
         }
-        let why = why_strange(bytes.as_slice(), named.is_some());
+        let why = why_strange(frame, named.is_some());
         let stranger = Stranger {
             number: n,
             time,

@@ -1,25 +1,27 @@
-use Rattle.std.proofs.Common.{◌≡◌, ℕ, suc, ◌+◌, ◌<◌, Bool, true, false, cond, ◌||◌, ◌&&◌}
+use Rattle.std.proofs.Common.{◌≡◌, ℕ, suc, ◌+◌, ◌<◌, Bool, true, false, cond, inl, inr, ◌||◌, ◌&&◌}
 use Rattle.std.proofs.Common.{Option, Some, None, List, [], ◌∷◌, ◌++◌, take, length}
 use Rattle.std.proofs.Common.{map, nat_eq, refl, sym, subst, ◌∙◌, ap, arith, append-nil}
-use Rattle.std.specs.Prelude.{slice_get, slice_set, position, filter, is_some, IfSome, nat_lt}
+use Rattle.std.specs.Prelude.{slice_get, slice_set, position, filter, is_some, IfSome, nat_lt, ◌⊎◌}
 use Rattle.std.specs.List.{list_any, position_from, position_or_len}
 use Rattle.std.specs.Option.{option_or}
-use Rattle.std.proofs.lemmas.Bool.{eqb-true, cond-false, and_parts, or_parts, ltb-true, false_from_ne_true}
+use Rattle.std.proofs.lemmas.Bool.{eqb-true, eq-eqb, cases_eq, cond-false, and_parts, and_from, or_parts}
+use Rattle.std.proofs.lemmas.Bool.{ltb-true, false_from_ne_true}
 use Rattle.std.proofs.lemmas.Iterator.Adapters.{position_from-zero}
 use Rattle.std.proofs.lemmas.List.{map-append}
 use Rattle.std.proofs.lemmas.List.Elements.{filter-append}
 use Rattle.std.proofs.lemmas.List.Folds.{position_or_len-set}
 use Rattle.std.proofs.Math.ListN.{get_or, length-set}
-use Rattle.std.proofs.lemmas.Option.{get_or_from_slice_get}
+use Rattle.std.proofs.lemmas.Option.{get_or_from_slice_get, slice_get_within, slice_get_read}
 use Rattle.std.specs.HashMap as hash
 use Rattle.std.specs.HashMap.{HashMap}
 use Rattle.afdx_frame.specs.declared.link.VlId.{VlId}
-use Rattle.afdx_frame.proofs.ListLemmas.{take-one_more, list_any-take}
+use Rattle.afdx_frame.proofs.ListLemmas.{take-one_more, list_any-take, slice_get-push_cases, slice_get-one}
+use Rattle.afdx_frame.proofs.ListLemmas.{slice_get-set_here, slice_get-set_there}
 use Rattle.afdx_config.specs.Rows.{PortRow}
 use Rattle.afdx_config.specs.declared.rows.Kind.TheVariants.{Sampling}
 use Rattle.afdx_config.specs.Reading.{has_port}
 use Rattle.afdx_config.specs.Lawful.{AreDistinct, triple}
-use Rattle.afdx_comport.specs.Ports.{port_at_first, ports_at_first, is_for, is_same_key, PlacesAreOf}
+use Rattle.afdx_comport.specs.Ports.{port_at_first, ports_at_first, is_for, is_same_key, PlacesAreOf, AreFound}
 use Rattle.afdx_comport.specs.declared.com_ports.ComPort.{ComPort}
 use Rattle.afdx_comport.specs.declared.held.Held.{Held}
 
@@ -135,6 +137,48 @@ pub listed_added : (system : ℕ) (rows : List PortRow) (i : ℕ) (row : PortRow
     ports_at_first system (take (i + 1) rows) ≡ ports_at_first system (take i rows) ++ port_at_first row ∷ []
 listed_added system rows i row here own = listed_one system rows i row here ∙ rw own refl
 
+-- the system has no port yet with the next row's link and UDP port
+absent_before : (system : ℕ) (rows : List PortRow) (i : ℕ) (row : PortRow) →
+    AreDistinct triple rows → slice_get rows i ≡ Some row → nat_eq row.system system ≡ true →
+    position (is_for row.link row.udp) (ports_at_first system (take i rows)) ≡ None
+absent_before system rows i row apart here own =
+    position_none (is_for row.link row.udp) (ports_at_first system (take i rows))
+    (rw (← eqb-true row.system system own) (any_listed row (take i rows) ∙ none_before rows i row apart here))
+
+-- each port so far is found where it is, and the next one behind them
+pub found_added : (system : ℕ) (rows : List PortRow) (i : ℕ) (row : PortRow) →
+    AreDistinct triple rows → slice_get rows i ≡ Some row → nat_eq row.system system ≡ true →
+    AreFound (ports_at_first system (take i rows)) →
+    AreFound (ports_at_first system (take i rows) ++ port_at_first row ∷ [])
+found_added system rows i row apart here own before place port e =
+    at (slice_get-push_cases (ports_at_first system (take i rows)) (port_at_first row) place port e)
+  where
+    listed : List ComPort
+    listed = ports_at_first system (take i rows)
+
+    own_key : is_for row.link row.udp (port_at_first row) ≡ true
+    own_key = and_from (nat_eq row.link row.link) (nat_eq row.udp row.udp)
+        (eq-eqb row.link row.link refl) (eq-eqb row.udp row.udp refl)
+
+    last : position (is_for row.link row.udp) (listed ++ port_at_first row ∷ []) ≡ Some (length listed)
+    last =
+        position_push (is_for row.link row.udp) listed (port_at_first row)
+        ∙ ap (λ (o : Option ℕ). option_or o
+        (cond (is_for row.link row.udp (port_at_first row)) (Some (length listed)) None))
+        (absent_before system rows i row apart here own)
+        ∙ ap (λ b. cond b (Some (length listed)) None) own_key
+
+    at : (slice_get listed place ≡ Some port) ⊎ ((place ≡ length listed) × (port ≡ port_at_first row)) →
+        position (is_for port.link.0 port.udp) (listed ++ port_at_first row ∷ []) ≡ Some place
+    at (inl old) =
+        position_push (is_for port.link.0 port.udp) listed (port_at_first row)
+        ∙ ap (λ (o : Option ℕ). option_or o
+        (cond (is_for port.link.0 port.udp (port_at_first row)) (Some (length listed)) None))
+        (before place port old)
+    at (inr new) =
+        ap (λ (p : ComPort). position (is_for p.link.0 p.udp) (listed ++ port_at_first row ∷ [])) new.1
+        ∙ last ∙ ap Some (sym new.0)
+
 pub places_added : {S : Type 0} (system : ℕ) (rows : List PortRow) (i : ℕ) (row : PortRow)
     (places after : HashMap (VlId × ℕ) ℕ S) →
     AreDistinct triple rows → slice_get rows i ≡ Some row → nat_eq row.system system ≡ true →
@@ -158,10 +202,7 @@ places_added system rows i row places after apart here own before updates q =
     or_none (Some x) = refl
 
     absent : row.link ≡ q.0.0 → row.udp ≡ q.1 → position (is_for q.0.0 q.1) listed ≡ None
-    absent link udp =
-        position_none (is_for q.0.0 q.1) listed
-        (rw (← link, ← udp, ← eqb-true row.system system own)
-        (any_listed row (take i rows) ∙ none_before rows i row apart here))
+    absent link udp = rw (← link, ← udp) (absent_before system rows i row apart here own)
 
     at : (b : Bool) → is_same_key (record { 0 = row.link }, row.udp) q ≡ b →
         hash.get is_same_key after q ≡ position (is_for q.0.0 q.1) (listed ++ port_at_first row ∷ [])
@@ -211,3 +252,40 @@ stays ports place link udp port held here =
       position_or_len-set (is_for link udp) ports place (record port { held = held }) port same,
       length-set ports place (record port { held = held }),
     ) refl
+
+-- a port that holds something else is found where it was, and so is each other
+
+pub places_stay : {S : Type 0} (places : HashMap (VlId × ℕ) ℕ S) (ports : List ComPort) (place : ℕ)
+    (port : ComPort) (held : Held) → slice_get ports place ≡ Some port → PlacesAreOf places ports →
+    PlacesAreOf places (slice_set ports place (record port { held = held }))
+places_stay places ports place port held here of key =
+    of key ∙ sym (stays ports place key.0.0 key.1 port held here)
+
+pub found_stay : (ports : List ComPort) (place : ℕ) (port : ComPort) (held : Held) →
+    slice_get ports place ≡ Some port → AreFound ports →
+    AreFound (slice_set ports place (record port { held = held }))
+found_stay ports place port held here found q p e = at (cases_eq q place)
+  where
+    changed : ComPort
+    changed = record port { held = held }
+
+    at : (q ≡ place) ⊎ (q ≡ place → ⊥) →
+        position (is_for p.link.0 p.udp) (slice_set ports place changed) ≡ Some q
+    at (inl same) =
+        let one : p ≡ changed = slice_get-one (slice_set ports place changed) place p changed
+        (ap (slice_get (slice_set ports place changed)) (sym same) ∙ e)
+        (slice_get-set_here ports place changed (slice_get_within ports place port here)) in
+        ap (λ (x : ComPort). position (is_for x.link.0 x.udp) (slice_set ports place changed)) one
+        ∙ stays ports place port.link.0 port.udp port held here ∙ found place port here ∙ ap Some (sym same)
+    at (inr other) =
+        stays ports place p.link.0 p.udp port held here
+        ∙ found q p (sym (slice_get-set_there ports place q changed other) ∙ e)
+
+pub both_stay : {S : Type 0} (places : HashMap (VlId × ℕ) ℕ S) (ports : List ComPort) (place : ℕ)
+    (port : ComPort) (held : Held) → place < length ports → port ≡ get_or ports place port →
+    PlacesAreOf places ports × AreFound ports →
+    PlacesAreOf places (slice_set ports place (record port { held = held }))
+    × AreFound (slice_set ports place (record port { held = held }))
+both_stay places ports place port held within read both =
+    let here : slice_get ports place ≡ Some port = slice_get_read ports (length ports) place port refl within read in
+    (places_stay places ports place port held here both.0, found_stay ports place port held here both.1)

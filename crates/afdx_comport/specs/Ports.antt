@@ -1,5 +1,5 @@
 -- The ports of a system, in the order of the tables.
-use Rattle.std.specs.Prelude.{◌≡◌, ℕ, Bool, ◌&&◌, nat_eq, None, List, [], map, filter, position}
+use Rattle.std.specs.Prelude.{◌≡◌, ℕ, Bool, ◌&&◌, nat_eq, None, Some, List, [], map, filter, position, slice_get}
 use Rattle.std.specs.HashMap as hash
 use Rattle.std.specs.HashMap.{HashMap}
 use Rattle.afdx_frame.specs.declared.link.VlId.{VlId}
@@ -34,3 +34,8 @@ is_same_key a b = nat_eq a.0.0 b.0.0 && nat_eq a.1 b.1
 abbrev pub PlacesAreOf : {S : Type 0} → HashMap (VlId × ℕ) ℕ S → List ComPort → Type 0
 PlacesAreOf places ports = (key : VlId × ℕ) →
     hash.get is_same_key places key ≡ position (is_for key.0.0 key.1) ports
+
+-- each port is found where it is
+abbrev pub AreFound : List ComPort → Type 0
+AreFound ports = (place : ℕ) (port : ComPort) → slice_get ports place ≡ Some port →
+    position (is_for port.link.0 port.udp) ports ≡ Some place

@@ -51,6 +51,9 @@ pub struct ComPorts {
     alloc: Global,
     places: HashMap<(VlId, u16), usize>,
     ports: Vec<ComPort>,
+    /// By the row of a link in the tables, the place where its port is looked for first. Nothing
+    /// rests on it.
+    hints: Vec<u16>,
 }
 
 impl Drop for ComPorts {
@@ -60,20 +63,31 @@ impl Drop for ComPorts {
             alloc,
             places,
             ports,
+            hints,
         } = self;
     }
 }
 
 impl Model for ComPorts {
     ghost use Rattle.std.specs.Prelude.{List};
-    ghost use Rattle.afdx_comport.specs.Ports.{PlacesAreOf};
+    ghost use Rattle.afdx_comport.specs.Ports.{PlacesAreOf, AreFound};
     ghost use Rattle.afdx_comport.specs.declared.com_ports.ComPort.{ComPort};
 
     ghost Value = { List ComPort };
 
     ghost view = { λ c. c.ports.items };
 
-    ghost invariant = { λ c. PlacesAreOf c.places c.ports.items };
+    ghost invariant = { λ c. PlacesAreOf c.places c.ports.items × AreFound c.ports.items };
+}
+
+/// Notes where to look for the port of the link in this row first.
+fn note(hints: &mut [u16], row: Option<usize>, place: usize) {
+    let (Some(row), Ok(place)) = (row, u16::try_from(place)) else {
+        return;
+    };
+    if row < hints.len() {
+        hints[row] = place;
+    }
 }
 
 impl ComPorts {
@@ -88,11 +102,15 @@ impl ComPorts {
     {
         let mut places = HashMap::new(alloc);
         let mut ports = Vec::new(alloc);
+        let mut hints = Vec::new(alloc);
+        hints.resize(tables.link_count(), 0)?;
         let count = tables.com_count();
         for index in 0..count {
             let row = tables.com(index);
             if row.system == system {
-                places.insert((row.link, row.udp), ports.len())?;
+                let place = ports.len();
+                note(&mut hints, tables.link_of(row.link), place);
+                places.insert((row.link, row.udp), place)?;
                 ports.push(ComPort::new(alloc, row)?)?;
             }
         }
@@ -100,6 +118,7 @@ impl ComPorts {
             alloc,
             places,
             ports,
+            hints,
         })
     }
 
@@ -111,6 +130,33 @@ impl ComPorts {
         ensures known { IfSome result (λ place. place < length self.now) }
     {
         self.places.get(&(link, udp)).copied()
+    }
+
+    /// Whether the port of a link and a UDP port is at this place.
+    #[inline(always)]
+    fn is_at(&self, place: usize, link: VlId, udp: u16) -> bool
+        ensures { IsTrue result →
+            (position (is_for link.0 udp) self.now ≡ Some place) × (place < length self.now) }
+    {
+        place < self.ports.len() && self.ports[place].link == link && self.ports[place].udp == udp
+    }
+
+    /// The place of the port of a link and a UDP port, as `find` says. If `row` is where the tables
+    /// have the link, and the system has one port for it, it is found without the look-up. The
+    /// answer is the same whatever it is.
+    #[inline(always)]
+    pub fn find_near(&self, row: u16, link: VlId, udp: u16) -> Option<usize>
+        ensures place { result ≡ position (is_for link.0 udp) self.now }
+        ensures known { IfSome result (λ place. place < length self.now) }
+    {
+        let row = row as usize;
+        if row < self.hints.len() {
+            let place = self.hints[row] as usize;
+            if self.is_at(place, link, udp) {
+                return Some(place);
+            }
+        }
+        self.find(link, udp)
     }
 
     /// Puts a message that comes at `time`, in ns, to the port at this place. A sampling port keeps

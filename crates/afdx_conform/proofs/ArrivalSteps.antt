@@ -116,7 +116,7 @@ module _ (rates : Rates) (fs : List Frame) (xs : List Arrived) (z : Terms) (behi
       ∙ ap (λ (v : Arrived). marked_all xs ms ++ (marked_of v m ∷ [])) (sym at)
 
   pub stands-arrival : (ms : List Mark) (mid : List Held) (found : List Finding) (reason : Option Reason) (u : Bool)
-      → j.is_unsure ≡ false → fault_of (Some z.rule) a.port a.bytes.items ≡ None
+      → j.is_unsure ≡ false → fault_of (Some z.rule) a.port a.bytes ≡ None
       → answered_by z behind last (arrival_of a) (Led z behind last (arrival_of a) j) j
       ≡ with_states (map (state_of (map gone_of fs)) mid) (told a.time found (marked_all xs ms) j)
       → map (state_of (map gone_of fs)) new.held.items ≡ thinned_onto [] (map (state_of (map gone_of fs)) mid)
@@ -146,7 +146,7 @@ module _ (rates : Rates) (fs : List Frame) (xs : List Arrived) (z : Terms) (behi
       )
 
   pub stands-fault : (fault : Reason) (found : List Finding) → found ≡ [] → j.is_unsure ≡ false
-      → fault_of (Some z.rule) a.port a.bytes.items ≡ Some fault
+      → fault_of (Some z.rule) a.port a.bytes ≡ Some fault
       → new.held.items ≡ old.held.items
       → new.marks.items ≡ old.marks.items ++ (record { reason = Some fault; is_named = false } ∷ [])
       → new.uncertain ≡ old.uncertain → new.is_unsure ≡ old.is_unsure

@@ -1,6 +1,6 @@
 -- What a closing changes of how far a stream is judged.
 use Rattle.std.proofs.Common.{◌≡◌, ℕ, zero, suc, ◌+◌, ◌-◌, ◌<◌, ◌≤◌, Bool, true, false, List, [], ◌∷◌, ◌⊎◌, inl, inr, map, drop, take, length, refl, sym, ap, ◌∙◌, subst, arith}
-use Rattle.std.proofs.lemmas.Bool.{le-ltb, leb-false}
+use Rattle.std.proofs.lemmas.Bool.{le-leb, le-ltb, leb-false}
 use Rattle.std.proofs.lemmas.List.{length-drop, drop-drop}
 use Rattle.std.proofs.lemmas.List.Elements.{All-contains, All-from_recursion}
 use Rattle.std.specs.Prelude.{if◌then◌else◌, nat_le, ◌&&◌, ◌||◌, Contains}
@@ -39,6 +39,21 @@ by-some : (z : Terms) (time : ℕ) (l : List State) (j : Judged) → has_some l 
 by-some z time [] j e = absurd (cc)
 by-some z time (s ∷ l) j e = refl
 
+kept-none : (test : State → Bool) → kept test [] ≡ []
+unfolding kept
+kept-none test = refl
+
+kept-first : (test : State → Bool) (s : State) (l : List State) → test s ≡ true → kept test (s ∷ l) ≡ s ∷ kept test l
+unfolding kept
+kept-first test s l e = ap (λ (b : Bool). if b then s ∷ kept test l else kept test l) e
+
+-- without states nothing is closed
+nothing-closed : (z : Terms) (time : ℕ) (l : List State) (j : Judged) → j.states ≡ l → closed_by z time l j ≡ j
+unfolding skipped front_rest kept
+nothing-closed z time [] j e =
+    ap (λ (l : List State). skipped z time (lead l) (front_rest l) j) e ∙ ap (λ (l : List State). with_states l j) (sym e)
+nothing-closed z time (s ∷ l) j e = ap (λ (m : List State). with_states m j) (sym e)
+
 module _ (z : Terms) (time passed : ℕ) (ys : List Gone) (held : List Held) (j : Judged) (closed : AreClosed time passed ys)
     (states : map (state_of ys) held ≡ j.states) (sure : j.is_unsure ≡ false) where
   abbrev left : List State
@@ -61,6 +76,26 @@ module _ (z : Terms) (time passed : ℕ) (ys : List Gone) (held : List Held) (j 
       (e ∙ ap (λ (l : List State). kept (λ s. are_behind time s.rest) l) states)
       ∙ sym (by-some z time left j (some-left ∙ any))
       ∙ sym sure-is
+
+  -- all are
+  all-left : AllByRecursion (λ (h : Held). passed ≤ h.passed) held
+      → kept (λ s. are_behind time s.rest) (map (state_of ys) held) ≡ map (state_of ys) held
+  all-left all = by held all
+    where
+      by : (hs : List Held) → AllByRecursion (λ (h : Held). passed ≤ h.passed) hs
+          → kept (λ s. are_behind time s.rest) (map (state_of ys) hs) ≡ map (state_of ys) hs
+      by [] a = kept-none (λ s. are_behind time s.rest)
+      by (h ∷ hs) a =
+          kept-first (λ s. are_behind time s.rest) (state_of ys h) (map (state_of ys) hs)
+          (closed-is time passed ys closed h.passed ∙ le-leb passed h.passed a.0)
+          ∙ ap (λ (l : List State). state_of ys h ∷ l) (by hs a.1)
+
+  pub close-all : AllByRecursion (λ (h : Held). passed ≤ h.passed) held → closed_to z time j ≡ j
+  close-all all =
+      sure-is
+      ∙ ap (λ (l : List State). closed_by z time l j)
+      (ap (λ (l : List State). kept (λ s. are_behind time s.rest) l) (sym states) ∙ all-left all ∙ states)
+      ∙ nothing-closed z time j.states j refl
 
   -- none is
   pub close-none : list_any (λ h. nat_le passed h.passed) held ≡ false

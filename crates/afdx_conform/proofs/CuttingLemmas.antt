@@ -14,7 +14,7 @@ use Rattle.afdx_conform.specs.States.{Event, Came, Closing, State, state_with}
 use Rattle.afdx_conform.specs.Streams.{Gone, Terms}
 use Rattle.afdx_conform.specs.declared.states.Held.{Held}
 use Rattle.afdx_conform.proofs.EveryLemmas.{every-on, every-unmap}
-use Rattle.afdx_conform.proofs.HistoryLemmas.{next-closing}
+use Rattle.afdx_conform.proofs.HistoryLemmas.{next-closing, over-time}
 use Rattle.afdx_conform.proofs.OverLemmas.{AreLate}
 
 module _ (z : Terms) where
@@ -104,7 +104,8 @@ module _ (z : Terms) where
           ∙ ap (λ (n : ℕ). drop n (us ++ off)) (sym here) ∙ is in
           let cut = (subst (λ (l : List Gone). AllByRecursion IsCutOff l) at-off c).0 in
           let m = o.0 in
-          absurd (omega (arith, cut, at, m, le))
+          let o' = over-time z (Closing t) before in
+          absurd (omega (arith, cut, at, m, o', le))
 
   -- ---- where the cut is
 

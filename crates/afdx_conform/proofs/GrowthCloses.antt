@@ -107,7 +107,7 @@ module _ (z : Terms) where
           ∙ ap (λ (l : List Frame). map gone_of l) (drop_more old.frames.items old.closed f lt)
           ∙ ap (λ (v : Frame). gone_of v ∷ map gone_of (drop (old.closed + 1) old.frames.items)) (sym at)
 
-      closed-next : (c : Continues z xs ys over gone old) → judged_by z xs ys (Closing f.time ∷ over)
+      pub closed-next : (c : Continues z xs ys over gone old) → judged_by z xs ys (Closing f.time ∷ over)
           ≡ with_gone gone 0 (closed_to z f.time c.j)
       unfolding judged_after
       closed-next c =

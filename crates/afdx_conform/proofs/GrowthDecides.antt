@@ -157,8 +157,8 @@ module _ (z : Terms) where
       unfolding sound_events
       last-next js e =
           e ∙ ap (λ (f : Option Reason). if is_none f then a.time else old.last) js.fault
-          ∙ ap (λ (n : ℕ). if is_none (fault_of (Some z.rule) a.port a.bytes.items) then a.time else n) k.last
-          ∙ by (is_none (fault_of (Some z.rule) a.port a.bytes.items))
+          ∙ ap (λ (n : ℕ). if is_none (fault_of (Some z.rule) a.port a.bytes) then a.time else n) k.last
+          ∙ by (is_none (fault_of (Some z.rule) a.port a.bytes))
         where
           by : (b : Bool) → (if b then a.time else Last)
               ≡ last_time z.by (arrivals_came (if b then Came X ∷ sound_events z over else sound_events z over))

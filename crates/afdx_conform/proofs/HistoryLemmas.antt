@@ -5,8 +5,8 @@ use Rattle.std.proofs.lemmas.List.{append_assoc, drop-append-le, length-drop}
 use Rattle.std.specs.Prelude.{if◌then◌else◌, Some}
 use Rattle.std.specs.List.{AllByRecursion}
 use Rattle.afdx_police.specs.Arrival.{Arrival}
-use Rattle.afdx_conform.specs.Events.{closes_before, closings_in, event_time, events_of, up_to}
-use Rattle.afdx_conform.specs.Histories.{AreEvents, AreOver, coming, next_of, unclosed}
+use Rattle.afdx_conform.specs.Events.{closes_before, closings_in, event_time, events_of, moment_at, up_to}
+use Rattle.afdx_conform.specs.Histories.{AreEvents, AreOver, coming, next_of, over_at, unclosed}
 use Rattle.afdx_conform.specs.Leeway.{both_slacks}
 use Rattle.afdx_conform.specs.States.{Event, Came, Closing, arrivals_came}
 use Rattle.afdx_conform.specs.Streams.{Gone, Terms}
@@ -64,6 +64,18 @@ module _ (z : Terms) where
           → (w : Gone) × (rest : List Gone) × (y ∷ us ≡ w ∷ rest) × (w.time ≡ time)
       by true h = (y, us, refl, cc)
       by false h = absurd (cc)
+
+  -- ---- when an event may be over
+
+  pub over-time : (e : Event) (before : List Event) → event_time z e ≤ over_at z e before
+  over-time (Came x) before = omega arith
+  over-time (Closing time) [] = omega arith
+  over-time (Closing time) (e ∷ before) = omega arith
+
+  pub over-moment : (e : Event) (before : List Event) → over_at z e before ≤ moment_at z (event_time z e)
+  over-moment (Came x) before = omega arith
+  over-moment (Closing time) [] = omega arith
+  over-moment (Closing time) (e ∷ before) = omega arith
 
   -- ---- one more arrival, one more frame
 
@@ -142,9 +154,10 @@ module _ (z : Terms) where
   unfolding AreEvents AreOver
   events-came xs ys x time [] le o h = tt
   events-came xs ys x time (e ∷ before) le o h =
-      let lt = o.0 in (
+      let lt = o.0 in
+      let at = over-time e before in (
         ap (λ (l : List Arrival). next_of z l (unclosed ys before)) (coming-more xs ys x before h.1)
-            ∙ with-arrival (coming xs before) (unclosed ys before) x e (omega (arith, lt, le)) h.0,
+            ∙ with-arrival (coming xs before) (unclosed ys before) x e (omega (arith, lt, at, le)) h.0,
         events-came xs ys x time before le o.1 h.1,
       )
 
@@ -153,10 +166,11 @@ module _ (z : Terms) where
   unfolding AreEvents AreOver
   events-left xs ys y time [] le o h = tt
   events-left xs ys y time (e ∷ before) le o h =
-      let lt = o.0 in (
+      let lt = o.0 in
+      let at = over-time e before in (
         ap (λ (l : List Gone). next_of z (coming xs before) l)
             (unclosed-more xs ys (y ∷ []) before (closed-within xs ys before h.1))
-            ∙ with-frame (coming xs before) (unclosed ys before) y e (omega (arith, lt, le)) h.0,
+            ∙ with-frame (coming xs before) (unclosed ys before) y e (omega (arith, lt, at, le)) h.0,
         events-left xs ys y time before le o.1 h.1,
       )
 

@@ -40,6 +40,7 @@ pub mod LoopLemmas
 pub mod GrowthDecides
 pub mod GrowthCloses
 pub mod GrowthNext
+pub mod GrowthQuiet
 pub mod StandingLemmas
 pub mod StandingDecides
 pub mod StandingSteps
@@ -69,3 +70,4 @@ pub mod QuietLemmas
 pub mod CutLemmas
 pub mod OpenLemmas
 pub mod AloneLemmas
+pub mod CheckedLemmas

@@ -19,6 +19,11 @@ le-same a b c d e k = ap (λ (n : ℕ). nat_le n c) e ∙ ap (λ (n : ℕ). nat_
 lt-same : (a b c d : ℕ) → a ≡ b → c ≡ d → nat_lt a c ≡ nat_lt b d
 lt-same a b c d e k = ap (λ (n : ℕ). nat_lt n c) e ∙ ap (λ (n : ℕ). nat_lt b n) k
 
+-- how long so many bytes last, by their number
+pub on_wire : (l : Limits) (wire n m : ℕ) → n ≡ m → wire ≡ div_ceil (parts * ((n + 8) * l.byte_ns)) (parts + l.drift)
+    → wire ≡ div_ceil (parts * ((m + 8) * l.byte_ns)) (parts + l.drift)
+on_wire l wire n m e w = w ∙ ap (λ (k : ℕ). div_ceil (parts * ((k + 8) * l.byte_ns)) (parts + l.drift)) e
+
 module _ (z : Terms) (x : Arrival) (y : Gone) (l : Limits) (time wire : ℕ) (bytes : List ℕ) (a : AreLimits z l)
     (at : x.time ≡ time) (of : x.bytes ≡ bytes)
     (w : wire ≡ div_ceil (parts * ((length bytes + 8) * l.byte_ns)) (parts + l.drift)) where

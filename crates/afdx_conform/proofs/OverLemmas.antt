@@ -14,7 +14,7 @@ use Rattle.afdx_conform.specs.States.{Event, Came, Closing, arrivals_came}
 use Rattle.afdx_conform.specs.Streams.{Gone, Terms, fits, is_begun, is_begun_by, is_open, latency}
 use Rattle.afdx_conform.proofs.AheadLemmas.{too-late}
 use Rattle.afdx_conform.proofs.EveryLemmas.{every-on}
-use Rattle.afdx_conform.proofs.HistoryLemmas.{every-drop, next-came, next-closing}
+use Rattle.afdx_conform.proofs.HistoryLemmas.{every-drop, next-came, next-closing, over-time}
 
 module _ (z : Terms) where
   -- ---- far behind what is over
@@ -50,7 +50,8 @@ module _ (z : Terms) where
     are-far more time before until late begun o.1,
   )
   are-far more time (Closing t ∷ before) until late begun o = (
-    every-on (λ y. time ≤ y.time + both_slacks z.by) (λ y. t < y.time) (λ y le. (let lt = o.0 in omega (arith, lt, le))) more late,
+    every-on (λ y. time ≤ y.time + both_slacks z.by) (λ y. t < y.time)
+        (λ y le. (let lt = o.0 in let at = over-time z (Closing t) before in omega (arith, lt, at, le))) more late,
     are-far more time before until late begun o.1,
   )
 
@@ -71,14 +72,28 @@ module _ (z : Terms) where
   begun-not None y le = refl
   begun-not (Some start) y le = le-ltb y.time (start + latency z + both_slacks z.by) le
 
+  -- something is over, so that it is long after the start
+  from-over : (xs : List Arrival) (ys : List Gone) (time : ℕ) (e : Event) (before : List Event) → AreTold z xs ys
+      → AreEvents z xs ys (e ∷ before) → AreOver z time (e ∷ before) → moment_at z (from_time z.by.start) < time
+  unfolding AreEvents AreOver
+  from-over xs ys time (Came x) before told events o =
+      let from = from-start xs ys (Came x) before told events.0 in
+      let lt = o.0 in
+      omega (arith, from, lt)
+  from-over xs ys time (Closing t) [] told events o =
+      let from = from-start xs ys (Closing t) [] told events.0 in
+      let lt = o.0 in
+      omega (arith, from, lt)
+  from-over xs ys time (Closing t) (e ∷ before) told events o = from-over xs ys time e before told events.1 o.1
+
   pub not-begun : (xs : List Arrival) (ys more : List Gone) (time : ℕ) (e : Event) (before : List Event) → AreTold z xs ys
       → AreEvents z xs ys (e ∷ before) → AreOver z time (e ∷ before) → AreLate time more
       → AllByRecursion (λ y. is_begun z y ≡ false) more
-  unfolding AreEvents AreOver is_begun
+  unfolding is_begun
   not-begun xs ys more time e before told events o late =
-      let from = from-start xs ys e before told events.0 in
+      let lt = from-over xs ys time e before told events o in
       every-on (λ y. time ≤ y.time + both_slacks z.by) (λ y. is_begun_by z z.by.start y ≡ false)
-      (λ y le. begun-not z.by.start y (let lt = o.0 in omega (arith, lt, le, from))) more late
+      (λ y le. begun-not z.by.start y (omega (arith, lt, le))) more late
 
   -- an arrival isn't open where its moment lies before the end
   pub known-closed : (x : Arrival) (end : Option ℕ) → end ≡ None → IsKnownBy z end (Came x) → false ≡ is_open z x

@@ -7,8 +7,8 @@ use Rattle.afdx_police.specs.Arrival.{Arrival}
 use Rattle.afdx_conform.specs.Events.{GoUp, arrival_times, closes_before, closings_in, event_time, frame_times, moment_at}
 use Rattle.afdx_conform.specs.Explanations.{last_time}
 use Rattle.afdx_conform.specs.Findings.{Finding, Marked, judged_after, sound_events}
-use Rattle.afdx_conform.specs.Growing.{AreTold, Decides, IsAfter, IsNoSooner, due_by, due_in}
-use Rattle.afdx_conform.specs.Histories.{coming, judged_by, next_of, shown, time_of, unclosed}
+use Rattle.afdx_conform.specs.Growing.{AreTold, Decides, IsAfter, IsNoSooner, closed_too, due_by, due_in}
+use Rattle.afdx_conform.specs.Histories.{AreEvents, coming, judged_by, next_of, shown, time_of, unclosed}
 use Rattle.afdx_conform.specs.Judging.{AreFound}
 use Rattle.afdx_conform.specs.Leeway.{both_slacks}
 use Rattle.afdx_conform.specs.Standing.{Finds}
@@ -179,19 +179,30 @@ module _ (z : Terms) where
   later-of moment None h = tt
   later-of moment (Some n) h = h n refl
 
+  later-next : (xs : List Arrival) (ys : List Gone) (over : List Event) (e : Event) (closed : Option ℕ) (n : Event)
+      → AreTold z xs ys → AreEvents z xs ys (closed_too closed (e ∷ over))
+      → next_of z (coming xs (closed_too closed (e ∷ over))) (unclosed ys (closed_too closed (e ∷ over))) ≡ Some n
+      → event_time z e ≤ event_time z n
+  unfolding AreEvents
+  later-next xs ys over e None n told events there = in-order z xs ys over e n told events.0 there
+  later-next xs ys over e (Some t) n told events there =
+      let one = in-order z xs ys over e (Closing t) told events.1.0 events.0 in
+      let two = in-order z xs ys (e ∷ over) (Closing t) n told events.0 there in
+      omega (arith, one, two)
+
   module _ (xs : List Arrival) (ys : List Gone) (cut : ℕ) (over : List Event) (e : Event) (moment : ℕ) (new : Growth)
-      (found : List Finding) (told : AreTold z xs ys)
+      (closed : Option ℕ) (found : List Finding) (told : AreTold z xs ys)
       (next : next_of z (coming xs over) (unclosed ys over) ≡ Some e) (is : MomentOf e ≡ moment)
-      (sure : (judged_by z xs ys over).is_unsure ≡ false) (d : Decides z xs ys cut over new e found) where
+      (sure : (judged_by z xs ys over).is_unsure ≡ false) (d : Decides z xs ys cut over new e closed found) where
     later-due : IsNoSooner moment (due_by new)
     later-due = by new.judging.is_unsure refl
       where
         by : (b : Bool) → new.judging.is_unsure ≡ b → IsNoSooner moment (due_by new)
         by true u = subst (λ (o : Option ℕ). IsNoSooner moment o) (sym (due-unsure new u)) tt
         by false u =
-            subst (λ (o : Option ℕ). IsNoSooner moment o) (sym (due-is xs ys cut (e ∷ over) new d.0 u))
-            (later-of moment (next_of z (coming xs (e ∷ over)) (unclosed ys (e ∷ over)))
-            (λ n h. (let le = in-order z xs ys over e n told next h in omega (arith, le, is))))
+            subst (λ (o : Option ℕ). IsNoSooner moment o) (sym (due-is xs ys cut (closed_too closed (e ∷ over)) new d.0 u))
+            (later-of moment (next_of z (coming xs (closed_too closed (e ∷ over))) (unclosed ys (closed_too closed (e ∷ over))))
+            (λ n h. (let le = later-next xs ys over e closed n told d.0.events h in omega (arith, le, is))))
 
     time-is : event_time z e ≡ time_of z moment
     time-is = omega (arith, is)

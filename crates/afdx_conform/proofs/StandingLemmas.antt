@@ -6,7 +6,7 @@ use Rattle.afdx_conform.specs.Ahead.{NoneIsOpen, until_then}
 use Rattle.afdx_conform.specs.Events.{event_time}
 use Rattle.afdx_conform.specs.Findings.{Judged}
 use Rattle.afdx_conform.specs.Growing.{IsAfter, IsSame, MayCome, MayLeave}
-use Rattle.afdx_conform.specs.Histories.{AreOver, coming, judged_by, next_of, shown, uncut}
+use Rattle.afdx_conform.specs.Histories.{AreOver, coming, judged_by, next_of, over_at, shown, uncut}
 use Rattle.afdx_conform.specs.Marks.{IsJudged, arrival_of}
 use Rattle.afdx_conform.specs.Standing.{IsEnding, StandsFor}
 use Rattle.afdx_conform.specs.States.{Event, Came, Closing}
@@ -26,6 +26,11 @@ module _ (z : Terms) (until : ℕ) where
   time-until (Came x) = refl
   time-until (Closing time) = refl
 
+  pub at-until : (e : Event) (before : List Event) → over_at (until_then until z) e before ≡ over_at z e before
+  at-until (Came x) before = refl
+  at-until (Closing time) [] = refl
+  at-until (Closing time) (e ∷ before) = refl
+
   pub next-until : (cs : List Arrival) (us : List Gone) → next_of (until_then until z) cs us ≡ next_of z cs us
   next-until [] [] = refl
   next-until [] (u ∷ us) = refl
@@ -36,7 +41,7 @@ module _ (z : Terms) (until : ℕ) where
   unfolding AreOver
   over-until time [] o = tt
   over-until time (e ∷ before) o =
-      (let lt = o.0 in let same = time-until e in omega (arith, lt, same), over-until time before o.1)
+      (let lt = o.0 in let same = at-until e before in omega (arith, lt, same), over-until time before o.1)
 
   pub none-open : (time : ℕ) (over : List Event) → time ≤ until → AreOver z time over → NoneIsOpen (until_then until z) over
   unfolding AreOver NoneIsOpen

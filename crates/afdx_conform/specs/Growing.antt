@@ -18,7 +18,7 @@ use Rattle.afdx_conform.specs.LeewayOf.{leeway_of}
 use Rattle.afdx_conform.specs.Limits.{gone_of}
 use Rattle.afdx_conform.specs.Marks.{IsJudged, arrival_of}
 use Rattle.afdx_conform.specs.Ranges.{most_held}
-use Rattle.afdx_conform.specs.States.{Event, arrivals_came}
+use Rattle.afdx_conform.specs.States.{Event, Closing, arrivals_came}
 use Rattle.afdx_conform.specs.Streams.{Gone, Terms}
 use Rattle.afdx_conform.specs.declared.arrived.Arrived.{Arrived}
 use Rattle.afdx_conform.specs.declared.growth.Growth.{Growth}
@@ -162,12 +162,29 @@ abbrev pub IsKnownBy : Terms → Option ℕ → Event → Type 0
 IsKnownBy z None e = moment_at z (event_time z e) ≤ z.until
 IsKnownBy z (Some until) e = z.until ≡ until
 
--- the next event of a stream is over: these are found there
+-- behind these events the closing of a frame of this time, if there is one
+abbrev pub closed_too : Option ℕ → List Event → List Event
+closed_too None over = over
+closed_too (Some time) over = Closing time ∷ over
+
+-- which isn't later than this moment
+abbrev pub IsEarly : Terms → (moment : ℕ) → Option ℕ → Type 0
+IsEarly z moment None = Unit {0}
+IsEarly z moment (Some time) = event_time z (Closing time) ≤ moment
+
+-- and at which nothing is found
+pub record IsQuiet (z : Terms) (xs : List Arrival) (ys : List Gone) (over : List Event) (moment : ℕ)
+    (closed : Option ℕ) : Type 0 where
+  pub early : IsEarly z moment closed
+  pub same : judged_by z xs ys (closed_too closed over) ≡ judged_by z xs ys over
+
+-- the next event of a stream is over: these are found there; and behind it this closing
 abbrev pub Decides : Terms → List Arrival → List Gone → ℕ → List Event → Growth → Event
-    → List Finding → Type 0
-Decides z xs ys cut over s e found = IsAfter z xs ys cut (e ∷ over) s
+    → Option ℕ → List Finding → Type 0
+Decides z xs ys cut over s e closed found = IsAfter z xs ys cut (closed_too closed (e ∷ over)) s
     × judging.AreFound (event_time z e) found (judged_by z xs ys over)
     (judged_by z xs ys (e ∷ over))
+    × IsQuiet z xs ys (e ∷ over) (moment_at z (event_time z e)) closed
 
 -- ---- what may come
 

@@ -31,10 +31,16 @@ AreEvents z xs ys [] = ⊤
 AreEvents z xs ys (e ∷ before) =
     (next_of z (coming xs before) (unclosed ys before) ≡ Some e) × AreEvents z xs ys before
 
--- the moment of each lies before this one
+-- when an event may be over: at its moment; the closing of a frame at its time, behind other events
+abbrev pub over_at : Terms → Event → (before : List Event) → ℕ
+over_at z (Came x) before = moment_at z x.time
+over_at z (Closing time) [] = moment_at z (event_time z (Closing time))
+over_at z (Closing time) (e ∷ before) = event_time z (Closing time)
+
+-- each may be over before this time
 unfoldable pub AreOver : Terms → ℕ → List Event → Type 0
 AreOver z time [] = ⊤
-AreOver z time (e ∷ before) = (moment_at z (event_time z e) < time) × AreOver z time before
+AreOver z time (e ∷ before) = (over_at z e before < time) × AreOver z time before
 
 -- how far a stream is judged after these events
 abbrev pub judged_by : Terms → List Arrival → List Gone → List Event → Judged

@@ -7,7 +7,7 @@ use Rattle.afdx_conform.specs.declared.limits.Limits.{Limits}
 
 -- the frame as one that left
 abbrev pub gone_of : Frame → Gone
-gone_of frame = record { number = frame.number; time = frame.time; bytes = frame.bytes.items }
+gone_of frame = record { number = frame.number; time = frame.time; bytes = frame.bytes }
 
 -- these are a stream's limits
 pub record AreLimits (z : Terms) (limits : Limits) : Type 0 where

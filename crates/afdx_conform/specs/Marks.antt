@@ -11,7 +11,7 @@ use Rattle.afdx_conform.specs.declared.finding.Mark.{Mark}
 
 -- as an arrival at a switch
 abbrev pub arrival_of : Arrived → Arrival
-arrival_of a = arrival_with a.number a.time a.side a.port a.bytes.items
+arrival_of a = arrival_with a.number a.time a.side a.port a.bytes
 
 -- it is charged so, by the rule of a stream
 pub record IsCharged (z : Terms) (a : Arrived) : Type 0 where
@@ -19,7 +19,7 @@ pub record IsCharged (z : Terms) (a : Arrived) : Type 0 where
 
 -- what it says of its shape is so, and of its charge if its shape is right
 pub record IsJudged (z : Terms) (a : Arrived) : Type 0 where
-  pub fault : a.fault ≡ fault_of (Some z.rule) a.port a.bytes.items
+  pub fault : a.fault ≡ fault_of (Some z.rule) a.port a.bytes
   pub charged : a.fault ≡ None → IsCharged z a
 
 -- an arrival with its mark

@@ -23,9 +23,9 @@ undecided_in s = undecided_by s.growth
 abbrev pub held_in : Stream → ℕ
 held_in s = length s.growth.arrivals.items + length s.growth.frames.items
 
--- before the end is known: these arrivals and frames were told, oldest first, the moment of each
--- event that is over lies before `time`, and so far this is judged, whatever the end will be from
--- that time on
+-- before the end is known: these arrivals and frames were told, oldest first, each event that is
+-- over may be so before `time`, and so far this is judged, whatever the end will be from that time
+-- on
 pub record StandsFor (z : Terms) (xs : List Arrival) (ys : List Gone) (j : Judged) (time : ℕ)
     (s : Stream) : Type 0 where
   pub over : List Event

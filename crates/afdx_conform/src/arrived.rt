@@ -7,8 +7,9 @@ ghost use Rattle.afdx_frame.specs.Regulation.{wire_of};
 ghost use Rattle.afdx_frame.specs.Times.{latest_listed};
 ghost use Rattle.afdx_police.specs.Charge.{charge_by};
 
+use crate::checked_bytes::CheckedBytes;
 use afdx_frame::{Policing, Side, WIRE_EXTRA};
-use afdx_police::{LinkRule, Reason, judge};
+use afdx_police::{LinkRule, Reason, judge_checked};
 
 /// An arrival at a switch: its number, its time in ns, its network and input port, its bytes; what
 /// is wrong with its shape by its link's rule, and what it is charged, in bytes.
@@ -18,11 +19,11 @@ pub struct Arrived {
     pub time: u64,
     pub side: Side,
     pub port: u8,
-    pub bytes: Vec<u8>,
+    pub bytes: CheckedBytes,
     pub fault: Option<Reason>,
     pub charge: u64,
     pub ghost listed: { time ≤ latest_listed },
-    pub ghost short: { length bytes.items ≤ most_bytes },
+    pub ghost short: { length bytes ≤ most_bytes },
     pub ghost some: { 0 < charge },
     pub ghost charged: { charge ≤ most_charge },
 }
@@ -54,15 +55,15 @@ impl Arrived {
         time: u64,
         side: Side,
         port: u8,
-        bytes: Vec<u8>,
+        bytes: CheckedBytes,
     ) -> Arrived
         requires time { time ≤ latest_listed }
-        requires short { length bytes.items ≤ most_bytes }
+        requires short { length bytes ≤ most_bytes }
         ensures judged { (z : Terms) → z.rule ≡ rule_of rule.now → IsJudged z result }
-        ensures given { arrival_of result ≡ arrival_with number time side port bytes.items }
+        ensures given { arrival_of result ≡ arrival_with number time side port bytes }
     {
-        let fault = judge(Some(rule), port, bytes.as_slice());
-        let length = (bytes.len() as u64).min(rule.lmax);
+        let fault = judge_checked(Some(rule), port, bytes.frame());
+        let length = bytes.length().min(rule.lmax);
         let charge = charge_of(rule, length);
         Arrived {
             number,

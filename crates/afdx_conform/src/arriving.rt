@@ -147,6 +147,8 @@ fn go_on_alone(judging: &mut Judging, state: Held, tested: Tested) -> Result<(),
 }
 
 /// The arrival led to no state: what is found, in its order.
+#[cold]
+#[inline(never)]
 fn go_wrong(
     judging: &mut Judging,
     alloc: Global,

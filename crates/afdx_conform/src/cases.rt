@@ -9,6 +9,7 @@ ghost use Rattle.afdx_frame.specs.Times.{latest_listed};
 ghost use Rattle.afdx_conform.specs.LimitRanges.{most_bytes};
 ghost use Rattle.afdx_conform.specs.Streams.{Terms, is_open as is_open_by};
 
+use crate::checked_bytes::CheckedBytes;
 use crate::limits::{Frame, Limits};
 use crate::states::{Case, Held};
 use std::alloc::{AllocError, Global};
@@ -22,7 +23,7 @@ pub fn cases_of(
     held: &[Held],
     frames: &[Frame],
     time: u64,
-    bytes: &[u8],
+    bytes: &CheckedBytes,
     is_open: bool,
 ) -> Result<Vec<Case>, AllocError>
     requires time { time ≤ latest_listed }

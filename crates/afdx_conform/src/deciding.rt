@@ -1,27 +1,31 @@
 //! The next event of a stream is judged.
 
 ghost use Rattle.std.specs.Prelude.{◌≡◌, ◌≤◌, ◌<◌, ◌+◌, ℕ, List, min, length, get_or, true, false};
-ghost use Rattle.std.specs.Prelude.{IfOk, OnOk, OnErr, Some, None, is_none, if◌then◌else◌};
+ghost use Rattle.std.specs.Prelude.{IfOk, OnOk, OnErr, Option, Some, None, is_none, if◌then◌else◌};
+ghost use Rattle.std.specs.Prelude.{IsTrue, ◌↔◌};
 ghost use Rattle.afdx_police.specs.Arrival.{Arrival};
 ghost use Rattle.afdx_conform.specs.Findings.{frames_in, frames_of};
 ghost use Rattle.afdx_conform.specs.Histories.{coming, next_of, unclosed};
 ghost use Rattle.afdx_conform.specs.Limits.{AreLimits};
 ghost use Rattle.afdx_conform.specs.Marks.{arrival_of};
-ghost use Rattle.afdx_conform.specs.Growing.{Decides, IsAfter, IsKnownBy, IsReady, IsSame};
-ghost use Rattle.afdx_conform.specs.Growing.{IsSound, due_by, most_found, undecided_by};
+ghost use Rattle.afdx_conform.specs.Growing.{Decides, IsAfter, IsKnownBy, IsQuiet, IsReady, IsSame};
+ghost use Rattle.afdx_conform.specs.Growing.{IsSound, closed_too, due_by, most_found, undecided_by};
 ghost use Rattle.afdx_conform.specs.States.{Event, Came, Closing};
 ghost use Rattle.afdx_conform.specs.Streams.{Gone, Terms, is_open};
+ghost use Rattle.afdx_conform.specs.declared.upcoming.Upcoming.TheVariants.{Closing as closing};
+ghost use Rattle.afdx_frame.specs.Times.{latest_listed};
 
 use crate::arrived::Arrived;
 use crate::arriving::judge_arrival;
 use crate::closing::closed_by;
 use crate::finding::Finding;
 use crate::first::first_held;
+use crate::forgetting::passed_by_all;
 use crate::growth::Growth;
 use crate::judging::judge_closing;
 use crate::leading::Moment;
 use crate::limits::{Frame, Limits};
-use crate::upcoming::Upcoming;
+use crate::upcoming::{Upcoming, moment_of};
 use std::alloc::{AllocError, Global};
 
 /// How many frames are in the finding.
@@ -65,6 +69,21 @@ fn number_if(is_asked: bool, number: u64) -> Option<u64>
     if is_asked { Some(number) } else { None }
 }
 
+/// Whether the next event is a closing.
+fn is_closing(upcoming: Option<Upcoming>) -> bool
+    ensures { IsTrue result ↔ (upcoming ≡ Some closing) }
+{
+    upcoming == Some(Upcoming::Closing)
+}
+
+/// Whether the closing of a frame that left at this time is later than the moment.
+fn is_later(limits: &Limits, time: u64, moment: u64) -> bool
+    requires { time ≤ latest_listed }
+    ensures { IsTrue result ↔ (moment < time + limits.now.slacks) }
+{
+    moment < time + limits.slacks
+}
+
 /// When the last arrival of the right shape came, once this one did.
 fn last_after(arrived: &Arrived, last: u64) -> u64
     ensures { result ≡ (if is_none arrived.now.fault then arrived.now.time else last) }
@@ -106,18 +125,51 @@ impl Growth {
         self.found = self.found.saturating_add(count_all(found));
     }
 
-    /// The event of an arrival. Fails only out of memory; then nothing has changed.
+    /// The closing of a frame too, where that is the next event, no later than this moment, and
+    /// each state explains the frame: nothing is found there.
+    fn close_explained(&mut self, moment: u64)
+        requires sound { IsSound self.old }
+        requires started { self.old.is_started ≡ true }
+        ensures sound { IsSound self.new }
+        ensures after { (closed : Option ℕ) × ((z : Terms) (xs : List Arrival) (ys : List Gone)
+            (cut : ℕ) (over : List Event) → IsAfter z xs ys cut over self.old →
+            IsAfter z xs ys cut (closed_too closed over) self.new
+            × IsQuiet z xs ys over moment closed) }
+        ensures less { undecided_by self.new ≤ undecided_by self.old }
+    {
+        if self.judging.is_unsure {
+            return;
+        }
+        if !is_closing(self.upcoming()) {
+            return;
+        }
+        let time = self.frames[self.closed].time;
+        if is_later(&self.bounds.limits, time, moment) {
+            return;
+        }
+        let closed = self.closed + 1;
+        let to = closed_by(self.frames.as_slice(), closed, self.closing, time);
+        let passed = passed_by_all(self.judging.held.as_slice(), to);
+        if passed < to {
+            return;
+        }
+        self.closed = closed;
+        self.closing = to;
+    }
+
+    /// The event of an arrival, and the closing of a frame behind it at which nothing is found.
+    /// Fails only out of memory; then nothing has changed.
     fn come(&mut self, alloc: Global, end: Option<u64>) -> Result<Vec<Finding>, AllocError>
         requires sound { IsSound self.old }
         requires place { length self.old.judging.marks.items < length self.old.arrivals.items }
         ensures sound { IsSound self.new }
-        ensures decides { (z : Terms) (xs : List Arrival) (ys : List Gone) (cut : ℕ)
-            (over : List Event) (a : Arrived) → self.old.judging.is_unsure ≡ false →
+        ensures decides { IfOk result (λ found. (closed : Option ℕ) × ((z : Terms)
+            (xs : List Arrival) (ys : List Gone) (cut : ℕ) (over : List Event) (a : Arrived) →
+            self.old.judging.is_unsure ≡ false →
             a ≡ get_or self.old.arrivals.items (length self.old.judging.marks.items) a →
             next_of z (coming xs over) (unclosed ys over) ≡ Some (Came (arrival_of a)) →
             IsKnownBy z end (Came (arrival_of a)) → IsReady z xs ys cut over self.old →
-            IfOk result (λ found.
-            Decides z xs ys cut over self.new (Came (arrival_of a)) found.items) }
+            Decides z xs ys cut over self.new (Came (arrival_of a)) closed found.items)) }
         ensures less { self.old.judging.is_unsure ≡ false →
             OnOk result (undecided_by self.new < undecided_by self.old) }
         ensures refused { OnErr result (IsSame self.old self.new) }
@@ -127,6 +179,7 @@ impl Growth {
         let is_open = is_open_by(&self.bounds.limits, arrived, end);
         let ns = arrived.time.saturating_sub(self.last);
         let moment = Moment { ns, is_open };
+        let told = moment_of(&self.bounds.limits, arrived.time);
         let last = last_after(arrived, self.last);
         let found = judge_arrival(
             &mut self.judging,
@@ -140,6 +193,7 @@ impl Growth {
         self.unsure = number_if(self.judging.is_unsure, number);
         self.last = last;
         self.count(found.as_slice());
+        self.close_explained(told);
         self.forget();
         Ok(found)
     }
@@ -149,13 +203,12 @@ impl Growth {
         requires sound { IsSound self.old }
         requires place { self.old.closed < length self.old.frames.items }
         ensures sound { IsSound self.new }
-        ensures decides { (z : Terms) (xs : List Arrival) (ys : List Gone) (cut : ℕ)
-            (over : List Event) (f : Frame) → self.old.judging.is_unsure ≡ false →
+        ensures decides { IfOk result (λ found. (z : Terms) (xs : List Arrival) (ys : List Gone)
+            (cut : ℕ) (over : List Event) (f : Frame) → self.old.judging.is_unsure ≡ false →
             f ≡ get_or self.old.frames.items self.old.closed f →
             next_of z (coming xs over) (unclosed ys over) ≡ Some (Closing f.time) →
             IsReady z xs ys cut over self.old →
-            IfOk result (λ found.
-            Decides z xs ys cut over self.new (Closing f.time) found.items) }
+            Decides z xs ys cut over self.new (Closing f.time) None found.items) }
         ensures less { self.old.judging.is_unsure ≡ false →
             OnOk result (undecided_by self.new < undecided_by self.old) }
         ensures refused { OnErr result (IsSame self.old self.new) }
@@ -178,9 +231,10 @@ impl Growth {
         Ok(found)
     }
 
-    /// The next event, if there is one: what is found there, in its order. `end` is the time at
-    /// which the recordings end, once it is known; before, the next arrival can't be open. Fails
-    /// only out of memory; then nothing has changed.
+    /// The next event, if there is one: what is found there, in its order; and the closing of a
+    /// frame behind it, if nothing is found there. `end` is the time at which the recordings end,
+    /// once it is known; before, the next arrival can't be open. Fails only out of memory; then
+    /// nothing has changed.
     pub(crate) fn decide(
         &mut self,
         alloc: Global,
@@ -188,11 +242,12 @@ impl Growth {
     ) -> Result<Vec<Finding>, AllocError>
         requires sound { IsSound self.old }
         ensures sound { IsSound self.new }
-        ensures decides { (z : Terms) (xs : List Arrival) (ys : List Gone) (cut : ℕ)
-            (over : List Event) (e : Event) → self.old.judging.is_unsure ≡ false →
+        ensures decides { IfOk result (λ found. (closed : Option ℕ) × ((z : Terms)
+            (xs : List Arrival) (ys : List Gone) (cut : ℕ) (over : List Event) (e : Event) →
+            self.old.judging.is_unsure ≡ false →
             next_of z (coming xs over) (unclosed ys over) ≡ Some e → IsKnownBy z end e →
             IsAfter z xs ys cut over self.old →
-            IfOk result (λ found. Decides z xs ys cut over self.new e found.items) }
+            Decides z xs ys cut over self.new e closed found.items)) }
         ensures less { (moment : ℕ) → due_by self.old ≡ Some moment →
             OnOk result (undecided_by self.new < undecided_by self.old) }
         ensures refused { OnErr result (IsSame self.old self.new) }

@@ -35,15 +35,15 @@ fn is_no_sooner(limits: &Limits, arrived: &Arrived, frame: &Frame) -> bool
     ensures { (z : Terms) → AreLimits z limits.now →
         result ≡ no_sooner z (arrival_of arrived.now) (gone_of frame.now) }
 {
-    let wire = limits.wire_time(arrived.bytes.len() as u64);
+    let wire = limits.wire_time(arrived.bytes.length());
     arrived.time + wire <= frame.time + limits.slacks
 }
 
 /// Whether the frame has the bytes of the arrival.
 fn is_same(arrived: &Arrived, frame: &Frame) -> bool
-    ensures { result ≡ bytes_eq arrived.now.bytes.items frame.now.bytes.items }
+    ensures { result ≡ bytes_eq arrived.now.bytes frame.now.bytes }
 {
-    arrived.bytes.as_slice() == frame.bytes.as_slice()
+    arrived.bytes.is_same(&frame.bytes)
 }
 
 /// Whether the frame is the arrival's, and left too early.
@@ -66,7 +66,7 @@ fn fits_one(limits: &Limits, arrivals: &[Arrived], frame: &Frame) -> bool
         ≡ list_any (λ w. fits_it z w (gone_of frame.now)) (map arrival_of arrivals.now) }
 {
     for arrived in arrivals {
-        if limits.fits(arrived.time, arrived.bytes.as_slice(), frame) {
+        if limits.fits(arrived.time, &arrived.bytes, frame) {
             return true;
         }
     }
@@ -76,9 +76,9 @@ fn fits_one(limits: &Limits, arrivals: &[Arrived], frame: &Frame) -> bool
 /// By how many ns the frame, which is the arrival's, left too early.
 fn early_by(limits: &Limits, arrived: &Arrived, frame: &Frame) -> u64
     ensures { (z : Terms) → AreLimits z limits.now → result
-        ≡ arrived.now.time + wire_time z arrived.now.bytes.items - frame.now.time }
+        ≡ arrived.now.time + wire_time z arrived.now.bytes - frame.now.time }
 {
-    let wire = limits.wire_time(arrived.bytes.len() as u64);
+    let wire = limits.wire_time(arrived.bytes.length());
     (arrived.time + wire).saturating_sub(frame.time)
 }
 

@@ -49,6 +49,8 @@ fn is_begun(limits: &Limits, by: &Leeway, frame: &Frame) -> bool
 
 /// The states before the first event: one for each number of frames that may be of arrivals before
 /// the start. Fails only out of memory.
+#[cold]
+#[inline(never)]
 pub(crate) fn first_held(
     alloc: Global,
     bounds: &Bounds,

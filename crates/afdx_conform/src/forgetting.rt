@@ -19,13 +19,17 @@ fn forget_first<T: Drop>(items: &mut Vec<T>, count: usize)
     requires { count ≤ length items.old.items }
     ensures { items.new.items ≡ drop count items.old.items }
 {
+    if count == items.len() {
+        items.truncate(0);
+        return;
+    }
     let left = items.len() - count;
     items.as_mut_slice().rotate_left(count);
     items.truncate(left);
 }
 
 /// How many frames, of `most` at most, are explained in each state.
-fn passed_by_all(held: &[Held], most: usize) -> usize
+pub(crate) fn passed_by_all(held: &[Held], most: usize) -> usize
     ensures most { result ≤ most }
     ensures all { All (λ h. result ≤ h.passed) held.now }
 {

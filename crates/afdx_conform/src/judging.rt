@@ -38,6 +38,8 @@ fn is_one_passed(held: &[Held], passed: usize) -> bool
 }
 
 /// What is found where no state passed the first `closed` frames: those that no arrival explains.
+#[cold]
+#[inline(never)]
 fn skip(
     judging: &mut Judging,
     alloc: Global,

@@ -66,7 +66,7 @@ fn led_one(
         IsWithin bounds.now.rates (length frames.now) count state →
         IfSome result (λ h. IsWithin bounds.now.rates (length frames.now) (count + 1) h) }
 {
-    let bytes = arrived.bytes.as_slice();
+    let bytes = &arrived.bytes;
     let next = bounds
         .limits
         .next(arrived.time, bytes, frames, state.passed, moment.is_open);
@@ -127,7 +127,7 @@ pub(crate) fn led_from(
         IfOk result (λ out.
         All (λ h. IsWithin bounds.now.rates (length frames.now) (count + 1) h) out.items) }
 {
-    let bytes = arrived.bytes.as_slice();
+    let bytes = &arrived.bytes;
     let limits = &bounds.limits;
     let cases = cases_of(
         alloc,

@@ -10,6 +10,7 @@ ghost use Rattle.afdx_frame.specs.Regulation.{greatest_delay, slowest_byte};
 ghost use Rattle.afdx_frame.specs.Times.{latest_listed};
 ghost use Rattle.afdx_conform.specs.Streams.{Terms, fits as fits_it, is_open as is_open_by};
 
+use crate::checked_bytes::CheckedBytes;
 use crate::leeway::{Leeway, PARTS};
 use crate::states::NextFrame;
 
@@ -18,7 +19,7 @@ use crate::states::NextFrame;
 pub struct Frame {
     pub number: u64,
     pub time: u64,
-    pub bytes: Vec<u8>,
+    pub bytes: CheckedBytes,
     pub ghost listed: { time ≤ latest_listed },
 }
 
@@ -66,15 +67,15 @@ impl Limits {
     }
 
     /// Whether the frame may be what the switch made of an arrival of these bytes at this time.
-    pub fn fits(&self, time: u64, bytes: &[u8], frame: &Frame) -> bool
+    pub fn fits(&self, time: u64, bytes: &CheckedBytes, frame: &Frame) -> bool
         requires time { time ≤ latest_listed }
         requires bytes { length bytes.now ≤ most_bytes }
         ensures { (z : Terms) (x : Arrival) → AreLimits z self.now →
             x.time ≡ time → x.bytes ≡ bytes.now →
             result ≡ fits_it z x (gone_of frame.now) }
     {
-        let wire = self.wire_time(bytes.len() as u64);
-        if bytes != frame.bytes.as_slice() {
+        let wire = self.wire_time(bytes.length());
+        if !bytes.is_same(&frame.bytes) {
             return false;
         }
         if frame.time + self.slacks < time + wire {
@@ -87,7 +88,7 @@ impl Limits {
     pub fn next(
         &self,
         time: u64,
-        bytes: &[u8],
+        bytes: &CheckedBytes,
         frames: &[Frame],
         passed: usize,
         is_open: bool,

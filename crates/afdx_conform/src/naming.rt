@@ -12,9 +12,10 @@ ghost use Rattle.afdx_conform.specs.Limits.{AreLimits, gone_of};
 ghost use Rattle.afdx_conform.specs.Streams.{Terms};
 
 use crate::arrived::Arrived;
+use crate::checked_bytes::CheckedBytes;
 use crate::finding::{Finding, Mark, Strangeness};
 use crate::limits::{Frame, Limits};
-use afdx_frame::{GREATEST_FRAME, LEAST_FRAME, is_sealed};
+use afdx_frame::{GREATEST_FRAME, LEAST_FRAME};
 use afdx_police::Reason;
 use std::alloc::{AllocError, Global};
 
@@ -23,7 +24,7 @@ fn names_it(limits: &Limits, arrived: &Arrived, mark: Mark, frame: &Frame) -> Op
     ensures { (z : Terms) → AreLimits z limits.now →
         result ≡ may_name z (gone_of frame.now) (marked_of arrived.now mark) }
 {
-    let fits = limits.fits(arrived.time, arrived.bytes.as_slice(), frame);
+    let fits = limits.fits(arrived.time, &arrived.bytes, frame);
     if fits && !mark.is_named {
         mark.reason
     } else {
@@ -58,7 +59,7 @@ fn fits_without_mark(limits: &Limits, arrived: &Arrived, mark: Mark, frame: &Fra
     ensures { (z : Terms) → AreLimits z limits.now →
         result ≡ is_of_right z (gone_of frame.now) (marked_of arrived.now mark) }
 {
-    limits.fits(arrived.time, arrived.bytes.as_slice(), frame) && mark.reason.is_none()
+    limits.fits(arrived.time, &arrived.bytes, frame) && mark.reason.is_none()
 }
 
 /// Whether the frame fits an arrival that isn't refused.
@@ -76,16 +77,16 @@ fn fits_unmarked(limits: &Limits, arrivals: &[Arrived], marks: &[Mark], frame: &
 }
 
 /// The first that is true of the bytes: too short, too long, a wrong check sequence.
-fn damage(bytes: &[u8]) -> Option<Reason>
+fn damage(bytes: &CheckedBytes) -> Option<Reason>
     ensures { result ≡ damage_of bytes.now }
 {
-    if bytes.len() < LEAST_FRAME {
+    if bytes.length() < LEAST_FRAME as u64 {
         return Some(Reason::TooShort);
     }
-    if bytes.len() > GREATEST_FRAME {
+    if bytes.length() > GREATEST_FRAME as u64 {
         return Some(Reason::TooLong);
     }
-    if !is_sealed(bytes) {
+    if !bytes.is_sealed() {
         return Some(Reason::BadFcs);
     }
     None
@@ -97,7 +98,7 @@ fn strangeness(limits: &Limits, arrivals: &[Arrived], marks: &[Mark], frame: &Fr
     ensures { (z : Terms) → AreLimits z limits.now →
         result ≡ strangeness_of z (marked_all arrivals.now marks.now) (gone_of frame.now) }
 {
-    match damage(frame.bytes.as_slice()) {
+    match damage(&frame.bytes) {
         Some(reason) => Strangeness::Damaged(reason),
         None => {
             if fits_unmarked(limits, arrivals, marks, frame) {

@@ -18,7 +18,8 @@ use std::alloc::{AllocError, Global};
 ///
 /// What is found at an event has a moment: the event's time, two latencies and four slacks later.
 /// An event may be decided once all lines of times before its moment, and of none behind it, have
-/// come: what comes later, and when the recordings end, then changes nothing of it.
+/// come: what comes later, and when the recordings end, then changes nothing of it. With the event
+/// of an arrival the closing of a frame behind it may be over too, where nothing is found there.
 #[derive(Drop)]
 pub struct Stream {
     growth: Growth,

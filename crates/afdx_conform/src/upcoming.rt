@@ -23,7 +23,7 @@ fn closes_before(limits: &Limits, frame: &Frame, arrived: &Arrived) -> bool
 }
 
 /// The moment of what is found at an event of this time.
-fn moment_of(limits: &Limits, time: u64) -> u64
+pub(crate) fn moment_of(limits: &Limits, time: u64) -> u64
     requires { time ≤ 0x1000000000000000 }
     ensures { result ≡ due_at limits.now time }
 {

@@ -113,12 +113,13 @@ impl EndSystem {
             side,
             time,
             frame,
+            row,
             ..
         } = handover;
-        match self.receiver.receive(time, side, frame) {
+        match self.receiver.receive(time, side, frame, row) {
             Reception::Dropped(why) => Ok(Reception::Dropped(why)),
             Reception::Message { vl, udp, bytes } => {
-                let Some(place) = self.ports.find(vl, udp) else {
+                let Some(place) = self.ports.find_near(row, vl, udp) else {
                     return Ok(Reception::Dropped(DropReason::NoPort));
                 };
                 pass_on(&mut self.ports, place, time, bytes)?;

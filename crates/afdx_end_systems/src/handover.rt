@@ -13,6 +13,9 @@ pub struct Handover<'a> {
     pub time: u64,
     /// The line of the list that it came from.
     pub line: u64,
+    /// Where the tables have the frame's link: the system looks for its memory there first. What it
+    /// makes of the frame is the same whatever this says.
+    pub row: u16,
     /// The frame.
     pub frame: Checked<'a>,
 }

@@ -47,6 +47,17 @@ pub all_digits_push : (bytes : List ℕ) (byte : ℕ) → all_digits bytes ≡ t
 all_digits_push [] byte all one = rw one refl
 all_digits_push (first ∷ bytes) byte all one = grind (arith, common_steps, all_digits_push bytes byte)
 
+pub digit_at : (bytes : List ℕ) (i : ℕ) → i < length bytes → all_digits bytes ≡ true
+    → is_ascii_digit (get_or bytes i 0) ≡ true
+digit_at [] i h all = absurd (omega arith)
+digit_at (byte ∷ bytes) zero h all = grind (arith, common_steps, all)
+digit_at (byte ∷ bytes) (suc i) h all =
+    let rest : all_digits bytes ≡ true = grind (arith, common_steps, all) in
+    digit_at bytes i (omega arith) rest
+
+pub from_48 : (byte : ℕ) → is_ascii_digit byte ≡ true → 48 ≤ byte
+from_48 byte digit = grind (arith, digit)
+
 pub rest_is_none : {X : Type 0} (o : Option X) → ((x : X) → o ≡ Some x → ⊥) → o ≡ None
 rest_is_none None h = refl
 rest_is_none (Some x) h = absurd (h x refl)

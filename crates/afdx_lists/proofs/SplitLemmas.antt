@@ -1,12 +1,13 @@
 -- The first field of a text.
 use Rattle.std.proofs.Common.{◌≡◌, ℕ, ◌+◌, ◌-◌, ◌<◌, List, [], ◌∷◌, ◌++◌, length, get_or, take}
 use Rattle.std.proofs.Common.{drop, Bool, true, false, refl, ap, ◌∙◌, arith, eqb, Some, None}
-use Rattle.std.proofs.Common.{drop-cons}
+use Rattle.std.proofs.Common.{drop-cons, ◌⊎◌, ◌≤◌, inl, inr, subst}
 use Rattle.std.specs.List.{slice_split, All}
-use Rattle.std.proofs.lemmas.List.{take-append-drop, get_or-take}
+use Rattle.std.proofs.lemmas.Bool.{cases_lt}
+use Rattle.std.proofs.lemmas.List.{take-append-drop, get_or-take, get_or-drop, length-take-le, length-drop}
 use Rattle.std.proofs.lemmas.List.Splits.{slice_split_at, slice_split_none}
 use Rattle.std.proofs.lemmas.Grind.{common_steps}
-use Rattle.memchr.specs.Find.{IsFirstByte, is_byte}
+use Rattle.memchr.specs.Find.{IsFirstByte, Nowhere, Passes, is_byte}
 
 not_true : (b : Bool) → (b ≡ true → ⊥) → b ≡ false
 not_true true h = absurd (h refl)
@@ -50,3 +51,51 @@ split_at_byte b text at h =
 pub split_at_none : (b : ℕ) (text : List ℕ) → IsFirstByte (is_byte b) text None
     → slice_split (λ byte. eqb byte b) text ≡ text ∷ []
 split_at_none b text h = slice_split_none (λ byte. eqb byte b) text (no_such_byte b text h)
+
+front_passes : (b n : ℕ) (text : List ℕ) (k : ℕ) → k < n → eqb (get_or text k 0) b ≡ true
+    → eqb (get_or (take n text) k 0) b ≡ true
+front_passes b n text k h passes = rw (get_or-take n text k 0 h) passes
+
+back_passes : (b n : ℕ) (text : List ℕ) (k : ℕ) → n ≤ k → eqb (get_or text k 0) b ≡ true
+    → eqb (get_or (drop n text) (k - n) 0) b ≡ true
+back_passes b n text k h passes =
+    let place : n + (k - n) ≡ k = omega (arith, h) in
+    rw (get_or-drop n text (k - n) 0) (rw place passes)
+
+-- up to a place there is no such byte, if there is none in a front, nor behind it
+nowhere_by_parts : (b n : ℕ) (text : List ℕ) (m : ℕ) → n ≤ length text
+    → IsFirstByte (is_byte b) (take n text) None
+    → Nowhere (Passes (is_byte b) (drop n text)) 0 m → Nowhere (Passes (is_byte b) text) 0 (n + m)
+nowhere_by_parts b n text m within front back k low high passes = by (cases_lt k n)
+  where
+    by : (k < n) ⊎ (n ≤ k) → ⊥
+    by (inl h) = front k (omega arith) (omega (arith, h, length-take-le n text within)) (front_passes b n text k h passes)
+    by (inr h) = back (k - n) (omega arith) (omega (arith, h, high)) (back_passes b n text k h passes)
+
+-- the first such byte is behind a front
+pub found_behind : (b n : ℕ) (text : List ℕ) (k : ℕ) → n ≤ length text
+    → IsFirstByte (is_byte b) (take n text) None
+    → IsFirstByte (is_byte b) (take (length text - n) (drop n text)) (Some k)
+    → IsFirstByte (is_byte b) text (Some (n + k))
+found_behind b n text k within front back =
+    let rest : take (length text - n) (drop n text) ≡ drop n text = grind (arith, common_steps) in
+    let found = subst (λ (bytes : List ℕ). IsFirstByte (is_byte b) bytes (Some k)) rest back in (
+      record {
+        low = omega arith;
+        high = omega (arith, within, found.0.high, length-drop n text);
+        before = nowhere_by_parts b n text k within front found.0.before;
+      },
+      rw (get_or-drop n text k 0) at found.1,
+    )
+
+-- there is no such byte, if there is none in a front, nor behind it
+pub none_by_parts : (b n : ℕ) (text : List ℕ) → n ≤ length text
+    → IsFirstByte (is_byte b) (take n text) None
+    → IsFirstByte (is_byte b) (take (length text - n) (drop n text)) None
+    → IsFirstByte (is_byte b) text None
+none_by_parts b n text within front back =
+    let rest : take (length text - n) (drop n text) ≡ drop n text = grind (arith, common_steps) in
+    let none = subst (λ (bytes : List ℕ). IsFirstByte (is_byte b) bytes None) rest back in
+    let size : n + length (drop n text) ≡ length text = omega (arith, within, length-drop n text) in
+    subst (λ (m : ℕ). Nowhere (Passes (is_byte b) text) 0 m) size
+    (nowhere_by_parts b n text (length (drop n text)) within front none)

@@ -1,10 +1,11 @@
 //! The fields of a line: numbers, and bytes in hexadecimal digits.
 
 ghost use Rattle.hex.specs.Hex.{hex_digit_value, decode_pairs, decode_sized};
-ghost use Rattle.std.specs.Prelude.{◌≤◌, nat_le, length, true, IfSome, MatchResult, Err, ◌*◌, Ok, if◌then◌else◌, ◌≡◌, ◌^◌, ◌-◌, min, Some, None, OnOk, IfErr};
+ghost use Rattle.std.specs.Prelude.{◌≤◌, nat_le, length, true, IfSome, MatchResult, Err, ◌*◌, Ok, if◌then◌else◌, ◌≡◌, ◌^◌, ◌-◌, ◌<◌, min, Some, None, OnOk, IfErr};
 ghost use Rattle.std.specs.Prelude.{false};
 ghost use Rattle.std.specs.Str.Lines.{strip_carriage_return};
-ghost use Rattle.afdx_lists.specs.Splitting.{number_of};
+ghost use Rattle.std.specs.Prelude.{take};
+ghost use Rattle.afdx_lists.specs.Splitting.{all_digits, number_after, number_of};
 ghost use Rattle.afdx_lists.specs.Fields.{bytes_of_digits, is_skipped};
 ghost use Rattle.afdx_frame.specs.Times.{latest_listed};
 ghost use Rattle.afdx_lists.specs.Fields.{SplitsNumber, holds_space, time_fault, cut_number};
@@ -17,9 +18,12 @@ use crate::splitting::first_field;
 use afdx_frame::LATEST_LISTED;
 use hex::FromHexError;
 use std::alloc::AllocError;
+use std::simd::prelude::*;
 
 /// The number of so many decimal digits is less than 2^64.
 const FEW_DIGITS: usize = 19;
+/// So many decimal digits are read at once.
+const EIGHT: usize = 8;
 /// So many hexadecimal digits are read at once.
 const BLOCK: usize = 64;
 
@@ -40,15 +44,65 @@ pub(crate) fn says_nothing(text: &[u8]) -> bool
     matches!(text, [] | [b'#', ..])
 }
 
-/// The number that a text begins with, where it has few digits and a space behind them, and the
-/// rest after the space. Each digit is read once, and a space isn't searched for.
+/// Whether eight bytes are decimal digits: it is a few steps for all of them.
 #[inline(always)]
-fn split_few_digits(text: &[u8]) -> Option<(u64, &[u8])>
-    ensures { IfSome result (λ split. SplitsNumber text.now (Some split.0) (Some split.1)) }
+fn are_digits(bytes: &[u8]) -> bool
+    requires { length bytes.now ≡ 8 }
+    ensures { result ≡ true → all_digits bytes.now ≡ true }
+{
+    let block = u8x8::from_slice(bytes);
+    let are_high = block.simd_ge(u8x8::splat(b'0'));
+    let are_low = block.simd_le(u8x8::splat(b'9'));
+    (are_high & are_low).all()
+}
+
+/// The number that a few digits write.
+#[inline(always)]
+fn number_of_digits(digits: &[u8]) -> u64
+    requires digits { all_digits digits.now ≡ true }
+    requires few { length digits.now ≤ 19 }
+    ensures { result ≡ number_after 0 digits.now }
 {
     let mut value = 0u64;
+    for at in 0..digits.len() {
+        value = value * 10 + u64::from(digits[at] - b'0');
+    }
+    value
+}
+
+/// The number of the first eight digits of a text, and how many they are: 0 of none, where it
+/// begins with fewer.
+#[inline(always)]
+fn first_digits(text: &[u8]) -> (u64, usize)
+    ensures few { result.1 ≤ 8 }
+    ensures within { result.1 ≤ length text.now }
+    ensures digits { all_digits (take result.1 text.now) ≡ true }
+    ensures value { result.0 ≡ number_after 0 (take result.1 text.now) }
+{
+    if text.len() < EIGHT {
+        return (0, 0);
+    }
+    let front = &text[..EIGHT];
+    if !are_digits(front) {
+        return (0, 0);
+    }
+    (number_of_digits(front), EIGHT)
+}
+
+/// The number that a text begins with, where it has few digits and a space behind them, and the
+/// rest after the space. The digits before place `start` write `front`. Each other one is read
+/// once, and a space isn't searched for.
+#[inline(always)]
+fn split_few_digits(text: &[u8], front: u64, start: usize) -> Option<(u64, &[u8])>
+    requires few { start ≤ 8 }
+    requires within { start ≤ length text.now }
+    requires digits { all_digits (take start text.now) ≡ true }
+    requires value { front ≡ number_after 0 (take start text.now) }
+    ensures { IfSome result (λ split. SplitsNumber text.now (Some split.0) (Some split.1)) }
+{
+    let mut value = front;
     let most = text.len().min(FEW_DIGITS);
-    for at in 0..most {
+    for at in start..most {
         let byte = text[at];
         if !byte.is_ascii_digit() {
             if byte != b' ' || at == 0 {
@@ -99,7 +153,19 @@ fn split_any_number(text: &[u8]) -> (Option<u64>, Option<&[u8]>)
 pub(crate) fn split_number(text: &[u8]) -> (Option<u64>, Option<&[u8]>)
     ensures { SplitsNumber text.now result.0 result.1 }
 {
-    match split_few_digits(text) {
+    match split_few_digits(text, 0, 0) {
+        Some((number, rest)) => (Some(number), Some(rest)),
+        None => split_any_number(text),
+    }
+}
+
+/// The same, made for one of more than eight digits, as a time is.
+#[inline(always)]
+pub(crate) fn split_long_number(text: &[u8]) -> (Option<u64>, Option<&[u8]>)
+    ensures { SplitsNumber text.now result.0 result.1 }
+{
+    let (front, start) = first_digits(text);
+    match split_few_digits(text, front, start) {
         Some((number, rest)) => (Some(number), Some(rest)),
         None => split_any_number(text),
     }
@@ -208,16 +274,28 @@ fn read_blocks(digits: &[u8], bytes: &mut [u8]) -> bool
     read_block(last, &mut values, &mut bytes[at..at + BLOCK / 2])
 }
 
+/// Puts the bytes of pairs of digits, fewer than a block, in the place of `bytes`. False: not all
+/// were digits.
+#[inline(never)]
+fn read_short(digits: &[u8], bytes: &mut [u8]) -> bool
+    requires pairs { length digits.now ≡ 2 * length bytes.old }
+    requires short { length bytes.old < 32 }
+    ensures { result ≡ true → decode_pairs 0 digits.now ≡ Ok bytes.new }
+{
+    let mut values = [0u8; BLOCK];
+    read_block(digits, &mut values[..digits.len()], bytes)
+}
+
 /// Puts the bytes of pairs of digits in the place of `bytes`. False: not all were digits.
 fn read_pairs(digits: &[u8], bytes: &mut [u8]) -> bool
     requires { length digits.now ≡ 2 * length bytes.old }
     ensures { result ≡ true → decode_pairs 0 digits.now ≡ Ok bytes.new }
 {
     if bytes.len() < BLOCK / 2 {
-        let mut values = [0u8; BLOCK];
-        return read_block(digits, &mut values[..digits.len()], bytes);
+        read_short(digits, bytes)
+    } else {
+        read_blocks(digits, bytes)
     }
-    read_blocks(digits, bytes)
 }
 
 /// Reads digits as the crate `hex` does, but without a branch for each of them where all are sound.

@@ -14,7 +14,8 @@ ghost use Rattle.afdx_frame.specs.Ports.{last_port};
 
 use crate::fault::{LineError, LineFault};
 use crate::fields::{
-    fault_of_time, first_error, read_bytes, says_nothing, split_number, trim_line,
+    fault_of_time, first_error, read_bytes, says_nothing, split_long_number, split_number,
+    trim_line,
 };
 use crate::splitting::first_field;
 use afdx_frame::{Checked, LAST_PORT, Seal, Side, unseal};
@@ -122,7 +123,7 @@ fn read_fields(text: &[u8]) -> Option<Fields<'_>>
     let Some(text) = rest else {
         return None;
     };
-    let (time, rest) = split_number(text);
+    let (time, rest) = split_long_number(text);
     let Some(text) = rest else {
         return None;
     };

@@ -8,6 +8,7 @@ ghost use Rattle.afdx_lists.specs.Calls.{is_failed_read};
 
 use crate::fault::RunFault;
 use crate::next::Next;
+use crate::splitting::find_expected;
 use crate::watched::Watched;
 use std::alloc::{AllocError, Global};
 use std::io::Read;
@@ -161,7 +162,8 @@ impl LineReader {
     }
 
     /// How many bytes stand before the first line feed, if one is held. The first `searched` hold
-    /// none.
+    /// none. Lines are often about as long as the one before.
+    #[inline(always)]
     fn find_feed(&self, searched: usize) -> Option<usize>
         requires within { searched ≤ self.now.end - self.now.start }
         requires no_feed { HasNoFeed (take searched (unread self.now)) }
@@ -170,7 +172,8 @@ impl LineReader {
         ensures none { IfNone result (HasNoFeed (unread self.now)) }
     {
         let from = self.start + searched;
-        match memchr::memchr(b'\n', &self.chunk[from..self.end]) {
+        let before = self.line_end - self.line_start;
+        match find_expected(&self.chunk[from..self.end], b'\n', before) {
             Some(at) => Some(searched + at),
             None => None,
         }

@@ -150,7 +150,8 @@ behind the word says which, and one alone may be -.",
         "\
 The recorder lost n frames by its own word, of all interfaces together. So a frame that it didn't
 keep would stand for one that the switch stopped, or for one that never came.
-Record with a larger buffer (dumpcap -B 512), on a faster disk, or less at once. With --lossy the
-last line comes all the same: then any 'stopped' and 'no-arrival' may be the recorder's.",
+Record with a longer queue (dumpcap -N 1000000 -C 1000000000), on a faster disk, or less at once.
+With --lossy the last line comes all the same: then any 'stopped' and 'no-arrival' may be the
+recorder's.",
     ),
 ];

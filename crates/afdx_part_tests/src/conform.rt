@@ -1,12 +1,14 @@
 //! Leeways, limits and states with known answers, of a link with frames of 64 bytes, a BAG of 1 ms,
 //! a jitter of 500 us and a latency of 17 us, at a port of 100 Mbit/s.
 
+ghost use Rattle.std.specs.Prelude.{◌≡◌, IfOk};
 ghost use Rattle.afdx_conform.specs.Accounts.{AreLevels};
 
 use afdx_conform::{
-    Case, Frame, Held, Leeway, Levels, Limits, NextFrame, Rates, came, cases_of, close, laws,
+    Case, CheckedBytes, Frame, Held, Leeway, Levels, Limits, NextFrame, Rates, came, cases_of,
+    close, laws,
 };
-use afdx_frame::{Policing, VlId};
+use afdx_frame::{Checked, Policing, VlId};
 use afdx_police::LinkRule;
 use afdx_samples::{all_right, equal};
 use std::alloc::{AllocError, Global};
@@ -43,14 +45,19 @@ fn leeways_in_range() -> Result<(), Fail> {
 
 const BYTES: [u8; 64] = [7; 64];
 
+/// These bytes, kept.
+fn kept(alloc: Global, bytes: &[u8]) -> Result<CheckedBytes, AllocError>
+    ensures { IfOk result (λ kept. kept ≡ bytes.now) }
+{
+    CheckedBytes::of(alloc, Checked::new(bytes))
+}
+
 /// A frame of these bytes that left at this time.
 fn frame(alloc: Global, time: u32) -> Result<Frame, AllocError> {
-    let mut bytes = Vec::new(alloc);
-    bytes.extend_from_slice(&BYTES)?;
     Ok(Frame {
         number: 1,
         time: time.into(),
-        bytes,
+        bytes: kept(alloc, &BYTES)?,
     })
 }
 
@@ -66,9 +73,10 @@ type Left = (u64, u32, bool);
 
 /// The first of the rows that is otherwise.
 fn otherwise_fitting(alloc: Global, rows: &[Left]) -> Result<Option<Left>, AllocError> {
+    let came = kept(alloc, &BYTES)?;
     for (slack, time, wanted) in rows {
         let frame = frame(alloc, *time)?;
-        let fits = limits(*slack).map(|limits| limits.fits(0, &BYTES, &frame));
+        let fits = limits(*slack).map(|limits| limits.fits(0, &came, &frame));
         if fits != Some(*wanted) {
             return Ok(Some((*slack, *time, *wanted)));
         }
@@ -107,15 +115,16 @@ fn what_stands_next(rt: HostRuntime) -> Result<(), Fail> {
     let alloc = rt.alloc();
     let held = [FIRST];
     let seen = [frame(alloc, 17_001)?];
+    let bytes = kept(alloc, &BYTES)?;
     // The frame left too late; without one it may have left unseen, if the end is soon enough.
-    let late = cases_of(alloc, &limits, &held, &seen, 0, &BYTES, true)?;
+    let late = cases_of(alloc, &limits, &held, &seen, 0, &bytes, true)?;
     let open = cases_of(
         alloc,
         &limits,
         &held,
         &[],
         0,
-        &BYTES,
+        &bytes,
         limits.is_open(0, 16_999),
     )?;
     let over = cases_of(
@@ -124,7 +133,7 @@ fn what_stands_next(rt: HostRuntime) -> Result<(), Fail> {
         &held,
         &[],
         0,
-        &BYTES,
+        &bytes,
         limits.is_open(0, 17_000),
     )?;
     let nexts = [late.as_slice(), open.as_slice(), over.as_slice()];

@@ -1,8 +1,8 @@
 //! Streams whose arrivals and frames come one after another: what is due is decided before each.
 
 use crate::streams::{BYTES, EXACT, Given, link};
-use afdx_conform::{Arrived, Counts, Finding, Frame, Leeway, Stream};
-use afdx_frame::Side;
+use afdx_conform::{Arrived, CheckedBytes, Counts, Finding, Frame, Leeway, Stream};
+use afdx_frame::{Checked, Side};
 use afdx_police::LinkRule;
 use afdx_samples::{all_right, equal};
 use std::alloc::{AllocError, Global};
@@ -44,7 +44,7 @@ fn come(
     time: u32,
 ) -> Result<(), AllocError> {
     decide_before(told, alloc, time.into(), None)?;
-    let bytes = Vec::from_slice(alloc, &BYTES)?;
+    let bytes = CheckedBytes::of(alloc, Checked::new(&BYTES))?;
     told.stream
         .came(Arrived::new(rule, number, time.into(), Side::A, 1, bytes))
 }
@@ -64,7 +64,7 @@ fn leave_before(
         }
         decide_before(told, alloc, at, None)?;
         let number = (place as u64).saturating_add(1);
-        let bytes = Vec::from_slice(alloc, &BYTES)?;
+        let bytes = CheckedBytes::of(alloc, Checked::new(&BYTES))?;
         told.stream.left(Frame {
             number,
             time: at,
@@ -199,4 +199,18 @@ fn what_is_decided_is_let_go_of(rt: HostRuntime) -> Result<(), Fail> {
     }
     equal(told.found.len(), 0)?;
     equal(most <= 8, true)
+}
+
+#[test]
+fn an_explained_frame_is_closed_with_its_arrival(rt: HostRuntime) -> Result<(), Fail> {
+    let alloc = rt.alloc();
+    let Some((rule, mut told)) = stream_from(alloc, None) else {
+        return equal(true, false);
+    };
+    come(&mut told, alloc, &rule, 1, 0)?;
+    leave_before(&mut told, alloc, &[6_720], 0, u64::MAX)?;
+    equal(told.stream.due(), Some(34_000))?;
+    decide_before(&mut told, alloc, 34_001, None)?;
+    equal(told.stream.due(), None)?;
+    equal(told.stream.held(), 0)
 }

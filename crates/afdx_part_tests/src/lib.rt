@@ -10,6 +10,8 @@ mod arrivals;
 #[cfg(test)]
 mod bounds;
 #[cfg(test)]
+mod building;
+#[cfg(test)]
 mod cascade;
 #[cfg(test)]
 mod config;

@@ -13,9 +13,10 @@ use Rattle.afdx_port.specs.Schedule.{lasting}
 use Rattle.afdx_port.specs.Held.{frames_held, sending_count, choice_of, queue_of, is_too_old, due_from, due_of}
 use Rattle.afdx_port.specs.Sound.{ChangesQueue, IsPortSound}
 use Rattle.afdx_port.specs.History.{PortHistory, at, StandsFor}
-use Rattle.afdx_port.proofs.DueLemmas.{due_idle, due_busy}
-use Rattle.afdx_port.proofs.HistoryLemmas.{other, left, begin_stands}
-use Rattle.afdx_port.proofs.SoundLemmas.{lasting_short, count_least, start_is, stays}
+use Rattle.afdx_port.specs.Calls.{Advances, BeginsBefore}
+use Rattle.afdx_port.proofs.DueLemmas.{clock_due, due_idle, due_busy}
+use Rattle.afdx_port.proofs.HistoryLemmas.{other, left, begin_stands, idle_stands}
+use Rattle.afdx_port.proofs.SoundLemmas.{clock_sound, lasting_short, count_least, start_is, stays}
 
 module _ {X : Type 0} where
   -- the port after the turn of a frame has begun, which has left its queue
@@ -197,3 +198,74 @@ module _ {X : Type 0} where
       let lengths = k.lengths in
       let none : sending_count old.sending ≡ 0 = ap (λ o. sending_count o) b.idle in
       omega arith
+
+  -- the turn that is due is that of the front of the class that goes next
+  due_is : (facts : X → Facts) (old mid : PortState X) (moment : ℕ) (c : Priority) (w : Waiting X)
+      (d : Due) → old.sending ≡ None → choice_of old ≡ Some (c, moment)
+      → queue_of c old ≡ w ∷ queue_of c mid → ChangesQueue c old mid → due_of facts old ≡ Some d
+      → d ≡ due_from facts mid.byte_ns w moment
+  due_is facts old mid moment c w d idle chosen front changes is =
+      let first : slice_get (queue_of c old) 0 ≡ Some w = ap (λ ws. slice_get ws 0) front in
+      let due = due_idle facts old c moment w idle chosen first in
+      same_some d (due_from facts old.byte_ns w moment) (sym is ∙ due)
+      ∙ ap (λ m. due_from facts m w moment) (sym (stays c old mid changes).byte_ns)
+    where
+      same_some : (a b : Due) → Some a ≡ Some b → a ≡ b
+      same_some a b e = cc e
+
+  -- a turn begins
+  pub begun_advances : (facts : X → Facts) (old mid : PortState X) (c : Priority) (w : Waiting X)
+      (n : ℕ) (d : Due) → ((x : X) → AreLawful (facts x)) → IsPortSound facts old
+      → old.sending ≡ None → BeginsBefore old old.clock c → due_of facts old ≡ Some d
+      → queue_of c old ≡ w ∷ queue_of c mid → ChangesQueue c old mid → n ≡ (facts w.item).bytes
+      → Advances facts old (begun mid c w.item n d) old.clock
+  begun_advances facts old mid c w n d lawful sound idle begins due front changes bytes =
+      let moment = begins.0 in
+      let b : Begins facts old mid old.clock moment c w n d = record {
+        lawful = lawful;
+        sound = sound;
+        clock = refl;
+        before = begins.2;
+        idle = idle;
+        chosen = begins.1;
+        front = front;
+        changes = changes;
+        bytes = bytes;
+        due = due_is facts old mid moment c w d idle begins.1 front changes due;
+      } in
+      record {
+        sound = begun_sound facts old mid old.clock moment c w n d b;
+        clock = (stays c old mid changes).clock;
+        stands = λ h s. begun_stands facts old mid old.clock moment c w n d b h
+            (let e = s.clock in omega arith) s;
+        chosen = λ e m none is. absurd (cc none);
+        due = begun_due facts old mid old.clock moment c w n d b;
+        held = begun_held facts old mid old.clock moment c w n d b;
+      }
+
+  -- time passes, in which no turn begins
+  pub clock_advances : (facts : X → Facts) (old : PortState X) (time : ℕ) → IsPortSound facts old
+      → old.clock ≤ time
+      → ((c : Priority) (moment : ℕ) → old.sending ≡ None → choice_of old ≡ Some (c, moment)
+      → time ≤ moment) → Advances facts old (record old { clock = time }) time
+  clock_advances facts old time sound later chosen = record {
+    sound = clock_sound facts old time sound later;
+    clock = refl;
+    stands = λ h s. idle_stands facts old h time s (let e = s.clock in omega arith);
+    chosen = chosen;
+    due = clock_due facts old time;
+    held = refl;
+  }
+
+  -- time passes, and then a turn begins
+  pub later_advances : (facts : X → Facts) (old new : PortState X) (time : ℕ) → old.clock ≤ time
+      → Advances facts (record old { clock = time }) new time → Advances facts old new time
+  later_advances facts old new time later a = record {
+    sound = a.sound;
+    clock = a.clock;
+    stands = λ h s. a.stands (at h time)
+        (idle_stands facts old h time s (let e = s.clock in omega arith));
+    chosen = a.chosen;
+    due = a.due ∙ clock_due facts old time;
+    held = a.held;
+  }

@@ -17,7 +17,7 @@ use Rattle.afdx_port.specs.Due.{IsAfter}
 use Rattle.afdx_port.specs.Held.{frames_held, sending_count, ready, choice, choice_of, queue_of, due_of, IsQuiet}
 use Rattle.afdx_port.specs.Sound.{HasRoom, ChangesQueue, IsPortSound}
 use Rattle.afdx_port.specs.History.{PortHistory, at, with_put, entry_of, StandsFor}
-use Rattle.afdx_port.specs.Calls.{Puts}
+use Rattle.afdx_port.specs.Calls.{Advances, Puts}
 use Rattle.afdx_port.specs.Schedule.{Turn, IsSchedule, IsLost}
 use Rattle.afdx_port.specs.ScheduleOf.{schedule_of}
 use Rattle.afdx_port.proofs.TurnLemmas.{nat_lt-true, nat_lt-false}
@@ -25,7 +25,6 @@ use Rattle.afdx_port.proofs.QueueLemmas.{pair_same}
 use Rattle.afdx_port.proofs.DueLemmas.{due, due_busy, quiet_stays}
 use Rattle.afdx_port.proofs.HistoryLemmas.{other, put_stands, lost_from, not_lost}
 use Rattle.afdx_port.proofs.ScheduleLemmas.{schedule_of_is}
-use Rattle.afdx_port.proofs.TakeLemmas.{Advances}
 use Rattle.afdx_port.proofs.SoundLemmas.{count_least, stays, idle_quiet}
 
 pub late_high : (hi lo : Option ℕ) (t m : ℕ)

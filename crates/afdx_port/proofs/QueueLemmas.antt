@@ -1,7 +1,8 @@
 -- The queues of a port are the entries without a turn, and their fronts give the next turn.
 use Rattle.std.proofs.Common.{◌≡◌, ◌≢◌, ℕ, ◌+◌, ◌<◌, ◌≤◌, ◌==◌, max, Bool, true, false, ◌||◌, List}
 use Rattle.std.proofs.Common.{[], ◌∷◌, ◌++◌, length, Option, Some, None, inl, inr, refl, sym, ap}
-use Rattle.std.proofs.Common.{subst, arith, ◌∙◌}
+use Rattle.std.proofs.Common.{subst, arith, ◌∙◌, ◌-◌, take}
+use Rattle.std.specs.Prelude.{MatchOption}
 use Rattle.std.specs.List.{slice_get}
 use Rattle.std.proofs.lemmas.Option.{slice_get_within}
 use Rattle.std.proofs.lemmas.Bool.{cases_lt}
@@ -342,3 +343,14 @@ module _ {X : Type 0} where
             let same = same_next byte_ns entries turns s (front_turn facts byte_ns High r.place hi w) n r.next in
             front_is facts byte_ns (end_of turns) (w ∷ ws) (v ∷ vs) High r.place hi w s same refl e)
       ]
+
+module _ {X : Type 0} where
+  -- a lone frame is the first, and none is left after it
+  pub lone_first : (xs ys : List X) (o : Option X) → length xs ≡ 1
+      → o ≡ slice_get xs (length xs - 1) → ys ≡ take (length xs - 1) xs
+      → MatchOption o (xs ≡ []) (λ x. xs ≡ x ∷ ys)
+  lone_first [] ys o one last rest = absurd (omega arith)
+  lone_first (x ∷ []) ys o one last rest =
+      let P : Option X → Type 0 = λ z. MatchOption z (x ∷ [] ≡ []) (λ w. x ∷ [] ≡ w ∷ ys) in
+      subst P (sym last) (ap (λ zs. x ∷ zs) (sym rest))
+  lone_first (x ∷ y ∷ zs) ys o one last rest = absurd (omega arith)

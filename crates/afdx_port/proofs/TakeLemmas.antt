@@ -2,7 +2,7 @@
 use Rattle.std.proofs.Common.{IfSome, IfNone, Bool, true, false, if◌then◌else◌, ◌≡◌, ℕ, ◌+◌, ◌<◌}
 use Rattle.std.proofs.Common.{◌≤◌, List, [], ◌∷◌, Option, Some, None, inl, inr, refl, sym, ap}
 use Rattle.std.proofs.Common.{subst, arith, ◌∙◌, max}
-use Rattle.std.specs.Prelude.{MatchOption}
+use Rattle.std.specs.Prelude.{MatchOption, is_some}
 use Rattle.std.specs.List.{AllByRecursion, slice_get}
 use Rattle.std.proofs.lemmas.Option.{slice_get_cases}
 use Rattle.std.proofs.lemmas.Bool.{cases_lt}
@@ -15,15 +15,16 @@ use Rattle.afdx_port.specs.declared.port_state.PortState.{PortState}
 use Rattle.afdx_port.specs.Facts.{Facts, AreLawful}
 use Rattle.afdx_port.specs.Schedule.{Entry, Turn, has_turn, end_of, lasting, IsWithoutTurn, IsNext}
 use Rattle.afdx_port.specs.Schedule.{AreTurns, IsSchedule}
-use Rattle.afdx_port.specs.Due.{given_at, IsAfter}
+use Rattle.afdx_port.specs.Due.{given_at, IsAfter, IsBy}
 use Rattle.afdx_port.specs.Held.{ready, choice, choice_of, queue_of, is_too_old, due_from, due_of, IsQuiet}
-use Rattle.afdx_port.specs.Held.{last_time, frames_held, sending_count}
+use Rattle.afdx_port.specs.Held.{frames_held, sending_count}
 use Rattle.afdx_port.specs.Sound.{IsPortSound}
 use Rattle.afdx_port.specs.History.{PortHistory, at, due_at, IsQueue, HasBegun, StandsFor, Gives}
-use Rattle.afdx_port.specs.Calls.{Takes}
+use Rattle.afdx_port.specs.Calls.{Advances, Takes}
 use Rattle.afdx_port.proofs.TurnLemmas.{priority_cases, nat_lt-true, nat_lt-false}
 use Rattle.afdx_port.proofs.DueLemmas.{due, due_idle, due_busy, due_nothing, has_front, quiet_after, quiet_stays, clock_due}
 use Rattle.afdx_port.proofs.HistoryLemmas.{taken_turns, waited_stands}
+use Rattle.afdx_port.proofs.BeginLemmas.{clock_advances}
 use Rattle.afdx_port.proofs.SoundLemmas.{lasting_short, timely, idle_quiet}
 
 choice_some_high : (n : ℕ) (lo : Option ℕ) → choice (Some n) lo ≡ None → ⊥
@@ -38,16 +39,6 @@ choice_some_low None n e = cc e
 choice_some_low (Some h) n e = choice_some_high h (Some n) e
 
 module _ {X : Type 0} where
-  -- a port that has begun each turn with a moment before then, of which none was given
-  pub record Advances (facts : X → Facts) (old new : PortState X) (until : ℕ) : Type 0 where
-    pub sound : IsPortSound facts new
-    pub clock : last_time new ≡ until
-    pub stands : (h : PortHistory X) → StandsFor facts old h → StandsFor facts new (at h until)
-    pub chosen : (c : Priority) (moment : ℕ) → new.sending ≡ None → choice_of new ≡ Some (c, moment)
-        → until ≤ moment
-    pub due : due_of facts new ≡ due_of facts old
-    pub held : frames_held new ≡ frames_held old
-
   -- the frame of the turn that has begun is taken
   pub take_gives : (facts : X → Facts) (p : PortState X) (h : PortHistory X) (until : ℕ) (l : Left X)
       → StandsFor facts p (at h until) → p.sending ≡ Some l → p.free ≤ until
@@ -125,18 +116,6 @@ module _ {X : Type 0} where
       let one = ap (λ z. sending_count z) (sym is) in
       let left = ap (λ z. sending_count z) gone in
       omega (arith, same, one, left)
-
-  -- nor where the line is busy at t
-  busy_quiet : (facts : X → Facts) (p : PortState X) (t : ℕ) → 1 ≤ p.byte_ns → t < p.free
-      → ((c : Priority) (moment : ℕ) → p.sending ≡ None → choice_of p ≡ Some (c, moment)
-      → t ≤ moment) → IsQuiet facts p t
-  busy_quiet facts p t rate busy late = by_sending p.sending refl
-    where
-      by_sending : (o : Option (Left X)) → p.sending ≡ o → IfSome (due_of facts p) (λ d. IsAfter t d)
-      by_sending None e = idle_quiet facts p t rate e late
-      by_sending (Some l) e =
-          let P : Option Due → Type 0 = λ o. IfSome o (λ d. IsAfter t d) in
-          subst P (sym (due_busy facts p l e)) (omega arith)
 
   take_quiet : (facts : X → Facts) (p : PortState X) (t : ℕ) (o after : Option (Left X))
       → 1 ≤ p.byte_ns → o ≡ p.sending → after ≡ None →
@@ -305,22 +284,7 @@ module _ {X : Type 0} where
     clock = refl;
   }
 
-  -- a port that has begun all turns before then, none of which is over by then
-  pub busy_takes : (facts : X → Facts) (old p : PortState X) (until : ℕ) → ((x : X) → AreLawful (facts x))
-      → Advances facts old p until → until < p.free → Takes facts old p until None
-  busy_takes facts old p until lawful a busy =
-      let quiet = busy_quiet facts p until a.sound.rate.0 busy a.chosen in record {
-        given = λ h st. tt;
-        none = a.stands;
-        no_more = λ h s st n. quiet_after facts p (at h until) until s (a.stands h st) quiet n;
-        all_done = λ h st late. quiet_all_done facts p (at h until) until lawful a.sound (a.stands h st) late quiet;
-        quiet = quiet;
-        due = a.due;
-        held = a.held;
-        clock = a.clock;
-      }
-
-  -- or one of which may be
+  -- the turn that has begun is taken, if there is one
   pub over_takes : (facts : X → Facts) (old p : PortState X) (until : ℕ) (o after : Option (Left X))
       → ((x : X) → AreLawful (facts x)) → Advances facts old p until → p.free ≤ until → o ≡ p.sending
       → after ≡ None → Takes facts old (record p { sending = after }) until o
@@ -334,3 +298,47 @@ module _ {X : Type 0} where
     held = take_held old p o after a.held is gone;
     clock = a.clock;
   }
+
+  -- a turn that has begun and is given by then is over by then
+  busy_over : (facts : X → Facts) (p : PortState X) (until : ℕ) (d : Due) (l : Left X)
+      → p.sending ≡ Some l → due_of facts p ≡ Some d → IsBy until d → p.free ≤ until
+  busy_over facts p until d l is due given =
+      let same : Some (record { time = p.free; too_old = l.too_old }) ≡ Some d =
+      sym (due_busy facts p l is) ∙ due in
+      let time : p.free ≡ d.time = time_same p.free l.too_old d same in
+      by_kind d.too_old d.time (omega arith) given
+    where
+      time_same : (n : ℕ) (b : Bool) (e : Due) → Some (record { time = n; too_old = b }) ≡ Some e
+          → n ≡ e.time
+      time_same n b e same = cc same
+
+      by_kind : (o : Bool) (n : ℕ) → p.free ≤ n → n + (if o then 1 else 0) ≤ until → p.free ≤ until
+      by_kind true n le given = omega arith
+      by_kind false n le given = omega arith
+
+  -- the turn that had begun is taken
+  pub sending_takes : (facts : X → Facts) (old : PortState X) (until : ℕ) (d : Due)
+      (o after : Option (Left X)) (b : Bool) → ((x : X) → AreLawful (facts x))
+      → IsPortSound facts old → old.clock ≤ until → b ≡ is_some old.sending → b ≡ true
+      → due_of facts old ≡ Some d → IsBy until d → o ≡ old.sending → after ≡ None →
+      Takes facts old (record old { clock = until; sending = after }) until o
+  sending_takes facts old until d o after b lawful sound later test true_ due given is gone =
+      by_sending old.sending refl
+    where
+      by_sending : (z : Option (Left X)) → old.sending ≡ z →
+          Takes facts old (record old { clock = until; sending = after }) until o
+      by_sending None e = absurd (let f : is_some old.sending ≡ false = ap (λ y. is_some y) e in
+          cc (f, test, true_))
+      by_sending (Some l) e =
+          over_takes facts old (record old { clock = until }) until o after lawful
+          (clock_advances facts old until sound later (λ c m none chosen. absurd (cc (none, e))))
+          (busy_over facts old until d l e due given) is gone
+
+  -- the next turn begins, and is taken
+  pub begun_takes : (facts : X → Facts) (old new : PortState X) (until : ℕ) (d : Due) (l : Left X)
+      → ((x : X) → AreLawful (facts x)) → Advances facts old (record new { sending = Some l }) until
+      → new.sending ≡ None → due_of facts old ≡ Some d → IsBy until d →
+      Takes facts old new until (Some l)
+  begun_takes facts old new until d l lawful a idle due given =
+      over_takes facts old (record new { sending = Some l }) until (Some l) new.sending lawful a
+      (busy_over facts (record new { sending = Some l }) until d l refl (a.due ∙ due) given) refl idle

@@ -1,19 +1,38 @@
 -- What each call of an output port does, whatever calls the port stands for.
-use Rattle.std.specs.Prelude.{◌≡◌, ◌↔◌, ℕ, ◌+◌, ◌≤◌, List, Option, IfSome, IfNone, MatchOption}
+use Rattle.std.specs.Prelude.{◌≡◌, ◌↔◌, ℕ, ◌+◌, ◌<◌, ◌≤◌, List, Option, Some, None}
+use Rattle.std.specs.Prelude.{IfSome, IfNone, MatchOption}
 use Rattle.std.specs.Prelude.{Result, IfErr, OnOk, OnErr, IsErr, MatchResult}
 use Rattle.afdx_frame.specs.declared.link.Priority.{Priority}
 use Rattle.afdx_port.specs.declared.left.Left.{Left}
 use Rattle.afdx_port.specs.declared.port_state.PortState.{PortState}
 use Rattle.afdx_port.specs.Due.{IsAfter}
 use Rattle.afdx_port.specs.Facts.{Facts}
-use Rattle.afdx_port.specs.Held.{due_of, IsQuiet, last_time, frames_held}
+use Rattle.afdx_port.specs.Held.{choice_of, due_of, IsQuiet, last_time, frames_held}
 use Rattle.afdx_port.specs.History.{PortHistory, at, with_put, entry_of, due_at, StandsFor}
 use Rattle.afdx_port.specs.History.{Gives}
 use Rattle.afdx_port.specs.Schedule.{Turn, IsNext, IsSchedule, IsLost}
 use Rattle.afdx_port.specs.ScheduleOf.{schedule_of}
+use Rattle.afdx_port.specs.Sound.{IsPortSound}
 use Rattle.afdx_port.specs.Times.{drain_end}
 
 module _ {X : Type 0} where
+  -- a port that has begun each turn with a moment before a time, of which none was given
+  pub record Advances (facts : X → Facts) (old new : PortState X) (time : ℕ) : Type 0 where
+    pub sound : IsPortSound facts new
+    pub clock : last_time new ≡ time
+    pub stands : (h : PortHistory X) → StandsFor facts old h → StandsFor facts new (at h time)
+    pub chosen : (c : Priority) (moment : ℕ) →
+        new.sending ≡ None →
+        choice_of new ≡ Some (c, moment) →
+        time ≤ moment
+    pub due : due_of facts new ≡ due_of facts old
+    pub held : frames_held new ≡ frames_held old
+
+  -- this class goes next, and its moment is before a time
+  abbrev pub BeginsBefore : PortState X → ℕ → Priority → Type 0
+  BeginsBefore p time priority =
+      (moment : ℕ) × (choice_of p ≡ Some (priority, moment)) × (moment < time)
+
   -- `put` takes a frame, or loses it and hands it back
   pub record Puts {E : Type 0} (facts : X → Facts) (old new : PortState X) (time : ℕ)
       (priority : Priority) (item : X) (result : Result E X) : Type 0 where

@@ -76,7 +76,7 @@ impl<T: HasLength> Port<T> {
         requires quiet { IsQuiet T.facts self.old time }
         ensures { Puts T.facts self.old self.new time priority item result }
     {
-        let taken = self.state.put(time, priority, item);
+        let taken = self.state.put(time, priority, item, self.order);
         if !self.state.is_sending() {
             self.order = TurnOrder::of(self.state.due());
         }
@@ -129,7 +129,11 @@ impl<T: HasLength> Port<T> {
             self.state.wait(until);
             return None;
         }
-        let left = self.state.take(until);
+        let Some(due) = self.order.due() else {
+            // Never: a port without a turn to come gives nothing.
+            unreachable!();
+        };
+        let left = self.state.take(until, due);
         self.order = TurnOrder::of(self.state.due());
         left
     }

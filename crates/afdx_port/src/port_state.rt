@@ -12,6 +12,7 @@ ghost use Rattle.afdx_port.specs.Schedule.{is_past};
 
 use crate::has_length::HasLength;
 use crate::left::{Due, Left};
+use crate::order::TurnOrder;
 use afdx_frame::{LEAST_FRAME, Priority, WIRE_EXTRA};
 use circular_buffer::HeapCircularBuffer;
 use std::alloc::{AllocError, Global};
@@ -51,13 +52,28 @@ fn is_too_old(longest_wait: Option<u64>, time: u64, moment: u64) -> bool
     }
 }
 
+/// Takes the first frame of a queue. A lone frame leaves it where it stands, so that a queue of few
+/// frames doesn't go round all its places.
+fn pop_first<T>(queue: &mut HeapCircularBuffer<Waiting<T>>) -> Option<Waiting<T>>
+    ensures first { MatchOption result (queue.old.items ≡ [])
+        (λ w. queue.old.items ≡ w ∷ queue.new.items) }
+    ensures room { queue.new.capacity ≡ queue.old.capacity }
+{
+    if queue.len() == 1 {
+        queue.pop_back()
+    } else {
+        queue.pop_front()
+    }
+}
+
 impl<T: HasLength> PortState<T> {
-    ghost use Rattle.afdx_port.specs.Due.{given_at};
+    ghost use Rattle.afdx_port.specs.Due.{given_at, IsBy};
+    ghost use Rattle.afdx_port.specs.Ports.{order_at};
     ghost use Rattle.afdx_port.specs.Held.{IsByteTime, choice_of, queue_of, due_from, due_of};
     ghost use Rattle.afdx_port.specs.Held.{IsQuiet, frames_held};
     ghost use Rattle.afdx_port.specs.Sound.{ChangesQueue, HasRoom, IsPortSound};
-    ghost use Rattle.afdx_port.specs.History.{PortHistory, StandsFor, no_calls, at};
-    ghost use Rattle.afdx_port.specs.Calls.{Puts, Takes};
+    ghost use Rattle.afdx_port.specs.History.{StandsFor, no_calls};
+    ghost use Rattle.afdx_port.specs.Calls.{Advances, BeginsBefore, Puts, Takes};
 
     pub(crate) fn new(alloc: Global, byte_ns: u64, buffer: u64) -> Result<PortState<T>, AllocError>
         requires rate { IsByteTime byte_ns }
@@ -157,8 +173,8 @@ impl<T: HasLength> PortState<T> {
         ensures others { ChangesQueue priority self.old self.new }
     {
         match priority {
-            Priority::High => self.high.pop_front(),
-            Priority::Low => self.low.pop_front(),
+            Priority::High => pop_first(&mut self.high),
+            Priority::Low => pop_first(&mut self.low),
         }
     }
 
@@ -168,27 +184,49 @@ impl<T: HasLength> PortState<T> {
         ensures queue { queue_of priority self.new ≡ queue_of priority self.old ++ waiting ∷ [] }
         ensures others { ChangesQueue priority self.old self.new }
     {
-        let overwritten = match priority {
-            Priority::High => self.high.push_back(waiting),
-            Priority::Low => self.low.push_back(waiting),
+        let pushed = match priority {
+            Priority::High => self.high.try_push_back(waiting),
+            Priority::Low => self.low.try_push_back(waiting),
         };
-        let fits = overwritten.is_none();
+        let fits = pushed.is_ok();
         prove!(fits);
     }
 
-    /// Begins the next turn, if its moment is before `time`.
+    /// Takes the first frame of the class that goes next out of its queue, as its turn begins.
+    /// `due` is when that turn is over.
     #[inline(always)]
-    fn advance(&mut self, time: u64)
+    fn begin(&mut self, priority: Priority, due: Due) -> Left<T>
+        requires sound { IsPortSound T.facts self.old }
+        requires idle { self.old.sending ≡ None }
+        requires begins { BeginsBefore self.old self.old.clock priority }
+        requires due { due_of T.facts self.old ≡ Some due }
+        ensures begun { Advances T.facts self.old (record self.new { sending = Some result })
+            self.old.clock }
+        ensures idle { self.new.sending ≡ None }
+    {
+        let Some(waiting) = self.pop(priority) else {
+            // Never: the class that goes next is one in which a frame waits.
+            unreachable!();
+        };
+        let Waiting { time: _, item } = waiting;
+        let length = item.length();
+        self.waiting -= length;
+        self.free = due.time;
+        Left {
+            item,
+            priority,
+            end: due.time,
+            too_old: due.too_old,
+        }
+    }
+
+    /// Begins the next turn, if its moment is before `time`. `order` says when that turn is over.
+    #[inline(always)]
+    fn advance(&mut self, time: u64, order: TurnOrder)
         requires clock { self.old.clock ≤ time }
         requires sound { IsPortSound T.facts self.old }
-        ensures sound { IsPortSound T.facts self.new }
-        ensures clock { self.new.clock ≡ time }
-        ensures stands { (h : PortHistory T) → StandsFor T.facts self.old h →
-            StandsFor T.facts self.new (at h time) }
-        ensures chosen { (c : Priority) (moment : ℕ) → self.new.sending ≡ None →
-            choice_of self.new ≡ Some (c, moment) → time ≤ moment }
-        ensures due { due_of T.facts self.new ≡ due_of T.facts self.old }
-        ensures held { frames_held self.new ≡ frames_held self.old }
+        requires order { order.0 ≡ order_at (due_of T.facts self.old) }
+        ensures { Advances T.facts self.old self.new time }
     {
         self.clock = time;
         if self.sending.is_some() {
@@ -200,36 +238,35 @@ impl<T: HasLength> PortState<T> {
         if moment >= time {
             return;
         }
-        let Some(waiting) = self.pop(priority) else {
-            // Never: the choice is of a class in which a frame waits.
+        let Some(due) = order.due() else {
+            // Never: a frame waits.
             unreachable!();
         };
-        let due = self.turn_of(&waiting, moment);
-        let Waiting { time: _, item } = waiting;
-        let length = item.length();
-        self.waiting -= length;
-        self.free = due.time;
-        self.sending = Some(Left {
-            item,
-            priority,
-            end: due.time,
-            too_old: due.too_old,
-        });
+        let left = self.begin(priority, due);
+        self.sending = Some(left);
     }
 
-    /// Offers a frame. While a turn has begun, that doesn't change when the next one is over.
+    /// Offers a frame. While a turn has begun, that doesn't change when the next one is over, of
+    /// which `order` says when that is.
     #[inline]
-    pub(crate) fn put(&mut self, time: u64, priority: Priority, item: T) -> Result<(), T>
+    pub(crate) fn put(
+        &mut self,
+        time: u64,
+        priority: Priority,
+        item: T,
+        order: TurnOrder,
+    ) -> Result<(), T>
         requires clock { self.old.clock ≤ time }
         requires limit { time ≤ latest_put }
         requires quiet { IsQuiet T.facts self.old time }
         requires sound { IsPortSound T.facts self.old }
+        requires order { order.0 ≡ order_at (due_of T.facts self.old) }
         ensures sound { IsPortSound T.facts self.new }
         ensures puts { Puts T.facts self.old self.new time priority item result }
         ensures due { is_some self.new.sending ≡ true →
             due_of T.facts self.new ≡ due_of T.facts self.old }
     {
-        self.advance(time);
+        self.advance(time, order);
         let length = item.length();
         if self.waiting + length > self.buffer {
             return Err(item);
@@ -246,18 +283,25 @@ impl<T: HasLength> PortState<T> {
         self.clock = time;
     }
 
+    /// Takes the next turn, which is over at `due`, and is given by `until`.
     #[inline(always)]
-    pub(crate) fn take(&mut self, until: u64) -> Option<Left<T>>
+    pub(crate) fn take(&mut self, until: u64, due: Due) -> Option<Left<T>>
         requires clock { self.old.clock ≤ until }
         requires sound { IsPortSound T.facts self.old }
+        requires due { due_of T.facts self.old ≡ Some due }
+        requires given { IsBy until due }
         ensures sound { IsPortSound T.facts self.new }
         ensures takes { Takes T.facts self.old self.new until result }
     {
-        self.advance(until);
-        let is_over = self.free <= until;
-        if !is_over {
-            return None;
+        self.clock = until;
+        if self.sending.is_some() {
+            return self.sending.take();
         }
-        self.sending.take()
+        let Some((priority, _)) = self.next_choice() else {
+            // Never: a turn is due.
+            unreachable!();
+        };
+        let left = self.begin(priority, due);
+        Some(left)
     }
 }

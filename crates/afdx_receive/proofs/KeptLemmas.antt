@@ -2,12 +2,14 @@
 use Rattle.std.proofs.Common.{◌≡◌, ℕ, zero, suc, ◌+◌, ◌<◌, ◌≤◌, Bool, true, false, cond, inl, inr}
 use Rattle.std.proofs.Common.{Option, Some, None, List, [], ◌∷◌, ◌++◌, length}
 use Rattle.std.proofs.Common.{nat_eq, refl, sym, ◌∙◌, ap, arith}
-use Rattle.std.specs.Prelude.{slice_get, slice_set, option_and_then, ◌⊎◌}
+use Rattle.std.specs.Prelude.{slice_get, slice_set, option_and_then, ◌⊎◌, ◌≢◌}
 use Rattle.std.proofs.lemmas.Bool.{cases_eq, eqb-true, eqb-false, eq-eqb, ne_eqb}
 use Rattle.std.proofs.lemmas.List.{length_push}
-use Rattle.std.proofs.lemmas.Option.{slice_get_read, same_Some}
-use Rattle.std.proofs.Math.ListN.{get_or}
+use Rattle.std.proofs.lemmas.Option.{slice_get_read, same_Some, slice_get_within}
+use Rattle.std.proofs.Math.ListN.{get_or, length-set}
 use Rattle.afdx_frame.proofs.ListLemmas.{slice_get-push_last, slice_get-set_here, slice_get-set_there}
+use Rattle.afdx_frame.proofs.ListLemmas.{slice_get-push_cases, slice_get-one, slice_get-within}
+use Rattle.afdx_frame.specs.declared.link.VlId.{VlId}
 use Rattle.afdx_receive.specs.Places.{Paged, place_in}
 use Rattle.afdx_receive.specs.Kept.{Kept, IsKept, memory_at}
 use Rattle.afdx_receive.specs.declared.memory.LinkMemory.{LinkMemory}
@@ -20,15 +22,21 @@ module _ {X : Type 0} where
 
 -- ---- no link
 
-some_none : (a : ℕ) → None ≡ Some a → ⊥
+some_none : {X : Type 0} (a : X) → None ≡ Some a → ⊥
 some_none a e = cc
 
+none_at : (memories : List LinkMemory) (place : ℕ) (memory : LinkMemory) → memories ≡ []
+    → slice_get memories place ≡ Some memory → ⊥
+none_at memories place memory none e =
+    some_none memory (sym (ap (λ (m : List LinkMemory). slice_get m place) none) ∙ e)
+
 module _ (places : Paged) (memories : List LinkMemory) (none : (vl : ℕ) → place_in places vl ≡ None)
-    (empty : length places.slots ≡ 0) where
+    (empty : length places.slots ≡ 0) (none_yet : memories ≡ []) where
   pub first_kept : IsKept (record { places = places; memories = memories })
   first_kept = record {
     within = λ vl place e. absurd (some_none place (sym (none vl) ∙ e));
     own = λ a b place e f. absurd (some_none place (sym (none a) ∙ e));
+    named = λ place memory e. absurd (none_at memories place memory none_yet e);
     few = omega (arith, empty);
   }
 
@@ -36,25 +44,34 @@ module _ (places : Paged) (memories : List LinkMemory) (none : (vl : ℕ) → pl
   unfolding memory_at
   none_kept vl = ap (option_and_then (λ place. slice_get memories place)) (none vl)
 
--- ---- a memory more, at no place
+-- ---- other places, where each is as it was
 
-module _ (kept : Kept) (is : IsKept kept) (memory : LinkMemory) (memories : List LinkMemory)
-    (pushed : memories ≡ kept.memories ++ memory ∷ []) (places : Paged)
-    (few : length places.slots ≤ length kept.places.slots + 16) where
-  longer : length memories ≡ length kept.memories + 1
-  longer = ap length pushed ∙ length_push kept.memories memory
-
-  pub unplaced_kept : ((q : ℕ) → place_in places q ≡ place_in kept.places q)
-      → IsKept (record { places = places; memories = memories })
-  unplaced_kept same = record {
-    within = λ q place e. omega (arith, is.within q place (sym (same q) ∙ e), longer);
+module _ (kept : Kept) (is : IsKept kept) (places : Paged)
+    (room : length places.slots ≡ length kept.places.slots)
+    (same : (q : ℕ) → place_in places q ≡ place_in kept.places q) where
+  pub unplaced_kept : IsKept (record { places = places; memories = kept.memories })
+  unplaced_kept = record {
+    within = λ q place e. is.within q place (sym (same q) ∙ e);
     own = λ a b place e f. is.own a b place (sym (same a) ∙ e) (sym (same b) ∙ f);
-    few = omega (arith, is.few, few, longer);
+    named = λ place memory e. same memory.vl.0 ∙ is.named place memory e;
+    few = omega (arith, is.few, room);
   }
 
 -- ---- a link more
 
-module _ (kept : Kept) (is : IsKept kept) (vl : ℕ) (memory : LinkMemory) (places : Paged)
+-- a link that has no memory has no place
+absent_place : (kept : Kept) → IsKept kept → (vl : ℕ) → memory_at kept vl ≡ None → place_in kept.places vl ≡ None
+unfolding memory_at
+absent_place kept is vl none = at (place_in kept.places vl) refl
+  where
+    at : (o : Option ℕ) → place_in kept.places vl ≡ o → place_in kept.places vl ≡ None
+    at None e = e
+    at (Some place) e =
+        let found = slice_get-within kept.memories place (is.within vl place e) in
+        absurd (some_none found.0 (sym none ∙ ap (option_and_then (λ p. slice_get kept.memories p)) e ∙ found.1))
+
+module _ (kept : Kept) (is : IsKept kept) (vl : ℕ) (memory : LinkMemory) (known : memory.vl.0 ≡ vl)
+    (absent : memory_at kept vl ≡ None) (places : Paged)
     (few : length places.slots ≤ length kept.places.slots + 16)
     (updates : (q : ℕ) → place_in places q
     ≡ cond (nat_eq vl q) (Some (length kept.memories)) (place_in kept.places q)) where
@@ -73,6 +90,7 @@ module _ (kept : Kept) (is : IsKept kept) (vl : ℕ) (memory : LinkMemory) (plac
   link_kept = record {
     within = λ q place e. within q place e (cases_eq q vl);
     own = λ a b place e f. own a b place e f (cases_eq a vl) (cases_eq b vl);
+    named = λ place m e. named place m (slice_get-push_cases kept.memories memory place m e);
     few = omega (arith, is.few, few, length_push kept.memories memory);
   }
     where
@@ -102,6 +120,19 @@ module _ (kept : Kept) (is : IsKept kept) (vl : ℕ) (memory : LinkMemory) (plac
       own a b place e f (inr x) (inl y) = absurd (apart a place x e (ap (place_in with_link.places) (sym y) ∙ f))
       own a b place e f (inr x) (inr y) = is.own a b place (sym (placed_there a x) ∙ e) (sym (placed_there b y) ∙ f)
 
+      -- a memory that was there before is not the new link's
+      named_before : (place : ℕ) (m : LinkMemory) → slice_get kept.memories place ≡ Some m → m.vl.0 ≡ vl → ⊥
+      named_before place m e same = some_none place
+          (sym (absent_place kept is vl absent) ∙ ap (place_in kept.places) (sym same) ∙ is.named place m e)
+
+      named : (place : ℕ) (m : LinkMemory) →
+          (slice_get kept.memories place ≡ Some m) ⊎ ((place ≡ length kept.memories) × (m ≡ memory)) →
+          place_in with_link.places m.vl.0 ≡ Some place
+      named place m (inl old) = placed_there m.vl.0 (named_before place m old) ∙ is.named place m old
+      named place m (inr last) =
+          ap (place_in with_link.places) (ap (λ (l : LinkMemory). l.vl.0) last.1 ∙ known)
+          ∙ placed_here ∙ ap Some (sym last.0)
+
   pub link_updates : (q : ℕ) → memory_at with_link q ≡ cond (nat_eq vl q) (Some memory) (memory_at kept q)
   unfolding memory_at
   link_updates q = at (nat_eq vl q) refl
@@ -125,7 +156,8 @@ module _ (kept : Kept) (is : IsKept kept) (vl : ℕ) (memory : LinkMemory) (plac
           ∙ old (place_in kept.places q) (is.within q)
 
 -- the same, where the memories are those that were pushed
-module _ (kept : Kept) (is : IsKept kept) (vl place : ℕ) (memory : LinkMemory) (places : Paged)
+module _ (kept : Kept) (is : IsKept kept) (vl place : ℕ) (memory : LinkMemory) (known : memory.vl.0 ≡ vl)
+    (absent : memory_at kept vl ≡ None) (places : Paged)
     (few : length places.slots ≤ length kept.places.slots + 16) (last : place ≡ length kept.memories)
     (updates : (q : ℕ) → place_in places q ≡ cond (nat_eq vl q) (Some place) (place_in kept.places q))
     (memories : List LinkMemory) (pushed : memories ≡ kept.memories ++ memory ∷ []) where
@@ -134,11 +166,11 @@ module _ (kept : Kept) (is : IsKept kept) (vl place : ℕ) (memory : LinkMemory)
   at_last q = rw (← last) (updates q)
 
   pub added_kept : IsKept (record { places = places; memories = memories })
-  added_kept = rw pushed (link_kept kept is vl memory places few at_last)
+  added_kept = rw pushed (link_kept kept is vl memory known absent places few at_last)
 
   pub added_updates : (q : ℕ) → memory_at (record { places = places; memories = memories }) q
       ≡ cond (nat_eq vl q) (Some memory) (memory_at kept q)
-  added_updates q = rw pushed (link_updates kept is vl memory places few at_last q)
+  added_updates q = rw pushed (link_updates kept is vl memory known absent places few at_last q)
 
 -- ---- a frame of a link
 
@@ -146,6 +178,30 @@ module _ (kept : Kept) (is : IsKept kept) (vl place : ℕ)
     (placed : place_in kept.places vl ≡ Some place) (moved : LinkMemory) where
   abbrev pub with_memory : Kept
   with_memory = record kept { memories = slice_set kept.memories place moved }
+
+  pub memory_kept : (memory : LinkMemory) → memory ≡ get_or kept.memories place memory
+      → moved.vl ≡ memory.vl → IsKept with_memory
+  memory_kept memory read same = record {
+    within = λ q p e. rw (length-set kept.memories place moved) (is.within q p e);
+    own = is.own;
+    named = λ p m e. named p m e (cases_eq p place);
+    few = rw (length-set kept.memories place moved) is.few;
+  }
+    where
+      here : slice_get kept.memories place ≡ Some memory
+      here = slice_get_read kept.memories (length kept.memories) place memory refl (is.within vl place placed) read
+
+      named : (p : ℕ) (m : LinkMemory) → slice_get with_memory.memories p ≡ Some m → (p ≡ place) ⊎ (p ≡ place → ⊥)
+          → place_in kept.places m.vl.0 ≡ Some p
+      named p m e (inl at_place) =
+          let one : m ≡ moved = slice_get-one with_memory.memories place m moved
+          (ap (slice_get with_memory.memories) (sym at_place) ∙ e)
+          (slice_get-set_here kept.memories place moved (is.within vl place placed)) in
+          ap (λ (l : LinkMemory). place_in kept.places l.vl.0) one
+          ∙ ap (λ (v : VlId). place_in kept.places v.0) same
+          ∙ is.named place memory here ∙ ap Some (sym at_place)
+      named p m e (inr other) =
+          is.named p m (sym (slice_get-set_there kept.memories place p moved other) ∙ e)
 
   pub memory_updates : (q : ℕ) → memory_at with_memory q ≡ cond (nat_eq vl q) (Some moved) (memory_at kept q)
   unfolding memory_at

@@ -80,6 +80,13 @@ or_none : {X : Type 0} (o : Option X) → option_or o None ≡ o
 or_none None = refl
 or_none (Some x) = refl
 
+-- the next link has no memory yet
+pub none_so_far : (system : ℕ) (links : List LinkRow) (i : ℕ) (link : LinkRow) (held : Kept) →
+    LinksSoFar system links i held → AreDistinct (λ (l : LinkRow). l.vl) links → slice_get links i ≡ Some link →
+    memory_at held link.vl ≡ None
+none_so_far system links i link held so_far distinct here =
+    so_far link.vl ∙ ap (option_map memory_at_first) (none_before system link.vl links i link distinct here refl)
+
 pub link_passed : (system : ℕ) (links : List LinkRow) (i : ℕ) (link : LinkRow) (held : Kept) →
     LinksSoFar system links i held → slice_get links i ≡ Some link → is_to system link ≡ false
     → LinksSoFar system links (i + 1) held

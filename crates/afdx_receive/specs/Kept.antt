@@ -19,13 +19,16 @@ unfoldable pub memory_at : Kept → ℕ → Option LinkMemory
 memory_at kept vl =
     option_and_then (λ place. slice_get kept.memories place) (place_in kept.places vl)
 
--- each link that is kept has a memory of its own
+-- each link that is kept has a memory of its own, which knows its link
 pub record IsKept (kept : Kept) : Type 0 where
   pub within : (vl place : ℕ) → place_in kept.places vl ≡ Some place → place < length kept.memories
   pub own : (a b place : ℕ) →
       place_in kept.places a ≡ Some place →
       place_in kept.places b ≡ Some place →
       a ≡ b
+  pub named : (place : ℕ) (memory : LinkMemory) →
+      slice_get kept.memories place ≡ Some memory →
+      place_in kept.places memory.vl.0 ≡ Some place
   pub few : length kept.places.slots ≤ 16 * length kept.memories
 
 -- a frame of a link that is kept stands so, and the link's memory, and no other, takes it in

@@ -26,8 +26,9 @@ abbrev pub memory_at_first : LinkRow → LinkMemory
 memory_at_first link =
     record {
       skew_ns = 1000 * link.skew_us;
-      previous = record { a = None; b = None };
       winner = None;
+      previous = record { a = None; b = None };
+      vl = record { 0 = link.vl };
     }
 
 -- what is kept of a link: nothing if the system doesn't receive it, else what its own frames leave

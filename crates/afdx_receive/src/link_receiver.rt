@@ -43,7 +43,7 @@ fn links_of(alloc: Global, tables: &Tables, system: SystemId) -> Result<Links, A
     for index in 0..count {
         let link = tables.link(index);
         if link.goes_to(system) {
-            links.insert(link.vl, LinkMemory::new(1000 * link.skew_us))?;
+            links.insert(index, LinkMemory::new(link.vl, 1000 * link.skew_us))?;
         }
     }
     Ok(links)
@@ -87,8 +87,17 @@ impl LinkReceiver {
     /// Takes in what arrives at `time`, in ns, by one of the two networks, as
     /// `Receiver::receive_checked` does, but for the look at the system's UDP ports: a message to
     /// any of them is given.
+    ///
+    /// If `row` is where the tables have the frame's link, its memory is found at once, else by a
+    /// look-up of its identifier. The answer is the same whatever it is.
     #[inline(always)]
-    pub fn receive<'a>(&mut self, time: u64, side: Side, frame: Checked<'a>) -> Reception<'a>
+    pub fn receive<'a>(
+        &mut self,
+        time: u64,
+        side: Side,
+        frame: Checked<'a>,
+        row: u16,
+    ) -> Reception<'a>
         ensures selected { (tables : Rows) (system : ℕ) (past : List Arrived) →
             HasReceived tables system past self.old →
             let x = arrived time side (bytes_of frame.entry) in
@@ -100,7 +109,7 @@ impl LinkReceiver {
             Err(fault) => return Reception::Dropped(DropReason::Mac(fault)),
         };
         let number = view.sequence();
-        let Some(standing) = self.links.consider(view.vl(), time, side, number) else {
+        let Some(standing) = self.links.consider(row, view.vl(), time, side, number) else {
             return Reception::Dropped(DropReason::NotSubscribed);
         };
         match standing {

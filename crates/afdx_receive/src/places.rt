@@ -81,6 +81,7 @@ impl Places {
         ensures same { (q : ℕ) → place_in self.new q ≡ place_in self.old q }
         ensures number { IfOk result (λ number. number_in self.new page ≡ Some number) }
         ensures count { length self.new.slots ≤ length self.old.slots + page_size }
+        ensures room { OnErr result (length self.new.slots ≡ length self.old.slots) }
     {
         lengthen(&mut self.pages, page)?;
         let number = (self.slots.len() / PAGE) as u16;
@@ -95,6 +96,7 @@ impl Places {
         ensures same { (q : ℕ) → place_in self.new q ≡ place_in self.old q }
         ensures slot { IfOk result (λ slot. slot_in self.new vl.0 ≡ Some slot) }
         ensures count { length self.new.slots ≤ length self.old.slots + page_size }
+        ensures room { OnErr result (length self.new.slots ≡ length self.old.slots) }
     {
         let page = vl.0 as usize / PAGE;
         if let Some(number) = self.number_of(page) {
@@ -111,6 +113,7 @@ impl Places {
             place_in self.new q ≡ cond (nat_eq vl.0 q) (Some place) (place_in self.old q)) }
         ensures same { OnErr result ((q : ℕ) → place_in self.new q ≡ place_in self.old q) }
         ensures count { length self.new.slots ≤ length self.old.slots + page_size }
+        ensures room { OnErr result (length self.new.slots ≡ length self.old.slots) }
     {
         let slot = self.make_room(vl)?;
         self.slots[slot] = Some(place);

@@ -104,7 +104,7 @@ impl Receiver {
             Receives tables system past x (answer_of result) self.new }
         ensures unchanged { IsTrue (is_ignored (answer_of result)) → self.new ≡ self.old }
     {
-        match self.links.receive(time, side, frame) {
+        match self.links.receive(time, side, frame, 0) {
             Reception::Dropped(why) => Reception::Dropped(why),
             Reception::Message { vl, udp, bytes } => {
                 let to = Endpoint { link: vl, udp };

@@ -189,9 +189,9 @@ fn given_back_room_holds_the_next_message(rt: HostRuntime) -> Result<(), Fail> {
     Ok(())
 }
 
-/// Whether no port takes messages to this UDP port on this link.
+/// Whether no port takes messages to this UDP port on this link, wherever it is looked for first.
 fn has_none(ports: &ComPorts, link: u16, udp: u16) -> bool {
-    ports.find(VlId(link), udp).is_none()
+    ports.find(VlId(link), udp).is_none() && ports.find_near(0, VlId(link), udp).is_none()
 }
 
 #[test]
@@ -213,11 +213,21 @@ fn each_port_by_itself(rt: HostRuntime) -> Result<(), Fail> {
     all_right(wrong_step(&rt, &mut ports, steps.as_slice())?)
 }
 
+/// Whether a link has its port at the place of its number, by its identifier alone, and wherever it
+/// is looked for first: at its row, at the next, or at a row that isn't there.
+fn is_in_order(ports: &ComPorts, vl: u16) -> bool {
+    let place = Some(usize::from(vl));
+    ports.find(VlId(vl), 1000) == place
+        && ports.find_near(vl, VlId(vl), 1000) == place
+        && ports.find_near(vl.saturating_add(1), VlId(vl), 1000) == place
+        && ports.find_near(u16::MAX, VlId(vl), 1000) == place
+}
+
 /// How many links have their port at the place of their number.
 fn links_in_order(ports: &ComPorts) -> usize {
     let mut links: usize = 0;
     for vl in 0..GREATEST_COUNT {
-        if ports.find(VlId(vl), 1000) == Some(usize::from(vl)) {
+        if is_in_order(ports, vl) {
             links = links.saturating_add(1);
         }
     }

@@ -93,6 +93,8 @@ fn hand_over(
             port,
             time: frame.time,
             line,
+            // (the right row of some, another link's or none of others: all are told the same)
+            row: u16::try_from(line).unwrap_or(0),
             frame: Checked::new(frame.bytes.as_slice()),
         };
         let is_delivered = receive(systems, handover, text)?;

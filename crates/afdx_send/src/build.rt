@@ -86,7 +86,7 @@ pub(crate) fn build(
 {
     // A law, for the proof: what admitted tables let a sender wait with fits its port.
     tables_are_served();
-    let rooms = Rooms::new(alloc);
+    let (rooms, frame_rooms) = (Rooms::new(alloc), Rooms::new(alloc));
     let tables = tables.tables();
     let row = tables.system(system);
     let lines = new_lines(alloc, tables, system)?;
@@ -95,7 +95,6 @@ pub(crate) fn build(
     let byte_ns = tables.byte_ns(system);
     let output = Port::new(alloc, byte_ns, BUFFER)?;
     Ok(SenderState {
-        alloc,
         system_id: row.id,
         partition: row.partition,
         clock: 0,
@@ -105,5 +104,6 @@ pub(crate) fn build(
         output,
         ready: None,
         rooms,
+        frame_rooms,
     })
 }

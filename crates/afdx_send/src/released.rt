@@ -3,9 +3,9 @@
 ghost use Rattle.std.specs.Prelude.{◌≡◌, ◌≤◌, length, IfOk};
 ghost use Rattle.afdx_frame.specs.Lengths.{least_frame, greatest_frame, greatest_payload};
 
-use afdx_frame::{Address, FRAME_OVERHEAD, LEAST_FRAME, VlId, build_both};
+use afdx_frame::{Address, FRAME_OVERHEAD, LEAST_FRAME, VlId, build_both_in};
 use afdx_port::HasLength;
-use std::alloc::{AllocError, Global};
+use std::alloc::AllocError;
 use std::marker::Model;
 
 /// A released message on its way through the output port: what its frames are built from.
@@ -68,10 +68,10 @@ impl Released {
         payload
     }
 
-    /// The frames for network A and network B.
+    /// The frames for network A and network B, in the place of what two vectors hold.
     pub(crate) fn frames(
         &self,
-        alloc: Global,
+        rooms: (Vec<u8>, Vec<u8>),
         system_id: u16,
         partition: u8,
     ) -> Result<(Vec<u8>, Vec<u8>), AllocError>
@@ -98,7 +98,7 @@ impl Released {
             to_udp: self.udp,
             least: self.least,
         };
-        build_both(alloc, &address, self.number, self.payload.as_slice())
+        build_both_in(rooms, &address, self.number, self.payload.as_slice())
     }
 }
 

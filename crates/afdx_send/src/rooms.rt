@@ -1,4 +1,4 @@
-//! The rooms of payloads that were sent, for payloads to come.
+//! The rooms of bytes that were sent, for bytes to come.
 
 ghost use Rattle.std.specs.Prelude.{◌≡◌, IfOk};
 
@@ -26,13 +26,19 @@ impl Rooms {
         }
     }
 
+    /// A vector with any bytes: one that isn't wanted any more, or a new one without memory.
+    pub(crate) fn take(&mut self) -> Vec<u8> {
+        match self.rooms.pop() {
+            Some(room) => room,
+            None => Vec::new(self.alloc),
+        }
+    }
+
     /// A copy of these bytes. It takes memory where there is no room, or one that is too small.
     pub(crate) fn copy(&mut self, bytes: &[u8]) -> Result<Vec<u8>, AllocError>
         ensures copied { IfOk result (λ copy. copy.items ≡ bytes.now) }
     {
-        let Some(mut copy) = self.rooms.pop() else {
-            return Vec::from_slice(self.alloc, bytes);
-        };
+        let mut copy = self.take();
         copy.clear();
         copy.extend_from_slice(bytes)?;
         Ok(copy)

@@ -97,4 +97,12 @@ impl Sender {
     {
         self.state.emit(until)
     }
+
+    /// Takes an emission back whose frames aren't wanted any more: later ones are built in their
+    /// memory. Nothing else changes.
+    pub fn give_back(&mut self, emission: Emission)
+        ensures { self.new ≡ self.old }
+    {
+        self.state.give_back(emission);
+    }
 }

@@ -18,11 +18,10 @@ use afdx_bounds::laws::sender_is_bounded;
 use afdx_frame::{Priority, VlId};
 use afdx_port::laws::{due_is_next, one_schedule, taken_are_on_schedule};
 use afdx_port::{Left, Port};
-use std::alloc::{AllocError, Global};
+use std::alloc::AllocError;
 
 /// What a sender works with.
 pub(crate) struct SenderState {
-    pub(crate) alloc: Global,
     pub(crate) system_id: u16,
     pub(crate) partition: u8,
     /// The last time used.
@@ -38,13 +37,14 @@ pub(crate) struct SenderState {
     pub(crate) ready: Option<Left<Released>>,
     /// Of the payloads that were emitted.
     pub(crate) rooms: Rooms,
+    /// Of the frames that were given back.
+    pub(crate) frame_rooms: Rooms,
 }
 
 impl Drop for SenderState {
     // (written out, it is one call wherever a value is let go)
     fn drop(self) {
         let Self {
-            alloc,
             system_id,
             partition,
             clock,
@@ -54,6 +54,7 @@ impl Drop for SenderState {
             output,
             ready,
             rooms,
+            frame_rooms,
         } = self;
     }
 }
@@ -184,8 +185,12 @@ impl SenderState {
         }
     }
 
-    /// The two frames of a message that has left the port.
-    fn emission(&self, left: &Left<Released>) -> Result<Emission, AllocError>
+    /// The two frames of a message that has left the port, in the place of what two vectors hold.
+    fn emission(
+        &self,
+        left: &Left<Released>,
+        rooms: (Vec<u8>, Vec<u8>),
+    ) -> Result<Emission, AllocError>
         ensures time { IfOk result (λ e. e.time ≡ left.now.end) }
         ensures vl { IfOk result (λ e. e.vl.0 ≡ left.now.item.vl) }
         ensures sending { IfOk result
@@ -200,15 +205,22 @@ impl SenderState {
             (address_with self.now.system_id self.now.partition left.now.item)
             left.now.item.number B left.now.item.message.payload) }
     {
-        let (a, b) = left
-            .item
-            .frames(self.alloc, self.system_id, self.partition)?;
+        let (a, b) = left.item.frames(rooms, self.system_id, self.partition)?;
         Ok(Emission {
             time: left.end,
             vl: left.item.vl(),
             a,
             b,
         })
+    }
+
+    /// The memory of its frames is used for later ones.
+    pub(crate) fn give_back(&mut self, emission: Emission)
+        ensures { self.new ≡ self.old }
+    {
+        let Emission { a, b, .. } = emission;
+        self.frame_rooms.give_back(a);
+        self.frame_rooms.give_back(b);
     }
 
     pub(crate) fn emit(&mut self, until: u64) -> Result<Option<Emission>, AllocError>
@@ -226,7 +238,8 @@ impl SenderState {
         let Some(left) = self.ready.take() else {
             return Ok(None);
         };
-        match self.emission(&left) {
+        let rooms = (self.frame_rooms.take(), self.frame_rooms.take());
+        match self.emission(&left, rooms) {
             Ok(emission) => {
                 self.rooms.give_back(left.item.into_payload());
                 Ok(Some(emission))

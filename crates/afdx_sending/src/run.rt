@@ -154,6 +154,7 @@ impl<'a> Sending<'a> {
     {
         while let Some(emission) = self.sender.emit(until)? {
             put_emission(output, self.port, &emission)?;
+            self.sender.give_back(emission);
             self.counts.departed += 1;
         }
         Ok(())

@@ -24,6 +24,8 @@ fn new_ports(alloc: Global, tables: &Tables) -> Result<ComPorts, AllocError> {
 /// Whether a sampling port has a message that was put to it.
 fn is_shown(ports: &mut ComPorts) -> bool {
     let udp: u16 = 1000;
+    let row: u16 = 0;
+    let near: Option<usize> = ports.find_near(row, VlId(1), udp);
     let found: Option<usize> = ports.find(VlId(1), udp);
     let Some(port) = found else {
         return false;
@@ -32,7 +34,7 @@ fn is_shown(ports: &mut ComPorts) -> bool {
     let taken: Result<(), PutFault> = ports.put(port, time, message);
     let is_taken = taken.map_err(place).is_ok();
     let shown: Option<(u64, &[u8])> = ports.read_sample(port);
-    is_taken && shown == Some((time, message))
+    near == found && is_taken && shown == Some((time, message))
 }
 
 /// Whether a queue gives a message that was put to it.

@@ -1,7 +1,7 @@
 //! The items of `afdx_conform`.
 
-use afdx_conform::{Arrived, Counts, Finding, Frame, Leeway, Stream};
-use afdx_frame::{Policing, Side, VlId};
+use afdx_conform::{Arrived, CheckedBytes, Counts, Finding, Frame, Leeway, Stream};
+use afdx_frame::{Checked, Policing, Side, VlId};
 use afdx_police::LinkRule;
 use afdx_samples::{equal, hello};
 use std::alloc::{AllocError, Global};
@@ -20,12 +20,12 @@ fn stream(alloc: Global, rule: &LinkRule) -> Option<Stream> {
 /// One arrival, and its frame.
 fn tell(alloc: Global, stream: &mut Stream, rule: &LinkRule) -> Result<(), AllocError> {
     let (number, side, port): (u64, Side, u8) = (1, Side::A, 1);
-    let bytes: Vec<u8> = Vec::from_slice(alloc, &hello(0))?;
+    let bytes: CheckedBytes = CheckedBytes::of(alloc, Checked::new(&hello(0)))?;
     let arrived: Arrived = Arrived::new(rule, number, 0, side, port, bytes);
     let came: Result<(), AllocError> = stream.came(arrived);
     came?;
     let time: u64 = 6_720;
-    let bytes: Vec<u8> = Vec::from_slice(alloc, &hello(0))?;
+    let bytes: CheckedBytes = CheckedBytes::of(alloc, Checked::new(&hello(0)))?;
     let left: Result<(), AllocError> = stream.left(Frame {
         number,
         time,

@@ -42,8 +42,8 @@ fn new_sender(alloc: Global, tables: &Admitted) -> Result<Sender, AllocError>
     sender
 }
 
-/// What is emitted of a message by 6,720 ns.
-fn emitted(alloc: Global, tables: &Admitted) -> Result<Option<Emission>, Fail>
+/// What an emission of a message tells by 6,720 ns. Its frames are given back.
+fn emitted(alloc: Global, tables: &Admitted) -> Result<Option<(u64, VlId, usize, usize)>, Fail>
     requires { 0 < tables.now.own }
 {
     let mut sender = new_sender(alloc, tables)?;
@@ -53,7 +53,12 @@ fn emitted(alloc: Global, tables: &Admitted) -> Result<Option<Emission>, Fail>
     equal(taken.map_err(place), Ok(()))?;
     let until: u64 = 6720;
     let emission: Result<Option<Emission>, AllocError> = sender.emit(until);
-    Ok(emission?)
+    let Some(emission) = emission? else {
+        return Ok(None);
+    };
+    let told = parts(&emission);
+    sender.give_back(emission);
+    Ok(Some(told))
 }
 
 #[test]
@@ -62,6 +67,6 @@ fn emissions(rt: HostRuntime) -> Result<(), Fail> {
     if tables.tables().own_count() == 0 {
         return Err("a system".into());
     }
-    let emission = emitted(rt.alloc(), &tables)?.ok_or("an emission")?;
-    equal(parts(&emission), (6720, VlId(1), 64, 64))
+    let told = emitted(rt.alloc(), &tables)?.ok_or("an emission")?;
+    equal(told, (6720, VlId(1), 64, 64))
 }

@@ -26,14 +26,15 @@ fn is_nowhere(lost: PortSet) -> bool {
 }
 
 /// What a departure tells of itself.
-fn parts(departure: &Departure) -> (u64, u8, u64, bool, usize) {
+fn parts(departure: &Departure) -> (u64, u8, u64, u16, bool, usize) {
     let time: u64 = departure.time();
     let port: u8 = departure.port();
     let tag: u64 = departure.tag();
+    let row: u16 = departure.row();
     let too_old: bool = departure.too_old();
     let held = departure.bytes();
     let bytes: &[u8] = held.as_slice();
-    (time, port, tag, too_old, bytes.len())
+    (time, port, tag, row, too_old, bytes.len())
 }
 
 /// What becomes of a frame at time 0, and what leaves by 6,720 ns.
@@ -58,5 +59,5 @@ fn frames(rt: HostRuntime) -> Result<(), Fail> {
     let (verdict, left) = passed(rt.alloc(), &tables, &hello(0))?;
     let left = left.ok_or("a departure")?;
     equal(is_kept(verdict), true)?;
-    equal(parts(&left), (6720, 3, 7, false, 64))
+    equal(parts(&left), (6720, 3, 7, 0, false, 64))
 }

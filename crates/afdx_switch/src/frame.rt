@@ -15,6 +15,8 @@ use std::rc::Rc;
 #[derive(Drop)]
 pub(crate) struct Stored {
     tag: u64,
+    /// The row of its link in the tables.
+    row: u16,
     /// How long the frame may wait for its turn, in ns, if there is a limit.
     longest_wait: Option<u64>,
     /// All bytes but the check sequence, which is theirs.
@@ -27,6 +29,7 @@ impl Stored {
     pub(crate) fn new(
         alloc: Global,
         tag: u64,
+        row: u16,
         longest_wait: Option<u64>,
         message: &[u8],
     ) -> Result<Stored, AllocError>
@@ -36,6 +39,7 @@ impl Stored {
         let message = Vec::from_slice(alloc, message)?;
         Ok(Stored {
             tag,
+            row,
             longest_wait,
             message,
         })
@@ -45,6 +49,7 @@ impl Stored {
     pub(crate) fn renew(
         &mut self,
         tag: u64,
+        row: u16,
         longest_wait: Option<u64>,
         message: &[u8],
     ) -> Result<(), AllocError>
@@ -54,6 +59,7 @@ impl Stored {
         self.message.clear();
         self.message.extend_from_slice(message)?;
         self.tag = tag;
+        self.row = row;
         self.longest_wait = longest_wait;
         Ok(())
     }
@@ -88,17 +94,15 @@ impl Model for Frame {
 impl Frame {
     ghost use Rattle.afdx_switch.specs.HeldFrames.{HeldFrame, stored_frame};
 
-    /// A share of a frame's one copy.
-    pub(crate) fn of(stored: &Rc<Stored>) -> Result<Frame, AllocError>
-        requires shortest { least_frame ≤ length (stored_frame stored.now.value).bytes }
-        requires longest { length (stored_frame stored.now.value).bytes ≤ greatest_frame }
-        requires wait { IfSome (stored_frame stored.now.value).longest_wait
+    /// The first share of a frame's one copy.
+    pub(crate) fn of(stored: Rc<Stored>) -> Frame
+        requires shortest { least_frame ≤ length (stored_frame stored.value).bytes }
+        requires longest { length (stored_frame stored.value).bytes ≤ greatest_frame }
+        requires wait { IfSome (stored_frame stored.value).longest_wait
             (λ wait. wait ≤ greatest_wait) }
-        ensures { IfOk result (λ f. f ≡ stored_frame stored.now.value) }
+        ensures { result ≡ stored_frame stored.value }
     {
-        Ok(Frame {
-            stored: stored.clone()?,
-        })
+        Frame { stored }
     }
 
     /// One more share.
@@ -110,10 +114,23 @@ impl Frame {
         })
     }
 
+    /// The copy, if this is its last share.
+    pub(crate) fn last(&self) -> Option<Rc<Stored>> {
+        if Rc::strong_count(&self.stored) > 1 {
+            return None;
+        }
+        self.stored.clone().ok()
+    }
+
     pub(crate) fn tag(&self) -> u64
         ensures { result ≡ self.now.tag }
     {
         self.stored.as_ref().tag
+    }
+
+    /// The row of its link in the tables.
+    pub(crate) fn row(&self) -> u16 {
+        self.stored.as_ref().row
     }
 
     /// All bytes but the check sequence.

@@ -10,24 +10,24 @@ use crate::frame::{Frame, Stored};
 use std::alloc::{AllocError, Global};
 use std::rc::Rc;
 
-/// So many copies are kept.
+/// So many copies are kept at most.
 const KEPT: usize = 128;
 
-/// The copies of the latest frames, in a ring. Where no port holds a frame any more, its memory is
-/// that of a later one.
+/// The copies of frames that no port holds any more, the newest last. A later frame takes the
+/// memory of the newest.
 #[derive(Drop)]
 pub(crate) struct Store {
     alloc: Global,
     kept: Vec<Rc<Stored>>,
-    /// The place of the next copy.
-    next: usize,
 }
 
-/// Puts another frame in the place of one: in its memory, or in new memory if a port holds the one.
+/// Puts another frame in the place of one: in its memory, or in new memory if there are shares of
+/// the one.
 fn replace(
     alloc: Global,
     kept: &mut Rc<Stored>,
     tag: u64,
+    row: u16,
     longest_wait: Option<u64>,
     message: &[u8],
 ) -> Result<(), AllocError>
@@ -35,9 +35,9 @@ fn replace(
         (stored_frame kept.new.value ≡ held_frame tag longest_wait (sealed message.now)) }
 {
     if let Some(stored) = Rc::get_mut(kept) {
-        return stored.renew(tag, longest_wait, message);
+        return stored.renew(tag, row, longest_wait, message);
     }
-    *kept = Rc::new(alloc, Stored::new(alloc, tag, longest_wait, message)?)?;
+    *kept = Rc::new(alloc, Stored::new(alloc, tag, row, longest_wait, message)?)?;
     Ok(())
 }
 
@@ -46,7 +46,6 @@ impl Store {
         Ok(Store {
             alloc,
             kept: Vec::with_capacity(alloc, KEPT)?,
-            next: 0,
         })
     }
 
@@ -54,6 +53,7 @@ impl Store {
     pub(crate) fn copy(
         &mut self,
         tag: u64,
+        row: u16,
         longest_wait: Option<u64>,
         message: &[u8],
     ) -> Result<Frame, AllocError>
@@ -62,17 +62,20 @@ impl Store {
         requires wait { IfSome longest_wait (λ wait. wait ≤ greatest_wait) }
         ensures { IfOk result (λ f. f ≡ held_frame tag longest_wait (sealed message.now)) }
     {
-        let place = self.next % KEPT;
-        self.next = place + 1;
-        if place < self.kept.len() {
-            let kept = &mut self.kept[place];
-            replace(self.alloc, kept, tag, longest_wait, message)?;
-            return Frame::of(kept);
+        if let Some(mut stored) = self.kept.pop() {
+            replace(self.alloc, &mut stored, tag, row, longest_wait, message)?;
+            return Ok(Frame::of(stored));
         }
-        let stored = Stored::new(self.alloc, tag, longest_wait, message)?;
-        let kept = Rc::new(self.alloc, stored)?;
-        let frame = Frame::of(&kept)?;
-        self.kept.push(kept)?;
-        Ok(frame)
+        let stored = Stored::new(self.alloc, tag, row, longest_wait, message)?;
+        Ok(Frame::of(Rc::new(self.alloc, stored)?))
+    }
+
+    /// Keeps the copy of a frame of which this is the last share, if there is room.
+    pub(crate) fn keep(&mut self, share: &Frame) {
+        if self.kept.len() < KEPT
+            && let Some(stored) = share.last()
+        {
+            let _kept = self.kept.push(stored);
+        }
     }
 }

@@ -60,6 +60,12 @@ impl Departure {
         self.left.item.tag()
     }
 
+    /// Where its link stands in the tables of the switch, for who looks for it there first. No
+    /// contract says so: look whether it is the frame's link.
+    pub fn row(&self) -> u16 {
+        self.left.item.row()
+    }
+
     /// All bytes of the frame, the check sequence with them, which is found here.
     pub fn bytes(&self) -> ArrayVec<u8, GREATEST_FRAME>
         ensures bytes { result.items ≡ (as_given self.now).item.bytes }
@@ -232,6 +238,10 @@ impl Switch {
         requires clock { last_time self.old ≤ until }
         ensures { Takes self.old self.new until result }
     {
-        self.state.take(until)
+        let taken = self.state.take(until);
+        if let Some(departure) = &taken {
+            self.store.keep(&departure.left.item);
+        }
+        taken
     }
 }

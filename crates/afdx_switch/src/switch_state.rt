@@ -263,13 +263,17 @@ impl SwitchState {
         };
         let line = &self.lines[place];
         let count = line.goes.len();
-        let copy = store.copy(tag, line.longest_wait, frame.message)?;
+        let row = u16::try_from(place).unwrap_or(u16::MAX);
+        let copy = store.copy(tag, row, line.longest_wait, frame.message)?;
         share_out(&copy, count, shares)?;
         self.clock = time;
         if let Some(reason) = charge(&mut self.lines, place, time, frame.length()) {
+            shares.clear();
+            store.keep(&copy);
             return Ok(Verdict::Dropped(reason));
         }
         let lost = self.send_on(place, shares);
+        store.keep(&copy);
         Ok(Verdict::Accepted { lost })
     }
 

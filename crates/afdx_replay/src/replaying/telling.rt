@@ -110,6 +110,7 @@ pub(crate) fn tell_departure<M, O: Sink>(
         port: departure.port(),
         time: departure.time(),
         line: departure.tag(),
+        row: departure.row(),
         frame: departure.frame(),
     };
     counts.departed += 1;

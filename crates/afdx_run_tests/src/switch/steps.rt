@@ -163,6 +163,14 @@ fn left(switch: &mut Switch, until: u64) -> Option<(u64, u64, u8, bool)>
     Some((gone.tag(), gone.time(), gone.port(), gone.too_old()))
 }
 
+/// Whether this is the row of a frame's link in tables whose links have the identifiers from 1 on.
+fn is_row_of(row: u16, frame: &[u8]) -> bool {
+    match frame.get(5) {
+        Some(vl) => u16::from(*vl) == row.saturating_add(1),
+        None => false,
+    }
+}
+
 /// Whether what leaves by `until` is this frame, with this tag, at this time and port.
 fn brings(switch: &mut Switch, until: u64, left: (u64, u64, u8), frame: &[u8]) -> bool
     requires { last_time switch.old ≤ until }
@@ -171,7 +179,9 @@ fn brings(switch: &mut Switch, until: u64, left: (u64, u64, u8), frame: &[u8]) -
     match switch.take(until) {
         Some(gone) => {
             let bytes = gone.bytes();
-            (gone.tag(), gone.time(), gone.port()) == left && bytes.as_slice() == frame
+            (gone.tag(), gone.time(), gone.port()) == left
+                && is_row_of(gone.row(), frame)
+                && bytes.as_slice() == frame
         }
         None => false,
     }

@@ -46,6 +46,7 @@ fn is_told(alloc: Global, tables: &Tables, frame: &[u8], line: &str) -> Result<b
         port: 3,
         time: 7,
         line: 1,
+        row: 0,
         frame: Checked::new(frame),
     };
     let is_delivered = receive(&mut systems, handover, &mut text)?;

@@ -11,7 +11,7 @@ returns-then-fits c z a =
     sym (c.loop-arrived.invariant z a
     ∙ any-arrived (λ w. fits z w (gone_of c.args.frame.now)) c.args.arrivals.now c.loop-arrived.arrived-index c.arrived-item.result
     true c.loop-arrived-test.true is
-    (sym (c.fits.ensures z (arrival_of c.arrived-item.result) a refl (sym c.as_slice.ensures.value)) ∙ c.if-fits.true))
+    (sym (c.fits.ensures z (arrival_of c.arrived-item.result) a refl refl) ∙ c.if-fits.true))
 
 pub loop-arrived-preserved : goal.loop-arrived-preserved
 loop-arrived-preserved c z a =
@@ -19,7 +19,7 @@ loop-arrived-preserved c z a =
     c.loop-arrived.invariant z a
     ∙ any-arrived (λ w. fits z w (gone_of c.args.frame.now)) c.args.arrivals.now c.loop-arrived.arrived-index c.arrived-item.result
     false c.loop-arrived-test.true is
-    (sym (c.fits.ensures z (arrival_of c.arrived-item.result) a refl (sym c.as_slice.ensures.value)) ∙ c.if-fits.false)
+    (sym (c.fits.ensures z (arrival_of c.arrived-item.result) a refl refl) ∙ c.if-fits.false)
 
 pub returns : goal.returns
 returns c z a =

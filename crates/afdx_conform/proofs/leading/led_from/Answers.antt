@@ -1,4 +1,4 @@
-use Rattle.std.proofs.Common.{length, List, map, drop, refl, sym, ap, ◌∙◌}
+use Rattle.std.proofs.Common.{length, List, map, drop, refl, ap, ◌∙◌}
 use Rattle.std.proofs.lemmas.List.Elements.{All-same}
 use Rattle.afdx_conform.specs.Explanations.{link, levels_then}
 use Rattle.afdx_conform.specs.HeldStates.{IsNext, IsSmall, IsCaseWithin, state_of}
@@ -27,7 +27,7 @@ returns-clause-defined c z last b j ns opens =
     (c.lead_all.ensures.defined z (arrival_of c.args.arrived.now) (map gone_of c.args.frames.now) last b.rates j.charge ns
     (All-same (λ (d : Case). IsNext z (arrival_of c.args.arrived.now) (drop d.held.passed (map gone_of c.args.frames.now)) d.next) _ _
     c.as_slice.ensures.value
-    (c.in_ok-cases.ensures.next z (arrival_of c.args.arrived.now) b.limits refl (sym c.as_slice-bytes.ensures.value) opens)))
+    (c.in_ok-cases.ensures.next z (arrival_of c.args.arrived.now) b.limits refl refl opens)))
 
 pub returns-clause-within : goal.returns-clause-within
 returns-clause-within c link by count r all =

@@ -13,7 +13,7 @@ use Rattle.afdx_conform.proofs.leading.led_one.Goals as goal
 
 pub returns-clause-defined : goal.returns-clause-defined
 returns-clause-defined c z last b j ns opens =
-    let next = c.next-next.ensures.defined z (arrival_of c.args.arrived.now) b.limits refl (sym c.as_slice-bytes.ensures.value) opens in
+    let next = c.next-next.ensures.defined z (arrival_of c.args.arrived.now) b.limits refl refl opens in
     let lead = c.lead-accepted.ensures.defined z (arrival_of c.args.arrived.now) (map gone_of c.args.frames.now) b.rates j.charge next in
     let levels = c.later-levels.ensures.moved (link z) z.by b.rates
     ∙ ap (λ (n : ℕ). later (link z) z.by n c.args.state.levels) ns in

@@ -32,11 +32,11 @@ returns c =
     ≡ unsealed c.args.address.now.vl.0 (source_of c.args.address.now c.args.side) 0x0800
     (built_body c.args.address.now c.args.payload.now) c.args.sequence =
     appended c.as_slice-2.result.now c.as_slice-3.result.now c.as_slice-4.result.now c.args.payload.now
-    c.in_ok-frame.frame.items c.extend_from_slice.new.self.items
+    c.reserve_exact.new.self.items c.extend_from_slice.new.self.items
     c.extend_from_slice-2.new.self.items c.extend_from_slice-3.new.self.items
     c.extend_from_slice-4.new.self.items c.resize.new.self.items c.push.new.self.items
     (c.max-length.result - 5) (vec_len c.extend_from_slice-4.new.self) pad c.args.sequence
-    c.in_ok-frame.ensures.items
+    (c.in_ok-reserve_exact.ensures.items ∙ c.clear.ensures.items)
     c.in_ok-extend_from_slice.ensures.items
     c.in_ok-extend_from_slice-2.ensures.items
     c.in_ok-extend_from_slice-3.ensures.items
@@ -49,7 +49,8 @@ returns c =
       ap length mac,
       ap length ip,
       ap length udp,
-      c.in_ok-frame.ensures.len,
+      c.clear.ensures.len,
+      c.in_ok-reserve_exact.ensures.len,
       c.in_ok-extend_from_slice.ensures.len,
       c.in_ok-extend_from_slice-2.ensures.len,
       c.in_ok-extend_from_slice-3.ensures.len,

@@ -1,8 +1,15 @@
 use Rattle.std.proofs.Common.{refl, arith}
 use Rattle.afdx_config.specs.Rows.{link_row}
-use Rattle.afdx_receive.proofs.TableLemmas.{link_passed, link_added}
+use Rattle.afdx_receive.proofs.TableLemmas.{none_so_far, link_passed, link_added}
 use Rattle.afdx_receive.proofs.link_receiver.links_of.Goals as goal
 use Rattle.afdx_receive.proofs.link_receiver.links_of.Goals.{then-goes_to+in_ok-insert, else-goes_to}
+
+pub insert-requires-clause-absent : goal.insert-requires-clause-absent
+insert-requires-clause-absent c =
+    rw c.new.ensures
+    (none_so_far c.args.system.0 c.args.tables.now.links c.loop-index.index (link_row c.link-link.result.now)
+    c.loop-index.links c.loop-index.invariant.so_far c.link-link.ensures.lawful.links.identifiers
+    c.link-link.ensures.row)
 
 pub loop-index-preserved : goal.loop-index-preserved
 loop-index-preserved c =

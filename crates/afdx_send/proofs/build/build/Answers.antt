@@ -15,7 +15,6 @@ use Rattle.afdx_send.proofs.build.build.Goals as goal
 
 made : goal.In_ok-output → SenderState
 made c = record {
-  alloc = c.args.alloc;
   system_id = c.system-row.result.now.id;
   partition = c.system-row.result.now.partition;
   clock = 0;
@@ -25,6 +24,7 @@ made c = record {
   output = c.in_ok-output.output;
   ready = None;
   rooms = tt;
+  frame_rooms = tt;
 }
 
 -- a system stands among those of the tables

@@ -15,6 +15,7 @@ use Rattle.afdx_acceptance.proofs.FullLemmas.{behind-later, does-count, out-of-c
 use Rattle.afdx_acceptance.specs.ChoicesOf.{choices_of}
 use Rattle.afdx_engine.specs.Engine.{item_of}
 use Rattle.afdx_frame.specs.Layout.{link_named_by}
+use Rattle.afdx_frame.specs.Parts.{bytes_of}
 use Rattle.afdx_inputs.specs.Joining.{frame_of}
 use Rattle.afdx_acceptance.proofs.judging.Judging.take.Goals as goal
 
@@ -36,10 +37,10 @@ returns-then-is_passed-clause-counted c = λ frames before.
     missed-next t k x frames c.args.self.now.left_out c.saturating_add-self.result true
     (missed-in t k x true (sym (c.is_in_time.ensures
     (taps_in c.args.self.now.streams.taps.now) c.args.message.now c.args.n) ∙ c.if-not-is_in_time.false)
-    (sym (c.is_passed.ensures x refl refl (c.vl_of-vl.ensures.computed
-    ∙ ap link_named_by (c.as_slice.ensures.value ∙ c.in_ok-bytes.ensures))
-    (c.place_named-named.ensures.place x.arrival.bytes (c.vl_of-vl.ensures.computed
-    ∙ ap link_named_by (c.as_slice.ensures.value ∙ c.in_ok-bytes.ensures)))) ∙ c.if-is_passed.true)) before
+    (sym (c.is_passed.ensures x refl refl (c.in_ok-vl.ensures
+    ∙ ap link_named_by c.frame-frame.ensures)
+    (c.place_named-named.ensures.place x.arrival.bytes (c.in_ok-vl.ensures
+    ∙ ap link_named_by c.frame-frame.ensures))) ∙ c.if-is_passed.true)) before
     c.saturating_add-self.ensures
 
 pub returns-in-Came-clause-counted : goal.returns-in-Came-clause-counted
@@ -51,10 +52,10 @@ returns-in-Came-clause-counted c = λ frames before.
     (missed-next t k x frames c.args.self.now.left_out c.args.self.now.left_out false
     (missed-in t k x false (sym (c.is_in_time.ensures
     (taps_in c.args.self.now.streams.taps.now) c.args.message.now c.args.n) ∙ c.if-not-is_in_time.false)
-    (sym (c.is_passed.ensures x refl refl (c.vl_of-vl.ensures.computed
-    ∙ ap link_named_by (c.as_slice.ensures.value ∙ c.in_ok-bytes.ensures))
-    (c.place_named-named.ensures.place x.arrival.bytes (c.vl_of-vl.ensures.computed
-    ∙ ap link_named_by (c.as_slice.ensures.value ∙ c.in_ok-bytes.ensures)))) ∙ c.if-is_passed.false)) before
+    (sym (c.is_passed.ensures x refl refl (c.in_ok-vl.ensures
+    ∙ ap link_named_by c.frame-frame.ensures)
+    (c.place_named-named.ensures.place x.arrival.bytes (c.in_ok-vl.ensures
+    ∙ ap link_named_by c.frame-frame.ensures))) ∙ c.if-is_passed.false)) before
     (let b = before in omega (arith, b)))
 
 pub returns-in-Left-clause-counted : goal.returns-in-Left-clause-counted
@@ -66,24 +67,24 @@ returns-in-Left-clause-counted c = λ frames before.
     (missed-next t k x frames c.args.self.now.left_out c.args.self.now.left_out false
     (missed-in t k x false (sym (c.is_in_time.ensures
     (taps_in c.args.self.now.streams.taps.now) c.args.message.now c.args.n) ∙ c.if-not-is_in_time.false)
-    (sym (c.is_passed.ensures x refl refl (c.vl_of-vl.ensures.computed
-    ∙ ap link_named_by (c.as_slice.ensures.value ∙ c.in_ok-bytes.ensures))
-    (c.place_named-named.ensures.place x.arrival.bytes (c.vl_of-vl.ensures.computed
-    ∙ ap link_named_by (c.as_slice.ensures.value ∙ c.in_ok-bytes.ensures)))) ∙ c.if-is_passed.false)) before
+    (sym (c.is_passed.ensures x refl refl (c.in_ok-vl.ensures
+    ∙ ap link_named_by c.frame-frame.ensures)
+    (c.place_named-named.ensures.place x.arrival.bytes (c.in_ok-vl.ensures
+    ∙ ap link_named_by c.frame-frame.ensures))) ∙ c.if-is_passed.false)) before
     (let b = before in omega (arith, b)))
 
-pub returns-then-len-gt-MOST_BYTES-clause-counted : goal.returns-then-len-gt-MOST_BYTES-clause-counted
-returns-then-len-gt-MOST_BYTES-clause-counted c = λ frames before.
+pub returns-then-length-gt-MOST_BYTES-clause-counted : goal.returns-then-length-gt-MOST_BYTES-clause-counted
+returns-then-length-gt-MOST_BYTES-clause-counted c = λ frames before.
     let t = c.args.self.now.streams.tables.now in
     let k = choices_of (taps_in c.args.self.now.streams.taps.now) c.args.self.now.choices.now in
     let x = frame_of (item_of c.args.n c.args.seen.now c.args.message.now) in
     missed-next t k x frames c.args.self.now.left_out c.args.self.now.left_out false
     (missed-in t k x false (sym (c.is_in_time.ensures
     (taps_in c.args.self.now.streams.taps.now) c.args.message.now c.args.n) ∙ c.if-not-is_in_time.false)
-    (sym (c.is_passed.ensures x refl refl (c.vl_of-vl.ensures.computed
-    ∙ ap link_named_by (c.as_slice.ensures.value ∙ c.in_ok-bytes.ensures))
-    (c.place_named-named.ensures.place x.arrival.bytes (c.vl_of-vl.ensures.computed
-    ∙ ap link_named_by (c.as_slice.ensures.value ∙ c.in_ok-bytes.ensures)))) ∙ c.if-is_passed.false)) before
+    (sym (c.is_passed.ensures x refl refl (c.in_ok-vl.ensures
+    ∙ ap link_named_by c.frame-frame.ensures)
+    (c.place_named-named.ensures.place x.arrival.bytes (c.in_ok-vl.ensures
+    ∙ ap link_named_by c.frame-frame.ensures))) ∙ c.if-is_passed.false)) before
     (let b = before in omega (arith, b))
 
 pub returns-then-not-is_in_time-clause-stands : goal.returns-then-not-is_in_time-clause-stands
@@ -102,18 +103,18 @@ returns-then-is_passed-clause-stands c k frames lines same-tables chosen latest 
     (λ until dues s. stand-skipped k.0 k.1 until x.arrival.time x frames dues c.args.self.now.streams
     (out-of-choice k.0 k.1 x (subst (λ o. is_passed k.0 o x ≡ true) chosen
     (subst (λ t. is_passed t (choices_of (taps_in c.args.self.now.streams.taps.now) c.args.self.now.choices.now) x ≡ true) same-tables
-    (sym (c.is_passed.ensures x refl refl (c.vl_of-vl.ensures.computed
-    ∙ ap link_named_by (c.as_slice.ensures.value ∙ c.in_ok-bytes.ensures))
-    (c.place_named-named.ensures.place x.arrival.bytes (c.vl_of-vl.ensures.computed
-    ∙ ap link_named_by (c.as_slice.ensures.value ∙ c.in_ok-bytes.ensures)))) ∙ c.if-is_passed.true)))) s) refl refl stands
+    (sym (c.is_passed.ensures x refl refl (c.in_ok-vl.ensures
+    ∙ ap link_named_by c.frame-frame.ensures)
+    (c.place_named-named.ensures.place x.arrival.bytes (c.in_ok-vl.ensures
+    ∙ ap link_named_by c.frame-frame.ensures))) ∙ c.if-is_passed.true)))) s) refl refl stands
 
-pub returns-then-len-gt-MOST_BYTES-clause-stands : goal.returns-then-len-gt-MOST_BYTES-clause-stands
-returns-then-len-gt-MOST_BYTES-clause-stands c k frames lines same-tables chosen latest few stands =
+pub returns-then-length-gt-MOST_BYTES-clause-stands : goal.returns-then-length-gt-MOST_BYTES-clause-stands
+returns-then-length-gt-MOST_BYTES-clause-stands c k frames lines same-tables chosen latest few stands =
     let x : Frame = frame_of (item_of c.args.n c.args.seen.now c.args.message.now) in
     stands-next k frames x c.args.self.now c.args.self.now lines latest
     (λ until dues s. stand-skipped k.0 k.1 until x.arrival.time x frames dues c.args.self.now.streams (too-long k.0 k.1 x
-    (subst (λ (b : List ℕ). most_bytes < length b) c.in_ok-bytes.ensures
-    (let l = c.len.ensures in let test = c.if-len-gt-MOST_BYTES.true in omega (arith, l, test)))) s) refl refl stands
+    (subst (λ (b : List ℕ). most_bytes < length b) c.frame-frame.ensures
+    (let l = c.length.ensures in let test = c.if-length-gt-MOST_BYTES.true in omega (arith, l, test)))) s) refl refl stands
 
 pub returns-in-Came-clause-stands : goal.returns-in-Came-clause-stands
 returns-in-Came-clause-stands c k frames lines same-tables chosen latest few stands =
@@ -124,23 +125,22 @@ returns-in-Came-clause-stands c k frames lines same-tables chosen latest few sta
     let out : is_passed k.0 k.1 x ≡ false = subst (λ (o : Choices). is_passed k.0 o x ≡ false) chosen
     (subst (λ (t : Rows). is_passed t (choices_of
     (taps_in c.args.self.now.streams.taps.now) c.args.self.now.choices.now) x ≡ false) same-tables
-    (sym (c.is_passed.ensures x refl refl (c.vl_of-vl.ensures.computed
-    ∙ ap link_named_by (c.as_slice.ensures.value ∙ c.in_ok-bytes.ensures))
-    (c.place_named-named.ensures.place x.arrival.bytes (c.vl_of-vl.ensures.computed
-    ∙ ap link_named_by (c.as_slice.ensures.value ∙ c.in_ok-bytes.ensures)))) ∙ c.if-is_passed.false)) in
+    (sym (c.is_passed.ensures x refl refl (c.in_ok-vl.ensures
+    ∙ ap link_named_by c.frame-frame.ensures)
+    (c.place_named-named.ensures.place x.arrival.bytes (c.in_ok-vl.ensures
+    ∙ ap link_named_by c.frame-frame.ensures))) ∙ c.if-is_passed.false)) in
     let none = running-then k frames x c.args.self.now lines in-time stands in
-    let bytes : List ℕ = c.as_slice-in-Came.result.now in
+    let bytes : List ℕ = bytes_of c.frame-frame.result in
     let same : frame_with Came (arrival_with c.args.n h.time h.side h.port bytes) ≡ x =
     ap (λ r. frame_with r (arrival_with c.args.n h.time h.side h.port bytes)) (sym c.in-Came.is)
     ∙ ap (λ b. frame_with c.args.seen.now.role (arrival_with c.args.n h.time h.side h.port b))
-    (c.as_slice-in-Came.ensures.value ∙ c.in_ok-bytes.ensures) in
-    let count = does-count k.0 k.1 x in-time out (subst (λ (b : List ℕ). length b ≤ most_bytes) c.in_ok-bytes.ensures
-    (let l = c.len.ensures in let test = c.if-len-gt-MOST_BYTES.false in omega (arith, l, test))) in
+    c.frame-frame.ensures in
+    let count = does-count k.0 k.1 x in-time out (subst (λ (b : List ℕ). length b ≤ most_bytes) c.frame-frame.ensures
+    (let l = c.length.ensures in let test = c.if-length-gt-MOST_BYTES.false in omega (arith, l, test))) in
     next-on c.came.result k frames x c.args.self.now _ lines latest
     (λ until dues s. subst (λ f. OnOk c.came.result (StreamsStand k.0 k.1 until (f ∷ frames) dues h.time c.came.new.self)) same
     (c.came.ensures.stands k.0 k.1 until h.time frames dues
-    (c.place_named-named.ensures.place bytes (c.vl_of-vl.ensures.computed
-    ∙ ap link_named_by (c.as_slice.ensures.value ∙ sym c.as_slice-in-Came.ensures.value)))
+    (c.place_named-named.ensures.place bytes (c.in_ok-vl.ensures))
     (ap (λ f. counts k.0 k.1 f) same ∙ count) (omega arith)
     (behind-later frames h.time latest stands.by_time) few none s)) c.came.ensures.ended refl stands
 
@@ -153,20 +153,20 @@ returns-in-Left-clause-stands c k frames lines same-tables chosen latest few sta
     let out : is_passed k.0 k.1 x ≡ false = subst (λ (o : Choices). is_passed k.0 o x ≡ false) chosen
     (subst (λ (t : Rows). is_passed t (choices_of
     (taps_in c.args.self.now.streams.taps.now) c.args.self.now.choices.now) x ≡ false) same-tables
-    (sym (c.is_passed.ensures x refl refl (c.vl_of-vl.ensures.computed
-    ∙ ap link_named_by (c.as_slice.ensures.value ∙ c.in_ok-bytes.ensures))
-    (c.place_named-named.ensures.place x.arrival.bytes (c.vl_of-vl.ensures.computed
-    ∙ ap link_named_by (c.as_slice.ensures.value ∙ c.in_ok-bytes.ensures)))) ∙ c.if-is_passed.false)) in
+    (sym (c.is_passed.ensures x refl refl (c.in_ok-vl.ensures
+    ∙ ap link_named_by c.frame-frame.ensures)
+    (c.place_named-named.ensures.place x.arrival.bytes (c.in_ok-vl.ensures
+    ∙ ap link_named_by c.frame-frame.ensures))) ∙ c.if-is_passed.false)) in
     let none = running-then k frames x c.args.self.now lines in-time stands in
-    let bytes : List ℕ = c.in_ok-bytes.bytes.items in
+    let bytes : List ℕ = bytes_of c.frame-frame.result in
     let same : frame_with Left (arrival_with c.args.n h.time h.side h.port bytes) ≡ x =
     ap (λ r. frame_with r (arrival_with c.args.n h.time h.side h.port bytes)) (sym c.in-Left.is)
-    ∙ ap (λ b. frame_with c.args.seen.now.role (arrival_with c.args.n h.time h.side h.port b)) c.in_ok-bytes.ensures in
-    let count = does-count k.0 k.1 x in-time out (subst (λ (b : List ℕ). length b ≤ most_bytes) c.in_ok-bytes.ensures
-    (let l = c.len.ensures in let test = c.if-len-gt-MOST_BYTES.false in omega (arith, l, test))) in
+    ∙ ap (λ b. frame_with c.args.seen.now.role (arrival_with c.args.n h.time h.side h.port b)) c.frame-frame.ensures in
+    let count = does-count k.0 k.1 x in-time out (subst (λ (b : List ℕ). length b ≤ most_bytes) c.frame-frame.ensures
+    (let l = c.length.ensures in let test = c.if-length-gt-MOST_BYTES.false in omega (arith, l, test))) in
     next-on c.left.result k frames x c.args.self.now _ lines latest
     (λ until dues s. subst (λ f. OnOk c.left.result (StreamsStand k.0 k.1 until (f ∷ frames) dues h.time c.left.new.self)) same
     (c.left.ensures.stands k.0 k.1 until h.time frames dues
-    (c.place_named-named.ensures.place bytes (c.vl_of-vl.ensures.computed ∙ ap link_named_by c.as_slice.ensures.value))
+    (c.place_named-named.ensures.place bytes c.in_ok-vl.ensures)
     (ap (λ f. counts k.0 k.1 f) same ∙ count) (omega arith)
     (behind-later frames h.time latest stands.by_time) few none s)) c.left.ensures.ended refl stands

@@ -9,6 +9,7 @@ use Rattle.afdx_conform.specs.Ranges.{most_held}
 use Rattle.afdx_police.specs.Arrival.{Arrival, arrival_with}
 use Rattle.afdx_conform.specs.LeewayOf.{leeway_of}
 use Rattle.afdx_lists.specs.declared.role.Role.TheVariants.{Came, Left}
+use Rattle.afdx_frame.specs.Parts.{bytes_of}
 use Rattle.afdx_acceptance.specs.Choices.{counts}
 use Rattle.afdx_acceptance.specs.Tapped.{Taps, is_heard, taps_in}
 use Rattle.afdx_recorded.specs.declared.taps.Taps as code
@@ -26,7 +27,7 @@ use Rattle.afdx_acceptance.proofs.streams.Streams.came.Goals as goal
 pub returns-in_default-clause-stands : goal.returns-in_default-clause-stands
 returns-in_default-clause-stands c t c' until time frames lines named-is e le behind few running stand =
     let h = c.args.heading.now in
-    let a : Arrival = arrival_with c.args.n h.time h.side h.port c.args.bytes.now in
+    let a : Arrival = arrival_with c.args.n h.time h.side h.port (bytes_of c.args.frame) in
     let named : place_named c.args.self.now.tables.now a.bytes ≡ None =
     sym named-is ∙ c.in_default.is in
     record {
@@ -42,7 +43,7 @@ pub returns-then-not-is_heard-clause-stands : goal.returns-then-not-is_heard-cla
 returns-then-not-is_heard-clause-stands c t c' until time frames lines named-is e le behind few running stand =
     let r : Rows = c.args.self.now.tables.now in
     let h = c.args.heading.now in
-    let a : Arrival = arrival_with c.args.n h.time h.side h.port c.args.bytes.now in
+    let a : Arrival = arrival_with c.args.n h.time h.side h.port (bytes_of c.args.frame) in
     let link : ℕ = c.in-Some.link in
     let l : LinkRow = get_or r.links link blank in
     let at = slice_get-get_or r.links link blank
@@ -71,7 +72,7 @@ loop-rank-init c = record {
   kept = λ c' until time given lines row at by taps le start all few k.
       let h = c.args.heading.now in
       come-first c.args.self.now.tables.now c' until time h.side c.in-Some.link row
-      (arrival_with c.args.n h.time h.side h.port c.args.bytes.now) given lines c.args.self.now.kept k;
+      (arrival_with c.args.n h.time h.side h.port (bytes_of c.args.frame)) given lines c.args.self.now.kept k;
 }
 
 pub loop-rank-preserved : goal.loop-rank-preserved
@@ -83,7 +84,7 @@ loop-rank-preserved c = record {
   kept = λ c' until time given lines row at by taps le start all few k.
       let t : Rows = c.args.self.now.tables.now in
       let h = c.args.heading.now in
-      let x : Arrival = arrival_with c.args.n h.time h.side h.port c.args.bytes.now in
+      let x : Arrival = arrival_with c.args.n h.time h.side h.port (bytes_of c.args.frame) in
       let s : ℕ = c.receiver-system.result.0 in
       let rank : ℕ = c.loop-rank.rank in
       let link : ℕ = c.in-Some.link in
@@ -116,7 +117,7 @@ loop-rank-preserved-then-not-is_seen c = record {
   kept = λ c' until time given lines row at by taps le start all few k.
       let t : Rows = c.args.self.now.tables.now in
       let h = c.args.heading.now in
-      let x : Arrival = arrival_with c.args.n h.time h.side h.port c.args.bytes.now in
+      let x : Arrival = arrival_with c.args.n h.time h.side h.port (bytes_of c.args.frame) in
       let s : ℕ = c.receiver-system.result.0 in
       let rank : ℕ = c.loop-rank.rank in
       let link : ℕ = c.in-Some.link in
@@ -135,7 +136,7 @@ pub returns-clause-stands : goal.returns-clause-stands
 returns-clause-stands c t c' until time frames lines named-is e le behind few running stand =
     let r : Rows = c.args.self.now.tables.now in
     let h = c.args.heading.now in
-    let a : Arrival = arrival_with c.args.n h.time h.side h.port c.args.bytes.now in
+    let a : Arrival = arrival_with c.args.n h.time h.side h.port (bytes_of c.args.frame) in
     let link : ℕ = c.in-Some.link in
     let row : LinkRow = link_row c.link.result.now in
     let mine : StreamsStand r c' until frames lines time c.args.self.now =

@@ -6,6 +6,7 @@ use Rattle.afdx_conform.specs.Explanations.{from_time}
 use Rattle.afdx_conform.specs.LeewayOf.{leeway_of}
 use Rattle.afdx_conform.specs.Ranges.{most_held}
 use Rattle.afdx_police.specs.Arrival.{arrival_with}
+use Rattle.afdx_frame.specs.Parts.{bytes_of}
 use Rattle.afdx_acceptance.specs.Choices.{Choices}
 use Rattle.afdx_acceptance.specs.Keeping.{AreKept, Given, came_to}
 use Rattle.afdx_acceptance.specs.Lines.{Due}
@@ -29,5 +30,5 @@ invariant-loop-rank l = record {
       → AreKept l.fn.self.tables.now c until None time given lines l.fn.self.kept
       → AreKept l.fn.self.tables.now c until None time
       (came_to l.heading.side l.link (seen_ports l.fn.self.tables.now c.taps l.heading.side (take l.rank row.to))
-      (arrival_with l.n l.heading.time l.heading.side l.heading.port l.bytes) given) lines l.self.kept;
+      (arrival_with l.n l.heading.time l.heading.side l.heading.port (bytes_of l.frame)) given) lines l.self.kept;
 }

@@ -7,6 +7,7 @@ use Rattle.afdx_police.specs.Arrival.{Arrival, arrival_with}
 use Rattle.afdx_police.specs.Shape.{fault_of}
 use Rattle.afdx_lists.specs.declared.role.Role.TheVariants.{Left}
 use Rattle.afdx_text.specs.declared.conform_line.ConformLine.TheVariants.{Strange}
+use Rattle.afdx_frame.specs.Parts.{bytes_of}
 use Rattle.afdx_acceptance.specs.Choices.{counts}
 use Rattle.afdx_acceptance.specs.Tapped.{Taps, is_heard, is_judged}
 use Rattle.afdx_acceptance.specs.Frames.{frame_with, gone_of, is_stranger, place_named}
@@ -26,7 +27,7 @@ pub returns-then-not-is_tapped-clause-stands : goal.returns-then-not-is_tapped-c
 returns-then-not-is_tapped-clause-stands c t c' until time frames lines named-is e le behind few running stand =
     let r : Rows = c.args.self.now.tables.now in
     let h = c.args.heading.now in
-    let a : Arrival = arrival_with c.args.n h.time h.side h.port c.args.bytes.items in
+    let a : Arrival = arrival_with c.args.n h.time h.side h.port (bytes_of c.args.frame) in
     let link : ℕ = c.in-Some.link in
     let mine : StreamsStand r c' until frames lines time c.args.self.now =
     subst (λ (x : Rows). StreamsStand x c' until frames lines time c.args.self.now) (sym stand.tables) stand in
@@ -52,7 +53,7 @@ pub returns-in-Some-clause-stands : goal.returns-in-Some-clause-stands
 returns-in-Some-clause-stands c t c' until time frames lines named-is e le behind few running stand =
     let r : Rows = c.args.self.now.tables.now in
     let h = c.args.heading.now in
-    let a : Arrival = arrival_with c.args.n h.time h.side h.port c.args.bytes.items in
+    let a : Arrival = arrival_with c.args.n h.time h.side h.port (bytes_of c.args.frame) in
     let link : ℕ = c.in-Some.link in
     let mine : StreamsStand r c' until frames lines time c.args.self.now =
     subst (λ (x : Rows). StreamsStand x c' until frames lines time c.args.self.now) (sym stand.tables) stand in
@@ -71,6 +72,8 @@ returns-in-Some-clause-stands c t c' until time frames lines named-is e le behin
     ap (λ (p : Taps). p Left h.side h.port) (sym stand.taps) ∙ sym c.is_tapped.ensures ∙ c.if-not-is_tapped.false in
     let judges : is_judged r c'.taps h.side l h.port ≡ true =
     ap (λ v. v && c'.taps Left h.side h.port) (heard-as r c' a link l mine-e named at) ∙ sees in
+    let left : gone_of (arrival_with c.args.n h.time h.side h.port c.in_ok-bytes.bytes) ≡ gone_of a =
+    ap (λ b. gone_of (arrival_with c.args.n h.time h.side h.port b)) c.in_ok-bytes.ensures in
     on-ok (λ k. subst (λ (x : Rows). StreamsStand x c' until (frame_with Left a ∷ frames) lines time
     (streams_with c.args.self.now c.leave_to.new.kept)) stand.tables (record {
       lawful = mine.lawful;
@@ -81,7 +84,8 @@ returns-in-Some-clause-stands c t c' until time frames lines named-is e le behin
           (join-left r c' until None time frames lines c.leave_to.new.kept mine.lawful a link l mine-e named to.0
           (stranger-no r a link l named to.0) judges old.falling
           (subst (λ p. AreKept r c' until None time (with_left (key_with h.side p (Some link)) (gone_of a) (given_of r c' frames)) lines
-          c.leave_to.new.kept) to.1 k));
+          c.leave_to.new.kept) to.1
+          (subst (λ g. AreKept r c' until None time (with_left key g (given_of r c' frames)) lines c.leave_to.new.kept) left k)));
     })) c.leave_to.result
     (c.leave_to.ensures c' until time (given_of r c' frames) lines l at to.2 mine.by le (left-start r c' a mine-e)
     (left-times r c' frames h.time (counted-behind r c' frames h.time behind) key) (omega (arith, n, few)) old)
@@ -90,7 +94,7 @@ pub returns-clause-stands : goal.returns-clause-stands
 returns-clause-stands c t c' until time frames lines named-is e le behind few running stand =
     let r : Rows = c.args.self.now.tables.now in
     let h = c.args.heading.now in
-    let a : Arrival = arrival_with c.args.n h.time h.side h.port c.args.bytes.items in
+    let a : Arrival = arrival_with c.args.n h.time h.side h.port (bytes_of c.args.frame) in
     let key : Key = key_with h.side h.port None in
     let mine : StreamsStand r c' until frames lines time c.args.self.now =
     subst (λ (x : Rows). StreamsStand x c' until frames lines time c.args.self.now) (sym stand.tables) stand in
@@ -98,8 +102,7 @@ returns-clause-stands c t c' until time frames lines named-is e le behind few ru
     sym named-is in
     let strange : is_stranger r a ≡ true = stranger-none r a c.args.named named c.in_default.ensures.none in
     let why : c.why_strange-why.result ≡ stranger_reason r a.bytes =
-    c.why_strange-why.ensures ∙ ap (λ b. stranger_by b (fault_of None 0 c.as_slice.result.now)) (c.is_some.ensures ∙ ap is_some (sym named))
-    ∙ ap (λ b. stranger_by (is_some (place_named r a.bytes)) (fault_of None 0 b)) c.as_slice.ensures.value in
+    c.why_strange-why.ensures ∙ ap (λ b. stranger_by b (fault_of None 0 a.bytes)) (c.is_some.ensures ∙ ap is_some (sym named)) in
     let old : AreKept r c' until None time (given_of r c' frames) lines c.args.self.now.kept =
     subst (λ o. AreKept r c' until o time (given_of r c' frames) lines c.args.self.now.kept) running mine.kept in
     let all = counted-behind r c' frames h.time behind in

@@ -1,6 +1,6 @@
-use Rattle.std.proofs.Common.{rules, ◌≡◌, ℕ, ◌+◌, ◌<◌, ◌∷◌, List, get_or, length, map, sym, ap, ◌∙◌, subst, arith}
-use Rattle.std.specs.Prelude.{All, Some}
-use Rattle.afdx_conform.specs.Growing.{IsAfter, IsSound, undecided_by}
+use Rattle.std.proofs.Common.{rules, ◌≡◌, ℕ, ◌+◌, ◌<◌, ◌∷◌, List, get_or, length, map, refl, sym, ap, ◌∙◌, subst, arith}
+use Rattle.std.specs.Prelude.{All, None, Some}
+use Rattle.afdx_conform.specs.Growing.{Decides, IsAfter, IsSound, undecided_by}
 use Rattle.afdx_conform.specs.HeldStates.{AreClosed, IsWithin}
 use Rattle.afdx_conform.specs.Histories.{coming, judged_by, next_of, unclosed}
 use Rattle.afdx_conform.specs.Judging.{AreFound, StandsFor}
@@ -11,7 +11,6 @@ use Rattle.afdx_conform.specs.declared.arrived.Arrived.{Arrived}
 use Rattle.afdx_conform.specs.declared.finding.Finding.{Finding}
 use Rattle.afdx_conform.specs.declared.growth.Growth.{Growth}
 use Rattle.afdx_conform.specs.declared.limits.Frame.{Frame}
-use Rattle.afdx_conform.proofs.GrowthDecides.{forgot}
 use Rattle.afdx_conform.proofs.GrowthCloses.{Close, after-close, closed-of, frames-held}
 use Rattle.afdx_conform.proofs.ClosedLemmas.{closes, same-frame}
 use Rattle.afdx_conform.proofs.UndecidedLemmas.{undecided-less}
@@ -63,17 +62,18 @@ returns-clause-decides c z xs ys cut over f sure at next r =
     c.as_slice.result.now c.as_slice-2.result.now c.as_slice.ensures.value c.as_slice-2.ensures.value out.0 in
     let to = c.closed_by-to.result in
     let next' = subst (λ (v : Frame). next_of z (coming xs over) (unclosed ys over) ≡ Some (Closing v.time)) (sym same) next in
-    subst (λ (v : Frame). IsAfter z xs ys cut (Closing v.time ∷ over) c.forget.new.self
-    × AreFound (v.time + both_slacks z.by) c.in_ok-found.found.items (judged_by z xs ys over)
-    (judged_by z xs ys (Closing v.time ∷ over))) same
-    (forgot (c.forget.ensures.after z xs ys cut (Closing c.index.result.now.time ∷ over))
-    (subst (λ (s : Growth). IsAfter z xs ys cut (Closing c.index.result.now.time ∷ over) s
+    let one = subst (λ (s : Growth). IsAfter z xs ys cut (Closing c.index.result.now.time ∷ over) s
     × AreFound (c.index.result.now.time + both_slacks z.by) c.in_ok-found.found.items (judged_by z xs ys over)
     (judged_by z xs ys (Closing c.index.result.now.time ∷ over))) (sym (c.count.ensures
     ∙ ap (λ (l : List Finding). Close z xs ys cut over c.index.result.now c.args.self.now c.judge_closing.new.judging l to)
     c.as_slice-3.ensures.value))
     (after-close z xs ys cut over c.index.result.now c.args.self.now c.judge_closing.new.judging c.in_ok-found.found.items
-    c.closed_by-to.result r.gone r.past r.kept r.continues sure held out.1 c.in_ok-found.ensures.marks r.after next')))
+    c.closed_by-to.result r.gone r.past r.kept r.continues sure held out.1 c.in_ok-found.ensures.marks r.after next') in
+    subst (λ (v : Frame). Decides z xs ys cut over c.forget.new.self (Closing v.time) None c.in_ok-found.found.items) same (
+      c.forget.ensures.after z xs ys cut (Closing c.index.result.now.time ∷ over) one.0,
+      one.1,
+      record { early = tt; same = refl },
+    )
 
 pub returns-clause-less : goal.returns-clause-less
 returns-clause-less c sure =

@@ -4,23 +4,25 @@ use Rattle.afdx_conform.proofs.DueLemmas.{due-same}
 use Rattle.afdx_conform.proofs.KeepLemmas.{if-ok-on}
 use Rattle.afdx_conform.proofs.StandingDecides.{due-sure}
 use Rattle.afdx_conform.proofs.StandingLemmas.{ending-same, on-err, stands-same}
-use Rattle.afdx_conform.proofs.StandingSteps.{Cut, ends-next, event, if-every, known-at, known-last, last-event, last-next, next-at, stands-next}
+use Rattle.afdx_conform.proofs.StandingSteps.{Cut, ends-next, event, known-at, known-last, last-event, last-next, next-at, stands-next}
 use Rattle.afdx_conform.proofs.streaming.Stream.decide.Goals as goal
 
 pub returns-clause-stands : goal.returns-clause-stands
 returns-clause-stands c z xs ys j time moment none due lt h =
-    if-every c.decide.result time (λ v d. stands-next z xs ys j time moment c.args.self.now h due lt _ v.items d)
-    (λ until le. c.decide.ensures.decides (until_then until z) xs ys 0 h.over
+    if-ok-on c.decide.result (λ v q. stands-next z xs ys j time moment c.args.self.now h due lt _ q.0 v.items
+    (λ until le. q.1 (until_then until z) xs ys 0 h.over
     (event z xs ys j time moment c.args.self.now h due lt) (due-sure c.args.self.now.growth moment due)
     (next-at z xs ys j time moment c.args.self.now h due lt until)
-    (known-at z xs ys j time moment c.args.self.now h due lt until le c.args.end none) (h.is_after until le))
+    (known-at z xs ys j time moment c.args.self.now h due lt until le c.args.end none) (h.is_after until le)))
+    c.decide.ensures.decides
 
 pub returns-clause-ends : goal.returns-clause-ends
 returns-clause-ends c z xs ys j moment is due h =
-    if-ok-on c.decide.result (λ v d. ends-next z xs ys j moment c.args.self.now h due _ v.items d)
-    (c.decide.ensures.decides z xs (uncut z ys) (Cut z xs ys j moment c.args.self.now h due) h.over
+    if-ok-on c.decide.result (λ v q. ends-next z xs ys j moment c.args.self.now h due _ q.0 v.items
+    (q.1 z xs (uncut z ys) (Cut z xs ys j moment c.args.self.now h due) h.over
     (last-event z xs ys j moment c.args.self.now h due) (due-sure c.args.self.now.growth moment due)
-    (last-next z xs ys j moment c.args.self.now h due) (known-last z xs ys j moment c.args.self.now h due c.args.end is) h.is_after)
+    (last-next z xs ys j moment c.args.self.now h due) (known-last z xs ys j moment c.args.self.now h due c.args.end is) h.is_after))
+    c.decide.ensures.decides
 
 pub returns-clause-refused : goal.returns-clause-refused
 returns-clause-refused c z xs ys j time h =

@@ -1,28 +1,17 @@
-use Rattle.std.proofs.Common.{arith}
-use Rattle.afdx_port.proofs.TakeLemmas.{busy_takes, over_takes}
+use Rattle.afdx_port.proofs.BeginLemmas.{later_advances}
+use Rattle.afdx_port.proofs.TakeLemmas.{sending_takes, begun_takes}
 use Rattle.afdx_port.proofs.port_state.PortState.take.Goals as goal
 
-pub returns-then-not-is_over-clause-takes : goal.returns-then-not-is_over-clause-takes
-returns-then-not-is_over-clause-takes g c =
-    busy_takes g.T.HasLength.facts c.args.self.now c.advance.new.self c.args.until g.met.T.HasLength.lawful
-    (record {
-      sound = c.advance.ensures.sound;
-      clock = c.advance.ensures.clock;
-      stands = c.advance.ensures.stands;
-      chosen = c.advance.ensures.chosen;
-      due = c.advance.ensures.due;
-      held = c.advance.ensures.held;
-    }) (omega arith)
+pub returns-then-is_some-clause-takes : goal.returns-then-is_some-clause-takes
+returns-then-is_some-clause-takes g c =
+    sending_takes g.T.HasLength.facts c.args.self.now c.args.until c.args.due
+    c.take.result c.take.new.self c.is_some.result g.met.T.HasLength.lawful
+    c.requires.sound c.requires.clock c.is_some.ensures c.if-is_some.true
+    c.requires.due c.requires.given c.take.ensures.value c.take.ensures.after
 
 pub returns-clause-takes : goal.returns-clause-takes
 returns-clause-takes g c =
-    over_takes g.T.HasLength.facts c.args.self.now c.advance.new.self c.args.until c.take.result c.take.new.self
-    g.met.T.HasLength.lawful
-    (record {
-      sound = c.advance.ensures.sound;
-      clock = c.advance.ensures.clock;
-      stands = c.advance.ensures.stands;
-      chosen = c.advance.ensures.chosen;
-      due = c.advance.ensures.due;
-      held = c.advance.ensures.held;
-    }) (omega arith) c.take.ensures.value c.take.ensures.after
+    begun_takes g.T.HasLength.facts c.args.self.now c.begin-left.new.self c.args.until c.args.due
+    c.begin-left.result g.met.T.HasLength.lawful
+    (later_advances g.T.HasLength.facts c.args.self.now _ c.args.until c.requires.clock
+    c.begin-left.ensures.begun) c.begin-left.ensures.idle c.requires.due c.requires.given

@@ -1,7 +1,8 @@
-use Rattle.std.proofs.Common.{◌∷◌, ◌∙◌, List, subst, refl, arith}
+use Rattle.std.proofs.Common.{◌∷◌, ◌∙◌, List, subst, refl, arith, ap, sym}
+use Rattle.afdx_send.specs.Sender.{Gives, frames_held, last_time}
 use Rattle.afdx_sending.specs.Sent.{WritesSome}
 use Rattle.afdx_engine.specs.Listed.{Handed}
-use Rattle.afdx_sending.specs.Events.{Emitted}
+use Rattle.afdx_sending.specs.Events.{Emitted, calls_in}
 use Rattle.afdx_text.proofs.OutputLemmas.{on-err}
 use Rattle.afdx_sending.proofs.SendLemmas.{told-emitted, told-later, told-some, begun-emitted, done-at, if-none}
 use Rattle.afdx_sending.proofs.run.Sending.tell_emissions.Goals as goal
@@ -9,20 +10,24 @@ use Rattle.afdx_sending.proofs.run.Sending.tell_emissions.Goals as goal
 pub loop-emission-preserved : goal.loop-emission-preserved
 loop-emission-preserved g c =
     record {
-      clock = omega (arith, c.emit.ensures.clock);
+      clock = omega (arith, c.emit.ensures.clock, ap (λ w. last_time w) c.give_back.ensures);
       sound = c.in_ok-put_emission.ensures.failed;
       settings = c.put_emission.ensures.settings ∙ c.loop-emission.invariant.settings;
       room = λ n h.
           let r = c.loop-emission.invariant.room n h in
           let held = rw c.in-Some.is at c.in_ok-emission.ensures.held in
-          record { submissions = r.submissions; emissions = (let e = r.emissions in omega (arith, e, held)) };
+          let same = ap (λ w. frames_held w) c.give_back.ensures in
+          record { submissions = r.submissions; emissions = (let e = r.emissions in omega (arith, e, held, same)) };
       told = λ s events start h.
           let k = c.loop-emission.invariant.told s events start h in
           let e = rw c.in-Some.is at (c.in_ok-emission.ensures.given _ k.told.stands) in
+          let g = subst (λ w. Gives (calls_in s.row s.links k.more (last_time c.loop-emission.self.sender))
+          c.args.until c.in-Some.emission w) (sym c.give_back.ensures) e in
           record {
-            more = Emitted e.slot ∷ k.more;
+            more = Emitted g.slot ∷ k.more;
             submissions_are = k.submissions_are;
-            told = told-emitted s _ _ _ _ _ _ start _ _ k.more _ _ k.told e c.emit.ensures.clock
+            told = told-emitted s _ c.give_back.new.self _ _ _ _ start _ _ k.more _ _ k.told g
+                (ap (λ w. last_time w) c.give_back.ensures ∙ c.emit.ensures.clock)
                 refl refl c.in_ok-put_emission.ensures.lines;
           };
     }

@@ -6,7 +6,7 @@ use Rattle.afdx_frame.specs.Register.{shift}
 use Rattle.afdx_frame.specs.Sealing.{sealed, sequence_of}
 use Rattle.afdx_frame.proofs.BuiltLemmas.{from_computed, message_is_bytes}
 use Rattle.afdx_frame.proofs.NetworkLemmas.{other_frame}
-use Rattle.afdx_frame.proofs.builder.build_both.Goals as goal
+use Rattle.afdx_frame.proofs.builder.build_both_in.Goals as goal
 
 pub returns : goal.returns
 returns c =
@@ -28,7 +28,7 @@ returns c =
     c.in_ok-a.ensures.message)
     c.in_ok-a.ensures.message
     (c.in_ok-extend_from_slice.ensures.items
-    ∙ ap₂ (λ (x y : List ℕ). x ++ y) c.in_ok-b.ensures.items c.as_slice-2.ensures.value)
+    ∙ ap₂ (λ (x y : List ℕ). x ++ y) (c.in_ok-reserve_exact.ensures.items ∙ c.clear.ensures.items) c.as_slice-2.ensures.value)
     check (c.difference.ensures
     ∙ ap (λ (n : ℕ). shift (392 + 8 * (n - 60)) 0x60)
     (omega (arith, c.len.ensures, c.in_ok-a.a.ok))) refl

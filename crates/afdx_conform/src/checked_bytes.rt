@@ -1,0 +1,103 @@
+//! The bytes of a frame that is kept, whose check sequence isn't held.
+
+ghost use Rattle.std.specs.Prelude.{◌≡◌, ◌↔◌, IfOk, IsTrue, length};
+ghost use Rattle.std.specs.Str.{bytes_eq};
+ghost use Rattle.afdx_frame.specs.Parts.{bytes_of};
+ghost use Rattle.afdx_frame.specs.Sealing.{is_sealed, sealed_wrongly};
+
+use afdx_frame::{Checked, Seal, fcs};
+use std::alloc::{AllocError, Global};
+use std::marker::Model;
+
+/// Whether the bytes are this message and the complement of its check sequence.
+#[cold]
+#[inline(never)]
+fn is_sealed_wrongly(bytes: &[u8], message: &[u8]) -> bool
+    ensures { result ≡ bytes_eq bytes.now (sealed_wrongly message.now) }
+{
+    if bytes.len() < message.len() {
+        return false;
+    }
+    let (front, last) = bytes.split_at(message.len());
+    front == message && last == (!fcs(message)).to_le_bytes().as_slice()
+}
+
+/// Whether two frames are sealed alike.
+fn is_sealed_alike(seal: Seal, other: Seal) -> bool
+    ensures { IsTrue result ↔ (seal ≡ other) }
+{
+    seal == other
+}
+
+/// The bytes of a frame, kept as its message and its seal.
+#[derive(Debug, Drop)]
+pub struct CheckedBytes {
+    message: Vec<u8>,
+    seal: Seal,
+}
+
+impl Model for CheckedBytes {
+    ghost use Rattle.std.specs.Prelude.{List, ℕ};
+    ghost use Rattle.afdx_frame.specs.Sealing.{AreBytes};
+    ghost use Rattle.afdx_frame.specs.Seals.{whole, IsSealedAs};
+
+    ghost Value = { List ℕ };
+
+    ghost view = { λ kept. whole kept.seal kept.message.items };
+
+    ghost invariant = { λ kept.
+        IsSealedAs kept.seal kept.message.items × AreBytes kept.message.items };
+}
+
+impl CheckedBytes {
+    /// A copy of these bytes. Fails only out of memory.
+    pub fn of(alloc: Global, frame: Checked<'_>) -> Result<CheckedBytes, AllocError>
+        ensures { IfOk result (λ kept. kept ≡ bytes_of frame.entry) }
+    {
+        let message = Vec::from_slice(alloc, frame.message)?;
+        Ok(CheckedBytes {
+            message,
+            seal: frame.seal,
+        })
+    }
+
+    /// The frame that they are.
+    pub fn frame(&self) -> Checked<'_>
+        ensures { bytes_of result ≡ self.now }
+    {
+        Checked {
+            message: self.message.as_slice(),
+            seal: self.seal,
+        }
+    }
+
+    /// How many they are, with those of the seal.
+    pub fn length(&self) -> u64
+        ensures { result ≡ length self.now }
+    {
+        self.frame().length()
+    }
+
+    /// Whether the last four are the check sequence of the others.
+    pub fn is_sealed(&self) -> bool
+        ensures { result ≡ is_sealed self.now }
+    {
+        self.seal == Seal::Right
+    }
+
+    /// Whether these are the same bytes. No check sequence is computed, but where one of both is
+    /// sealed wrongly and the other isn't sealed.
+    pub fn is_same(&self, other: &CheckedBytes) -> bool
+        ensures { result ≡ bytes_eq self.now other.now }
+    {
+        let (message, others) = (self.message.as_slice(), other.message.as_slice());
+        if is_sealed_alike(self.seal, other.seal) {
+            return message == others;
+        }
+        match (self.seal, other.seal) {
+            (Seal::Wrong, Seal::Missing) => is_sealed_wrongly(others, message),
+            (Seal::Missing, Seal::Wrong) => is_sealed_wrongly(message, others),
+            _ => false,
+        }
+    }
+}
