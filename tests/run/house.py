@@ -12,7 +12,7 @@
   columns as its heading.
 - The conditions of admission and the refusals of messages in documents by hand are those of
   docs/FORMATS.md, and the texts of the faults of lists and recordings those of its tables.
-- Each must-fail edit finds the text that it changes, once.
+- Each must-fail edit, also a further one, finds the text that it changes, once.
 - Out of memory is made only where a growth was refused: in a `From`, or in the one function of a
   crate that hands it on (MEMORY).
 - Each source file says at its head what it is; lines of definitions, of contracts, of code and of
@@ -74,7 +74,8 @@ def sources(*patterns: str) -> list[pathlib.Path]:
 def known_words() -> set[str]:
     """All words of the sources, and the names of files and folders."""
     words: set[str] = set()
-    named = ["crates/**/*.rt", "crates/**/*.antt", "crates/*/must-fail/*", "tests/*/*"]
+    named = ["crates/**/*.rt", "crates/**/*.antt"]
+    named += ["crates/*/must-fail/*", "crates/*/further-edits/*", "tests/*/*"]
     named += ["bench/*", "tools/*", "tools/**/*.py", "bin/*", "bin/printing/*.py"]
     named += ["examples/*.toml"]
     for path in sources(*named):
@@ -142,7 +143,7 @@ def wrong_edit(path: pathlib.Path) -> str | None:
 
 def wrong_edits() -> list[str]:
     faults = []
-    for path in sources("crates/*/must-fail/*.edit"):
+    for path in sources("crates/*/must-fail/*.edit", "crates/*/further-edits/*.edit"):
         fault = wrong_edit(path)
         if fault:
             faults.append(f"{path.relative_to(TOP)}: {fault}")
