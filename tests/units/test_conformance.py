@@ -5,6 +5,11 @@ import argparse
 import unittest
 from typing import Iterator
 
+try:
+    from small_replay import CONFIG, arrival
+except ModuleNotFoundError:
+    raise unittest.SkipTest("there is no package numpy") from None
+
 from afdx_tools.conformance.frames import Frame, frame_of_line
 from afdx_tools.conformance.judging import Deviation, judged_of
 from afdx_tools.conformance.measuring import Measured, Named, Pair, Stream
@@ -20,11 +25,6 @@ from afdx_tools.conformance.recorded import Recorders
 from afdx_tools.faults import Refused
 from afdx_tools.lists import listed_of
 from afdx_tools.replay.checked import checked_of
-
-try:
-    from small_replay import CONFIG, arrival
-except ModuleNotFoundError:
-    raise unittest.SkipTest("there is no package numpy") from None
 
 OUT = ["stopped 2 A 3", "strange 3 A 3 out-of-turn", "passed 4 B 3 over-rate", "late 1 A 3 17",
        "deviates 4 explained 5 open 1 uncertain 2 left-out 3 unseen 0"]  # fmt: skip

@@ -6,6 +6,11 @@ import struct
 import tempfile
 import unittest
 
+try:
+    from small_replay import CONFIG, arrival
+except ModuleNotFoundError:
+    raise unittest.SkipTest("there is no package numpy") from None
+
 from afdx_tools.conformance.frames import Frame
 from afdx_tools.conformance.judging import judged_of
 from afdx_tools.conformance.measuring import Measured, Pair, Stream
@@ -14,11 +19,6 @@ from afdx_tools.conformance.options import Options
 from afdx_tools.conformance.recorded import Ends, Reading, Recorded, Recorders, Taps
 from afdx_tools.lists import check_sequence
 from afdx_tools.replay.checked import checked_of
-
-try:
-    from small_replay import CONFIG, arrival
-except ModuleNotFoundError:
-    raise unittest.SkipTest("there is no package numpy") from None
 
 BEGIN = 1_700_000_000 * 10**9  # ns since 1970
 LEAST = 57_600  # of 64 bytes and 8 more at 800 ns, in ns
