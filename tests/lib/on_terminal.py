@@ -8,14 +8,14 @@ With --slowly it reads the caller's list slowly: behind the first line comes a r
 time, until something stands on the terminal, or for so many seconds from when the first line was
 read. Then comes the rest.
 """
-import fcntl
 import os
 import pty
 import select
 import subprocess
 import sys
-import termios
 import time
+
+from until_read import is_read
 
 APART = 0.1  # seconds from one letter of the remark to the next
 MOST = 1200  # letters
@@ -30,11 +30,6 @@ def written(terminal: int) -> bytes:
     except OSError:
         pass
     return text.replace(b"\r\n", b"\n")
-
-
-def is_read(pipe: int) -> bool:
-    """Nothing waits in the pipe."""
-    return not any(fcntl.ioctl(pipe, termios.FIONREAD, bytes(4)))
 
 
 def feed(pipe: int, terminal: int, seconds: float) -> None:
