@@ -15,7 +15,8 @@ import subprocess
 import sys
 import time
 
-from until_read import is_read
+sys.dont_write_bytecode = True
+from until_read import is_read  # noqa: E402
 
 APART = 0.1  # seconds from one letter of the remark to the next
 MOST = 1200  # letters
