@@ -10,10 +10,9 @@
 # `ssh -F FOLDER/config one` works; `refusing` is a machine on which no daemon listens. On one
 # and two the folder HIDDEN is empty, and so they have a home of their own; all else they share with
 # this one. Needs root, iproute2, openssh-server and the right to make namespaces; ends with status
-# 3 where something of that isn't there. `cut` unplugs a machine's cable, so that none of its words
-# comes, and no one finds a way to it; `join` plugs it in again.
-# `down` ends the daemons by their numbers and takes the namespaces away. Several such pairs can
-# stand side by side.
+# 3 where something of that isn't there. `cut` unplugs a machine's cable, and nobody finds a way to
+# it any more; `join` plugs it in again. `down` ends the daemons by their numbers and takes the
+# namespaces away. Several such pairs can stand side by side.
 set -euo pipefail
 
 lacking() { # WHAT
@@ -117,7 +116,7 @@ case ${1-} in
         ;;
     down) down "$2" ;;
     *)
-        sed -n '2,18s/^# \{0,1\}//p' "${BASH_SOURCE[0]}" >&2
+        sed -n '2,17s/^# \{0,1\}//p' "${BASH_SOURCE[0]}" >&2
         exit 2
         ;;
 esac
