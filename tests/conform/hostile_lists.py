@@ -3,7 +3,6 @@ tests/run/hostile.py."""
 from __future__ import annotations
 
 import random
-import time
 from collections.abc import Iterator
 
 import tables as made
@@ -12,12 +11,11 @@ from conform_claims import Judge, pair_of
 from first_fault import LATEST
 from frames import frame_of
 from one_switch import MS
-from program import Answer, Program, answers, must
+from program import Answer, Program, answers
 from rows import CONFIGS, ROWS, list_of
 from small_cases import Pair
 
 LISTS = ("CAME", "LEFT")
-SOON = 20  # seconds
 # a list that isn't tried
 BESIDE = list_of("0 / 20000", "came"), list_of("6720 / 60000", "left")
 CUT = (  # rows
@@ -26,16 +24,6 @@ CUT = (  # rows
 )
 SHORT, ODD_TIMES = b"R 0 A 1 -\n", (0, 1, MS, LATEST - 1, LATEST)
 FRAME = 132  # bytes of a line with a frame, beside its time and port
-
-
-class SoonJudge(Judge):
-    """A program that must answer soon."""
-
-    def run(self, words: tuple[str, ...], inputs: dict[str, bytes], standard: str = "") -> Answer:
-        began = time.monotonic()
-        found = super().run(words, inputs, standard)
-        must(time.monotonic() - began < SOON, f"it takes more than {SOON} s")
-        return found
 
 
 class OneList:
@@ -65,7 +53,7 @@ class OneList:
 
 def one_list_commands(program: Program) -> dict[str, OneList]:
     """By their names."""
-    judge = SoonJudge(program)
+    judge = Judge(program)
     return {f"conform, {name}": OneList(judge, place) for place, name in enumerate(LISTS)}
 
 
@@ -169,7 +157,7 @@ def many_states(judge: Judge) -> None:
 
 def hostile_lists(program: Program) -> Iterator[tuple]:
     """What is tried of both lists."""
-    judge, rows = SoonJudge(program), {row.name: row for row in ROWS}
+    judge, rows = Judge(program), {row.name: row for row in ROWS}
     for seed, name in enumerate(CUT):
         yield f"conform, cut: {name}", cut_lists, judge, pair_of(rows[name]), seed
         yield f"conform, the greatest numbers, {seed}", largest_numbers, judge, seed

@@ -7,8 +7,8 @@ from collections.abc import Iterator
 
 from conform_claims import Judge, pair_of
 from conform_recorded import conform_recordings
-from hostile_lists import SoonJudge, equal_times, largest_numbers, largest_tables, many_begun
-from hostile_lists import many_states, nothing_came
+from hostile_lists import equal_times, largest_numbers, largest_tables, many_begun, many_states
+from hostile_lists import nothing_came
 from hostile_recordings import large_blocks, large_frames, odd_bytes
 from program import Program, answers
 from recorded_cases import RecordedCase
@@ -72,13 +72,13 @@ def hostile_recorded(program: Program) -> Iterator[tuple]:
     """What is tried, where recordings are judged."""
     if not program.knows("conform", "--left"):
         return
-    soon = SoonJudge(program)
+    asked = Judge(program)
     for name, data in (large_frames() | large_blocks() | odd_bytes()).items():
         if name in SLOW:
             continue
-        yield f"conform, a recording: {name}", hostile_data, soon, data
+        yield f"conform, a recording: {name}", hostile_data, asked, data
     for is_one, how_many in enumerate(HOW_MANY):
-        judge, name = RecordingJudge(soon, bool(is_one)), f"conform, recorded by {how_many}"
+        judge, name = RecordingJudge(asked, bool(is_one)), f"conform, recorded by {how_many}"
         for seed in range(4):
             yield f"{name}: the greatest numbers, {seed}", largest_numbers, judge, seed
         yield f"{name}: equal times", equal_times, judge, 5_000
@@ -89,6 +89,6 @@ def hostile_recorded(program: Program) -> Iterator[tuple]:
     for seed, row in enumerate(ROWS):
         pair = pair_of(row)
         if not row.err and row.came and row.left and of_links(pair) == pair:
-            yield f"conform, recordings cut: {row.name}", cut_pairs, soon, pair, seed
-    yield "conform: the most recorded frames", many_frames, soon
-    yield "conform: recorded frames, the latest first", latest_first, soon, 800
+            yield f"conform, recordings cut: {row.name}", cut_pairs, asked, pair, seed
+    yield "conform: the most recorded frames", many_frames, asked
+    yield "conform: recorded frames, the latest first", latest_first, asked, 800

@@ -11,6 +11,7 @@ was meant to, at most.
 """
 from __future__ import annotations
 
+import collections
 import contextlib
 import heapq
 import json
@@ -21,19 +22,22 @@ import struct
 import subprocess
 import sys
 import time
-from typing import Iterator
+from typing import Callable, Counter, Iterator
 
 sys.dont_write_bytecode = True
 HERE = os.path.dirname(os.path.abspath(__file__))
 sys.path[:0] = [os.path.join(HERE, "..", "lib"), HERE]
-from live_switches import FROM, LINKS, SWITCHES, SYSTEMS, Leaving, Right, traffic  # noqa: E402
+from live_switches import FROM, LINKS, SWITCHES, SYSTEMS  # noqa: E402
+from live_switches import Leaving, Right, Sent, traffic  # noqa: E402
 from one_switch import MS  # noqa: E402
+from recorded import recorded  # noqa: E402
 
 EVERY_FRAME = 3  # ETH_P_ALL
 AF_PACKET, OUTGOING = 263, 4  # a level of socket options; how a socket calls what it hasn't to give
 IGNORE_OUTGOING = 23
 STAMPS = 35  # SO_TIMESTAMPNS: the moment at which the kernel took a frame, as recorders get it
-PATIENCE = 20  # seconds
+PATIENCE = 120  # seconds
+LOST = 30  # seconds after which what isn't recorded is lost
 PORTS = [system["port"] for system in SYSTEMS]
 
 
@@ -66,8 +70,9 @@ def opened(name: str) -> socket.socket:
 
 
 @contextlib.contextmanager
-def recorder(path: str, seconds: int) -> Iterator[None]:
-    """Records at all ports of the switch; it ends by itself, too."""
+def recorder(path: str, seconds: int) -> Iterator[Callable[[Counter[bytes]], None]]:
+    """Records at all ports of the switch; it ends by itself, too. What is given waits until these
+    frames are recorded."""
     words = ["dumpcap", "-w", path, "-a", f"duration:{seconds + PATIENCE}"]
     for port in PORTS:
         for way in ("inbound", "outbound"):
@@ -78,11 +83,21 @@ def recorder(path: str, seconds: int) -> Iterator[None]:
             if not any(line.startswith(b"File:") for line in run.stderr):
                 sys.exit("dumpcap doesn't record")
             time.sleep(0.5)
-            yield
-            time.sleep(0.5)
+            yield lambda sent: until_recorded(path, sent)
         finally:
             run.terminate()
             run.communicate(timeout=PATIENCE)
+
+
+def until_recorded(path: str, sent: Counter[bytes]) -> None:
+    """Waits until these frames stand in the recording, each so many times; but not for ever."""
+    end = time.monotonic() + LOST
+    while time.monotonic() < end:
+        with open(path, "rb") as file:
+            frames = recorded(file.read()).numbers
+        if not sent - collections.Counter(frame.bytes for frame in frames if frame):
+            return
+        time.sleep(0.2)
 
 
 class Bench:
@@ -96,6 +111,7 @@ class Bench:
         self.turn = 0
         self.latest: dict[tuple[int, int], int] = {}  # of a link and port: when its last one leaves
         self.longest = 0
+        self.sent: Counter[bytes] = collections.Counter()  # of what is judged
 
     def put(self, moment: int, line: socket.socket, content: bytes) -> None:
         """A frame goes out there at a moment."""
@@ -124,12 +140,14 @@ class Bench:
         while self.waiting and self.waiting[0][0] <= time.time_ns():
             moment, _, line, content = heapq.heappop(self.waiting)
             line.send(content)
+            if moment >= self.begin + FROM:
+                self.sent[content] += 1
             self.longest = max(self.longest, time.time_ns() - moment)
 
-    def run(self, length: int) -> None:
+    def run(self, coming: list[Sent], length: int) -> None:
         """The traffic of so many ns, and what is left of it in the switch."""
         port_of = {link["vl"]: int(link["from"][1:]) for link in LINKS}
-        for sent in traffic(length):
+        for sent in coming:
             self.put(self.begin + sent.time, self.systems[port_of[sent.vl]], sent.content)
         by_number = {line.fileno(): port for port, line in self.ports.items()}
         asked = select.poll()
@@ -148,14 +166,18 @@ def main() -> None:
     """Runs the bench."""
     name, seconds, folder = sys.argv[1], int(sys.argv[2]), sys.argv[3]
     lay_cables()
-    with contextlib.suppress(OSError):
-        os.nice(-10)  # a busy machine shouldn't make a frame wait
-    with recorder(os.path.join(folder, "run.pcapng"), seconds):
+    with contextlib.suppress(OSError):  # a busy machine shouldn't make a frame wait
+        os.nice(-10)
+        os.sched_setscheduler(0, os.SCHED_FIFO, os.sched_param(1))
+    length = seconds * 10**9
+    coming = traffic(length)
+    with recorder(os.path.join(folder, "run.pcapng"), seconds) as await_recorded:
         begin = time.time_ns() + 500 * MS  # all is made ready till then
-        end = begin + seconds * 10**9
+        end = begin + length
         switch = SWITCHES[name](lambda now: begin + FROM + 300 * MS < now < end - 500 * MS)
         bench = Bench(switch, begin)
-        bench.run(seconds * 10**9)
+        bench.run(coming, length)
+        await_recorded(bench.sent)
     found = [[each.content.hex(), each.came, each.left] for each in switch.found]
     with open(os.path.join(folder, "said.json"), "w", encoding="ascii") as file:
         json.dump({"found": found, "longest": bench.longest}, file)

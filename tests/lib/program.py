@@ -1,9 +1,12 @@
 """Runs the built program, and counts the cases that pass."""
 from __future__ import annotations
 
+import contextlib
 import os
 import re
+import resource
 import select
+import signal
 import subprocess
 import sys
 import tempfile
@@ -13,7 +16,8 @@ from concurrent.futures import ThreadPoolExecutor
 from typing import Callable, NamedTuple, NoReturn
 
 TOP = os.path.dirname(os.path.dirname(os.path.dirname(os.path.abspath(__file__))))
-LONGEST = 120  # seconds of one run
+LONGEST = 1200  # seconds of one run, which end one that hangs
+LOOK = 0.002  # seconds between two looks at a run
 
 
 class Answer(NamedTuple):
@@ -43,14 +47,15 @@ def matched(pattern: re.Pattern[str], line: str, text: str) -> re.Match[str]:
 
 
 class Program:
-    """The program, with a folder for its files."""
+    """The program, with a folder for its files; a run may take no more than `most` seconds of the
+    processor, which are no more on a busy machine."""
 
-    def __init__(self, path: str, folder: str) -> None:
-        self.path, self.folder = os.path.abspath(path), folder
+    def __init__(self, path: str, folder: str, most: int | None = None) -> None:
+        self.path, self.folder, self.most = os.path.abspath(path), folder, most
 
     def apart(self) -> Program:
         """The same program, with a folder of its own."""
-        return Program(self.path, tempfile.mkdtemp(dir=self.folder))
+        return Program(self.path, tempfile.mkdtemp(dir=self.folder), self.most)
 
     def write(self, name: str, content: bytes) -> str:
         """A file in the folder; its path."""
@@ -61,19 +66,27 @@ class Program:
 
     def run(self, *words: str, given: bytes = b"", env: dict[str, str] | None = None) -> Answer:
         """One run; `given` is what it reads on standard input."""
-        try:
-            done = subprocess.run(
-                [self.path, *words],
-                input=given,
-                capture_output=True,
-                cwd=self.folder,
-                env=None if env is None else {**os.environ, **env},
-                timeout=LONGEST,
-                check=False,
-            )
-        except subprocess.TimeoutExpired:
-            raise Wrong(f"{' '.join(words)} takes more than {LONGEST} s") from None
-        return Answer(done.returncode, done.stdout, done.stderr)
+        with subprocess.Popen(
+            [self.path, *words],
+            stdin=subprocess.PIPE,
+            stdout=subprocess.PIPE,
+            stderr=subprocess.PIPE,
+            cwd=self.folder,
+            env=None if env is None else {**os.environ, **env},
+        ) as run:
+            if self.most is not None:
+                limit(run, self.most)
+            try:
+                out, err = run.communicate(given, LONGEST)
+            except subprocess.TimeoutExpired:
+                raise Wrong(f"{' '.join(words)} takes more than {LONGEST} s") from None
+            finally:
+                run.kill()
+        must(
+            run.returncode != -signal.SIGXCPU,
+            f"{' '.join(words)} takes more than {self.most} s of the processor",
+        )
+        return Answer(run.returncode, out, err)
 
     def knows(self, command: str, word: str = "") -> bool:
         """It has the command, and its help has the word."""
@@ -100,6 +113,27 @@ def least_room(runs_in: Callable[[int], bool]) -> int:
             low = middle
     must(high < 1 << 20, "it takes a GiB")
     return high
+
+
+def limit(run: subprocess.Popen, most: int) -> None:
+    """A signal ends it once it has taken so many seconds of the processor."""
+    _, highest = resource.getrlimit(resource.RLIMIT_CPU)
+    with contextlib.suppress(ProcessLookupError):  # it has ended
+        resource.prlimit(run.pid, resource.RLIMIT_CPU, (most, highest))
+
+
+def rests(run: subprocess.Popen) -> None:
+    """Waits until a run waits for input, or has ended: all that it does with what came is done."""
+    end = time.monotonic() + LONGEST
+    while state_of(run.pid) not in "SZ":
+        must(time.monotonic() < end, f"it works for more than {LONGEST} s")
+        time.sleep(LOOK)
+
+
+def state_of(pid: int) -> str:
+    """A letter, as Linux names it: S sleeps, Z has ended."""
+    with open(f"/proc/{pid}/stat", encoding="utf-8") as file:
+        return file.read().rpartition(") ")[2][0]
 
 
 def text_within(pipe: int, size: int, seconds: float) -> bytes:
@@ -181,15 +215,17 @@ class Cases:
         return 1 if self.failed else 0
 
 
-def main_of(text: str, try_all: Callable[[Cases, Program], None]) -> None:
-    """Takes PROGRAM from the words, tries all cases in a folder that is removed, and ends."""
+def main_of(
+    text: str, try_all: Callable[[Cases, Program], None], most: int | None = None
+) -> None:
+    """Takes PROGRAM from the words, tries all cases in a folder that is removed, and ends. A run
+    may take so many seconds of the processor."""
     if len(sys.argv) != 2 or not os.access(sys.argv[1], os.X_OK):
         print(text.strip(), file=sys.stderr)
         sys.exit(2)
     cases = Cases()
     with tempfile.TemporaryDirectory(prefix="afdx-tests-") as folder:
-        program = Program(sys.argv[1], folder)
-        try_all(cases, program)
+        try_all(cases, Program(sys.argv[1], folder, most))
     sys.exit(cases.told())
 
 

@@ -168,9 +168,8 @@ tell 'conform without standard input' "$(
     differs 'standard error' $'device Read\n' "$work/err"
 )"
 tell 'a person who waits for conform is told how much was read' "$(
-    { sleep 4 && cat "${lists[1]}"; } |
-        { python3 tests/lib/on_terminal.py "$program" conform --progress "$rules" "${lists[0]}" - ||
-            [[ $? -eq 5 ]]; } | tr '\r\033' '<e' >"$work/person"
+    { python3 tests/lib/on_terminal.py --slowly 120 "$program" conform --progress "$rules" \
+        "${lists[0]}" - <"${lists[1]}" || [[ $? -eq 5 ]]; } | tr '\r\033' '<e' >"$work/person"
     told='<e[K0 MiB read' # once or, on a busy machine, more often
     if [[ $(<"$work/person") != "$told"*'<e[K' ]]; then
         echo "told: $(<"$work/person")"

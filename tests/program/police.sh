@@ -256,20 +256,20 @@ input=/dev/null
 full_case 'no counts of output that is not there' 4 $'device Write\n' \
     police --summary 1 64 500 examples/one_link.list
 
-# a list of two lines, between which a person waits; on the terminal a return is shown as <
-waited() { # LAST LINE, WORD..
-    { echo 'F 0 A 1 00' && sleep 3 && echo "$1"; } |
-        python3 tests/lib/on_terminal.py "$program" police "${@:2}" --explain=never 1 64 500 - |
-        tr '\r\033' '<e'
+# a list of three lines, in the second of which a person waits until something is told, or for so
+# many seconds; on the terminal a return is shown as <
+waited() { # SECONDS LAST LINE, WORD..
+    printf 'F 0 A 1 00\n%s\n' "$2" | python3 tests/lib/on_terminal.py --slowly "$1" \
+        "$program" police "${@:3}" --explain=never 1 64 500 - | tr '\r\033' '<e'
 }
 clear='<e[K'
 tell 'a person who waits is told how much was read' "$(
     told=${clear}0' MiB read' # once or, on a busy machine, more often
-    if [[ $(waited '# done' --progress) != "$told"*"$clear" ]]; then echo 'not told'; fi
-    if [[ $(waited 'F' --progress) != "$told"*"${clear}list BadLine 2" ]]; then
+    if [[ $(waited 120 '# done' --progress) != "$told"*"$clear" ]]; then echo 'not told'; fi
+    if [[ $(waited 120 'F' --progress) != "$told"*"${clear}list BadLine 3" ]]; then
         echo 'not cleared before a fault'
     fi
-    if [[ $(waited '# done') != '' ]]; then echo 'told unasked'; fi
+    if [[ $(waited 3 '# done') != '' ]]; then echo 'told unasked'; fi
 )"
 case_of 'where no person reads, no progress' 0 "$three" '' \
     police --progress 1 64 500 examples/one_link.list

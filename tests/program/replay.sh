@@ -77,11 +77,10 @@ file_case 'replay gigabit.list' 0 examples/gigabit.out '' \
 file_case 'replay two_switches.list' 0 examples/two_switches.out '' \
     replay examples/two_switches.toml examples/two_switches.list
 
-# the same before a person, who waits once; on the terminal a return is shown as <
+# the same before a person, who waits until it is told; on the terminal a return is shown as <
 tell 'a person who waits for several switches is told how much was read' "$(
-    { head -1 examples/two_switches.list && sleep 3 && tail -n +2 examples/two_switches.list; } |
-        python3 tests/lib/on_terminal.py "$program" replay --progress examples/two_switches.toml - |
-        tr '\r\033' '<e' >"$work/person"
+    python3 tests/lib/on_terminal.py --slowly 120 "$program" replay --progress \
+        examples/two_switches.toml - <examples/two_switches.list | tr '\r\033' '<e' >"$work/person"
     told='<e[K0 MiB read' # once or, on a busy machine, more often
     if [[ $(<"$work/person") != "$told"*'<e[K' ]]; then
         echo "told: $(<"$work/person")"
@@ -437,20 +436,19 @@ tell 'replay without standard input' "$(
 )"
 
 closed_case() { # NAME ERR WORD.. : standard output is a pipe that nobody reads
-    local name=$1 err=$2
+    local name=$1 err=$2 reads writes
     shift 2
-    {
-        sleep 0.1
-        status=0
-        "$program" "$@" </dev/null 2>"$work/err" || status=$?
-        echo "$status" >"$work/status"
-    } | true
-    status=$(cat "$work/status")
+    exec {reads}<>"$work/pipe"
+    exec {writes}>"$work/pipe" {reads}<&-
+    status=0
+    "$program" "$@" </dev/null 1>&"$writes" 2>"$work/err" || status=$?
+    exec {writes}>&-
     tell "$name" "$(
         has_status 4
         differs 'standard error' "$err" "$work/err"
     )"
 }
+mkfifo "$work/pipe"
 closed_case 'replay into a closed pipe' $'device Write\n' replay "$good" "$work/one.list"
 closed_case 'replay into a closed pipe, many lines' $'device Write\n' replay "$good" "$work/long"
 

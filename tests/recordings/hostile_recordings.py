@@ -2,12 +2,11 @@
 from __future__ import annotations
 
 import random
-import time
 from collections.abc import Iterable, Iterator
 
 from made_recordings import PCAP_NS, recorded_at
 from pair_wanted import PairCase
-from program import Answer, Program, answers, must
+from program import Answer, Program, answers
 from reads import HELD, ORDERS, READS, is_read
 from recorded import PCAPS
 from recorded_arrivals import Options
@@ -15,7 +14,6 @@ from recorded_pair import NETWORKS
 from recording_rows import H1, H2, IL, PL, SL, US, ZERO, E, R
 from wanted import POLICE, Case, path_of, with_base
 
-SOON = 20  # seconds
 MOST_BLOCK = 16_777_216  # bytes of a block that is looked into
 MOST_FRAME = 262_144  # bytes of a frame
 MANY = 1_200_000  # more than a list has lines
@@ -25,48 +23,39 @@ HEAD = bytes.fromhex(PL)
 
 
 def is_told(program: Program, data: bytes, options: Options = Options()) -> None:
-    """The commands report what the reference says, and soon."""
+    """The commands report what the reference says."""
     path, of_police = path_of(program, data), options._replace(port=1, stamps=None)
     for case in (Case(data, options), Case(data, of_police, "1 64 500")):
-        wanted, began = case.listed(program), time.monotonic()
-        answers(program.run(*case.run_words(), path), *wanted)
-        must(time.monotonic() - began < SOON, f"it takes more than {SOON} s")
+        answers(program.run(*case.run_words(), path), *case.listed(program))
     if "list" in READS:
         case = Case(data, options)
-        said, began = case.told(), time.monotonic()
+        said = case.told()
         answers(program.run(*case.list_words(), path), said.status(), said.text(), said.fault)
-        must(time.monotonic() - began < SOON, f"it takes more than {SOON} s")
 
 
 def skips(program: Program, data: bytes, fault: str) -> None:
-    """A recording of which nothing is reported but its fault, and soon."""
+    """A recording of which nothing is reported but its fault."""
     path = path_of(program, data)
     commands = [["replay", "base.toml"], ["replay", "--no-admission", "base.toml"], POLICE]
     for words in commands:
-        began = time.monotonic()
         answers(program.run(*words, path), 3, b"", f"recording {fault}\n".encode())
-        must(time.monotonic() - began < SOON, f"it takes more than {SOON} s")
 
 
 def pair_is_told(program: Program, pair: tuple[bytes, bytes]) -> None:
-    """Of two recordings at once both commands report what the reference says, and soon."""
+    """Of two recordings at once both commands report what the reference says."""
     case = PairCase(pair)
     said, wanted = case.told(), case.listed(program)
     listed = Answer(said.status(), said.text(), said.fault)
     paths = [program.write(name, data) for name, data in zip(NETWORKS, pair)]
     for words, answer in ((case.words(), wanted), (["list", "base.toml"], listed)):
-        began = time.monotonic()
         answers(program.run(*words, *paths), *answer)
-        must(time.monotonic() - began < SOON, f"it takes more than {SOON} s")
 
 
 def pair_skips(program: Program, pair: tuple[bytes, bytes], fault: str) -> None:
-    """Two recordings of which a replay reports nothing but a fault, and soon."""
+    """Two recordings of which a replay reports nothing but a fault."""
     paths = [program.write(name, data) for name, data in zip(NETWORKS, pair)]
-    began = time.monotonic()
     found = program.run("replay", "base.toml", *paths)
     answers(found, 3, b"", f"recording {fault}\n".encode())
-    must(time.monotonic() - began < SOON, f"it takes more than {SOON} s")
 
 
 def low(number: int) -> bytes:

@@ -10,12 +10,11 @@ from collections.abc import Iterable, Iterator
 from typing import NamedTuple
 
 from frames import HELLO, sealed
-from program import Answer, Cases, Program, answers, least_room, must
+from program import LONGEST, Answer, Cases, Program, answers, least_room, must
 from reads import ORDERS, READS
 from wanted import POLICE
 
 SHORT = 20_000  # frames: more than are held
-LONGEST_RUN = 120  # seconds
 SECOND_ROOM = 1024  # KiB that a second recording may take where none is held
 A_SECOND = 1_000  # frames
 STEP_NS = 10**9 // A_SECOND
@@ -104,7 +103,7 @@ def piped(
                    for (_, pipe), pieces in zip(pipes, recordings)]
         for writer in writers:
             writer.start()
-        text, err = process.communicate(timeout=LONGEST_RUN)
+        text, err = process.communicate(timeout=LONGEST)
         for writer in writers:
             writer.join()
     return Answer(process.returncode, text or b"", err)

@@ -9,12 +9,11 @@ from contextlib import contextmanager
 from typing import NamedTuple
 
 from pair_wanted import PairCase
-from program import Program, must, same_text, text_within
+from program import LONGEST, Program, must, rests, same_text, text_within
 from reads import ORDERS
 from recorded_pair import NETWORKS, PairOptions
 from recording_rows import H1, H2, IL, PL, SL, US, ZERO, E, R
 
-SOON = 20  # seconds
 SILENCE = 0.1  # seconds in which nothing may come
 WAITS = 4  # the status of the reference where more has to come
 FOREIGN = "ff" * 6 + H1[12:]
@@ -41,7 +40,7 @@ class Live(NamedTuple):
     def ends(self) -> tuple[int, bytes]:
         """The status with which it ends, and what it writes on standard error."""
         assert self.process.stderr is not None
-        return self.process.wait(SOON), self.process.stderr.read()
+        return self.process.wait(LONGEST), self.process.stderr.read()
 
 
 def steps_of(text: str) -> list[Step]:
@@ -88,6 +87,7 @@ def told_now(program: Program, case: PairCase, command: str, opens: str) -> byte
 
 def silent(live: Live) -> None:
     """Nothing comes."""
+    rests(live.process)
     must(live.within(1, SILENCE) == b"", "it is told too early")
 
 
@@ -112,7 +112,7 @@ def live_pair(
             wanted = told_now(program, case, words[0], opens)
             must(wanted.startswith(told), "what was told is no beginning")
             more = wanted[len(told) :]
-            same_text("what is told at once", more, live.within(len(more), SOON))
+            same_text("what is told at once", more, live.within(len(more), LONGEST))
             told = wanted
         said = case.told(opens)
         if said.status() != WAITS:

@@ -9,7 +9,7 @@ import subprocess
 from first_fault import list_fault
 from foreign_recordings import try_foreign
 from made_recordings import made_data, of_each_length
-from program import Cases, Program, answers, must, same_text, text_within
+from program import LONGEST, Cases, Program, answers, must, rests, same_text, text_within
 from reading_words import try_words
 from reads import ORDERS, READS, is_read
 from recorded import recorded
@@ -19,7 +19,6 @@ from row_holds import row_holds
 from tshark_frames import has, listed_as_tshark
 from wanted import POLICE, Case, case_of, cut_cases, path_of, random_case, told_before
 
-SOON = 20  # seconds
 GROUPS, EACH = 12, 25  # recordings made at random
 KINDS = ("made", "mutated") if "pcapng" in READS else ("pcap", "mutated pcap")
 
@@ -141,7 +140,7 @@ def comes(run: subprocess.Popen, wanted: bytes, told: bytes, more: int = 0) -> N
     must(wanted.startswith(told), "what was told is no beginning")
     rest = wanted[len(told) :]
     assert run.stdout is not None
-    found = text_within(run.stdout.fileno(), len(rest) + more, SOON)
+    found = text_within(run.stdout.fileno(), len(rest) + more, LONGEST)
     same_text("what is told at once", rest, found)
 
 
@@ -161,6 +160,7 @@ def at_once(program: Program, words: list[str], options: Options, pieces: list[b
         try:
             for piece in pieces:
                 run.stdin.write(piece[:-1])
+                rests(run)
                 must(text_within(run.stdout.fileno(), 1, 0.1) == b"", "it is told too early")
                 run.stdin.write(piece[-1:])
                 done += piece

@@ -8,7 +8,7 @@ lines as long as they may be and one byte longer; fields that are nearly right; 
 5,000 digits; as many lines as there may be and one more; configurations of 4 MB; both lists of
 `conform`, cut at each byte, of equal and of the greatest times; recordings that are large,
 senseless or far out of order, of `conform` too, if the program reads them (tests/lib/reads.py).
-Each run must end at once with the status and the one line of the first fault, by the orders of
+Each run must end soon, with the status and the one line of the first fault, by the orders of
 docs/FORMATS.md, which tests/lib/ follows apart from the program, and with the output of the lines
 before it. Prints `ok NAME` or `FAILED NAME` for each case, then `N passed, M failed`; ends with
 status 1 if a case failed. Needs Python 3.11.
@@ -17,7 +17,6 @@ from __future__ import annotations
 
 import os
 import sys
-import time
 import tomllib
 from collections.abc import Iterator
 
@@ -36,7 +35,7 @@ from sender import Message, list_sent, submission_list  # noqa: E402
 from weak_recorded import cut_cases  # noqa: E402
 
 MS = 1_000_000
-SOON = 20  # seconds
+SOON = 20  # seconds of the processor that a run may take
 POLICE = ["police", "1", "64", "500"]
 H1 = HELLO.hex().encode()
 SOUND = sealed(HELLO).hex().encode()
@@ -53,11 +52,9 @@ class Command:
         self.known: dict[bytes, Answer] = {}
 
     def run(self, given: bytes) -> Answer:
-        """The answer to a list, which must come soon."""
+        """The answer to a list."""
         if len(given) > 10_000 or given not in self.known:
-            began = time.monotonic()
             found = self.program.run(*self.words, "-", given=given)
-            must(time.monotonic() - began < SOON, f"it takes more than {SOON} s")
             if len(given) > 10_000:
                 return found
             self.known[given] = found
@@ -366,10 +363,9 @@ def long_configs() -> list[tuple[str, bytes, bytes]]:
 
 
 def large_config(program: Program, text: bytes, fault: bytes) -> None:
-    """It is answered soon, by each command."""
+    """It is answered by each command."""
     program = program.apart()
     path = program.write("config", text)
-    began = time.monotonic()
     wanted = b"config %s\n" % fault if fault else b""
     found = program.run("check", path)
     answers(found, 1 if fault else 0, b"" if fault else None, wanted)
@@ -382,7 +378,6 @@ def large_config(program: Program, text: bytes, fault: bytes) -> None:
         must(found.out.endswith(b"ok\n"), "it is not admitted")
         least = b"profile = 1\nbuffer = %d\n" % (176 if b"[[link]]" in text else 64)
         must(solution.out.startswith(least), "it is solved otherwise")
-    must(time.monotonic() - began < SOON, f"it takes more than {SOON} s")
 
 
 def long_words(program: Program) -> None:
@@ -445,4 +440,4 @@ def try_all(cases: Cases, program: Program) -> None:
 
 
 if __name__ == "__main__":
-    main_of(__doc__, try_all)
+    main_of(__doc__, try_all, SOON)

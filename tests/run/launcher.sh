@@ -21,15 +21,28 @@ done
 sed 's/^APART=30 /APART=1 /; s/^LOOK=10 /LOOK=0.2 /' "$top/bin/afdx" >"$room/house/bin/afdx"
 chmod +x "$room/house/bin/afdx"
 printf 'low: toml\ntests: afdx low\nafdx: low clap\n' >"$room/house/crates.txt"
+# An rt that says what one says. Where the file SLOW is there it works, and then waits, until the
+# launcher has said what it says meanwhile, up to two minutes each.
 cat >"$room/kit/rt" <<'RT'
 #!/usr/bin/env bash
+until_said() { # LINE : a pattern
+    for ((k = 0; k < 1200; k++)); do
+        ! grep -q "$1" "$SAID" || break
+        sleep 0.1
+    done
+}
 echo "$(basename "$PWD"): $1" >>"$CALLS"
 [[ ! -e $BROKEN ]] || { echo 'one goal is open'; exit 1; }
 echo 'rt: chose --jobs 2 for low'
 echo 'so far: 0 of 2 functions checked; the verdict comes last'
-[[ ! -e $SLOW ]] || timeout 2.5 sha256sum /dev/zero
+if [[ -e $SLOW ]]; then
+    timeout 120 sha256sum /dev/zero &
+    until_said "$STANDS"
+    kill $!
+    wait
+fi
 echo 'crate low: modules loaded=1 checked=1'
-[[ ! -e $SLOW ]] || sleep 1.5
+[[ ! -e $SLOW ]] || until_said "$BETWEEN"
 echo 'rt: chose --jobs 2 for afdx'
 echo 'crate afdx: modules loaded=1 checked=1'
 mkdir -p out
@@ -37,7 +50,11 @@ printf '#!/bin/sh\necho "ran $*"\nexit 3\n' >out/afdx
 chmod +x out/afdx
 RT
 chmod +x "$room/kit/rt"
-export CALLS=$room/calls BROKEN=$room/broken SLOW=$room/slow
+export CALLS=$room/calls BROKEN=$room/broken SLOW=$room/slow SAID=$room/err
+STANDS='^afdx: 0 of 2 crates checked, after [1-9][0-9]* s; now low for [1-9][0-9]* s '
+STANDS+='([1-9][0-9]* s of processor): 0 of 2 functions checked; in a large crate that stands'
+BETWEEN='^afdx: 1 of 2 crates checked, after [1-9][0-9]* s$'
+export STANDS BETWEEN
 
 launch() { # WORD.. : runs the launcher, and keeps its status, streams, and what it called
     : >"$CALLS"
@@ -89,12 +106,9 @@ rm "$BROKEN"
 touch "$SLOW"
 launch check
 expect 'it is built once that is mended' [ "$status" = 3 ]
-stands='^afdx: 0 of 2 crates checked, after [1-9][0-9]* s; now low for [1-9][0-9]* s '
-stands+='([0-9][0-9]* s of processor): 0 of 2 functions checked; in a large crate that stands'
 expect 'where a crate takes long it says which, how far it is, and how much work it was' \
-    grep -q "$stands" "$room/err"
-expect 'between two crates it says how many are checked' \
-    grep -q '^afdx: 1 of 2 crates checked, after [1-9][0-9]* s$' "$room/err"
+    grep -q "$STANDS" "$room/err"
+expect 'between two crates it says how many are checked' grep -q "$BETWEEN" "$room/err"
 rm "$SLOW"
 expect 'each function of the launcher is written once' written_once
 

@@ -42,7 +42,7 @@ BENCH = os.path.join(TESTS, "conform", "live_bench.py")
 OPTIONS = ("--slack", str(SLACK), "--from", str(FROM))
 WAYS = ("came", "left")  # of the interfaces of a port
 NEEDED = ("ip", "unshare", "dumpcap")
-PATIENCE = 60  # seconds beside those of the traffic
+PATIENCE = 300  # seconds beside those of the traffic
 SLOW = LATENCY * 15 // 100  # a frame that goes out so much later than it should says nothing
 TRIES = 3  # of a bench that was too slow
 

@@ -25,6 +25,10 @@ launch() { # WORD.. : both streams go to files, the status to `status`
     "$@" >"$work/out" 2>"$work/err" </dev/null || status=$?
 }
 
+launch_within() { # SECONDS WORD.. : no program of it may take more of the processor
+    launch timeout 600 prlimit --cpu="$1" "${@:2}"
+}
+
 same() { # WANTED GOT : two files
     if ! cmp -s "$1" "$2"; then diff "$1" "$2" | head -n 10 | cut -c 1-160; fi
 }

@@ -154,7 +154,7 @@ all_ran() { # COUNT : each of so many lists has a result
 # A machine that can't be reached, and one whose cable is unplugged once it has done a run.
 dead_machine_tests() {
     local ssh="1/ssh -F $work/machines/config" count=12 tries
-    local quick="$ssh -oConnectTimeout=1 -oServerAliveInterval=1 -oServerAliveCountMax=2"
+    local quick="$ssh -oConnectTimeout=60 -oServerAliveInterval=1 -oServerAliveCountMax=6"
     many_lists "$work" "$count"
     launch tools/afdx-campaign examples/base.toml "$work"/many*.list --out "$work/many" \
         -S "$ssh refusing,$ssh one"

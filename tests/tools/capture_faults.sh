@@ -52,8 +52,11 @@ pipe_tests() {
     tools/afdx-capture list --config examples/base.toml - <"$work/two.pcap" >"$work/out" \
         2>"$work/err" || status=$?
     tell 'a recording on standard input' "$(is_status 0; same "$work/wanted" "$work/out")"
-    (head -c 1 "$work/two.pcap"; sleep 0.2; tail -c +2 "$work/two.pcap") |
-        tools/afdx-capture list --config examples/base.toml - >"$work/out" 2>"$work/err"
+    {
+        head -c 1 "$work/two.pcap"
+        "$python" tests/lib/until_read.py
+        tail -c +2 "$work/two.pcap"
+    } | tools/afdx-capture list --config examples/base.toml - >"$work/out" 2>"$work/err"
     tell 'through a pipe, its first byte alone' "$(same "$work/wanted" "$work/out")"
     gzip -c "$work/two.pcap" >"$work/two.pcap.gz"
     zcat "$work/two.pcap.gz" | tools/afdx-capture list --config examples/base.toml - \
@@ -132,9 +135,13 @@ failing_output_tests() {
 
 # ---- how far it is, on a terminal ------------------------------------------------------------
 
-progress_tests() { # a list that comes slowly
-    { seq 1500 | sed 's/.*/F & A 1 0300/'; sleep 2.5; seq 1501 3000 | sed 's/.*/F & A 1 0300/'; } \
-        >"$work/slow.fifo" &
+progress_tests() { # a list that comes slowly: two seconds after its first half is read
+    {
+        seq 1500 | sed 's/.*/F & A 1 0300/'
+        "$python" tests/lib/until_read.py
+        sleep 2.1
+        seq 1501 3000 | sed 's/.*/F & A 1 0300/'
+    } >"$work/slow.fifo" &
     script -qec "tools/afdx-capture pcap $work/slow.fifo $work/slow.pcap" /dev/null \
         >"$work/out" 2>&1 </dev/null
     wait $!

@@ -21,7 +21,7 @@ offered_by_bash() { # LINE
 offered_by_zsh() { # LINE
     mkdir -p "$work/zsh"
     cp tools/afdx.zsh "$work/zsh/_afdx"
-    timeout 20 zsh -f tests/tools/zsh_offers.zsh "$work/zsh" "$1"
+    timeout 600 zsh -f tests/tools/zsh_offers.zsh "$work/zsh" "$1"
 }
 
 # shellcheck disable=SC2016  # fish expands it

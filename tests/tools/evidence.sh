@@ -183,7 +183,7 @@ large_test() { # on paper the largest network is some sheets
             echo 'it does not say that the rest is in the CSV file'
         fi
     )"
-    launch timeout 300 chromium --headless --no-sandbox --disable-gpu --no-pdf-header-footer \
+    launch timeout 1200 chromium --headless --no-sandbox --disable-gpu --no-pdf-header-footer \
         --print-to-pdf="$proof/large.pdf" "file://$proof/large/report.html"
     local sheets
     sheets=$(pdfinfo "$proof/large.pdf" | awk '/^Pages/ {print $2}')

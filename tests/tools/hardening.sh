@@ -65,9 +65,13 @@ output_tests() {
     status=0
     "${words[@]}" >/dev/full 2>"$work/err" || status=$?
     tell 'a full output' "$(is_status 4; one_line; says err 'device Write')"
+    local reads writes
+    mkfifo "$work/broken"
+    exec {reads}<>"$work/broken"
+    exec {writes}>"$work/broken" {reads}<&- # which nobody reads now
     status=0
-    (trap '' PIPE; "${words[@]}"; echo $? >"$work/status") 2>"$work/err" | true
-    status=$(<"$work/status")
+    (trap '' PIPE; exec "${words[@]}") 1>&"$writes" 2>"$work/err" || status=$?
+    exec {writes}>&-
     tell 'a broken pipe' "$(is_status 4; one_line)"
     status=0
     "${words[@]}" <&- >"$work/out" 2>"$work/err" || status=$?
@@ -80,7 +84,7 @@ file_tests() {
     mkfifo "$work/fifo.list" "$work/fifo.toml"
     cat examples/one_link.list >"$work/fifo.list" &
     cat examples/base.toml >"$work/fifo.toml" &
-    launch timeout 20 tools/afdx-report "$work/fifo.toml" "$work/fifo.list" --json
+    launch timeout 600 tools/afdx-report "$work/fifo.toml" "$work/fifo.list" --json
     wait
     tell 'configuration and list from FIFOs' "$(
         is_status 0

@@ -77,7 +77,7 @@ long_line_tests() {
         head -c 2000000 /dev/zero | tr '\0' 7
         printf ' A 1 %s\nF 9 A 1 %s\n' "$(frame_of A 1)" "$(frame_of A 2)"
     } >"$work/digits.list"
-    launch timeout 15 tools/afdx-report examples/base.toml "$work/digits.list" --json
+    launch_within 15 tools/afdx-report examples/base.toml "$work/digits.list" --json
     tell 'nothing is read of a line that the program refuses' "$(
         is_status 3
         one_plain_line
@@ -86,12 +86,12 @@ long_line_tests() {
         wants_number "$work/out" 'r["run"]["files"][1][2]' \
             "$(sha256sum <"$work/digits.list" | cut -d ' ' -f 1)"
     )"
-    launch timeout 15 tools/afdx-report examples/refused.toml "$work/digits.list" --json
+    launch_within 15 tools/afdx-report examples/refused.toml "$work/digits.list" --json
     tell 'nor of a list on a network that is refused' "$(
         is_status 1
         wants_number "$work/out" 'r["totals"]["frames"], r["fault"][:5]' "(0, 'admit')"
     )"
-    launch timeout 15 tools/afdx-capture pcap "$work/digits.list" "$work/digits.pcap"
+    launch_within 15 tools/afdx-capture pcap "$work/digits.list" "$work/digits.pcap"
     tell 'nor in a recording' "$(is_status 2; says err 'line 2 has more than 4,200 bytes')"
 }
 
@@ -239,19 +239,19 @@ table_tests() { # tables that would take hours
             echo "$name,1,1,1,100"
         done
     } >"$work/alike.csv"
-    launch timeout 30 tools/afdx-icd examples/systems.csv "$work/cell.csv" "$work/heads.toml"
+    launch_within 30 tools/afdx-icd examples/systems.csv "$work/cell.csv" "$work/heads.toml"
     tell 'a cell of a table that is too long' "$(
         is_status 2
         one_plain_line
         says err 'a cell has more than 4,000 characters'
     )"
-    launch timeout 30 tools/afdx-icd "$work/rows.csv" examples/messages.csv "$work/heads.toml"
+    launch_within 30 tools/afdx-icd "$work/rows.csv" examples/messages.csv "$work/heads.toml"
     tell 'a table that is too long' "$(
         is_status 2
         one_plain_line
         says err 'it has more than 10,000 rows'
     )"
-    launch timeout 30 tools/afdx-icd "$work/alike.csv" examples/messages.csv "$work/heads.toml"
+    launch_within 30 tools/afdx-icd "$work/alike.csv" examples/messages.csv "$work/heads.toml"
     tell 'thousands of names that become one' "$(is_status 2)"
 }
 

@@ -17,14 +17,13 @@ printf 'import os\nos.O_TMPFILE = os.O_DIRECTORY\n' >"$work/flags/sitecustomize.
 
 # ---- signals -------------------------------------------------------------------------------------
 
-endless() { # FIFO : a list that isn't at its end when a signal comes, though it is long
+endless() { # FIFO : a list that isn't at its end, though it is long, of which the most is read
     local text
     text=$(yes "F 5 A 1 $(frame_of A 1)" | head -n 3000)
-    {
-        : >"$1.opened"
-        printf '%s\n' "$text"
-        sleep 3
-    } >"$1"
+    exec >"$1"
+    printf '%s\n' "$text"
+    : >"$1.read"
+    exec sleep 600
 }
 
 ended() { # SIGNAL FIFO COMMAND.. : the status of a command that gets a signal when it reads
@@ -34,11 +33,10 @@ ended() { # SIGNAL FIFO COMMAND.. : the status of a command that gets a signal w
     writer=$!
     env --default-signal "${@:3}" >"$work/out" 2>"$work/err" </dev/null &
     tool=$!
-    for ((tries = 0; tries < 200; tries++)); do
-        if [[ -e $2.opened ]]; then break; fi
-        sleep 0.1
+    for ((tries = 0; tries < 2400; tries++)); do
+        if [[ -e $2.read ]] || ! kill -0 "$tool"; then break; fi
+        sleep 0.05
     done
-    sleep 0.3
     kill -s "$1" "$tool"
     status=0
     wait "$tool" || status=$?

@@ -10,9 +10,9 @@
 # `ssh -F FOLDER/config one` works; `refusing` is a machine on which no daemon listens. On one
 # and two the folder HIDDEN is empty, and so they have a home of their own; all else they share with
 # this one. Needs root, iproute2, openssh-server and the right to make namespaces; ends with status
-# 3 where something of that isn't there. `cut` unplugs a machine's cable, `join` plugs it in again.
-# `down` ends the daemons by their numbers and takes the namespaces away. Several such pairs can
-# stand side by side.
+# 3 where something of that isn't there. `cut` unplugs a machine's cable, and nobody finds a way to
+# it any more; `join` plugs it in again. `down` ends the daemons by their numbers and takes the
+# namespaces away. Several such pairs can stand side by side.
 set -euo pipefail
 
 lacking() { # WHAT
@@ -48,6 +48,7 @@ machine() { # FOLDER HIDDEN NAME NUMBER
     echo "$space" >>"$1/spaces"
     ip link add "$line" type veth peer name end netns "$space"
     echo "$line" >"$1/$3.line"
+    echo "$address" >"$1/$3.address"
     ip addr add "$net.1/24" dev "$line"
     ip link set "$line" up
     ip -n "$space" addr add "$address/24" dev end
@@ -85,9 +86,9 @@ Host *
  LogLevel ERROR
 END_OF_FILE
     for name in one two; do
-        for tries in {1..50}; do
+        for tries in {1..600}; do
             if ssh -F "$1/config" "$name" true 2>/dev/null; then break; fi
-            if [[ $tries -eq 50 ]]; then lacking "the machine $name doesn't answer"; fi
+            if [[ $tries -eq 600 ]]; then lacking "the machine $name doesn't answer"; fi
             sleep 0.1
         done
     done
@@ -98,12 +99,21 @@ down() { # FOLDER
     while read -r number; do kill "$number" || true; done <"$1/daemons"
     while read -r space; do ip netns del "$space" || true; done <"$1/spaces"
     for file in "$1"/*.line; do ip link del "$(<"$file")" 2>/dev/null || true; done
+    for file in "$1"/*.address; do
+        ip route del unreachable "$(<"$file")" 2>/dev/null || true
+    done
 }
 
 case ${1-} in
     up) up "$(readlink -f "$2")" "$(readlink -f "$3")" ;;
-    cut) ip link set "$(<"$2/$3.line")" down ;;
-    join) ip link set "$(<"$2/$3.line")" up ;;
+    cut)
+        ip link set "$(<"$2/$3.line")" down
+        ip route add unreachable "$(<"$2/$3.address")"
+        ;;
+    join)
+        ip route del unreachable "$(<"$2/$3.address")"
+        ip link set "$(<"$2/$3.line")" up
+        ;;
     down) down "$2" ;;
     *)
         sed -n '2,17s/^# \{0,1\}//p' "${BASH_SOURCE[0]}" >&2

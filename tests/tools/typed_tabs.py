@@ -9,6 +9,7 @@ wasn't run.
 """
 from __future__ import annotations
 
+import contextlib
 import os
 import pty
 import select
@@ -16,9 +17,11 @@ import shutil
 import sys
 import tempfile
 import time
+from typing import NamedTuple
 
-QUIET = 0.3  # seconds after which a shell that has written something has written all
-LONGEST = 15.0  # seconds that it may take
+QUIET = 0.3  # seconds after which a shell that rests has written all
+LOOK = 0.02  # seconds between two looks
+LONGEST = 120.0  # seconds that it may take
 TOOLS = os.path.join(os.path.dirname(os.path.abspath(__file__)), "..", "..", "tools")
 SCRIPT = '#!/bin/sh\nprintf "%s\\0" "$@" >"$NOTED.new"\nmv "$NOTED.new" "$NOTED"\n'
 SHELLS = {
@@ -38,8 +41,15 @@ def furnish(home: str) -> None:
     os.chmod(os.path.join(home, "afdx"), 0o755)
 
 
-def start(shell: str, folder: str, home: str) -> int:
-    """Starts a shell with completion; the terminal's other end."""
+class Typed(NamedTuple):
+    """A shell in a terminal: the number of its process, and the terminal's other end."""
+
+    child: int
+    terminal: int
+
+
+def start(shell: str, folder: str, home: str) -> Typed:
+    """Starts a shell with completion."""
     words, setup = SHELLS[shell]
     child, terminal = pty.fork()
     if child == 0:
@@ -47,22 +57,42 @@ def start(shell: str, folder: str, home: str) -> int:
         own = {"HOME": home, "XDG_CONFIG_HOME": home, "NOTED": os.path.join(home, "noted")}
         own |= {"PATH": f"{home}:{os.environ['PATH']}", "TERM": "vt100", "LC_ALL": "C.UTF-8"}
         os.execvpe(words[0], words, os.environ | own)
-    wait(terminal)
-    type_in(terminal, setup.format(home=home) + "\r")
-    return terminal
+    typed = Typed(child, terminal)
+    wait(typed)
+    type_in(typed, setup.format(home=home) + "\r")
+    return typed
 
 
-def type_in(terminal: int, text: str) -> None:
+def type_in(typed: Typed, text: str) -> None:
     """Types a text and waits till the shell is quiet."""
-    os.write(terminal, os.fsencode(text))
-    wait(terminal)
+    os.write(typed.terminal, os.fsencode(text))
+    wait(typed)
 
 
-def wait(terminal: int) -> None:
-    """Reads until nothing more comes."""
-    end = time.monotonic() + LONGEST
-    while time.monotonic() < end and select.select([terminal], [], [], QUIET)[0]:
-        os.read(terminal, 65_536)
+def wait(typed: Typed) -> None:
+    """Reads until nothing more comes from a shell that waits for something to be typed."""
+    end, since = time.monotonic() + LONGEST, time.monotonic()
+    while (now := time.monotonic()) < end and now - since < QUIET:
+        if select.select([typed.terminal], [], [], LOOK)[0]:
+            os.read(typed.terminal, 65_536)
+            since = time.monotonic()
+        elif not rests(typed.child):
+            since = time.monotonic()
+
+
+def rests(child: int) -> bool:
+    """Each thread of the process sleeps, and it has no process of its own that could wake it."""
+    tasks = f"/proc/{child}/task"
+    with contextlib.suppress(FileNotFoundError, ProcessLookupError):
+        for task in os.listdir(tasks):
+            with open(f"{tasks}/{task}/stat", encoding="utf-8", errors="replace") as file:
+                if file.read().rpartition(") ")[2][0] != "S":
+                    return False
+            if os.path.exists(path := f"{tasks}/{task}/children"):
+                with open(path, encoding="ascii") as file:
+                    if file.read().strip():
+                        return False
+    return True
 
 
 def noted(path: str) -> str:
@@ -83,12 +113,12 @@ def main() -> None:
     shell, folder, *lines = sys.argv[1:]
     with tempfile.TemporaryDirectory() as home:
         furnish(home)
-        terminal = start(shell, folder, home)
+        typed = start(shell, folder, home)
         for line in lines:
-            type_in(terminal, line + "\t")
-            type_in(terminal, "\r")
+            type_in(typed, line + "\t")
+            type_in(typed, "\r")
             print(noted(os.path.join(home, "noted")))
-        os.close(terminal)
+        os.close(typed.terminal)
 
 
 if __name__ == "__main__":

@@ -190,7 +190,7 @@ speed_tests() { # 30,000 frames; more of a recording takes as much longer
     local alone with tries
     tests/tools/sample_list.py examples/network.toml --ms 2050 >"$work/long.list"
     capture pcap "$work/long.list" "$work/long.pcap"
-    for tries in 1 2 3; do
+    for tries in {1..6}; do
         alone=$(hundredths_of -r "$work/long.pcap" -Y 'udp.port == 1')
         with=$(hundredths_of -X lua_script:tools/afdx.lua -r "$work/long.pcap" -Y 'afdx.seq == 1')
         if [[ $with -le $((5 * alone)) ]]; then break; fi
@@ -300,7 +300,7 @@ END_OF_FILE
         is_status 0
         same "$work/listed.pcapng" "$work/out"
     )"
-    launch timeout 20 tools/afdx-capture annotate <(cat examples/base.toml) \
+    launch timeout 600 tools/afdx-capture annotate <(cat examples/base.toml) \
         <(cat examples/one_link.list) "$work/piped.pcapng"
     tell 'annotate where both come by pipes' "$(
         is_status 0
