@@ -16,7 +16,8 @@ from concurrent.futures import ThreadPoolExecutor
 from typing import Callable, NamedTuple, NoReturn
 
 TOP = os.path.dirname(os.path.dirname(os.path.dirname(os.path.abspath(__file__))))
-LONGEST = 1200  # seconds of one run, which end one that hangs
+LONGEST = 600  # seconds of one run, which end one that hangs
+PATIENCE = 120  # seconds in which comes what has to come, however busy the machine is
 LOOK = 0.002  # seconds between two looks at a run
 
 
@@ -124,9 +125,9 @@ def limit(run: subprocess.Popen, most: int) -> None:
 
 def rests(run: subprocess.Popen) -> None:
     """Waits until a run waits for input, or has ended: all that it does with what came is done."""
-    end = time.monotonic() + LONGEST
+    end = time.monotonic() + PATIENCE
     while state_of(run.pid) not in "SZ":
-        must(time.monotonic() < end, f"it works for more than {LONGEST} s")
+        must(time.monotonic() < end, f"it works for more than {PATIENCE} s")
         time.sleep(LOOK)
 
 

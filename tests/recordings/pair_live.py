@@ -9,7 +9,7 @@ from contextlib import contextmanager
 from typing import NamedTuple
 
 from pair_wanted import PairCase
-from program import LONGEST, Program, must, rests, same_text, text_within
+from program import PATIENCE, Program, must, rests, same_text, text_within
 from reads import ORDERS
 from recorded_pair import NETWORKS, PairOptions
 from recording_rows import H1, H2, IL, PL, SL, US, ZERO, E, R
@@ -40,7 +40,7 @@ class Live(NamedTuple):
     def ends(self) -> tuple[int, bytes]:
         """The status with which it ends, and what it writes on standard error."""
         assert self.process.stderr is not None
-        return self.process.wait(LONGEST), self.process.stderr.read()
+        return self.process.wait(PATIENCE), self.process.stderr.read()
 
 
 def steps_of(text: str) -> list[Step]:
@@ -112,7 +112,7 @@ def live_pair(
             wanted = told_now(program, case, words[0], opens)
             must(wanted.startswith(told), "what was told is no beginning")
             more = wanted[len(told) :]
-            same_text("what is told at once", more, live.within(len(more), LONGEST))
+            same_text("what is told at once", more, live.within(len(more), PATIENCE))
             told = wanted
         said = case.told(opens)
         if said.status() != WAITS:

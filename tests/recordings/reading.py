@@ -9,7 +9,7 @@ import subprocess
 from first_fault import list_fault
 from foreign_recordings import try_foreign
 from made_recordings import made_data, of_each_length
-from program import LONGEST, Cases, Program, answers, must, rests, same_text, text_within
+from program import PATIENCE, Cases, Program, answers, must, rests, same_text, text_within
 from reading_words import try_words
 from reads import ORDERS, READS, is_read
 from recorded import recorded
@@ -140,7 +140,7 @@ def comes(run: subprocess.Popen, wanted: bytes, told: bytes, more: int = 0) -> N
     must(wanted.startswith(told), "what was told is no beginning")
     rest = wanted[len(told) :]
     assert run.stdout is not None
-    found = text_within(run.stdout.fileno(), len(rest) + more, LONGEST)
+    found = text_within(run.stdout.fileno(), len(rest) + more, PATIENCE)
     same_text("what is told at once", rest, found)
 
 
