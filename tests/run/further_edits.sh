@@ -10,25 +10,31 @@
 set -euo pipefail
 
 top=$(cd "$(dirname "$(readlink -f "${BASH_SOURCE[0]}")")/../.." && pwd)
-cd "$top/crates"
+cd "$top"
 crates=("$@")
 if [[ $# -eq 0 ]]; then
-    for folder in */further-edits; do crates+=("${folder%/further-edits}"); done
+    for folder in crates/*/further-edits; do crates+=("$(basename "${folder%/further-edits}")"); done
 fi
+for crate in "${crates[@]}"; do
+    if [[ ! -d crates/$crate/further-edits ]]; then
+        echo "there is no folder crates/$crate/further-edits" >&2
+        exit 2
+    fi
+done
 
+# Each crate has those that the gate tries again.
 put_back() {
     for crate in "${crates[@]}"; do
-        if [[ -d $crate/gate-edits ]]; then
-            mv "$crate/must-fail" "$crate/further-edits"
-            mv "$crate/gate-edits" "$crate/must-fail"
+        if [[ -d crates/$crate/gate-edits ]]; then
+            mv "crates/$crate/must-fail" "crates/$crate/further-edits"
+            mv "crates/$crate/gate-edits" "crates/$crate/must-fail"
         fi
     done
 }
 
 trap put_back EXIT
 for crate in "${crates[@]}"; do
-    mv "$crate/must-fail" "$crate/gate-edits"
-    mv "$crate/further-edits" "$crate/must-fail"
+    mv "crates/$crate/must-fail" "crates/$crate/gate-edits"
+    mv "crates/$crate/further-edits" "crates/$crate/must-fail"
 done
-cd "$top"
 rt must-fail "${crates[@]}"
