@@ -13,7 +13,9 @@ top=$(cd "$(dirname "$(readlink -f "${BASH_SOURCE[0]}")")/../.." && pwd)
 cd "$top"
 crates=("$@")
 if [[ $# -eq 0 ]]; then
-    for folder in crates/*/further-edits; do crates+=("$(basename "${folder%/further-edits}")"); done
+    for folder in crates/*/further-edits; do
+        crates+=("$(basename "$(dirname "$folder")")")
+    done
 fi
 for crate in "${crates[@]}"; do
     if [[ ! -d crates/$crate/further-edits ]]; then
