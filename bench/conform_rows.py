@@ -8,6 +8,7 @@ from table import show
 FEW = 20_000  # frames that don't count: what is held of a recording, and more
 LISTS, ONE, TWO = "lists", "one recording", "two recordings"
 AS_READ = ["--reorder=0"]
+POLICED = "what `replay` takes to read, check and police two frames"
 CONFORM = [  # the ports of a link, what is read, and options
     ("conform, 400 links to one port each", 1, LISTS, []),
     ("conform, 400 links to four ports each", 4, LISTS, []),
@@ -55,6 +56,22 @@ def row_of(bench, row, lines):
     return bench.rows([(name, words)], frames, make, FEW, beside)[0]
 
 
+def policed(bench):
+    """The instructions for which `replay` reads, checks and polices a frame that came: what it
+    takes for one that goes to one port, less what it takes for each further port of four."""
+    config, left = bench.path("judged.toml"), bench.path("left.list")
+    taken: dict[int, float] = {}
+    for ports in (1, 4):
+
+        def make(path, count):
+            write_two_lists(config, path, left, count, ports)
+
+        words = [bench.program, "replay", "--no-admission", config]
+        counts = bench.a_line(make, words, FEW)
+        taken[ports] = 0 if counts is None else counts.instructions
+    return taken[1] - (taken[4] - taken[1]) / 3
+
+
 def show_conform(bench, only, lines, empty):
     """The rows with this text in their names; the lines of what a frame takes, which are printed
     last."""
@@ -65,10 +82,12 @@ def show_conform(bench, only, lines, empty):
             continue
         measured = row_of(bench, row, lines)
         bench.show(measured, *empty)
-        line = bench.line_of_64() if measured.instructions is not None else None
-        if line:
-            times = measured.instructions / (line * (1 + ports))
-            told.append(f"{name}: {times:.2f} times {1 + ports} lines of `police`")
+        if measured.instructions is None:
+            continue
+        times = measured.instructions / (bench.line_of_64() * (1 + ports))
+        told.append(f"{name}: {times:.2f} times {1 + ports} lines of `police`")
+        times = measured.instructions / ports / (2 * policed(bench))
+        told.append(f"{name}: at each port {times:.2f} times {POLICED}")
     return told
 
 

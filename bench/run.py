@@ -22,8 +22,8 @@ that say so. One table in Markdown is printed:
 MB are 1,000,000 bytes of the list, or of both. Lines below the table say what each further copy of
 a frame takes (the run in which a link goes to 23 ports less that in which it goes to one), what
 share of the instructions of its list line a recorded frame takes, what a frame takes at each of
-several switches that it passes, and how many times as much as lines of `police` the lines take of a
-frame that came and left.
+several switches that it passes, and how many times as much as lines of `police`, and as reading,
+checking and policing in `replay`, the lines take of a frame that came and left.
 
 With --baseline the hand-written C program bench/handwritten/police_baseline.c is compiled by
 `cc -O2`, must print the same as `police`, and stands in the table beside it. Both run by turns, and

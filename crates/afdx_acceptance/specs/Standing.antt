@@ -9,6 +9,7 @@ use Rattle.afdx_acceptance.specs.Choices.{Choices}
 use Rattle.afdx_acceptance.specs.Keeping.{AreKept, given_of}
 use Rattle.afdx_acceptance.specs.Lines.{Due}
 use Rattle.afdx_acceptance.specs.Tapped.{taps_in}
+use Rattle.afdx_conform.specs.declared.spare.Spare.{Spare}
 use Rattle.afdx_acceptance.specs.declared.kept.Kept.{Kept}
 use Rattle.afdx_acceptance.specs.declared.streams.Streams.{Streams}
 
@@ -17,8 +18,8 @@ pub record IsSameButKept (old new : Streams) : Type 0 where
   pub tables : new.tables ≡ old.tables
   pub taps : new.taps ≡ old.taps
 
-abbrev pub streams_with : Streams → Kept → Streams
-streams_with s kept = record s { kept = kept }
+abbrev pub streams_with : Streams → Spare → Kept → Streams
+streams_with s spare kept = record s { spare = spare; kept = kept }
 
 -- none of these frames is of a later time
 abbrev pub IsBehindAll : ℕ → List Frame → Type 0

@@ -6,8 +6,9 @@ use Rattle.afdx_config.specs.Rows.{Rows, LinkRow}
 use Rattle.afdx_frame.specs.declared.link.Side.{Side}
 use Rattle.afdx_inputs.specs.Joining.{Frame}
 use Rattle.afdx_police.specs.Arrival.{Arrival}
+use Rattle.afdx_police.specs.Verdicts.{accepted_arrivals}
 use Rattle.afdx_conform.specs.Explanations.{Answered, AreAllowed, ArePairs, accepted_in, arrivals_in}
-use Rattle.afdx_conform.specs.Headline.{AreTheirFrames, accepted_by_rule}
+use Rattle.afdx_conform.specs.Headline.{AreTheirFrames}
 use Rattle.afdx_conform.specs.Hiding.{KeepAll}
 use Rattle.afdx_conform.specs.Levels.{parts}
 use Rattle.afdx_conform.specs.Streams.{Gone, Terms}
@@ -74,7 +75,7 @@ pub record IsTheRule (k : Rows × Choices) (frames : List Frame) : Type 0 where
   pub none_strange : NoneIsStrange k.0 k.1 (end_of k frames) frames
   pub streams : AreAll k.0 k.1 (end_of k frames) frames (λ l side port.
       AreTheirFrames (terms_at k.0 k.1 (end_of k frames) l port)
-      (accepted_by_rule (rule_of k.0 l) (arrivals_of k.0 k.1 l.vl side frames))
+      (accepted_arrivals (rule_of k.0 l) (arrivals_of k.0 k.1 l.vl side frames))
       (frames_of k.0 k.1 l.vl side port frames))
 
 abbrev pub ExactShowsTheRule : Type 0

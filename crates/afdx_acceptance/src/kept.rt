@@ -29,7 +29,7 @@ use crate::key::Key;
 use crate::slot::{Slot, add_arrival, add_frame, add_stranger, end_at, step};
 use crate::strangers::{Stranger, Strangers};
 use crate::totals::Totals;
-use afdx_conform::{Arrived, Frame, Stream};
+use afdx_conform::{Arrived, Frame, Spare, Stream};
 use afdx_text::ConformLine;
 use std::alloc::{AllocError, Global};
 
@@ -227,6 +227,7 @@ impl Kept {
     fn step(
         &mut self,
         alloc: Global,
+        spare: &mut Spare,
         entry: &Entry,
         ended: Option<u64>,
     ) -> Result<Lines, AllocError>
@@ -246,17 +247,19 @@ impl Kept {
     {
         let (key, moment) = (entry.key, entry.moment);
         let place = key.place();
-        let lines = step(&mut self.slots[place], alloc, key, ended)?;
+        let lines = step(&mut self.slots[place], alloc, spare, key, ended)?;
         let due = self.slots[place].due();
         await_due(&mut self.agenda, due, key)?;
         Ok(Lines { moment, key, lines })
     }
 
     /// The lines of what is to be told next, if its moment lies before that time, in ns; without a
-    /// time whenever it is. `ended` is the time at which the recordings end, once it is known.
+    /// time whenever it is. `ended` is the time at which the recordings end, once it is known. What
+    /// is forgotten then leaves its memory to `spare`.
     pub(crate) fn take_before(
         &mut self,
         alloc: Global,
+        spare: &mut Spare,
         before: Option<u64>,
         ended: Option<u64>,
     ) -> Result<Option<Lines>, AllocError>
@@ -277,7 +280,7 @@ impl Kept {
     {
         while let Some(entry) = self.agenda.take_before(before) {
             if is_due(self.slots.as_slice(), &entry) {
-                let lines = self.step(alloc, &entry, ended)?;
+                let lines = self.step(alloc, spare, &entry, ended)?;
                 return Ok(Some(lines));
             }
         }

@@ -9,6 +9,8 @@ mod asked;
 mod choices;
 mod command;
 mod counting;
+mod hints;
+mod joining;
 mod judging;
 mod kept;
 mod key;

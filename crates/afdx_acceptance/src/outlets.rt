@@ -3,7 +3,6 @@
 ghost use Rattle.std.specs.Prelude.{◌≡◌, ◌<◌, ◌*◌, [], IfNone, IfSome, None, Some, get_or, option_and_then, length, slice_get, true, ℕ};
 ghost use Rattle.afdx_bounds.specs.Tables.{port_of, rule_of as rule_in};
 ghost use Rattle.afdx_config.specs.Lawful.{IsLawfulSwitch};
-ghost use Rattle.afdx_config.specs.Reading.{link_of};
 ghost use Rattle.afdx_config.specs.Rows.{LinkRow, SystemRow, is_to};
 ghost use Rattle.afdx_conform.specs.LeewayOf.{leeway_of};
 ghost use Rattle.afdx_police.specs.RuleOf.{rule_of};
@@ -14,20 +13,8 @@ ghost use Rattle.afdx_acceptance.specs.Frames.{link_to, terms_at};
 
 use afdx_config::{SystemId, Tables};
 use afdx_conform::{Leeway, Stream};
-use afdx_frame::VlId;
 use afdx_police::LinkRule;
 use std::alloc::Global;
-
-/// The place of the link that a frame names, if the tables have it.
-pub(crate) fn link_named(tables: &Tables, vl: Option<VlId>) -> Option<usize>
-    ensures known { IfSome result (λ link. link < length tables.now.links) }
-    ensures place { result ≡ option_and_then (λ v. link_of tables.now.links v.0) vl }
-{
-    match vl {
-        Some(vl) => tables.link_of(vl),
-        None => None,
-    }
-}
 
 /// The system or neighbour at this rank among those to which a link goes.
 pub(crate) fn receiver(tables: &Tables, link: usize, rank: usize) -> SystemId

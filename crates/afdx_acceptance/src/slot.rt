@@ -18,7 +18,7 @@ ghost use Rattle.afdx_acceptance.specs.Slots.{StreamStands, told_at, unsure_behi
 
 use crate::key::Key;
 use crate::strangers::{Stranger, Strangers};
-use afdx_conform::{Arrived, Finding, Frame, Strangeness, Stream};
+use afdx_conform::{Arrived, Finding, Frame, Spare, Strangeness, Stream};
 use afdx_text::{ConformLine, StrangeReason};
 use std::alloc::{AllocError, Global};
 
@@ -213,6 +213,7 @@ fn with_unsure(
 fn step_stream(
     stream: &mut Stream,
     alloc: Global,
+    spare: &mut Spare,
     key: Key,
     ended: Option<u64>,
 ) -> Result<Vec<ConformLine>, AllocError>
@@ -231,7 +232,7 @@ fn step_stream(
     ensures less { (m : ℕ) → due_of stream.old ≡ Some m →
         OnOk result (undecided_in stream.new < undecided_in stream.old) }
 {
-    let found = stream.decide(alloc, ended)?;
+    let found = stream.decide(spare, ended)?;
     let lines = lines_of(alloc, key, found.as_slice())?;
     with_unsure(lines, key, stream.unsure_behind())
 }
@@ -268,11 +269,12 @@ fn step_strangers(
 }
 
 /// The lines of what is due, which is over then. `ended` is the time in ns at which the recordings
-/// end, once it is known.
+/// end, once it is known. What is forgotten then leaves its memory to `spare`.
 #[tactic(auto, unfolding(crate::specs::Waiting::slot_due, crate::specs::Waiting::slot_left, crate::specs::Slots::StrangersStand, crate::specs::Slots::StreamStands, crate::specs::Slots::StreamEnds))]
 pub(crate) fn step(
     at: &mut Slot,
     alloc: Global,
+    spare: &mut Spare,
     key: Key,
     ended: Option<u64>,
 ) -> Result<Vec<ConformLine>, AllocError>
@@ -298,6 +300,6 @@ pub(crate) fn step(
     match at {
         Slot::Nothing => Ok(Vec::new(alloc)),
         Slot::Strangers(strangers) => step_strangers(strangers, alloc, key),
-        Slot::Stream(stream) => step_stream(stream, alloc, key, ended),
+        Slot::Stream(stream) => step_stream(stream, alloc, spare, key, ended),
     }
 }

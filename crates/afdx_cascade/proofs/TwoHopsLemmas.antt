@@ -10,12 +10,12 @@ use Rattle.afdx_config.specs.Reading.{system_at_port}
 use Rattle.afdx_config.specs.Lawful.{IsLawfulSwitch}
 use Rattle.afdx_police.specs.Arrival.{Arrival, names, own}
 use Rattle.afdx_police.specs.Rule.{Rule}
-use Rattle.afdx_police.specs.Verdicts.{reason_after}
+use Rattle.afdx_police.specs.Verdicts.{accepted_arrivals, reason_after}
 use Rattle.afdx_police.specs.declared.shape.Reason.{Reason}
 use Rattle.afdx_port.proofs.TurnLemmas.{eqb-other}
 use Rattle.afdx_port.specs.Schedule.{Turn}
 use Rattle.afdx_bounds.specs.Outputs.{Row, AreTimed}
-use Rattle.afdx_switch.specs.Admitted.{IsAdmittedRun, accepted_arrivals}
+use Rattle.afdx_switch.specs.Admitted.{IsAdmittedRun}
 use Rattle.afdx_switch.specs.HeldFrames.{HeldFrame}
 use Rattle.afdx_switch.specs.Tables.{rows_of, row_of, row_named, rule_of, goes_to, carried}
 use Rattle.afdx_switch.specs.Tables.{byte_ns_at}

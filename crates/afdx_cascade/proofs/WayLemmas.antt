@@ -4,8 +4,7 @@ use Rattle.std.specs.Prelude.{is_none, if◌then◌else◌}
 use Rattle.afdx_frame.specs.declared.link.Side.{Side}
 use Rattle.afdx_police.specs.Arrival.{Arrival, own}
 use Rattle.afdx_police.specs.Rule.{Rule}
-use Rattle.afdx_police.specs.Verdicts.{charged_by, drop_reason, accepted_own, reason_after}
-use Rattle.afdx_switch.specs.Admitted.{accepted_arrivals}
+use Rattle.afdx_police.specs.Verdicts.{accepted_arrivals, charged_by, drop_reason, accepted_own, reason_after}
 use Rattle.afdx_switch.specs.Hops.{IsCopy, AreCopies, AreFirstCopies}
 use Rattle.afdx_switch.proofs.HopLemmas.{first-from}
 use Rattle.afdx_cascade.specs.Cables.{Hop, IsHop, GoesOn, rule_at, accepted_at, latency_at, all_turns, brought_by, named}

@@ -19,11 +19,11 @@ use Rattle.afdx_config.proofs.LookUpLemmas.{each_row-found}
 use Rattle.afdx_admit.specs.Cascade.{RowAt, row_at, row_before, is_sent_here}
 use Rattle.afdx_police.specs.Arrival.{Arrival, is_side, names, own}
 use Rattle.afdx_police.specs.Rule.{Rule}
-use Rattle.afdx_police.specs.Verdicts.{reason_after}
+use Rattle.afdx_police.specs.Verdicts.{accepted_arrivals, reason_after}
 use Rattle.afdx_bounds.specs.Outputs.{AreTimed}
 use Rattle.afdx_port.specs.Schedule.{Entry, Turn, AreTurns, end_of}
 use Rattle.afdx_port.proofs.TurnLemmas.{next_of, schedule_begins}
-use Rattle.afdx_switch.specs.Admitted.{IsAdmittedRun, accepted_arrivals, accepted_frames, frames_among}
+use Rattle.afdx_switch.specs.Admitted.{IsAdmittedRun, accepted_frames, frames_among}
 use Rattle.afdx_switch.specs.Admitted.{passing_in, slots}
 use Rattle.afdx_switch.specs.HeldFrames.{HeldFrame}
 use Rattle.afdx_switch.specs.Hops.{AreCopies, AreFirstCopies}

@@ -11,7 +11,7 @@ use Rattle.afdx_police.specs.Account.{missing, overdrawn}
 use Rattle.afdx_police.specs.Arrival.{Arrival}
 use Rattle.afdx_police.specs.Rule.{Rule, regulation_of}
 use Rattle.afdx_police.specs.Shape.{fault_of}
-use Rattle.afdx_police.specs.Verdicts.{charged_by, accepted_own, reason_after}
+use Rattle.afdx_police.specs.Verdicts.{accepted_arrivals, charged_by, accepted_own, reason_after}
 use Rattle.afdx_police.specs.Window as window
 use Rattle.afdx_police.specs.Window.{Charged}
 use Rattle.afdx_police.specs.declared.shape.Reason.{Reason}
@@ -21,7 +21,7 @@ use Rattle.afdx_conform.specs.Leeway.{Leeway}
 use Rattle.afdx_conform.specs.Levels.{Levels, levels_with, may_pass, has_to_pass, charged, refused, later, full, cost, fast_slip}
 use Rattle.afdx_conform.specs.Streams.{Terms}
 use Rattle.afdx_conform.specs.Explanations.{Answered, answered, accepted_in, arrivals_in, last_time, charge, levels_then, levels_after, IsAllowed, AreAllowed}
-use Rattle.afdx_conform.specs.Headline.{sound_of, accepted_by_rule, GoByTime}
+use Rattle.afdx_conform.specs.Headline.{sound_of, GoByTime}
 
 -- no leeway but for an inner delay
 abbrev pub exact : ℕ → Leeway
@@ -161,14 +161,14 @@ module _ (rule : Rule) (is : IsTrue (is_bag rule.bag_ms)) (latency_ns byte_ns in
   pub record IsAt (past : List Arrival) (answers : List Answered) : Type 0 where
     pub are_answered : arrivals_in answers ≡ sound_of rule past
     pub are_allowed : AreAllowed z answers
-    pub same : accepted_in answers ≡ accepted_by_rule rule past
+    pub same : accepted_in answers ≡ accepted_arrivals rule past
     pub lo : ℕ
     pub levels_are : levels_after z answers ≡ levels_with lo lo
     pub level : IsLevel l is inner (accepted_own rule past) (last past) lo
     pub came : AllByRecursion (λ c. c.time ≤ last past) (accepted_own rule past)
 
   at-first : IsAt [] []
-  unfolding arrivals_in AreAllowed accepted_in accepted_by_rule sound_of levels_after accepted_own overdrawn
+  unfolding arrivals_in AreAllowed accepted_in accepted_arrivals sound_of levels_after accepted_own overdrawn
   at-first = record {
     are_answered = refl;
     are_allowed = tt;
@@ -216,9 +216,9 @@ module _ (rule : Rule) (is : IsTrue (is_bag rule.bag_ms)) (latency_ns byte_ns in
   own-by past x b e = if-so _ b (charged_by rule x ∷ accepted_own rule past) (accepted_own rule past) e
 
   arrivals-by : (past : List Arrival) (x : Arrival) (b : Bool) → is_none (reason_after rule past x) ≡ b
-      → accepted_by_rule rule (x ∷ past) ≡ (if b then x ∷ accepted_by_rule rule past else accepted_by_rule rule past)
-  unfolding accepted_by_rule
-  arrivals-by past x b e = if-so _ b (x ∷ accepted_by_rule rule past) (accepted_by_rule rule past) e
+      → accepted_arrivals rule (x ∷ past) ≡ (if b then x ∷ accepted_arrivals rule past else accepted_arrivals rule past)
+  unfolding accepted_arrivals
+  arrivals-by past x b e = if-so _ b (x ∷ accepted_arrivals rule past) (accepted_arrivals rule past) e
 
   last-before : (past : List Arrival) (time : ℕ) → AllByRecursion (λ w. w.time ≤ time) past → last past ≤ time
   unfolding sound_of
@@ -246,7 +246,7 @@ module _ (rule : Rule) (is : IsTrue (is_bag rule.bag_ms)) (latency_ns byte_ns in
   step-fault past answers x why faulty at =
       let dropped = reason-fault past x why faulty in
       let own : accepted_own rule (x ∷ past) ≡ accepted_own rule past = own-by past x false dropped in
-      let came : accepted_by_rule rule (x ∷ past) ≡ accepted_by_rule rule past = arrivals-by past x false dropped in
+      let came : accepted_arrivals rule (x ∷ past) ≡ accepted_arrivals rule past = arrivals-by past x false dropped in
       let none : sound_of rule (x ∷ past) ≡ sound_of rule past = sound-not past x why faulty in record {
         are_answered = at.are_answered ∙ sym none;
         are_allowed = at.are_allowed;
@@ -296,7 +296,7 @@ module _ (rule : Rule) (is : IsTrue (is_bag rule.bag_ms)) (latency_ns byte_ns in
     unfolding arrivals_in AreAllowed accepted_in levels_after
     step-accepted e =
         let own : accepted_own rule (x ∷ past) ≡ charged_by rule x ∷ accepted_own rule past = own-by past x true (reason-is ∙ e) in
-        let came : accepted_by_rule rule (x ∷ past) ≡ x ∷ accepted_by_rule rule past = arrivals-by past x true (reason-is ∙ e) in
+        let came : accepted_arrivals rule (x ∷ past) ≡ x ∷ accepted_arrivals rule past = arrivals-by past x true (reason-is ∙ e) in
         let here : sound_of rule (x ∷ past) ≡ x ∷ sound_of rule past = sound-here past x sound in
         let last-is : last (x ∷ past) ≡ x.time = ap (λ (list : List Arrival). last_time (exact inner) list) here in
         record {
@@ -316,7 +316,7 @@ module _ (rule : Rule) (is : IsTrue (is_bag rule.bag_ms)) (latency_ns byte_ns in
     unfolding arrivals_in AreAllowed accepted_in levels_after
     step-refused e =
         let own : accepted_own rule (x ∷ past) ≡ accepted_own rule past = own-by past x false (reason-is ∙ e) in
-        let came : accepted_by_rule rule (x ∷ past) ≡ accepted_by_rule rule past = arrivals-by past x false (reason-is ∙ e) in
+        let came : accepted_arrivals rule (x ∷ past) ≡ accepted_arrivals rule past = arrivals-by past x false (reason-is ∙ e) in
         let here : sound_of rule (x ∷ past) ≡ x ∷ sound_of rule past = sound-here past x sound in
         let last-is : last (x ∷ past) ≡ x.time = ap (λ (list : List Arrival). last_time (exact inner) list) here in
         record {

@@ -10,9 +10,10 @@ use Rattle.std.specs.Str.{bytes_eq}
 use Rattle.afdx_frame.specs.Regulation.{is_bag}
 use Rattle.afdx_police.specs.Arrival.{Arrival}
 use Rattle.afdx_police.specs.Rule.{Rule}
+use Rattle.afdx_police.specs.Verdicts.{accepted_arrivals}
 use Rattle.afdx_conform.specs.Streams.{Gone, Terms, fits, is_begun, is_no_sooner, is_in_time, wire_time, latency}
 use Rattle.afdx_conform.specs.Explanations.{Answered, AreAllowed, ArePairs, Explains, accepted_in, arrivals_in}
-use Rattle.afdx_conform.specs.Headline.{accepted_by_rule, sound_of, GoByTime, IsItsFrame, AreTheirFrames, IsAsTheHeadline}
+use Rattle.afdx_conform.specs.Headline.{sound_of, GoByTime, IsItsFrame, AreTheirFrames, IsAsTheHeadline}
 use Rattle.afdx_conform.specs.Laws.{ExactIsTheHeadline, ExactShowsAll}
 use Rattle.afdx_conform.proofs.ExactLemmas as exact
 use Rattle.afdx_conform.proofs.ExactLemmas.{exactly, some-answers}
@@ -89,7 +90,7 @@ module _ (rule : Rule) (is : IsTrue (is_bag rule.bag_ms)) (latency_ns byte_ns in
 
   all-there : (own : List Arrival) (frames : List Gone) → GoByTime own → (answers : List Answered)
       → arrivals_in answers ≡ sound_of rule own → AreAllowed z answers → ArePairs z (accepted_in answers) frames
-      → AreTheirFrames z (accepted_by_rule rule own) frames
+      → AreTheirFrames z (accepted_arrivals rule own) frames
   all-there own frames order answers same allowed pairs =
       let at = exactly rule is latency_ns byte_ns inner until own order answers same allowed in
       subst (λ (xs : List Arrival). AreTheirFrames z xs frames) at.same (pairs-frames (accepted_in answers) frames pairs)
@@ -140,7 +141,7 @@ exact_shows_all z own frames answers e is order answered allowed pairs =
     let same : z ≡ terms-with z.rule z.latency_ns z.byte_ns z.until 0 0 z.by.inner 0 None =
     same-terms z.rule z.latency_ns z.byte_ns z.until z.by.slack z.by.drift z.by.inner z.by.asked z.by.start
     e.slack e.drift e.asked e.start in
-    subst (λ (t : Terms). AreTheirFrames t (accepted_by_rule z.rule own) frames) (sym same)
+    subst (λ (t : Terms). AreTheirFrames t (accepted_arrivals z.rule own) frames) (sym same)
     (all-there z.rule is z.latency_ns z.byte_ns z.by.inner z.until own frames order answers answered
     (subst (λ (t : Terms). AreAllowed t answers) same allowed)
     (subst (λ (t : Terms). ArePairs t (accepted_in answers) frames) same pairs))

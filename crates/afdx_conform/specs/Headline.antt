@@ -4,7 +4,7 @@ use Rattle.std.specs.List.{AllByRecursion}
 use Rattle.afdx_police.specs.Arrival.{Arrival}
 use Rattle.afdx_police.specs.Rule.{Rule}
 use Rattle.afdx_police.specs.Shape.{fault_of}
-use Rattle.afdx_police.specs.Verdicts.{reason_after}
+use Rattle.afdx_police.specs.Verdicts.{accepted_arrivals}
 use Rattle.afdx_conform.specs.Streams.{Gone, Terms, is_open}
 
 -- of a link's own arrivals those without a fault in their shape
@@ -13,13 +13,6 @@ sound_of rule [] = []
 sound_of rule (x ∷ past) =
     if is_none (fault_of (Some rule) x.port x.bytes) then x ∷ sound_of rule past
     else sound_of rule past
-
--- and those that the rule accepts
-unfoldable pub accepted_by_rule : Rule → List Arrival → List Arrival
-accepted_by_rule rule [] = []
-accepted_by_rule rule (x ∷ past) =
-    if is_none (reason_after rule past x) then x ∷ accepted_by_rule rule past
-    else accepted_by_rule rule past
 
 -- they go by time
 unfoldable pub GoByTime : List Arrival → Type 0
@@ -53,6 +46,6 @@ module _ (z : Terms) where
   pub record IsAsTheHeadline (own : List Arrival) (frames : List Gone) : Type 0 where
     pub waiting : List Arrival
     pub took : List Arrival
-    pub accepted : accepted_by_rule z.rule own ≡ waiting ++ took
+    pub accepted : accepted_arrivals z.rule own ≡ waiting ++ took
     pub are_open : AllByRecursion (λ x. IsTrue (is_open z x)) waiting
     pub are_frames : AreTheirFrames took frames

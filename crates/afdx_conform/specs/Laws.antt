@@ -3,7 +3,8 @@ use Rattle.std.specs.Prelude.{◌≡◌, ℕ, ◌≤◌, ◌↔◌, IsTrue, List
 use Rattle.std.specs.List.{AllByRecursion}
 use Rattle.afdx_frame.specs.Regulation.{is_bag}
 use Rattle.afdx_police.specs.Arrival.{Arrival}
-use Rattle.afdx_conform.specs.Headline.{sound_of, accepted_by_rule, GoByTime, IsExact, AreTheirFrames, IsAsTheHeadline}
+use Rattle.afdx_police.specs.Verdicts.{accepted_arrivals}
+use Rattle.afdx_conform.specs.Headline.{sound_of, GoByTime, IsExact, AreTheirFrames, IsAsTheHeadline}
 use Rattle.afdx_conform.specs.Streams.{Gone, Terms}
 use Rattle.afdx_conform.specs.Explanations.{Answered, accepted_in, arrivals_in, AreAllowed, ArePairs, Explains}
 use Rattle.afdx_conform.specs.States.{Event, Closing, State, arrivals_came, states_after, AreInOrder}
@@ -43,4 +44,4 @@ ExactShowsAll =
     arrivals_in answers ≡ sound_of z.rule own →
     AreAllowed z answers →
     ArePairs z (accepted_in answers) frames →
-    AreTheirFrames z (accepted_by_rule z.rule own) frames
+    AreTheirFrames z (accepted_arrivals z.rule own) frames

@@ -5,8 +5,9 @@ ghost use Rattle.std.specs.Str.{bytes_eq};
 ghost use Rattle.afdx_frame.specs.Parts.{bytes_of};
 ghost use Rattle.afdx_frame.specs.Sealing.{is_sealed, sealed_wrongly};
 
+use crate::spare::Spare;
 use afdx_frame::{Checked, Seal, fcs};
-use std::alloc::{AllocError, Global};
+use std::alloc::AllocError;
 use std::marker::Model;
 
 /// Whether the bytes are this message and the complement of its check sequence.
@@ -50,15 +51,22 @@ impl Model for CheckedBytes {
 }
 
 impl CheckedBytes {
-    /// A copy of these bytes. Fails only out of memory.
-    pub fn of(alloc: Global, frame: Checked<'_>) -> Result<CheckedBytes, AllocError>
+    /// A copy of these bytes, in the memory of a message that was forgotten if there is one. Fails
+    /// only out of memory.
+    pub fn of(spare: &mut Spare, frame: Checked<'_>) -> Result<CheckedBytes, AllocError>
         ensures { IfOk result (λ kept. kept ≡ bytes_of frame.entry) }
     {
-        let message = Vec::from_slice(alloc, frame.message)?;
+        let message = spare.copy(frame.message)?;
         Ok(CheckedBytes {
             message,
             seal: frame.seal,
         })
+    }
+
+    /// They are forgotten: their memory is for others.
+    pub(crate) fn give_back(self, spare: &mut Spare) {
+        let CheckedBytes { message, seal: _ } = self;
+        spare.take_back(message);
     }
 
     /// The frame that they are.

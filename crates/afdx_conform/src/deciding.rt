@@ -25,6 +25,7 @@ use crate::growth::Growth;
 use crate::judging::judge_closing;
 use crate::leading::Moment;
 use crate::limits::{Frame, Limits};
+use crate::spare::Spare;
 use crate::upcoming::{Upcoming, moment_of};
 use std::alloc::{AllocError, Global};
 
@@ -159,7 +160,7 @@ impl Growth {
 
     /// The event of an arrival, and the closing of a frame behind it at which nothing is found.
     /// Fails only out of memory; then nothing has changed.
-    fn come(&mut self, alloc: Global, end: Option<u64>) -> Result<Vec<Finding>, AllocError>
+    fn come(&mut self, spare: &mut Spare, end: Option<u64>) -> Result<Vec<Finding>, AllocError>
         requires sound { IsSound self.old }
         requires place { length self.old.judging.marks.items < length self.old.arrivals.items }
         ensures sound { IsSound self.new }
@@ -183,7 +184,7 @@ impl Growth {
         let last = last_after(arrived, self.last);
         let found = judge_arrival(
             &mut self.judging,
-            alloc,
+            spare.alloc(),
             &self.bounds,
             self.arrivals.as_slice(),
             self.frames.as_slice(),
@@ -194,12 +195,12 @@ impl Growth {
         self.last = last;
         self.count(found.as_slice());
         self.close_explained(told);
-        self.forget();
+        self.forget(spare);
         Ok(found)
     }
 
     /// The closing of a frame. Fails only out of memory; then nothing has changed.
-    fn close(&mut self, alloc: Global) -> Result<Vec<Finding>, AllocError>
+    fn close(&mut self, spare: &mut Spare) -> Result<Vec<Finding>, AllocError>
         requires sound { IsSound self.old }
         requires place { self.old.closed < length self.old.frames.items }
         ensures sound { IsSound self.new }
@@ -218,7 +219,7 @@ impl Growth {
         let to = closed_by(frames, self.closed + 1, self.closing, time);
         let found = judge_closing(
             &mut self.judging,
-            alloc,
+            spare.alloc(),
             &self.bounds,
             self.arrivals.as_slice(),
             self.frames.as_slice(),
@@ -227,7 +228,7 @@ impl Growth {
         self.closed += 1;
         self.closing = to;
         self.count(found.as_slice());
-        self.forget();
+        self.forget(spare);
         Ok(found)
     }
 
@@ -237,7 +238,7 @@ impl Growth {
     /// nothing has changed.
     pub(crate) fn decide(
         &mut self,
-        alloc: Global,
+        spare: &mut Spare,
         end: Option<u64>,
     ) -> Result<Vec<Finding>, AllocError>
         requires sound { IsSound self.old }
@@ -253,15 +254,15 @@ impl Growth {
         ensures refused { OnErr result (IsSame self.old self.new) }
     {
         if self.judging.is_unsure {
-            return Ok(Vec::new(alloc));
+            return Ok(Vec::new(spare.alloc()));
         }
         let Some(upcoming) = self.upcoming() else {
-            return Ok(Vec::new(alloc));
+            return Ok(Vec::new(spare.alloc()));
         };
-        self.start(alloc)?;
+        self.start(spare.alloc())?;
         match upcoming {
-            Upcoming::Arrival => self.come(alloc, end),
-            Upcoming::Closing => self.close(alloc),
+            Upcoming::Arrival => self.come(spare, end),
+            Upcoming::Closing => self.close(spare),
         }
     }
 }

@@ -12,6 +12,7 @@ ghost use Rattle.afdx_conform.specs.Streams.{Gone, Terms};
 use crate::arrived::Arrived;
 use crate::growth::Growth;
 use crate::limits::{Frame, Limits};
+use crate::spare::Spare;
 use crate::states::Held;
 
 /// Lets go of the first `count` items.
@@ -26,6 +27,37 @@ fn forget_first<T: Drop>(items: &mut Vec<T>, count: usize)
     let left = items.len() - count;
     items.as_mut_slice().rotate_left(count);
     items.truncate(left);
+}
+
+/// What is kept with the bytes of a frame.
+trait HasBytes {
+    /// It is forgotten: the memory of the bytes is for others.
+    fn give_back(self, spare: &mut Spare);
+}
+
+impl HasBytes for Arrived {
+    fn give_back(self, spare: &mut Spare) {
+        self.bytes.give_back(spare);
+    }
+}
+
+impl HasBytes for Frame {
+    fn give_back(self, spare: &mut Spare) {
+        self.bytes.give_back(spare);
+    }
+}
+
+/// Lets go of the first `count` items, whose memory is for others.
+fn give_back_first<T: HasBytes>(items: &mut Vec<T>, count: usize, spare: &mut Spare)
+    requires { count ≤ length items.old.items }
+    ensures { items.new.items ≡ drop count items.old.items }
+{
+    items.as_mut_slice().rotate_left(count);
+    for given in 0..count {
+        if let Some(item) = items.pop() {
+            item.give_back(spare);
+        }
+    }
 }
 
 /// How many frames, of `most` at most, are explained in each state.
@@ -66,7 +98,7 @@ fn is_too_late(limits: &Limits, arrived: &Arrived, frame: &Frame) -> bool
 impl Growth {
     /// Lets go of frames that are closed and explained in each state, once they are half of those
     /// that are held.
-    fn forget_frames(&mut self)
+    fn forget_frames(&mut self, spare: &mut Spare)
         requires { IsSound self.old }
         ensures sound { IsSound self.new }
         ensures after { (z : Terms) (xs : List Arrival) (ys : List Gone) (cut : ℕ)
@@ -79,13 +111,13 @@ impl Growth {
         if count == 0 || count < self.frames.len() - count {
             return;
         }
-        forget_first(&mut self.frames, count);
+        give_back_first(&mut self.frames, count, spare);
         without_first(&mut self.judging.held, count);
         self.closed -= count;
     }
 
     /// Lets go of the first half of the arrivals, once no frame fits them that is held.
-    fn forget_arrivals(&mut self)
+    fn forget_arrivals(&mut self, spare: &mut Spare)
         requires { IsSound self.old }
         ensures sound { IsSound self.new }
         ensures after { (z : Terms) (xs : List Arrival) (ys : List Gone) (cut : ℕ)
@@ -107,12 +139,12 @@ impl Growth {
                 return;
             }
         }
-        forget_first(&mut self.arrivals, count);
+        give_back_first(&mut self.arrivals, count, spare);
         forget_first(&mut self.judging.marks, count);
     }
 
-    /// Lets go of what no later event asks for.
-    pub(crate) fn forget(&mut self)
+    /// Lets go of what no later event asks for, whose memory is for others.
+    pub(crate) fn forget(&mut self, spare: &mut Spare)
         requires { IsSound self.old }
         ensures sound { IsSound self.new }
         ensures after { (z : Terms) (xs : List Arrival) (ys : List Gone) (cut : ℕ)
@@ -121,7 +153,7 @@ impl Growth {
         ensures due { due_by self.new ≡ due_by self.old }
         ensures undecided { undecided_by self.new ≡ undecided_by self.old }
     {
-        self.forget_frames();
-        self.forget_arrivals();
+        self.forget_frames(spare);
+        self.forget_arrivals(spare);
     }
 }

@@ -1,6 +1,7 @@
 //! One stream, judged while its arrivals and frames come.
 
-ghost use Rattle.afdx_conform.specs.Growing.{IsSound};
+ghost use Rattle.std.specs.Prelude.{◌≡◌};
+ghost use Rattle.afdx_conform.specs.Growing.{IsSound, due_by};
 
 use crate::arrived::Arrived;
 use crate::bounds::Bounds;
@@ -10,6 +11,7 @@ use crate::growth::Growth;
 use crate::leeway::Leeway;
 use crate::levels::Rates;
 use crate::limits::{Frame, Limits};
+use crate::spare::Spare;
 use afdx_police::LinkRule;
 use std::alloc::{AllocError, Global};
 
@@ -23,7 +25,10 @@ use std::alloc::{AllocError, Global};
 #[derive(Drop)]
 pub struct Stream {
     growth: Growth,
+    /// The moment of the next event.
+    due: Option<u64>,
     ghost sound: { IsSound growth },
+    ghost next: { due ≡ due_by growth },
 }
 
 impl Stream {
@@ -57,7 +62,7 @@ impl Stream {
         let rates = Rates::new(rule, &by);
         let limits = Limits::new(latency_ns, byte_ns, &by);
         let growth = Growth::new(alloc, rule, Bounds { rates, limits }, by);
-        Stream { growth }
+        Stream { growth, due: None }
     }
 
     /// One more arrival came, of a time no earlier than that of any line before, nor than the
@@ -75,7 +80,9 @@ impl Stream {
             OnErr result (StandsFor z xs ys j time self.new) }
         ensures due_then { OnErr result (due_of self.new ≡ due_of self.old) }
     {
-        self.growth.add_arrival(arrived)
+        let added = self.growth.add_arrival(arrived);
+        self.due = self.growth.due();
+        added
     }
 
     /// One more frame left, at a time no earlier than that of any line before. Of 2^56 frames or
@@ -91,7 +98,9 @@ impl Stream {
             OnErr result (StandsFor z xs ys j time self.new) }
         ensures due_then { OnErr result (due_of self.new ≡ due_of self.old) }
     {
-        self.growth.add_frame(frame)
+        let added = self.growth.add_frame(frame);
+        self.due = self.growth.due();
+        added
     }
 
     /// The moment of the next event, in ns; None: there is none, or the stream is unsure.
@@ -101,13 +110,17 @@ impl Stream {
             (time other : ℕ) → time ≤ other → StandsFor z xs ys j time self.now →
             StandsFor z xs ys j other self.now }
     {
-        self.growth.due()
+        self.due
     }
 
     /// Judges the next event, if there is one: gives what is found there, in its order. `end` is
-    /// the time in ns at which the recordings end, once it is known. Fails only out of memory; then
-    /// nothing has changed.
-    pub fn decide(&mut self, alloc: Global, end: Option<u64>) -> Result<Vec<Finding>, AllocError>
+    /// the time in ns at which the recordings end, once it is known. The memory of messages that
+    /// are forgotten then is for others. Fails only out of memory; then nothing has changed.
+    pub fn decide(
+        &mut self,
+        spare: &mut Spare,
+        end: Option<u64>,
+    ) -> Result<Vec<Finding>, AllocError>
         ensures stands { (z : Terms) (xs : List Arrival) (ys : List Gone) (j : Judged)
             (time moment : ℕ) → end ≡ None → due_of self.old ≡ Some moment → moment < time →
             StandsFor z xs ys j time self.old → IfOk result (λ found. (k : Judged)
@@ -127,7 +140,9 @@ impl Stream {
         ensures less { (moment : ℕ) → due_of self.old ≡ Some moment →
             OnOk result (undecided_in self.new < undecided_in self.old) }
     {
-        self.growth.decide(alloc, end)
+        let found = self.growth.decide(spare, end);
+        self.due = self.growth.due();
+        found
     }
 
     /// The recordings end at this time, in ns, no earlier than any line: frames that may be of
@@ -143,6 +158,7 @@ impl Stream {
             (due_of self.new ≡ due_of self.old) ⊎ (due_of self.new ≡ None) }
     {
         self.growth.end(until);
+        self.due = self.growth.due();
     }
 
     /// The number of the arrival behind which there were too many states, if it is unsure: from

@@ -5,8 +5,8 @@ ghost use Rattle.std.specs.Prelude.{◌≡◌, IfOk};
 ghost use Rattle.afdx_conform.specs.Accounts.{AreLevels};
 
 use afdx_conform::{
-    Case, CheckedBytes, Frame, Held, Leeway, Levels, Limits, NextFrame, Rates, came, cases_of,
-    close, laws,
+    Case, CheckedBytes, Frame, Held, Leeway, Levels, Limits, NextFrame, Rates, Spare, came,
+    cases_of, close, laws,
 };
 use afdx_frame::{Checked, Policing, VlId};
 use afdx_police::LinkRule;
@@ -49,7 +49,7 @@ const BYTES: [u8; 64] = [7; 64];
 fn kept(alloc: Global, bytes: &[u8]) -> Result<CheckedBytes, AllocError>
     ensures { IfOk result (λ kept. kept ≡ bytes.now) }
 {
-    CheckedBytes::of(alloc, Checked::new(bytes))
+    CheckedBytes::of(&mut Spare::new(alloc), Checked::new(bytes))
 }
 
 /// A frame of these bytes that left at this time.

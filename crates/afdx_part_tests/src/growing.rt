@@ -1,33 +1,29 @@
 //! Streams whose arrivals and frames come one after another: what is due is decided before each.
 
 use crate::streams::{BYTES, EXACT, Given, link};
-use afdx_conform::{Arrived, CheckedBytes, Counts, Finding, Frame, Leeway, Stream};
+use afdx_conform::{Arrived, CheckedBytes, Counts, Finding, Frame, Leeway, Spare, Stream};
 use afdx_frame::{Checked, Side};
 use afdx_police::LinkRule;
 use afdx_samples::{all_right, equal};
 use std::alloc::{AllocError, Global};
 use std::test::Fail;
 
-/// A stream, and what was found in it so far.
+/// A stream, the memory of what it forgot, and what was found in it so far.
 #[derive(Drop)]
 pub(super) struct Told {
     pub(super) stream: Stream,
+    spare: Spare,
     pub(super) found: Vec<Finding>,
 }
 
 /// Decides what is due before this time.
-fn decide_before(
-    told: &mut Told,
-    alloc: Global,
-    time: u64,
-    end: Option<u64>,
-) -> Result<(), AllocError> {
+fn decide_before(told: &mut Told, time: u64, end: Option<u64>) -> Result<(), AllocError> {
     for _ in 0..2_000_u32 {
         match told.stream.due() {
             Some(moment) if moment < time => {}
             _ => return Ok(()),
         }
-        let more = told.stream.decide(alloc, end)?;
+        let more = told.stream.decide(&mut told.spare, end)?;
         for finding in more.as_slice() {
             told.found.push(*finding)?;
         }
@@ -36,15 +32,9 @@ fn decide_before(
 }
 
 /// One more arrival of such a frame.
-fn come(
-    told: &mut Told,
-    alloc: Global,
-    rule: &LinkRule,
-    number: u64,
-    time: u32,
-) -> Result<(), AllocError> {
-    decide_before(told, alloc, time.into(), None)?;
-    let bytes = CheckedBytes::of(alloc, Checked::new(&BYTES))?;
+fn come(told: &mut Told, rule: &LinkRule, number: u64, time: u32) -> Result<(), AllocError> {
+    decide_before(told, time.into(), None)?;
+    let bytes = CheckedBytes::of(&mut told.spare, Checked::new(&BYTES))?;
     told.stream
         .came(Arrived::new(rule, number, time.into(), Side::A, 1, bytes))
 }
@@ -52,7 +42,6 @@ fn come(
 /// Those of the frames from a place on that left before this time; gives the place of the next.
 fn leave_before(
     told: &mut Told,
-    alloc: Global,
     left: &[u32],
     from: usize,
     time: u64,
@@ -62,9 +51,9 @@ fn leave_before(
         if at >= time {
             return Ok(place);
         }
-        decide_before(told, alloc, at, None)?;
+        decide_before(told, at, None)?;
         let number = (place as u64).saturating_add(1);
-        let bytes = CheckedBytes::of(alloc, Checked::new(&BYTES))?;
+        let bytes = CheckedBytes::of(&mut told.spare, Checked::new(&BYTES))?;
         told.stream.left(Frame {
             number,
             time: at,
@@ -86,17 +75,18 @@ pub(super) fn told_in_turn(
 ) -> Result<Told, AllocError> {
     let mut told = Told {
         stream: Stream::new(alloc, rule, 17_000, 80, by),
+        spare: Spare::new(alloc),
         found: Vec::new(alloc),
     };
     let mut next = 0;
     for place in 0..came.len() {
         let number = (place as u64).saturating_add(1);
-        next = leave_before(&mut told, alloc, left, next, came[place].into())?;
-        come(&mut told, alloc, rule, number, came[place])?;
+        next = leave_before(&mut told, left, next, came[place].into())?;
+        come(&mut told, rule, number, came[place])?;
     }
-    leave_before(&mut told, alloc, left, next, u64::MAX)?;
+    leave_before(&mut told, left, next, u64::MAX)?;
     told.stream.end(until);
-    decide_before(&mut told, alloc, u64::MAX, Some(until))?;
+    decide_before(&mut told, u64::MAX, Some(until))?;
     Ok(told)
 }
 
@@ -158,8 +148,12 @@ fn stream_from(alloc: Global, start: Option<u64>) -> Option<(LinkRule, Told)> {
     let by = Leeway::new(0, 0, 0, 0, start)?;
     let rule = link()?;
     let stream = Stream::new(alloc, &rule, 17_000, 80, by);
-    let found = Vec::new(alloc);
-    Some((rule, Told { stream, found }))
+    let told = Told {
+        stream,
+        spare: Spare::new(alloc),
+        found: Vec::new(alloc),
+    };
+    Some((rule, told))
 }
 
 #[test]
@@ -168,12 +162,12 @@ fn too_many_states_are_unsure(rt: HostRuntime) -> Result<(), Fail> {
     let Some((rule, mut told)) = stream_from(alloc, Some(0)) else {
         return equal(true, false);
     };
-    come(&mut told, alloc, &rule, 7, 0)?;
+    come(&mut told, &rule, 7, 0)?;
     let left = [1_u32; 1024];
-    leave_before(&mut told, alloc, &left, 0, u64::MAX)?;
+    leave_before(&mut told, &left, 0, u64::MAX)?;
     equal(told.stream.unsure_behind(), None)?;
     told.stream.end(30_000);
-    decide_before(&mut told, alloc, u64::MAX, Some(30_000))?;
+    decide_before(&mut told, u64::MAX, Some(30_000))?;
     equal(told.stream.unsure_behind(), Some(7))?;
     equal(told.stream.due(), None)?;
     let none = Counts {
@@ -193,8 +187,8 @@ fn what_is_decided_is_let_go_of(rt: HostRuntime) -> Result<(), Fail> {
     let mut most = 0_usize;
     for place in 0..200_u32 {
         let time = place * 1_000_000;
-        come(&mut told, alloc, &rule, place.into(), time)?;
-        leave_before(&mut told, alloc, &[time + 6_720], 0, u64::MAX)?;
+        come(&mut told, &rule, place.into(), time)?;
+        leave_before(&mut told, &[time + 6_720], 0, u64::MAX)?;
         most = most.max(told.stream.held());
     }
     equal(told.found.len(), 0)?;
@@ -207,10 +201,10 @@ fn an_explained_frame_is_closed_with_its_arrival(rt: HostRuntime) -> Result<(), 
     let Some((rule, mut told)) = stream_from(alloc, None) else {
         return equal(true, false);
     };
-    come(&mut told, alloc, &rule, 1, 0)?;
-    leave_before(&mut told, alloc, &[6_720], 0, u64::MAX)?;
+    come(&mut told, &rule, 1, 0)?;
+    leave_before(&mut told, &[6_720], 0, u64::MAX)?;
     equal(told.stream.due(), Some(34_000))?;
-    decide_before(&mut told, alloc, 34_001, None)?;
+    decide_before(&mut told, 34_001, None)?;
     equal(told.stream.due(), None)?;
     equal(told.stream.held(), 0)
 }

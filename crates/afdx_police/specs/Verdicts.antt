@@ -42,6 +42,13 @@ accepted_own rule (x ∷ past) =
 unfoldable pub reason_after : Rule → List Arrival → Arrival → Option Reason
 reason_after rule past x = drop_reason rule (accepted_own rule past) x
 
+-- those of a link's own arrivals that are accepted
+unfoldable pub accepted_arrivals : Rule → List Arrival → List Arrival
+accepted_arrivals rule [] = []
+accepted_arrivals rule (x ∷ past) =
+    if is_none (reason_after rule past x) then x ∷ accepted_arrivals rule past
+    else accepted_arrivals rule past
+
 -- why an arrival is dropped that comes after all of these, of any link and side
 abbrev pub verdict_in : Rule → List Arrival → Arrival → Option Reason
 verdict_in rule all x = reason_after rule (own rule.vl x.side all) x

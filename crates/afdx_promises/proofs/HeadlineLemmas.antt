@@ -16,7 +16,7 @@ use Rattle.std.proofs.lemmas.List.Elements.{filter-append}
 use Rattle.afdx_port.specs.Schedule.{Turn}
 use Rattle.afdx_switch.specs.Admitted as switch
 use Rattle.afdx_switch.specs.Admitted.{IsAdmittedRun, Passing, passing, passing_in}
-use Rattle.afdx_switch.specs.Admitted.{accepted_arrivals, accepted_on, accepted_frames}
+use Rattle.afdx_switch.specs.Admitted.{accepted_on, accepted_frames}
 use Rattle.afdx_switch.specs.Admitted.{frames_among, frames_left, slots}
 use Rattle.afdx_switch.specs.HeldFrames.{HeldFrame}
 use Rattle.afdx_switch.specs.Laws.{is_of}
@@ -44,6 +44,7 @@ use Rattle.afdx_promises.proofs.PortLemmas.{entries_back, in-reverse, in-time, l
 use Rattle.afdx_promises.proofs.NoSoonerLemmas.{departs-no-sooner}
 use Rattle.afdx_promises.proofs.PromiseLemmas.{no-row, unknown-reason}
 use Rattle.afdx_police.proofs.FrameLemmas.{IsFrameOn}
+use Rattle.afdx_police.specs.Verdicts.{accepted_arrivals}
 use Rattle.afdx_promises.proofs.ReceiverLemmas.{accepted-frames, vl-is, none-is}
 use Rattle.afdx_promises.proofs.RuleLemmas.{one-verdicts, verdicts_of, own_verdicts, own-verdicts}
 

@@ -8,12 +8,12 @@ use Rattle.std.specs.List.{AllByRecursion}
 use Rattle.afdx_config.specs.Lawful.{IsLawfulSwitch}
 use Rattle.afdx_police.specs.Arrival.{Arrival, names, own}
 use Rattle.afdx_police.specs.Shape.{fault_of}
-use Rattle.afdx_police.specs.Verdicts.{reason_after}
+use Rattle.afdx_police.specs.Verdicts.{accepted_arrivals, reason_after}
 use Rattle.afdx_bounds.specs.Outputs.{Row, AreTimed}
 use Rattle.afdx_bounds.proofs.TableLemmas.{port-of-system}
 use Rattle.afdx_receive.specs.Arrivals.{Arrived, frames_of}
 use Rattle.afdx_receive.specs.Integrity.{Incoming}
-use Rattle.afdx_switch.specs.Admitted.{IsAdmittedRun, passing, accepted_arrivals, accepted_on, frames_left, slots}
+use Rattle.afdx_switch.specs.Admitted.{IsAdmittedRun, passing, accepted_on, frames_left, slots}
 use Rattle.afdx_switch.specs.Tables.{rule_of, rows_of, row_of, goes_to, row_named}
 use Rattle.afdx_switch.specs.Verdicts.{reason_on, reason_of}
 use Rattle.afdx_switch.proofs.AdmittedLemmas.{accepted-kept, link-reason}

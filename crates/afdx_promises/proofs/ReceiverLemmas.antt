@@ -19,7 +19,7 @@ use Rattle.afdx_config.specs.Rows.{LinkRow, Rows, is_to}
 use Rattle.afdx_police.specs.Arrival.{Arrival, names}
 use Rattle.afdx_police.specs.Rule.{Rule}
 use Rattle.afdx_police.specs.Shape.{IsSound}
-use Rattle.afdx_police.specs.Verdicts.{reason_after}
+use Rattle.afdx_police.specs.Verdicts.{accepted_arrivals, reason_after}
 use Rattle.afdx_police.specs.declared.shape.Reason.{Reason}
 use Rattle.afdx_police.proofs.FrameLemmas.{IsFrameOn}
 use Rattle.afdx_police.proofs.ShapeLemmas.{faultless-is-sound}
@@ -31,7 +31,7 @@ use Rattle.afdx_receive.specs.Delivery.{with_answer, delivered}
 use Rattle.afdx_receive.specs.Integrity.{Incoming}
 use Rattle.afdx_receive.proofs.ReceptionLemmas.{frames_with, frames_other, frames_damaged, answer_own}
 use Rattle.afdx_receive.proofs.TableLemmas.{received}
-use Rattle.afdx_switch.specs.Admitted.{Passing, passing, passing_in, accepted_arrivals, frames_among}
+use Rattle.afdx_switch.specs.Admitted.{Passing, passing, passing_in, frames_among}
 use Rattle.afdx_switch.specs.HeldFrames.{HeldFrame}
 use Rattle.afdx_switch.specs.Laws.{is_of}
 use Rattle.afdx_switch.specs.Tables.{rule_of}

@@ -8,13 +8,12 @@ use Rattle.afdx_config.specs.Rows.{LinkRow, Rows}
 use Rattle.afdx_police.specs.Arrival.{Arrival, is_side, names, own}
 use Rattle.afdx_police.specs.Rule.{Rule, regulation_of}
 use Rattle.afdx_police.specs.Shape.{fault_of}
-use Rattle.afdx_police.specs.Verdicts.{accepted_own, charged_by, drop_reason, reason_after}
+use Rattle.afdx_police.specs.Verdicts.{accepted_arrivals, accepted_own, charged_by, drop_reason, reason_after}
 use Rattle.afdx_police.specs.Window.{Fits, fits}
 use Rattle.afdx_police.specs.declared.shape.Reason.{Reason}
 use Rattle.afdx_police.specs.declared.shape.Reason.TheVariants.{OverRate}
 use Rattle.afdx_police.proofs.VerdictLemmas.{reason-fault, verdict_decides}
 use Rattle.afdx_police.proofs.WindowLemmas.{fits-Fits}
-use Rattle.afdx_switch.specs.Admitted.{accepted_arrivals}
 use Rattle.afdx_switch.specs.Tables.{rule_of}
 use Rattle.afdx_switch.specs.Verdicts.{reason_of}
 use Rattle.afdx_switch.proofs.AdmittedLemmas.{link-reason}

@@ -26,6 +26,7 @@ abbrev pub memory_at_first : LinkRow → LinkMemory
 memory_at_first link =
     record {
       skew_ns = 1000 * link.skew_us;
+      won = 0;
       winner = None;
       previous = record { a = None; b = None };
       vl = record { 0 = link.vl };

@@ -7,12 +7,12 @@ use Rattle.std.specs.List.{AllByRecursion}
 use Rattle.afdx_frame.specs.Regulation.{is_bag}
 use Rattle.afdx_police.specs.Arrival.{Arrival}
 use Rattle.afdx_police.specs.Shape.{fault_of}
-use Rattle.afdx_police.specs.Verdicts.{charged_by, accepted_own, reason_after}
+use Rattle.afdx_police.specs.Verdicts.{accepted_arrivals, charged_by, accepted_own, reason_after}
 use Rattle.afdx_police.specs.Window as window
 use Rattle.afdx_police.specs.Window.{Charged}
 use Rattle.afdx_police.specs.declared.shape.Reason.{Reason}
 use Rattle.afdx_conform.specs.Explanations.{from_time, link}
-use Rattle.afdx_conform.specs.Headline.{sound_of, accepted_by_rule, GoByTime}
+use Rattle.afdx_conform.specs.Headline.{sound_of, GoByTime}
 use Rattle.afdx_conform.specs.Leeway.{Leeway}
 use Rattle.afdx_conform.specs.Right.{Asked, Comes, GoesOn, accepted_after, is_accepted, accepted_asked, IsFirst, IsFrom, GoByClock}
 use Rattle.afdx_conform.specs.Streams.{Terms}
@@ -163,32 +163,32 @@ module _ (z : Terms) (ends : ℕ → Bool) (later : (m n : ℕ) → m ≤ n → 
   no-span [] all = tt
   no-span (x ∷ xs) all = (rw all.0 refl, no-span xs all.1)
 
-  nothing-asked : accepted_asked z (first []) (asks []) ≡ map ask (filter spans (accepted_by_rule z.rule []))
-  unfolding accepted_asked sound_of accepted_by_rule
+  nothing-asked : accepted_asked z (first []) (asks []) ≡ map ask (filter spans (accepted_arrivals z.rule []))
+  unfolding accepted_asked sound_of accepted_arrivals
   nothing-asked = refl
 
   module _ (x : Arrival) (past : List Arrival) where
     early-asked : is_early x ≡ true → AllByRecursion (λ w. w.time ≤ x.time) past
         → accepted_asked z (first (x ∷ past)) (asks (x ∷ past))
-        ≡ map ask (filter spans (accepted_by_rule z.rule (x ∷ past)))
+        ≡ map ask (filter spans (accepted_arrivals z.rule (x ∷ past)))
     unfolding accepted_asked
     early-asked e older =
         let all : AllByRecursion (λ w. is_early w ≡ true) (x ∷ past) = (e, all-early x past e older) in
         ap (λ (l : List Asked). accepted_asked z (first (x ∷ past)) l) (asks-none (x ∷ past) all)
-        ∙ sym (ap (λ (l : List Arrival). map ask l) (filter-none spans (accepted_by_rule z.rule (x ∷ past))
-        (no-span (accepted_by_rule z.rule (x ∷ past)) (accepted-keep z.rule (λ w. is_early w ≡ true) (x ∷ past) all))))
+        ∙ sym (ap (λ (l : List Arrival). map ask l) (filter-none spans (accepted_arrivals z.rule (x ∷ past))
+        (no-span (accepted_arrivals z.rule (x ∷ past)) (accepted-keep z.rule (λ w. is_early w ≡ true) (x ∷ past) all))))
 
     -- one that isn't asked
     pass-by : (b : Bool) → is_none (reason_after z.rule past x) ≡ b → spans x ≡ false
-        → filter spans (accepted_by_rule z.rule (x ∷ past)) ≡ filter spans (accepted_by_rule z.rule past)
+        → filter spans (accepted_arrivals z.rule (x ∷ past)) ≡ filter spans (accepted_arrivals z.rule past)
     pass-by true e off = ap (λ (l : List Arrival). filter spans l) (arrivals-by z.rule past x true e) ∙ rw off refl
     pass-by false e off = ap (λ (l : List Arrival). filter spans l) (arrivals-by z.rule past x false e)
 
     passed : is_early x ≡ false → asks (x ∷ past) ≡ asks past
-        → filter spans (accepted_by_rule z.rule (x ∷ past)) ≡ filter spans (accepted_by_rule z.rule past)
-        → accepted_asked z (first past) (asks past) ≡ map ask (filter spans (accepted_by_rule z.rule past))
+        → filter spans (accepted_arrivals z.rule (x ∷ past)) ≡ filter spans (accepted_arrivals z.rule past)
+        → accepted_asked z (first past) (asks past) ≡ map ask (filter spans (accepted_arrivals z.rule past))
         → accepted_asked z (first (x ∷ past)) (asks (x ∷ past)) ≡ map ask
-        (filter spans (accepted_by_rule z.rule (x ∷ past)))
+        (filter spans (accepted_arrivals z.rule (x ∷ past)))
     passed e same left rest =
         ap (λ (l : List Asked). accepted_asked z (first (x ∷ past)) l) same
         ∙ ap (λ (l : List Charged). accepted_asked z l (asks past)) (first-same x past e)
@@ -197,9 +197,9 @@ module _ (z : Terms) (ends : ℕ → Bool) (later : (m n : ℕ) → m ≤ n → 
     -- one that is
     one-asked : (b : Bool) → is_none (reason_after z.rule past x) ≡ b → spans x ≡ true
         → is_accepted z (first past) (asks past) (ask x) ≡ b
-        → accepted_asked z (first past) (asks past) ≡ map ask (filter spans (accepted_by_rule z.rule past))
+        → accepted_asked z (first past) (asks past) ≡ map ask (filter spans (accepted_arrivals z.rule past))
         → accepted_asked z (first past) (ask x ∷ asks past) ≡ map ask
-        (filter spans (accepted_by_rule z.rule (x ∷ past)))
+        (filter spans (accepted_arrivals z.rule (x ∷ past)))
     unfolding accepted_asked
     one-asked true e on same rest =
         rw same (ap (λ (l : List Asked). ask x ∷ l) rest
@@ -209,7 +209,7 @@ module _ (z : Terms) (ends : ℕ → Bool) (later : (m n : ℕ) → m ≤ n → 
 
   -- so it accepts of what is asked just what the rule accepts
   pub asked-accepted : (own : List Arrival) → GoByTime own → AllByRecursion IsHarmless own
-      → accepted_asked z (first own) (asks own) ≡ map ask (filter spans (accepted_by_rule z.rule own))
+      → accepted_asked z (first own) (asks own) ≡ map ask (filter spans (accepted_arrivals z.rule own))
   unfolding GoByTime
   asked-accepted [] order fine = nothing-asked
   asked-accepted (x ∷ past) order fine =
@@ -218,9 +218,9 @@ module _ (z : Terms) (ends : ℕ → Bool) (later : (m n : ℕ) → m ≤ n → 
     where
       by : (b : Bool) → is_early x ≡ b → (c : Bool) → ends x.time ≡ c → (f : Option Reason)
           → fault_of (Some z.rule) x.port x.bytes ≡ f
-          → accepted_asked z (first past) (asks past) ≡ map ask (filter spans (accepted_by_rule z.rule past))
+          → accepted_asked z (first past) (asks past) ≡ map ask (filter spans (accepted_arrivals z.rule past))
           → accepted_asked z (first (x ∷ past)) (asks (x ∷ past)) ≡ map ask
-          (filter spans (accepted_by_rule z.rule (x ∷ past)))
+          (filter spans (accepted_arrivals z.rule (x ∷ past)))
       by true e c k f g rest = early-asked x past e order.0
       by false e true k f g rest =
           passed x past e (asks-pass x past (rw (e, k) refl))

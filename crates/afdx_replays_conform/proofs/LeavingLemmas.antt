@@ -5,8 +5,9 @@ use Rattle.std.specs.Prelude.{IsTrue, nat_lt, filter, Option, Some, None}
 use Rattle.std.specs.List.{AllByRecursion}
 use Rattle.afdx_frame.specs.Regulation.{is_bag}
 use Rattle.afdx_police.specs.Arrival.{Arrival}
+use Rattle.afdx_police.specs.Verdicts.{accepted_arrivals}
 use Rattle.afdx_conform.specs.Explanations.{from_time}
-use Rattle.afdx_conform.specs.Headline.{accepted_by_rule, GoByTime, IsItsFrame, AreTheirFrames}
+use Rattle.afdx_conform.specs.Headline.{GoByTime, IsItsFrame, AreTheirFrames}
 use Rattle.afdx_conform.specs.Leeway.{both_slacks}
 use Rattle.afdx_conform.specs.Right.{Asked, LeavesAs, IsUnseen, EachLeaves, AllLeaveLater, IsRight}
 use Rattle.afdx_conform.specs.Streams.{Gone, Terms}
@@ -190,10 +191,10 @@ module _ (z : Terms) (ends : ℕ → Bool) (later : (m n : ℕ) → m ≤ n → 
   -- a right switch: its account is asked as frames come, and what it accepts leaves
   pub stream-right : (own : List Arrival) (gone : List Gone) → IsTrue (is_bag z.rule.bag_ms) → GoByTime own
       → LeaveByTime gone
-      → AllByRecursion (IsHarmless z ends later q) own → AreTheirFrames z (accepted_by_rule z.rule own) gone
+      → AllByRecursion (IsHarmless z ends later q) own → AreTheirFrames z (accepted_arrivals z.rule own) gone
       → IsRight z (asks z ends later q own) (filter is_seen gone)
   stream-right own gone is order leave fine are =
-      let s = split (accepted_by_rule z.rule own) gone (accepted-by-time z.rule own order) leave are in
+      let s = split (accepted_arrivals z.rule own) gone (accepted-by-time z.rule own order) leave are in
       record {
         first = first z ends later q own;
         moment = from_time z.by.start;

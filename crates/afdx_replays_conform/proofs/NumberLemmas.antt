@@ -5,9 +5,9 @@ use Rattle.std.specs.List.{AllByRecursion}
 use Rattle.afdx_frame.specs.declared.link.Side.{Side}
 use Rattle.afdx_police.specs.Arrival.{Arrival, is_side, names, own}
 use Rattle.afdx_police.specs.Rule.{Rule}
-use Rattle.afdx_police.specs.Verdicts.{accepted_own, charged_by, drop_reason, reason_after}
+use Rattle.afdx_police.specs.Verdicts.{accepted_arrivals, accepted_own, charged_by, drop_reason, reason_after}
 use Rattle.afdx_police.specs.Window.{Charged}
-use Rattle.afdx_conform.specs.Headline.{GoByTime, AreTheirFrames, accepted_by_rule}
+use Rattle.afdx_conform.specs.Headline.{GoByTime, AreTheirFrames}
 use Rattle.afdx_conform.specs.Streams.{Gone, Terms}
 use Rattle.afdx_replays_conform.specs.Recorded.{AreSameArrivals, IsSameArrival}
 
@@ -120,17 +120,17 @@ module _ (rule : Rule) where
       ∙ ap (λ (acc : List Charged). drop_reason rule acc x) (sym (same-accepted-own xs ys are))
 
   pub same-accepted : (xs ys : List Arrival) → AreSameArrivals xs ys
-      → AreSameArrivals (accepted_by_rule rule xs) (accepted_by_rule rule ys)
-  unfolding AreSameArrivals accepted_by_rule
+      → AreSameArrivals (accepted_arrivals rule xs) (accepted_arrivals rule ys)
+  unfolding AreSameArrivals accepted_arrivals
   same-accepted [] [] are = tt
   same-accepted [] (y ∷ ys) are = absurd are
   same-accepted (x ∷ xs) [] are = absurd are
   same-accepted (x ∷ xs) (y ∷ ys) are = by (is_none (reason_after rule xs x)) refl (same-accepted xs ys are.1)
     where
       by : (b : Bool) → is_none (reason_after rule xs x) ≡ b
-          → AreSameArrivals (accepted_by_rule rule xs) (accepted_by_rule rule ys)
-          → AreSameArrivals (if b then x ∷ accepted_by_rule rule xs else accepted_by_rule rule xs)
-          (if is_none (reason_after rule ys y) then y ∷ accepted_by_rule rule ys else accepted_by_rule rule ys)
+          → AreSameArrivals (accepted_arrivals rule xs) (accepted_arrivals rule ys)
+          → AreSameArrivals (if b then x ∷ accepted_arrivals rule xs else accepted_arrivals rule xs)
+          (if is_none (reason_after rule ys y) then y ∷ accepted_arrivals rule ys else accepted_arrivals rule ys)
       by true e rest = rw (same-verdict xs ys x y are.1 are.0, e) (are.0, rest)
       by false e rest = rw (same-verdict xs ys x y are.1 are.0, e) rest
 

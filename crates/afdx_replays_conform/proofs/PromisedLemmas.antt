@@ -1,6 +1,6 @@
 -- What a replay tells leaves as it is promised; and so does what is a stream's of it.
 use Rattle.std.proofs.Common.{◌≡◌, ℕ, ◌+◌, ◌*◌, ◌≤◌, ◌==◌, ◌&&◌, Bool, true, false, List, [], ◌∷◌, length, map, filter, refl, sym, ap, ◌∙◌, subst, arith, inl, inr}
-use Rattle.std.specs.Prelude.{Some, is_none, slice_get, if◌then◌else◌}
+use Rattle.std.specs.Prelude.{Some, slice_get, if◌then◌else◌}
 use Rattle.std.specs.List.{AllByRecursion}
 use Rattle.std.proofs.lemmas.Bool.{and_parts, eqb-true}
 use Rattle.afdx_frame.specs.Regulation.{wire_of}
@@ -10,16 +10,16 @@ use Rattle.afdx_config.specs.Lawful.{IsLawfulSwitch, AreDistinct, IsSystem}
 use Rattle.afdx_config.specs.Rows.{LinkRow, Rows}
 use Rattle.afdx_police.specs.Arrival.{Arrival, is_side, names, own}
 use Rattle.afdx_police.specs.Rule.{Rule}
-use Rattle.afdx_police.specs.Verdicts.{reason_after}
+use Rattle.afdx_police.specs.Verdicts.{accepted_arrivals}
 use Rattle.afdx_bounds.proofs.VerdictLemmas.{one-name}
-use Rattle.afdx_switch.specs.Admitted.{Passing, passing, accepted_arrivals, accepted_on}
+use Rattle.afdx_switch.specs.Admitted.{Passing, passing, accepted_on}
 use Rattle.afdx_switch.specs.Tables.{rule_of, goes_to, byte_ns_at}
 use Rattle.afdx_switch.proofs.AdmittedLemmas.{goes-at}
 use Rattle.afdx_promises.specs.Lines.{Line, Judged, Leaving, IsIn, judged_in, verdicts_on, accepted_in, left_in, is_leaving}
 use Rattle.afdx_promises.specs.Promises.{AreVerdicts, KeepsPromises, LeavesInTime}
 use Rattle.afdx_promises.proofs.LineLemmas.{map-filter, verdicts-arrivals}
 use Rattle.afdx_promises.proofs.RuleLemmas.{own_verdicts, own-verdicts, one-verdicts, verdicts_of}
-use Rattle.afdx_conform.specs.Headline.{accepted_by_rule, AreTheirFrames}
+use Rattle.afdx_conform.specs.Headline.{AreTheirFrames}
 use Rattle.afdx_conform.specs.Streams.{Gone, Terms}
 use Rattle.afdx_replays_conform.specs.Leaving.{LeavesAsPromised, LeaveAsPromised}
 
@@ -68,17 +68,6 @@ kept-leave t arrivals lines lawful keeps = record {
 }
 
 -- ---- a stream's
-
-same-accepted : (rule : Rule) (xs : List Arrival) → accepted_arrivals rule xs ≡ accepted_by_rule rule xs
-unfolding accepted_arrivals accepted_by_rule
-same-accepted rule [] = refl
-same-accepted rule (x ∷ past) = by (is_none (reason_after rule past x)) (same-accepted rule past)
-  where
-    by : (b : Bool) → accepted_arrivals rule past ≡ accepted_by_rule rule past
-        → (if b then x ∷ accepted_arrivals rule past else accepted_arrivals rule past)
-        ≡ (if b then x ∷ accepted_by_rule rule past else accepted_by_rule rule past)
-    by true e = ap (λ (l : List Arrival). x ∷ l) e
-    by false e = e
 
 pub one-link : (t : Rows) → IsLawfulSwitch t → (i j : ℕ) (k l : LinkRow) → slice_get t.links i ≡ Some k
     → slice_get t.links j ≡ Some l → (bytes : List ℕ) → names k.vl bytes ≡ true → names l.vl bytes ≡ true → k ≡ l
@@ -176,12 +165,11 @@ module _ (t : Rows) (lawful : IsLawfulSwitch t) (side : Side) (port place : ℕ)
   -- what left of a link at a port are the frames that the rule accepts, in time
   pub stream-frames : (arrivals : List Arrival) (left : List Leaving) (ys : List Gone) → LeaveAsPromised t arrivals left
       → AreGone (filter (is_leaving l.vl side port) left) ys
-      → AreTheirFrames z (accepted_by_rule z.rule (own l.vl side arrivals)) ys
+      → AreTheirFrames z (accepted_arrivals z.rule (own l.vl side arrivals)) ys
   stream-frames arrivals left ys promised gone =
       let here = port-here t l port lawful goes in
-      their-frames z (accepted_by_rule z.rule (own l.vl side arrivals)) (filter (is_leaving l.vl side port) left) ys
+      their-frames z (accepted_arrivals z.rule (own l.vl side arrivals)) (filter (is_leaving l.vl side port) left) ys
       (promised.frames side port place l here.low here.high at
       ∙ ap (λ b. if b then map passing (accepted_on t l side arrivals) else []) goes
-      ∙ ap (map passing) (same-accepted (rule_of t l) (own l.vl side arrivals)
-      ∙ ap (λ (r : Rule). accepted_by_rule r (own l.vl side arrivals)) (sym rule)))
+      ∙ ap (λ (r : Rule). map passing (accepted_arrivals r (own l.vl side arrivals))) (sym rule))
       (all-in-time left promised.each) gone

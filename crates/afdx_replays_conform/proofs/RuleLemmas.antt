@@ -9,25 +9,25 @@ use Rattle.afdx_police.specs.Account.{missing, overdrawn}
 use Rattle.afdx_police.specs.Arrival.{Arrival}
 use Rattle.afdx_police.specs.Rule.{Rule, regulation_of}
 use Rattle.afdx_police.specs.Shape.{fault_of}
-use Rattle.afdx_police.specs.Verdicts.{charged_by, accepted_own, reason_after}
+use Rattle.afdx_police.specs.Verdicts.{accepted_arrivals, charged_by, accepted_own, reason_after}
 use Rattle.afdx_police.specs.Window as window
 use Rattle.afdx_police.specs.Window.{Charged}
 use Rattle.afdx_police.specs.declared.shape.Reason.{Reason}
 use Rattle.afdx_police.specs.declared.shape.Reason.TheVariants.{OverRate}
 use Rattle.afdx_police.proofs.AccountLemmas.{fits-room, missing-accept, missing-later}
-use Rattle.afdx_conform.specs.Headline.{sound_of, accepted_by_rule, GoByTime}
+use Rattle.afdx_conform.specs.Headline.{sound_of, GoByTime}
 use Rattle.afdx_replays_conform.proofs.ListLemmas.{bool-cases}
 
 module _ (rule : Rule) where
   -- what is accepted, or of the right shape, is of what came
   pub accepted-keep : (P : Arrival → Type 0) (xs : List Arrival) → AllByRecursion P xs
-      → AllByRecursion P (accepted_by_rule rule xs)
-  unfolding accepted_by_rule
+      → AllByRecursion P (accepted_arrivals rule xs)
+  unfolding accepted_arrivals
   accepted-keep P [] all = tt
   accepted-keep P (x ∷ xs) all = by (is_none (reason_after rule xs x)) (accepted-keep P xs all.1)
     where
-      by : (b : Bool) → AllByRecursion P (accepted_by_rule rule xs)
-          → AllByRecursion P (if b then x ∷ accepted_by_rule rule xs else accepted_by_rule rule xs)
+      by : (b : Bool) → AllByRecursion P (accepted_arrivals rule xs)
+          → AllByRecursion P (if b then x ∷ accepted_arrivals rule xs else accepted_arrivals rule xs)
       by true rest = (all.0, rest)
       by false rest = rest
 
@@ -42,16 +42,16 @@ module _ (rule : Rule) where
       by true rest = (all.0, rest)
       by false rest = rest
 
-  pub accepted-by-time : (xs : List Arrival) → GoByTime xs → GoByTime (accepted_by_rule rule xs)
-  unfolding accepted_by_rule GoByTime
+  pub accepted-by-time : (xs : List Arrival) → GoByTime xs → GoByTime (accepted_arrivals rule xs)
+  unfolding accepted_arrivals GoByTime
   accepted-by-time [] order = tt
   accepted-by-time (x ∷ xs) order =
       by (is_none (reason_after rule xs x)) (accepted-keep (λ w. w.time ≤ x.time) xs order.0)
       (accepted-by-time xs order.1)
     where
-      by : (b : Bool) → AllByRecursion (λ w. w.time ≤ x.time) (accepted_by_rule rule xs)
-          → GoByTime (accepted_by_rule rule xs)
-          → GoByTime (if b then x ∷ accepted_by_rule rule xs else accepted_by_rule rule xs)
+      by : (b : Bool) → AllByRecursion (λ w. w.time ≤ x.time) (accepted_arrivals rule xs)
+          → GoByTime (accepted_arrivals rule xs)
+          → GoByTime (if b then x ∷ accepted_arrivals rule xs else accepted_arrivals rule xs)
       by true below rest = (below, rest)
       by false below rest = rest
 
@@ -94,9 +94,9 @@ module _ (rule : Rule) where
       ap (λ (d : Bool). if d then charged_by rule x ∷ accepted_own rule past else accepted_own rule past) e
 
   pub arrivals-by : (past : List Arrival) (x : Arrival) (b : Bool) → is_none (reason_after rule past x) ≡ b
-      → accepted_by_rule rule (x ∷ past) ≡ (if b then x ∷ accepted_by_rule rule past else accepted_by_rule rule past)
-  unfolding accepted_by_rule
-  arrivals-by past x b e = ap (λ (d : Bool). if d then x ∷ accepted_by_rule rule past else accepted_by_rule rule past) e
+      → accepted_arrivals rule (x ∷ past) ≡ (if b then x ∷ accepted_arrivals rule past else accepted_arrivals rule past)
+  unfolding accepted_arrivals
+  arrivals-by past x b e = ap (λ (d : Bool). if d then x ∷ accepted_arrivals rule past else accepted_arrivals rule past) e
 
   pub own-keep : (time : ℕ) (xs : List Arrival) → AllByRecursion (λ w. w.time ≤ time) xs
       → AllByRecursion (λ c. c.time ≤ time) (accepted_own rule xs)

@@ -15,10 +15,11 @@ use Rattle.afdx_inputs.specs.Joining.{Frame}
 use Rattle.afdx_police.specs.Arrival.{Arrival, is_side, names, own}
 use Rattle.afdx_police.specs.Shape.{fault_of}
 use Rattle.afdx_police.proofs.ShapeLemmas.{faultless-is-sound}
+use Rattle.afdx_police.specs.Verdicts.{accepted_arrivals}
 use Rattle.afdx_bounds.specs.Outputs.{AreTimed}
 use Rattle.afdx_bounds.specs.Tables.{rule_of, port_of, goes_to}
 use Rattle.afdx_promises.specs.Lines.{Leaving}
-use Rattle.afdx_conform.specs.Headline.{sound_of, accepted_by_rule, GoByTime, AreTheirFrames}
+use Rattle.afdx_conform.specs.Headline.{sound_of, GoByTime, AreTheirFrames}
 use Rattle.afdx_conform.specs.Histories.{uncut}
 use Rattle.afdx_conform.specs.LimitRanges.{most_bytes}
 use Rattle.afdx_conform.specs.Right.{Asked, IsRight}
@@ -93,10 +94,10 @@ module _ (t : Rows) (c : Choices) (until : ℕ) (lawful : IsLawfulSwitch t) (ori
       harmless [] all = tt
       harmless (x ∷ xs) all = (one-harmless x all.0, harmless xs all.1)
 
-      frames-of : AreTheirFrames z (accepted_by_rule z.rule (own l.vl side arrivals)) gone
+      frames-of : AreTheirFrames z (accepted_arrivals z.rule (own l.vl side arrivals)) gone
       frames-of =
-          same-frames z (accepted_by_rule z.rule (own l.vl side original))
-          (accepted_by_rule z.rule (own l.vl side arrivals)) gone
+          same-frames z (accepted_arrivals z.rule (own l.vl side original))
+          (accepted_arrivals z.rule (own l.vl side arrivals)) gone
           (same-accepted z.rule (own l.vl side original) (own l.vl side arrivals)
           (same-own l.vl side original arrivals same))
           (stream-frames t lawful side port place l is.stands is.goes z refl refl refl original left gone promised
@@ -145,7 +146,7 @@ module _ (t : Rows) (c : Choices) (until : ℕ) (lawful : IsLawfulSwitch t) (ori
           let ys = all_gone t c lawful side place port l is frames in
           let seen = is_seen z ends (later-ends c.until) (behind-end c.until until ended) asks_it in
           let short = every-unmap (λ (y : Gone). nat_le (length y.bytes) most_bytes ≡ true) gone_of ys
-          (short-frames z (accepted_by_rule z.rule (own l.vl side arrivals)) gone
+          (short-frames z (accepted_arrivals z.rule (own l.vl side arrivals)) gone
           (accepted-shape z.rule (own l.vl side arrivals)) frames-of) in
           frames-are t c lawful side place port l is frames
           ∙ ap (λ (l : List Arrival). map gone_of l)
@@ -224,8 +225,8 @@ module _ (t : Rows) (c : Choices) (until : ℕ) (lawful : IsLawfulSwitch t) (ori
           (filter-none (λ y. counts t c (record { role = Left; arrival = y })) ys
           (none-left ys (filter-passes (λ y. left_here t c lawful side place port l is y) (left_among frames))))
 
-      nothing-there : AreTheirFrames z (accepted_by_rule z.rule []) []
-      unfolding AreTheirFrames accepted_by_rule
+      nothing-there : AreTheirFrames z (accepted_arrivals z.rule []) []
+      unfolding AreTheirFrames accepted_arrivals
       nothing-there = tt
 
       nothing-goes : GoByTime []

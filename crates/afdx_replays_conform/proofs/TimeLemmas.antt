@@ -7,13 +7,13 @@ use Rattle.std.specs.Option.{ForSome}
 use Rattle.afdx_police.specs.Arrival.{Arrival}
 use Rattle.afdx_police.specs.Rule.{Rule}
 use Rattle.afdx_police.specs.Shape.{fault_of}
-use Rattle.afdx_police.specs.Verdicts.{reason_after}
+use Rattle.afdx_police.specs.Verdicts.{accepted_arrivals, reason_after}
 use Rattle.afdx_police.specs.declared.shape.Reason.{Reason}
 use Rattle.afdx_police.proofs.ShapeLemmas.{faultless-is-sound}
 use Rattle.afdx_bounds.specs.Outputs.{AreTimed}
 use Rattle.afdx_promises.proofs.ListLemmas.{map-reverse}
 use Rattle.afdx_conform.specs.Events.{GoUp, frame_times}
-use Rattle.afdx_conform.specs.Headline.{accepted_by_rule, GoByTime, AreTheirFrames}
+use Rattle.afdx_conform.specs.Headline.{GoByTime, AreTheirFrames}
 use Rattle.afdx_conform.specs.LimitRanges.{most_bytes}
 use Rattle.afdx_conform.specs.Streams.{Gone, Terms}
 use Rattle.afdx_conform.proofs.EveryLemmas.{every-append, every-map, every-reverse, reverse-first}
@@ -87,17 +87,17 @@ faulted rule past x why g = rw g refl
 
 -- what a rule accepts has the right shape
 pub accepted-shape : (rule : Rule) (xs : List Arrival)
-    → AllByRecursion (λ x. fault_of (Some rule) x.port x.bytes ≡ None) (accepted_by_rule rule xs)
-unfolding accepted_by_rule
+    → AllByRecursion (λ x. fault_of (Some rule) x.port x.bytes ≡ None) (accepted_arrivals rule xs)
+unfolding accepted_arrivals
 accepted-shape rule [] = tt
 accepted-shape rule (x ∷ past) = by (reason_after rule past x) refl (fault_of (Some rule) x.port x.bytes) refl
     (accepted-shape rule past)
   where
     by : (o : Option Reason) → reason_after rule past x ≡ o → (f : Option Reason)
         → fault_of (Some rule) x.port x.bytes ≡ f
-        → AllByRecursion (λ x. fault_of (Some rule) x.port x.bytes ≡ None) (accepted_by_rule rule past)
+        → AllByRecursion (λ x. fault_of (Some rule) x.port x.bytes ≡ None) (accepted_arrivals rule past)
         → AllByRecursion (λ x. fault_of (Some rule) x.port x.bytes ≡ None)
-        (if is_none o then x ∷ accepted_by_rule rule past else accepted_by_rule rule past)
+        (if is_none o then x ∷ accepted_arrivals rule past else accepted_arrivals rule past)
     by (Some why) e f g rest = rest
     by None e None g rest = (g, rest)
     by None e (Some why) g rest = absurd (let reason = faulted rule past x why g in cc (reason, e))

@@ -1,6 +1,6 @@
 //! The items of `afdx_conform`.
 
-use afdx_conform::{Arrived, CheckedBytes, Counts, Finding, Frame, Leeway, Stream};
+use afdx_conform::{Arrived, CheckedBytes, Counts, Finding, Frame, Leeway, Spare, Stream};
 use afdx_frame::{Checked, Policing, Side, VlId};
 use afdx_police::LinkRule;
 use afdx_samples::{equal, hello};
@@ -18,14 +18,14 @@ fn stream(alloc: Global, rule: &LinkRule) -> Option<Stream> {
 }
 
 /// One arrival, and its frame.
-fn tell(alloc: Global, stream: &mut Stream, rule: &LinkRule) -> Result<(), AllocError> {
+fn tell(spare: &mut Spare, stream: &mut Stream, rule: &LinkRule) -> Result<(), AllocError> {
     let (number, side, port): (u64, Side, u8) = (1, Side::A, 1);
-    let bytes: CheckedBytes = CheckedBytes::of(alloc, Checked::new(&hello(0)))?;
+    let bytes: CheckedBytes = CheckedBytes::of(spare, Checked::new(&hello(0)))?;
     let arrived: Arrived = Arrived::new(rule, number, 0, side, port, bytes);
     let came: Result<(), AllocError> = stream.came(arrived);
     came?;
     let time: u64 = 6_720;
-    let bytes: CheckedBytes = CheckedBytes::of(alloc, Checked::new(&hello(0)))?;
+    let bytes: CheckedBytes = CheckedBytes::of(spare, Checked::new(&hello(0)))?;
     let left: Result<(), AllocError> = stream.left(Frame {
         number,
         time,
@@ -40,12 +40,13 @@ fn one_stream(rt: HostRuntime) -> Result<(), Fail> {
     let (vl, policing): (VlId, Policing) = (VlId(1), Policing::Frame);
     let rule: LinkRule = LinkRule::new(vl, 1, 1, 64, 64, 500, policing).ok_or("a rule")?;
     let mut stream = stream(alloc, &rule).ok_or("a leeway")?;
-    tell(alloc, &mut stream, &rule)?;
+    let mut spare: Spare = Spare::new(alloc);
+    tell(&mut spare, &mut stream, &rule)?;
     let due: Option<u64> = stream.due();
-    let found: Result<Vec<Finding>, AllocError> = stream.decide(alloc, None);
+    let found: Result<Vec<Finding>, AllocError> = stream.decide(&mut spare, None);
     let found = found?;
     stream.end(100_000);
-    let rest: Result<Vec<Finding>, AllocError> = stream.decide(alloc, Some(100_000));
+    let rest: Result<Vec<Finding>, AllocError> = stream.decide(&mut spare, Some(100_000));
     let rest = rest?;
     let unsure: Option<u64> = stream.unsure_behind();
     let counts: Counts = stream.counts();

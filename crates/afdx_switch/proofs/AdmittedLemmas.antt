@@ -21,7 +21,7 @@ use Rattle.afdx_police.specs.Account.{overdrawn}
 use Rattle.afdx_police.specs.Arrival.{Arrival, is_side, names, own}
 use Rattle.afdx_police.specs.Laws.{EachAccountMoves}
 use Rattle.afdx_police.specs.Shape.{fault_of}
-use Rattle.afdx_police.specs.Verdicts.{reason_after}
+use Rattle.afdx_police.specs.Verdicts.{accepted_arrivals, reason_after}
 use Rattle.afdx_police.specs.declared.shape.Reason.{Reason}
 use Rattle.afdx_police.proofs.AccountLemmas.{fits-room, missing-accept, missing-later}
 use Rattle.afdx_police.proofs.VerdictLemmas.{accepted_own-offers}
@@ -40,7 +40,7 @@ use Rattle.afdx_bounds.proofs.TableLemmas.{output-served, rows-are}
 use Rattle.afdx_bounds.proofs.TableLawLemmas.{contains-row, has-slot, slot-has-come}
 use Rattle.afdx_bounds.proofs.VerdictLemmas.{one-name}
 use Rattle.afdx_switch.specs.Admitted.{IsAdmittedRun, Passing, passing, passing_in}
-use Rattle.afdx_switch.specs.Admitted.{accepted_arrivals, accepted_on, accepted_frames}
+use Rattle.afdx_switch.specs.Admitted.{accepted_on, accepted_frames}
 use Rattle.afdx_switch.specs.Admitted.{frames_among, AcceptedIsKept, LosesNothing, AcceptedEnter}
 use Rattle.afdx_switch.specs.Admitted.{AreInTime, TurnsAreInTime, HaveLeft, AllHaveLeft, IsInTime}
 use Rattle.afdx_switch.specs.HeldFrames.{HeldFrame}

@@ -10,13 +10,12 @@ use Rattle.afdx_police.specs.Arrival.{Arrival, is_side, names, own}
 use Rattle.afdx_police.specs.Delayed.{HasRoom, IsDelayed, AreDelayed}
 use Rattle.afdx_police.specs.Rule.{Rule, regulation_of}
 use Rattle.afdx_police.specs.Shape.{IsSound}
-use Rattle.afdx_police.specs.Verdicts.{accepted_own, charged_by, reason_after}
+use Rattle.afdx_police.specs.Verdicts.{accepted_arrivals, accepted_own, charged_by, reason_after}
 use Rattle.afdx_police.specs.Window.{fits}
 use Rattle.afdx_police.specs.declared.shape.Reason.{Reason}
 use Rattle.afdx_police.proofs.DelayLemmas.{delayed-fits}
 use Rattle.afdx_police.proofs.ShapeLemmas.{faultless-is-sound}
 use Rattle.afdx_police.proofs.VerdictLemmas.{verdict_decides}
-use Rattle.afdx_switch.specs.Admitted.{accepted_arrivals}
 use Rattle.afdx_switch.specs.Hops.{IsNextRule, IsCopy, AreCopies, AreFirstCopies}
 use Rattle.afdx_switch.specs.Hops.{CopiesAreAccepted, NoCopyIsDropped}
 use Rattle.afdx_switch.specs.Regular.{at_port}

@@ -10,13 +10,12 @@ use Rattle.afdx_police.specs.Arrival.{Arrival, names, own}
 use Rattle.afdx_police.specs.Rule.{Rule, regulation_of}
 use Rattle.afdx_police.specs.Shape.{IsSound, fault_of}
 use Rattle.afdx_police.specs.Stream.{IsRegular}
-use Rattle.afdx_police.specs.Verdicts.{accepted_own, charged_by, reason_after}
+use Rattle.afdx_police.specs.Verdicts.{accepted_arrivals, accepted_own, charged_by, reason_after}
 use Rattle.afdx_police.specs.Window.{Charged, fits, with_next, accepted_of}
 use Rattle.afdx_police.specs.declared.shape.Reason.{Reason}
 use Rattle.afdx_police.proofs.ShapeLemmas.{faultless-is-sound}
 use Rattle.afdx_police.proofs.StreamLemmas.{regular_accepted}
 use Rattle.afdx_police.proofs.VerdictLemmas.{verdict_decides, reason-fault}
-use Rattle.afdx_switch.specs.Admitted.{accepted_arrivals}
 use Rattle.afdx_switch.specs.Regular.{at_port, AreSound, IsRegularAt, IsAccepted}
 use Rattle.afdx_switch.specs.Tables.{rule_of}
 use Rattle.afdx_switch.specs.Verdicts.{reason_of, IsVerdict}

@@ -1,13 +1,12 @@
 -- What admitted tables promise of a switch, whatever arrives. A list of arrivals has the newest
 -- first.
-use Rattle.std.specs.Prelude.{◌≡◌, ℕ, ◌+◌, ◌*◌, ◌≤◌, true, false, not, is_none, if◌then◌else◌, All, Some, List, [], ◌∷◌, filter, map, reverse, slice_get}
+use Rattle.std.specs.Prelude.{◌≡◌, ℕ, ◌+◌, ◌*◌, ◌≤◌, true, false, not, if◌then◌else◌, All, Some, List, [], ◌∷◌, filter, map, reverse, slice_get}
 use Rattle.afdx_frame.specs.declared.link.Side.{Side}
 use Rattle.afdx_config.specs.Admission.{IsServing}
 use Rattle.afdx_config.specs.Lawful.{IsLawfulSwitch}
 use Rattle.afdx_config.specs.Rows.{LinkRow, Rows}
 use Rattle.afdx_police.specs.Arrival.{Arrival, own}
-use Rattle.afdx_police.specs.Rule.{Rule}
-use Rattle.afdx_police.specs.Verdicts.{reason_after}
+use Rattle.afdx_police.specs.Verdicts.{accepted_arrivals}
 use Rattle.afdx_port.specs.Classes.{entries_in}
 use Rattle.afdx_port.specs.Due.{IsAfter}
 use Rattle.afdx_port.specs.History.{due_at}
@@ -40,13 +39,6 @@ passing x = record { tag = x.tag; time = x.time; bytes = x.bytes }
 -- the frame of a port's entry
 abbrev pub passing_in : Entry HeldFrame → Passing
 passing_in e = record { tag = e.item.tag; time = e.time; bytes = e.item.bytes }
-
--- those of a link's own arrivals that are accepted
-unfoldable pub accepted_arrivals : Rule → List Arrival → List Arrival
-accepted_arrivals rule [] = []
-accepted_arrivals rule (x ∷ past) =
-    if is_none (reason_after rule past x) then x ∷ accepted_arrivals rule past
-    else accepted_arrivals rule past
 
 -- of these arrivals, those that the switch of a side accepts of a link
 abbrev pub accepted_on : Rows → LinkRow → Side → List Arrival → List Arrival

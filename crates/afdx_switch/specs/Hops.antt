@@ -4,7 +4,7 @@ use Rattle.afdx_config.specs.Lawful.{IsLawfulSwitch}
 use Rattle.afdx_config.specs.Rows.{LinkRow, Rows}
 use Rattle.afdx_police.specs.Arrival.{Arrival, names, own}
 use Rattle.afdx_police.specs.Rule.{Rule}
-use Rattle.afdx_switch.specs.Admitted.{accepted_arrivals}
+use Rattle.afdx_police.specs.Verdicts.{accepted_arrivals}
 use Rattle.afdx_switch.specs.Regular.{at_port}
 use Rattle.afdx_switch.specs.Tables.{rule_of}
 use Rattle.afdx_switch.specs.Verdicts.{reason_of}

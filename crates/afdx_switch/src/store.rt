@@ -11,7 +11,7 @@ use std::alloc::{AllocError, Global};
 use std::rc::Rc;
 
 /// So many copies are kept at most.
-const KEPT: usize = 128;
+const KEPT: usize = 1_024;
 
 /// The copies of frames that no port holds any more, the newest last. A later frame takes the
 /// memory of the newest.

@@ -14,7 +14,7 @@ use Rattle.afdx_acceptance.specs.Choices.{counts}
 use Rattle.afdx_acceptance.specs.Tapped.{Taps, is_heard, taps_in}
 use Rattle.afdx_recorded.specs.declared.taps.Taps as code
 use Rattle.afdx_acceptance.specs.Frames.{frame_with, place_named}
-use Rattle.afdx_acceptance.specs.Keeping.{AreKept, Given, came_to, given_of}
+use Rattle.afdx_acceptance.specs.Keeping.{AreKept, Given, came_to, given_of, with_came}
 use Rattle.afdx_acceptance.specs.Keys.{key_with}
 use Rattle.afdx_acceptance.specs.Standing.{StreamsStand}
 use Rattle.afdx_acceptance.specs.declared.key.Key.{Key}
@@ -101,11 +101,14 @@ loop-rank-preserved c = record {
       (fresh-port t link row rank s c.link.ensures.lawful at is lt)) in
       let sees : c'.taps Left h.side (port_of t s) ≡ true =
       ap (λ (p : Taps). p Left h.side (port_of t s)) (sym taps) ∙ sym c.is_seen.ensures ∙ c.if-not-is_seen.false in
+      let from : arrival_with c.args.n h.time h.side h.port c.in_ok-bytes.bytes ≡ x =
+      ap (λ b. arrival_with c.args.n h.time h.side h.port b) c.in_ok-bytes.ensures in
       come-next t c' until time h.side link row rank s x given lines c.come_to.new.kept c.link.ensures.lawful at is lt sees k.falling
+      (subst (λ (y : Arrival). AreKept t c' until None time (with_came key y before) lines c.come_to.new.kept) from
       (c.in_ok-come_to.ensures c' until time before lines row at (any-in row.to rank s is lt) by le start
       (subst (λ (g : Given). AllByRecursion (λ w. w.time ≤ h.time) g.came) (sym same) (all key))
       (subst (λ (g : Given). length g.came + 1 < most_held) (sym same) (few key))
-      (c.loop-rank.invariant.kept c' until time given lines row at by taps le start all few k));
+      (c.loop-rank.invariant.kept c' until time given lines row at by taps le start all few k)));
 }
 
 pub loop-rank-preserved-then-not-is_seen : goal.loop-rank-preserved-then-not-is_seen

@@ -75,7 +75,7 @@ returns-in-Some-clause-stands c t c' until time frames lines named-is e le behin
     let left : gone_of (arrival_with c.args.n h.time h.side h.port c.in_ok-bytes.bytes) ≡ gone_of a =
     ap (λ b. gone_of (arrival_with c.args.n h.time h.side h.port b)) c.in_ok-bytes.ensures in
     on-ok (λ k. subst (λ (x : Rows). StreamsStand x c' until (frame_with Left a ∷ frames) lines time
-    (streams_with c.args.self.now c.leave_to.new.kept)) stand.tables (record {
+    (streams_with c.args.self.now c.of.new.spare c.leave_to.new.kept)) stand.tables (record {
       lawful = mine.lawful;
       tables = refl;
       by = mine.by;
@@ -107,7 +107,7 @@ returns-clause-stands c t c' until time frames lines named-is e le behind few ru
     subst (λ o. AreKept r c' until o time (given_of r c' frames) lines c.args.self.now.kept) running mine.kept in
     let all = counted-behind r c' frames h.time behind in
     on-ok (λ k. subst (λ (x : Rows). StreamsStand x c' until (frame_with Left a ∷ frames) lines time
-    (streams_with c.args.self.now c.leave_strange.new.kept)) stand.tables (record {
+    (streams_with c.args.self.now c.args.self.now.spare c.leave_strange.new.kept)) stand.tables (record {
       lawful = mine.lawful;
       tables = refl;
       by = mine.by;

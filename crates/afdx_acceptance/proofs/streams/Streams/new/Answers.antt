@@ -8,6 +8,6 @@ returns-clause-stands c c' until by taps = record {
   tables = refl;
   by = by;
   taps = taps;
-  kept = given-none c.args.tables.now c' until c.in_ok-new.field-0
-      (c.in_ok-new.ensures c.args.tables.now c' until 0 (ap (λ n. 512 + 64 * n) c.link_count.ensures.count));
+  kept = given-none c.args.tables.now c' until c.in_ok-kept.kept
+      (c.in_ok-kept.ensures c.args.tables.now c' until 0 (ap (λ n. 512 + 64 * n) c.link_count.ensures.count));
 }

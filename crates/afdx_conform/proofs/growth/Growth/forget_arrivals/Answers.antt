@@ -14,8 +14,8 @@ returns-clause-after c z xs ys cut over f =
     (let n = c.if-count-len.false in omega (arith, n)) in
     let places = c.requires.places in
     let some : 0 < c.div_ceil-count.result = (let n = c.if-count-eq0.false in omega (arith, n)) in
-    let after = after-arrivals z xs ys cut over c.args.self.now c.div_ceil-count.result c.forget_first.new.items
-    c.forget_first-2.new.items c.forget_first.ensures c.forget_first-2.ensures less places
+    let after = after-arrivals z xs ys cut over c.args.self.now c.div_ceil-count.result c.give_back_first.new.items
+    c.forget_first.new.items c.give_back_first.ensures c.forget_first.ensures less places
     (subst (λ (l : List Held). All (λ h. h.waiting ≡ 0) l) c.as_slice.ensures.value
     (c.none_waits.ensures c.if-not-none_waits.false)) in
     elim c.if-not-is_empty.branch [
@@ -32,11 +32,11 @@ returns-clause-after c z xs ys cut over f =
 pub returns-clause-due : goal.returns-clause-due
 returns-clause-due c =
     let less = c.if-count-len.false in
-    due-arrivals c.args.self.now c.div_ceil-count.result c.forget_first.new.items c.forget_first-2.new.items
-    c.forget_first.ensures c.forget_first-2.ensures (omega (arith, less))
+    due-arrivals c.args.self.now c.div_ceil-count.result c.give_back_first.new.items c.forget_first.new.items
+    c.give_back_first.ensures c.forget_first.ensures (omega (arith, less))
 
 pub returns-clause-undecided : goal.returns-clause-undecided
 returns-clause-undecided c =
-    undecided-same c.args.self.now _ refl (forgot-arrivals c.args.self.now c.div_ceil-count.result c.forget_first.new.items.items
-    c.forget_first-2.new.items.items c.forget_first.ensures c.forget_first-2.ensures
+    undecided-same c.args.self.now _ refl (forgot-arrivals c.args.self.now c.div_ceil-count.result c.give_back_first.new.items.items
+    c.forget_first.new.items.items c.give_back_first.ensures c.forget_first.ensures
     (let less = c.if-count-len.false in omega (arith, less)))

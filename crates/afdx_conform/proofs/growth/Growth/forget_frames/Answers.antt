@@ -9,22 +9,22 @@ pub returns-clause-after : goal.returns-clause-after
 returns-clause-after c z xs ys cut over f =
     let most = c.passed_by_all-count.ensures.most in
     let closed = c.requires.closed in
-    after-frames z xs ys cut over c.args.self.now c.passed_by_all-count.result c.forget_first.new.items c.without_first.new.held
-    c.forget_first.ensures c.without_first.ensures
+    after-frames z xs ys cut over c.args.self.now c.passed_by_all-count.result c.give_back_first.new.items c.without_first.new.held
+    c.give_back_first.ensures c.without_first.ensures
     (subst (λ (l : List Held). All (λ h. c.passed_by_all-count.result ≤ h.passed) l) c.as_slice.ensures.value
     c.passed_by_all-count.ensures.all) most (omega (arith, most, closed)) f
 
 pub returns-clause-due : goal.returns-clause-due
 returns-clause-due c =
-    due-frames c.args.self.now c.passed_by_all-count.result c.forget_first.new.items c.without_first.new.held
-    c.forget_first.ensures c.passed_by_all-count.ensures.most
+    due-frames c.args.self.now c.passed_by_all-count.result c.give_back_first.new.items c.without_first.new.held
+    c.give_back_first.ensures c.passed_by_all-count.ensures.most
 
 pub returns-clause-sound : goal.returns-clause-sound
 returns-clause-sound c =
-    sound-frames c.args.self.now c.passed_by_all-count.result c.forget_first.new.items c.without_first.new.held
-    c.forget_first.ensures c.without_first.ensures c.passed_by_all-count.ensures.most c.requires
+    sound-frames c.args.self.now c.passed_by_all-count.result c.give_back_first.new.items c.without_first.new.held
+    c.give_back_first.ensures c.without_first.ensures c.passed_by_all-count.ensures.most c.requires
 
 pub returns-clause-undecided : goal.returns-clause-undecided
 returns-clause-undecided c =
     undecided-same c.args.self.now _ refl (forgot-frames c.args.self.now c.passed_by_all-count.result
-    c.forget_first.new.items.items c.forget_first.ensures c.passed_by_all-count.ensures.most)
+    c.give_back_first.new.items.items c.give_back_first.ensures c.passed_by_all-count.ensures.most)

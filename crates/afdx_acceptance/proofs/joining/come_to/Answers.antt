@@ -6,7 +6,6 @@ use Rattle.afdx_conform.specs.Explanations.{from_time}
 use Rattle.afdx_conform.specs.Marks.{arrival_of}
 use Rattle.afdx_police.specs.Arrival.{Arrival, arrival_with}
 use Rattle.afdx_conform.specs.Ranges.{most_held}
-use Rattle.afdx_frame.specs.Parts.{bytes_of}
 use Rattle.afdx_acceptance.specs.Frames.{terms_at}
 use Rattle.afdx_acceptance.specs.Keeping.{AreKept, IsStreamOf, with_came}
 use Rattle.afdx_acceptance.specs.Keys.{key_with}
@@ -14,7 +13,7 @@ use Rattle.afdx_acceptance.specs.declared.key.Key.{Key}
 use Rattle.afdx_acceptance.proofs.AddedLemmas.{on-ok}
 use Rattle.afdx_acceptance.proofs.KeyLemmas.{no-system}
 use Rattle.afdx_acceptance.proofs.OutletLemmas.{goes-there}
-use Rattle.afdx_acceptance.proofs.streams.come_to.Goals as goal
+use Rattle.afdx_acceptance.proofs.joining.come_to.Goals as goal
 
 pub returns : goal.returns
 returns c c' until time given lines l at to by le start all few kept =
@@ -26,8 +25,8 @@ returns c c' until time given lines l at to by le start all few kept =
     let is : IsStreamOf t key l = goes-there t c.args.link l c.args.system.0
     (get_or t.systems c.args.system.0 no-system) lawful at here to in
     let same : key ≡ c.in_ok-key.key = sym c.in_ok-key.ensures.key in
-    let arrived : arrival_of c.new-arrived.result ≡ arrival_with c.args.n h.time h.side h.port (bytes_of c.args.frame) =
-    c.new-arrived.ensures.given ∙ ap (λ b. arrival_with c.args.n h.time h.side h.port b) c.in_ok-bytes.ensures in
+    let arrived : arrival_of c.new-arrived.result ≡ arrival_with c.args.n h.time h.side h.port c.args.bytes =
+    c.new-arrived.ensures.given in
     let time-is : (arrival_of c.new-arrived.result).time ≡ h.time = ap (λ (x : Arrival). x.time) arrived in
     let made = c.in_ok-key.ensures.stands c' until time given lines l at to by kept in
     on-ok (λ k. subst (λ x. AreKept t c' until None time (with_came key x given) lines c.add_arrival.new.self) arrived

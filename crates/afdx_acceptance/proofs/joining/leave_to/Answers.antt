@@ -10,7 +10,7 @@ use Rattle.afdx_acceptance.specs.declared.key.Key.{Key}
 use Rattle.afdx_acceptance.proofs.AddedLemmas.{on-ok}
 use Rattle.afdx_acceptance.proofs.KeyLemmas.{no-system}
 use Rattle.afdx_acceptance.proofs.OutletLemmas.{goes-there}
-use Rattle.afdx_acceptance.proofs.streams.leave_to.Goals as goal
+use Rattle.afdx_acceptance.proofs.joining.leave_to.Goals as goal
 
 pub returns : goal.returns
 returns c c' until time given lines l at to by le start all few kept =

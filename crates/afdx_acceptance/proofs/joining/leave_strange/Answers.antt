@@ -1,7 +1,7 @@
 use Rattle.std.proofs.Common.{refl}
 use Rattle.std.proofs.lemmas.Bool.{lt-ltb}
 use Rattle.afdx_acceptance.specs.Keeping.{is_known}
-use Rattle.afdx_acceptance.proofs.streams.leave_strange.Goals as goal
+use Rattle.afdx_acceptance.proofs.joining.leave_strange.Goals as goal
 
 pub returns : goal.returns
 unfolding is_known

@@ -1,0 +1,196 @@
+//! What comes in or leaves joins the stream that it is of.
+
+ghost use Rattle.std.specs.Prelude.{◌≡◌, ◌≤◌, ◌<◌, ◌∷◌, ◌+◌, ℕ, List, None, Some, IfOk, OnOk, length, slice_get, true};
+ghost use Rattle.std.specs.List.{AllByRecursion};
+ghost use Rattle.afdx_bounds.specs.Tables.{port_of};
+ghost use Rattle.afdx_config.specs.Lawful.{IsLawfulSwitch};
+ghost use Rattle.afdx_config.specs.Rows.{LinkRow, Rows, is_to};
+ghost use Rattle.afdx_conform.specs.Explanations.{from_time};
+ghost use Rattle.afdx_conform.specs.Leeway.{both_slacks};
+ghost use Rattle.afdx_conform.specs.LeewayOf.{leeway_of};
+ghost use Rattle.afdx_conform.specs.LimitRanges.{most_bytes};
+ghost use Rattle.afdx_conform.specs.Limits.{gone_of};
+ghost use Rattle.afdx_conform.specs.Ranges.{most_held};
+ghost use Rattle.afdx_frame.specs.Times.{latest_listed};
+ghost use Rattle.afdx_police.specs.Arrival.{arrival_with};
+ghost use Rattle.afdx_acceptance.specs.Choices.{Choices};
+ghost use Rattle.afdx_acceptance.specs.Keeping.{AreKept, Given, IsStreamOf, is_known, slot_at, with_came, with_left, with_strange};
+ghost use Rattle.afdx_acceptance.specs.Keys.{key_with};
+ghost use Rattle.afdx_acceptance.specs.Lines.{Due};
+ghost use Rattle.afdx_acceptance.specs.Slots.{AreFalling, IsStrange, IsStream, waiting_due};
+
+use crate::kept::Kept;
+use crate::key::Key;
+use crate::outlets::{new_stream, rule_at};
+use crate::strangers::Stranger;
+use afdx_config::{SystemId, Tables};
+use afdx_conform::{Arrived, CheckedBytes, Frame, Leeway};
+use afdx_frame::Side;
+use afdx_lists::Heading;
+use std::alloc::{AllocError, Global};
+
+/// The stream of a link to a system or neighbour is made, where none is kept of its key. Apart from
+/// those who call it, so that no room for it is cleared where one is kept.
+#[cold]
+#[inline(never)]
+fn make_stream(
+    alloc: Global,
+    tables: &Tables,
+    leeway: Leeway,
+    kept: &mut Kept,
+    link: usize,
+    system: SystemId,
+    key: Key,
+) -> Result<(), AllocError>
+    requires link { link < length tables.now.links }
+    requires system { system.0 < length tables.now.systems }
+    ensures { (c : Choices) (until time : ℕ) (given : Key → Given) (lines : List Due)
+        (l : LinkRow) → IsLawfulSwitch tables.now → IsStreamOf tables.now key l →
+        slice_get tables.now.links link ≡ Some l → port_of tables.now system.0 ≡ key.port →
+        leeway_of leeway ≡ c.by → (IsStream (slot_at kept.old.slots.items key) → ⊥) →
+        AreKept tables.now c until None time given lines kept.old →
+        OnOk result (AreKept tables.now c until None time given lines kept.new
+        × IsStream (slot_at kept.new.slots.items key)) }
+{
+    let stream = new_stream(alloc, tables, link, system, leeway);
+    kept.put_stream(alloc, key, stream)
+}
+
+/// The key of a link's stream to a system or neighbour. It is made if nothing of it came.
+fn stream_to(
+    alloc: Global,
+    tables: &Tables,
+    leeway: Leeway,
+    kept: &mut Kept,
+    link: usize,
+    system: SystemId,
+    side: Side,
+) -> Result<Key, AllocError>
+    requires link { link < length tables.now.links }
+    requires system { system.0 < length tables.now.systems }
+    ensures lawful { IsLawfulSwitch tables.now }
+    ensures key { IfOk result (λ key.
+        key ≡ key_with side (port_of tables.now system.0) (Some link)) }
+    ensures stands { (c : Choices) (until time : ℕ) (given : Key → Given) (lines : List Due)
+        (l : LinkRow) → slice_get tables.now.links link ≡ Some l → is_to system.0 l ≡ true →
+        leeway_of leeway ≡ c.by → AreKept tables.now c until None time given lines kept.old →
+        IfOk result (λ key. AreKept tables.now c until None time given lines kept.new
+        × IsStream (slot_at kept.new.slots.items key)) }
+{
+    let key = Key {
+        side,
+        port: tables.system(system).port,
+        link: Some(link as u16),
+    };
+    if !kept.has_stream(key) {
+        make_stream(alloc, tables, leeway, kept, link, system, key)?;
+    }
+    Ok(key)
+}
+
+/// An arrival comes to one stream of its link.
+pub(crate) fn come_to(
+    alloc: Global,
+    tables: &Tables,
+    leeway: Leeway,
+    kept: &mut Kept,
+    link: usize,
+    system: SystemId,
+    n: u64,
+    heading: &Heading,
+    bytes: CheckedBytes,
+) -> Result<(), AllocError>
+    requires link { link < length tables.now.links }
+    requires system { system.0 < length tables.now.systems }
+    requires time { heading.now.time ≤ latest_listed }
+    requires short { length bytes ≤ most_bytes }
+    ensures { (c : Choices) (until time : ℕ) (given : Key → Given) (lines : List Due)
+        (l : LinkRow) → slice_get tables.now.links link ≡ Some l → is_to system.0 l ≡ true →
+        leeway_of leeway ≡ c.by → time ≤ heading.now.time →
+        from_time c.by.start ≤ heading.now.time →
+        AllByRecursion (λ x. x.time ≤ heading.now.time)
+        (given (key_with heading.now.side (port_of tables.now system.0) (Some link))).came →
+        length (given (key_with heading.now.side (port_of tables.now system.0) (Some link))).came
+        + 1 < most_held →
+        AreKept tables.now c until None time given lines kept.old →
+        OnOk result (AreKept tables.now c until None time
+        (with_came (key_with heading.now.side (port_of tables.now system.0) (Some link))
+        (arrival_with n heading.now.time heading.now.side heading.now.port bytes) given) lines
+        kept.new) }
+{
+    let key = stream_to(alloc, tables, leeway, kept, link, system, heading.side)?;
+    let rule = rule_at(tables, link);
+    let arrived = Arrived::new(&rule, n, heading.time, heading.side, heading.port, bytes);
+    kept.add_arrival(key, arrived)
+}
+
+/// A frame of a link left where the link goes.
+pub(crate) fn leave_to(
+    alloc: Global,
+    tables: &Tables,
+    leeway: Leeway,
+    kept: &mut Kept,
+    link: usize,
+    system: SystemId,
+    side: Side,
+    frame: Frame,
+) -> Result<(), AllocError>
+    requires link { link < length tables.now.links }
+    requires system { system.0 < length tables.now.systems }
+    ensures { (c : Choices) (until time : ℕ) (given : Key → Given) (lines : List Due)
+        (l : LinkRow) → slice_get tables.now.links link ≡ Some l → is_to system.0 l ≡ true →
+        leeway_of leeway ≡ c.by → time ≤ frame.time →
+        from_time c.by.start ≤ frame.time + both_slacks c.by →
+        AllByRecursion (λ y. y.time ≤ frame.time)
+        (given (key_with side (port_of tables.now system.0) (Some link))).left →
+        length (given (key_with side (port_of tables.now system.0) (Some link))).left + 1
+        < most_held →
+        AreKept tables.now c until None time given lines kept.old →
+        OnOk result (AreKept tables.now c until None time
+        (with_left (key_with side (port_of tables.now system.0) (Some link))
+        (gone_of frame) given) lines kept.new) }
+{
+    let key = stream_to(alloc, tables, leeway, kept, link, system, side)?;
+    kept.add_frame(key, frame)
+}
+
+/// Room for frames of no stream of the key is made if none was.
+fn strangers_at(alloc: Global, kept: &mut Kept, key: Key) -> Result<(), AllocError>
+    ensures { (t : Rows) (c : Choices) (until time : ℕ) (given : Key → Given) (lines : List Due) →
+        IsLawfulSwitch t → key.link ≡ None → is_known t key ≡ true →
+        AreKept t c until None time given lines kept.old →
+        OnOk result (AreKept t c until None time given lines kept.new
+        × IsStrange (slot_at kept.new.slots.items key)) }
+{
+    if kept.has_strangers(key) {
+        return Ok(());
+    }
+    kept.put_strangers(alloc, key)
+}
+
+/// A frame of no stream left.
+#[cold]
+#[inline(never)]
+pub(crate) fn leave_strange(
+    alloc: Global,
+    kept: &mut Kept,
+    side: Side,
+    port: u8,
+    stranger: Stranger,
+) -> Result<(), AllocError>
+    ensures { (t : Rows) (c : Choices) (until time : ℕ) (given : Key → Given) (lines : List Due) →
+        IsLawfulSwitch t → time ≤ stranger.time →
+        AreFalling (waiting_due (key_with side port None) stranger
+        ∷ (given (key_with side port None)).strange) →
+        AreKept t c until None time given lines kept.old →
+        OnOk result (AreKept t c until None time (with_strange (key_with side port None)
+        (waiting_due (key_with side port None) stranger) given) lines kept.new) }
+{
+    let key = Key {
+        side,
+        port,
+        link: None,
+    };
+    strangers_at(alloc, kept, key)?;
+    kept.add_stranger(key, stranger)
+}
