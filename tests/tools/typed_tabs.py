@@ -14,6 +14,7 @@ import os
 import pty
 import select
 import shutil
+import signal
 import sys
 import tempfile
 import time
@@ -108,6 +109,13 @@ def noted(path: str) -> str:
     return repr(words)
 
 
+def stop(typed: Typed) -> None:
+    """Kills the shell: one that ends as it likes may still write its history as HOME is removed."""
+    os.kill(typed.child, signal.SIGKILL)
+    os.waitpid(typed.child, 0)
+    os.close(typed.terminal)
+
+
 def main() -> None:
     """Types the lines."""
     shell, folder, *lines = sys.argv[1:]
@@ -118,7 +126,7 @@ def main() -> None:
             type_in(typed, line + "\t")
             type_in(typed, "\r")
             print(noted(os.path.join(home, "noted")))
-        os.close(typed.terminal)
+        stop(typed)
 
 
 if __name__ == "__main__":
