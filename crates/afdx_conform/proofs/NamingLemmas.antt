@@ -1,15 +1,16 @@
 -- The first arrival that the finding of a frame may name.
 use Rattle.std.proofs.Common.{◌≡◌, ℕ, zero, suc, ◌+◌, ◌<◌, ◌≤◌, Bool, true, false, ◌&&◌, List, [], ◌∷◌, ◌++◌, map, reverse, take, drop, get_or, set, length, refl, sym, ap, ◌∙◌, arith}
 use Rattle.std.proofs.lemmas.List.{append_assoc, append-nil, reverse-append, take_all, drop_all}
-use Rattle.std.specs.Prelude.{if◌then◌else◌, not, ◌||◌, Option, Some, None}
-use Rattle.std.specs.List.{list_any}
+use Rattle.std.specs.Prelude.{if◌then◌else◌, not, ◌||◌, IsTrue, is_some, Option, Some, None}
+use Rattle.std.proofs.lemmas.List.Elements.{recursion_from_All}
+use Rattle.std.specs.List.{list_any, AllByRecursion}
 use Rattle.afdx_police.specs.declared.shape.Reason.{Reason}
 use Rattle.afdx_conform.specs.Findings.{Finding, Found, Marked, marked, Judged, judged_with, found_at, frames_of, frames_in, names_it, passed_or, named_or, first_named, once_named, finding_or, damaged_or, damage, is_of_right, strangeness, unexplained}
 use Rattle.afdx_conform.specs.declared.finding.Finding.TheVariants.{Strange, Passed}
 use Rattle.afdx_conform.specs.declared.finding.Strangeness.{Strangeness}
 use Rattle.afdx_conform.specs.declared.finding.Strangeness.TheVariants.{Damaged, OutOfTurn, NoArrival}
 use Rattle.afdx_conform.specs.Marks.{arrival_of, marked_of, marked_all, told}
-use Rattle.afdx_conform.specs.Naming.{IsNoneNamed, IsNamedAt, unexplained_all}
+use Rattle.afdx_conform.specs.Naming.{AreSettled, IsNoneNamed, IsNamedAt, may_be_named, unexplained_all}
 use Rattle.afdx_conform.specs.Streams.{Gone, Terms, fits}
 use Rattle.afdx_conform.specs.declared.arrived.Arrived.{Arrived}
 use Rattle.afdx_conform.specs.declared.finding.Mark.{Mark}
@@ -133,6 +134,36 @@ module _ (z : Terms) (y : Gone) where
       by : (b : Bool) → (if b then m.mark else None) ≡ Some reason → m.mark ≡ Some reason
       by true k = k
       by false k = absurd (cc)
+
+  -- an arrival that no finding may name, and the first of which none may be
+  unnamed : (a : Arrived) (m : Mark) → IsTrue (not (may_be_named m)) → names_it z y (marked_of a m) ≡ None
+  unnamed a m h = by (fits z (arrival_of a) y) m.reason m.is_named h
+    where
+      by : (b : Bool) (r : Option Reason) (n : Bool) → IsTrue (not (is_some r && not n))
+          → (if b && not n then r else None) ≡ None
+      by false r n h = refl
+      by true r true h = refl
+      by true None false h = refl
+      by true (Some r) false h = absurd (cc)
+
+  from-settled : (xs : List Arrived) (ms : List Mark) (n : ℕ) → length ms ≤ length xs → n ≤ length ms
+      → AllByRecursion (λ m. IsTrue (not (may_be_named m))) (take n ms) → IsNamedFrom (marked_all xs ms) n
+  unfolding marked_all
+  from-settled xs ms zero h le all = from-start (marked_all xs ms)
+  from-settled xs [] (suc n) h le all = absurd (omega (arith, le))
+  from-settled [] (m ∷ ms) (suc n) h le all = absurd (omega (arith, h))
+  from-settled (a ∷ xs) (m ∷ ms) (suc n) h le all =
+      let none = unnamed a m all.0 in
+      let more = from-settled xs ms n (omega (arith, h)) (omega (arith, le)) all.1 in
+      record {
+        first = first-on (marked_of a m) (marked_all xs ms) None none ∙ more.first;
+        once = once-on (marked_of a m) (marked_all xs ms) None none ∙ ap (λ t. marked_of a m ∷ t) more.once;
+      }
+
+  pub from-known : (xs : List Arrived) (ms : List Mark) (n : ℕ) → length ms ≤ length xs → n ≤ length ms
+      → AreSettled n ms → IsNamedFrom (marked_all xs ms) n
+  from-known xs ms n h le all =
+      from-settled xs ms n h le (recursion_from_All (λ m. IsTrue (not (may_be_named m))) (take n ms) all)
 
   pub from-here : (xs : List Arrived) (ms : List Mark) (i : ℕ) (a : Arrived) (m : Mark) (reason : Reason) → i < length ms
       → length ms ≤ length xs → a ≡ get_or xs i a → names_it z y (marked_of a (get_or ms i m)) ≡ Some reason

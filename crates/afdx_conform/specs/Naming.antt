@@ -1,9 +1,18 @@
 -- The first arrival that the finding of a frame may name, by its place.
-use Rattle.std.specs.Prelude.{◌≡◌, ℕ, true, Some, None, List, [], ◌∷◌, ◌++◌, take, drop}
+use Rattle.std.specs.Prelude.{◌≡◌, ℕ, Bool, true, not, ◌&&◌, is_some, All, IsTrue, Some, None, List, [], ◌∷◌, ◌++◌, take, drop}
 use Rattle.afdx_police.specs.declared.shape.Reason.{Reason}
 use Rattle.afdx_conform.specs.Findings.{Marked, marked, first_named, once_named, Judged, unexplained}
 use Rattle.afdx_conform.specs.declared.finding.Finding.TheVariants.{Passed}
+use Rattle.afdx_conform.specs.declared.finding.Mark.{Mark}
 use Rattle.afdx_conform.specs.Streams.{Gone, Terms}
+
+-- a finding may name an arrival that is marked so
+abbrev pub may_be_named : Mark → Bool
+may_be_named m = is_some m.reason && not m.is_named
+
+-- none of the first so many is marked so
+abbrev pub AreSettled : ℕ → List Mark → Type 0
+AreSettled count marks = All (λ m. IsTrue (not (may_be_named m))) (take count marks)
 
 -- none of these is
 pub record IsNoneNamed (z : Terms) (y : Gone) (l : List Marked) : Type 0 where

@@ -146,7 +146,7 @@ pub(crate) fn deviate(
             }
             Deviation::Other => {}
         }
-        let finding = unexplained(&bounds.limits, arrivals, marks, frame);
+        let finding = unexplained(&bounds.limits, arrivals, marks, 0, frame);
         found.push(finding)?;
         let before = held.as_slice();
         let lead = lead_past(alloc, before, front, front + 1)?;

@@ -1,13 +1,15 @@
 //! What is found of a frame that no arrival explains.
 
-ghost use Rattle.std.specs.Prelude.{◌≡◌, ◌≤◌, ◌<◌, ℕ, length, map, IfOk, IfSome, MatchOption};
+ghost use Rattle.std.specs.Prelude.{◌≡◌, ◌≤◌, ◌<◌, ℕ, IfOk, IfSome, MatchOption};
+ghost use Rattle.std.specs.Prelude.{length, map, take};
 ghost use Rattle.std.specs.List.{list_any};
 ghost use Rattle.afdx_conform.specs.Findings.{names_it as may_name, is_of_right};
 ghost use Rattle.afdx_conform.specs.Findings.{damage as damage_of, strangeness as strangeness_of};
 ghost use Rattle.afdx_conform.specs.Findings.{first_named, once_named, finding_or, Judged};
 ghost use Rattle.afdx_conform.specs.declared.finding.Finding.TheVariants.{Strange};
 ghost use Rattle.afdx_conform.specs.Marks.{marked_of, marked_all, told};
-ghost use Rattle.afdx_conform.specs.Naming.{IsNoneNamed, IsNamedAt, unexplained_all};
+ghost use Rattle.afdx_conform.specs.Naming.{AreSettled, IsNoneNamed, IsNamedAt, may_be_named};
+ghost use Rattle.afdx_conform.specs.Naming.{unexplained_all};
 ghost use Rattle.afdx_conform.specs.Limits.{AreLimits, gone_of};
 ghost use Rattle.afdx_conform.specs.Streams.{Terms};
 
@@ -19,33 +21,58 @@ use afdx_frame::{GREATEST_FRAME, LEAST_FRAME};
 use afdx_police::Reason;
 use std::alloc::{AllocError, Global};
 
+/// Whether a finding may name an arrival with this mark.
+fn is_to_name(mark: Mark) -> bool
+    ensures { result ≡ may_be_named mark }
+{
+    mark.reason.is_some() && !mark.is_named
+}
+
+/// How many of the first marks are known to be of arrivals that no finding may name, where so many
+/// are known already: up to the first that one may name.
+fn known_from(marks: &[Mark], known: usize) -> usize
+    requires within { known ≤ length marks.now }
+    requires known { AreSettled known marks.now }
+    ensures within { result ≤ length marks.now }
+    ensures known { AreSettled result marks.now }
+{
+    let mut count = known;
+    while count < marks.len() && !is_to_name(marks[count]) {
+        count += 1;
+    }
+    count
+}
+
 /// The reason by which the finding of a frame may name the arrival.
 fn names_it(limits: &Limits, arrived: &Arrived, mark: Mark, frame: &Frame) -> Option<Reason>
     ensures { (z : Terms) → AreLimits z limits.now →
         result ≡ may_name z (gone_of frame.now) (marked_of arrived.now mark) }
 {
-    let fits = limits.fits(arrived.time, &arrived.bytes, frame);
-    if fits && !mark.is_named {
+    if is_to_name(mark) && limits.fits(arrived.time, &arrived.bytes, frame) {
         mark.reason
     } else {
         None
     }
 }
 
-/// The first arrival that the finding of a frame may name: its place, and the reason.
+/// The first arrival that the finding of a frame may name, which none may of the first `known`: its
+/// place, and the reason.
 fn first_place(
     limits: &Limits,
     arrivals: &[Arrived],
     marks: &[Mark],
+    known: usize,
     frame: &Frame,
 ) -> Option<(usize, Reason)>
-    requires { length marks.now ≤ length arrivals.now }
-    ensures within { IfSome result (λ at. at.0 < length marks.now) }
+    requires marks { length marks.now ≤ length arrivals.now }
+    requires within { known ≤ length marks.now }
+    requires known { AreSettled known marks.now }
+    ensures within { IfSome result (λ at. (known ≤ at.0) × (at.0 < length marks.now)) }
     ensures named { (z : Terms) → AreLimits z limits.now → MatchOption result
         (IsNoneNamed z (gone_of frame.now) (marked_all arrivals.now marks.now))
         (λ at. IsNamedAt z (gone_of frame.now) (marked_all arrivals.now marks.now) at.0 at.1) }
 {
-    for place in 0..marks.len() {
+    for place in known..marks.len() {
         match names_it(limits, &arrivals[place], marks[place], frame) {
             Some(reason) => return Some((place, reason)),
             None => {}
@@ -59,7 +86,7 @@ fn fits_without_mark(limits: &Limits, arrived: &Arrived, mark: Mark, frame: &Fra
     ensures { (z : Terms) → AreLimits z limits.now →
         result ≡ is_of_right z (gone_of frame.now) (marked_of arrived.now mark) }
 {
-    limits.fits(arrived.time, &arrived.bytes, frame) && mark.reason.is_none()
+    mark.reason.is_none() && limits.fits(arrived.time, &arrived.bytes, frame)
 }
 
 /// Whether the frame fits an arrival that isn't refused.
@@ -110,15 +137,18 @@ fn strangeness(limits: &Limits, arrivals: &[Arrived], marks: &[Mark], frame: &Fr
     }
 }
 
-/// What is found of a frame that no arrival explains. An arrival that the finding names is marked
-/// so. Marks are those of the first arrivals.
+/// What is found of a frame that no arrival explains, and none of the first `known` may be named.
+/// An arrival that the finding names is marked so. Marks are those of the first arrivals.
 pub(crate) fn unexplained(
     limits: &Limits,
     arrivals: &[Arrived],
     marks: &mut Vec<Mark>,
+    known: usize,
     frame: &Frame,
 ) -> Finding
-    requires { length marks.old.items ≤ length arrivals.now }
+    requires marks { length marks.old.items ≤ length arrivals.now }
+    requires within { known ≤ length marks.old.items }
+    requires known { AreSettled known marks.old.items }
     ensures finding { (z : Terms) → AreLimits z limits.now → result
         ≡ finding_or (first_named z (gone_of frame.now) (marked_all arrivals.now marks.old.items))
         (Strange frame.now.number
@@ -126,8 +156,9 @@ pub(crate) fn unexplained(
     ensures named { (z : Terms) → AreLimits z limits.now → marked_all arrivals.now marks.new.items
         ≡ once_named z (gone_of frame.now) (marked_all arrivals.now marks.old.items) }
     ensures length { length marks.new.items ≡ length marks.old.items }
+    ensures kept { take known marks.new.items ≡ take known marks.old.items }
 {
-    match first_place(limits, arrivals, marks.as_slice(), frame) {
+    match first_place(limits, arrivals, marks.as_slice(), known, frame) {
         None => {
             let strangeness = strangeness(limits, arrivals, marks.as_slice(), frame);
             Finding::Strange(frame.number, strangeness)
@@ -159,8 +190,10 @@ pub(crate) fn unexplained_all(
     ensures length { length marks.new.items ≡ length marks.old.items }
 {
     let mut found = Vec::new(alloc);
+    let mut known = 0;
     for frame in frames {
-        let finding = unexplained(limits, arrivals, marks, frame);
+        known = known_from(marks.as_slice(), known);
+        let finding = unexplained(limits, arrivals, marks, known, frame);
         found.push(finding)?;
     }
     Ok(found)

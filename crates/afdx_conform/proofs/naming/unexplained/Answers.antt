@@ -14,7 +14,7 @@ returns-in-Some-clause-finding c z a =
     named-finding z (gone_of c.args.frame.now) c.args.arrivals.now c.args.marks.now.items c.in-Some.place
     c.index-arrivals-place.result c.in-Some.reason
     (Strange c.args.frame.now.number
-    (strangeness z (marked_all c.args.arrivals.now c.args.marks.now.items) (gone_of c.args.frame.now))) lt c.requires
+    (strangeness z (marked_all c.args.arrivals.now c.args.marks.now.items) (gone_of c.args.frame.now))) lt c.requires.marks
     (subst (λ (l : List Mark). IsNamedAt z (gone_of c.args.frame.now) (marked_all c.args.arrivals.now l) c.in-Some.place c.in-Some.reason)
     c.as_slice.ensures.value (c.in-Some.ensures.named z a))
 
@@ -22,6 +22,6 @@ pub returns-in-Some-clause-named : goal.returns-in-Some-clause-named
 returns-in-Some-clause-named c z a =
     let lt : c.in-Some.place < length c.args.marks.now.items = search rules in
     named-marks z (gone_of c.args.frame.now) c.args.arrivals.now c.args.marks.now.items c.in-Some.place
-    c.index-arrivals-place.result c.in-Some.reason lt c.requires
+    c.index-arrivals-place.result c.in-Some.reason lt c.requires.marks
     (subst (λ (l : List Mark). IsNamedAt z (gone_of c.args.frame.now) (marked_all c.args.arrivals.now l) c.in-Some.place c.in-Some.reason)
     c.as_slice.ensures.value (c.in-Some.ensures.named z a))

@@ -1,10 +1,11 @@
-use Rattle.std.proofs.Common.{rules, ◌≡◌, List, ◌++◌, [], ◌∷◌, map, take, get_or, refl, sym, ap, ◌∙◌, arith}
+use Rattle.std.proofs.Common.{rules, ◌≡◌, ◌≤◌, ℕ, All, IsTrue, not, length, subst, List, ◌++◌, [], ◌∷◌, map, take, get_or, refl, sym, ap, ◌∙◌, arith}
 use Rattle.std.proofs.lemmas.List.{map-append, take_more, take_all}
 use Rattle.afdx_conform.specs.Findings.{Finding, Judged, unexplained}
 use Rattle.afdx_conform.specs.Limits.{gone_of}
 use Rattle.afdx_conform.specs.Marks.{marked_all, told}
-use Rattle.afdx_conform.specs.Naming.{unexplained_all}
+use Rattle.afdx_conform.specs.Naming.{AreSettled, may_be_named, unexplained_all}
 use Rattle.afdx_conform.specs.Streams.{Gone}
+use Rattle.afdx_conform.specs.declared.finding.Mark.{Mark}
 use Rattle.afdx_conform.specs.declared.limits.Frame.{Frame}
 use Rattle.afdx_conform.proofs.NamingLemmas.{told-none, told-unexplained, all-more, all-none}
 use Rattle.afdx_conform.proofs.naming.unexplained_all.Goals as goal
@@ -16,30 +17,38 @@ loop-frame-init c = (
       ∙ told-none time (marked_all c.args.arrivals.now c.args.marks.now.items) j e
       ∙ sym (all-none z time j),
   refl,
+  omega arith,
+  λ k d lt. absurd (omega (arith, lt)),
 )
 
 pub loop-frame-preserved : goal.loop-frame-preserved
-loop-frame-preserved c = (
-  λ z time j a e.
-      let is : c.frame-item.result ≡ get_or c.args.frames.now c.loop-frame.frame-index c.frame-item.result = search rules in
-      ap (λ (l : List Finding). told time l (marked_all c.args.arrivals.now c.unexplained-finding.new.marks.items) j)
-      c.in_ok-push.ensures.items
-      ∙ told-unexplained z time c.loop-frame.found.items c.unexplained-finding.result
-      (marked_all c.args.arrivals.now c.loop-frame.marks.items) (marked_all c.args.arrivals.now c.unexplained-finding.new.marks.items)
-      (gone_of c.frame-item.result) j
-      (c.unexplained-finding.ensures.finding z a) (c.unexplained-finding.ensures.named z a)
-      ∙ ap (λ (k : Judged). unexplained z time (gone_of c.frame-item.result) k)
-      (c.loop-frame.invariant.0 z time j a e)
-      ∙ sym (all-more z time (map gone_of (take c.loop-frame.frame-index c.args.frames.now))
-      (gone_of c.frame-item.result) j)
-      ∙ ap (λ (l : List Gone). unexplained_all z time l j)
-      (ap (λ (f : Frame). map gone_of (take c.loop-frame.frame-index c.args.frames.now) ++ (gone_of f ∷ [])) is
-      ∙ sym (ap (λ (l : List Frame). map gone_of l) (take_more c.args.frames.now c.loop-frame.frame-index c.frame-item.result
-      c.loop-frame-test.true)
-      ∙ map-append gone_of (take c.loop-frame.frame-index c.args.frames.now)
-      (get_or c.args.frames.now c.loop-frame.frame-index c.frame-item.result ∷ []))),
-  c.unexplained-finding.ensures.length ∙ c.loop-frame.invariant.1,
-)
+loop-frame-preserved c =
+    let within : c.known_from-known.result ≤ length c.loop-frame.marks.items =
+    subst (λ (l : List Mark). c.known_from-known.result ≤ length l) c.as_slice.ensures.value c.known_from-known.ensures.within in
+    let settled : AreSettled c.known_from-known.result c.loop-frame.marks.items =
+    subst (λ (l : List Mark). AreSettled c.known_from-known.result l) c.as_slice.ensures.value c.known_from-known.ensures.known in (
+      λ z time j a e.
+          let is : c.frame-item.result ≡ get_or c.args.frames.now c.loop-frame.frame-index c.frame-item.result = search rules in
+          ap (λ (l : List Finding). told time l (marked_all c.args.arrivals.now c.unexplained-finding.new.marks.items) j)
+          c.in_ok-push.ensures.items
+          ∙ told-unexplained z time c.loop-frame.found.items c.unexplained-finding.result
+          (marked_all c.args.arrivals.now c.loop-frame.marks.items) (marked_all c.args.arrivals.now c.unexplained-finding.new.marks.items)
+          (gone_of c.frame-item.result) j
+          (c.unexplained-finding.ensures.finding z a) (c.unexplained-finding.ensures.named z a)
+          ∙ ap (λ (k : Judged). unexplained z time (gone_of c.frame-item.result) k)
+          (c.loop-frame.invariant.0 z time j a e)
+          ∙ sym (all-more z time (map gone_of (take c.loop-frame.frame-index c.args.frames.now))
+          (gone_of c.frame-item.result) j)
+          ∙ ap (λ (l : List Gone). unexplained_all z time l j)
+          (ap (λ (f : Frame). map gone_of (take c.loop-frame.frame-index c.args.frames.now) ++ (gone_of f ∷ [])) is
+          ∙ sym (ap (λ (l : List Frame). map gone_of l) (take_more c.args.frames.now c.loop-frame.frame-index c.frame-item.result
+          c.loop-frame-test.true)
+          ∙ map-append gone_of (take c.loop-frame.frame-index c.args.frames.now)
+          (get_or c.args.frames.now c.loop-frame.frame-index c.frame-item.result ∷ []))),
+      c.unexplained-finding.ensures.length ∙ c.loop-frame.invariant.1,
+      subst (λ (n : ℕ). c.known_from-known.result ≤ n) (sym c.unexplained-finding.ensures.length) within,
+      subst (λ (l : List Mark). All (λ m. IsTrue (not (may_be_named m))) l) (sym c.unexplained-finding.ensures.kept) settled,
+    )
 
 pub returns-clause-found : goal.returns-clause-found
 returns-clause-found c z time j a e =

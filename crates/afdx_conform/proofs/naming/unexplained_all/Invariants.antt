@@ -1,8 +1,8 @@
-use Rattle.std.proofs.Common.{◌≡◌, ℕ, map, take, length}
+use Rattle.std.proofs.Common.{◌≡◌, ◌≤◌, ℕ, map, take, length}
 use Rattle.afdx_conform.specs.Findings.{Judged}
 use Rattle.afdx_conform.specs.Limits.{AreLimits, gone_of}
 use Rattle.afdx_conform.specs.Marks.{marked_all, told}
-use Rattle.afdx_conform.specs.Naming.{unexplained_all}
+use Rattle.afdx_conform.specs.Naming.{AreSettled, unexplained_all}
 use Rattle.afdx_conform.specs.Streams.{Terms}
 use Rattle.afdx_conform.proofs.naming.unexplained_all.Given as goal
 
@@ -13,3 +13,4 @@ invariant-loop-frame l =
     told time l.found.items (marked_all l.arrivals l.marks.items) j
     ≡ unexplained_all z time (map gone_of (take l.frame-index l.frames)) j)
     × (length l.marks.items ≡ length l.initial.marks.items)
+    × (l.known ≤ length l.marks.items) × AreSettled l.known l.marks.items
