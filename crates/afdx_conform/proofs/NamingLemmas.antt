@@ -146,24 +146,24 @@ module _ (z : Terms) (y : Gone) where
       by true None false h = refl
       by true (Some r) false h = absurd (cc)
 
-  from-settled : (xs : List Arrived) (ms : List Mark) (n : ℕ) → length ms ≤ length xs → n ≤ length ms
+  from-each-settled : (xs : List Arrived) (ms : List Mark) (n : ℕ) → length ms ≤ length xs → n ≤ length ms
       → AllByRecursion (λ m. IsTrue (not (may_be_named m))) (take n ms) → IsNamedFrom (marked_all xs ms) n
   unfolding marked_all
-  from-settled xs ms zero h le all = from-start (marked_all xs ms)
-  from-settled xs [] (suc n) h le all = absurd (omega (arith, le))
-  from-settled [] (m ∷ ms) (suc n) h le all = absurd (omega (arith, h))
-  from-settled (a ∷ xs) (m ∷ ms) (suc n) h le all =
+  from-each-settled xs ms zero h le all = from-start (marked_all xs ms)
+  from-each-settled xs [] (suc n) h le all = absurd (omega (arith, le))
+  from-each-settled [] (m ∷ ms) (suc n) h le all = absurd (omega (arith, h))
+  from-each-settled (a ∷ xs) (m ∷ ms) (suc n) h le all =
       let none = unnamed a m all.0 in
-      let more = from-settled xs ms n (omega (arith, h)) (omega (arith, le)) all.1 in
+      let more = from-each-settled xs ms n (omega (arith, h)) (omega (arith, le)) all.1 in
       record {
         first = first-on (marked_of a m) (marked_all xs ms) None none ∙ more.first;
         once = once-on (marked_of a m) (marked_all xs ms) None none ∙ ap (λ t. marked_of a m ∷ t) more.once;
       }
 
-  pub from-known : (xs : List Arrived) (ms : List Mark) (n : ℕ) → length ms ≤ length xs → n ≤ length ms
+  pub from-settled : (xs : List Arrived) (ms : List Mark) (n : ℕ) → length ms ≤ length xs → n ≤ length ms
       → AreSettled n ms → IsNamedFrom (marked_all xs ms) n
-  from-known xs ms n h le all =
-      from-settled xs ms n h le (recursion_from_All (λ m. IsTrue (not (may_be_named m))) (take n ms) all)
+  from-settled xs ms n h le all =
+      from-each-settled xs ms n h le (recursion_from_All (λ m. IsTrue (not (may_be_named m))) (take n ms) all)
 
   pub from-here : (xs : List Arrived) (ms : List Mark) (i : ℕ) (a : Arrived) (m : Mark) (reason : Reason) → i < length ms
       → length ms ≤ length xs → a ≡ get_or xs i a → names_it z y (marked_of a (get_or ms i m)) ≡ Some reason

@@ -10,7 +10,7 @@ use Rattle.afdx_conform.specs.Streams.{Gone, Terms}
 abbrev pub may_be_named : Mark → Bool
 may_be_named m = is_some m.reason && not m.is_named
 
--- none of the first so many is marked so
+-- none of the first so many is
 abbrev pub AreSettled : ℕ → List Mark → Type 0
 AreSettled count marks = All (λ m. IsTrue (not (may_be_named m))) (take count marks)
 

@@ -28,15 +28,15 @@ fn is_to_name(mark: Mark) -> bool
     mark.reason.is_some() && !mark.is_named
 }
 
-/// How many of the first marks are known to be of arrivals that no finding may name, where so many
-/// are known already: up to the first that one may name.
-fn known_from(marks: &[Mark], known: usize) -> usize
-    requires within { known ≤ length marks.now }
-    requires known { AreSettled known marks.now }
+/// How many of the first arrivals are settled, so that no finding may name them, by their marks:
+/// up to the first that one may name, where so many are known to be.
+fn settled_from(marks: &[Mark], settled: usize) -> usize
+    requires within { settled ≤ length marks.now }
+    requires settled { AreSettled settled marks.now }
     ensures within { result ≤ length marks.now }
-    ensures known { AreSettled result marks.now }
+    ensures settled { AreSettled result marks.now }
 {
-    let mut count = known;
+    let mut count = settled;
     while count < marks.len() && !is_to_name(marks[count]) {
         count += 1;
     }
@@ -55,24 +55,24 @@ fn names_it(limits: &Limits, arrived: &Arrived, mark: Mark, frame: &Frame) -> Op
     }
 }
 
-/// The first arrival that the finding of a frame may name, which none may of the first `known`: its
-/// place, and the reason.
+/// The first arrival that the finding of a frame may name, behind the first `settled`: its place,
+/// and the reason.
 fn first_place(
     limits: &Limits,
     arrivals: &[Arrived],
     marks: &[Mark],
-    known: usize,
+    settled: usize,
     frame: &Frame,
 ) -> Option<(usize, Reason)>
     requires marks { length marks.now ≤ length arrivals.now }
-    requires within { known ≤ length marks.now }
-    requires known { AreSettled known marks.now }
-    ensures within { IfSome result (λ at. (known ≤ at.0) × (at.0 < length marks.now)) }
+    requires within { settled ≤ length marks.now }
+    requires settled { AreSettled settled marks.now }
+    ensures within { IfSome result (λ at. (settled ≤ at.0) × (at.0 < length marks.now)) }
     ensures named { (z : Terms) → AreLimits z limits.now → MatchOption result
         (IsNoneNamed z (gone_of frame.now) (marked_all arrivals.now marks.now))
         (λ at. IsNamedAt z (gone_of frame.now) (marked_all arrivals.now marks.now) at.0 at.1) }
 {
-    for place in known..marks.len() {
+    for place in settled..marks.len() {
         match names_it(limits, &arrivals[place], marks[place], frame) {
             Some(reason) => return Some((place, reason)),
             None => {}
@@ -137,18 +137,18 @@ fn strangeness(limits: &Limits, arrivals: &[Arrived], marks: &[Mark], frame: &Fr
     }
 }
 
-/// What is found of a frame that no arrival explains, and none of the first `known` may be named.
-/// An arrival that the finding names is marked so. Marks are those of the first arrivals.
+/// What is found of a frame that no arrival explains. An arrival that the finding names, behind the
+/// first `settled`, is marked so. Marks are those of the first arrivals.
 pub(crate) fn unexplained(
     limits: &Limits,
     arrivals: &[Arrived],
     marks: &mut Vec<Mark>,
-    known: usize,
+    settled: usize,
     frame: &Frame,
 ) -> Finding
     requires marks { length marks.old.items ≤ length arrivals.now }
-    requires within { known ≤ length marks.old.items }
-    requires known { AreSettled known marks.old.items }
+    requires within { settled ≤ length marks.old.items }
+    requires settled { AreSettled settled marks.old.items }
     ensures finding { (z : Terms) → AreLimits z limits.now → result
         ≡ finding_or (first_named z (gone_of frame.now) (marked_all arrivals.now marks.old.items))
         (Strange frame.now.number
@@ -156,9 +156,9 @@ pub(crate) fn unexplained(
     ensures named { (z : Terms) → AreLimits z limits.now → marked_all arrivals.now marks.new.items
         ≡ once_named z (gone_of frame.now) (marked_all arrivals.now marks.old.items) }
     ensures length { length marks.new.items ≡ length marks.old.items }
-    ensures kept { take known marks.new.items ≡ take known marks.old.items }
+    ensures kept { take settled marks.new.items ≡ take settled marks.old.items }
 {
-    match first_place(limits, arrivals, marks.as_slice(), known, frame) {
+    match first_place(limits, arrivals, marks.as_slice(), settled, frame) {
         None => {
             let strangeness = strangeness(limits, arrivals, marks.as_slice(), frame);
             Finding::Strange(frame.number, strangeness)
@@ -190,10 +190,10 @@ pub(crate) fn unexplained_all(
     ensures length { length marks.new.items ≡ length marks.old.items }
 {
     let mut found = Vec::new(alloc);
-    let mut known = 0;
+    let mut settled = 0;
     for frame in frames {
-        known = known_from(marks.as_slice(), known);
-        let finding = unexplained(limits, arrivals, marks, known, frame);
+        settled = settled_from(marks.as_slice(), settled);
+        let finding = unexplained(limits, arrivals, marks, settled, frame);
         found.push(finding)?;
     }
     Ok(found)

@@ -1,12 +1,12 @@
 use Rattle.std.proofs.Common.{rules, ◌≡◌, get_or, ◌<◌, ◌≤◌, length, sym, ◌∙◌, arith}
 use Rattle.afdx_conform.specs.Limits.{gone_of}
-use Rattle.afdx_conform.proofs.NamingLemmas.{no-mark, from-known, from-next, from-here, from-end}
+use Rattle.afdx_conform.proofs.NamingLemmas.{no-mark, from-settled, from-next, from-here, from-end}
 use Rattle.afdx_conform.proofs.naming.first_place.Goals as goal
 
 pub loop-place-init : goal.loop-place-init
 loop-place-init c z a =
-    from-known z (gone_of c.args.frame.now) c.args.arrivals.now c.args.marks.now c.args.known
-    c.requires.marks c.requires.within c.requires.known
+    from-settled z (gone_of c.args.frame.now) c.args.arrivals.now c.args.marks.now c.args.settled
+    c.requires.marks c.requires.within c.requires.settled
 
 pub returns-in-Some-clause-named : goal.returns-in-Some-clause-named
 returns-in-Some-clause-named c z a =

@@ -23,10 +23,10 @@ loop-frame-init c = (
 
 pub loop-frame-preserved : goal.loop-frame-preserved
 loop-frame-preserved c =
-    let within : c.known_from-known.result ≤ length c.loop-frame.marks.items =
-    subst (λ (l : List Mark). c.known_from-known.result ≤ length l) c.as_slice.ensures.value c.known_from-known.ensures.within in
-    let settled : AreSettled c.known_from-known.result c.loop-frame.marks.items =
-    subst (λ (l : List Mark). AreSettled c.known_from-known.result l) c.as_slice.ensures.value c.known_from-known.ensures.known in (
+    let within : c.settled_from-settled.result ≤ length c.loop-frame.marks.items =
+    subst (λ (l : List Mark). c.settled_from-settled.result ≤ length l) c.as_slice.ensures.value c.settled_from-settled.ensures.within in
+    let settled : AreSettled c.settled_from-settled.result c.loop-frame.marks.items =
+    subst (λ (l : List Mark). AreSettled c.settled_from-settled.result l) c.as_slice.ensures.value c.settled_from-settled.ensures.settled in (
       λ z time j a e.
           let is : c.frame-item.result ≡ get_or c.args.frames.now c.loop-frame.frame-index c.frame-item.result = search rules in
           ap (λ (l : List Finding). told time l (marked_all c.args.arrivals.now c.unexplained-finding.new.marks.items) j)
@@ -46,7 +46,7 @@ loop-frame-preserved c =
           ∙ map-append gone_of (take c.loop-frame.frame-index c.args.frames.now)
           (get_or c.args.frames.now c.loop-frame.frame-index c.frame-item.result ∷ []))),
       c.unexplained-finding.ensures.length ∙ c.loop-frame.invariant.1,
-      subst (λ (n : ℕ). c.known_from-known.result ≤ n) (sym c.unexplained-finding.ensures.length) within,
+      subst (λ (n : ℕ). c.settled_from-settled.result ≤ n) (sym c.unexplained-finding.ensures.length) within,
       subst (λ (l : List Mark). All (λ m. IsTrue (not (may_be_named m))) l) (sym c.unexplained-finding.ensures.kept) settled,
     )
 

@@ -13,4 +13,4 @@ invariant-loop-frame l =
     told time l.found.items (marked_all l.arrivals l.marks.items) j
     ≡ unexplained_all z time (map gone_of (take l.frame-index l.frames)) j)
     × (length l.marks.items ≡ length l.initial.marks.items)
-    × (l.known ≤ length l.marks.items) × AreSettled l.known l.marks.items
+    × (l.settled ≤ length l.marks.items) × AreSettled l.settled l.marks.items

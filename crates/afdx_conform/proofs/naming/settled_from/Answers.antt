@@ -2,9 +2,8 @@ use Rattle.std.proofs.Common.{sym, ap, ◌∙◌, arith}
 use Rattle.std.proofs.lemmas.List.Elements.{All-more}
 use Rattle.std.specs.Prelude.{Bool, IsTrue, not}
 use Rattle.afdx_conform.specs.Naming.{may_be_named}
-use Rattle.afdx_conform.specs.declared.finding.Mark.{Mark}
 use Rattle.afdx_conform.proofs.NamingLemmas.{no-mark}
-use Rattle.afdx_conform.proofs.naming.known_from.Goals as goal
+use Rattle.afdx_conform.proofs.naming.settled_from.Goals as goal
 
 pub loop-count-preserved : goal.loop-count-preserved
 loop-count-preserved c = (
