@@ -162,7 +162,7 @@ def hostile_lists(program: Program) -> Iterator[tuple]:
         yield f"conform, cut: {name}", cut_lists, judge, pair_of(rows[name]), seed
         yield f"conform, the greatest numbers, {seed}", largest_numbers, judge, seed
     yield "conform: the most lines", most_lines, judge
-    yield "conform: equal times", equal_times, judge, 20_000
+    yield "conform: equal times", equal_times, judge, 200_000
     yield "conform: nothing came", nothing_came, judge
     yield "conform: the largest tables", largest_tables, judge
     yield "conform: many have begun", many_begun, judge

@@ -147,6 +147,15 @@ pub(crate) fn bring_at(
     )
 }
 
+/// Gives a departure back to the switch that it was from, if there is one of this number.
+pub(crate) fn give_back_at(networks: &mut [Network], switch: usize, departed: Departed)
+    ensures { networks.new ≡ networks.old }
+{
+    if let Some(network) = networks.get_mut(switch) {
+        network.give_back(departed);
+    }
+}
+
 /// Whether a frame with this verdict was dropped for its link's rate.
 fn is_over_rate(verdict: Verdict) -> bool
     ensures { result ≡ over_rate (network.reason_in verdict) }

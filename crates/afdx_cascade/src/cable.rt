@@ -11,11 +11,13 @@ use afdx_network::Departed;
 /// which 1 to 24 are its ports.
 pub(crate) const ENTRIES: usize = 25;
 
-/// A frame on a cable, which ends at a port of the switch of this number.
+/// A frame on a cable, which ends at a port of the switch of this number, with the number of the
+/// switch that it left.
 #[derive(Drop)]
 pub struct InTransit {
     pub switch: usize,
     pub port: u8,
+    pub from: usize,
     pub departed: Departed,
 }
 

@@ -13,7 +13,7 @@ ghost use Rattle.afdx_cascade.specs.Scan.{switches_most};
 ghost use Rattle.afdx_cascade.specs.Standing.{Stands};
 ghost use Rattle.afdx_cascade.specs.Turning.{AreEnds, AreInTransit, TurnsAt, ArrivesAt, CanArrive};
 
-use crate::arriving::{bring_at, early_by, take_at};
+use crate::arriving::{bring_at, early_by, give_back_at, take_at};
 use crate::cable::{InTransit, far_end};
 use crate::told::{Brought, Sent, Turned};
 use afdx_config::FarEnd;
@@ -71,6 +71,7 @@ pub(crate) fn turn_at(
             transit.push_back_reserved(InTransit {
                 switch: to.switch.0 as usize,
                 port: to.port,
+                from: switch,
                 departed,
             });
             Some(Turned::Carried(sent))
@@ -115,7 +116,15 @@ pub(crate) fn front_at(
     let tag = front.departed.departure.tag();
     let verdict = bring_at(networks, switch, port, &front.departed)?;
     let early = early_by(networks, switch, port, &front.departed, verdict);
-    let _ = transit.pop_front();
+    if let Some(arrived) = transit.pop_front() {
+        let InTransit {
+            switch: _,
+            port: _,
+            from,
+            departed,
+        } = arrived;
+        give_back_at(networks, from, departed);
+    }
     Ok(Brought {
         switch,
         side,

@@ -164,4 +164,14 @@ impl Network {
         let departure = self.switches.get_mut(side).take(until)?;
         Some(Departed { side, departure })
     }
+
+    /// Gives a departure back, of these switches or of others, once its frame was read: a frame
+    /// that comes later on its side takes its memory. What the switches hold, and what they will
+    /// do, stays the same.
+    pub fn give_back(&mut self, departed: Departed)
+        ensures { self.new ≡ self.old }
+    {
+        let Departed { side, departure } = departed;
+        self.switches.get_mut(side).give_back(departure);
+    }
 }

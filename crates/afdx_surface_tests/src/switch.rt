@@ -61,3 +61,20 @@ fn frames(rt: HostRuntime) -> Result<(), Fail> {
     equal(is_kept(verdict), true)?;
     equal(parts(&left), (6720, 3, 7, 0, false, 64))
 }
+
+#[test]
+fn memory_given_back(rt: HostRuntime) -> Result<(), Fail> {
+    let tables = base_tables(rt.alloc())?;
+    let mut switch = Switch::new(rt.alloc(), &tables)?;
+    let _first = switch.arrive(0, 1, 7, &hello(0))?;
+    let left = switch.take(6720).ok_or("a departure")?;
+    switch.give_back(left);
+    if switch.take(500_000).is_some() {
+        return Err("one more leaves".into());
+    }
+    let verdict = switch.arrive(500_000, 1, 8, &hello(1))?;
+    let next = switch.take(506_720).ok_or("the next departure")?;
+    equal(is_kept(verdict), true)?;
+    equal(parts(&next), (506_720, 3, 8, 0, false, 64))?;
+    equal(next.bytes().as_slice(), hello(1).as_slice())
+}

@@ -244,4 +244,12 @@ impl Switch {
         }
         taken
     }
+
+    /// Gives a departure back, of this switch or of another, once its frame was read: a frame that
+    /// comes later takes its memory. What the switch holds, and what it will do, stays the same.
+    pub fn give_back(&mut self, given: Departure)
+        ensures { self.new ≡ self.old }
+    {
+        self.store.keep(&given.left.item);
+    }
 }

@@ -24,9 +24,11 @@ loop-frame-init c = (
 pub loop-frame-preserved : goal.loop-frame-preserved
 loop-frame-preserved c =
     let within : c.settled_from-settled.result ≤ length c.loop-frame.marks.items =
-    subst (λ (l : List Mark). c.settled_from-settled.result ≤ length l) c.as_slice.ensures.value c.settled_from-settled.ensures.within in
+    subst (λ (l : List Mark). c.settled_from-settled.result ≤ length l) c.as_slice.ensures.value
+    c.settled_from-settled.ensures.within in
     let settled : AreSettled c.settled_from-settled.result c.loop-frame.marks.items =
-    subst (λ (l : List Mark). AreSettled c.settled_from-settled.result l) c.as_slice.ensures.value c.settled_from-settled.ensures.settled in (
+    subst (λ (l : List Mark). AreSettled c.settled_from-settled.result l) c.as_slice.ensures.value
+    c.settled_from-settled.ensures.settled in (
       λ z time j a e.
           let is : c.frame-item.result ≡ get_or c.args.frames.now c.loop-frame.frame-index c.frame-item.result = search rules in
           ap (λ (l : List Finding). told time l (marked_all c.args.arrivals.now c.unexplained-finding.new.marks.items) j)
