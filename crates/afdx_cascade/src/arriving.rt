@@ -151,8 +151,8 @@ pub(crate) fn bring_at(
 pub(crate) fn give_back_at(networks: &mut [Network], switch: usize, departed: Departed)
     ensures { networks.new ≡ networks.old }
 {
-    if let Some(network) = networks.get_mut(switch) {
-        network.give_back(departed);
+    if switch < networks.len() {
+        networks[switch].give_back(departed);
     }
 }
 

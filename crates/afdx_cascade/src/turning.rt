@@ -116,15 +116,16 @@ pub(crate) fn front_at(
     let tag = front.departed.departure.tag();
     let verdict = bring_at(networks, switch, port, &front.departed)?;
     let early = early_by(networks, switch, port, &front.departed, verdict);
-    if let Some(arrived) = transit.pop_front() {
-        let InTransit {
-            switch: _,
-            port: _,
-            from,
-            departed,
-        } = arrived;
-        give_back_at(networks, from, departed);
-    }
+    let Some(arrived) = transit.pop_front() else {
+        unreachable!()
+    };
+    let InTransit {
+        switch: _,
+        port: _,
+        from,
+        departed,
+    } = arrived;
+    give_back_at(networks, from, departed);
     Ok(Brought {
         switch,
         side,

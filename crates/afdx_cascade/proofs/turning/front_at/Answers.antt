@@ -1,6 +1,10 @@
-use Rattle.std.proofs.Common.{◌∙◌, ap, sym, subst}
+use Rattle.std.proofs.Common.{◌∙◌, ap, sym, subst, List, ◌∷◌}
+use Rattle.afdx_network.specs.declared.network.Network.{Network}
 use Rattle.afdx_port.specs.declared.left.Left.{Left}
 use Rattle.afdx_switch.specs.HeldFrames.{HeldFrame}
+use Rattle.afdx_cascade.specs.Cables.{brought}
+use Rattle.afdx_cascade.specs.Runs.{arriving}
+use Rattle.afdx_cascade.specs.Standing.{Stands}
 use Rattle.afdx_cascade.specs.Turning.{AreInTransit}
 use Rattle.afdx_cascade.proofs.turning.front_at.Goals as goal
 use Rattle.afdx_cascade.proofs.TurningLemmas.{split-transit}
@@ -10,7 +14,9 @@ returns-clause-arrives c p at r rest so_far plan st are =
     let parts = split-transit p c.args.transit.now.items c.in-Some.front.now r rest are c.in-Some.ensures.lookup in
     record {
       to = parts.0.to;
-      stands = c.in_ok-verdict.ensures.stands p at r rest so_far plan st parts.0.to parts.0.side parts.0.left;
+      stands = subst (λ (n : List Network). Stands p n at rest (arriving p so_far c.in-Some.front.now.switch
+          (brought r.side c.in-Some.front.now.port r.turn) ∷ so_far)) (sym c.give_back_at.ensures)
+          (c.in_ok-verdict.ensures.stands p at r rest so_far plan st parts.0.to parts.0.side parts.0.left);
       in_transit = subst (λ w. AreInTransit p w rest) (sym c.pop_front.ensures.rest) parts.1;
       side = parts.0.side;
       time_is = c.time-time.ensures ∙ ap (λ (l : Left HeldFrame). l.end) parts.0.left;

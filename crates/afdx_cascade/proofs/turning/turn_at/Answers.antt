@@ -83,6 +83,7 @@ returns-in-Some c = record {
       (record {
         switch = c.in-Some.to.switch.0;
         port = c.in-Some.to.port;
+        from = c.args.switch;
         departed =
             c.in_ok-departed.departed;
       })
