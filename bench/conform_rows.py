@@ -75,7 +75,7 @@ def policed(bench):
 def show_conform(bench, only, lines, empty):
     """The rows with this text in their names; the lines of what a frame takes, which are printed
     last."""
-    told = []
+    told, judged = [], 0.0
     for row in CONFORM if has_conform(bench.program) else ():
         name, ports, kind, _ = row
         if only not in name or (kind != LISTS and not told_by(bench.program, "--left")):
@@ -86,7 +86,8 @@ def show_conform(bench, only, lines, empty):
             continue
         times = measured.instructions / (bench.line_of_64() * (1 + ports))
         told.append(f"{name}: {times:.2f} times {1 + ports} lines of `police`")
-        times = measured.instructions / ports / (2 * policed(bench))
+        judged = judged or policed(bench)
+        times = measured.instructions / ports / (2 * judged)
         told.append(f"{name}: at each port {times:.2f} times {POLICED}")
     return told
 
