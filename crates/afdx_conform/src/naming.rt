@@ -1,7 +1,7 @@
 //! What is found of a frame that no arrival explains.
 
-ghost use Rattle.std.specs.Prelude.{◌≡◌, ◌≤◌, ◌<◌, ℕ, IfOk, IfSome, MatchOption};
-ghost use Rattle.std.specs.Prelude.{length, map, take};
+ghost use Rattle.std.specs.Prelude.{◌≡◌, ◌≤◌, ◌<◌, ℕ, IfOk, IfSome, IsTrue, MatchOption};
+ghost use Rattle.std.specs.Prelude.{length, map, slice_get, take};
 ghost use Rattle.std.specs.List.{list_any};
 ghost use Rattle.afdx_conform.specs.Findings.{names_it as may_name, is_of_right};
 ghost use Rattle.afdx_conform.specs.Findings.{damage as damage_of, strangeness as strangeness_of};
@@ -35,6 +35,7 @@ fn settled_from(marks: &[Mark], settled: usize) -> usize
     requires settled { AreSettled settled marks.now }
     ensures within { result ≤ length marks.now }
     ensures settled { AreSettled result marks.now }
+    ensures next { IfSome (slice_get marks.now result) (λ m. IsTrue (may_be_named m)) }
 {
     let mut count = settled;
     while count < marks.len() && !is_to_name(marks[count]) {
