@@ -55,7 +55,8 @@ MEMORY = {
 }
 OF_TWO_LISTS = ["list came n", "list left n"]  # n is the fault of that list
 SCRIPTS = ["tests/**/*.py", "tests/**/*.sh", "tests/**/*.c", "examples/*.py"]
-SCRIPTS += ["bench/*", "bin/*", "bin/printing/*.py", "tools/*", "tools/**/*.py", ".ci/*"]
+SCRIPTS += ["bench/*", "bin/*", "bin/printing/*.py", "bin/lib/*.sh"]
+SCRIPTS += ["tools/*", "tools/**/*.py", ".ci/*"]
 
 
 def text_of(path: pathlib.Path) -> str:
