@@ -10,36 +10,47 @@ unpacked=$top/release/out/afdx
 found= # the program that is to be run
 why=   # why there is none, or why the release doesn't serve
 
-sources() { # the names of all source files, or with -newer FILE those that are newer
-    (cd "$top" && find crates.txt crates -name out -prune -o -type f \
-        \( -name '*.rt' -o -name '*.antt' -o -name crates.txt \) "$@" -print | LC_ALL=C sort)
-}
-
-# Is this program there, and no source file newer, new or deleted? Beside it lie the names of the
-# files that it was built from.
-is_current() { # PROGRAM
-    [[ -x $1 && -f $1.sources && ! $top/HANDLES -nt $1 ]] || return 1
-    [[ -z $(sources -newer "$1") ]] && sources | cmp -s - "$1.sources"
-}
-
-# These crates and all that they stand on, a line each; those of tests and benchmarks are others.
-stands_on() { # NAME..
+# The lines of crates.txt of these crates and of all that they stand on; those of tests and
+# benchmarks are others.
+listed() { # NAME..
     awk -F '[: ]+' -v names="$*" '
-        /^[a-z]/ { name = $1; $1 = ""; below[name] = $0 }
+        /^[a-z]/ { line[$1] = $0; name = $1; $1 = ""; below[name] = $0 }
         function visit(name, words, i) {
             if (!(name in below) || name in seen) return
             seen[name] = 1
-            print name
+            print line[name]
             for (i = split(below[name], words, " "); i > 0; i--) visit(words[i])
         }
         END { for (k = split(names, given, " "); k > 0; k--) visit(given[k]) }' "$top/crates.txt"
 }
 
+stands_on() { listed "$@" | sed 's/[: ].*//'; } # NAME.. : the names alone
+
+# The names of all source files that the program is made of, or with -newer FILE those that are
+# newer. Crates of tests and benchmarks have none.
+sources() {
+    local below
+    mapfile -t below < <(stands_on afdx)
+    (cd "$top" && find "${below[@]/#/crates/}" -name out -prune -o -type f \
+        \( -name '*.rt' -o -name '*.antt' \) "$@" -print | LC_ALL=C sort)
+}
+
+# Is this program there, and no source file newer, new or deleted? Beside it lie the names of the
+# files that it was built from.
+is_current() { # PROGRAM
+    [[ -x $1 && -f $1.sources && ! $top/HANDLES -nt $1 && ! $top/crates.txt -nt $1 ]] || return 1
+    [[ -z $(sources -newer "$1") ]] && sources | cmp -s - "$1.sources"
+}
+
 sum() { sha256sum | cut -d ' ' -f 1; } # of standard input
 
-# One SHA-256 over names and bytes of all sources, and of the handles that they may have.
+# One SHA-256 over names and bytes of all sources, their lines of crates.txt, and the handles that
+# they may have.
 sum_of_sources() {
-    (cd "$top" && { sources; echo HANDLES; } | xargs -d '\n' sha256sum) | sum
+    {
+        listed afdx | LC_ALL=C sort
+        (cd "$top" && { sources && echo HANDLES; } | xargs -d '\n' sha256sum)
+    } | sum
 }
 
 # ---- the release ---------------------------------------------------------------------------

@@ -174,6 +174,10 @@ expect 'and runs the same' is_shipped
 touch "$house/crates/low/src/lib.rt"
 launch check
 expect 'a file that was touched is no other source' is_shipped
+echo '// more' >>"$house/crates/tests/src/lib.rt"
+echo 'more_tests: afdx' >>"$house/crates.txt"
+launch check
+expect 'nor is a test more' is_shipped
 path=$room/kit:$room/machine:$PATH
 echo '// edited' >>"$house/crates/low/src/lib.rt"
 launch check

@@ -76,12 +76,18 @@ build() { (cd "$house/crates/afdx" && rt run -- --version); }
 commit
 call release
 expect 'there is no program to release' ends 1 'there is no program'
+call release --check
+expect 'where there is no release it says what to call' ends 3 'no release: .* call bin/release'
 build
 call release
 expect 'a release is written' ends 0 'wrote .*release/afdx-x86_64-linux.xz'
 call release --check
 expect 'it is that of the program' ends 0 ''
 commit
+echo '// a test more' >>"$house/crates/tests/src/lib.rt"
+commit
+call release --check
+expect 'a test that was edited is no other source' ends 0 ''
 call afdx --version
 expect 'bin/afdx takes no release where one is built' ends 0 ''
 rm -r "$house/crates/afdx/out"
@@ -114,8 +120,12 @@ rm "$EDITED"
 call prove
 expect 'other sources are told' ends 1 'the release is of other sources'
 call release --check
-expect 'a stale release is told' ends 1 "of the release 'sources' is"
-expect 'with what to call' grep -q 'call bin/release' "$room/err"
+expect 'a stale release is told, with what to call' ends 3 'of other sources: .* call bin/release'
+cp -r "$house/release" "$room/stale"
+echo more >>"$shipped.xz"
+call release --check
+expect 'one that was cut as well is wrong' ends 1 'cut or changed'
+cp "$room/stale"/* "$house/release"
 call release
 expect 'files that were changed are refused' ends 1 'changed and not committed'
 commit
@@ -127,6 +137,10 @@ call release
 expect 'the release is written anew' ends 0 'wrote'
 call release --check
 expect 'and is right again' ends 0 ''
+mv "$house/crates/afdx/out" "$room/built"
+call release --check
+expect 'so it is where no program is built' ends 0 ''
+mv "$room/built" "$house/crates/afdx/out"
 sleep 0.01
 touch "$house/crates/low/src/lib.rt"
 call release

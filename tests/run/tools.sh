@@ -1,9 +1,10 @@
 #!/usr/bin/env bash
 # Checks what stands around the built program: tools/, bin/install, the guide's commands.
 #
-#     tests/run/tools.sh [PROGRAM]
+#     tests/run/tools.sh [PROGRAM [PART..]]
 #
-# PROGRAM is the built program, crates/afdx/out/afdx where it isn't given. Prints `ok NAME`, `FAILED
+# PROGRAM is the built program, crates/afdx/out/afdx where it isn't given. A PART is a script of
+# tests/tools/; without one all are tried. Prints `ok NAME`, `FAILED
 # NAME` or `skipped NAME: why` for each case and, at the end, `N passed, M failed, K skipped`. A
 # case is skipped only where a package or a command of the program isn't there. Ends with status 1
 # if a case failed.
@@ -73,6 +74,7 @@ parts="recordings report hardening criteria early page capture_faults wireshark"
 parts+=" icd explained icd_faults icd_documents icd_growth icd_cables traffic taps fill completion"
 parts+=" hostile_completion safe_outputs hostile_files around campaigns recorded_reports absence"
 parts+=" evidence annotated several_switches several_reports conformance package"
+if [[ $# -gt 1 ]]; then parts=${*:2}; fi
 for part in $parts; do
     # shellcheck source=/dev/null
     source "$top/tests/tools/$part.sh"
