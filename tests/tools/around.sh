@@ -151,10 +151,25 @@ guide_tests() {
     )"
 }
 
+# The README's commands are those of a checkout.
+readme_tests() {
+    local folder=$work/readme
+    mkdir -p "$folder/bin"
+    ln -s "$program" "$folder/bin/afdx"
+    ln -s "$top/examples" "$folder"
+    launch "$python" tests/tools/document_commands.py README.md "$folder"
+    tell 'the README prints what the program prints' "$(
+        is_status 0
+        [[ $(grep -c '^ok ' "$work/out") -ge 4 ]] || echo 'fewer than four commands were run'
+        grep -A 8 '^FAILED ' "$work/out"
+    )"
+}
+
 if [[ -n $built ]]; then
     install_tests
     bare_tests
     guide_tests
+    readme_tests
 else
     skip 'install, the bare folder and the guide' "there is no program $program"
 fi

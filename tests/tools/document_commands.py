@@ -6,7 +6,8 @@
 Each block ```sh is run by bash in FOLDER, in the order of the document. A block ```text right after
 it is what it prints on standard output, in which a line `..` stands for any lines. Words after `sh`
 say what the block wants: `status=N` (0), and names of what it needs; a block that needs what is not
-in the environment variable HAS is skipped. Prints a line for each block as tests/run/tools.sh does.
+in the environment variable HAS is skipped. An indented block that begins with `$ ` is a command and
+what it prints. Prints a line for each block as tests/run/tools.sh does.
 """
 from __future__ import annotations
 
@@ -17,6 +18,7 @@ import sys
 from typing import NamedTuple
 
 BLOCK = re.compile(r"^```sh *([^\n]*)\n(.*?)^```\n(?:\n```text\n(.*?)^```$)?", re.M | re.S)
+INDENTED = re.compile(r"^    \$ ([^\n]*\n)((?:    (?!\$ )[^\n]*\n)*)", re.M)
 
 
 class Block(NamedTuple):
@@ -30,7 +32,12 @@ class Block(NamedTuple):
 def blocks_of(document: str) -> list[Block]:
     """The blocks of a document."""
     with open(document, encoding="utf-8") as file:
-        return [Block(m[1].split(), m[2], m[3]) for m in BLOCK.finditer(file.read())]
+        text = file.read()
+    fenced = [Block(m[1].split(), m[2], m[3]) for m in BLOCK.finditer(text)]
+    return fenced + [
+        Block([], m[1], m[2].replace("\n    ", "\n").removeprefix("    "))
+        for m in INDENTED.finditer(text)
+    ]
 
 
 def pattern(printed: str) -> re.Pattern[str]:
