@@ -38,7 +38,8 @@ end() {
 
 why_not() { # says why there is no such system here
     [[ $EUID -eq 0 ]] || echo 'only root can change to it'
-    [[ -d $root ]] || has debootstrap || echo 'there is no debootstrap (apt-get install debootstrap)'
+    [[ -d $root ]] || has debootstrap ||
+        echo 'there is no debootstrap (apt-get install debootstrap)'
 }
 
 make_system() {
