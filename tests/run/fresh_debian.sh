@@ -43,7 +43,7 @@ why_not() { # says why there is no such system here
 }
 
 make_system() {
-    [[ -d $root ]] || debootstrap --variant=minbase --include=git,xz-utils,python3,procps bookworm \
+    [[ -d $root ]] || debootstrap --variant=minbase --include=git,xz-utils,python3 bookworm \
         "$root" >"$room/said" 2>&1
 }
 
