@@ -4,12 +4,9 @@
 use afdx_conform::{Arrived, CheckedBytes, Finding, Frame, Leeway, Spare, Stream};
 use afdx_frame::{Checked, Policing, Side, VlId};
 use afdx_police::LinkRule;
-use afdx_samples::equal;
+use afdx_samples::{equal, hello};
 use std::alloc::{AllocError, Global};
 use std::test::Fail;
-
-/// Some bytes that a frame has.
-const BYTES: [u8; 64] = [7; 64];
 
 /// A stream, the memory of what it forgot, and what was found in it so far.
 #[derive(Drop)]
@@ -34,15 +31,21 @@ fn decide_before(told: &mut Told, time: u64) -> Result<(), AllocError> {
     Ok(())
 }
 
-/// One more arrival at this time, whose frame leaves 6,720 ns later.
-fn pass(told: &mut Told, rule: &LinkRule, number: u64, time: u32) -> Result<(), AllocError> {
+/// One more arrival of this frame at this time. It leaves 6,720 ns later.
+fn pass(
+    told: &mut Told,
+    rule: &LinkRule,
+    number: u64,
+    time: u32,
+    frame: &[u8],
+) -> Result<(), AllocError> {
     let (came, left): (u64, u64) = (time.into(), u64::from(time).saturating_add(6_720));
     decide_before(told, came)?;
-    let bytes = CheckedBytes::of(&mut told.spare, Checked::new(&BYTES))?;
+    let bytes = CheckedBytes::of(&mut told.spare, Checked::new(frame))?;
     told.stream
         .came(Arrived::new(rule, number, came, Side::A, 1, bytes))?;
     decide_before(told, left)?;
-    let bytes = CheckedBytes::of(&mut told.spare, Checked::new(&BYTES))?;
+    let bytes = CheckedBytes::of(&mut told.spare, Checked::new(frame))?;
     told.stream.left(Frame {
         number,
         time: left,
@@ -69,9 +72,10 @@ fn what_is_decided_is_let_go_of(rt: HostRuntime) -> Result<(), Fail> {
     let Some((rule, mut told)) = new_stream(rt.alloc()) else {
         return equal(true, false);
     };
+    let frame = hello(0);
     let mut most = 0_usize;
     for place in 0..200_u32 {
-        pass(&mut told, &rule, place.into(), place * 1_000_000)?;
+        pass(&mut told, &rule, place.into(), place * 1_000_000, &frame)?;
         most = most.max(told.stream.held());
     }
     equal((told.found.len(), most <= 8), (0, true))?;

@@ -77,5 +77,8 @@ fn seals_or_is_refused(rt: HostRuntime) -> Result<(), Fail> {
 
 #[test]
 fn a_message_is_read() -> Result<(), Fail> {
-    equal(payload_of(Checked::new(&hello(0))), Some(b"hello".as_slice()))
+    equal(
+        payload_of(Checked::new(&hello(0))),
+        Some(b"hello".as_slice()),
+    )
 }

@@ -164,6 +164,19 @@ fn refused_put_leaves_the_sample(rt: HostRuntime) -> Result<(), Fail> {
     all_right(wrong_step(&rt, &mut ports, steps.as_slice())?)
 }
 
+#[test]
+fn each_port_by_itself(rt: HostRuntime) -> Result<(), Fail> {
+    let steps = [
+        Step::Sample(5, 1),
+        Step::Queue(2),
+        Step::Shows(5, 1),
+        Step::Takes(2),
+        Step::Shows(5, 1),
+    ];
+    let mut ports = base_ports(rt.alloc())?;
+    all_right(wrong_step(&rt, &mut ports, steps.as_slice())?)
+}
+
 /// Whether the message is put to the queue of link 2, taken out of it and given back.
 fn passes(rt: &impl Abort, ports: &mut ComPorts, message: &[u8]) -> bool {
     if put_queued(rt, ports, message).is_err() {
