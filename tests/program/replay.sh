@@ -185,6 +185,14 @@ wrong_datagram not-udp 0111cdea 0101cdfa
 wrong_datagram bad-udp-length 03e803e8000d 03e803e8000c
 wrong_datagram no-port 03e803e8 03e803e9
 
+# The other words of this header have the sum ffff, so that both zeros of ones' complement are
+# right checksums.
+for zero in 0000 ffff; do
+    spelled 'F 0 A 1 H1' | sed "s/000000000111cdea/cdea00000111$zero/" >"$work/list"
+    case_of "a receiver takes the checksum $zero" 0 "$(lines_of "$(read_at 1 6720)")"$'\n' '' \
+        replay "$work/tables.toml" "$work/list"
+done
+
 # Four messages of one byte from two sub-VLs, as a sender gives them, a ms apart on both sides.
 sent() { # TIME NUMBER PAYLOAD : the frame on side A and its copy on side B
     local ip=08004500001d000000000111cdee0a000101e0e0000103e803e800090000 pad
@@ -291,6 +299,15 @@ full_list='F 0 A 1 H1 / F 0 A 2 H2 / F 1 A 2 H2'
 free_replay_of 'a full buffer, and the lost frame stays charged' "$full_list" \
     "V 1 A accept / V 2 A accept / L 2 A 3 / V 3 A drop over-rate / $(hello_at 1 6720)"
 fault_of 'the same tables are not admitted' 1 "$full_list" '' 'admit A2 3 252'
+# The latency is 13 us, and a frame leaves after 13,440 ns. The skew is less than the latency: the
+# copy on B comes too late to be known as one.
+tables '/^vl = 2/,/^skew/s/^latency_us = 21/latency_us = 13/'
+free_replay_of 'without A4 a frame is late' 'F 0 A 2 H2 / F 0 A 1 H1' \
+    "V 1 A accept / V 2 A accept / $(hello_at 2 6720) / $(world_at 1 13440)"
+tables '0,/^skew_us = 1000/s//skew_us = 1/'
+free_replay_of 'without A7 a message is delivered twice' 'F 0 B 2 H2 / F 1 A 1 H1 / F 1 B 1 H1' \
+    "V 1 B accept / V 2 A accept / V 3 B accept / D 1 6720 B 3 / M 6720 s3 2 $world \
+/ $(hello_at 2 6721) / D 3 13440 B 3 / M 13440 s3 1 $hello"
 lengths='s/^lmin = 64/lmin = 100/; s/^lmax = 64/lmax = 200/'
 tables "/^vl = 2/,/^lmax/{$lengths}"
 free_replay_of 'a frame below Lmin' 'F 0 A 2 H2' "V 1 A accept / $(world_at 1 6720)"

@@ -1,13 +1,13 @@
-//! Frames that are built, in new memory and in the place of others.
+//! Frames that are built, in new memory and in the place of others. Each length is tried at the
+//! program (tests/run/streams.py).
 
 ghost use Rattle.std.specs.Prelude.{ℕ, ◌≤◌, length};
 
 use afdx_frame::{Address, Side, VlId, build, build_both, build_both_in, is_sealed};
-use afdx_samples::{HELLO, equal, hello, sealed};
+use afdx_samples::{HELLO, hello, sealed};
 use std::alloc::{AllocError, Global};
-use std::test::Fail;
 
-pub(crate) const ADDRESS: Address = Address {
+const ADDRESS: Address = Address {
     vl: VlId(1),
     system_id: 1,
     partition: 1,
@@ -19,7 +19,7 @@ pub(crate) const ADDRESS: Address = Address {
 const LETTERS: [u8; 1471] = [0x61; 1471];
 
 /// The frame of link 1 with this payload. Where memory was refused once, the next call builds it.
-pub(crate) fn built(
+fn built(
     alloc: Global,
     address: &Address,
     number: u8,
@@ -33,19 +33,6 @@ pub(crate) fn built(
         Ok(frame) => Ok(frame),
         Err(AllocError) => build(alloc, address, number, side, payload),
     }
-}
-
-/// The length of the frame of the first `len` letters.
-fn built_length(
-    alloc: Global,
-    address: &Address,
-    side: Side,
-    len: usize,
-) -> Result<usize, AllocError>
-    requires least { (64 ≤ address.now.least) × (address.now.least ≤ 1518) }
-    requires payload { (1 ≤ len) × (len ≤ 1471) }
-{
-    Ok(built(alloc, address, 7, side, &LETTERS[..len])?.len())
 }
 
 /// Whether the frame of `hello` with number 0 is built as this one.
@@ -118,34 +105,6 @@ fn builds_both_in_the_place_of_others_or_is_refused(rt: HostRuntime) -> Result<(
         frames = both_in(rt.alloc(), frames, len)?;
         let as_built = are_as_built(rt.alloc(), frames.0.as_slice(), frames.1.as_slice(), len)?;
         assert!(rt; as_built);
-    }
-    Ok(())
-}
-
-#[test]
-fn builds_lengths(rt: HostRuntime) -> Result<(), Fail> {
-    let alloc = rt.alloc();
-    let longer = Address {
-        least: 100,
-        ..ADDRESS
-    };
-    let lengths = [
-        built_length(alloc, &ADDRESS, Side::A, 1)?,
-        built_length(alloc, &ADDRESS, Side::A, 17)?,
-        built_length(alloc, &ADDRESS, Side::A, 18)?,
-        built_length(alloc, &ADDRESS, Side::B, 1471)?,
-        built_length(alloc, &longer, Side::B, 1)?,
-    ];
-    equal(lengths, [64, 64, 65, 1518, 100])
-}
-
-/// Where memory is there, a payload of each length has its frame: want of memory is no answer to a
-/// length.
-#[test]
-fn builds_each_length(rt: HostRuntime) -> Result<(), Fail> {
-    for len in 1..1472_usize {
-        let length = built_length(rt.alloc(), &ADDRESS, Side::A, len)?;
-        equal(length, (len + 47).max(64))?;
     }
     Ok(())
 }

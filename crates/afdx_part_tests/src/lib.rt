@@ -1,6 +1,5 @@
-//! Tests of what a run stands on: frames, policing, output ports, configurations, admission,
-//! bounds, lists, two lists at once, what came in and left by recordings, lines of the output, and
-//! what explains a line. And of what a recorded switch shows.
+//! Tests of what a run stands on: what no command of the program shows, what a call does that is
+//! refused memory and made again, and of each crate one thing that it does.
 #![tactic(auto)]
 
 #[cfg(test)]
@@ -18,15 +17,9 @@ mod config;
 #[cfg(test)]
 mod conform;
 #[cfg(test)]
-mod departures;
-#[cfg(test)]
 mod explain;
 #[cfg(test)]
-mod fields;
-#[cfg(test)]
 mod frame;
-#[cfg(test)]
-mod growing;
 #[cfg(test)]
 mod lists;
 #[cfg(test)]
@@ -36,11 +29,7 @@ mod port;
 #[cfg(test)]
 mod recordings;
 #[cfg(test)]
-mod seen_recordings;
-#[cfg(test)]
 mod solve;
-#[cfg(test)]
-mod streams;
 #[cfg(test)]
 mod text;
 #[cfg(test)]

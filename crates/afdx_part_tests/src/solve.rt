@@ -1,11 +1,10 @@
-//! The least values of the base network.
-
-mod switches;
+//! The least values of the base network, and texts of tables. More is tried at the program
+//! (tests/program/solve.sh, tests/run/solving.py, cascade_solving.py).
 
 use afdx_admit::{AdmitFault, Admitted};
-use afdx_config::{KeptKeys, Tables, Times, ToSolve, read_file_to_solve, read_to_solve};
-use afdx_samples::{base, changed, equal, read};
-use afdx_solve::{SolveOptions, config_text, solve};
+use afdx_config::{Described, KeptKeys, Tables, Times, read_file, read_to_solve};
+use afdx_samples::{base, equal, read, two_switches};
+use afdx_solve::{SolveOptions, cascade_text, config_text, solve};
 use std::alloc::Global;
 use std::test::Fail;
 
@@ -71,32 +70,6 @@ fn the_base_network(rt: HostRuntime) -> Result<(), Fail> {
     equal(solved(rt.alloc(), base(), FREE)?, (176, Some(LEAST), None))
 }
 
-#[test]
-fn a_network_without_a_buffer(rt: HostRuntime) -> Result<(), Fail> {
-    let text = changed(base(), "buffer = 252", "")?;
-    equal(
-        solved(rt.alloc(), text.as_str(), FREE)?,
-        (176, Some(LEAST), None),
-    )
-}
-
-#[test]
-fn raised_keys(rt: HostRuntime) -> Result<(), Fail> {
-    let options = SolveOptions {
-        raise_only: true,
-        ..FREE
-    };
-    let times = Times {
-        jitter_us: 500,
-        latency_us: 17,
-        skew_us: 1000,
-    };
-    equal(
-        solved(rt.alloc(), base(), options)?,
-        (252, Some(times), None),
-    )
-}
-
 /// Whether the text of the base tables spells them, as its first line says.
 fn is_written(alloc: Global) -> Result<bool, Fail> {
     let tables = read(alloc, base())?;
@@ -114,20 +87,18 @@ fn a_text_of_tables(rt: HostRuntime) -> Result<(), Fail> {
     equal(is_written(rt.alloc())?, true)
 }
 
-/// The latencies that the links of the base network ask for, where the first has none.
-fn asked_latencies(alloc: Global) -> Result<(usize, Option<u64>, Option<u64>), Fail> {
-    let text = changed(base(), "latency_us = 17", "")?;
-    let text = changed(text.as_str(), "latency_us = 21", "latency_us = 100001")?;
-    let Ok(ToSolve::One(_, asked)) = read_file_to_solve(alloc, text.as_bytes(), FREE.kept) else {
+/// Whether the text of the switches that a text describes is this text itself.
+fn is_written_alike(alloc: Global, text: &str) -> Result<bool, Fail> {
+    let Ok(Described::Several(switches)) = read_file(alloc, text.as_bytes()) else {
         return Err("the text is refused".into());
     };
-    match asked.as_slice() {
-        [first, second] => Ok((2, *first, *second)),
-        others => Ok((others.len(), None, None)),
-    }
+    let Ok(written) = cascade_text(alloc, &switches) else {
+        return Err("no memory".into());
+    };
+    Ok(written.as_str() == text)
 }
 
 #[test]
-fn latencies_as_they_stand_in_a_text(rt: HostRuntime) -> Result<(), Fail> {
-    equal(asked_latencies(rt.alloc())?, (2, None, Some(100_001)))
+fn two_switches_are_written_as_they_stand(rt: HostRuntime) -> Result<(), Fail> {
+    equal(is_written_alike(rt.alloc(), two_switches())?, true)
 }

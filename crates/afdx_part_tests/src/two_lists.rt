@@ -1,11 +1,12 @@
-//! Two lists that are read at once: which frames are told, and where that stops.
+//! Two lists that are read at once: which frames are told, and where that stops. Their faults are
+//! tried at the program (tests/run/conformance.py, devices.py).
 
 ghost use Rattle.std.specs.Prelude.{◌<◌};
 
 use afdx_engine::Machine;
 use afdx_inputs::{Seen, run_two_lists};
 use afdx_lists::{ByRole, FrameKind, ListFault, Role, RunFault, Watched};
-use afdx_samples::{WeakReader, all_right, equal};
+use afdx_samples::{all_right, equal};
 use afdx_text::{OutLine, Output, Sink, Site};
 use std::alloc::{AllocError, Global};
 use std::io::Read;
@@ -13,7 +14,7 @@ use std::test::Fail;
 
 /// Tells each frame by two lines: its list and its number, and the frame itself.
 #[derive(Drop)]
-pub struct Noting;
+struct Noting;
 
 impl Machine<Seen> for Noting {
     ghost Rules = { Unit {0} };
@@ -82,7 +83,7 @@ fn told<R: Read + Drop>(
 /// Two lists, what a run over them answers, and what it writes.
 type Row = (&'static str, &'static str, Answer, &'static str);
 
-const ROWS: [Row; 9] = [
+const ROWS: [Row; 2] = [
     (
         "R 0 A 1 00\n# a remark\nR 7 B 2 01\n",
         "R 3 A 4 02\nR 7 A 5 03\nR 9 B 24 04\n",
@@ -90,38 +91,11 @@ const ROWS: [Row; 9] = [
         "# came 1\nR 0 A 1 00\n# left 1\nR 3 A 4 02\n# came 3\nR 7 B 2 01\n\
         # left 2\nR 7 A 5 03\n# left 3\nR 9 B 24 04\n",
     ),
-    ("", "", Ok((0, 0)), ""),
-    ("", "R 1 A 1 00", Ok((0, 1)), "# left 1\nR 1 A 1 00\n"),
-    ("R 1 A 1 00\n\n", "", Ok((2, 0)), "# came 1\nR 1 A 1 00\n"),
     (
         "R 0 A 1 00\nR 9 A 1 01\n",
         "R 3 A 3 02\nbad\n",
         Err(RunFault::ListOfLeft(ListFault::BadLine(2))),
         "# came 1\nR 0 A 1 00\n# left 1\nR 3 A 3 02\n",
-    ),
-    (
-        "R 0 A 25 00\n",
-        "bad\n",
-        Err(RunFault::ListOfCame(ListFault::BadPort(1))),
-        "",
-    ),
-    (
-        "R 5 A 1 00\nR 4 A 1 01\n",
-        "R 5 A 1 02\nR 3 A 1 03\n",
-        Err(RunFault::ListOfCame(ListFault::TimeBack(2))),
-        "# came 1\nR 5 A 1 00\n",
-    ),
-    (
-        "R 5 A 1 00\n",
-        "R 6 A 1 0\n",
-        Err(RunFault::ListOfLeft(ListFault::BadHex(1))),
-        "",
-    ),
-    (
-        "R 5 A 1 00\n",
-        "R 6 A 1 00\nR 1000000000000001 A 1 00\n",
-        Err(RunFault::ListOfLeft(ListFault::TimeTooLarge(2))),
-        "# came 1\nR 5 A 1 00\n# left 1\nR 6 A 1 00\n",
     ),
 ];
 
@@ -146,39 +120,4 @@ fn after_a_fault_no_list_is_asked(rt: HostRuntime) -> Result<(), Fail> {
     let (answer, _, asked) = told(rt.alloc(), b"bad\n".as_slice(), b"R 1 A 1 00\n".as_slice())?;
     let fault = RunFault::ListOfCame(ListFault::BadLine(1));
     equal((answer, asked), (Err(fault), (1, 0)))
-}
-
-/// A list that fails once so many calls went well, a byte each.
-fn weak(list: &str, calls: u64) -> WeakReader<'_> {
-    WeakReader {
-        rest: list.as_bytes(),
-        most: 1,
-        calls,
-    }
-}
-
-#[test]
-fn a_device_fails(rt: HostRuntime) -> Result<(), Fail> {
-    let came = weak("R 0 A 1 00\nR 2 A 1 01\n", 99);
-    let left = weak("R 1 A 3 02\nR 3 A 3 03\n", 11);
-    let (answer, written, _) = told(rt.alloc(), came, left)?;
-    let text = b"# came 1\nR 0 A 1 00\n# left 1\nR 1 A 3 02\n".as_slice();
-    equal((answer, written.as_slice()), (Err(RunFault::Read), text))
-}
-
-#[test]
-fn a_run_may_be_refused(rt: HostRuntime) -> Result<(), Fail> {
-    for _ in 0..2_u32 {
-        match told(rt.alloc(), b"R 0 A 1 00\n".as_slice(), b"".as_slice()) {
-            Ok((Ok(lines), written, _)) => {
-                return equal(
-                    (lines, written.as_slice()),
-                    ((1, 0), b"# came 1\nR 0 A 1 00\n".as_slice()),
-                );
-            }
-            Ok((Err(RunFault::Memory | RunFault::Write), _, _)) | Err(_) => {}
-            Ok((Err(fault), _, _)) => return Err(fault.into()),
-        }
-    }
-    Err("each try was refused".into())
 }

@@ -1,15 +1,15 @@
-//! Ports of a small network, filled and read.
+//! Ports of a small network, filled and read. No command leaves messages in them.
 
 use afdx_comport::{ComPorts, PutFault};
 use afdx_config::{SystemId, Tables};
 use afdx_frame::VlId;
-use afdx_samples::{GREATEST_COUNT, all_right, base_tables, equal, largest_tables};
+use afdx_samples::{all_right, base_tables};
 use std::alloc::{AllocError, Global};
 use std::process::Abort;
 use std::test::Fail;
 
-/// Of all growths one alone may be refused in these tests, but for those of the largest tables: a
-/// call that is refused memory is made again.
+/// Of all growths one alone may be refused in these tests: a call that is refused memory is made
+/// again.
 fn new_ports(alloc: Global, tables: &Tables, system: SystemId) -> Result<ComPorts, AllocError> {
     match ComPorts::new(alloc, tables, system) {
         Err(_) => ComPorts::new(alloc, tables, system),
@@ -164,6 +164,19 @@ fn refused_put_leaves_the_sample(rt: HostRuntime) -> Result<(), Fail> {
     all_right(wrong_step(&rt, &mut ports, steps.as_slice())?)
 }
 
+#[test]
+fn each_port_by_itself(rt: HostRuntime) -> Result<(), Fail> {
+    let steps = [
+        Step::Sample(5, 1),
+        Step::Queue(2),
+        Step::Shows(5, 1),
+        Step::Takes(2),
+        Step::Shows(5, 1),
+    ];
+    let mut ports = base_ports(rt.alloc())?;
+    all_right(wrong_step(&rt, &mut ports, steps.as_slice())?)
+}
+
 /// Whether the message is put to the queue of link 2, taken out of it and given back.
 fn passes(rt: &impl Abort, ports: &mut ComPorts, message: &[u8]) -> bool {
     if put_queued(rt, ports, message).is_err() {
@@ -187,68 +200,4 @@ fn given_back_room_holds_the_next_message(rt: HostRuntime) -> Result<(), Fail> {
         assert!(rt; passes(&rt, &mut ports, message));
     }
     Ok(())
-}
-
-/// Whether no port takes messages to this UDP port on this link, wherever it is looked for first.
-fn has_none(ports: &ComPorts, link: u16, udp: u16) -> bool {
-    ports.find(VlId(link), udp).is_none() && ports.find_near(0, VlId(link), udp).is_none()
-}
-
-#[test]
-fn each_port_by_itself(rt: HostRuntime) -> Result<(), Fail> {
-    let mut ports = base_ports(rt.alloc())?;
-    let none = (
-        has_none(&ports, 1, 2000),
-        has_none(&ports, 2, 1000),
-        has_none(&ports, 3, 1000),
-    );
-    equal(none, (true, true, true))?;
-    let steps = [
-        Step::Sample(5, 1),
-        Step::Queue(2),
-        Step::Shows(5, 1),
-        Step::Takes(2),
-        Step::Shows(5, 1),
-    ];
-    all_right(wrong_step(&rt, &mut ports, steps.as_slice())?)
-}
-
-/// Whether a link has its port at the place of its number, by its identifier alone, and wherever it
-/// is looked for first: at its row, at the next, or at a row that isn't there.
-fn is_in_order(ports: &ComPorts, vl: u16) -> bool {
-    let place = Some(usize::from(vl));
-    ports.find(VlId(vl), 1000) == place
-        && ports.find_near(vl, VlId(vl), 1000) == place
-        && ports.find_near(vl.saturating_add(1), VlId(vl), 1000) == place
-        && ports.find_near(u16::MAX, VlId(vl), 1000) == place
-}
-
-/// How many links have their port at the place of their number.
-fn links_in_order(ports: &ComPorts) -> usize {
-    let mut links: usize = 0;
-    for vl in 0..GREATEST_COUNT {
-        if is_in_order(ports, vl) {
-            links = links.saturating_add(1);
-        }
-    }
-    links
-}
-
-/// The second system's ports in the largest tables.
-fn largest_ports(alloc: Global) -> Result<ComPorts, Fail> {
-    let tables = largest_tables(alloc)?;
-    Ok(new_ports(alloc, &tables, SystemId(1))?)
-}
-
-#[test]
-fn the_largest_tables(rt: HostRuntime) -> Result<(), Fail> {
-    let ports = largest_ports(rt.alloc())?;
-    equal(links_in_order(&ports), usize::from(GREATEST_COUNT))?;
-    assert!(rt; has_none(&ports, GREATEST_COUNT, 1000));
-    Ok(())
-}
-
-#[test]
-fn faults_in_words() -> Result<(), Fail> {
-    equal(PutFault::Full.word(), "full")
 }

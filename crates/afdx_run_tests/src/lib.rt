@@ -1,5 +1,5 @@
-//! Tests of what takes part in a run: senders, switches, receivers, communication ports and the
-//! systems that have them, and of whole runs over text.
+//! Tests of what takes part in a run, and of whole runs: what no command of the program shows, what
+//! a call does that is refused memory and made again, and of each crate one thing that it does.
 #![tactic(auto)]
 
 #[cfg(test)]

@@ -1,5 +1,5 @@
-//! Frames that leave a switch, and what the systems tell of them. The tests pass also where any one
-//! growth is refused.
+//! What the systems tell of frames, also of some that no switch hands over. More is tried at the
+//! program (tests/program/replay.sh, tests/run/streams.py).
 
 use crate::texts::short_text;
 use afdx_config::Tables;
@@ -10,8 +10,6 @@ use afdx_samples::{HELLO, ShortText, all_right, base_tables, hello, sealed, worl
 use afdx_text::{OutLine, Text};
 use std::alloc::{AllocError, Global};
 use std::test::Fail;
-
-mod lengths;
 
 /// A frame of the list: its side, its time and its bytes. Its line is its place in the test, from
 /// 1.
@@ -139,17 +137,6 @@ fn is_told(
 }
 
 #[test]
-fn messages_of_both_kinds_of_port(rt: HostRuntime) -> Result<(), Fail> {
-    let frames = [on_a(6720, hello(0)), on_a(13440, world(0))];
-    let told = "M 6720 s3 1 68656c6c6f\nM 13440 s3 2 776f726c64\n";
-    assert!(rt; is_told(rt.alloc(), 3, frames.as_slice(), told, 2)?);
-    let frames = [on_a(6720, world(0)), on_a(13440, hello(0))];
-    let told = "M 6720 s3 2 776f726c64\nM 13440 s3 1 68656c6c6f\n";
-    assert!(rt; is_told(rt.alloc(), 3, frames.as_slice(), told, 2)?);
-    Ok(())
-}
-
-#[test]
 fn refused_telling_is_begun_again(rt: HostRuntime) -> Result<(), Fail> {
     let frames = [
         on_a(1, hello(0)),
@@ -162,121 +149,6 @@ fn refused_telling_is_begun_again(rt: HostRuntime) -> Result<(), Fail> {
         M 4 s3 2 776f726c64\nM 5 s3 2 776f726c64\n";
     assert!(rt; is_told(rt.alloc(), 3, frames.as_slice(), told, 4)?);
     Ok(())
-}
-
-#[test]
-fn a_copy_is_redundant(rt: HostRuntime) -> Result<(), Fail> {
-    let frames = [on_a(6720, hello(0)), on_b(6720, hello(0))];
-    let told = "M 6720 s3 1 68656c6c6f\nX 6720 s3 2 redundant\n";
-    assert!(rt; is_told(rt.alloc(), 3, frames.as_slice(), told, 1)?);
-    Ok(())
-}
-
-/// The numbers of three frames, the time of the last one, what is told of them, and how many
-/// messages are delivered.
-type Numbered = ([u8; 3], u64, &'static str, u64);
-
-/// Whether the row is told as it should be.
-fn is_numbered(alloc: Global, row: &Numbered) -> Result<bool, Fail> {
-    let ([first, second, third], last, told, delivered) = *row;
-    let frames = [
-        on_a(6720, hello(first)),
-        on_a(1_006_720, hello(second)),
-        on_a(last, hello(third)),
-    ];
-    is_told(alloc, 3, frames.as_slice(), told, delivered)
-}
-
-/// The numbers of the first row that isn't told as it should be.
-fn wrongly_numbered(alloc: Global, rows: &[Numbered]) -> Result<Option<[u8; 3]>, Fail> {
-    for row in rows {
-        if !is_numbered(alloc, row)? {
-            return Ok(Some(row.0));
-        }
-    }
-    Ok(None)
-}
-
-#[test]
-fn numbers(rt: HostRuntime) -> Result<(), Fail> {
-    let rows = [
-        (
-            [5, 8, 9],
-            2_006_720,
-            "M 6720 s3 1 68656c6c6f\nX 1006720 s3 2 sequence\nM 2006720 s3 1 68656c6c6f\n",
-            2,
-        ),
-        (
-            [254, 255, 1],
-            2_006_720,
-            "M 6720 s3 1 68656c6c6f\nM 1006720 s3 1 68656c6c6f\nM 2006720 s3 1 68656c6c6f\n",
-            3,
-        ),
-        (
-            [4, 4, 5],
-            2_006_720,
-            "M 6720 s3 1 68656c6c6f\nX 1006720 s3 2 sequence\nM 2006720 s3 1 68656c6c6f\n",
-            2,
-        ),
-        (
-            [3, 0, 0],
-            1_006_721,
-            "M 6720 s3 1 68656c6c6f\nX 1006720 s3 2 redundant\nM 1006721 s3 1 68656c6c6f\n",
-            2,
-        ),
-    ];
-    all_right(wrongly_numbered(rt.alloc(), rows.as_slice())?)
-}
-
-/// Bytes of `hello` with their places, and what is told of the frame then.
-type Changed = ([(usize, u8); 3], &'static str);
-
-/// Whether the changed frame is told so, and no message is delivered.
-fn is_dropped(alloc: Global, row: &Changed) -> Result<bool, Fail> {
-    let (changes, line) = row;
-    let frames = [on_a(6720, sealed(&HELLO, changes.as_slice()))];
-    is_told(alloc, 3, frames.as_slice(), line, 0)
-}
-
-/// What should be told in the first of the rows where it isn't, or where a message is delivered.
-fn wrongly_dropped(alloc: Global, rows: &[Changed]) -> Result<Option<&'static str>, Fail> {
-    for row in rows {
-        if !is_dropped(alloc, row)? {
-            return Ok(Some(row.1));
-        }
-    }
-    Ok(None)
-}
-
-#[test]
-fn words_of_frames_that_won(rt: HostRuntime) -> Result<(), Fail> {
-    let rows = [
-        (
-            [(13, 0x06), (13, 0x06), (13, 0x06)],
-            "X 6720 s3 1 not-ipv4\n",
-        ),
-        (
-            [(25, 0xeb), (25, 0xeb), (25, 0xeb)],
-            "X 6720 s3 1 bad-ip-header\n",
-        ),
-        (
-            [(20, 0x20), (24, 0xad), (25, 0xea)],
-            "X 6720 s3 1 fragment\n",
-        ),
-        (
-            [(23, 0x01), (24, 0xcd), (25, 0xfa)],
-            "X 6720 s3 1 not-udp\n",
-        ),
-        (
-            [(39, 0x0c), (39, 0x0c), (39, 0x0c)],
-            "X 6720 s3 1 bad-udp-length\n",
-        ),
-        (
-            [(37, 0xe9), (37, 0xe9), (37, 0xe9)],
-            "X 6720 s3 1 no-port\n",
-        ),
-    ];
-    all_right(wrongly_dropped(rt.alloc(), rows.as_slice())?)
 }
 
 #[test]
@@ -311,11 +183,7 @@ fn each_port_has_its_system(rt: HostRuntime) -> Result<(), Fail> {
     let rows = [
         (0, "", 0),
         (1, "X 0 s1 1 not-subscribed\n", 0),
-        (2, "X 0 s2 1 not-subscribed\n", 0),
         (3, "M 0 s3 1 68656c6c6f\n", 1),
-        (4, "", 0),
-        (24, "", 0),
-        (25, "", 0),
         (255, "", 0),
     ];
     let frames = [on_a(0, hello(0))];

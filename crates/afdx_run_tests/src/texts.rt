@@ -13,10 +13,3 @@ pub fn shown(bytes: &[u8]) -> &str {
 pub fn short_text(bytes: &[u8]) -> Result<ShortText, Fail> {
     Ok(ShortText::from(shown(bytes))?)
 }
-
-/// Adds a line. Fails where the text has no room for it.
-pub fn push_line(text: &mut ShortText, line: &str) -> Result<(), Fail> {
-    text.try_push_str(line)?;
-    text.try_push_str("\n")?;
-    Ok(())
-}

@@ -2,13 +2,9 @@
 
 use afdx_admit::{Admitted, admit};
 use afdx_config::{ConfigFault, Tables, read_tables};
-use afdx_frame::LAST_PORT;
 use arrayvec::ArrayString;
-use std::alloc::{AllocError, Global};
+use std::alloc::Global;
 use std::test::Fail;
-
-/// The greatest number of links, and of communication ports.
-pub const GREATEST_COUNT: u16 = 4096;
 
 /// A high link from the first system to the third and a low one from the second, with a port there
 /// for each.
@@ -110,65 +106,6 @@ fn joined(front: &str, middle: &str, back: &str) -> Result<ShortText, Fail> {
 pub fn changed(text: &str, old: &str, new: &str) -> Result<ShortText, Fail> {
     let (front, back) = text.split_once(old).ok_or("nothing to change")?;
     joined(front, new, back)
-}
-
-/// Puts the text with the number in the place of each `#`.
-fn push_numbered(
-    alloc: Global,
-    text: &mut String,
-    piece: &str,
-    number: u16,
-) -> Result<(), AllocError> {
-    let mut digits = String::new(alloc);
-    write!(digits, "{number}")?;
-    let numbered = piece.replace(alloc, "#", digits.as_str())?;
-    text.push_str(numbered.as_str())
-}
-
-/// The entry of a system, with `#` in the places of its number.
-const SYSTEM: &str = "\
-[[system]]\nname = \"s#\"\nport = #\nid = #\npartition = 1\nrate = 100\n";
-
-/// That of a link from the first system, with `OTHERS` in the place of the others.
-const LINK: &str = "\
-[[link]]\nvl = #\nfrom = \"s1\"\nto = [OTHERS]\nbag_ms = 1\nlmin = 64\nlmax = 64\njitter_us = 500\n\
-priority = \"high\"\npolicing = \"frame\"\nlatency_us = 17\nskew_us = 1000\nsubs = 2\n";
-
-/// That of a port of the second system for a link.
-const PORT: &str = "\
-[[port]]\nsystem = \"s2\"\nlink = #\nudp = 1000\nkind = \"sampling\"\ndepth = 1\n";
-
-/// The entry of a link from the first system to all others, of no number yet.
-fn link_to_all(alloc: Global) -> Result<String, AllocError> {
-    let mut others = String::new(alloc);
-    for place in 2..=u16::from(LAST_PORT) {
-        push_numbered(alloc, &mut others, "\"s#\",", place)?;
-    }
-    LINK.replace(alloc, "OTHERS", others.as_str())
-}
-
-/// The text of the largest tables: 24 systems, 4,096 links from the first to all others, and for
-/// each of them a port of the second.
-pub fn largest(alloc: Global) -> Result<String, AllocError> {
-    let link = link_to_all(alloc)?;
-    let mut text = String::new(alloc);
-    text.push_str("profile = 1\nbuffer = 252\n")?;
-    for place in 1..=u16::from(LAST_PORT) {
-        push_numbered(alloc, &mut text, SYSTEM, place)?;
-    }
-    for vl in 0..GREATEST_COUNT {
-        push_numbered(alloc, &mut text, link.as_str(), vl)?;
-    }
-    for vl in 0..GREATEST_COUNT {
-        push_numbered(alloc, &mut text, PORT, vl)?;
-    }
-    Ok(text)
-}
-
-/// The largest tables.
-pub fn largest_tables(alloc: Global) -> Result<Tables, Fail> {
-    let text = largest(alloc)?;
-    Ok(read(alloc, text.as_str())?)
 }
 
 /// The tables of a text, admitted. Fails where they can't be read, or aren't admitted.

@@ -53,15 +53,6 @@ pub fn hello(number: u8) -> [u8; 64] {
     sealed(&HELLO, &[(NUMBER, number)])
 }
 
-/// The frame `hello` of 65 bytes, with a byte of padding more.
-pub fn longer_hello() -> [u8; 65] {
-    [
-        3, 0, 0, 0, 0, 1, 2, 0, 0, 0, 1, 0x20, 8, 0, 0x45, 0, 0, 0x21, 0, 0, 0, 0, 1, 0x11, 0xcd,
-        0xea, 0x0a, 0, 1, 1, 0xe0, 0xe0, 0, 1, 3, 0xe8, 3, 0xe8, 0, 0x0d, 0, 0, 0x68, 0x65, 0x6c,
-        0x6c, 0x6f, 0, 0, 0, 0, 0, 0, 0, 0, 0, 0, 0, 0, 0, 0, 0x51, 3, 0x36, 0x52,
-    ]
-}
-
 /// The frame `world` with this number.
 pub fn world(number: u8) -> [u8; 64] {
     sealed(&WORLD, &[(NUMBER, number)])

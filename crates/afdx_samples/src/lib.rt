@@ -10,9 +10,7 @@ mod rows;
 mod weak;
 
 pub use cascades::two_switches;
-pub use configurations::{
-    GREATEST_COUNT, ShortText, admitted, base, base_tables, changed, largest, largest_tables, read,
-};
-pub use frames::{HELLO, NUMBER, hello, longer_hello, sealed, spelled, world};
+pub use configurations::{ShortText, admitted, base, base_tables, changed, read};
+pub use frames::{HELLO, NUMBER, hello, sealed, spelled, world};
 pub use rows::{all_right, equal};
-pub use weak::{Break, Feeds, WeakReader, WeakWriter};
+pub use weak::{Break, WeakReader, WeakWriter};

@@ -66,24 +66,3 @@ impl Write for WeakWriter {
         Ok(())
     }
 }
-
-/// Gives so many line feeds.
-#[derive(Drop)]
-pub struct Feeds {
-    pub left: usize,
-}
-
-impl Read for Feeds {
-    ghost use Rattle.std.specs.Prelude.{None};
-
-    ghost remaining = { λ _. None };
-
-    fn read(&mut self, buf: &mut [u8]) -> io::Result<usize> {
-        let count = buf.len().min(self.left);
-        for byte in &mut buf[..count] {
-            *byte = b'\n';
-        }
-        self.left -= count;
-        Ok(count)
-    }
-}

@@ -1,6 +1,6 @@
 //! Each public item that other programs rest on, called once by its name, its arguments and what it
 //! answers, with the types written out: what no longer has its form doesn't compile here. What the
-//! calls do is tried in `afdx_part_tests` and `afdx_run_tests`.
+//! calls do is tried at the program, else in `afdx_part_tests` and `afdx_run_tests`.
 #![tactic(auto)]
 
 #[cfg(test)]

@@ -12,8 +12,7 @@ use super::switches_of;
 use afdx_cascade::{Cascade, Happened, Turned};
 use afdx_config::{SwitchId, Switches};
 use afdx_frame::{Checked, Side};
-use afdx_police::Reason;
-use afdx_samples::{all_right, changed, hello, two_switches};
+use afdx_samples::{all_right, hello, two_switches};
 use afdx_switch::Verdict;
 use std::alloc::{AllocError, Global};
 use std::test::Fail;
@@ -34,8 +33,6 @@ enum Told {
     Left(usize, u8, u64, u64),
     /// A cable brought it to a port of a switch, and there it was accepted.
     Accepted(usize, u8, u64, u64),
-    /// It was dropped there for its link's rate, so many nanoseconds too early.
-    Early(usize, u8, u64, u64, u64),
     Other,
 }
 
@@ -222,9 +219,6 @@ fn event_told(happened: &Happened) -> Told {
             if is_forwarded(brought.verdict) && brought.early == 0 {
                 return Told::Accepted(switch, port, tag, time);
             }
-            if brought.verdict == Verdict::Dropped(Reason::OverRate) {
-                return Told::Early(switch, port, tag, time, brought.early);
-            }
             Told::Other
         }
     }
@@ -306,21 +300,4 @@ fn a_frame_passes_both_switches(rt: HostRuntime) -> Result<(), Fail> {
         (1000000, Step::Rests),
     ];
     all_right(wrong_step(rt.alloc(), two_switches(), &steps)?)
-}
-
-#[test]
-fn a_frame_is_too_early_at_the_second_switch(rt: HostRuntime) -> Result<(), Fail> {
-    let text = changed(two_switches(), "jitter_us = 517", "jitter_us = 0")?;
-    let (frame, next) = (hello(0), hello(1));
-    let steps = [
-        (500000, first(1, &frame)),
-        (506720, Step::Tells(Told::Left(0, 24, 1, 506720))),
-        (506720, Step::Tells(Told::Accepted(1, 20, 1, 506720))),
-        (999999, Step::Tells(Told::Left(1, 3, 1, 513440))),
-        (1000000, first(2, &next)),
-        (2000000, Step::Tells(Told::Left(0, 24, 2, 1006720))),
-        (2000000, Step::Tells(Told::Early(1, 20, 2, 1006720, 500000))),
-        (2000000, Step::Rests),
-    ];
-    all_right(wrong_step(rt.alloc(), text.as_str(), &steps)?)
 }

@@ -1,11 +1,11 @@
-//! Whole runs between devices that move little at a time and fail.
+//! A whole run between devices that move little at a time and fail, and what they tell of it. More
+//! runs are those of the program (tests/run/devices.py).
 
-use super::rule_up_to;
-use afdx_admit::Admitted;
+use afdx_frame::{Policing, VlId};
 use afdx_police::LinkRule;
-use afdx_replay::{RunFault, Watched, run, run_police};
-use afdx_samples::{Break, WeakReader, WeakWriter, admitted, all_right, base, equal, spelled};
-use std::alloc::{AllocError, Global};
+use afdx_replay::{RunFault, Watched, run_police};
+use afdx_samples::{Break, WeakReader, WeakWriter, all_right};
+use std::alloc::Global;
 use std::test::Fail;
 
 /// Three frames that are too short, and the text of their verdicts, in lines of 21 bytes.
@@ -37,14 +37,10 @@ type Devices = ([usize; 2], [u64; 2], Break, End, usize);
 
 const MANY: u64 = 999;
 
-const ROWS: [Devices; 9] = [
-    ([99, 99], [MANY, MANY], Break::Fails, End::Well, 63),
+const ROWS: [Devices; 5] = [
     ([1, 1], [MANY, MANY], Break::Fails, End::Well, 63),
-    ([7, 5], [MANY, MANY], Break::TakesNone, End::Well, 63),
     ([99, 99], [0, MANY], Break::Fails, End::Input, 0),
-    ([11, 99], [2, MANY], Break::Fails, End::Input, 42),
     ([1, 99], [32, MANY], Break::Fails, End::Input, 42),
-    ([99, 99], [MANY, 0], Break::Fails, End::Output, 0),
     ([99, 99], [MANY, 1], Break::TakesNone, End::Output, 21),
     ([99, 5], [MANY, 7], Break::Fails, End::Output, 31),
 ];
@@ -78,37 +74,6 @@ fn wrongly_run(alloc: Global, rule: &LinkRule) -> Option<Devices> {
 
 #[test]
 fn runs_between_weak_devices(rt: HostRuntime) -> Result<(), Fail> {
-    let rule = rule_up_to(64)?;
+    let rule = LinkRule::new(VlId(1), 1, 1, 64, 64, 500, Policing::Byte).ok_or("a rule")?;
     all_right(wrongly_run(rt.alloc(), &rule))
-}
-
-/// A thousand lines.
-fn long_list(alloc: Global) -> Result<String, AllocError> {
-    let line = spelled(alloc, "F 0 A 1 H1\n")?;
-    let mut list = String::new(alloc);
-    for _ in 0..1000_u32 {
-        list.push_str(line.as_str())?;
-    }
-    Ok(list)
-}
-
-/// What a run answers whose output takes nothing, and whether the input has ended.
-fn run_to_nothing(alloc: Global, tables: &Admitted, list: &str) -> (End, bool) {
-    let mut input = Watched::new(list.as_bytes());
-    let mut output = Watched::new(WeakWriter {
-        written: Vec::new(alloc),
-        most: 1,
-        calls: 0,
-        at_end: Break::TakesNone,
-    });
-    let end = end_of(run(alloc, tables, &mut input, &mut output).err());
-    (end, input.ended())
-}
-
-#[test]
-fn a_run_stops_reading_where_its_output_takes_nothing(rt: HostRuntime) -> Result<(), Fail> {
-    let tables = admitted(rt.alloc(), base())?;
-    let list = long_list(rt.alloc())?;
-    let found = run_to_nothing(rt.alloc(), &tables, list.as_str());
-    equal(found, (End::Output, false))
 }

@@ -1,8 +1,8 @@
 //! Tables of steps: what is done with a sender at a time, and what must come of it.
 
-ghost use Rattle.std.specs.Prelude.{◌≡◌, ◌+◌, ◌<◌, ◌≤◌, IfOk, IfSome, IfNone, IsTrue};
+ghost use Rattle.std.specs.Prelude.{◌≡◌, ◌<◌, ◌≤◌, IfOk, IfNone, IsTrue};
 ghost use Rattle.afdx_frame.specs.Times.{latest_listed};
-ghost use Rattle.afdx_send.specs.Sender.{IsQuiet, last_time, frames_held};
+ghost use Rattle.afdx_send.specs.Sender.{IsQuiet, last_time};
 
 use afdx_admit::Admitted;
 use afdx_config::SystemId;
@@ -21,14 +21,8 @@ pub enum Step {
     /// Nothing has to be emitted any more; then a message is submitted to a link and a sub-VL, with
     /// this answer.
     Submits(u16, u8, &'static str, Result<(), SendFault>),
-    /// So a message is submitted again and again, this many times, and is taken each time.
-    Repeats(u64, u16, u8, &'static str),
     /// By then a message of link 1 is emitted: the end of its slot, its number, its one byte.
     Emits(u64, u8, u8),
-    /// By then this many are emitted, the last at this time, and nothing more.
-    Drains(u64, u64),
-    /// Nothing is emitted by then.
-    Rests,
 }
 
 /// A frame of a message of one byte of link 1, without its check sequence.
@@ -45,8 +39,6 @@ fn emit(sender: &mut Sender, until: u64) -> Result<Option<Emission>, AllocError>
     requires clock { last_time sender.old ≤ until }
     ensures clock { last_time sender.new ≡ until }
     ensures quiet { IfOk result (λ e. IfNone e (IsQuiet sender.new until)) }
-    ensures held { IfOk result (λ e.
-        IfSome e (λ _. frames_held sender.new + 1 ≡ frames_held sender.old)) }
 {
     match sender.emit(until) {
         Ok(emission) => Ok(emission),
@@ -98,26 +90,6 @@ fn answers(
     }
 }
 
-/// Whether a message is taken that often.
-fn repeats(
-    sender: &mut Sender,
-    time: u64,
-    count: u64,
-    vl: u16,
-    sub: u8,
-    payload: &[u8],
-) -> Result<bool, AllocError>
-    requires { last_time sender.old ≤ time }
-    ensures { last_time sender.new ≤ time }
-{
-    for _ in 0..count {
-        if !answers(sender, time, vl, sub, payload, Ok(()))? {
-            return Ok(false);
-        }
-    }
-    Ok(true)
-}
-
 /// Whether this is the frame of a message for a network.
 fn is_frame(frame: &[u8], network: u8, number: u8, payload: u8) -> bool {
     let changes = [(11, network), (42, payload), (NUMBER, number)];
@@ -148,18 +120,6 @@ fn emits(
     }
 }
 
-/// Whether this many are emitted by then, the last at this time.
-fn drains(sender: &mut Sender, until: u64, count: u64, last: u64) -> Result<bool, AllocError>
-    requires { last_time sender.old ≤ until }
-    ensures { last_time sender.new ≤ until }
-{
-    let mut emitted = (0_u64, 0);
-    while let Some(emission) = emit(sender, until)? {
-        emitted = (emitted.0.saturating_add(1), emission.time);
-    }
-    Ok(emitted == (count, last))
-}
-
 /// Whether a step at this time comes out as it must.
 fn comes_out(sender: &mut Sender, time: u64, step: Step) -> Result<bool, AllocError>
     requires { last_time sender.old ≤ time }
@@ -169,12 +129,7 @@ fn comes_out(sender: &mut Sender, time: u64, step: Step) -> Result<bool, AllocEr
         Step::Submits(vl, sub, payload, answer) => {
             answers(sender, time, vl, sub, payload.as_bytes(), answer)
         }
-        Step::Repeats(count, vl, sub, payload) => {
-            repeats(sender, time, count, vl, sub, payload.as_bytes())
-        }
         Step::Emits(end, number, payload) => emits(sender, time, end, number, payload),
-        Step::Drains(count, last) => drains(sender, time, count, last),
-        Step::Rests => rests(sender, time),
     }
 }
 

@@ -7,7 +7,7 @@ ghost use Rattle.afdx_switch.specs.Switching.{IsQuiet, last_time};
 use afdx_config::Tables;
 use afdx_police::Reason;
 use afdx_samples::read;
-use afdx_switch::{PortSet, Switch, Verdict};
+use afdx_switch::{Switch, Verdict};
 use std::alloc::{AllocError, Global};
 use std::test::Fail;
 
@@ -16,8 +16,6 @@ use std::test::Fail;
 pub enum Fate {
     /// It is accepted, and no copy of it is lost.
     Forwarded,
-    /// It is accepted, and its copy is lost at this port alone.
-    LostAt(u8),
     /// It is dropped for this.
     Dropped(Reason),
 }
@@ -27,15 +25,8 @@ pub enum Fate {
 pub enum Step<'a> {
     /// Nothing has to leave any more; then a frame arrives at a port, with a tag.
     Comes(u8, u64, &'a [u8], Fate),
-    /// So a frame arrives again and again, with the tags from one to another, and is dropped for
-    /// its link's rate each time.
-    Babbles(u8, u64, u64, &'a [u8]),
     /// A frame leaves by then: its tag, its time and its port.
     Leaves(u64, u64, u8),
-    /// The same, and the frame.
-    Brings(u64, u64, u8, &'a [u8]),
-    /// The tag, the time and the port of a frame that is dropped as too old.
-    TooOld(u64, u64, u8),
     /// Nothing leaves by then.
     Rests,
 }
@@ -77,21 +68,10 @@ fn arrive_surely(
     }
 }
 
-/// Whether these ports are this one alone.
-fn is_alone(lost: PortSet, port: u8) -> bool {
-    for other in 0..26_u8 {
-        if lost.holds(other) != (other == port) {
-            return false;
-        }
-    }
-    !lost.is_empty()
-}
-
 /// Whether a verdict means that fate.
 fn means(verdict: Verdict, fate: Fate) -> bool {
     match (verdict, fate) {
         (Verdict::Accepted { lost }, Fate::Forwarded) => lost.is_empty(),
-        (Verdict::Accepted { lost }, Fate::LostAt(port)) => is_alone(lost, port),
         (Verdict::Dropped(reason), Fate::Dropped(wanted)) => reason == wanted,
         _ => false,
     }
@@ -126,34 +106,6 @@ fn meets(
     Ok(means(verdict, fate))
 }
 
-/// Whether a frame that arrives with each of these tags is dropped for its link's rate.
-fn babbles(
-    switch: &mut Switch,
-    time: u64,
-    port: u8,
-    first: u64,
-    last: u64,
-    frame: &[u8],
-) -> Result<bool, AllocError>
-    requires limit { time ≤ latest_put }
-    requires clock { last_time switch.old ≤ time }
-    ensures { last_time switch.new ≤ time }
-{
-    for tag in first..=last {
-        if !meets(
-            switch,
-            time,
-            port,
-            tag,
-            frame,
-            Fate::Dropped(Reason::OverRate),
-        )? {
-            return Ok(false);
-        }
-    }
-    Ok(true)
-}
-
 /// What leaves by `until`: its tag, its time, its port and whether it was too old.
 fn left(switch: &mut Switch, until: u64) -> Option<(u64, u64, u8, bool)>
     requires { last_time switch.old ≤ until }
@@ -161,30 +113,6 @@ fn left(switch: &mut Switch, until: u64) -> Option<(u64, u64, u8, bool)>
 {
     let gone = switch.take(until)?;
     Some((gone.tag(), gone.time(), gone.port(), gone.too_old()))
-}
-
-/// Whether this is the row of a frame's link in tables whose links have the identifiers from 1 on.
-fn is_row_of(row: u16, frame: &[u8]) -> bool {
-    match frame.get(5) {
-        Some(vl) => u16::from(*vl) == row.saturating_add(1),
-        None => false,
-    }
-}
-
-/// Whether what leaves by `until` is this frame, with this tag, at this time and port.
-fn brings(switch: &mut Switch, until: u64, left: (u64, u64, u8), frame: &[u8]) -> bool
-    requires { last_time switch.old ≤ until }
-    ensures { last_time switch.new ≡ until }
-{
-    match switch.take(until) {
-        Some(gone) => {
-            let bytes = gone.bytes();
-            (gone.tag(), gone.time(), gone.port()) == left
-                && is_row_of(gone.row(), frame)
-                && bytes.as_slice() == frame
-        }
-        None => false,
-    }
 }
 
 /// Whether a step at this time comes out as it must.
@@ -195,12 +123,7 @@ fn comes_out(switch: &mut Switch, time: u64, step: &Step<'_>) -> Result<bool, Al
 {
     match *step {
         Step::Comes(port, tag, frame, fate) => meets(switch, time, port, tag, frame, fate),
-        Step::Babbles(port, first, last, frame) => {
-            babbles(switch, time, port, first, last, frame)
-        }
         Step::Leaves(tag, end, port) => Ok(left(switch, time) == Some((tag, end, port, false))),
-        Step::Brings(tag, end, port, frame) => Ok(brings(switch, time, (tag, end, port), frame)),
-        Step::TooOld(tag, end, port) => Ok(left(switch, time) == Some((tag, end, port, true))),
         Step::Rests => Ok(rests(switch, time)),
     }
 }
