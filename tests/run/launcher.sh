@@ -28,7 +28,8 @@ printf '#!/bin/sh\necho glibc 2.36\n' >"$room/machine/getconf"
 chmod +x "$room"/machine/*
 printf 'low: toml\ntests: afdx low\nafdx: low clap\n' >"$room/house/crates.txt"
 # An rt that says what one says. Where the file SLOW is there it works, and then waits, until the
-# launcher has said what it says meanwhile, up to two minutes each.
+# launcher has said what it says meanwhile, up to two minutes each. Where TAKEN is there it waits for
+# another checkout, and takes over what that built.
 cat >"$room/kit/rt" <<'RT'
 #!/usr/bin/env bash
 until_said() { # LINE : a pattern
@@ -39,6 +40,15 @@ until_said() { # LINE : a pattern
 }
 echo "$(basename "$PWD"): $1" >>"$CALLS"
 [[ ! -e $BROKEN ]] || { echo 'one goal is open'; exit 1; }
+if [[ -e $TAKEN ]]; then
+    printf 'rt: low: another copy of the repository is building this library; %s\n' \
+        'waiting for it, at most half an hour, to use its work' >&2
+    until_said "$WAITS"
+    echo 'rt: chose --jobs 2 for afdx'
+    until_said "$TAKES"
+    echo 'crate afdx: modules loaded=1 checked=1'
+    exit 0
+fi
 echo 'rt: chose --jobs 2 for low'
 echo 'so far: 0 of 2 functions checked; the verdict comes last'
 if [[ -e $SLOW ]]; then
@@ -56,13 +66,16 @@ printf '#!/bin/sh\necho "ran $*"\nexit 3\n' >out/afdx
 chmod +x out/afdx
 RT
 chmod +x "$room/kit/rt"
-export CALLS=$room/calls BROKEN=$room/broken SLOW=$room/slow SAID=$room/err
+export CALLS=$room/calls BROKEN=$room/broken SLOW=$room/slow TAKEN=$room/taken SAID=$room/err
 works='[1-9][0-9]*' # without the package procps nobody can say how much
 command -v ps >/dev/null || works=0
 STANDS='^afdx: 0 of 2 crates checked, after [1-9][0-9]* s; now low for [1-9][0-9]* s '
 STANDS+="($works s of processor): 0 of 2 functions checked; in a large crate that stands"
 BETWEEN='^afdx: 1 of 2 crates checked, after [1-9][0-9]* s$'
-export STANDS BETWEEN
+WAITS='^afdx: 0 of 2 crates checked, after [1-9][0-9]* s; waiting for low, which another copy of the '
+WAITS+='repository builds, for [1-9][0-9]* s$'
+TAKES='^afdx: 1 of 2 crates checked, after [1-9][0-9]* s; now afdx for '
+export STANDS BETWEEN WAITS TAKES
 
 export XDG_CACHE_HOME=$room/cache
 path=$room/kit:$room/machine:$PATH
@@ -125,6 +138,14 @@ expect 'where a crate takes long it says which, how far it is, and how much work
     grep -q "$STANDS" "$room/err"
 expect 'between two crates it says how many are checked' grep -q "$BETWEEN" "$room/err"
 rm "$SLOW"
+touch "$TAKEN"
+sleep 0.01
+touch "$room/house/crates/low/src/lib.rt"
+launch check
+expect 'where another checkout builds a crate it says which it waits for' grep -q "$WAITS" "$room/err"
+expect 'what it took over from there counts as checked' grep -q "$TAKES" "$room/err"
+expect 'it is run then' [ "$status" = 3 ]
+rm "$TAKEN"
 expect 'each function of the launcher is written once' written_once
 
 # ---- the release ---------------------------------------------------------------------------
