@@ -98,9 +98,41 @@ package_tests() {
         launch dpkg-deb --field "$deb" Version
         says out "$version"
     )" "$(stat -c %s "$deb" 2>/dev/null) bytes"
+    form_tests "$deb"
     installed_tests "$deb"
     launch bin/package "$work/packages2"
     tell 'the same files give the same package' "$(cmp "$deb" "$(tail -n 1 "$work/out")" 2>&1)"
+}
+
+packaged() { # DEB FILE : its bytes
+    dpkg-deb --fsys-tarfile "$1" | tar -xO "./usr/$2"
+}
+
+# What Debian asks of a package; the program in it stays byte for byte what was proved.
+form_tests() { # DEB
+    local named
+    named=$("$python" -c 'import tomllib; [one] = tomllib.load(open("pyproject.toml", "rb"))[
+"project"]["maintainers"]; print(f"{one['"'name'"']} <{one['"'email'"']}>")')
+    launch dpkg-deb --field "$1" Maintainer
+    tell 'the maintainer of the package is the one that pyproject.toml names' "$(
+        is_status 0
+        says out "$named"
+    )"
+    packaged "$1" share/doc/afdx/changelog.gz | gzip -d >"$work/changelog"
+    tell 'the changelog of the package has the form of Debian' "$(
+        head -n 1 "$work/changelog" | grep -qx "afdx ($version) unstable; urgency=medium" ||
+            head -n 1 "$work/changelog"
+        grep -qxF -- " -- $named  $(date -R -d "@$(git log -1 --format=%ct)")" "$work/changelog" ||
+            tail -n 1 "$work/changelog"
+        if [[ $(tr -d ' \n' <"$work/changelog" | wc -c) -lt $(grep '^- ' CHANGELOG.md |
+            cut -c 3- | tr -d ' \n' | wc -c) ]]; then echo 'text is left out'; fi
+    )"
+    if ! has lintian; then
+        skip 'lintian finds nothing in the package' 'there is no lintian (apt-get install lintian)'
+        return
+    fi
+    launch lintian --allow-root --fail-on error,warning --tag-display-limit 0 "$1"
+    tell 'lintian finds nothing in the package' "$(is_status 0; cat "$work/out")"
 }
 
 refused_package_tests() {

@@ -88,13 +88,15 @@ class Several:
 @dataclass(frozen=True)
 class Config:
     """The tables of a network, as far as the tools use them. Of several switches a side a link is
-    that of the switch where it begins, and `to` and `ports` are all of its receivers."""
+    that of the switch where it begins, and `to` and `ports` are all of its receivers. `messages`
+    says which messages a link has, as far as that is known."""
 
     profile: int
     buffer: int
     systems: dict[str, System]
     links: dict[int, Link]
     several: Several | None = None
+    messages: dict[int, str] = field(default_factory=dict)
 
     @property
     def names(self) -> tuple[str, ...]:

@@ -90,6 +90,11 @@ def cell(value: object) -> str:
     return shown(str(value))
 
 
+def link_words(row: Row) -> str:
+    """The number of a row's link, and what its messages are called, where that is known."""
+    return f"{row['link']} ({row['message']})" if row.get("message") else f"{row['link']}"
+
+
 def heads(rows: Sequence[Row]) -> list[str]:
     """The names of a table's columns."""
     return list(rows[0]) if rows else []
@@ -132,8 +137,7 @@ def over_time(arrivals: Row) -> list[Row]:
     start, width = arrivals["start_ns"], arrivals["step_ns"]
     return [
         {
-            "link": row["link"],
-            "side": row["side"],
+            **{name: row[name] for name in ("link", "message", "side") if name in row},
             **{str(start + n * width): count for n, count in enumerate(row["counts"])},
         }
         for row in arrivals["links"]

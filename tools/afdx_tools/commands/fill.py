@@ -19,6 +19,7 @@ from afdx_tools.faults import Failed
 from afdx_tools.filling import filled
 from afdx_tools.guard import guarded
 from afdx_tools.inputs import as_file
+from afdx_tools.naming import copied_table
 from afdx_tools.outputs import finished
 from afdx_tools.solving import check, solve
 from afdx_tools.version import add_version
@@ -48,7 +49,7 @@ def run() -> int:
         raise Failed(f"what it made isn't admitted: {answer}", 4)
     for need in solved.needs:
         print(f"{TOOL}: {need.line()}", file=sys.stderr)
-    with finished(args.filled) as file:
+    with finished(args.filled) as file, copied_table(args.config, args.filled):
         file.write(made)
     print(answer, file=sys.stderr if args.filled == "-" else sys.stdout)
     return 0

@@ -17,7 +17,8 @@ take the shortest ways, or those that messages name in a column via.
 The messages of one vl share a virtual link. `afdx solve` finds the least
 jitters, buffers, latencies and skews with which the network is admitted. Prints
 `ok`; or names each message that can't be in time, and writes nothing then
-(status 1).
+(status 1). Beside network.toml it writes network.names.csv, what the tables call
+systems, switches and messages: reports and Wireshark show these names.
 """
 from __future__ import annotations
 
@@ -34,11 +35,12 @@ from afdx_tools.icd.cascade import Cascade, Values
 from afdx_tools.icd.changes import Comparison
 from afdx_tools.icd.changes_over import change_lines
 from afdx_tools.icd.document import Document
-from afdx_tools.icd.layout import asked_text, config_text, with_solved
+from afdx_tools.icd.layout import asked_text, config_text, naming_text, with_solved
 from afdx_tools.icd.making import text_with
 from afdx_tools.icd.reading import add_document_words, read_document
 from afdx_tools.icd.room import room_of, roomy
 from afdx_tools.icd.untimely import late_lines, refusal
+from afdx_tools.naming import with_table
 from afdx_tools.outputs import finished
 from afdx_tools.solving import bounds, check, read_admitted, solve
 from afdx_tools.version import add_version
@@ -102,7 +104,7 @@ def make_several(args: argparse.Namespace, cascade: Cascade, since: dict | None)
     if values is None:
         return 1
     lines = [] if since is None else change_lines(cascade, old, values)
-    return write(args, text_with(cascade, values), lines)
+    return write(args, cascade.document, text_with(cascade, values), lines)
 
 
 def make(args: argparse.Namespace, document: Document, tables: dict, since: dict | None) -> int:
@@ -115,15 +117,16 @@ def make(args: argparse.Namespace, document: Document, tables: dict, since: dict
         return 1
     made = roomy(document, room, proved, tables)
     lines = [] if since is None else Comparison(document, since, made, proved).lines()
-    return write(args, config_text(document, made), lines)
+    return write(args, document, config_text(document, made), lines)
 
 
-def write(args: argparse.Namespace, config: bytes, lines: list[str]) -> int:
-    """Writes a configuration that is admitted, and prints these lines and `ok`; the status."""
+def write(args: argparse.Namespace, document: Document, config: bytes, lines: list[str]) -> int:
+    """Writes a configuration that is admitted, with the names of the document beside it, and prints
+    these lines and `ok`; the status."""
     answer = check(config)
     if answer != "ok":
         raise Failed(f"what it made isn't admitted: {answer}", 4)
-    with finished(args.config) as file:
+    with finished(args.config) as file, with_table(args.config, naming_text(document)):
         file.write(config)
     for line in [*lines, answer]:
         print(line, file=sys.stderr if args.config == "-" else sys.stdout)

@@ -21,6 +21,7 @@ from afdx_tools.conformance.recorded import Ends, Reading, Recorded, Taps
 from afdx_tools.explaining import explain
 from afdx_tools.faults import Failed, Refused, shown
 from afdx_tools.inputs import as_file, at_hand
+from afdx_tools.naming import named_rows, naming_beside
 from afdx_tools.outputs import write_folder
 from afdx_tools.program import program, version
 from afdx_tools.progress import Progress
@@ -32,7 +33,7 @@ from afdx_tools.report.criteria import suite_of, write_junit
 from afdx_tools.report.made import digest, run_of
 from afdx_tools.report.ranking import latency_text, nearest
 from afdx_tools.report.where import utc
-from afdx_tools.tables import WRITTEN, Row, as_text, cell, csv_text
+from afdx_tools.tables import WRITTEN, Row, as_text, cell, csv_text, link_words
 
 MOST_TOLD = 10  # findings in the head of the text
 
@@ -137,7 +138,7 @@ def report_of(
     measured = Measured(config, options, came, left, judged.deviations, taps)
     stood = recorded.stood if inputs.are_recorded else None
     numbers = Numbers(config, checked, judged, measured, stood)
-    streams = numbers.streams()
+    streams, naming = numbers.streams(), naming_beside(args.config)
     return {
         "run": made_by(args, inputs, options, called, cover, recorded.time_0),
         "cover": cover.content if cover else None,
@@ -146,9 +147,9 @@ def report_of(
         "status": judged.status,
         "verdict": judged.verdict,
         "totals": totals_of(judged, streams),
-        "deviations": numbers.deviations(),
-        "streams": streams,
-        **(of_recordings(inputs, judged, numbers) if inputs.are_recorded else {}),
+        "deviations": named_rows(numbers.deviations(), naming),
+        "streams": named_rows(streams, naming),
+        **named_rows(of_recordings(inputs, judged, numbers) if inputs.are_recorded else {}, naming),
         "proved": PROVED,
         "counted": COUNTED,
     }
@@ -176,7 +177,7 @@ def deviation_text(row: Row, is_one: bool) -> str:
     """A finding in words."""
     words = f"{row['what']}: {frame_text(row, is_one)}"
     words += "" if row["time_ns"] is None else f" at {row['time_ns']} ns"
-    words += ", no link" if row["link"] is None else f", link {row['link']}"
+    words += ", no link" if row["link"] is None else f", link {link_words(row)}"
     words += f", port {row['port']}" + (f" ({row['system']})" if row["system"] else "")
     words += f" of {row['side']}" + (f": {row['reason']}" if row["reason"] else "")
     return words + (f", by {row['by_ns']} ns" if row["by_ns"] is not None else "")

@@ -5,7 +5,9 @@ from __future__ import annotations
 from typing import Iterator, Mapping
 
 from afdx_tools.faults import shown
-from afdx_tools.icd.document import Document
+from afdx_tools.icd.document import Document, apart
+from afdx_tools.naming import row_of
+from afdx_tools.tables import csv_text
 
 SOLVED = ("jitter_us", "latency_us", "skew_us")  # the keys of a link that `solve` finds
 PARTS = ("system", "link", "port")
@@ -115,3 +117,18 @@ def with_solved(document: Document, solved: dict) -> dict:
         "link": links,
         "port": document.ports,
     }
+
+
+def naming_text(document: Document) -> str:
+    """The table that stands beside the configuration: what the document calls its parts."""
+    ids = {row["name"]: row["id"] for row in document.systems}
+    rows = [row_of("system", lawful, name, ids[lawful], None)
+            for name, lawful in document.names.items()]
+    switches = document.cabling.switches if document.cabling else {}
+    rows += [row_of("switch", lawful, name, None, None) for name, lawful in switches.items()]
+    rows += [
+        row_of("message", "", message.row.name, vl, udp)
+        for vl, messages in document.messages.items()
+        for udp, message in apart(messages).items()
+    ]
+    return csv_text(rows)

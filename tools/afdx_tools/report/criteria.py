@@ -88,8 +88,11 @@ def status_of(status: int, unmet: Sequence[str]) -> int:
     return status or (FAILED if unmet else 0)
 
 
-def suite_of(name: str, fault: str, totals: Row | None, words: Sequence[str]) -> xml.Element:
-    """A run as a test suite: a case that it ended without a fault, and one for each criterion."""
+def suite_of(
+    name: str, fault: str, totals: Row | None, words: Sequence[str], findings: Sequence[Row] = ()
+) -> xml.Element:
+    """A run as a test suite: a case that it ended without a fault, and one for each criterion with
+    the findings that it is about."""
     suite = xml.Element("testsuite", name=shown(name), tests=str(1 + len(words)))
     errors, failures = 0, 0
     ended = xml.SubElement(suite, "testcase", classname=shown(name), name="run")
@@ -103,7 +106,9 @@ def suite_of(name: str, fault: str, totals: Row | None, words: Sequence[str]) ->
         elif count := failure_of(totals, word):
             failures += 1
             message = f"{count} {CRITERIA[word]}{places_of(totals, word)}"
-            xml.SubElement(case, "failure", message=message)
+            failure = xml.SubElement(case, "failure", message=message)
+            about = [shown(one["words"]) for one in findings if one["criterion"] == word]
+            failure.text = "\n".join(about) or None
     suite.set("errors", str(errors))
     suite.set("failures", str(failures))
     return suite

@@ -24,7 +24,7 @@ from afdx_tools.report.svg import (
     titled,
     unit_for,
 )
-from afdx_tools.tables import Row, percent
+from afdx_tools.tables import Row, link_words, percent
 
 # ---- latencies -----------------------------------------------------------------------------
 
@@ -37,7 +37,7 @@ def latency_in_words(row: Row) -> str:
     """A row of latencies in words."""
     bound = "no bound" if row["bound_ns"] is None else f"bound {row['bound_ns']:,} ns"
     return (
-        f"link {row['link']} {at_system(row)}, side {row['side']}, "
+        f"link {link_words(row)} {at_system(row)}, side {row['side']}, "
         f"{row['frames']:,} copies: {row['least_ns']:,} to {row['greatest_ns']:,} ns, median "
         f"{row['median_ns']:,}, 99 percent within {row['p99_ns']:,} ns; {bound}, configured "
         f"{row['configured_ns']:,} ns; {percent(row['share'])} of the configured"

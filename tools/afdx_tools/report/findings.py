@@ -6,7 +6,7 @@ from typing import Callable, Iterator, Sequence
 from afdx_tools.replay.silence import LINK, NETWORK, SYSTEM
 from afdx_tools.report.criteria import places_of
 from afdx_tools.report.ranking import latencies_of, latency_words, ranked
-from afdx_tools.tables import Row
+from afdx_tools.tables import Row, link_words
 
 MOST_NAMED = 3  # of a kind, each in a sentence of its own
 
@@ -30,9 +30,14 @@ def many(count: int, one: str, more: str) -> str:
 
 def named_links(rows: Sequence[Row], most: int = 5) -> str:
     """The first of the links that these rows are about."""
-    links = list(dict.fromkeys(row["link"] for row in rows))
+    links = list(dict.fromkeys(map(link_words, rows)))
     more = f" and {len(links) - most:,} more" if len(links) > most else ""
-    return ("link " if len(links) == 1 else "links ") + ", ".join(map(str, links[:most])) + more
+    return ("link " if len(links) == 1 else "links ") + ", ".join(links[:most]) + more
+
+
+def with_message(row: Row, words: str) -> str:
+    """Words about a row's link behind what its messages are called, where that is known."""
+    return ", ".join(filter(None, (row.get("message"), words)))
 
 
 # ---- silence -------------------------------------------------------------------------------------
@@ -45,7 +50,7 @@ def whose(row: Row) -> str:
     side = f"on {row['side']}"
     if row["silent"] == SYSTEM:
         return f"all of {row['system']} {side}"
-    return f"link {row['link']} ({row['system']}) {side}"
+    return f"link {row['link']} ({with_message(row, row['system'])}) {side}"
 
 
 def silence_words(row: Row) -> str:
@@ -186,7 +191,8 @@ def drop_words(rows: Sequence[Row]) -> str:
     when = f"from {moment(begin)} to {moment(end)}" if frames > 1 else f"at {moment(begin)}"
     switch = row.get("switch", "")
     own = f" ({row['own_system']})"
-    of = f"link {row['link']}{'' if switch else own}" if row["own_port"] else "no link"
+    called = with_message(row, "" if switch else row["own_system"])
+    of = f"link {row['link']}{called and f' ({called})'}" if row["own_port"] else "no link"
     words = f"{many(frames, 'frame', 'frames')} of {of}"
     if row["reason"] != "wrong-port":
         return f"{words} dropped as {row['reason']}{switch and f' at {switch}'} on {sides}, {when}"
@@ -245,7 +251,7 @@ def skew(report: Row) -> Iterator[str]:
     if rows:
         worst = max(rows, key=lambda row: row["at_receivers_ns"] / row["table_skew_ns"])
         yield (
-            f"skew over SkewMax of {named_links(rows)}; link {worst['link']}: "
+            f"skew over SkewMax of {named_links(rows)}; link {link_words(worst)}: "
             f"{amount(worst['at_receivers_ns'])}, SkewMax {amount(worst['table_skew_ns'])}"
         )
 
@@ -256,7 +262,7 @@ def jitter(report: Row) -> Iterator[str]:
     if rows:
         worst = max(rows, key=lambda row: row["jitter_ns"] - row["table_jitter_ns"])
         yield (
-            f"jitter over the table's of {named_links(rows)}; link {worst['link']} on "
+            f"jitter over the table's of {named_links(rows)}; link {link_words(worst)} on "
             f"{worst['side']}: {amount(worst['jitter_ns'])}, in the table "
             f"{amount(worst['table_jitter_ns'])}"
         )

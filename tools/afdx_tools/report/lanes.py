@@ -20,7 +20,7 @@ from afdx_tools.report.svg import (
     titled,
     unit_for,
 )
-from afdx_tools.tables import Row
+from afdx_tools.tables import Row, link_words
 
 MOST_STEPS = 100
 MOST_LINKS = 100  # that are drawn; the CSV file has all
@@ -135,7 +135,7 @@ class Axis:
 
 def lane_in_words(row: Row) -> str:
     """A lane in words."""
-    words = f"link {row['link']} on side {row['side']}: {sum(row['counts']):,} frames"
+    words = f"link {link_words(row)} on side {row['side']}: {sum(row['counts']):,} frames"
     if row["silent_ns"]:
         words += f", {len(row['silent_ns'])} silences"
     if busy := sum(count > row["at_most"] for count in row["counts"]):

@@ -17,7 +17,16 @@ from afdx_tools.report.ranking import FEWEST, latencies_of
 from afdx_tools.report.several import hops_section, network_sections
 from afdx_tools.report.where import Where
 from afdx_tools.report.whole import FIND, NEAREST, first_words, links_of, one_each, whole_page
-from afdx_tools.tables import COUNTED, EARLY, TROUBLES, UNPROMISED, Row, in_us, names_of
+from afdx_tools.tables import (
+    COUNTED,
+    EARLY,
+    TROUBLES,
+    UNPROMISED,
+    Row,
+    in_us,
+    link_words,
+    names_of,
+)
 
 EARLY_FRAMES = "Over-rate frames that came too early by most, in us"
 TAPS = "Taps: where the interfaces were plugged in, and frames that name another place"
@@ -59,7 +68,8 @@ def track_sections(counting: Counting, args: argparse.Namespace) -> str:
 
 def track_section(counting: Counting, vl: int, wrong: np.ndarray, begin: int) -> str:
     """The time line of a link."""
-    name, head = f"line-{vl}", f"Time line of link {vl}"
+    called = {"link": vl, "message": counting.config.messages.get(vl)}
+    name, head = f"line-{vl}", f"Time line of link {link_words(called)}"
     link = counting.config.links.get(vl)
     lines = np.zeros(0, np.int64)
     if link is not None:
@@ -115,8 +125,7 @@ def early_tables(report: Row) -> dict[str, tuple[str, Sequence[Row]]]:
         return {}
     sums = [
         {
-            "link": row["link"],
-            "side": row["side"],
+            **{name: row[name] for name in ("link", "message", "side") if name in row},
             "over-rate": row["count"],
             "median_us": in_us(row["median"]),
             "greatest_us": in_us(row["greatest"]),

@@ -3,7 +3,7 @@ from __future__ import annotations
 
 from typing import Sequence
 
-from afdx_tools.tables import Row, percent
+from afdx_tools.tables import Row, link_words, percent
 
 FEWEST = 10  # copies at a port, of both sides, below which a link isn't ranked there
 
@@ -52,7 +52,7 @@ def nearest(latency: Sequence[Row]) -> Row | None:
 def latency_words(row: Row) -> str:
     """A row of latencies in words."""
     return (
-        f"link {row['link']} {at(row)}, side {row['side']}, "
+        f"link {link_words(row)} {at(row)}, side {row['side']}, "
         f"{row['greatest_ns']:,} of {row['configured_ns']:,} ns configured "
         f"({percent(row['share'])})"
     )
@@ -61,6 +61,6 @@ def latency_words(row: Row) -> str:
 def latency_text(row: Row) -> str:
     """The same without commas in numbers."""
     return (
-        f"link {row['link']} {at(row)}, side {row['side']}: {row['greatest_ns']} of "
+        f"link {link_words(row)} {at(row)}, side {row['side']}: {row['greatest_ns']} of "
         f"{row['configured_ns']} ns configured ({percent(row['share'])})"
     )

@@ -11,6 +11,7 @@ from afdx_tools.config import read_config
 from afdx_tools.explaining import explain
 from afdx_tools.faults import Failed, shown
 from afdx_tools.inputs import as_file, at_hand
+from afdx_tools.naming import Naming, as_called, named_rows, naming_beside
 from afdx_tools.outputs import write_folder
 from afdx_tools.program import program, version
 from afdx_tools.progress import Progress
@@ -125,7 +126,8 @@ def report_of(
     listed = listed_of(source, Sites(tables.names), progress, is_run)
     events, fault, status = replay(source, tables, listed, progress)
     progress.report("counting")
-    counting = Counting(tables, listed.listing, events)
+    naming = naming_beside(args.config)
+    counting = Counting(as_called(tables, naming), listed.listing, events)
     where = Where(source, counting)
     report: Row = {
         "run": header(args, source, counting, where, called, cover),
@@ -135,7 +137,7 @@ def report_of(
         "status": status,
         "totals": {},
         "findings": [],
-        **tables_of(counting, checked, args.worst),
+        **named_rows(tables_of(counting, checked, args.worst), Naming({}, naming.messages)),
         "proved": PROVED + (PROVED_OF_SEVERAL if tables.several else ""),
         "counted": COUNTED,
     }
@@ -227,7 +229,9 @@ def run_report(tool: str, args: argparse.Namespace) -> int:
         texts = {**files_of(report), "report.html": page(report, counting, where, args)}
         write_folder(as_file(args.out or "report"), texts, WRITTEN)
     if args.junit:
-        suite = suite_of(name, report["fault"], report["totals"], args.fail_on)
+        suite = suite_of(
+            name, report["fault"], report["totals"], args.fail_on, report["findings"]
+        )
         write_junit(args.junit, [suite])
     if args.json:
         print(json.dumps(report))

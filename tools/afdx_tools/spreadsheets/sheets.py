@@ -112,7 +112,9 @@ def row_of(
     return Row(place, next(iter(columns)), found, factors)
 
 
-def read_sheet(path: str, columns: Mapping[str, bool], filled: Collection[str] = ()) -> Sheet:
+def read_sheet(
+    path: str, columns: Mapping[str, bool], filled: Collection[str] = (), most: int = MOST_ROWS
+) -> Sheet:
     """Reads a table. `columns` are those that are asked for, the first of which names a row, and
     whether each has to be there; of one that isn't the cells are empty. An empty cell of a column
     of `filled` gets the content of the one above."""
@@ -127,8 +129,8 @@ def read_sheet(path: str, columns: Mapping[str, bool], filled: Collection[str] =
         for column in filled:
             sheet.fill(above, row, column)
         sheet.rows.append(row)
-        if len(sheet.rows) > MOST_ROWS:
-            raise Refused(f"{sheet.name}: it has more than {MOST_ROWS:,} rows")
+        if len(sheet.rows) > most:
+            raise Refused(f"{sheet.name}: it has more than {most:,} rows")
         above = row
     if not sheet.rows:
         raise Refused(f"{sheet.name}: no row stands below the names of the columns")
