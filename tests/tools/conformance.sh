@@ -33,6 +33,12 @@ conformance_tests() {
         if [[ -e $judged/out/silences.csv ]]; then echo 'a table of an older report stays'; fi
         wants_page "$judged/out/report.html"
     )"
+    tell 'streams that are idle' "$(
+        says out 'idle        3'
+        wants_number "$json" '[(s["link"], s["side"], s["came"]) for s in r["idle"]]' \
+            "[(1, 'B', 0), (2, 'A', 0), (2, 'B', 0)]"
+        if [[ $(wc -l <"$judged/out/idle.csv") -ne 4 ]]; then cat "$judged/out/idle.csv"; fi
+    )"
     came_and_left '0 499999 3000000' '6720 506719 3017001'
     judge --junit "$judged/junit.xml" --title 'Bench 7'
     tell 'a recorded switch that deviates' "$(
@@ -59,7 +65,8 @@ conformance_tests() {
     tell 'a list with a fault is not measured' "$(
         is_status 3
         says err 'list left BadLine 2'
-        wants_number "$json" 'r["fault"], r["streams"]' "('list left BadLine 2', [])"
+        wants_number "$json" 'r["fault"], r["streams"], r["idle"]' \
+            "('list left BadLine 2', [], [])"
         wants_page "$judged/out/report.html"
     )"
 }

@@ -71,6 +71,7 @@ class Measured:
     ) -> None:
         self.options, self.taps = options, taps
         self.first, self.links = links_at(config, options.switch)
+        self.latest = 0  # the time of the last frame of all
         self.by_port = config.by_port()
         self.numbers = numbers_in(found)
         self.strange = self.numbers[True]
@@ -93,6 +94,7 @@ class Measured:
     def taken(self, frames: Iterable[Frame], is_left: bool) -> Iterator[Frame]:
         """The frames that aren't passed over."""
         for frame in frames:
+            self.latest = max(self.latest, frame.time)
             if self.options.is_taken(frame.time, frame.vl, is_left):
                 if frame.line in self.numbers[is_left]:
                     self.named[is_left][frame.line] = Named(frame.time, frame.vl)
@@ -111,6 +113,13 @@ class Measured:
             return f"what came in at {stream.side}:{port}"
         is_seen = self.taps.has(stream.side, stream.port, True)
         return "" if is_seen else f"what left at {stream.side}:{stream.port}"
+
+    def is_idle(self, stream: Stream) -> bool:
+        """No frame of a stream of which nothing was found is explained: none left, but for those so
+        near the end that they may be of arrivals behind it."""
+        until = self.options.until
+        end = self.latest if until is None else until
+        return all(frame.time + self.options.twice > end for frame in self.left.get(stream, []))
 
     def streams(self) -> list[Stream]:
         """The streams that are judged and of which something came or left."""

@@ -120,23 +120,38 @@ class Numbers:
         name = cut(frame.name, LONGEST_NAME) or None
         return {"interface": frame.interface, "name": name, "stamp": utc(frame.stamp)}
 
+    def place_of(self, stream: Stream) -> Row:
+        """A stream as columns of a row."""
+        link, port = self.measured.links[stream.vl], self.measured.first + stream.port
+        system = self.measured.by_port[port].name
+        return {"link": stream.vl, "from": link.source, **self.config.keys_of(port),
+                "system": system, "side": stream.side}  # fmt: skip
+
     def unseen(self) -> list[Row]:
         """A row for each stream that isn't judged, with what wasn't recorded of it."""
+        lacks = {each: self.measured.lacks(each) for each in self.measured.all_streams()}
+        return [{**self.place_of(each), "lacks": what} for each, what in lacks.items() if what]
+
+    def idle(self) -> list[Row]:
+        """A row for each idle stream: it is judged, no frame of it is explained, and it has no
+        line. Of each how many frames came that could have left. After a fault nothing is known."""
+        if self.judged.fault:
+            return []
         rows = []
         for stream in self.measured.all_streams():
-            lacks = self.measured.lacks(stream)
-            if lacks:
-                link, port = self.measured.links[stream.vl], self.measured.first + stream.port
-                system = self.measured.by_port[port].name
-                rows.append({"link": stream.vl, "from": link.source, **self.config.keys_of(port),
-                             "system": system, "side": stream.side, "lacks": lacks})  # fmt: skip
+            has_line = (stream.side, stream.vl, stream.port) in self.found
+            if not (has_line or self.measured.lacks(stream)) and self.measured.is_idle(stream):
+                came = len(self.measured.came.get((stream.side, stream.vl), []))
+                rows.append({**self.place_of(stream), "came": came})
         return rows
 
 
-def totals_of(judged: Judged, streams: Sequence[Row]) -> Row:
-    """The sums: the counts of the last line, each kind of finding, the frames of streams."""
+def totals_of(judged: Judged, streams: Sequence[Row], idle: Sequence[Row] = ()) -> Row:
+    """The sums: the counts of the last line, each kind of finding, the frames of streams. A program
+    whose last line doesn't say how many streams are idle has them counted here."""
     words = Counter(each.word for each in judged.deviations)
     counts = {name.replace("-", "_"): count for name, count in judged.counts.items()}
+    counts = {**counts, "idle": judged.counts.get("idle", len(idle))} if counts else counts
     kinds = {word: words[word] for word in (*FINDINGS, "unsure")}
     sums = {name: sum(row[name] for row in streams) for name in ("left", "frames")}
     return {**counts, **kinds, "of_streams": sums["left"], "measured": sums["frames"]}

@@ -24,6 +24,7 @@ from afdx_tools.tables import Row
 TABLES = {
     "deviations": "Findings: the lines of the program, with the frame that each names",
     "streams": "Links, ports and sides: what came, left, was found, and latency as measured, in ns",
+    "idle": "Links, ports and sides that are judged, and of which no frame is explained",
     "unseen": "Links, ports and sides that aren't judged, and what wasn't recorded of them",
 }
 PROVED = (
@@ -43,6 +44,7 @@ CARDS = {
     "uncertain": "uncertain",
     "left_out": "left out",
     "unseen": "unseen",
+    "idle": "idle",
     **{word: word for word in FINDINGS},
 }
 
@@ -59,6 +61,8 @@ def answer(report: Row) -> str:
         if report.get("unseen"):
             words += f" Of {len(report['unseen'])} links, ports and sides nothing is said: they "
             words += "weren't recorded."
+        if report["idle"]:
+            words += f" Of {len(report['idle'])} that were no frame is explained: they were idle."
         parts.append(f'<span class="muted">{escape(words)}</span>')
     if report["admission"] != "ok":
         parts.append(badge(f"not admitted: {report['admission']}", "bad"))
@@ -108,6 +112,7 @@ def page(report: Row, most: int) -> str:
     """The whole page, with so many links in its picture."""
     totals = report["totals"]
     names = {"picture": "latency", "deviations": "findings", "streams": "table of streams"}
+    names |= {"idle": "what was idle"}
     names |= {"unseen": "what isn't judged"} if "unseen" in report else {}
     names |= {"made": "what made it"}
     parts = [

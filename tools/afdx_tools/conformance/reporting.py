@@ -137,7 +137,7 @@ def report_of(
     measured = Measured(config, options, came, left, judged.deviations, taps)
     stood = recorded.stood if inputs.are_recorded else None
     numbers = Numbers(config, checked, judged, measured, stood)
-    streams = numbers.streams()
+    streams, idle = numbers.streams(), numbers.idle()
     return {
         "run": made_by(args, inputs, options, called, cover, recorded.time_0),
         "cover": cover.content if cover else None,
@@ -145,9 +145,10 @@ def report_of(
         "fault": judged.fault,
         "status": judged.status,
         "verdict": judged.verdict,
-        "totals": totals_of(judged, streams),
+        "totals": totals_of(judged, streams, idle),
         "deviations": numbers.deviations(),
         "streams": streams,
+        "idle": idle,
         **(of_recordings(inputs, judged, numbers) if inputs.are_recorded else {}),
         "proved": PROVED,
         "counted": COUNTED,
@@ -194,7 +195,7 @@ def print_text(report: Row) -> None:
     if len(found) > MOST_TOLD:
         print(f"finding     {len(found) - MOST_TOLD} more, in the table below")
     if report["verdict"]:
-        for name in ("explained", "open", "uncertain", "left_out", "unseen"):
+        for name in ("explained", "open", "uncertain", "left_out", "unseen", "idle"):
             print(f"{name.replace('_', ' '):11} {totals[name]}")
         print(f"account     {account_words(totals)}")
         print(f"measured    {totals['measured']} of {totals['of_streams']} frames that left")
