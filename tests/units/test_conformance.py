@@ -141,7 +141,7 @@ class Rows(unittest.TestCase):
     def test_a_finding(self) -> None:
         row = self.numbers().deviations()[0]
         self.assertEqual(list(row.values()),
-                         ["late", "CAME", 2, 1, 10, "A", 3, "disp", None, 17])
+                         ["late", "CAME", 2, 1, 10, "A", 3, "disp", None, 17, ""])
 
     def idle_with(self, *gone: str, line: str = "", until: int | None = None) -> list[Row]:
         """The idle streams where a frame came on side A."""

@@ -132,12 +132,15 @@ class Measured:
         time = (length + BEFORE_FRAME) * self.by_port[self.first + port].byte_ns
         return -(-MILLION * time // (MILLION + (self.options.drift or 0)))
 
+    def most(self, stream: Stream) -> int:
+        """By how much a frame that came and the one that left are apart at most."""
+        inside = self.links[stream.vl].latency_ns + (self.options.inner or 0)
+        return 2 * (MILLION * inside // (MILLION - (self.options.drift or 0))) + self.options.twice
+
     def pairs(self, stream: Stream) -> list[Pair]:
         """Of each frame that left, the first one before it that came with its bytes, is of no other
         frame, and isn't apart by over twice the latency."""
-        twice, drift = self.options.twice, self.options.drift or 0
-        inside = self.links[stream.vl].latency_ns + (self.options.inner or 0)
-        most = 2 * (MILLION * inside // (MILLION - drift)) + twice
+        twice, most = self.options.twice, self.most(stream)
         waiting: dict[bytes, deque[Frame]] = defaultdict(deque)
         for frame in self.came.get((stream.side, stream.vl), []):
             waiting[frame.key].append(frame)
