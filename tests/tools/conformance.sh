@@ -33,6 +33,12 @@ conformance_tests() {
         if [[ -e $judged/out/silences.csv ]]; then echo 'a table of an older report stays'; fi
         wants_page "$judged/out/report.html"
     )"
+    tell 'streams that are idle' "$(
+        says out 'idle        3'
+        wants_number "$json" '[(s["link"], s["side"], s["came"]) for s in r["idle"]]' \
+            "[(1, 'B', 0), (2, 'A', 0), (2, 'B', 0)]"
+        if [[ $(wc -l <"$judged/out/idle.csv") -ne 4 ]]; then cat "$judged/out/idle.csv"; fi
+    )"
     came_and_left '0 499999 3000000' '6720 506719 3017001'
     judge --junit "$judged/junit.xml" --title 'Bench 7'
     tell 'a recorded switch that deviates' "$(
@@ -59,8 +65,63 @@ conformance_tests() {
     tell 'a list with a fault is not measured' "$(
         is_status 3
         says err 'list left BadLine 2'
-        wants_number "$json" 'r["fault"], r["streams"]' "('list left BadLine 2', [])"
+        wants_number "$json" 'r["fault"], r["streams"], r["idle"]' \
+            "('list left BadLine 2', [], [])"
         wants_page "$judged/out/report.html"
+    )"
+}
+
+numbered() { # NUMBER : the frame with this sequence number
+    printf '%s%02x' "${one%??}" "$1"
+}
+
+# Frames with these numbers, one each 500 us, which left 7 us later.
+came_and_left_numbered() { # CAME LEFT
+    for number in $1; do
+        echo "F $((number * 500000)) A 1 $(numbered "$number")"
+    done >"$judged/came.list"
+    for number in $2; do
+        echo "F $((number * 500000 + 7000)) A 3 $(numbered "$number")"
+    done >"$judged/left.list"
+}
+
+telling_tests() {
+    local json=$judged/out/report.json
+    came_and_left_numbered '16 18 19' '16 17 18 19'
+    judge
+    tell 'what the numbers say of a frame that a recorder lost' "$(
+        is_status 5
+        says out "A: no-arrival; number 17 left and never came: the recorder's"
+    )"
+    came_and_left_numbered '16 17 18' '16 18'
+    judge
+    tell 'what they say of one that never left' "$(
+        is_status 5
+        says out 'link 1, port 3 (s3) of A; number 17 came, and never left here'
+    )"
+    came_and_left_numbered "$(seq 1 40)" "$(seq 1 40)"
+    awk '{ print; $2 += 7000; print }' "$judged/left.list" >"$judged/twice.list"
+    mv "$judged/twice.list" "$judged/left.list"
+    judge
+    tell 'many findings: the first of a stream, and how many are of a kind' "$(
+        is_status 5
+        if [[ $(grep -c '^finding ' "$work/out") -ne 1 ]]; then grep '^finding ' "$work/out"; fi
+        says out 'in all      40 frames of link 1 at port 3 of A left twice'
+        wants_number "$json" '[(g["findings"], g["what"]) for g in r["groups"]]' \
+            "[(40, 'strange'), (19, 'passed')]"
+        wants_page "$judged/out/report.html"
+    )"
+    echo 'F 1 A 3 00' >>"$judged/left.list"
+    judge
+    tell 'what stands before a fault is no verdict' "$(
+        is_status 3
+        sed -n 3,4p "$work/out" >"$work/got"
+        printf '%s\n' 'fault       list left TimeBack 81' \
+            'verdict     none: the 58 findings before it are no verdict.' >"$work/wanted"
+        same "$work/wanted" "$work/got"
+        if ! grep -qF 'There is no verdict: the 58 findings' "$judged/out/report.html"; then
+            echo 'the page does not say so'
+        fi
     )"
 }
 
@@ -144,6 +205,7 @@ if [[ -z $reporting ]]; then
     skip 'afdx-report --conform' "there is no program, or no package numpy"
 elif "$program" conform --help >"$judged/help" 2>&1; then
     conformance_tests
+    telling_tests
     if ! grep -qF -- --left "$judged/help"; then
         skip 'afdx-report --conform on recordings' 'conform takes no recordings'
     elif [[ -n $dpkt ]] && has mergecap; then

@@ -25,6 +25,7 @@ from afdx_tools.conformance.recorded import Recorders
 from afdx_tools.faults import Refused
 from afdx_tools.lists import listed_of
 from afdx_tools.replay.checked import checked_of
+from afdx_tools.tables import Row
 
 OUT = ["stopped 2 A 3", "strange 3 A 3 out-of-turn", "passed 4 B 3 over-rate", "late 1 A 3 17",
        "deviates 4 explained 5 open 1 uncertain 2 left-out 3 unseen 0"]  # fmt: skip
@@ -64,6 +65,12 @@ class Lines(unittest.TestCase):
         self.assertEqual(judged.verdict, "deviates 4")
         self.assertEqual(judged.counts, {"explained": 5, "open": 1, "uncertain": 2, "left-out": 3,
                                          "unseen": 0})
+
+    def test_idle_streams_in_the_last_line(self) -> None:
+        judged = judged_of([f"{OUT[-1]} idle 7"])
+        self.assertEqual(judged.verdict, "deviates 4")
+        self.assertEqual(totals_of(judged, [], [{}])["idle"], 7)
+        self.assertEqual(totals_of(judged_of(OUT), [], [{}])["idle"], 1)
 
     def test_only_a_strange_frame_is_one_that_left(self) -> None:
         self.assertEqual([each.is_left for each in judged_of(OUT).deviations],
@@ -134,7 +141,26 @@ class Rows(unittest.TestCase):
     def test_a_finding(self) -> None:
         row = self.numbers().deviations()[0]
         self.assertEqual(list(row.values()),
-                         ["late", "CAME", 2, 1, 10, "A", 3, "disp", None, 17])
+                         ["late", "CAME", 2, 1, 10, "A", 3, "disp", None, 17, ""])
+
+    def idle_with(self, *gone: str, line: str = "", until: int | None = None) -> list[Row]:
+        """The idle streams where a frame came on side A."""
+        judged = judged_of([line] if line else [])
+        options = Options(slack=10, until=until)
+        came = lines(arrival(0, "A", 10, 0))
+        found = Measured(CONFIG, options, came, lines(*gone), judged.deviations)
+        return Numbers(CONFIG, checked_of(["ok"]), judged, found).idle()
+
+    def test_idle_streams(self) -> None:
+        rows = self.idle_with()
+        self.assertEqual([(row["link"], row["side"], row["came"]) for row in rows],
+                         [(10, "A", 1), (10, "B", 0), (20, "A", 0), (20, "B", 0)])
+        self.assertEqual(len(self.idle_with(left(70_000, 0), until=70_020)), 3)
+        self.assertEqual(len(self.idle_with(line="stopped 1 A 3")), 3)
+
+    def test_a_frame_at_the_end_is_not_explained(self) -> None:
+        self.assertEqual(len(self.idle_with(left(70_000, 0), until=70_019)), 4)
+        self.assertEqual(len(self.idle_with(left(70_000, 0))), 4)
 
     def test_the_sums(self) -> None:
         numbers = self.numbers()
@@ -178,7 +204,7 @@ class Words(unittest.TestCase):
 
     def test_they_are_handed_on(self) -> None:
         words = ["--slack=100", "--until=5", "--from=0", "--leave-out=other", "--leave-out=7",
-                 "--switch=fwd"]  # fmt: skip
+                 "--switch=fwd", "--exercised"]  # fmt: skip
         self.assertEqual(conform_options(self.given("--conform", *words)).words(), words)
         self.assertEqual(conform_options(self.given("--conform")).words(), [])
 
@@ -197,7 +223,7 @@ class Words(unittest.TestCase):
             conform_options(self.given("--conform", "--taps=taps.csv", "--left=1=A:3"))
 
     def test_those_of_conform_are_refused_for_a_replay(self) -> None:
-        for word in ("--left=1=A:3", "--lossy", "--stamps=end-start", "--slack=1"):
+        for word in ("--left=1=A:3", "--lossy", "--exercised", "--stamps=end-start", "--slack=1"):
             with self.assertRaises(Refused):
                 refuse_conform_options(self.given(word))
         refuse_conform_options(self.given("--stamps=start", "--interface=0=A"))

@@ -4,15 +4,16 @@ from __future__ import annotations
 import hashlib
 from typing import Iterator, NamedTuple
 
-from afdx_tools.lists import CONSTANT, Listed, read_list, sealed
+from afdx_tools.lists import CONSTANT, Listed, is_sealed, read_list, sealed
 
+SHORTEST, NUMBER_AT = 64, -5  # bytes of a frame; where its sequence number stands
 OF_LINKS = bytes.fromhex(CONSTANT)  # how a link's destination address begins
 
 
 class Frame(NamedTuple):
     """A frame: its line in a list, or its number in a recording; its time, side and port; the link
     that its address names, None where that is none; what stands for its bytes; how many these
-    are."""
+    are; its sequence number, None where it isn't whole."""
 
     line: int
     time: int
@@ -21,6 +22,7 @@ class Frame(NamedTuple):
     vl: int | None
     key: bytes
     length: int
+    number: int | None = None
 
 
 def vl_of(content: bytes) -> int | None:
@@ -33,7 +35,8 @@ def vl_of(content: bytes) -> int | None:
 def frame_of(line: int, time: int, side: str, port: int, content: bytes) -> Frame:
     """A frame of these bytes, check sequence included."""
     key = hashlib.blake2b(content, digest_size=16).digest()
-    return Frame(line, time, side, port, vl_of(content), key, len(content))
+    number = content[NUMBER_AT] if len(content) >= SHORTEST and is_sealed(content) else None
+    return Frame(line, time, side, port, vl_of(content), key, len(content), number)
 
 
 def frame_of_line(listed: Listed) -> Frame:

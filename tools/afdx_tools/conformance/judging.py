@@ -11,7 +11,6 @@ from afdx_tools.program import program
 from afdx_tools.replay.running import counts_of
 
 FINDINGS = ("stopped", "strange", "passed", "late", "early")
-COUNTS = ("explained", "open", "uncertain", "left-out", "unseen")
 OF_LEFT = ("strange",)  # findings that name a frame that left; others one that came
 TIMED = ("late", "early")
 SKIPPED = "skipped "  # how the line of what was skipped begins

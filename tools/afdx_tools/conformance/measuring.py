@@ -71,6 +71,7 @@ class Measured:
     ) -> None:
         self.options, self.taps = options, taps
         self.first, self.links = links_at(config, options.switch)
+        self.latest = 0  # the time of the last frame of all
         self.by_port = config.by_port()
         self.numbers = numbers_in(found)
         self.strange = self.numbers[True]
@@ -93,6 +94,7 @@ class Measured:
     def taken(self, frames: Iterable[Frame], is_left: bool) -> Iterator[Frame]:
         """The frames that aren't passed over."""
         for frame in frames:
+            self.latest = max(self.latest, frame.time)
             if self.options.is_taken(frame.time, frame.vl, is_left):
                 if frame.line in self.numbers[is_left]:
                     self.named[is_left][frame.line] = Named(frame.time, frame.vl)
@@ -112,6 +114,13 @@ class Measured:
         is_seen = self.taps.has(stream.side, stream.port, True)
         return "" if is_seen else f"what left at {stream.side}:{stream.port}"
 
+    def is_idle(self, stream: Stream) -> bool:
+        """No frame of a stream of which nothing was found is explained: none left, but for those so
+        near the end that they may be of arrivals behind it."""
+        until = self.options.until
+        end = self.latest if until is None else until
+        return all(frame.time + self.options.twice > end for frame in self.left.get(stream, []))
+
     def streams(self) -> list[Stream]:
         """The streams that are judged and of which something came or left."""
         some = set(self.came), set(self.left)
@@ -123,12 +132,15 @@ class Measured:
         time = (length + BEFORE_FRAME) * self.by_port[self.first + port].byte_ns
         return -(-MILLION * time // (MILLION + (self.options.drift or 0)))
 
+    def most(self, stream: Stream) -> int:
+        """By how much a frame that came and the one that left are apart at most."""
+        inside = self.links[stream.vl].latency_ns + (self.options.inner or 0)
+        return 2 * (MILLION * inside // (MILLION - (self.options.drift or 0))) + self.options.twice
+
     def pairs(self, stream: Stream) -> list[Pair]:
         """Of each frame that left, the first one before it that came with its bytes, is of no other
         frame, and isn't apart by over twice the latency."""
-        twice, drift = self.options.twice, self.options.drift or 0
-        inside = self.links[stream.vl].latency_ns + (self.options.inner or 0)
-        most = 2 * (MILLION * inside // (MILLION - drift)) + twice
+        twice, most = self.options.twice, self.most(stream)
         waiting: dict[bytes, deque[Frame]] = defaultdict(deque)
         for frame in self.came.get((stream.side, stream.vl), []):
             waiting[frame.key].append(frame)

@@ -5,7 +5,9 @@ from collections import Counter
 from typing import Sequence
 
 from afdx_tools.config import Config
+from afdx_tools.conformance.grouping import firsts
 from afdx_tools.conformance.judging import FINDINGS, Deviation, Judged
+from afdx_tools.conformance.losses import Losses
 from afdx_tools.conformance.measuring import Measured, Named, Stream
 from afdx_tools.conformance.recorded import Stood
 from afdx_tools.faults import LONGEST_NAME, cut
@@ -46,6 +48,8 @@ class Numbers:
         self.config, self.checked, self.measured, self.judged = config, checked, measured, judged
         self.stood = stood
         self.pairs = {stream: measured.pairs(stream) for stream in measured.streams()}
+        self.left_by = {stream: {pair.came for pair in pairs}
+                        for stream, pairs in self.pairs.items()}  # fmt: skip
         self.found: dict[tuple[str, int | None, int], Counter[str]] = {}
         for each in judged.deviations:
             frame = self.frame_of(each)
@@ -89,8 +93,32 @@ class Numbers:
         }
 
     def deviations(self) -> list[Row]:
-        """A row for each line of the program, with the frame that it names."""
-        return [self.deviation(each) for each in self.judged.deviations]
+        """A row for each line of the program, with the frame that it names, and with what the
+        numbers say of that frame, or of those before the first finding of its stream."""
+        rows = [self.deviation(each) for each in self.judged.deviations]
+        losses = {stream: self.losses(stream) for stream in self.pairs
+                  if (stream.side, stream.vl, stream.port) in self.found}  # fmt: skip
+        for each, row in zip(self.judged.deviations, rows):
+            stream = Stream(row["side"], row["link"], row["port"])
+            if stream in losses:
+                ports = self.ports_of(stream, each.number)
+                row["by_numbers"] = losses[stream].words_of(each.is_left, each.number, ports)
+        for row in firsts(rows):
+            stream = Stream(row["side"], row["link"], row["port"])
+            if stream in losses and not row["by_numbers"]:
+                row["by_numbers"] = losses[stream].words_at(row["time_ns"])
+        return rows
+
+    def losses(self, stream: Stream) -> Losses:
+        """What the numbers of a stream's frames say; what left and isn't whole says nothing."""
+        damaged = {each.number for each in self.judged.deviations
+                   if each.is_left and each.why != "no-arrival"}  # fmt: skip
+        return Losses(self.measured, stream, self.pairs[stream], damaged)
+
+    def ports_of(self, stream: Stream, line: int) -> list[int]:
+        """The other ports by which a frame left that came."""
+        return [other.port for other, came in self.left_by.items()
+                if other != stream and other[:2] == stream[:2] and line in came]  # fmt: skip
 
     def deviation(self, each: Deviation) -> Row:
         """A line's row."""
@@ -107,6 +135,7 @@ class Numbers:
             "system": port.name if port else None,
             "reason": each.why or None,
             "by_ns": each.by,
+            "by_numbers": "",
             **self.standing(each),
         }
 
@@ -120,23 +149,38 @@ class Numbers:
         name = cut(frame.name, LONGEST_NAME) or None
         return {"interface": frame.interface, "name": name, "stamp": utc(frame.stamp)}
 
+    def place_of(self, stream: Stream) -> Row:
+        """A stream as columns of a row."""
+        link, port = self.measured.links[stream.vl], self.measured.first + stream.port
+        system = self.measured.by_port[port].name
+        return {"link": stream.vl, "from": link.source, **self.config.keys_of(port),
+                "system": system, "side": stream.side}  # fmt: skip
+
     def unseen(self) -> list[Row]:
         """A row for each stream that isn't judged, with what wasn't recorded of it."""
+        lacks = {each: self.measured.lacks(each) for each in self.measured.all_streams()}
+        return [{**self.place_of(each), "lacks": what} for each, what in lacks.items() if what]
+
+    def idle(self) -> list[Row]:
+        """A row for each idle stream: it is judged, no frame of it is explained, and it has no
+        line. Of each how many frames came that could have left. After a fault nothing is known."""
+        if self.judged.fault:
+            return []
         rows = []
         for stream in self.measured.all_streams():
-            lacks = self.measured.lacks(stream)
-            if lacks:
-                link, port = self.measured.links[stream.vl], self.measured.first + stream.port
-                system = self.measured.by_port[port].name
-                rows.append({"link": stream.vl, "from": link.source, **self.config.keys_of(port),
-                             "system": system, "side": stream.side, "lacks": lacks})  # fmt: skip
+            has_line = (stream.side, stream.vl, stream.port) in self.found
+            if not (has_line or self.measured.lacks(stream)) and self.measured.is_idle(stream):
+                came = len(self.measured.came.get((stream.side, stream.vl), []))
+                rows.append({**self.place_of(stream), "came": came})
         return rows
 
 
-def totals_of(judged: Judged, streams: Sequence[Row]) -> Row:
-    """The sums: the counts of the last line, each kind of finding, the frames of streams."""
+def totals_of(judged: Judged, streams: Sequence[Row], idle: Sequence[Row] = ()) -> Row:
+    """The sums: the counts of the last line, each kind of finding, the frames of streams. A program
+    whose last line doesn't say how many streams are idle has them counted here."""
     words = Counter(each.word for each in judged.deviations)
     counts = {name.replace("-", "_"): count for name, count in judged.counts.items()}
+    counts = {**counts, "idle": judged.counts.get("idle", len(idle))} if counts else counts
     kinds = {word: words[word] for word in (*FINDINGS, "unsure")}
     sums = {name: sum(row[name] for row in streams) for name in ("left", "frames")}
     return {**counts, **kinds, "of_streams": sums["left"], "measured": sums["frames"]}
@@ -155,3 +199,17 @@ def account_words(totals: Row) -> str:
     words = f"{answers} left open beside {frames} ({share}), where both "
     words += "would have been right"
     return words + ("; so little was shown" if 2 * uncertain > explained else "")
+
+
+def no_verdict(report: Row) -> str:
+    """What findings are that stand before a fault."""
+    fault, count = report["fault"], len(report["deviations"])
+    if not fault or not count:
+        return ""
+    words = "the finding before it is" if count == 1 else f"the {count:,} findings before it are"
+    words += " no verdict"
+    if fault.startswith("recording TimeBack"):
+        return words + ": with a greater --reorder frames come in that seem missing there."
+    if fault.startswith("recording Lossy"):
+        return words + ": each may be of a frame that the recorder lost."
+    return words + "."

@@ -50,6 +50,8 @@ def add_conform_words(parser: argparse.ArgumentParser) -> None:
         "times")
     add("--lossy", action="store_true",
         help="also where the recorder lost frames, with --conform")
+    add("--exercised", action="store_true",
+        help="no verdict where a stream that is judged is idle, with --conform")
 
 
 @dataclass(frozen=True)
@@ -64,6 +66,7 @@ class Options:
     until: int | None = None
     left_out: tuple[int | None, ...] = ()
     switch: str | None = None
+    exercised: bool = False
     of_recordings: tuple[str, ...] = ()
     recorders: Recorders = Recorders()
 
@@ -72,7 +75,8 @@ class Options:
         amounts = {name: getattr(self, name) for name in AMOUNTS} | {"from": self.start}
         words = [f"--{name}={amount}" for name, amount in amounts.items() if amount is not None]
         words += [f"--leave-out={OTHER if vl is None else vl}" for vl in self.left_out]
-        return words + ([] if self.switch is None else [f"--switch={self.switch}"])
+        words += [] if self.switch is None else [f"--switch={self.switch}"]
+        return words + ["--exercised"] * self.exercised
 
     def tapped(self, words: Sequence[str]) -> Options:
         """The same, with the words of interfaces that a table of taps says."""
@@ -109,6 +113,7 @@ def conform_options(args: argparse.Namespace) -> Options:
         start=args.begin,
         left_out=tuple(args.leave_out),
         switch=args.switch,
+        exercised=args.exercised,
         of_recordings=(*words, *["--lossy"] * args.lossy),
         recorders=Recorders(tuple(args.interface), tuple(args.left), fcs, args.stamps or "end"),
     )
@@ -119,6 +124,7 @@ def refuse_conform_options(args: argparse.Namespace) -> None:
     given = [name for name in AMOUNTS if getattr(args, name) is not None]
     given += ["leave-out"] * bool(args.leave_out) + ["switch"] * (args.switch is not None)
     given += ["left"] * bool(args.left) + ["lossy"] * args.lossy
+    given += ["exercised"] * args.exercised
     if args.stamps in BY_ROLE:
         given.append(f"stamps {args.stamps}")
     if given:

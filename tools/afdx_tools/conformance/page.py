@@ -4,7 +4,7 @@ from __future__ import annotations
 from html import escape
 
 from afdx_tools.conformance.judging import FINDINGS
-from afdx_tools.conformance.numbers import account_words
+from afdx_tools.conformance.numbers import account_words, no_verdict
 from afdx_tools.report import figures
 from afdx_tools.report.findings import left_words
 from afdx_tools.report.head import badge
@@ -22,8 +22,10 @@ from afdx_tools.report.whole import (
 from afdx_tools.tables import Row
 
 TABLES = {
+    "groups": "Findings by link, port and kind: how many, and the first line that each names",
     "deviations": "Findings: the lines of the program, with the frame that each names",
     "streams": "Links, ports and sides: what came, left, was found, and latency as measured, in ns",
+    "idle": "Links, ports and sides that are judged, and of which no frame is explained",
     "unseen": "Links, ports and sides that aren't judged, and what wasn't recorded of them",
 }
 PROVED = (
@@ -43,6 +45,7 @@ CARDS = {
     "uncertain": "uncertain",
     "left_out": "left out",
     "unseen": "unseen",
+    "idle": "idle",
     **{word: word for word in FINDINGS},
 }
 
@@ -52,6 +55,8 @@ def answer(report: Row) -> str:
     parts = []
     if report["fault"]:
         parts.append(badge(f"the run ended with: {report['fault']}", "bad"))
+        if no_verdict(report):
+            parts.append(f'<span class="muted">There is no verdict: {no_verdict(report)}</span>')
     else:
         is_good = report["status"] == 0
         parts.append(badge(report["verdict"], "good" if is_good else "bad"))
@@ -59,6 +64,8 @@ def answer(report: Row) -> str:
         if report.get("unseen"):
             words += f" Of {len(report['unseen'])} links, ports and sides nothing is said: they "
             words += "weren't recorded."
+        if report["idle"]:
+            words += f" Of {len(report['idle'])} that were no frame is explained: they were idle."
         parts.append(f'<span class="muted">{escape(words)}</span>')
     if report["admission"] != "ok":
         parts.append(badge(f"not admitted: {report['admission']}", "bad"))
@@ -107,7 +114,9 @@ def words_of(report: Row) -> str:
 def page(report: Row, most: int) -> str:
     """The whole page, with so many links in its picture."""
     totals = report["totals"]
-    names = {"picture": "latency", "deviations": "findings", "streams": "table of streams"}
+    names = {"picture": "latency", "groups": "findings by kind", "deviations": "findings"}
+    names |= {"streams": "table of streams"}
+    names |= {"idle": "what was idle"}
     names |= {"unseen": "what isn't judged"} if "unseen" in report else {}
     names |= {"made": "what made it"}
     parts = [

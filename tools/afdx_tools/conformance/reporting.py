@@ -12,12 +12,14 @@ from xml.etree import ElementTree as xml
 
 from afdx_tools.config import Config, read_config
 from afdx_tools.conformance.frames import Frame, frames_of_list
+from afdx_tools.conformance.grouping import groups, left_twice
 from afdx_tools.conformance.judging import Judged, judge
 from afdx_tools.conformance.measuring import Measured, links_at, numbers_in
-from afdx_tools.conformance.numbers import Numbers, account_words, totals_of
+from afdx_tools.conformance.numbers import Numbers, totals_of
 from afdx_tools.conformance.options import Options
 from afdx_tools.conformance.page import COUNTED, PROVED, TABLES, page
 from afdx_tools.conformance.recorded import Ends, Reading, Recorded, Taps
+from afdx_tools.conformance.text import print_text
 from afdx_tools.explaining import explain
 from afdx_tools.faults import Failed, Refused, shown
 from afdx_tools.inputs import as_file, at_hand
@@ -31,11 +33,8 @@ from afdx_tools.replay.running import check
 from afdx_tools.report.cover import Cover
 from afdx_tools.report.criteria import suite_of, write_junit
 from afdx_tools.report.made import digest, run_of
-from afdx_tools.report.ranking import latency_text, nearest
 from afdx_tools.report.where import utc
-from afdx_tools.tables import WRITTEN, Row, as_text, cell, csv_text, link_words
-
-MOST_TOLD = 10  # findings in the head of the text
+from afdx_tools.tables import WRITTEN, Row, csv_text
 
 
 class Inputs(NamedTuple):
@@ -138,7 +137,8 @@ def report_of(
     measured = Measured(config, options, came, left, judged.deviations, taps)
     stood = recorded.stood if inputs.are_recorded else None
     numbers = Numbers(config, checked, judged, measured, stood)
-    streams, naming = numbers.streams(), naming_beside(args.config)
+    streams, idle, found = numbers.streams(), numbers.idle(), numbers.deviations()
+    naming = naming_beside(args.config)
     return {
         "run": made_by(args, inputs, options, called, cover, recorded.time_0),
         "cover": cover.content if cover else None,
@@ -146,9 +146,11 @@ def report_of(
         "fault": judged.fault,
         "status": judged.status,
         "verdict": judged.verdict,
-        "totals": totals_of(judged, streams),
-        "deviations": named_rows(numbers.deviations(), naming),
+        "totals": totals_of(judged, streams, idle),
+        "groups": groups(named_rows(found, naming), left_twice(measured)),
+        "deviations": named_rows(found, naming),
         "streams": named_rows(streams, naming),
+        "idle": named_rows(idle, naming),
         **named_rows(of_recordings(inputs, judged, numbers) if inputs.are_recorded else {}, naming),
         "proved": PROVED,
         "counted": COUNTED,
@@ -164,50 +166,6 @@ def of_recordings(inputs: Inputs, judged: Judged, numbers: Numbers) -> Row:
 
 
 # ---- what is written -----------------------------------------------------------------------------
-
-
-def frame_text(row: Row, is_one: bool) -> str:
-    """Which frame a finding names; `is_one`: one recording has all numbers."""
-    if "stamp" not in row:
-        return f"line {row['line']} of {row['list']}"
-    return f"frame {row['line']}" + ("" if is_one else f" of {row['list']}")
-
-
-def deviation_text(row: Row, is_one: bool) -> str:
-    """A finding in words."""
-    words = f"{row['what']}: {frame_text(row, is_one)}"
-    words += "" if row["time_ns"] is None else f" at {row['time_ns']} ns"
-    words += ", no link" if row["link"] is None else f", link {link_words(row)}"
-    words += f", port {row['port']}" + (f" ({row['system']})" if row["system"] else "")
-    words += f" of {row['side']}" + (f": {row['reason']}" if row["reason"] else "")
-    return words + (f", by {row['by_ns']} ns" if row["by_ns"] is not None else "")
-
-
-def print_text(report: Row) -> None:
-    """The report as text."""
-    totals, found = report["totals"], report["deviations"]
-    print(f"{report['run']['title']}\n")
-    for name in ("fault", "verdict"):
-        if report[name]:
-            print(f"{name:11} {report[name]}")
-    for row in found[:MOST_TOLD]:
-        print(f"finding     {deviation_text(row, len(report.get('skipped', ())) == 1)}")
-    if len(found) > MOST_TOLD:
-        print(f"finding     {len(found) - MOST_TOLD} more, in the table below")
-    if report["verdict"]:
-        for name in ("explained", "open", "uncertain", "left_out", "unseen"):
-            print(f"{name.replace('_', ' '):11} {totals[name]}")
-        print(f"account     {account_words(totals)}")
-        print(f"measured    {totals['measured']} of {totals['of_streams']} frames that left")
-        most = nearest([row for row in report["streams"] if row["frames"]])
-        if most:
-            print(f"nearest     {latency_text(most)}")
-    for name, counts in report.get("skipped", {}).items():
-        print(f"skipped     {cell(counts)} in {name}")
-    for name, head in TABLES.items():
-        if name in report:
-            print(f"\n{head}\n{as_text(report[name])}", end="")
-    print(f"\n{PROVED}\n{COUNTED}")
 
 
 def json_of(report: Row) -> str:
