@@ -70,9 +70,10 @@ else
 fi
 
 parts="recordings report hardening criteria early page capture_faults wireshark"
-parts+=" icd explained icd_faults icd_documents icd_growth icd_cables traffic taps fill completion"
-parts+=" hostile_completion safe_outputs hostile_files around campaigns recorded_reports absence"
-parts+=" evidence annotated several_switches several_reports conformance package"
+parts+=" icd explained icd_faults icd_documents icd_growth icd_cables large_tables traffic taps"
+parts+=" fill completion hostile_completion safe_outputs hostile_files around campaigns"
+parts+=" recorded_reports absence evidence annotated several_switches several_reports conformance"
+parts+=" package"
 for part in $parts; do
     # shellcheck source=/dev/null
     source "$top/tests/tools/$part.sh"
