@@ -70,13 +70,43 @@ else
     skip 'afdx-report' 'there is no package numpy (apt-get install python3-numpy)'
 fi
 
-parts="recordings report hardening criteria early page capture_faults wireshark icd naming"
-parts+=" explained icd_faults icd_documents icd_growth icd_cables traffic taps fill"
-parts+=" completion hostile_completion safe_outputs hostile_files around campaigns"
-parts+=" recorded_reports absence evidence annotated several_switches several_reports"
-parts+=" conformance package"
-if [[ $# -gt 1 ]]; then parts=${*:2}; fi
-for part in $parts; do
+parts=(
+    recordings
+    report
+    hardening
+    criteria
+    early
+    page
+    capture_faults
+    wireshark
+    icd
+    naming
+    explained
+    icd_faults
+    icd_documents
+    icd_growth
+    icd_cables
+    large_tables
+    traffic
+    taps
+    fill
+    completion
+    hostile_completion
+    safe_outputs
+    hostile_files
+    around
+    campaigns
+    recorded_reports
+    absence
+    evidence
+    annotated
+    several_switches
+    several_reports
+    conformance
+    package
+)
+if [[ $# -gt 1 ]]; then parts=("${@:2}"); fi
+for part in "${parts[@]}"; do
     # shellcheck source=/dev/null
     source "$top/tests/tools/$part.sh"
 done

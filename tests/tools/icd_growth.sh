@@ -151,6 +151,13 @@ UDP port 1022 of link 22 at adc: depth 8 to 9
 ok
 '
     )"
+    printf 'profile = 1\nbuffer = 64\n' >"$at/linkless.toml"
+    icd "$at" --since linkless.toml
+    tell 'an earlier configuration without systems and links' "$(
+        is_status 0
+        grep -c ': new$' "$work/out" | grep -vx 8
+        says out 'link 10, air data: new'
+    )"
     tables "$at" '' '3s/,120,high/,100,high/'
     icd "$at" --raise --since "$work/earlier.toml"
     tell 'what is asked for and raised has its reason, too' "$(

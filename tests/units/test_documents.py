@@ -10,7 +10,7 @@ from afdx_tools.icd.reading import document_of
 from afdx_tools.icd.room import Room, room_of
 from afdx_tools.icd.submissions import Stream, begin_of, streams_of, submissions
 from afdx_tools.solving import Bounds, Worst
-from afdx_tools.spreadsheets.cells import Cells, bag_of
+from afdx_tools.spreadsheets.cells import Cells, bag_of, sum_of
 from afdx_tools.spreadsheets.heads import amount_of, columns_of
 from afdx_tools.spreadsheets.sheets import Row, Sheet, cells_of, row_of
 
@@ -122,6 +122,14 @@ class Bags(unittest.TestCase):
 
     def test_none_where_more_than_a_frame_a_ms_is_sent(self) -> None:
         self.assertIsNone(bag_of([Fraction(2), Fraction(2), Fraction(10**6)]))
+
+    def test_of_many_that_fill_it_to_the_last_bit(self) -> None:
+        # 1/2 + 1/6 + 1/12 and so on is 1 - 1/n
+        periods = [Fraction(number * (number + 1)) for number in range(1, 5000)]
+        self.assertEqual(bag_of([*periods, Fraction(5000)]), 1)
+        self.assertIsNone(bag_of([*periods, Fraction(5000) - Fraction(1, 10**9)]))
+        self.assertEqual(sum_of(periods)[0] * 5000, sum_of(periods)[1] * 4999)
+        self.assertEqual(bag_of([16 * period for period in [*periods, Fraction(5000)]]), 16)
 
 
 class Links(unittest.TestCase):

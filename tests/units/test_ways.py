@@ -4,7 +4,7 @@ from __future__ import annotations
 import tomllib
 import unittest
 
-from afdx_tools.faults import Failed
+from afdx_tools.faults import Failed, Refused
 from afdx_tools.icd.cabling import CABLES
 from afdx_tools.icd.cascade import Cascade, Receiver, Values
 from afdx_tools.icd.document import CABLED_MESSAGES, CABLED_SYSTEMS, Document
@@ -71,6 +71,10 @@ class ShortestWays(unittest.TestCase):
         self.assertEqual(way("d", "ab", "ac", "cd", "bd"), "acd")
         self.assertEqual(way("d", "ab", "ac", "bd", "cd"), "abd")
         self.assertEqual(way("d", "db", "dc", "ac", "ba"), "abd")
+
+    def test_of_many_switches(self) -> None:
+        names = [f"s{number}" for number in range(100_000)]
+        self.assertEqual(way_to(dict(zip(names, [None, *names])), names[-1]), names)
 
     def test_none(self) -> None:
         with self.assertRaises(KeyError):
@@ -344,10 +348,9 @@ class Faults(unittest.TestCase):
 
     def test_too_many_switches(self) -> None:
         cables = "".join(f"s{n},1,s{n + 1},2,100\n" for n in range(24))
-        self.assertEqual(
-            self.faults(cables, "p,s0,9,1,1,100\nq,s3,9,2,1,100\n"),
-            ["cables.csv line 25, s23: second switch s24: a side has 24 switches at most"],
-        )
+        line = "cables.csv line 25, s23: second switch s24: a side has 24 switches at most"
+        with self.assertRaisesRegex(Refused, f"^{line}$"):
+            self.faults(cables, "p,s0,9,1,1,100\nq,s3,9,2,1,100\n")
 
     def test_a_receiver_that_can_not_be_reached(self) -> None:
         self.assertEqual(

@@ -2,9 +2,9 @@
 from __future__ import annotations
 
 from dataclasses import dataclass, field
-from typing import Iterable, Iterator, NamedTuple
+from typing import Iterable, NamedTuple
 
-from afdx_tools.faults import shown
+from afdx_tools.faults import Refused, shown
 from afdx_tools.icd.names import NO_NAME
 from afdx_tools.spreadsheets.cells import Cells
 from afdx_tools.spreadsheets.heads import SECOND, amount_of
@@ -38,15 +38,35 @@ class Cable(NamedTuple):
         return (one, other) if other.switch == switch else (other, one)
 
 
+class Ending(NamedTuple):
+    """An end of a cable: the cable's place in the table, the cable, the end and the other one."""
+
+    place: int
+    cable: Cable
+    end: End
+    far: End
+
+
 @dataclass
 class Cabling:
     """The switches, by what the document calls them, in the order in which its cables name them;
-    the cables; and the switch of each system, all by their names in the configuration."""
+    the cables; and the switch of each system, all by their names in the configuration. The cables
+    stand there by the switch at which they end, and by the two that they join, too."""
 
     source: str
     switches: dict[str, str]
     cables: list[Cable] = field(default_factory=list)
     switch_of: dict[str, str] = field(default_factory=dict)
+    ending: dict[str, list[Ending]] = field(default_factory=dict)
+    joining: dict[frozenset[str], Cable] = field(default_factory=dict)
+
+    def add(self, cable: Cable) -> None:
+        """Adds a cable, the last one of the table till now."""
+        place, (one, other) = len(self.cables), cable.ends
+        self.cables.append(cable)
+        for end, far in ((one, other), (other, one)):
+            self.ending.setdefault(end.switch, []).append(Ending(place, cable, end, far))
+        self.joining.setdefault(frozenset((one.switch, other.switch)), cable)
 
     def called(self, switch: str) -> str:
         """What the document calls a switch of the configuration."""
@@ -56,26 +76,23 @@ class Cabling:
         """The switches that have another name in the configuration."""
         return {name: lawful for name, lawful in self.switches.items() if name != lawful}
 
-    def at(self, switch: str) -> Iterator[tuple[Cable, End, End]]:
-        """The cables that end at a switch, in the order of the table, each with its end there and
-        its other end."""
-        for cable in self.cables:
-            if switch in (end.switch for end in cable.ends):
-                other, end = cable.towards(switch)
-                yield cable, end, other
+    def at(self, switch: str) -> list[Ending]:
+        """The cables that end at a switch, in the order of the table."""
+        return self.ending.get(switch, [])
 
-    def joins(self, one: str, other: str) -> bool:
-        """A cable joins two switches."""
-        return any({one, other} == {end.switch for end in cable.ends} for cable in self.cables)
+    def joined(self, one: str, other: str) -> Cable | None:
+        """The first cable of the table that joins two switches."""
+        return self.joining.get(frozenset((one, other)))
 
 
-def refuse_switches(cabling: Cabling, cables: Iterable[Row], faults: list[str]) -> None:
-    """Notes the first switch that is one too many."""
-    if len(cabling.switches) > MOST_SWITCHES:
-        name = list(cabling.switches)[MOST_SWITCHES]
-        ends = ((row, column) for row in cables for column, _ in ENDS)
-        row, column = next((row, column) for row, column in ends if row.cells[column] == name)
-        faults.append(f"{row.at(column)}: a side has {MOST_SWITCHES} switches at most")
+def switches_of(cables: Iterable[Row]) -> list[str]:
+    """What the document calls the switches that cables name; Refused at the first one too many."""
+    found: dict[str, None] = {}
+    for row, column in ((row, column) for row in cables for column, _ in ENDS):
+        found[row.cells[column]] = None
+        if len(found) > MOST_SWITCHES:
+            raise Refused(f"{row.at(column)}: a side has {MOST_SWITCHES} switches at most")
+    return list(found)
 
 
 def add_cable(cabling: Cabling, row: Row, profile: int, faults: list[str]) -> None:
@@ -92,10 +109,10 @@ def add_cable(cabling: Cabling, row: Row, profile: int, faults: list[str]) -> No
     if one.switch == other.switch != "":
         cells.refuse(ENDS[1][0], "a cable joins two switches")
     elif one.switch and other.switch:
-        before = [each for each, end, far in cabling.at(one.switch) if far.switch == other.switch]
+        before = cabling.joined(one.switch, other.switch)
         if before:
-            cells.refuse(ENDS[1][0], f"{before[0].row.place} joins them too")
-        cabling.cables.append(Cable((one, other), rate, row))
+            cells.refuse(ENDS[1][0], f"{before.row.place} joins them too")
+        cabling.add(Cable((one, other), rate, row))
 
 
 def add_to_switch(cabling: Cabling, row: Row, name: str | None, faults: list[str]) -> None:

@@ -96,14 +96,14 @@ class Cascade:
         """The neighbours of a switch."""
         return [
             {"name": far.switch, "port": end.port, "rate": cable.rate}
-            for cable, end, far in self.cabling.at(switch)
+            for _, cable, end, far in self.cabling.at(switch)
             if cable in self.cables
         ]
 
     def cable_at(self, switch: str, port: int) -> tuple[Cable, str] | None:
         """The cable that ends at a port of a switch, and the column that says so; none where a
         system is."""
-        ends = ((cable, end) for cable, end, _ in self.cabling.at(switch))
+        ends = ((each.cable, each.end) for each in self.cabling.at(switch))
         return next(((cable, end.column) for cable, end in ends if end.port == port), None)
 
     def system_at(self, switch: str, port: int) -> str:

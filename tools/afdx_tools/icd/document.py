@@ -3,6 +3,7 @@ configuration: the messages of a number are those of a virtual link, each with a
 at each of its receivers."""
 from __future__ import annotations
 
+import functools
 from dataclasses import dataclass, field
 from fractions import Fraction
 from typing import Iterable, Iterator
@@ -32,6 +33,8 @@ AROUND = 47  # bytes of a frame that aren't the message's
 SHORTEST, LONGEST = 64, 1518  # bytes of a frame
 MOST_LINKS = MOST_PORTS = 4096
 POLICINGS = ("byte", "frame")
+# what all rows of a message say alike: the columns, and what a message has of them
+GIVEN_ALIKE = (("every_ms", "period_ms"), ("bytes", "bytes"))
 
 
 @dataclass
@@ -75,9 +78,14 @@ class Document:
     cabling: Cabling | None = None
     trees: dict[int, Tree] = field(default_factory=dict)
 
+    @functools.cached_property
+    def by_lawful(self) -> dict[str, str]:
+        """What the document calls each system, by its name in the configuration."""
+        return {lawful: name for name, lawful in self.names.items()}
+
     def called(self, name: str) -> str:
         """What the document calls a system of the configuration."""
-        return next(key for key, lawful in self.names.items() if lawful == name)
+        return self.by_lawful[name]
 
     def system_at(self, port: int) -> str:
         """What the document calls the system at a port of the switch."""
@@ -126,13 +134,15 @@ def receivers_of(document: Document, cells: Cells) -> list[str]:
     names = cells.words("to")
     if not names:
         cells.refuse("to", "it has to name a system")
-    for place, name in enumerate(names):
+    before: set[str] = set()
+    for name in names:
         if name not in document.system_rows:
             cells.refuse("to", f"no system is named {shown(name)}")
-        if name in names[:place]:
+        if name in before:
             cells.refuse("to", f"{shown(name)} stands twice")
         if name == cells.row.cells["from"]:
             cells.refuse("to", f"{shown(name)} is the sender")
+        before.add(name)
     return [document.names.get(name, "") for name in names]
 
 
@@ -182,21 +192,37 @@ def other_link(first: Message, other: Message) -> Iterator[tuple[str, str]]:
             yield column, f"{first.row.place} has {has}, on this link"
 
 
-def other_message(first: Message, other: Message) -> Iterator[tuple[str, str]]:
-    """The columns by which a row isn't more receivers of a message of the same link and UDP port,
-    and why."""
-    if first.row.name != other.row.name:
-        yield "port", f"{first.row.place} has it too, on this link"
-        return
-    for column, one, two in (
-        ("every_ms", first.period_ms, other.period_ms),
-        ("bytes", first.bytes, other.bytes),
-    ):
-        if None not in (one, two) and one != two:
-            yield column, f"{first.row.place} has {first.row.shown(column)}, of this message"
-    for name in other.to:
-        if name in first.to:
-            yield "to", f"{first.row.place} has {shown(name)} too, of this message"
+class Rows:
+    """Rows of one message, which agree: the first of them, those that first give its period and its
+    bytes, and which one has each receiver, with its number."""
+
+    def __init__(self, first: Message) -> None:
+        self.first, self.count = first, 0
+        self.givers: dict[str, Message] = {}
+        self.receivers: dict[str, tuple[int, Message]] = {}
+
+    def add(self, message: Message) -> None:
+        """Adds a row."""
+        for column, name in GIVEN_ALIKE:
+            if getattr(message, name) is not None:
+                self.givers.setdefault(column, message)
+        for receiver in message.to:
+            self.receivers.setdefault(receiver, (self.count, message))
+        self.count += 1
+
+    def contradicted(self, other: Message) -> Iterator[tuple[str, str]]:
+        """The columns by which a row isn't more receivers of the message, and why."""
+        if self.first.row.name != other.row.name:
+            yield "port", f"{self.first.row.place} has it too, on this link"
+            return
+        for column, name in GIVEN_ALIKE:
+            giver, value = self.givers.get(column), getattr(other, name)
+            if giver and value is not None and getattr(giver, name) != value:
+                yield column, f"{giver.row.place} has {giver.row.shown(column)}, of this message"
+        taken = [(*self.receivers[name], name) for name in other.to if name in self.receivers]
+        if taken:
+            _, message, name = min(taken, key=lambda each: each[0])
+            yield "to", f"{message.row.place} has {shown(name)} too, of this message"
 
 
 def apart(messages: list[Message]) -> dict[int | None, Message]:
@@ -209,15 +235,15 @@ def apart(messages: list[Message]) -> dict[int | None, Message]:
 
 def refuse_apart(document: Document, messages: list[Message]) -> None:
     """Notes which rows of a link contradict one another."""
-    by_port: dict[int | None, list[Message]] = {}
+    by_port: dict[int, Rows] = {}
     for message in messages:
         found: dict[str, str] = {}
         pairs = list(other_link(messages[0], message))
         if message.udp is not None:
-            before = by_port.setdefault(message.udp, [])
-            pairs += [pair for each in before for pair in other_message(each, message)]
+            before = by_port.get(message.udp)
+            pairs += before.contradicted(message) if before else []
             if not pairs:  # others are refused, and needn't agree with one another
-                before.append(message)
+                by_port.setdefault(message.udp, Rows(message)).add(message)
         for column, why in pairs:
             found.setdefault(column, why)
         document.faults += [f"{message.row.at(column)}: {why}" for column, why in found.items()]

@@ -13,8 +13,8 @@ from afdx_tools.icd.cabling import (
     Cabling,
     add_cable,
     add_to_switch,
-    refuse_switches,
     refuse_taken,
+    switches_of,
 )
 from afdx_tools.icd.document import (
     CABLED_MESSAGES,
@@ -64,7 +64,7 @@ def port_uses(systems: Sheet, cables: Sheet) -> Iterator[tuple[Row, str, str]]:
 def name_all(document: Document, systems: Sheet, cables: Sheet) -> Cabling:
     """What the configuration calls the systems and the switches, no two alike; the switches without
     their cables."""
-    switches = list(dict.fromkeys(row.cells[switch] for row in cables.rows for switch, _ in ENDS))
+    switches = switches_of(cables.rows)
     names = lawful_names([*switches, *(row.name for row in systems.rows)])
     document.names = {row.name: names[row.name] for row in systems.rows if row.name in names}
     return Cabling(cables.name, {name: names[name] for name in switches if name in names})
@@ -75,7 +75,6 @@ def add_cables(document: Document, cabling: Cabling, systems: Sheet, cables: She
     document.cabling = cabling
     for row in systems.rows:
         add_to_switch(cabling, row, document.names.get(row.name), document.faults)
-    refuse_switches(cabling, cables.rows, document.faults)
     for row in cables.rows:
         add_cable(cabling, row, document.profile, document.faults)
     refuse_taken(port_uses(systems, cables), document.faults)

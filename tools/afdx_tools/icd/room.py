@@ -44,7 +44,7 @@ def room_of(reserve: int, since: dict | None) -> Room:
     """The room that is asked for, beside the tables of an earlier configuration."""
     if since is None:
         return Room(reserve)
-    return Room(reserve, since["buffer"], {link["vl"]: link for link in since["link"]})
+    return Room(reserve, since["buffer"], {link["vl"]: link for link in since.get("link", [])})
 
 
 def roomy(document: Document, room: Room, bounds: Bounds, tables: dict) -> dict:

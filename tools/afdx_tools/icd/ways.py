@@ -24,11 +24,11 @@ def shortest(cabling: Cabling, first: str) -> Tree:
     while level:
         found: dict[str, tuple[int, int, str]] = {}
         for switch in level:
-            for cable, _, end in cabling.at(switch):
-                if end.switch not in before:
+            for place, cable, _, far in cabling.at(switch):
+                if far.switch not in before:
                     rate = min(slowest[switch], cable.rate or 0)
-                    offer = (-rate, cabling.cables.index(cable), switch)
-                    found[end.switch] = min(found.get(end.switch, offer), offer)
+                    offer = (-rate, place, switch)
+                    found[far.switch] = min(found.get(far.switch, offer), offer)
         for switch, (rate, _, last) in found.items():
             before[switch], slowest[switch] = last, -rate
         level = list(found)
@@ -37,8 +37,11 @@ def shortest(cabling: Cabling, first: str) -> Tree:
 
 def way_to(tree: Tree, switch: str) -> list[str]:
     """The switches on the way to one of them, the first switch first."""
-    before = tree[switch]
-    return [*(way_to(tree, before) if before is not None else []), switch]
+    way, before = [switch], tree[switch]
+    while before is not None:
+        way.append(before)
+        before = tree[before]
+    return way[::-1]
 
 
 # ---- what the document gives ---------------------------------------------------------------------
@@ -57,7 +60,7 @@ def via_fault(cabling: Cabling, message: Message) -> str:
     if source != first:
         return f"it has to begin at {cabling.called(source)}, where the sender is"
     for one, other in zip(way, others):
-        if not cabling.joins(one, other):
+        if not cabling.joined(one, other):
             return f"no cable joins {cabling.called(one)} and {cabling.called(other)}"
     ends = {cabling.switch_of.get(name, first) for name in message.to}
     missing = [switch for switch in cabling.switches.values() if switch in ends - set(way)]

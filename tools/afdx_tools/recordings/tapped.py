@@ -2,10 +2,11 @@
 from __future__ import annotations
 
 import filecmp
+import functools
 import os
 from typing import Callable, Iterable, NamedTuple
 
-from afdx_tools.config import MOST_PORTS, Config, Link, port_at, read_config
+from afdx_tools.config import MOST_PORTS, Config, port_at, read_config
 from afdx_tools.faults import LONGEST_NAME, Failed, Refused, cut, shown
 from afdx_tools.progress import Progress
 from afdx_tools.recordings.interfaces import OTHERS, Interface, interfaces_of
@@ -53,7 +54,6 @@ class Claims:
     def __init__(self, config: Config, all_tapped: Iterable[Tapped]) -> None:
         self.config, self.ports = config, config.ports_by_id()
         self.names = {port: end.name for port, end in config.by_port().items()}
-        self.links = config.links.values()
         # the places from which frames came that name them
         self.named = {
             each.tap.place
@@ -107,17 +107,20 @@ class Claims:
 
     def come_out(self, tap: Tap, sources: Iterable[bytes]) -> bool:
         """These are such systems, and their frames come out of the switch at the tap's place."""
-        ports = {link.port for link in self.links if tap.place and self.goes(link, tap.place)}
+        ports = self.senders.get(self.port_of(tap.place), set()) if tap.place else set()
         places = map(self.place_of, sources)
         come = all(place is not None and self.port_of(place) in ports for place in places)
         return come and self.are_others(tap, sources)
 
-    def goes(self, link: Link, place: Place) -> bool:
-        """A link's frames come out there."""
-        port = self.port_of(place)
-        if self.config.several:
-            return (link.vl, port) in self.config.several.ways
-        return port in link.ports
+    @functools.cached_property
+    def senders(self) -> dict[int, set[int]]:
+        """The ports of the senders of the links whose frames come out at each port."""
+        links, several = self.config.links, self.config.several
+        ends = several.ways if several else ((vl, end) for vl in links for end in links[vl].ports)
+        found: dict[int, set[int]] = {}
+        for vl, end in ends:
+            found.setdefault(end, set()).add(links[vl].port)
+        return found
 
     def is_wrong(self, tap: Tap, sources: Iterable[bytes]) -> bool:
         """The place is wrong, where not one frame agrees with it. It may be right if no system is

@@ -131,18 +131,27 @@ def called(number: int, name: str | None) -> str:
     return f"interface {number}{named}"
 
 
-def taps_for(taps: list[Tap], number: int, name: str | None) -> list[Tap]:
-    """The rows for an interface: those that have its number, as #0, else those of its name."""
-    numbered = [tap for tap in taps if tap.name == f"#{number}"]
-    return numbered or [tap for tap in taps if name is not None and tap.name == name]
+class Table:
+    """The rows of a table by the names of their interfaces."""
+
+    def __init__(self, taps: list[Tap]) -> None:
+        self.taps = taps
+        self.named: dict[str, list[Tap]] = {}
+        for tap in taps:
+            self.named.setdefault(tap.name, []).append(tap)
+
+    def rows_for(self, number: int, name: str | None) -> list[Tap]:
+        """The rows for an interface: those that have its number, as #0, else those of its name."""
+        numbered = self.named.get(f"#{number}", [])
+        return numbered or ([] if name is None else self.named.get(name, []))
 
 
-def tap_for(taps: list[Tap], recording: Recording, number: int, interface: Interface) -> Tap | str:
+def tap_for(table: Table, recording: Recording, number: int, interface: Interface) -> Tap | str:
     """The row of an interface, or why it has none."""
     if interface.other is not None:
         other = cut(interface.other, LONGEST_NAME)
         return f"is {other} in a later section of the file; mergecap makes one section of them"
-    rows = taps_for(taps, number, interface.name)
+    rows = table.rows_for(number, interface.name)
     here = [tap for tap in rows if tap.is_at(recording.side)]
     if len(here) > 1:
         return "is on both sides in the table; that takes a recording of each"
@@ -155,12 +164,12 @@ def tap_for(taps: list[Tap], recording: Recording, number: int, interface: Inter
     return f"has no row in the table; one named {named} with direction none leaves it out"
 
 
-def is_crossed(taps: list[Tap], recording: Recording) -> bool:
+def is_crossed(table: Table, recording: Recording) -> bool:
     """All of its interfaces that have a place are on the other side."""
     sides = {
         tap.place.side
         for number, interface in enumerate(recording.interfaces)
-        for tap in taps_for(taps, number, interface.name)
+        for tap in table.rows_for(number, interface.name)
         if tap.place
     }
     return recording.side is not None and bool(sides) and recording.side not in sides
@@ -170,33 +179,36 @@ def matched(found: Found, taps: list[Tap], recording: Recording) -> dict[int, Ta
     """The row of each interface of a recording, by its number. What has none is noted, and rows
     without an interface."""
     rows: dict[int, Tap] = {}
-    if is_crossed(taps, recording):
+    table, taken = Table(taps), set()
+    if is_crossed(table, recording):
         side, other = recording.side, "B" if recording.side == "A" else "A"
         why = f"is given as the recording of {side}, and the table has its interfaces on {other}"
         found.faults.append(f"{recording.name} {why}")
         return rows
     for number, interface in enumerate(recording.interfaces):
-        tap = tap_for(taps, recording, number, interface)
+        tap = tap_for(table, recording, number, interface)
         at = f"{recording.name}: {called(number, interface.name)}"
         if isinstance(tap, str):
             found.faults.append(f"{at} {tap}")
-        elif tap in rows.values():
+        elif tap.row.place in taken:
             found.faults.append(f"{at} has the name of another; a row #{number} tells them apart")
         else:
             rows[number] = tap
+            taken.add(tap.row.place)
     for side in "AB":
-        note_absent(found, recording, side, taps, list(rows.values()))
+        note_absent(found, recording, side, taps, taken)
     return rows
 
 
 def note_absent(
-    found: Found, recording: Recording, side: str, taps: list[Tap], rows: list[Tap]
+    found: Found, recording: Recording, side: str, taps: list[Tap], taken: set[str]
 ) -> None:
-    """Notes the rows of a side whose interfaces the recording doesn't have."""
+    """Notes the rows of a side whose interfaces the recording doesn't have; `taken` are the places
+    of those that it has."""
     there = [tap for tap in taps if tap.place and tap.place.side == side]
     wanted = [tap for tap in there if tap.is_at(recording.side)]
-    absent = [tap for tap in wanted if tap not in rows]
-    if wanted and absent == wanted and recording.side is None:
+    absent = [tap for tap in wanted if tap.row.place not in taken]
+    if wanted and len(absent) == len(wanted) and recording.side is None:
         found.remarks.append(f"{recording.name}: no interface of side {side} is in it")
         return
     for tap in absent:

@@ -1,7 +1,9 @@
 """The cells of a row of an interface document: what they have to be, and what they say."""
 from __future__ import annotations
 
+import itertools
 import re
+from collections import Counter
 from fractions import Fraction
 from typing import Iterable, Sequence
 
@@ -11,6 +13,7 @@ from afdx_tools.spreadsheets.sheets import Row
 BAGS_MS = (1, 2, 4, 8, 16, 32, 64, 128)
 MOST_US = 100_000  # of a latency and of a skew
 LONGEST_PERIOD = 10**9  # ms
+PARTS = 2**128  # of a message in a ms, in which many of them are counted
 
 
 class Cells:
@@ -88,8 +91,26 @@ class Cells:
         return [word for word in re.split(r"[\s,;]+", self.row.cells[column]) if word]
 
 
+def sum_of(periods: Iterable[Fraction]) -> tuple[int, int]:
+    """How many messages of these periods come in a ms: a number, and by what it is to be divided.
+    They are added by halves, so that most sums are of short numbers."""
+    counts = Counter(periods)
+    parts = [(count * period.denominator, period.numerator) for period, count in counts.items()]
+    while len(parts) > 1:
+        pairs = itertools.zip_longest(parts[::2], parts[1::2], fillvalue=(0, 1))
+        parts = [(one * by + two * of, of * by) for (one, of), (two, by) in pairs]
+    return parts[0] if parts else (0, 1)
+
+
 def bag_of(periods: Iterable[Fraction]) -> int | None:
     """The greatest BAG with which a link can send messages of these periods, in ms: in each BAG it
     sends one. None if there is no such BAG."""
-    in_a_ms = sum(1 / period for period in periods)
-    return max((bag for bag in BAGS_MS if bag * in_a_ms <= 1), default=None)
+    all_periods = list(periods)
+    # each is rounded down here, by less than one part
+    least = sum(PARTS * period.denominator // period.numerator for period in all_periods)
+    many = [bag for bag in BAGS_MS if bag * least <= PARTS]
+    few = [bag for bag in BAGS_MS if bag * (least + len(all_periods)) <= PARTS]
+    if many != few:  # the sum is so near to a BAG's that it has to be exact
+        amount, divisor = sum_of(all_periods)
+        few = [bag for bag in BAGS_MS if bag * amount <= divisor]
+    return max(few, default=None)
