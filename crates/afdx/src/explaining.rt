@@ -1,7 +1,6 @@
 //! Explanations: the command `explain`, and what follows the line of a fault with `--explain`.
 
 use crate::devices::INPUT_NAME;
-use crate::locating::place_in;
 use crate::telling::tell_text;
 use afdx_admit::{ADMISSION, CASCADE_ADMISSION};
 use afdx_config::{
@@ -11,6 +10,7 @@ use afdx_config::{
 use afdx_explain::{CONFORM_LINES, FAULTS, LINES, kind_of, meaning_of};
 use afdx_frame::{IP_FAULTS, MAC_FAULTS};
 use afdx_lists::{RECORDING_FAULTS, RUN_FAULTS};
+use afdx_locate::place_in;
 use afdx_police::REASONS;
 use afdx_receive::DROP_REASONS;
 use afdx_recorded::SKIPPED;

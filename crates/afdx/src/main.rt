@@ -5,11 +5,9 @@ mod configs;
 mod conforming;
 mod devices;
 mod explaining;
-mod locating;
 mod places;
 mod progress;
 mod running;
-mod searching;
 mod telling;
 
 use crate::configs::{check_config, solve_tables};

@@ -6,7 +6,7 @@ use toml_parser::{ParseError, dotted_key, quoted, starts_string, unquoted};
 
 /// A table that leads to what is searched for: one of an array of tables.
 #[derive(Clone, Copy)]
-pub struct Step<'a> {
+pub(crate) struct Step<'a> {
     /// The array's key.
     array: &'a str,
     /// How many of its tables are still to begin up to this one, and with it.
@@ -17,7 +17,7 @@ pub struct Step<'a> {
 
 impl<'a> Step<'a> {
     /// The table of this number, from 1.
-    pub fn to(array: &'a str, number: usize) -> Step<'a> {
+    pub(crate) fn to(array: &'a str, number: usize) -> Step<'a> {
         Step {
             array,
             left: number,
@@ -166,7 +166,7 @@ impl<'a> Search<'a> {
 /// The number of the line, from 1, on which a text that is TOML has this key of the table to which
 /// the steps lead, each in the one before it, or without a key on which that table begins. None
 /// where there is no such, or no memory.
-pub fn line_with<'a>(
+pub(crate) fn line_with<'a>(
     alloc: Global,
     text: &str,
     steps: Vec<Step<'a>>,

@@ -5,6 +5,7 @@ use afdx_config::{
     CASCADE_KEYS, Key, LINK_KEYS, NEIGHBOUR_KEYS, PORT_KEYS, SWITCH_KEYS, SYSTEM_KEYS, TOP_KEYS,
 };
 use std::alloc::{AllocError, Global};
+use std::fmt::Display;
 use toml::{Table, Value};
 
 /// The place that a fault's line names: the number of the switch, or 0 where it names none; the
@@ -17,8 +18,17 @@ struct Place<'a> {
     number: usize,
 }
 
-/// The place of a fault's line, or None where it has none.
-fn place_of(fault: &str) -> Option<Place<'_>> {
+/// The words of a place: of its numbers as they stand there, "0" where no switch is named.
+#[derive(Clone, Copy)]
+struct Words<'a> {
+    switch: &'a str,
+    part: &'a str,
+    index: &'a str,
+    number: &'a str,
+}
+
+/// The words of the place of a fault's line, or None where it has none.
+fn words_of(fault: &str) -> Option<Words<'_>> {
     let (_, place) = fault.strip_prefix("config ")?.split_once(' ')?;
     let (switch, place) = match place.strip_prefix("switch ") {
         Some(place) => place.split_once(' ')?,
@@ -26,11 +36,22 @@ fn place_of(fault: &str) -> Option<Place<'_>> {
     };
     let (part, place) = place.split_once(' ')?;
     let (index, number) = place.split_once(" key ")?;
-    Some(Place {
-        switch: switch.parse::<usize>().ok()?,
+    Some(Words {
+        switch,
         part,
-        index: index.parse::<usize>().ok()?,
-        number: number.parse::<usize>().ok()?,
+        index,
+        number,
+    })
+}
+
+/// The place of a fault's line, or None where it has none.
+fn place_of(fault: &str) -> Option<Place<'_>> {
+    let words = words_of(fault)?;
+    Some(Place {
+        switch: words.switch.parse::<usize>().ok()?,
+        part: words.part,
+        index: words.index.parse::<usize>().ok()?,
+        number: words.number.parse::<usize>().ok()?,
     })
 }
 
@@ -100,16 +121,24 @@ fn is_shown(text: &str) -> bool {
     !text.is_empty() && text.len() <= 40 && text.bytes().all(|byte| byte.is_ascii_graphic())
 }
 
+/// Puts a key of a table, and its value.
+fn put_mark<D: Display>(
+    text: &mut String,
+    before: &str,
+    mark: &str,
+    value: &D,
+) -> Result<(), AllocError> {
+    write!(text, "{before}{mark} {value}")
+}
+
 /// Puts a table, and the values by which a person knows it.
 fn put_table(text: &mut String, table: &Named<'_>) -> Result<(), AllocError> {
     write!(text, "{} {}", table.array, table.number)?;
     let mut before = " (";
     for mark in marks_of(table.array) {
         match table.row.get(*mark) {
-            Some(Value::Integer(value)) => write!(text, "{before}{mark} {value}")?,
-            Some(Value::String(value)) if is_shown(value) => {
-                write!(text, "{before}{mark} {value}")?;
-            }
+            Some(Value::Integer(value)) => put_mark(text, before, mark, value)?,
+            Some(Value::String(value)) if is_shown(value) => put_mark(text, before, mark, value)?,
             _ => continue,
         }
         before = ", ";
