@@ -1,4 +1,5 @@
 pub mod AmongLemmas
+pub mod ApartLemmas
 pub mod ReachedLemmas
 pub mod StateLemmas
 pub mod ExactLemmas
