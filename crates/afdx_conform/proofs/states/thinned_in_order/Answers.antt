@@ -51,4 +51,5 @@ pub returns-clause-defined : goal.returns-clause-defined
 returns-clause-defined c ys all = ((kept-of-all c.args.held.now (c.loop-state.done.items ++ c.loop-state.few.items)
     c.extend_from_slice.new.self.items c.loop-state.state-index (let h = c.loop-state-test.false in omega (arith, h))
     c.loop-state.invariant.0
-    (c.in_ok-extend_from_slice.ensures.items ∙ ap (λ (l : List Held). c.loop-state.done.items ++ l) c.as_slice.ensures.value)).few ys all).same
+    (c.in_ok-extend_from_slice.ensures.items
+    ∙ ap (λ (l : List Held). c.loop-state.done.items ++ l) c.as_slice.ensures.value)).few ys all).same
