@@ -72,3 +72,4 @@ pub mod CutLemmas
 pub mod OpenLemmas
 pub mod AloneLemmas
 pub mod CheckedLemmas
+pub mod BytesLemmas
