@@ -40,10 +40,7 @@ impl KnownBytes {
             HasEach self.new arrivals }
     {
         let front = Vec::from_slice(self.alloc, bytes.front())?;
-        match self.fronts.insert(front) {
-            Ok(_) => {}
-            Err(_) => return Err(AllocError),
-        }
+        self.fronts.insert(front)?;
         Ok(())
     }
 

@@ -3,8 +3,8 @@ use Rattle.afdx_conform.proofs.known_bytes.KnownBytes.add.Goals as goal
 
 pub returns-clause-kept : goal.returns-clause-kept
 returns-clause-kept c arrivals all =
-    each-kept _ c.args.self.now (record c.args.self.now { fronts = c.insert.new.self }) _ c.in-Ok.ensures.keys arrivals all
+    each-kept _ c.args.self.now (record c.args.self.now { fronts = c.insert.new.self }) _ c.in_ok-insert.ensures.keys arrivals all
 
-pub returns-in-Err-clause-kept : goal.returns-in-Err-clause-kept
-returns-in-Err-clause-kept c arrivals all =
-    each-same c.args.self.now (record c.args.self.now { fronts = c.insert.new.self }) c.in-Err.ensures.err arrivals all
+pub returns-in_err-insert-clause-kept : goal.returns-in_err-insert-clause-kept
+returns-in_err-insert-clause-kept c arrivals all =
+    each-same c.args.self.now (record c.args.self.now { fronts = c.insert.new.self }) c.in_err-insert.ensures.err arrivals all
