@@ -6,6 +6,7 @@ use Rattle.std.specs.Global.{Vec}
 use Rattle.afdx_conform.specs.Growing.{IsSame, IsSameOrLater, due_at, due_by, due_in}
 use Rattle.afdx_conform.specs.declared.arrived.Arrived.{Arrived}
 use Rattle.afdx_conform.specs.declared.growth.Growth.{Growth}
+use Rattle.afdx_conform.specs.declared.known_bytes.KnownBytes.{KnownBytes}
 use Rattle.afdx_conform.specs.declared.limits.Frame.{Frame}
 use Rattle.afdx_conform.specs.declared.limits.Limits.{Limits}
 
@@ -40,11 +41,11 @@ by-unsure : (u : Bool) (time : ℕ) (before after : Option ℕ) → IsSameOrLate
 by-unsure true time before after h = inl refl
 by-unsure false time before after h = h
 
-pub due-came : (old : Growth) (a : Arrived) (arrivals' : Vec Arrived) (count : ℕ)
+pub due-came : (old : Growth) (a : Arrived) (arrivals' : Vec Arrived) (count : ℕ) (known' : KnownBytes)
     → arrivals'.items ≡ old.arrivals.items ++ (a ∷ []) → length old.judging.marks.items ≤ length old.arrivals.items
-    → IsSameOrLater (due_by old) a.time (due_by (record old { arrivals = arrivals'; came = count }))
+    → IsSameOrLater (due_by old) a.time (due_by (record old { arrivals = arrivals'; came = count; known = known' }))
 unfolding due_by
-due-came old a arrivals' count items le =
+due-came old a arrivals' count known' items le =
     let fs = drop old.closed old.frames.items in
     let cs = drop (length old.judging.marks.items) old.arrivals.items in
     subst (λ (l : List Arrived). IsSameOrLater (if old.judging.is_unsure then None else due_in old.bounds.limits

@@ -51,4 +51,5 @@ sound-end old frames' held' front kept size held items few low closed high whole
       came = s.came;
       frames = omega (arith, f, size', high, whole);
       left = omega (arith, f, l, high, whole);
+      known = s.known;
     }

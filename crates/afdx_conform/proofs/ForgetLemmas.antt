@@ -190,6 +190,7 @@ sound-frames old count frames' held' items states closed s =
       came = s.came;
       frames = omega (arith, size, f);
       left = s.left;
+      known = s.known;
     }
 
 -- ---- arrivals

@@ -18,6 +18,7 @@ use Rattle.afdx_conform.specs.Streams.{Gone, Terms}
 use Rattle.afdx_conform.specs.declared.arrived.Arrived.{Arrived}
 use Rattle.afdx_conform.specs.declared.finding.Mark.{Mark}
 use Rattle.afdx_conform.specs.declared.growth.Growth.{Growth}
+use Rattle.afdx_conform.specs.declared.known_bytes.KnownBytes.{KnownBytes}
 use Rattle.afdx_conform.proofs.EveryLemmas.{every-append, every-reverse, reverse-first}
 use Rattle.afdx_conform.proofs.HistoryLemmas.{coming-more, drop-next, events-came, next-came}
 use Rattle.afdx_conform.proofs.LaterArrivals.{arrivals_later}
@@ -115,12 +116,12 @@ module _ (z : Terms) where
   -- ---- one more arrival
 
   module _ (xs : List Arrival) (ys : List Gone) (cut time : ℕ) (over : List Event) (a : Arrived) (old : Growth)
-      (arrivals' : Vec Arrived) (count : ℕ) where
+      (arrivals' : Vec Arrived) (count : ℕ) (known' : KnownBytes) where
     abbrev One : List Arrival
     One = arrival_of a ∷ []
 
     abbrev pub With : Growth
-    With = record old { arrivals = arrivals'; came = count }
+    With = record old { arrivals = arrivals'; came = count; known = known' }
 
     pub judged-came : time ≤ a.time → AreOver z time over → AreEvents z xs ys over
         → judged_by z (xs ++ One) ys over ≡ judged_by z xs ys over

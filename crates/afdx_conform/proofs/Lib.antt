@@ -1,4 +1,5 @@
 pub mod AmongLemmas
+pub mod ApartLemmas
 pub mod ReachedLemmas
 pub mod StateLemmas
 pub mod ExactLemmas
@@ -71,3 +72,4 @@ pub mod CutLemmas
 pub mod OpenLemmas
 pub mod AloneLemmas
 pub mod CheckedLemmas
+pub mod BytesLemmas

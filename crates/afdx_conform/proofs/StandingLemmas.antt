@@ -88,7 +88,8 @@ module _ (z : Terms) (xs : List Arrival) (ys : List Gone) (j : Judged) (time : �
       before = h.before;
       is_after = f;
       judged = λ until le.
-          ap (λ (k : Judged). shown k) (judged-came (until_then until z) xs ys 0 time h.over a old.growth old.growth.arrivals 0 m.behind
+          ap (λ (k : Judged). shown k) (judged-came (until_then until z) xs ys 0 time h.over a old.growth
+          old.growth.arrivals 0 old.growth.known m.behind
           (over-until z until time h.over h.before) (h.is_after until le).events)
           ∙ h.judged until le;
     }

@@ -13,6 +13,7 @@ use Rattle.afdx_conform.specs.Forgetting.{FitNone, with_gone}
 use Rattle.afdx_conform.specs.HeldStates.{IsWithin}
 use Rattle.afdx_conform.specs.Histories.{AreEvents, judged_by, unsure_in}
 use Rattle.afdx_conform.specs.Judging as judging
+use Rattle.afdx_conform.specs.KnownBytes.{AreKnown}
 use Rattle.afdx_conform.specs.Leeway.{both_slacks}
 use Rattle.afdx_conform.specs.LeewayOf.{leeway_of}
 use Rattle.afdx_conform.specs.Limits.{gone_of}
@@ -42,6 +43,7 @@ pub record IsSound (s : Growth) : Type 0 where
   pub came : s.came < most_held
   pub frames : length s.frames.items ≤ s.left
   pub left : s.left + s.cut < most_held
+  pub known : AreKnown s.known s.arrivals.items
 
 -- nothing has changed; the states are known from the first event on
 pub record IsSame (before after : Growth) : Type 0 where

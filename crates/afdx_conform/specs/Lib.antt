@@ -16,6 +16,7 @@ pub mod Naming
 pub mod Bounds
 pub mod Testing
 pub mod Judging
+pub mod KnownBytes
 pub mod FindingLaws
 pub mod Thinned
 pub mod Right

@@ -4,6 +4,7 @@ ghost use Rattle.std.specs.Prelude.{◌≡◌, ◌≤◌, ◌<◌, ◌-◌, ◌+
 ghost use Rattle.std.specs.Prelude.{if◌then◌else◌, length, map, drop, get_or, All, IfOk, OnOk, OnErr};
 ghost use Rattle.afdx_frame.specs.Regulation.{Regulation};
 ghost use Rattle.afdx_conform.specs.Accounts.{AreLevels, AreRates};
+ghost use Rattle.afdx_conform.specs.KnownBytes.{AreKnown};
 ghost use Rattle.afdx_conform.specs.Leeway.{Leeway as By};
 ghost use Rattle.afdx_conform.specs.Bounds.{AreBounds};
 ghost use Rattle.afdx_conform.specs.Explanations.{link, levels_then};
@@ -22,6 +23,7 @@ use crate::bounds::Bounds;
 use crate::deviate::{deviate, has_any};
 use crate::finding::{Finding, Mark};
 use crate::judging::Judging;
+use crate::known_bytes::KnownBytes;
 use crate::leading::{Moment, led_alone, led_from};
 use crate::levels::Rates;
 use crate::limits::Frame;
@@ -153,6 +155,7 @@ fn go_wrong(
     judging: &mut Judging,
     alloc: Global,
     bounds: &Bounds,
+    known: &KnownBytes,
     arrivals: &[Arrived],
     frames: &[Frame],
     arrived: &Arrived,
@@ -162,6 +165,7 @@ fn go_wrong(
     requires place { length judging.old.marks.items < length arrivals.now }
     requires few { length frames.now < most_held }
     requires counted { judging.old.uncertain < most_held }
+    requires known { AreKnown known.now arrivals.now }
     requires within { (count : ℕ) × (count < most_held)
         × All (λ h. IsWithin bounds.now.rates (length frames.now) count h)
         judging.old.held.items }
@@ -196,7 +200,7 @@ fn go_wrong(
     let mut marks = Vec::from_slice(alloc, judging.marks.as_slice())?;
     let held = Vec::from_slice(alloc, judging.held.as_slice())?;
     let outcome = deviate(
-        alloc, bounds, held, frames, arrivals, &mut marks, arrived, moment,
+        alloc, bounds, held, frames, known, arrivals, &mut marks, arrived, moment,
     )?;
     let few = thinned(alloc, outcome.held.as_slice())?;
     marks.push(Mark {
@@ -209,11 +213,12 @@ fn go_wrong(
 }
 
 /// Judges an arrival, the first without a mark: gives what is found, in its order. Fails only out
-/// of memory; then nothing has changed.
-pub fn judge_arrival(
+/// of memory; then nothing has changed. `known` are the bytes of the arrivals.
+pub(crate) fn judge_with(
     judging: &mut Judging,
     alloc: Global,
     bounds: &Bounds,
+    known: &KnownBytes,
     arrivals: &[Arrived],
     frames: &[Frame],
     arrived: &Arrived,
@@ -222,6 +227,7 @@ pub fn judge_arrival(
     requires place { length judging.old.marks.items < length arrivals.now }
     requires few { length frames.now < most_held }
     requires counted { judging.old.uncertain < most_held }
+    requires known { AreKnown known.now arrivals.now }
     requires within { (count : ℕ) × (count < most_held)
         × All (λ h. IsWithin bounds.now.rates (length frames.now) count h)
         judging.old.held.items }
@@ -270,6 +276,51 @@ pub fn judge_arrival(
         return Ok(Vec::new(alloc));
     }
     go_wrong(
-        judging, alloc, bounds, arrivals, frames, arrived, moment, tested,
+        judging, alloc, bounds, known, arrivals, frames, arrived, moment, tested,
+    )
+}
+
+/// Judges an arrival, the first without a mark: gives what is found, in its order. Fails only out
+/// of memory; then nothing has changed.
+pub fn judge_arrival(
+    judging: &mut Judging,
+    alloc: Global,
+    bounds: &Bounds,
+    arrivals: &[Arrived],
+    frames: &[Frame],
+    arrived: &Arrived,
+    moment: Moment,
+) -> Result<Vec<Finding>, AllocError>
+    requires place { length judging.old.marks.items < length arrivals.now }
+    requires few { length frames.now < most_held }
+    requires counted { judging.old.uncertain < most_held }
+    requires within { (count : ℕ) × (count < most_held)
+        × All (λ h. IsWithin bounds.now.rates (length frames.now) count h)
+        judging.old.held.items }
+    ensures defined { (z : Terms) (last : ℕ) (j : Judged) →
+        AreBounds z bounds.now → IsJudged z arrived.now →
+        arrived.now ≡ get_or arrivals.now (length judging.old.marks.items) arrived.now →
+        moment.ns ≡ arrived.now.time - last →
+        moment.is_open ≡ is_open_by z (arrival_of arrived.now) → j.is_unsure ≡ false →
+        StandsFor bounds.now.rates frames.now arrivals.now j judging.old →
+        IfOk result (λ found. StandsFor bounds.now.rates frames.now arrivals.now
+        (came_to z (map arrival_of (drop (length judging.old.marks.items + 1) arrivals.now)) last
+        (arrival_of arrived.now) j) judging.new
+        × AreFound arrived.now.time found.items j
+        (came_to z (map arrival_of (drop (length judging.old.marks.items + 1) arrivals.now)) last
+        (arrival_of arrived.now) j)) }
+    ensures marks { OnOk result
+        (length judging.new.marks.items ≡ length judging.old.marks.items + 1) }
+    ensures counted { OnOk result (judging.new.uncertain ≤ judging.old.uncertain + 1) }
+    ensures within { (l : Regulation) (by : By) (count : ℕ) → AreRates l by bounds.now.rates →
+        All (λ h. IsWithin bounds.now.rates (length frames.now) count h)
+        judging.old.held.items →
+        OnOk result (All (λ h. IsWithin bounds.now.rates (length frames.now) (count + 1) h)
+        judging.new.held.items) }
+    ensures refused { OnErr result (IsUnchanged judging.old judging.new) }
+{
+    let known = KnownBytes::new(alloc);
+    judge_with(
+        judging, alloc, bounds, &known, arrivals, frames, arrived, moment,
     )
 }

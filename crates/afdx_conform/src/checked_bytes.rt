@@ -4,6 +4,7 @@ ghost use Rattle.std.specs.Prelude.{◌≡◌, ◌↔◌, IfOk, IsTrue, length};
 ghost use Rattle.std.specs.Str.{bytes_eq};
 ghost use Rattle.afdx_frame.specs.Parts.{bytes_of};
 ghost use Rattle.afdx_frame.specs.Sealing.{is_sealed, sealed_wrongly};
+ghost use Rattle.afdx_conform.specs.KnownBytes.{front_of};
 
 use crate::spare::Spare;
 use afdx_frame::{Checked, Seal, fcs};
@@ -21,6 +22,13 @@ fn is_sealed_wrongly(bytes: &[u8], message: &[u8]) -> bool
     }
     let (front, last) = bytes.split_at(message.len());
     front == message && last == (!fcs(message)).to_le_bytes().as_slice()
+}
+
+/// All of these bytes but the last four.
+fn without_four(bytes: &[u8]) -> &[u8]
+    ensures { result.now ≡ front_of bytes.now }
+{
+    &bytes[..bytes.len().saturating_sub(4)]
 }
 
 /// Whether two frames are sealed alike.
@@ -84,6 +92,18 @@ impl CheckedBytes {
         ensures { result ≡ length self.now }
     {
         self.frame().length()
+    }
+
+    /// All but the last four.
+    pub(crate) fn front(&self) -> &[u8]
+        ensures { result.now ≡ front_of self.now }
+    {
+        let message = self.message.as_slice();
+        match self.seal {
+            Seal::Right => message,
+            Seal::Wrong => message,
+            Seal::Missing => without_four(message),
+        }
     }
 
     /// Whether the last four are the check sequence of the others.

@@ -16,13 +16,13 @@ ghost use Rattle.afdx_conform.specs.declared.upcoming.Upcoming.TheVariants.{Clos
 ghost use Rattle.afdx_frame.specs.Times.{latest_listed};
 
 use crate::arrived::Arrived;
-use crate::arriving::judge_arrival;
+use crate::arriving::judge_with;
 use crate::closing::closed_by;
 use crate::finding::Finding;
 use crate::first::first_held;
 use crate::forgetting::passed_by_all;
 use crate::growth::Growth;
-use crate::judging::judge_closing;
+use crate::judging::close_with;
 use crate::leading::Moment;
 use crate::limits::{Frame, Limits};
 use crate::spare::Spare;
@@ -182,10 +182,11 @@ impl Growth {
         let moment = Moment { ns, is_open };
         let told = moment_of(&self.bounds.limits, arrived.time);
         let last = last_after(arrived, self.last);
-        let found = judge_arrival(
+        let found = judge_with(
             &mut self.judging,
             spare.alloc(),
             &self.bounds,
+            &self.known,
             self.arrivals.as_slice(),
             self.frames.as_slice(),
             arrived,
@@ -217,10 +218,11 @@ impl Growth {
         let time = self.frames[self.closed].time;
         let frames = self.frames.as_slice();
         let to = closed_by(frames, self.closed + 1, self.closing, time);
-        let found = judge_closing(
+        let found = close_with(
             &mut self.judging,
             spare.alloc(),
             &self.bounds,
+            &self.known,
             self.arrivals.as_slice(),
             self.frames.as_slice(),
             to,

@@ -8,6 +8,7 @@ ghost use Rattle.afdx_conform.specs.Bounds.{AreBounds, HaveToPass};
 ghost use Rattle.afdx_conform.specs.Explanations.{link, levels_then};
 ghost use Rattle.afdx_conform.specs.Findings.{Judged, with_states, aged, as_accepted, deviates, front_rest};
 ghost use Rattle.afdx_conform.specs.HeldStates.{IsWithin, state_of};
+ghost use Rattle.afdx_conform.specs.KnownBytes.{AreKnown};
 ghost use Rattle.afdx_conform.specs.Leeway.{Leeway as By};
 ghost use Rattle.afdx_conform.specs.Limits.{gone_of};
 ghost use Rattle.afdx_conform.specs.Marks.{IsCharged, arrival_of, marked_all, told};
@@ -20,6 +21,7 @@ use crate::bounds::Bounds;
 use crate::deviating::deviation;
 use crate::finding::{Deviation, Finding, Mark};
 use crate::fronts::{front_of, lead_past};
+use crate::known_bytes::KnownBytes;
 use crate::leading::{Moment, accept_all, led_from};
 use crate::levels::Rates;
 use crate::limits::Frame;
@@ -79,6 +81,7 @@ pub(crate) fn deviate(
     bounds: &Bounds,
     held: Vec<Held>,
     frames: &[Frame],
+    known: &KnownBytes,
     arrivals: &[Arrived],
     marks: &mut Vec<Mark>,
     arrived: &Arrived,
@@ -86,6 +89,7 @@ pub(crate) fn deviate(
 ) -> Result<Outcome, AllocError>
     requires place { length marks.old.items < length arrivals.now }
     requires few { length frames.now < most_held }
+    requires known { AreKnown known.now arrivals.now }
     requires within { (count : ℕ) × (count < most_held)
         × All (λ h. IsWithin bounds.now.rates (length frames.now) count h) held.items }
     ensures defined { (z : Terms) (last : ℕ) (j : Judged) →
@@ -116,7 +120,8 @@ pub(crate) fn deviate(
     let mut found = Vec::new(alloc);
     while front < frames.len() {
         let frame = &frames[front];
-        match deviation(&bounds.limits, arrived, behind, frame) {
+        let is_strange = known.is_other(&frame.bytes);
+        match deviation(&bounds.limits, arrived, behind, frame, is_strange) {
             Deviation::Stopped => {
                 let stopped = Finding::Stopped(arrived.number);
                 let states = held.as_slice();
@@ -146,7 +151,7 @@ pub(crate) fn deviate(
             }
             Deviation::Other => {}
         }
-        let finding = unexplained(&bounds.limits, arrivals, marks, 0, frame);
+        let finding = unexplained(&bounds.limits, arrivals, marks, 0, frame, is_strange);
         found.push(finding)?;
         let before = held.as_slice();
         let lead = lead_past(alloc, before, front, front + 1)?;

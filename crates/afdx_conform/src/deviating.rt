@@ -1,10 +1,11 @@
 //! What a switch did with an arrival that leaves no state.
 
-ghost use Rattle.std.specs.Prelude.{◌≡◌, ◌+◌, ◌-◌, map};
+ghost use Rattle.std.specs.Prelude.{◌≡◌, ◌+◌, ◌-◌, IsTrue, map};
 ghost use Rattle.std.specs.List.{list_any};
 ghost use Rattle.std.specs.Str.{bytes_eq};
 ghost use Rattle.afdx_conform.specs.Findings.{is_far as far, is_late as late, is_early as early};
 ghost use Rattle.afdx_conform.specs.Findings.{deviation_of};
+ghost use Rattle.afdx_conform.specs.KnownBytes.{AreOthers};
 ghost use Rattle.afdx_conform.specs.Limits.{AreLimits, gone_of};
 ghost use Rattle.afdx_conform.specs.Marks.{arrival_of};
 ghost use Rattle.afdx_conform.specs.Streams.{Terms, fits as fits_it, is_no_sooner as no_sooner};
@@ -60,8 +61,8 @@ fn is_early(limits: &Limits, arrived: &Arrived, frame: &Frame) -> bool
     !is_no_sooner(limits, arrived, frame)
 }
 
-/// Whether the frame fits one of these arrivals.
-fn fits_one(limits: &Limits, arrivals: &[Arrived], frame: &Frame) -> bool
+/// Whether the frame fits one of these arrivals, by each of them.
+fn fits_among(limits: &Limits, arrivals: &[Arrived], frame: &Frame) -> bool
     ensures { (z : Terms) → AreLimits z limits.now → result
         ≡ list_any (λ w. fits_it z w (gone_of frame.now)) (map arrival_of arrivals.now) }
 {
@@ -71,6 +72,20 @@ fn fits_one(limits: &Limits, arrivals: &[Arrived], frame: &Frame) -> bool
         }
     }
     false
+}
+
+/// Whether the frame fits one of these arrivals. `is_other` says that none is known to have its
+/// bytes.
+fn fits_one(limits: &Limits, arrivals: &[Arrived], frame: &Frame, is_other: bool) -> bool
+    requires { IsTrue is_other → AreOthers frame.now.bytes arrivals.now }
+    ensures { (z : Terms) → AreLimits z limits.now → result
+        ≡ list_any (λ w. fits_it z w (gone_of frame.now)) (map arrival_of arrivals.now) }
+{
+    if is_other {
+        false
+    } else {
+        fits_among(limits, arrivals, frame)
+    }
 }
 
 /// By how many ns the frame, which is the arrival's, left too early.
@@ -93,13 +108,16 @@ fn late_by(limits: &Limits, arrived: &Arrived, frame: &Frame) -> u64
         .saturating_sub(limits.latency)
 }
 
-/// What the switch did with an arrival, by the next frame; `behind` came after it.
+/// What the switch did with an arrival, by the next frame; `behind` came after it. `is_other` says
+/// that none of these is known to have the frame's bytes.
 pub(crate) fn deviation(
     limits: &Limits,
     arrived: &Arrived,
     behind: &[Arrived],
     frame: &Frame,
+    is_other: bool,
 ) -> Deviation
+    requires { IsTrue is_other → AreOthers frame.now.bytes behind.now }
     ensures { (z : Terms) → AreLimits z limits.now → result
         ≡ deviation_of z (map arrival_of behind.now) (arrival_of arrived.now)
         (gone_of frame.now) }
@@ -111,7 +129,7 @@ pub(crate) fn deviation(
         let by = early_by(limits, arrived, frame);
         return Deviation::Took(Finding::Early(arrived.number, by));
     }
-    if fits_one(limits, behind, frame) {
+    if fits_one(limits, behind, frame, is_other) {
         return Deviation::Stopped;
     }
     if is_late(limits, arrived, frame) {

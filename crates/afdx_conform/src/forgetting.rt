@@ -16,7 +16,7 @@ use crate::spare::Spare;
 use crate::states::Held;
 
 /// Lets go of the first `count` items.
-fn forget_first<T: Drop>(items: &mut Vec<T>, count: usize)
+pub(crate) fn forget_first<T: Drop>(items: &mut Vec<T>, count: usize)
     requires { count ≤ length items.old.items }
     ensures { items.new.items ≡ drop count items.old.items }
 {

@@ -19,6 +19,7 @@ ghost use Rattle.afdx_conform.specs.Streams.{Gone, Terms};
 use crate::arrived::Arrived;
 use crate::bounds::Bounds;
 use crate::judging::Judging;
+use crate::known_bytes::KnownBytes;
 use crate::leeway::Leeway;
 use crate::limits::Frame;
 use afdx_police::LinkRule;
@@ -28,7 +29,7 @@ use std::alloc::{AllocError, Global};
 const MOST_HELD: u64 = 1 << 56;
 
 /// What is kept of a stream: what it is judged by, the arrivals and frames that are held and how
-/// far they are judged, and what is counted of all of them.
+/// far they are judged, the bytes of these arrivals, and what is counted of all of them.
 ///
 /// `rule` is that of its link. `closed` of the frames that are held are closed; `closing` were as
 /// old as the one that was closed last, by which a guess saves to count them for each frame of one
@@ -43,6 +44,7 @@ pub(crate) struct Growth {
     pub(crate) bounds: Bounds,
     pub(crate) by: Leeway,
     pub(crate) arrivals: Vec<Arrived>,
+    pub(crate) known: KnownBytes,
     pub(crate) frames: Vec<Frame>,
     pub(crate) judging: Judging,
     pub(crate) closed: usize,
@@ -87,6 +89,7 @@ impl Growth {
             bounds,
             by,
             arrivals: Vec::new(alloc),
+            known: KnownBytes::new(alloc),
             frames: Vec::new(alloc),
             judging,
             closed: 0,
@@ -121,6 +124,7 @@ impl Growth {
             self.judging.is_unsure = true;
             return Ok(());
         }
+        self.known.tell(self.arrivals.as_slice(), &arrived)?;
         self.arrivals.push(arrived)?;
         self.came += 1;
         Ok(())

@@ -6,6 +6,7 @@ ghost use Rattle.afdx_conform.specs.Bounds.{AreBounds};
 ghost use Rattle.afdx_conform.specs.Findings.{Judged, closed_to};
 ghost use Rattle.afdx_conform.specs.HeldStates.{AreClosed, IsWithin};
 ghost use Rattle.afdx_conform.specs.Judging.{StandsFor, AreFound};
+ghost use Rattle.afdx_conform.specs.KnownBytes.{AreKnown};
 ghost use Rattle.afdx_conform.specs.Leeway.{both_slacks};
 ghost use Rattle.afdx_conform.specs.Limits.{gone_of};
 ghost use Rattle.afdx_conform.specs.Streams.{Terms};
@@ -14,6 +15,7 @@ use crate::arrived::Arrived;
 use crate::bounds::Bounds;
 use crate::finding::{Finding, Mark};
 use crate::fronts::{front_of, lead_past};
+use crate::known_bytes::KnownBytes;
 use crate::limits::Frame;
 use crate::naming::unexplained_all;
 use crate::states::{Held, close};
@@ -44,12 +46,14 @@ fn skip(
     judging: &mut Judging,
     alloc: Global,
     bounds: &Bounds,
+    known: &KnownBytes,
     arrivals: &[Arrived],
     frames: &[Frame],
     closed: usize,
 ) -> Result<Vec<Finding>, AllocError>
     requires marks { length judging.old.marks.items ≤ length arrivals.now }
     requires closed { closed ≤ length frames.now }
+    requires known { AreKnown known.now arrivals.now }
     ensures defined { (z : Terms) (time : ℕ) (j : Judged) → AreBounds z bounds.now →
         AreClosed time closed (map gone_of frames.now) →
         list_any (λ h. nat_le closed h.passed) judging.old.held.items ≡ false →
@@ -72,11 +76,47 @@ fn skip(
     let front = foremost.min(closed);
     let mut marks = Vec::from_slice(alloc, judging.marks.as_slice())?;
     let passed = &frames[front..closed];
-    let found = unexplained_all(alloc, &bounds.limits, arrivals, &mut marks, passed)?;
+    let found = unexplained_all(alloc, &bounds.limits, known, arrivals, &mut marks, passed)?;
     let lead = lead_past(alloc, judging.held.as_slice(), front, closed)?;
     judging.held = lead;
     judging.marks = marks;
     Ok(found)
+}
+
+/// Judges the closing of the first `closed` frames: gives what is found, in its order. Fails only
+/// out of memory; then nothing has changed. `known` are the bytes of the arrivals.
+pub(crate) fn close_with(
+    judging: &mut Judging,
+    alloc: Global,
+    bounds: &Bounds,
+    known: &KnownBytes,
+    arrivals: &[Arrived],
+    frames: &[Frame],
+    closed: usize,
+) -> Result<Vec<Finding>, AllocError>
+    requires marks { length judging.old.marks.items ≤ length arrivals.now }
+    requires closed { closed ≤ length frames.now }
+    requires known { AreKnown known.now arrivals.now }
+    ensures defined { (z : Terms) (time : ℕ) (j : Judged) → AreBounds z bounds.now →
+        AreClosed time closed (map gone_of frames.now) → j.is_unsure ≡ false →
+        StandsFor bounds.now.rates frames.now arrivals.now j judging.old →
+        IfOk result (λ found.
+        StandsFor bounds.now.rates frames.now arrivals.now (closed_to z time j) judging.new
+        × AreFound (time + both_slacks z.by) found.items j (closed_to z time j)) }
+    ensures marks { length judging.new.marks.items ≡ length judging.old.marks.items }
+    ensures uncertain { judging.new.uncertain ≡ judging.old.uncertain }
+    ensures within { (count : ℕ) →
+        All (λ h. IsWithin bounds.now.rates (length frames.now) count h)
+        judging.old.held.items →
+        All (λ h. IsWithin bounds.now.rates (length frames.now) count h)
+        judging.new.held.items }
+    ensures refused { OnErr result (judging.new ≡ judging.old) }
+{
+    if is_one_passed(judging.held.as_slice(), closed) {
+        close(&mut judging.held, closed);
+        return Ok(Vec::new(alloc));
+    }
+    skip(judging, alloc, bounds, known, arrivals, frames, closed)
 }
 
 /// Judges the closing of the first `closed` frames: gives what is found, in its order. Fails only
@@ -106,9 +146,6 @@ pub fn judge_closing(
         judging.new.held.items }
     ensures refused { OnErr result (judging.new ≡ judging.old) }
 {
-    if is_one_passed(judging.held.as_slice(), closed) {
-        close(&mut judging.held, closed);
-        return Ok(Vec::new(alloc));
-    }
-    skip(judging, alloc, bounds, arrivals, frames, closed)
+    let known = KnownBytes::new(alloc);
+    close_with(judging, alloc, bounds, &known, arrivals, frames, closed)
 }

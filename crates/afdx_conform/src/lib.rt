@@ -21,6 +21,7 @@ mod forgetting;
 mod fronts;
 mod growth;
 mod judging;
+mod known_bytes;
 pub mod laws;
 mod leading;
 mod leeway;

@@ -5,8 +5,10 @@ ghost use Rattle.std.specs.Prelude.{length, map, slice_get, take};
 ghost use Rattle.std.specs.List.{list_any};
 ghost use Rattle.afdx_conform.specs.Findings.{names_it as may_name, is_of_right};
 ghost use Rattle.afdx_conform.specs.Findings.{damage as damage_of, strangeness as strangeness_of};
-ghost use Rattle.afdx_conform.specs.Findings.{first_named, once_named, finding_or, Judged};
+ghost use Rattle.afdx_conform.specs.Findings.{damaged_or, first_named, once_named, finding_or, Judged};
+ghost use Rattle.afdx_conform.specs.KnownBytes.{AreKnown, AreOthers};
 ghost use Rattle.afdx_conform.specs.declared.finding.Finding.TheVariants.{Strange};
+ghost use Rattle.afdx_conform.specs.declared.finding.Strangeness.TheVariants.{NoArrival};
 ghost use Rattle.afdx_conform.specs.Marks.{marked_of, marked_all, told};
 ghost use Rattle.afdx_conform.specs.Naming.{AreSettled, IsNoneNamed, IsNamedAt, may_be_named};
 ghost use Rattle.afdx_conform.specs.Naming.{unexplained_all};
@@ -16,6 +18,7 @@ ghost use Rattle.afdx_conform.specs.Streams.{Terms};
 use crate::arrived::Arrived;
 use crate::checked_bytes::CheckedBytes;
 use crate::finding::{Finding, Mark, Strangeness};
+use crate::known_bytes::KnownBytes;
 use crate::limits::{Frame, Limits};
 use afdx_frame::{GREATEST_FRAME, LEAST_FRAME};
 use afdx_police::Reason;
@@ -120,6 +123,16 @@ fn damage(bytes: &CheckedBytes) -> Option<Reason>
     None
 }
 
+/// What is wrong with a frame whose bytes no arrival has.
+fn strangeness_alone(frame: &Frame) -> Strangeness
+    ensures { result ≡ damaged_or (damage_of frame.now.bytes) NoArrival }
+{
+    match damage(&frame.bytes) {
+        Some(reason) => Strangeness::Damaged(reason),
+        None => Strangeness::NoArrival,
+    }
+}
+
 /// What is wrong with a frame that no arrival explains.
 fn strangeness(limits: &Limits, arrivals: &[Arrived], marks: &[Mark], frame: &Frame) -> Strangeness
     requires { length marks.now ≤ length arrivals.now }
@@ -139,17 +152,20 @@ fn strangeness(limits: &Limits, arrivals: &[Arrived], marks: &[Mark], frame: &Fr
 }
 
 /// What is found of a frame that no arrival explains. An arrival that the finding names, behind the
-/// first `settled`, is marked so. Marks are those of the first arrivals.
+/// first `settled`, is marked so. Marks are those of the first arrivals. `is_other` says that no
+/// arrival is known to have its bytes.
 pub(crate) fn unexplained(
     limits: &Limits,
     arrivals: &[Arrived],
     marks: &mut Vec<Mark>,
     settled: usize,
     frame: &Frame,
+    is_other: bool,
 ) -> Finding
     requires marks { length marks.old.items ≤ length arrivals.now }
     requires within { settled ≤ length marks.old.items }
     requires settled { AreSettled settled marks.old.items }
+    requires other { IsTrue is_other → AreOthers frame.now.bytes arrivals.now }
     ensures finding { (z : Terms) → AreLimits z limits.now → result
         ≡ finding_or (first_named z (gone_of frame.now) (marked_all arrivals.now marks.old.items))
         (Strange frame.now.number
@@ -159,6 +175,10 @@ pub(crate) fn unexplained(
     ensures length { length marks.new.items ≡ length marks.old.items }
     ensures kept { take settled marks.new.items ≡ take settled marks.old.items }
 {
+    if is_other {
+        let strangeness = strangeness_alone(frame);
+        return Finding::Strange(frame.number, strangeness);
+    }
     match first_place(limits, arrivals, marks.as_slice(), settled, frame) {
         None => {
             let strangeness = strangeness(limits, arrivals, marks.as_slice(), frame);
@@ -179,11 +199,13 @@ pub(crate) fn unexplained(
 pub(crate) fn unexplained_all(
     alloc: Global,
     limits: &Limits,
+    known: &KnownBytes,
     arrivals: &[Arrived],
     marks: &mut Vec<Mark>,
     frames: &[Frame],
 ) -> Result<Vec<Finding>, AllocError>
-    requires { length marks.old.items ≤ length arrivals.now }
+    requires marks { length marks.old.items ≤ length arrivals.now }
+    requires known { AreKnown known.now arrivals.now }
     ensures found { (z : Terms) (time : ℕ) (j : Judged) → AreLimits z limits.now →
         j.arrivals ≡ marked_all arrivals.now marks.old.items →
         IfOk result (λ found. told time found.items (marked_all arrivals.now marks.new.items) j
@@ -194,7 +216,8 @@ pub(crate) fn unexplained_all(
     let mut settled = 0;
     for frame in frames {
         settled = settled_from(marks.as_slice(), settled);
-        let finding = unexplained(limits, arrivals, marks, settled, frame);
+        let is_strange = known.is_other(&frame.bytes);
+        let finding = unexplained(limits, arrivals, marks, settled, frame, is_strange);
         found.push(finding)?;
     }
     Ok(found)

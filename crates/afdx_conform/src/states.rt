@@ -1,8 +1,8 @@
 //! The states of a stream: the explanations so far.
 
 ghost use Rattle.std.specs.Prelude.{◌≡◌, ◌≤◌, ◌<◌, ◌+◌, ◌-◌, ◌++◌, ℕ, List, [], ◌∷◌};
-ghost use Rattle.std.specs.Prelude.{map, drop, length, All, IfOk, OnOk, IfSome};
-ghost use Rattle.std.specs.List.{list_any};
+ghost use Rattle.std.specs.Prelude.{map, drop, take, length, All, IfOk, OnOk, IfSome};
+ghost use Rattle.std.specs.List.{AllByRecursion, list_any};
 ghost use Rattle.std.specs.Option.{option_to_list};
 ghost use Rattle.afdx_police.specs.Arrival.{Arrival};
 ghost use Rattle.afdx_conform.specs.Accounts.{AreRates, AreLevels, AreNear};
@@ -21,8 +21,12 @@ ghost use Rattle.afdx_conform.specs.States.{states_at, led_by, kept, are_behind}
 ghost use Rattle.afdx_conform.specs.Streams.{Gone, Terms};
 ghost use Rattle.afdx_conform.specs.Thinned.{AreEnough, AreKept};
 
+use crate::forgetting::forget_first;
 use crate::levels::{Levels, Rates};
 use std::alloc::{AllocError, Global};
+
+/// So many states are held against each other in turn.
+const FEW_STATES: usize = 16;
 
 /// What stands next in a state for an arrival that is accepted.
 #[derive(Clone, Copy, Debug, PartialEq, Eq)]
@@ -262,8 +266,9 @@ fn keep(held: &mut Vec<Held>, state: Held) -> Result<(), AllocError>
     Ok(())
 }
 
-/// Of these states those that no other outdoes. Fails only out of memory.
-pub fn thinned(alloc: Global, held: &[Held]) -> Result<Vec<Held>, AllocError>
+/// Of these states those that no other outdoes, each held against all that are kept. Fails only out
+/// of memory.
+fn thinned_plainly(alloc: Global, held: &[Held]) -> Result<Vec<Held>, AllocError>
     ensures enough { (ys : List Gone) → IfOk result (λ out.
         AreEnough (map (state_of ys) held.now) (map (state_of ys) out.items)) }
     ensures defined { (ys : List Gone) → All (λ h. h.passed ≤ length ys) held.now →
@@ -279,6 +284,95 @@ pub fn thinned(alloc: Global, held: &[Held]) -> Result<Vec<Held>, AllocError>
         keep(&mut out, *state)?;
     }
     Ok(out)
+}
+
+/// How many of the first of these states have fewer frames explained than `bound`.
+fn count_below(held: &[Held], bound: usize) -> usize
+    ensures within { result ≤ length held.now }
+    ensures below { AllByRecursion (λ h. h.passed < bound) (take result held.now) }
+{
+    let mut count = 0;
+    while count < held.len() && held[count].passed < bound {
+        count += 1;
+    }
+    count
+}
+
+/// Sets the first of `few` aside, behind `done`, in which fewer frames are explained than `bound`,
+/// once they are half of `few`. Fails only out of memory.
+fn set_aside(done: &mut Vec<Held>, few: &mut Vec<Held>, bound: usize) -> Result<(), AllocError>
+    ensures same { OnOk result
+        (done.new.items ++ few.new.items ≡ done.old.items ++ few.old.items) }
+    ensures below { AllByRecursion (λ h. h.passed < bound) done.old.items →
+        OnOk result (AllByRecursion (λ h. h.passed < bound) done.new.items) }
+{
+    let count = count_below(few.as_slice(), bound);
+    if count == 0 || count < few.len() - count {
+        return Ok(());
+    }
+    done.extend_from_slice(&few[..count])?;
+    forget_first(few, count);
+    Ok(())
+}
+
+/// The least number of frames explained in a state and in those behind it, the first state's last.
+fn least_ahead(alloc: Global, held: &[Held]) -> Result<Vec<usize>, AllocError> {
+    let mut out = Vec::new(alloc);
+    let mut least = usize::MAX;
+    for place in 0..held.len() {
+        least = least.min(held[held.len() - 1 - place].passed);
+        out.push(least)?;
+    }
+    Ok(out)
+}
+
+/// Of these states those that no other outdoes, each held against those that are kept and don't
+/// have fewer frames explained than all that are to come. Fails only out of memory.
+fn thinned_in_order(alloc: Global, held: &[Held]) -> Result<Vec<Held>, AllocError>
+    ensures enough { (ys : List Gone) → IfOk result (λ out.
+        AreEnough (map (state_of ys) held.now) (map (state_of ys) out.items)) }
+    ensures defined { (ys : List Gone) → All (λ h. h.passed ≤ length ys) held.now →
+        IfOk result (λ out.
+        map (state_of ys) out.items ≡ thinned_onto [] (map (state_of ys) held.now)) }
+    ensures front { IfOk result (λ out. AreFront out.items) }
+    ensures within { (rates : Rates) (frames count : ℕ) →
+        All (λ h. IsWithin rates frames count h) held.now →
+        IfOk result (λ out. All (λ h. IsWithin rates frames count h) out.items) }
+{
+    let mut ahead = least_ahead(alloc, held)?;
+    let mut done = Vec::new(alloc);
+    let mut few = Vec::new(alloc);
+    let mut top = 0;
+    for state in held {
+        let least = ahead.pop().unwrap_or(0);
+        if least < top || state.passed < least {
+            return thinned_plainly(alloc, held);
+        }
+        top = least;
+        set_aside(&mut done, &mut few, least)?;
+        keep(&mut few, *state)?;
+    }
+    done.extend_from_slice(few.as_slice())?;
+    Ok(done)
+}
+
+/// Of these states those that no other outdoes. Fails only out of memory.
+pub fn thinned(alloc: Global, held: &[Held]) -> Result<Vec<Held>, AllocError>
+    ensures enough { (ys : List Gone) → IfOk result (λ out.
+        AreEnough (map (state_of ys) held.now) (map (state_of ys) out.items)) }
+    ensures defined { (ys : List Gone) → All (λ h. h.passed ≤ length ys) held.now →
+        IfOk result (λ out.
+        map (state_of ys) out.items ≡ thinned_onto [] (map (state_of ys) held.now)) }
+    ensures front { IfOk result (λ out. AreFront out.items) }
+    ensures within { (rates : Rates) (frames count : ℕ) →
+        All (λ h. IsWithin rates frames count h) held.now →
+        IfOk result (λ out. All (λ h. IsWithin rates frames count h) out.items) }
+{
+    if held.len() <= FEW_STATES {
+        thinned_plainly(alloc, held)
+    } else {
+        thinned_in_order(alloc, held)
+    }
 }
 
 /// The states after one more arrival, of this charge in bytes, so many ns after the one before: of

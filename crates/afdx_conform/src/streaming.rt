@@ -1,6 +1,7 @@
 //! One stream, judged while its arrivals and frames come.
 
 ghost use Rattle.std.specs.Prelude.{◌≡◌};
+ghost use Rattle.std.proofs.Props.{props};
 ghost use Rattle.afdx_conform.specs.Growing.{IsSound, due_by};
 
 use crate::arrived::Arrived;
@@ -27,7 +28,7 @@ pub struct Stream {
     growth: Growth,
     /// The moment of the next event.
     due: Option<u64>,
-    ghost sound: { IsSound growth },
+    ghost sound: { IsSound growth } by { Prim.hlevel props },
     ghost next: { due ≡ due_by growth },
 }
 

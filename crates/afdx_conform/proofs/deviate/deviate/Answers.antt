@@ -1,4 +1,4 @@
-use Rattle.std.proofs.Common.{rules, ◌≡◌, ℕ, ◌+◌, List, [], map, drop, get_or, length, refl, sym, ap, ◌∙◌, arith}
+use Rattle.std.proofs.Common.{rules, ◌≡◌, ℕ, ◌+◌, List, [], map, drop, get_or, length, refl, sym, ap, ◌∙◌, subst, arith}
 use Rattle.std.proofs.lemmas.List.{length-map, take_rest}
 use Rattle.std.proofs.lemmas.List.Elements.{All-same}
 use Rattle.std.specs.Prelude.{IsTrue, nat_eq}
@@ -7,6 +7,7 @@ use Rattle.afdx_conform.specs.Accounts.{AreLevels, AreNear}
 use Rattle.afdx_conform.specs.Explanations.{link, charge, levels_then}
 use Rattle.afdx_conform.specs.Findings.{Finding, Judged, aged, as_accepted, deviates, front_rest, with_states}
 use Rattle.afdx_conform.specs.HeldStates.{IsWithin, IsSmall, past, state_of}
+use Rattle.afdx_conform.specs.KnownBytes.{AreOthers}
 use Rattle.afdx_conform.specs.Levels.{has_to_pass}
 use Rattle.afdx_conform.specs.Limits.{gone_of}
 use Rattle.afdx_conform.specs.Marks.{arrival_of, marked_all, told}
@@ -18,6 +19,7 @@ use Rattle.afdx_conform.proofs.DeviateSteps.{at-start, at-same, at-end, at-stop,
 use Rattle.afdx_conform.proofs.LeadLemmas.{lead-past}
 use Rattle.afdx_conform.proofs.NamingLemmas.{told-unexplained}
 use Rattle.afdx_conform.proofs.KeepLemmas.{if-ok-on}
+use Rattle.afdx_conform.proofs.BytesLemmas.{others-drop}
 use Rattle.afdx_conform.proofs.deviate.deviate.Goals as goal
 
 pub loop-front-init : goal.loop-front-init
@@ -271,3 +273,9 @@ returns-then-has_any-clause-within c link by count r all =
     (c.in_ok-lead.ensures ∙ ap (λ (l : List Held). map (λ h. past (c.loop-front.front + 1) h)
     (filter (λ h. nat_eq h.passed c.loop-front.front) l)) c.as_slice-before.ensures.value)
     (c.loop-front.invariant.within link by count r all)))
+
+pub deviation-requires : goal.deviation-requires
+deviation-requires c h = subst (λ (l : List Arrived). AreOthers c.index-frames-front.result.bytes l)
+    (sym c.loop-front.invariant.behind)
+    (others-drop c.index-frames-front.result.bytes (length c.args.marks.now.items + 1) c.args.arrivals.now
+    (c.is_other-is_strange.ensures c.args.arrivals.now c.requires.known h))

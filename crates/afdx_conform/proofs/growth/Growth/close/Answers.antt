@@ -26,9 +26,9 @@ forget-requires c =
     subst (λ (g : Growth). IsSound g) (sym c.count.ensures) (record {
       rates = s.rates;
       within = subst (λ (n : ℕ). All (λ h. IsWithin c.args.self.now.bounds.rates (length c.args.self.now.frames.items) n h)
-          c.judge_closing.new.judging.held.items) (sym marks)
+          c.close_with.new.judging.held.items) (sym marks)
           (subst (λ (fs : List Frame). All (λ h. IsWithin c.args.self.now.bounds.rates (length fs)
-          (length c.args.self.now.judging.marks.items) h) c.judge_closing.new.judging.held.items)
+          (length c.args.self.now.judging.marks.items) h) c.close_with.new.judging.held.items)
           c.as_slice-2.ensures.value within);
       closed = (let p = c.requires.place in omega (arith, p));
       places = (let p = s.places in omega (arith, p, marks));
@@ -37,6 +37,7 @@ forget-requires c =
       came = s.came;
       frames = s.frames;
       left = s.left;
+      known = s.known;
     })
 
 pub returns-clause-decides : goal.returns-clause-decides
@@ -58,16 +59,16 @@ returns-clause-decides c z xs ys cut over f sure at next r =
     (subst (λ (l : List Frame). StandsFor c.args.self.now.bounds.rates l c.args.self.now.arrivals.items r.continues.j
     c.args.self.now.judging) (sym c.as_slice-2.ensures.value) r.continues.stands) in
     let out = c.in_ok-found.ensures.defined z c.index.result.now.time r.continues.j r.after.bounds closed' sure' given in
-    let held = closed-of z c.index.result.now c.args.self.now c.judge_closing.new.judging r.continues.j
+    let held = closed-of z c.index.result.now c.args.self.now c.close_with.new.judging r.continues.j
     c.as_slice.result.now c.as_slice-2.result.now c.as_slice.ensures.value c.as_slice-2.ensures.value out.0 in
     let to = c.closed_by-to.result in
     let next' = subst (λ (v : Frame). next_of z (coming xs over) (unclosed ys over) ≡ Some (Closing v.time)) (sym same) next in
     let one = subst (λ (s : Growth). IsAfter z xs ys cut (Closing c.index.result.now.time ∷ over) s
     × AreFound (c.index.result.now.time + both_slacks z.by) c.in_ok-found.found.items (judged_by z xs ys over)
     (judged_by z xs ys (Closing c.index.result.now.time ∷ over))) (sym (c.count.ensures
-    ∙ ap (λ (l : List Finding). Close z xs ys cut over c.index.result.now c.args.self.now c.judge_closing.new.judging l to)
+    ∙ ap (λ (l : List Finding). Close z xs ys cut over c.index.result.now c.args.self.now c.close_with.new.judging l to)
     c.as_slice-3.ensures.value))
-    (after-close z xs ys cut over c.index.result.now c.args.self.now c.judge_closing.new.judging c.in_ok-found.found.items
+    (after-close z xs ys cut over c.index.result.now c.args.self.now c.close_with.new.judging c.in_ok-found.found.items
     c.closed_by-to.result r.gone r.past r.kept r.continues sure held out.1 c.in_ok-found.ensures.marks r.after next') in
     subst (λ (v : Frame). Decides z xs ys cut over c.forget.new.self (Closing v.time) None c.in_ok-found.found.items) same (
       c.forget.ensures.after z xs ys cut (Closing c.index.result.now.time ∷ over) one.0,

@@ -21,8 +21,8 @@ use Rattle.afdx_conform.proofs.GrowthDecides.{Come, after-come, outcome-of}
 use Rattle.afdx_conform.proofs.UndecidedLemmas.{undecided-less}
 use Rattle.afdx_conform.proofs.growth.Growth.come.Goals as goal
 
-pub judge_arrival-requires-clause-within : goal.judge_arrival-requires-clause-within
-judge_arrival-requires-clause-within c = (
+pub judge_with-requires-clause-within : goal.judge_with-requires-clause-within
+judge_with-requires-clause-within c = (
   length c.args.self.now.judging.marks.items,
   (let p = c.requires.sound.places in let a = c.requires.sound.arrivals in let n = c.requires.sound.came in omega (arith, p, a, n)),
   subst (λ (fs : List Frame). All (λ h. IsWithin c.args.self.now.bounds.rates (length fs)
@@ -41,9 +41,9 @@ close_explained-requires-clause-sound c =
     subst (λ (g : Growth). IsSound g) (sym c.count.ensures) (record {
       rates = s.rates;
       within = subst (λ (n : ℕ). All (λ h. IsWithin c.args.self.now.bounds.rates (length c.args.self.now.frames.items) n h)
-          c.judge_arrival.new.judging.held.items) (sym marks)
+          c.judge_with.new.judging.held.items) (sym marks)
           (subst (λ (fs : List Frame). All (λ h. IsWithin c.args.self.now.bounds.rates (length fs)
-          (length c.args.self.now.judging.marks.items + 1) h) c.judge_arrival.new.judging.held.items)
+          (length c.args.self.now.judging.marks.items + 1) h) c.judge_with.new.judging.held.items)
           c.as_slice-2.ensures.value within);
       closed = s.closed;
       places = (let p = c.requires.place in omega (arith, p, marks));
@@ -52,6 +52,7 @@ close_explained-requires-clause-sound c =
       came = s.came;
       frames = s.frames;
       left = s.left;
+      known = s.known;
     })
 
 pub returns-clause-decides : goal.returns-clause-decides
@@ -77,14 +78,14 @@ returns-clause-decides c = (
       let out = c.in_ok-found.ensures.defined z (last_time z.by (arrivals_came (sound_events z over))) r.continues.j r.after.bounds judged
       there (c.saturating_sub-ns.ensures ∙ ap (λ (n : ℕ). c.index-arrived.result.now.time - n) r.kept.last)
       (c.is_open_by-is_open.ensures z r.after.bounds.limits known') sure' given in
-      let held = outcome-of z over c.index-arrived.result.now c.args.self.now c.judge_arrival.new.judging c.in_ok-found.found.items
+      let held = outcome-of z over c.index-arrived.result.now c.args.self.now c.judge_with.new.judging c.in_ok-found.found.items
       r.continues.j c.as_slice.result.now c.as_slice-2.result.now c.as_slice.ensures.value c.as_slice-2.ensures.value out in
       let one = subst (λ (s : Growth). IsAfter z xs ys cut (Came (arrival_of c.index-arrived.result.now) ∷ over) s
       × AreFound c.index-arrived.result.now.time c.in_ok-found.found.items (judged_by z xs ys over)
       (judged_by z xs ys (Came (arrival_of c.index-arrived.result.now) ∷ over))) (sym (c.count.ensures
-      ∙ ap (λ (l : List Finding). Come z xs ys cut over a c.args.self.now c.judge_arrival.new.judging c.number_if-self.result
+      ∙ ap (λ (l : List Finding). Come z xs ys cut over a c.args.self.now c.judge_with.new.judging c.number_if-self.result
       c.last_after-last.result l) c.as_slice-3.ensures.value))
-      (after-come z xs ys cut over c.index-arrived.result.now c.args.self.now c.judge_arrival.new.judging c.number_if-self.result
+      (after-come z xs ys cut over c.index-arrived.result.now c.args.self.now c.judge_with.new.judging c.number_if-self.result
       c.last_after-last.result c.in_ok-found.found.items r.gone r.past r.kept c.requires.place here r.continues judged sure
       held.0 held.1 c.in_ok-found.ensures.marks c.last_after-last.ensures c.number_if-self.ensures r.after next') in
       let two = c.close_explained.ensures.after.1 z xs ys cut (Came (arrival_of c.index-arrived.result.now) ∷ over) one.0 in

@@ -7,11 +7,11 @@ use Rattle.afdx_conform.proofs.growth.Growth.new.Goals as goal
 
 pub returns-clause-after : goal.returns-clause-after
 returns-clause-after c z b by =
-    after-none z _ b by c.new-3.ensures.items c.new-4.ensures.items c.new-2.ensures.items refl refl refl
+    after-none z _ b by c.new-3.ensures.items c.new-5.ensures.items c.new-2.ensures.items refl refl refl
     (c.start_of-last.ensures z by) refl refl refl refl refl refl
 
 pub returns-clause-due : goal.returns-clause-due
 returns-clause-due c =
     let arrivals = ap (λ (l : List Arrived). length l) c.new-3.ensures.items in
-    let frames = ap (λ (l : List Frame). length l) c.new-4.ensures.items in
+    let frames = ap (λ (l : List Frame). length l) c.new-5.ensures.items in
     due-nothing _ (omega (arith, arrivals)) (omega (arith, frames))

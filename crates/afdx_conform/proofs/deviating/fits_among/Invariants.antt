@@ -3,7 +3,7 @@ use Rattle.std.specs.List.{list_any}
 use Rattle.afdx_conform.specs.Limits.{AreLimits, gone_of}
 use Rattle.afdx_conform.specs.Marks.{arrival_of}
 use Rattle.afdx_conform.specs.Streams.{Terms, fits}
-use Rattle.afdx_conform.proofs.deviating.fits_one.Given as goal
+use Rattle.afdx_conform.proofs.deviating.fits_among.Given as goal
 
 abbrev pub invariant-loop-arrived : goal.invariant-loop-arrived
 invariant-loop-arrived l = (z : Terms) → AreLimits z l.limits →

@@ -5,7 +5,7 @@ use Rattle.afdx_conform.specs.HeldStates.{state_of, AreFront, IsWithin}
 use Rattle.afdx_conform.specs.declared.levels.Rates.{Rates}
 use Rattle.afdx_conform.specs.Streams.{Gone}
 use Rattle.afdx_conform.specs.Thinned.{AreEnough}
-use Rattle.afdx_conform.proofs.states.thinned.Given as goal
+use Rattle.afdx_conform.proofs.states.thinned_plainly.Given as goal
 
 abbrev pub invariant-loop-state : goal.invariant-loop-state
 invariant-loop-state l =

@@ -10,7 +10,7 @@ use Rattle.afdx_conform.specs.declared.states.Held.{Held}
 use Rattle.afdx_conform.proofs.ClosingLemmas.{close-kept}
 use Rattle.afdx_conform.proofs.NamingLemmas.{told-none}
 use Rattle.afdx_conform.proofs.SkipLemmas.{stands-after}
-use Rattle.afdx_conform.proofs.judging.judge_closing.Goals as goal
+use Rattle.afdx_conform.proofs.judging.close_with.Goals as goal
 
 pub returns-then-is_one_passed-clause-defined : goal.returns-then-is_one_passed-clause-defined
 returns-then-is_one_passed-clause-defined c z time j b closed sure s =

@@ -8,7 +8,7 @@ use Rattle.afdx_conform.specs.declared.states.Held.{Held}
 use Rattle.afdx_conform.proofs.KeepLemmas.{enough-none, enough-next, kept-front, front-none, kept-all}
 use Rattle.afdx_conform.proofs.FewLemmas.{AreFew, few-none, few-next}
 use Rattle.afdx_conform.specs.Findings.{thinned_onto}
-use Rattle.afdx_conform.proofs.states.thinned.Goals as goal
+use Rattle.afdx_conform.proofs.states.thinned_plainly.Goals as goal
 
 abbrev no-held : Held
 no-held = record { passed = 0; levels = record { lo = 0; hi = 0 }; waiting = 0 }

@@ -14,7 +14,7 @@ use Rattle.afdx_conform.proofs.AloneLemmas.{thinned-alone}
 use Rattle.afdx_conform.proofs.ArrivalSteps.{stands-arrival, stands-fault, answered-led, more-marks, one-less}
 use Rattle.afdx_conform.proofs.DeviateSteps.{some-held, within-frames, within-more}
 use Rattle.afdx_conform.proofs.NamingLemmas.{told-none}
-use Rattle.afdx_conform.proofs.arriving.judge_arrival.Goals as goal
+use Rattle.afdx_conform.proofs.arriving.judge_with.Goals as goal
 
 pub returns-in-Some-clause-defined : goal.returns-in-Some-clause-defined
 returns-in-Some-clause-defined c z last j b k at ns opens sure s =
