@@ -112,8 +112,23 @@ narrow_test() { # a copy is late, and it is said within 400 pixels
     )"
 }
 
+picture_tests() { # of the README's picture, and of bin/picture where another page was pictured
+    launch bin/picture --check "$program"
+    tell "the README's picture is one of today's page" "$(is_status 0; cat "$work/out")"
+    mkdir -p "$work/house/docs"
+    cp -r bin tools examples tests "$work/house"
+    sed 's/ findings$/ finding/' docs/report.txt >"$work/house/docs/report.txt"
+    launch "$work/house/bin/picture" --check "$program"
+    tell 'a picture of another page is found' "$(
+        is_status 1
+        says out 'docs/report.png is a picture of another page'
+        says out '-9 finding'
+    )"
+}
+
 if [[ -n $reporting ]]; then
     parts_tests
+    picture_tests
     if has chromium && has pdftotext; then
         paper_test
         policy_test
