@@ -159,18 +159,173 @@ older_report_tests() {
     rm -r "$folder" "$safe/precious"
 }
 
+# ---- reports of which the files don't get their places -------------------------------------------
+
+# Python's start counts renames, and does something at one of them: AT_RENAME is K:EIO or K:SIGNAL.
+write_weak() {
+    weak=(env "PYTHONPATH=$work/weak")
+    mkdir -p "$work/weak"
+    cat >"$work/weak/sitecustomize.py" <<'CODE'
+import errno, os, signal
+place, how = os.environ["AT_RENAME"].split(":")
+places, rename = iter(range(1, 10_000)), os.rename
+def weak(*words, **more):
+    if next(places) == int(place):
+        if how == "EIO":
+            raise OSError(errno.EIO, os.strerror(errno.EIO))
+        os.kill(os.getpid(), signal.Signals[how])
+    return rename(*words, **more)
+os.rename = weak
+CODE
+}
+
+is_newer() { # FOLDER : all of it is the newer report; page and numbers have its date
+    diff -r -x 'report.*' "$safe/new" "$1" >"$work/got" &&
+        ! cmp -s "$safe/old/report.html" "$1/report.html" &&
+        ! cmp -s "$safe/old/report.json" "$1/report.json"
+}
+
+# A report into a folder that has an older one; all of one of them stands there then, and what else
+# was there.
+changed_report() { # STATUS WORD.. : before the command
+    local folder=$safe/report
+    rm -rf "$folder"
+    cp -r "$safe/old" "$folder"
+    launch "${@:2}" tools/afdx-report examples/base.toml "$work/one_line.list" --out "$folder"
+    is_status "$1"
+    if ! diff -r "$safe/old" "$folder" >"$work/got" && ! is_newer "$folder"; then
+        echo "two reports stand there, or none, at $*:"
+        diff -rq "$safe/old" "$folder" | cut -c 1-160
+    fi
+    find "$safe" -name '.afdx-*'
+}
+
+older_and_newer() { # NAME : two reports in folders that have a file of that name besides
+    rm -rf "$safe"/{old,new}
+    tools/afdx-report examples/base.toml examples/babbling.list --out "$safe/old" >"$work/out"
+    mkdir -p "$(dirname "$safe/old/$1")"
+    echo mine >"$safe/old/$1"
+    cp -r "$safe/old" "$safe/new"
+    tools/afdx-report examples/base.toml "$work/one_line.list" --out "$safe/new" >"$work/out"
+}
+
+report_place_tests() {
+    local place
+    write_weak
+    older_and_newer notes
+    tell 'a signal or a fault while a folder is exchanged for that of a report' "$(
+        changed_report 143 "${weak[@]}" AT_RENAME=1:SIGTERM
+        changed_report 0 "${weak[@]}" AT_RENAME=1:EIO
+    )"
+    older_and_newer mine/notes
+    tell 'a signal between two files of a report, where the folder has to stay' "$(
+        for place in 1 2 20; do
+            changed_report 143 "${weak[@]}" AT_RENAME="$place:SIGTERM"
+        done
+    )"
+    tell 'a device that fails between two files of a report' "$(
+        for place in 2 20; do
+            changed_report 4 "${weak[@]}" AT_RENAME="$place:EIO"
+        done
+    )"
+    rm -rf "$safe"/{old,new,report}
+}
+
+folder_in_way_test() {
+    local folder=$safe/report
+    tools/afdx-report examples/base.toml examples/babbling.list --out "$folder" >"$work/out"
+    rm "$folder/ports.csv"
+    mkdir "$folder/ports.csv"
+    cp -r "$folder" "$safe/before"
+    launch tools/afdx-report examples/base.toml "$work/one_line.list" --out "$folder"
+    tell 'a folder in the place of a file of a report leaves all as it was' "$(
+        is_fault 4 "$folder/ports.csv: Is a directory"
+        diff -r "$safe/before" "$folder"
+        unlisted "$safe" before report | grep -v /
+    )"
+    rm -r "$folder" "$safe/before"
+}
+
+# ---- planted links -------------------------------------------------------------------------------
+
+split_list_tests() {
+    local at=$safe/split
+    mkdir "$at"
+    echo precious >"$safe/precious"
+    tools/afdx-capture pcap "$work/one_line.list" "$at/run.pcap" 2>"$work/err"
+    ln -s ../precious "$at/p-1.list"
+    ln -s ../precious "$at/p-2.list"
+    echo mine >"$at/p-4.list"
+    launch tools/afdx-capture list --config examples/base.toml --interface 0=A:1 \
+        --split "$at/p" "$at/run.pcap"
+    tell 'a link in the place of a list that was split is replaced; one too many goes' "$(
+        is_status 0
+        if [[ $(<"$safe/precious") != precious ]]; then echo 'a link was followed'; fi
+        grep -c '^R ' "$at/p-1.list" | grep -vx 1
+        unlisted "$at" run.pcap p-1.list p-4.list
+    )"
+    echo old >"$at/p-1.list"
+    head -c -9 "$at/run.pcap" >"$at/cut.pcap"
+    launch tools/afdx-capture list --config examples/base.toml --interface 0=A:1 \
+        --split "$at/p" "$at/cut.pcap"
+    tell 'after a fault the lists of before are all there' "$(
+        is_status 3
+        if [[ $(<"$at/p-1.list") != old ]]; then echo 'a list is gone'; fi
+        unlisted "$at" {run,cut}.pcap p-{1,4}.list
+    )"
+    rm -r "$at" "$safe/precious"
+}
+
+# Each name of a campaign's folder is a link in turn, and the campaign goes on.
+campaign_link_tests() {
+    local name at=$safe/campaign
+    mkdir "$at"
+    for name in joblog runs runs/1 runs/1/stdout runs/1/stderr lists campaign.csv pages pages/1; do
+        rm -rf "$at"/{out,kept}
+        mkdir -p "$at/kept"
+        echo precious >"$at/precious"
+        launch tools/afdx-campaign examples/base.toml "$work/one_line.list" --out "$at/out" --pages
+        head -n 1 "$at/out/joblog" >"$work/got" && cp "$work/got" "$at/out/joblog"
+        if [[ -d $at/out/$name ]]; then
+            rm -r "${at:?}/out/$name"
+            ln -s "$at/kept" "$at/out/$name"
+        else
+            rm "$at/out/$name"
+            ln -s "$at/precious" "$at/out/$name"
+        fi
+        launch tools/afdx-campaign examples/base.toml "$work/one_line.list" --out "$at/out" \
+            --pages --resume
+        tell "a campaign goes on and follows no link: $name" "$(
+            is_fault_of_lists "$name" || is_status 0
+            if [[ $(<"$at/precious") != precious ]]; then echo 'a link was followed'; fi
+            find "$at/kept" -mindepth 1
+            find "$at/out" -type l
+        )"
+    done
+    rm -r "$at"
+}
+
+is_fault_of_lists() { [[ $1 == lists && $status -eq 2 ]]; } # NAME : it leads to other lists
+
 mkdir "$safe"
 if [[ -n $dpkt ]]; then
     signal_tests
     mode_tests
     capture_room_tests
-    if [[ -n $built ]]; then copy_tests; fi
+    if [[ -n $built ]]; then
+        copy_tests
+        split_list_tests
+    fi
 else
     skip 'recordings that are written' 'there is no package dpkt (apt-get install python3-dpkt)'
 fi
 if [[ -n $reporting ]]; then
+    printf 'F 0 A 1 %s\n' "$(frame_of A 0)" >"$work/one_line.list"
     report_room_tests
     older_report_tests
+    report_place_tests
+    folder_in_way_test
+    campaign_link_tests
 else
     skip 'reports that are written' "there is no program $program, or no numpy"
 fi

@@ -8,7 +8,9 @@ import secrets
 import stat
 import sys
 import tempfile
-from typing import BinaryIO, Callable, Iterator, Mapping
+from typing import BinaryIO, Collection, Iterator, Mapping
+
+from afdx_tools.placing import HIDDEN, named, together
 
 NO_UNNAMED = (errno.EOPNOTSUPP, errno.EISDIR, errno.EINVAL)  # the file system has no such files
 OWN_FILES = "/proc/self/fd"  # the files that this process has open, by their numbers
@@ -57,7 +59,7 @@ class Partial:
             except OSError as error:
                 if error.errno not in NO_UNNAMED:
                     raise
-        number, self.name = tempfile.mkstemp(".part", ".afdx-", self.folder)
+        number, self.name = tempfile.mkstemp(".part", HIDDEN, self.folder)
         mask = os.umask(0)
         os.umask(mask)
         os.fchmod(number, 0o666 & ~mask)
@@ -77,7 +79,7 @@ class Partial:
 
     def link(self) -> str:
         """Gives an unnamed file a name that no other has."""
-        name = f".afdx-{secrets.token_hex(8)}.part"
+        name = f"{HIDDEN}{secrets.token_hex(8)}.part"
         folder = os.open(self.folder, os.O_RDONLY | os.O_DIRECTORY | os.O_CLOEXEC)
         try:
             number = self.file.fileno()
@@ -96,48 +98,21 @@ class Partial:
 
 
 @contextlib.contextmanager
-def together() -> Iterator[Callable[[str], BinaryIO]]:
-    """Opens regular files, which get their names once all of them are whole. A fault of one of them
-    is reported by its path."""
-    partials: list[Partial] = []
-
-    def new(path: str) -> BinaryIO:
-        partials.append(Partial(path))
-        return partials[-1].file
-
-    try:
-        yield new
-        for partial in partials:
-            with named(partial.path):
-                partial.file.flush()
-        for partial in partials:
-            with named(partial.path):
-                partial.give_name()
-    finally:
-        for partial in partials:
-            partial.remove()
-
-
-@contextlib.contextmanager
-def named(path: str) -> Iterator[None]:
-    """A fault gets the path of the file that it is about."""
-    try:
-        yield
-    except OSError as error:
-        raise OSError(error.errno, error.strerror, path) from error
-
-
-@contextlib.contextmanager
 def whole(path: str) -> Iterator[BinaryIO]:
     """A regular file, which gets its name when it is whole; it is as open to others as the one was
     that had the name before."""
+    partial = Partial(path)
     try:
-        with together() as new:
-            yield new(path)
+        yield partial.file
+        with named(path):
+            partial.file.flush()
+            partial.give_name()
     except OSError as error:
         if error.filename is None:  # a write
             error.filename = path
         raise
+    finally:
+        partial.remove()
 
 
 def finished(path: str | None) -> contextlib.AbstractContextManager[BinaryIO]:
@@ -150,15 +125,11 @@ def finished(path: str | None) -> contextlib.AbstractContextManager[BinaryIO]:
     return whole(path)
 
 
-def write_folder(folder: str, texts: Mapping[str, str], others: set[str] | None = None) -> None:
+def write_folder(folder: str, texts: Mapping[str, str], others: Collection[str] = ()) -> None:
     """Writes texts into files of a folder, all or none of them. Of the `others` that an earlier run
     may have left there none stays."""
     os.makedirs(folder, exist_ok=True)
-    with together() as new:
+    with together(folder, others) as new:
         for name, text in texts.items():
-            path = os.path.join(folder, name)
-            with named(path):
-                new(path).write(text.encode(errors="backslashreplace"))
-    for name in (others or set()) - set(texts):
-        with contextlib.suppress(FileNotFoundError):
-            os.remove(os.path.join(folder, name))
+            with new(name) as file:
+                file.write(text.encode(errors="backslashreplace"))

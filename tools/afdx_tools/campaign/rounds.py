@@ -41,20 +41,26 @@ def attempt_of(line: bytes) -> Attempt | None:
 
 
 class JobLog:
-    """GNU parallel's job log, which all rounds write on, read as it grows."""
+    """GNU parallel's job log, which all rounds write on, read as it grows. It is a new file, also
+    where it goes on from an earlier one: so what is appended to it goes nowhere else."""
 
     def __init__(self, path: str, goes_on: bool) -> None:
         self._path = path
         self._place = 0
-        if not (goes_on and os.path.exists(path)):
-            with whole(path) as file:
-                file.write(HEAD)
+        is_there = goes_on and os.path.isfile(path) and not os.path.islink(path)
+        earlier = self.content() if is_there else HEAD
+        with whole(path) as file:
+            file.write(earlier)
+
+    def content(self) -> bytes:
+        """What it says from the place on up to which it was read."""
+        with open(self._path, "rb") as file:
+            file.seek(self._place)
+            return file.read()
 
     def new(self) -> list[Attempt]:
         """What has come since the last look; only whole lines count."""
-        with open(self._path, "rb") as file:
-            file.seek(self._place)
-            lines, _, _ = file.read().rpartition(b"\n")
+        lines, _, _ = self.content().rpartition(b"\n")
         self._place += len(lines) + 1 if lines else 0
         found = map(attempt_of, lines.split(b"\n"))
         return [attempt for attempt in found if attempt is not None]

@@ -14,6 +14,7 @@ result (4) is worst, then come 2, 1, 3 and 6.
 from __future__ import annotations
 
 import argparse
+import itertools
 import os
 import shutil
 import sys
@@ -28,7 +29,8 @@ from afdx_tools.explaining import explain_all
 from afdx_tools.faults import Refused, shown
 from afdx_tools.guard import guarded
 from afdx_tools.inputs import as_file
-from afdx_tools.outputs import whole, write_folder
+from afdx_tools.outputs import whole
+from afdx_tools.placing import clear
 from afdx_tools.program import HERE, program, version
 from afdx_tools.recordings.options import add_recording_words, files_of, handed_on
 from afdx_tools.report.criteria import add_words, suite_of, write_junit
@@ -138,12 +140,9 @@ def noted(path: str) -> list[bytes]:
 def note_lists(args: argparse.Namespace) -> None:
     """Notes the lists in their order, and the recordings of B beside them, or the configuration;
     with --resume the earlier ones have to stand first again."""
-    if not args.resume:
-        for name in ("runs", "pages"):
-            path = os.path.join(args.out, name)
-            if os.path.islink(path):  # nothing is written where it leads to
-                os.remove(path)
-            shutil.rmtree(path, ignore_errors=True)
+    for path in (os.path.join(args.out, name) for name in ("runs", "pages", "campaign.csv")):
+        if not args.resume or os.path.islink(path):  # nothing is written where a link leads to
+            clear(path)
     runs = [(*files_of(word), args.config)[:2] for word in args.lists]
     for name, files in zip(("lists", "others"), zip(*runs)):
         path = os.path.join(args.out, name)
@@ -210,6 +209,8 @@ class Campaign:
             if not numbers:
                 return
             self.go_to(names)
+            for folder, number in itertools.product(("runs", "pages"), numbers):
+                clear(os.path.join(self.args.out, folder, str(number)))
             before = sum(map(len, self.tried.values()))
             play(words, records(self.args, numbers), self.args.out, self.look)
             if sum(map(len, self.tried.values())) == before and self.going_to == names:
@@ -234,7 +235,8 @@ def report(args: argparse.Namespace, outcomes: Sequence[Outcome]) -> None:
         ]
         write_junit(args.junit, suites)
     rows = [{**outcome.row, "machine": shown(outcome.machine)} for outcome in outcomes]
-    write_folder(args.out, {"campaign.csv": csv_text(rows)})
+    with whole(os.path.join(args.out, "campaign.csv")) as file:
+        file.write(csv_text(rows).encode(errors="backslashreplace"))
     print(as_text([*(outcome.row for outcome in outcomes), sum_row(outcomes)]), end="")
     faults = [outcome.fault.removeprefix(SPEAKER) for outcome in outcomes]
     explain_all(faults, ["check", as_file(args.config)])

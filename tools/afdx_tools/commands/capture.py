@@ -25,6 +25,7 @@ from afdx_tools.guard import guarded
 from afdx_tools.inputs import at_hand
 from afdx_tools.lists import MOST_LINES, Listed, is_sealed, read_list, sealed
 from afdx_tools.outputs import finished
+from afdx_tools.placing import together
 from afdx_tools.program import program, version
 from afdx_tools.progress import Progress, counted
 from afdx_tools.recordings.options import (
@@ -74,16 +75,26 @@ def write_one(path: str | None, lines: Iterator[bytes]) -> None:
 
 
 def write_parts(prefix: str, lines: Iterator[bytes]) -> None:
-    """Writes as many lists as are needed, PREFIX-1.list, PREFIX-2.list and so on."""
-    for number in itertools.count(1):
-        first = next(lines, None)
-        if first is None and number > 1:
-            return
-        path = f"{prefix}-{number}.list"
-        with finished(path) as file:
-            file.write(first or b"")
-            file.writelines(itertools.islice(lines, MOST_LINES - 1))
-        say(f"wrote {path}")
+    """Writes as many lists as are needed, PREFIX-1.list, PREFIX-2.list and so on, all or none. Of
+    longer ones of that prefix none stays."""
+    folder, begin = os.path.split(prefix)
+    longer: list[str] = []
+    with together(folder or os.curdir, longer, is_whole=False) as new:
+        for number in itertools.count(1):
+            first = next(lines, None)
+            if first is None and number > 1:
+                break
+            with new(f"{begin}-{number}.list") as file:
+                file.write(first or b"")
+                file.writelines(itertools.islice(lines, MOST_LINES - 1))
+        names = (f"{begin}-{each}.list" for each in itertools.count(number))
+        longer += itertools.takewhile(
+            lambda name: os.path.lexists(os.path.join(folder, name)), names
+        )
+    for each in range(1, number):
+        say(f"wrote {prefix}-{each}.list")
+    for name in longer:
+        say(f"removed {os.path.join(folder, name)}, which was there before")
 
 
 def names_of(args: argparse.Namespace) -> list[str]:

@@ -19,7 +19,7 @@ import re
 import subprocess
 import sys
 from fractions import Fraction
-from typing import NoReturn
+from typing import BinaryIO, NoReturn
 
 from afdx_tools.command_line import Parser, whole
 from afdx_tools.faults import Failed, Refused, shown
@@ -28,7 +28,7 @@ from afdx_tools.icd.reading import add_document_words, read_document
 from afdx_tools.icd.submissions import Stream, streams_of, submissions
 from afdx_tools.inputs import as_file
 from afdx_tools.lists import MOST_LINES
-from afdx_tools.outputs import whole as whole_file
+from afdx_tools.placing import together
 from afdx_tools.program import program, version
 from afdx_tools.version import add_version
 
@@ -63,10 +63,10 @@ def want_room(counts: dict[str, int], is_sent: bool, end_ns: int) -> None:
         raise Refused(text)
 
 
-def send(config: str, name: str, submitted: str, path: str) -> None:
-    """Has the program send a system's messages, and writes what it writes; Failed where it refuses
-    one."""
-    words = [program(), "send", as_file(config), name, as_file(submitted)]
+def sent(config: str, name: str, written: str, submitted: str) -> bytes:
+    """What the program sends of a system's messages; Failed where it refuses one. They are written
+    in one place, and called as another one."""
+    words = [program(), "send", as_file(config), name, as_file(written)]
     done = subprocess.run(words, capture_output=True, check=False)
     errors = done.stderr.decode("utf-8", "replace").splitlines()
     if done.returncode:
@@ -79,8 +79,7 @@ def send(config: str, name: str, submitted: str, path: str) -> None:
         raise Failed(f"{shown(config)} refuses line {number} of {shown(submitted)}: {why}", 1)
     if not re.fullmatch(rb"(R \d+ [AB] ([A-Za-z0-9]+ )?\d+ [0-9a-f]+\n)*", done.stdout):
         raise Failed("send wrote other lines than those of frames", 4)
-    with whole_file(path) as file:
-        file.write(done.stdout)
+    return done.stdout
 
 
 def time_of(line: bytes) -> int:
@@ -88,27 +87,30 @@ def time_of(line: bytes) -> int:
     return int(line.split(b" ", 2)[1])
 
 
-def merge(paths: list[str], path: str) -> None:
+def merge(paths: list[str], file: BinaryIO) -> None:
     """Writes the lines of frame lists as one list, in the order of time."""
     with contextlib.ExitStack() as files:
         lists = [files.enter_context(open(each, "rb")) for each in paths]
-        with whole_file(path) as file:
-            file.writelines(heapq.merge(*lists, key=time_of))
+        file.writelines(heapq.merge(*lists, key=time_of))
 
 
 def write(args: argparse.Namespace, streams: dict[str, list[Stream]], end_ns: int) -> None:
     """Writes the lists of all systems into the folder."""
     os.makedirs(args.folder, exist_ok=True)
-    sent = []
-    for name, each in streams.items():
-        path = os.path.join(args.folder, f"{name}.messages")
-        with whole_file(path) as file:
-            file.writelines(line.encode() for line in submissions(each, end_ns))
+    with together(args.folder) as new:
+        lists = []
+        for name, each in streams.items():
+            with new(f"{name}.messages") as file:
+                file.writelines(line.encode() for line in submissions(each, end_ns))
+            if args.config is not None:
+                called = os.path.join(args.folder, f"{name}.messages")
+                frames = sent(args.config, name, file.name, called)
+                with new(f"{name}.list") as file:
+                    file.write(frames)
+                lists.append(file.name)
         if args.config is not None:
-            sent.append(os.path.join(args.folder, f"{name}.list"))
-            send(args.config, name, path, sent[-1])
-    if args.config is not None:
-        merge(sent, os.path.join(args.folder, ALL))
+            with new(ALL) as file:
+                merge(lists, file)
 
 
 def run() -> int:
