@@ -188,6 +188,69 @@ recording_tests() {
     )"
 }
 
+# A report on a right switch whose recorders have such clocks.
+judge_stamps() { # NAME=NUMBER.. [-- WORD..]
+    local words=()
+    while [[ $# -gt 0 && $1 != -- ]]; do words+=("$1"); shift; done
+    "$python" tests/tools/stamped_recording.py "$judged/stamps.pcapng" "${words[@]}"
+    judge_recorded --interface 0=A:1 --interface 1=A:2 --left 2=A:3 "${@:2}" -- \
+        "$judged/stamps.pcapng"
+}
+
+option_of() { # NAME : the value that the report proposes
+    json_of "$judged/out/report.json" "[r['value'] for r in r['options'] if r['option'] == '$1']"
+}
+
+stamp_tests() {
+    local slack
+    judge_stamps
+    tell 'exact stamps ask for no option' "$(
+        is_status 0
+        says out 'option      --slack 0 (as given): stamps have steps of 1 ns'
+        says out 'option      --drift 0 (as given): '
+        wants_page "$judged/out/report.html"
+    )"
+    judge_stamps step=8 -- --slack 100000
+    tell 'a wider slack than stamps of 8 ns ask for' "$(
+        is_status 0
+        says out 'option      --slack 4 (100000 was given, which is more): stamps of what came in'
+    )"
+    judge_stamps digits=6
+    tell 'stamps in us ask for half of one' "$(says out 'option      --slack 500: stamps of what')"
+    judge_stamps late=20000
+    slack=$(option_of --slack)
+    slack=${slack//[^0-9]/}
+    tell 'late stamps ask for a slack' "$(
+        is_status 5
+        says out "option      --slack $slack: a frame seems to leave"
+    )"
+    judge_stamps late=20000 -- --slack "$slack"
+    tell 'with it the switch conforms' "$(
+        is_status 0
+        says out "option      --slack $slack (as given): "
+        wants_page "$judged/out/report.html"
+    )"
+    judge_stamps behind=3000
+    tell 'a clock that is behind' "$(
+        is_status 5
+        says out '--slack 1020: the clock of what left is behind that of what came, from A:1 to A:3'
+        says out 'editcap -t 0.000002040'
+    )"
+    judge_stamps ppm=50
+    tell 'clocks that go apart' "$(
+        says out 'option      --drift 51: left less came grows by 50.1 ns each ms'
+        wants_number "$judged/out/report.json" 'r["offsets"][0]["slope_ppm"]' 50.1
+    )"
+    judge_stamps back=100 -- --reorder 10
+    tell 'frames that stand further back than the program looks' "$(
+        is_status 3
+        says out 'verdict     none: the finding before it is no verdict: with a greater --reorder'
+        says out 'option      --reorder 50 (10 was given): a frame stands behind 50 frames'
+    )"
+    judge_stamps back=100 -- --reorder 50
+    tell 'as far back as it says' "$(is_status 0; says out 'verdict     conforms')"
+}
+
 refused_words() {
     came_and_left 0 6720
     judge --origin 0
@@ -210,6 +273,7 @@ elif "$program" conform --help >"$judged/help" 2>&1; then
         skip 'afdx-report --conform on recordings' 'conform takes no recordings'
     elif [[ -n $dpkt ]] && has mergecap; then
         recording_tests
+        stamp_tests
     else
         skip 'afdx-report --conform on recordings' 'there is no package dpkt, or no mergecap'
     fi

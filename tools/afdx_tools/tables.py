@@ -56,7 +56,7 @@ WRITTEN = {f"{name}.csv" for name in (*NAMES, *OF_SEVERAL)}
 WRITTEN |= {"arrivals.csv", "early.csv", "compared.csv"}
 WRITTEN |= {"troubles.csv", "where.csv"}
 WRITTEN |= {"streams.csv", "deviations.csv", "unseen.csv"}  # of a recorded switch
-WRITTEN |= {"groups.csv", "idle.csv"}
+WRITTEN |= {"groups.csv", "idle.csv", "options.csv", "stamps.csv", "offsets.csv"}
 WRITTEN |= {"report.json", "report.html"}  # what a folder may have of an earlier report
 
 

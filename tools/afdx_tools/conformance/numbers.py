@@ -212,4 +212,6 @@ def no_verdict(report: Row) -> str:
         return words + ": with a greater --reorder frames come in that seem missing there."
     if fault.startswith("recording Lossy"):
         return words + ": each may be of a frame that the recorder lost."
+    if fault.startswith("recording Absent"):
+        return words + ": an option names an interface that isn't in the recording."
     return words + "."

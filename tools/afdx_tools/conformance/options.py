@@ -69,6 +69,7 @@ class Options:
     exercised: bool = False
     of_recordings: tuple[str, ...] = ()
     recorders: Recorders = Recorders()
+    reorder: int | None = None
 
     def words(self) -> list[str]:
         """The words that say the same to the program; those of recordings stand apart."""
@@ -108,6 +109,7 @@ def conform_options(args: argparse.Namespace) -> Options:
         raise Refused("--taps and --left say the same: give one of them")
     words = recording_options(args) + [f"--left={each}" for each in args.left]
     fcs = None if args.fcs is None else args.fcs == "yes"
+    reorder = None if args.reorder is None else int(args.reorder)
     return Options(
         **amounts,
         start=args.begin,
@@ -116,6 +118,7 @@ def conform_options(args: argparse.Namespace) -> Options:
         exercised=args.exercised,
         of_recordings=(*words, *["--lossy"] * args.lossy),
         recorders=Recorders(tuple(args.interface), tuple(args.left), fcs, args.stamps or "end"),
+        reorder=reorder,
     )
 
 

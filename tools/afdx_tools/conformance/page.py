@@ -25,8 +25,11 @@ TABLES = {
     "groups": "Findings by link, port and kind: how many, and the first line that each names",
     "deviations": "Findings: the lines of the program, with the frame that each names",
     "streams": "Links, ports and sides: what came, left, was found, and latency as measured, in ns",
+    "options": "Options that the stamps ask for, at the least, and what was measured",
     "idle": "Links, ports and sides that are judged, and of which no frame is explained",
     "unseen": "Links, ports and sides that aren't judged, and what wasn't recorded of them",
+    "stamps": "Stamps by port: their steps, and how near to one another frames stand, in ns",
+    "offsets": "Left less came, less the time on the line, by input and output port, in ns",
 }
 PROVED = (
     "Proved: the verdict, its counts and each finding are lines of the proved program, and so are "
@@ -115,10 +118,9 @@ def page(report: Row, most: int) -> str:
     """The whole page, with so many links in its picture."""
     totals = report["totals"]
     names = {"picture": "latency", "groups": "findings by kind", "deviations": "findings"}
-    names |= {"streams": "table of streams"}
-    names |= {"idle": "what was idle"}
+    names |= {"streams": "table of streams", "options": "options", "idle": "what was idle"}
     names |= {"unseen": "what isn't judged"} if "unseen" in report else {}
-    names |= {"made": "what made it"}
+    names |= {"stamps": "stamps", "made": "what made it"}
     parts = [
         answer(report),
         links_of(names),

@@ -5,20 +5,22 @@ may not be, and reports the faults of a recording.
 """
 from __future__ import annotations
 
+from bisect import bisect_right
 from dataclasses import dataclass, field
-from typing import Iterator, NamedTuple
+from typing import Iterator, NamedTuple, Sequence
 
 from afdx_tools.config import Config
 from afdx_tools.conformance.frames import Frame, frame_of, vl_of
 from afdx_tools.lists import check_sequence
+from afdx_tools.recordings.reading import BILLION, Recording
 from afdx_tools.recordings.reading import Frame as Recording_frame
-from afdx_tools.recordings.reading import Recording
 
 FLAGS = 2  # an option of a frame
 IS_WRONG = 1 << 24  # the recorder found the check sequence wrong
 MOST_HELD = 2000  # bytes of a frame that count
 SENDER, SENDER_AT, SENDER_END = b"\x02\0\0", 6, 11  # of a source address of an end system
 CHECK_SEQUENCE = 4
+MOST_BACK = 100_000  # frames: the most that --reorder takes
 
 
 class Place(NamedTuple):
@@ -90,12 +92,31 @@ class Stood(NamedTuple):
 @dataclass
 class Recorded:
     """All frames that came and that left, by time; the moment of time 0, None where there is no
-    frame; and where those stand that are looked for, by whether they left and their numbers."""
+    frame; and where those stand that are looked for, by whether they left and their numbers. The
+    ns of a unit of the stamps, of what came and what left, and how many frames with later moments
+    stand in front of one, at most."""
 
     came: list[Frame] = field(default_factory=list)
     left: list[Frame] = field(default_factory=list)
     time_0: int | None = None
     stood: dict[tuple[bool, int], Stood] = field(default_factory=dict)
+    resolution: dict[bool, int] = field(default_factory=dict)
+    back: int = 0
+
+
+def most_back(moments: Sequence[int]) -> int:
+    """The most frames with later moments that stand in front of one, as far as `--reorder` goes."""
+    ordered: list[int] = []
+    most = 0
+    for moment in moments:
+        at = bisect_right(ordered, moment)
+        most = max(most, len(ordered) - at)
+        if most > MOST_BACK:
+            break
+        ordered.insert(at, moment)
+        if len(ordered) > 2 * MOST_BACK:
+            del ordered[: MOST_BACK - 1]
+    return most
 
 
 class Ends:
@@ -160,6 +181,10 @@ class Reading:
             if frame.number in self.wanted[place.is_left]:
                 name = frame.interface.name.decode("utf-8", "replace")
                 self.found.stood[place.is_left, frame.number] = Stood(frame.place, name, stamp)
+            unit = -(-BILLION // frame.interface.units)
+            self.found.resolution[place.is_left] = max(
+                unit, self.found.resolution.get(place.is_left, 1)
+            )
             if self.recorders.are_starts(place.is_left):
                 length = len(frame.content) + (0 if has_check_sequence else CHECK_SEQUENCE)
                 stamp += length * self.ends.byte_ns.get(port, 0)
@@ -168,10 +193,13 @@ class Reading:
     def read(self, paths: list[str]) -> Recorded:
         """All that one recording has, or two, of which the first has what came."""
         sides: list[bool | None] = [None] if len(paths) == 1 else [False, True]
-        for path, is_left in zip(paths, sides):
-            for has_left, frame in self.frames(path, self.recorders.places(is_left)):
-                (self.found.left if has_left else self.found.came).append(frame)
         found = self.found
+        for path, is_left in zip(paths, sides):
+            moments = []
+            for has_left, frame in self.frames(path, self.recorders.places(is_left)):
+                (found.left if has_left else found.came).append(frame)
+                moments.append(frame.time)
+            found.back = max(found.back, most_back(moments))
         found.time_0 = min((frame.time for frame in (*found.came, *found.left)), default=None)
         for frames in (found.came, found.left):
             frames.sort(key=lambda frame: (frame.time, frame.line))

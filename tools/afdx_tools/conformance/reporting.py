@@ -18,6 +18,7 @@ from afdx_tools.conformance.measuring import Measured, links_at, numbers_in
 from afdx_tools.conformance.numbers import Numbers, totals_of
 from afdx_tools.conformance.options import Options
 from afdx_tools.conformance.page import COUNTED, PROVED, TABLES, page
+from afdx_tools.conformance.proposals import Proposals
 from afdx_tools.conformance.recorded import Ends, Reading, Recorded, Taps
 from afdx_tools.conformance.text import print_text
 from afdx_tools.explaining import explain
@@ -35,6 +36,9 @@ from afdx_tools.report.criteria import suite_of, write_junit
 from afdx_tools.report.made import digest, run_of
 from afdx_tools.report.where import utc
 from afdx_tools.tables import WRITTEN, Row, csv_text
+
+
+TOO_FAR_BACK = "recording TimeBack"  # how a fault begins
 
 
 class Inputs(NamedTuple):
@@ -83,8 +87,9 @@ def tapped(
 def read(
     inputs: Inputs, options: Options, judged: Judged, config: Config
 ) -> tuple[Iterable[Frame], Iterable[Frame], Recorded]:
-    """What came and what left, nothing where a fault ended the run; and what recordings say."""
-    if judged.fault:
+    """What came and what left, nothing where a fault ended the run; and what recordings say, also
+    where the fault is that frames stand too far back."""
+    if judged.fault and not (inputs.are_recorded and judged.fault.startswith(TOO_FAR_BACK)):
         return (), (), Recorded()
     if not inputs.are_recorded:
         came, left = map(frames_of_list, inputs.paths)
@@ -92,7 +97,7 @@ def read(
     ends = Ends(config, links_at(config, options.switch)[0])
     reading = Reading(options.recorders, ends, numbers_in(judged.deviations))
     recorded = reading.read(inputs.paths)
-    return recorded.came, recorded.left, recorded
+    return ((), (), recorded) if judged.fault else (recorded.came, recorded.left, recorded)
 
 
 def made_by(
@@ -150,6 +155,7 @@ def report_of(
         "groups": groups(named_rows(found, naming), left_twice(measured)),
         "deviations": named_rows(found, naming),
         "streams": named_rows(streams, naming),
+        **named_rows(Proposals(measured, recorded.resolution, recorded.back).tables(), naming),
         "idle": named_rows(idle, naming),
         **named_rows(of_recordings(inputs, judged, numbers) if inputs.are_recorded else {}, naming),
         "proved": PROVED,

@@ -6,6 +6,7 @@ from typing import Iterator
 from afdx_tools.conformance.grouping import firsts, of_link
 from afdx_tools.conformance.numbers import account_words, no_verdict
 from afdx_tools.conformance.page import COUNTED, PROVED, TABLES
+from afdx_tools.conformance.proposals import option_words
 from afdx_tools.report.ranking import latency_text, nearest
 from afdx_tools.tables import Row, as_text, cell
 
@@ -62,6 +63,8 @@ def head_of(report: Row) -> Iterator[str]:
         most = nearest([row for row in report["streams"] if row["frames"]])
         if most:
             yield f"nearest     {latency_text(most)}"
+    for row in report["options"]:
+        yield f"option      {option_words(row)}"
     for name, counts in report.get("skipped", {}).items():
         yield f"skipped     {cell(counts)} in {name}"
 

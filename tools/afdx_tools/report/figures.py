@@ -111,7 +111,7 @@ def latencies(pairs: Sequence[Sequence[Row]], bound: str, where: str = "in the r
     """Latency against bound and configured latency: a row for each link at a port. On paper a
     picture isn't cut, so the first one leaves room for what stands above it."""
     keys = ("least_ns", "bound_ns", "configured_ns", "greatest_ns")
-    values = [row[key] for pair in pairs for row in pair for key in keys if row[key]]
+    values = [row[key] for pair in pairs for row in pair for key in keys if (row[key] or 0) > 0]
     low, high = min(values) * 0.8, max(values) * 1.15
     span = math.log(high / low)
 
