@@ -3,7 +3,7 @@ tests/run/hostile.py."""
 from __future__ import annotations
 
 import random
-from collections.abc import Iterable, Iterator
+from collections.abc import Iterator
 
 import tables as made
 from conform import conform
@@ -114,20 +114,18 @@ def many_begun(judge: Judge) -> None:
     answers(judge.answer(pair), 0, last, b"")
 
 
-def distinct_list(port: int, times: Iterable[int], first: int) -> bytes:
-    """Frames of link 1 at these times, no two of the same bytes, numbered from the first on."""
+def distinct_list(port: int, time: int, first: int, count: int) -> bytes:
+    """So many frames of link 1 at this time, no two of the same bytes, numbered from the first."""
     system, lines = made.base_tables()["system"][0], []
-    for place, time in enumerate(times, first):
+    for place in range(first, first + count):
         frame = frame_of(system, 1, 1000, place.to_bytes(4, "big"), 0, "A")
         lines.append(f"R {time} A {port} {frame.hex()}\n")
     return "".join(lines).encode()
 
 
-def strangers(judge: Judge, count: int, gap: int) -> None:
-    """So many frames come, so many ns apart, and as many others leave."""
-    times = [gap * place for place in range(count)]
-    came = distinct_list(1, times, 0)
-    left = distinct_list(3, [6_720 + time for time in times], count)
+def strangers(judge: Judge, count: int) -> None:
+    """So many frames come at one moment, and as many others leave."""
+    came, left = distinct_list(1, 0, 0, count), distinct_list(3, 6_720, count, count)
     found = judge.answer(Pair(CONFIGS["base"], came, left, ()))
     told = b"".join(b"strange %d A 3 no-arrival\n" % n for n in range(1, count + 1))
     last = b"deviates %d explained 0 open 1 uncertain 0 left-out 0 unseen 0\n" % count
@@ -185,8 +183,7 @@ def hostile_lists(program: Program) -> Iterator[tuple]:
     yield "conform: equal times", equal_times, judge, 200_000
     yield "conform: nothing came", nothing_came, judge
     for times in (1, 2, 4):  # what is quadratic takes too long
-        yield f"conform: {times} times the strangers", strangers, judge, 20_000 * times, 0
-        yield f"conform: {times} times the strangers, apart", strangers, judge, 10_000 * times, 1
+        yield f"conform: {20_000 * times} strangers", strangers, judge, 20_000 * times
     yield "conform: the largest tables", largest_tables, judge
     yield "conform: many have begun", many_begun, judge
     yield "conform: many states", many_states, judge

@@ -74,10 +74,10 @@ impl Limits {
             x.time ≡ time → x.bytes ≡ bytes.now →
             result ≡ fits_it z x (gone_of frame.now) }
     {
-        let wire = self.wire_time(bytes.length());
         if !bytes.is_same(&frame.bytes) {
             return false;
         }
+        let wire = self.wire_time(bytes.length());
         if frame.time + self.slacks < time + wire {
             return false;
         }
