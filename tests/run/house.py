@@ -43,9 +43,9 @@ PRINTED = "# printed by bin/pages"  # from such a line on, down to one that begi
 NUMBERS = CRATES / "afdx_frame/src/tables.rt"
 # the functions, beside each `from`, that may name an AllocError or a fault's Memory as a value
 MEMORY = {
-    "crates/afdx/src/telling.rt": {"memory"},
     "crates/afdx_config/src/asked.rt": {"links_in"},
     "crates/afdx_config/src/read.rt": {"tree_of"},
+    "crates/afdx_console/src/telling.rt": {"memory"},
     "crates/afdx_commands/src/refusing.rt": {"want_memory"},
     "crates/afdx_send/src/fault.rt": {""},  # the row of a table
     "crates/afdx_sending/src/run.rt": {"refusal_of"},

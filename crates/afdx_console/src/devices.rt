@@ -6,7 +6,7 @@ use std::io;
 use std::io::{Read, Stdin, Write};
 
 /// What a person is told of standard input.
-pub const INPUT_NAME: &str = "standard input";
+pub(crate) const INPUT_NAME: &str = "standard input";
 
 /// What a person is told of the input that a word names.
 pub fn name_of_input(word: &str) -> &str {

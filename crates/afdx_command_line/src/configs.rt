@@ -1,10 +1,7 @@
 //! The commands over a configuration alone.
 
-use crate::devices::{Heard, Traced};
-use crate::explaining::Cause;
-use crate::telling::error_lines;
-use crate::{explain_if_asked, read_config};
 use afdx_commands::status::DONE;
+use afdx_console::{Cause, Heard, Traced, error_lines, explain_if_asked, read_config};
 use afdx_replay::{CheckOptions, KeptKeys, SolveOptions, Watched, check_lines, solve_config};
 use clap::ArgMatches;
 use std::io::Write;

@@ -1,13 +1,12 @@
 //! The command `conform`: its devices, and how it ends.
 
-use crate::devices::{Heard, Input, Traced, name_of_input};
-use crate::explain_if_asked;
-use crate::explaining::Cause;
-use crate::progress::{Cleared, Count, Counted, is_told};
 use crate::running::{cause_in, open, output_room, refuse};
-use crate::telling::{error_lines, memory};
 use afdx_acceptance::{ByRole, Choices, Judged, Leeway, conform};
 use afdx_commands::status::DONE;
+use afdx_console::{
+    Cause, Cleared, Count, Counted, Heard, Input, Traced, error_lines, explain_if_asked, is_told,
+    memory, name_of_input,
+};
 use afdx_frame::BySide;
 use afdx_inputs::{AsLists, SeenCount};
 use afdx_replay::{Output, RunFault, Tally, Watched, finish};

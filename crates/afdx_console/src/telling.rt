@@ -1,6 +1,6 @@
 //! What the program tells on standard error, in whole lines.
 
-use afdx_replay::RunFault;
+use afdx_lists::RunFault;
 use afdx_text::WholeLines;
 use std::fmt::Display;
 use std::io::{Print, Stderr};

@@ -1,6 +1,6 @@
 //! The places of standard streams that are closed.
 
-use afdx_replay::RunFault;
+use afdx_lists::RunFault;
 use std::fs::File;
 use std::os::fd::AsFd;
 

@@ -2,12 +2,11 @@
 
 ghost use Rattle.std.specs.Prelude.{◌≡◌, false};
 
-use crate::devices::{Heard, Input, Traced, name_of_input};
-use crate::explaining::Cause;
-use crate::progress::{Cleared, Count, Counted, is_told};
-use crate::telling::{complain, error_lines, memory};
-use crate::{explain_if_asked, no_file};
 use afdx_commands::status::{DONE, WRONG_WORDS};
+use afdx_console::{
+    Cause, Cleared, Count, Counted, Heard, Input, Traced, complain, error_lines, explain_if_asked,
+    is_told, memory, name_of_input, no_file,
+};
 use afdx_frame::BySide;
 use afdx_replay::{
     CommandedRule, Ended, InputEnded, ListEnded, Output, PairOptions, Peeked, Placing,

@@ -276,7 +276,7 @@ fn tell_device(rt: &HostRuntime, line: &str, cause: &Cause<'_>) {
 
 /// After the line of a fault: what it means, and what the program knows of its cause. There is
 /// nothing to be done where standard error fails.
-pub fn explain(rt: &HostRuntime, line: &str, cause: &Cause<'_>) {
+fn explain(rt: &HostRuntime, line: &str, cause: &Cause<'_>) {
     let Some(meaning) = meaning_of(line) else {
         return;
     };
@@ -294,10 +294,17 @@ pub fn explain(rt: &HostRuntime, line: &str, cause: &Cause<'_>) {
 }
 
 /// Whether an explanation is asked for: by default, if a person reads standard error.
-pub fn is_asked(rt: &HostRuntime, matches: &ArgMatches<'_>) -> bool {
+fn is_asked(rt: &HostRuntime, matches: &ArgMatches<'_>) -> bool {
     match matches.get_str("explain") {
         Some("always") => true,
         Some("auto") => rt.stderr().is_terminal(),
         _ => false,
+    }
+}
+
+/// What follows the line of a fault, if that is asked for.
+pub fn explain_if_asked(rt: &HostRuntime, matches: &ArgMatches<'_>, line: &str, cause: &Cause<'_>) {
+    if is_asked(rt, matches) {
+        explain(rt, line, cause);
     }
 }

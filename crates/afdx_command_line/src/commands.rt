@@ -1,0 +1,189 @@
+//! The commands, by the words of the command line.
+
+use crate::configs::{check_config, solve_tables};
+use crate::conforming::judge_inputs;
+use crate::running::{Replaying, Run, run_inputs, run_sender};
+use afdx_commands::status::{DONE, WRONG_WORDS};
+use afdx_console::{
+    complain, end_with, line_of, memory, print_lists, print_meaning, read_config, take_places,
+    tell_text,
+};
+use afdx_explain::meaning_of;
+use afdx_replay::{CommandedRule, Policing, RunFault};
+use afdx_words::afdx_command;
+use clap::error::ErrorKind;
+use clap::{ArgMatches, Error};
+use std::alloc::AllocError;
+
+/// The rule that the words of `police` give.
+fn commanded_rule(matches: &ArgMatches<'_>) -> Option<CommandedRule> {
+    let policing = match matches.get_str("policing")? {
+        "frame" => Policing::Frame,
+        _ => Policing::Byte,
+    };
+    Some(CommandedRule {
+        vl: matches.get_one::<u64>("vl")?,
+        port: matches.get_one::<u64>("port")?,
+        bag_ms: matches.get_one::<u64>("BAG_MS")?,
+        lmin: matches.get_one::<u64>("lmin")?,
+        lmax: matches.get_one::<u64>("LMAX")?,
+        jitter_us: matches.get_one::<u64>("JITTER_US")?,
+        policing,
+    })
+}
+
+/// The status with which a run ended, or why there was none.
+fn ended(status: Result<u8, u8>) -> u8 {
+    match status {
+        Ok(status) | Err(status) => status,
+    }
+}
+
+fn police_list(rt: &HostRuntime, matches: &ArgMatches<'_>) -> u8 {
+    let (Some(list), Some(rule)) = (matches.get_str("LIST"), commanded_rule(matches)) else {
+        return WRONG_WORDS;
+    };
+    ended(run_inputs(rt, matches, &Run::Police(rule), list, None))
+}
+
+fn replay_list(rt: &HostRuntime, matches: &ArgMatches<'_>) -> u8 {
+    let Some(list) = matches.get_str("LIST") else {
+        return WRONG_WORDS;
+    };
+    let config = match read_config(rt, matches) {
+        Ok(config) => config,
+        Err(status) => return status,
+    };
+    let replaying = Replaying {
+        config: config.as_slice(),
+        admission: !matches.get_flag("no-admission"),
+        explains_drops: matches.get_flag("explain-drops"),
+    };
+    let second = matches.get_str("LIST_B");
+    ended(run_inputs(rt, matches, &Run::Replay(replaying), list, second))
+}
+
+/// Judges a switch by what came and what left.
+fn judge_switch(rt: &HostRuntime, matches: &ArgMatches<'_>) -> u8 {
+    let Some(came) = matches.get_str("CAME") else {
+        return WRONG_WORDS;
+    };
+    let config = match read_config(rt, matches) {
+        Ok(config) => config,
+        Err(status) => return status,
+    };
+    let left = matches.get_str("LEFT");
+    ended(judge_inputs(rt, matches, config.as_slice(), came, left))
+}
+
+fn list_numbers(rt: &HostRuntime, matches: &ArgMatches<'_>) -> u8 {
+    let Some(list) = matches.get_str("LIST") else {
+        return WRONG_WORDS;
+    };
+    let config = match read_config(rt, matches) {
+        Ok(config) => config,
+        Err(status) => return status,
+    };
+    let run = Run::List {
+        config: config.as_slice(),
+    };
+    ended(run_inputs(rt, matches, &run, list, matches.get_str("LIST_B")))
+}
+
+fn send_list(rt: &HostRuntime, matches: &ArgMatches<'_>) -> u8 {
+    let (Some(list), Some(system)) = (matches.get_str("SUBMISSIONS"), matches.get_str("SYSTEM"))
+    else {
+        return WRONG_WORDS;
+    };
+    let config = match read_config(rt, matches) {
+        Ok(config) => config,
+        Err(status) => return status,
+    };
+    ended(run_sender(rt, matches, config.as_slice(), system, list))
+}
+
+/// Says what a line means, or what each word of the closed lists means.
+fn explain_words(rt: &HostRuntime, matches: &ArgMatches<'_>) -> u8 {
+    if matches.get_flag("list") {
+        if print_lists(rt).is_err() {
+            return end_with(rt, RunFault::Write);
+        }
+        return DONE;
+    }
+    let Some(words) = matches.get_strs("TEXT") else {
+        return WRONG_WORDS;
+    };
+    let Ok(line) = line_of(rt.alloc(), words) else {
+        return memory(rt);
+    };
+    let line = line.as_str();
+    let Some(meaning) = meaning_of(line) else {
+        complain(rt, "words UnknownText");
+        return WRONG_WORDS;
+    };
+    if print_meaning(rt, line, meaning).is_err() {
+        return end_with(rt, RunFault::Write);
+    }
+    DONE
+}
+
+fn run_matches(rt: &HostRuntime, matches: &ArgMatches<'_>) -> u8 {
+    match matches.subcommand() {
+        Some(("check", matches)) => check_config(rt, matches),
+        Some(("conform", matches)) => judge_switch(rt, matches),
+        Some(("explain", matches)) => explain_words(rt, matches),
+        Some(("list", matches)) => list_numbers(rt, matches),
+        Some(("police", matches)) => police_list(rt, matches),
+        Some(("replay", matches)) => replay_list(rt, matches),
+        Some(("send", matches)) => send_list(rt, matches),
+        Some(("solve", matches)) => solve_tables(rt, matches),
+        _ => WRONG_WORDS,
+    }
+}
+
+/// What `clap` says of words that it refuses, and of `--help` and `--version`.
+fn answer_refusal(rt: &HostRuntime, refusal: &Error) -> u8 {
+    if refusal.kind() == ErrorKind::OutOfMemory {
+        return memory(rt);
+    }
+    if refusal.use_stderr() {
+        tell_text(rt, refusal);
+        return WRONG_WORDS;
+    }
+    if refusal.print(rt).is_err() {
+        return end_with(rt, RunFault::Write);
+    }
+    DONE
+}
+
+fn run_words(rt: &HostRuntime, given: &[String]) -> Result<u8, AllocError> {
+    let command = afdx_command(rt.alloc())?;
+    match command.try_get_matches_from(given) {
+        Ok(matches) => Ok(run_matches(rt, &matches)),
+        Err(refusal) => Ok(answer_refusal(rt, &refusal)),
+    }
+}
+
+/// Runs the command that the words of the command line give, and gives the exit status.
+pub fn run_command_line(rt: &HostRuntime) -> u8 {
+    let _places = match take_places(rt) {
+        Ok(places) => places,
+        Err(fault) => return end_with(rt, fault),
+    };
+    let given = match std::env::args(rt) {
+        Ok(given) => given,
+        Err(error) if error.kind() == std::io::ErrorKind::OutOfMemory => return memory(rt),
+        Err(_) => {
+            complain(rt, "words NotText");
+            return WRONG_WORDS;
+        }
+    };
+    let given: Vec<String> = match given.collect(rt.alloc()) {
+        Ok(given) => given,
+        Err(_) => return memory(rt),
+    };
+    match run_words(rt, given.as_slice()) {
+        Ok(status) => status,
+        Err(_) => memory(rt),
+    }
+}

@@ -1,0 +1,9 @@
+//! The commands of the program: their files and streams.
+#![tactic(auto)]
+
+mod commands;
+mod configs;
+mod conforming;
+mod running;
+
+pub use commands::run_command_line;
