@@ -304,7 +304,9 @@ fn no_options_say_nothing(rt: HostRuntime) -> Result<(), Fail> {
 fn interfaces_that_arent_there_are_unused(rt: HostRuntime) -> Result<(), Fail> {
     let said = (Some(Place::OnSide(Side::A)), None, None);
     let interfaces = options(rt.alloc(), said)?.interfaces;
-    equal([2, 3, 4].map(|count| interfaces.unused(count)), [2, 1, 0])
+    equal([2, 3, 4].map(|count| interfaces.unused(count)), [2, 1, 0])?;
+    let least = [2, 3, 4].map(|count| interfaces.first_unused(count));
+    equal(least, [Some(2), Some(3), None])
 }
 
 /// The line of the counts of a recording of 21 numbers.
@@ -324,6 +326,7 @@ fn counts_line(alloc: Global) -> Result<String, AllocError> {
         counts,
         lost: 7,
         unused: 10,
+        absent: Some(3),
     };
     format!(in alloc; "{tally}")
 }

@@ -163,15 +163,15 @@ fn lines_of_conform_are_explained() -> Result<(), Fail> {
         ("early 1 A 3 5760", "early n side port NS:"),
         ("unsure 1 A 3", "unsure n side port:"),
         (
-            "conforms explained 1 open 0 uncertain 0 left-out 0 unseen 0",
+            "conforms explained 1 open 0 uncertain 0 left-out 0 unseen 0 idle 0",
             "conforms:",
         ),
         (
-            "deviates 2 explained 0 open 0 uncertain 0 left-out 0 unseen 0",
+            "deviates 2 explained 0 open 0 uncertain 0 left-out 0 unseen 0 idle 0",
             "deviates D:",
         ),
         (
-            "undecided explained 0 open 1 uncertain 0 left-out 0 unseen 0",
+            "undecided explained 0 open 1 uncertain 0 left-out 0 unseen 0 idle 0",
             "undecided:",
         ),
         ("list came BadHex 12", "An odd number of digits"),
@@ -179,6 +179,8 @@ fn lines_of_conform_are_explained() -> Result<(), Fail> {
         ("list left TooManyLines", "It is line 1,000,001"),
         ("recording Cut 4 came", "The frame isn't whole"),
         ("recording Packed left", "The input isn't read"),
+        ("recording Absent 4", "An option speaks of interface n"),
+        ("recording Absent 4 came", "An option speaks of interface n"),
         ("recording Lossy 37", "The recorder lost n frames"),
         ("words NoSuchSwitch", "No switch of the configuration"),
     ];

@@ -14,11 +14,11 @@ use std::test::Fail;
 type Ended = (u8, Option<(u64, u64)>, ShortText, ShortText);
 
 /// What is asked for: by how much stamps may be off, from where on and until when the lists are
-/// known, and a link that is left out.
-type Asked = (u64, Option<u64>, Option<u64>, Option<u16>);
+/// known, a link that is left out, and whether idle streams matter.
+type Asked = (u64, Option<u64>, Option<u64>, Option<u16>, bool);
 
 /// Exact stamps, from a reset to the last line.
-const EXACT: Asked = (0, None, None, None);
+const EXACT: Asked = (0, None, None, None, false);
 
 /// What the command answers and writes, of the base tables and these lists.
 fn conformed(
@@ -28,13 +28,13 @@ fn conformed(
     came: &str,
     left: &str,
 ) -> Result<Ended, Fail> {
-    let (slack, start, until, left_out) = asked;
+    let (slack, start, until, left_out, is_exercised) = asked;
     let leeway = Leeway::new(slack, 0, 0, 0, start).ok_or("a leeway")?;
     let mut links = Vec::new(alloc);
     if let Some(link) = left_out {
         links.push(Some(VlId(link)))?;
     }
-    let choices = Choices::new(leeway, until, links, false).ok_or("choices")?;
+    let choices = Choices::new(leeway, until, links, false, is_exercised).ok_or("choices")?;
     let (came, left) = (spelled(alloc, came)?, spelled(alloc, left)?);
     let mut inputs = ByRole {
         came: Watched::new(came.as_bytes()),
@@ -65,41 +65,44 @@ fn conformed(
 /// What is asked for, what came and what left, the status and what is written.
 type Row = (Asked, &'static str, &'static str, u8, &'static str);
 
-const ROWS: [Row; 10] = [
+const ROWS: [Row; 11] = [
     (
         EXACT,
         "F 0 A 1 H1\n",
         "",
         3,
-        "undecided explained 0 open 1 uncertain 0 left-out 0 unseen 0\n",
+        "undecided explained 0 open 1 uncertain 0 left-out 0 unseen 0 idle 4\n",
     ),
     (
         EXACT,
         "F 0 A 1 H1\nF 20000 A 1 H1\n",
         "F 6720 A 3 H1\n",
         0,
-        "conforms explained 1 open 0 uncertain 0 left-out 0 unseen 0\n",
+        "conforms explained 1 open 0 uncertain 0 left-out 0 unseen 0 idle 3\n",
     ),
     (
         EXACT,
         "F 0 A 1 H1\nF 20000 A 1 H1\n",
         "",
         5,
-        "stopped 1 A 3\ndeviates 1 explained 0 open 0 uncertain 0 left-out 0 unseen 0\n",
+        "stopped 1 A 3\n\
+        deviates 1 explained 0 open 0 uncertain 0 left-out 0 unseen 0 idle 3\n",
     ),
     (
         EXACT,
         "F 0 A 1 H1\n",
         "F 5759 A 3 H1\n",
         5,
-        "early 1 A 3 1\ndeviates 1 explained 0 open 0 uncertain 0 left-out 0 unseen 0\n",
+        "early 1 A 3 1\n\
+        deviates 1 explained 0 open 0 uncertain 0 left-out 0 unseen 0 idle 3\n",
     ),
     (
         EXACT,
         "F 0 A 1 H1\nF 499999 A 1 H1\n",
         "F 6720 A 3 H1\nF 506719 A 3 H1\n",
         5,
-        "passed 2 A 3 over-rate\ndeviates 1 explained 1 open 0 uncertain 0 left-out 0 unseen 0\n",
+        "passed 2 A 3 over-rate\n\
+        deviates 1 explained 1 open 0 uncertain 0 left-out 0 unseen 0 idle 3\n",
     ),
     (
         EXACT,
@@ -107,35 +110,43 @@ const ROWS: [Row; 10] = [
         "F 6720 A 2 H1\n",
         5,
         "strange 1 A 2 not-its-port\n\
-        deviates 1 explained 0 open 1 uncertain 0 left-out 0 unseen 0\n",
+        deviates 1 explained 0 open 1 uncertain 0 left-out 0 unseen 0 idle 4\n",
     ),
     (
-        (1, None, Some(30_000), None),
+        (1, None, Some(30_000), None, false),
         "F 0 A 1 H1\n",
         "F 17002 A 3 H1\n",
         0,
-        "conforms explained 1 open 0 uncertain 0 left-out 0 unseen 0\n",
+        "conforms explained 1 open 0 uncertain 0 left-out 0 unseen 0 idle 3\n",
     ),
     (
-        (0, Some(0), None, None),
+        (0, Some(0), None, None, false),
         "",
         "F 16999 A 3 H1\n",
         0,
-        "conforms explained 1 open 0 uncertain 0 left-out 0 unseen 0\n",
+        "conforms explained 1 open 0 uncertain 0 left-out 0 unseen 0 idle 3\n",
     ),
     (
-        (0, None, Some(17_000), None),
+        (0, None, Some(17_000), None, false),
         "F 0 A 1 H1\n",
         "F 17001 A 3 H1\n",
         5,
-        "stopped 1 A 3\ndeviates 1 explained 0 open 0 uncertain 0 left-out 0 unseen 0\n",
+        "stopped 1 A 3\n\
+        deviates 1 explained 0 open 0 uncertain 0 left-out 0 unseen 0 idle 3\n",
     ),
     (
-        (0, None, None, Some(2)),
+        (0, None, None, Some(2), false),
         "F 0 A 1 H1\nF 0 A 2 H2\n",
         "F 6720 A 3 H1\n",
         0,
-        "conforms explained 1 open 0 uncertain 0 left-out 1 unseen 0\n",
+        "conforms explained 1 open 0 uncertain 0 left-out 1 unseen 0 idle 3\n",
+    ),
+    (
+        (0, None, None, None, true),
+        "F 0 A 1 H1\n",
+        "F 6720 A 3 H1\n",
+        3,
+        "undecided explained 1 open 0 uncertain 0 left-out 0 unseen 0 idle 3\n",
     ),
 ];
 
@@ -187,7 +198,7 @@ fn one_switch_has_no_name(rt: HostRuntime) -> Result<(), Fail> {
 fn the_end_is_in_its_range(rt: HostRuntime) -> Result<(), Fail> {
     let leeway = Leeway::new(0, 0, 0, 0, None).ok_or("a leeway")?;
     let last = 1_000_000_000_000_000;
-    let most = Choices::new(leeway, Some(last), Vec::new(rt.alloc()), false);
-    let more = Choices::new(leeway, Some(last + 1), Vec::new(rt.alloc()), false);
+    let most = Choices::new(leeway, Some(last), Vec::new(rt.alloc()), false, false);
+    let more = Choices::new(leeway, Some(last + 1), Vec::new(rt.alloc()), false, false);
     equal((most.is_some(), more.is_some()), (true, false))
 }

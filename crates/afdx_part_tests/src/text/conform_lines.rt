@@ -74,7 +74,7 @@ fn what_is_found(rt: HostRuntime) -> Result<(), Fail> {
 }
 
 /// The last line, with these counts.
-fn judged(answer: Answer, counts: [u64; 5]) -> OutLine<'static> {
+fn judged(answer: Answer, counts: [u64; 6]) -> OutLine<'static> {
     OutLine::Conform(ConformLine::Judged {
         answer,
         explained: counts[0],
@@ -82,6 +82,7 @@ fn judged(answer: Answer, counts: [u64; 5]) -> OutLine<'static> {
         uncertain: counts[2],
         left_out: counts[3],
         unseen: counts[4],
+        idle: counts[5],
     })
 }
 
@@ -90,18 +91,18 @@ fn what_the_answer_is(rt: HostRuntime) -> Result<(), Fail> {
     let mut text = Text::new(rt.alloc());
     let rows = [
         (
-            judged(Answer::Conforms, [1, 2, 3, 4, 5]),
-            "conforms explained 1 open 2 uncertain 3 left-out 4 unseen 5\n",
+            judged(Answer::Conforms, [1, 2, 3, 4, 5, 6]),
+            "conforms explained 1 open 2 uncertain 3 left-out 4 unseen 5 idle 6\n",
         ),
         (
-            judged(Answer::Deviates(u64::MAX), [u64::MAX; 5]),
+            judged(Answer::Deviates(u64::MAX), [u64::MAX; 6]),
             "deviates 18446744073709551615 explained 18446744073709551615 open \
 18446744073709551615 uncertain 18446744073709551615 left-out 18446744073709551615 unseen \
-18446744073709551615\n",
+18446744073709551615 idle 18446744073709551615\n",
         ),
         (
-            judged(Answer::Undecided, [0; 5]),
-            "undecided explained 0 open 0 uncertain 0 left-out 0 unseen 0\n",
+            judged(Answer::Undecided, [0; 6]),
+            "undecided explained 0 open 0 uncertain 0 left-out 0 unseen 0 idle 0\n",
         ),
     ];
     all_right(wrongly_put(&mut text, rows.as_slice())?)

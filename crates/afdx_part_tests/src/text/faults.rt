@@ -17,7 +17,7 @@ fn told(alloc: Global, fault: &RunFault) -> Vec<u8> {
 }
 
 /// Each fault of a run, what is told of it, and its exit status.
-const FAULTS: [(RunFault, &str, u8); 35] = [
+const FAULTS: [(RunFault, &str, u8); 36] = [
     (RunFault::BadLine(20), "list BadLine 20\n", 3),
     (RunFault::BadHex(1), "list BadHex 1\n", 3),
     (RunFault::TimeBack(2), "list TimeBack 2\n", 3),
@@ -98,6 +98,11 @@ const FAULTS: [(RunFault, &str, u8); 35] = [
     (
         RunFault::RecordingOfA(RecordingFault::Packed),
         "recording Packed A\n",
+        3,
+    ),
+    (
+        RunFault::RecordingOfCame(RecordingFault::Absent(4)),
+        "recording Absent 4 came\n",
         3,
     ),
     (
