@@ -62,7 +62,7 @@ has-none n totals h = subst (λ m. HasCounted m totals) (sym (both-none n)) h
 
 -- ---- of one stream
 
-idle_counted : Counted
+abbrev idle_counted : Counted
 idle_counted = record { explained = 0; waiting = 0; uncertain = 0; idle = 1; is_unsure = false }
 
 nothing-counted : (z : Terms) → stream_counted z [] [] ≡ idle_counted

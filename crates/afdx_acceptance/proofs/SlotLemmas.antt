@@ -1,7 +1,7 @@
 -- The lines of what is found at an event of a stream.
-use Rattle.std.proofs.Common.{Box, Global, ◌≡◌, ℕ, ◌≤◌, ◌⊎◌, inl, inr, Bool, true, false, ◌||◌, List, [], ◌∷◌, ◌++◌, map, reverse, refl, sym, ap, ◌∙◌, subst}
+use Rattle.std.proofs.Common.{Box, Global, ◌≡◌, ℕ, ◌≤◌, ◌⊎◌, inl, inr, Bool, true, false, ◌||◌, ◌==◌, List, [], ◌∷◌, ◌++◌, map, reverse, refl, sym, ap, ◌∙◌, subst}
 use Rattle.std.proofs.lemmas.List.{append_assoc, map-append, reverse-append, reverse-reverse}
-use Rattle.std.specs.Prelude.{if◌then◌else◌, is_empty, not, Option, Some, None, Result, Ok, Err, IfOk, IfSome, IfNone}
+use Rattle.std.specs.Prelude.{if◌then◌else◌, length, not, Option, Some, None, Result, Ok, Err, IfOk, IfSome, IfNone}
 use Rattle.afdx_conform.specs.Events.{moment_at}
 use Rattle.afdx_conform.specs.Histories.{newest_tag, time_of, unsure_in}
 use Rattle.afdx_conform.specs.Growing.{IsNoSooner}
@@ -112,7 +112,7 @@ told-found z k m found j after due unsure lines all f u l a =
 
 -- there is a line where there were some, or some are told
 pub told-line : (k : Key) (m : ℕ) (lines : List ConformLine) (before : List Due) (told : Bool) → told ≡ has_line before
-    → has_line (told_at k m lines before) ≡ (told || not (is_empty lines))
+    → has_line (told_at k m lines before) ≡ (told || not (length lines == 0))
 told-line k m [] before told is = sym (or-none told ∙ is)
 told-line k m (x ∷ xs) before told is =
     ap (λ l. has_line (map (due_at k m) l ++ before)) (reverse-append (x ∷ []) xs)

@@ -73,6 +73,10 @@ pub record IsConform (n : Totals) : Type 0 where
   pub some : 0 < n.explained
   pub exercised : n.is_exercised ≡ true → n.idle ≡ 0
 
+some-more : (m : ℕ) → (m ≡ 0 → ⊥) → 0 < m
+some-more zero apart = absurd (apart refl)
+some-more (suc m) apart = omega arith
+
 pub conforms-parts : (n : Totals) → answer_of n ≡ Conforms → IsConform n
 conforms-parts n h =
     by (nat_lt 0 n.findings) n.is_unsure (nat_eq n.explained 0) n.is_exercised (nat_lt 0 n.idle) refl refl refl refl refl h
@@ -90,13 +94,9 @@ conforms-parts n h =
         record {
           none = omega (arith, le);
           sure = ue;
-          some = more n.explained other;
+          some = some-more n.explained other;
           exercised = λ is. absurd (true≢false (sym is ∙ xe));
         }
-      where
-        more : (m : ℕ) → (m ≡ 0 → ⊥) → 0 < m
-        more zero apart = absurd (apart refl)
-        more (suc m) apart = omega arith
     by false false false true false fe ue ee xe ie k =
         let le = ltb-false 0 n.findings fe in
         let other = eqb-false n.explained 0 ee in
@@ -104,13 +104,9 @@ conforms-parts n h =
         record {
           none = omega (arith, le);
           sure = ue;
-          some = more n.explained other;
+          some = some-more n.explained other;
           exercised = λ is. omega (arith, none);
         }
-      where
-        more : (m : ℕ) → (m ≡ 0 → ⊥) → 0 < m
-        more zero apart = absurd (apart refl)
-        more (suc m) apart = omega arith
 
 conforms-from : (n : Totals) → IsConform n → answer_of n ≡ Conforms
 conforms-from n p =

@@ -302,7 +302,7 @@ pub(crate) fn step(
         Slot::Strangers(strangers) => step_strangers(strangers, alloc, key),
         Slot::Stream(stream, is_told) => {
             let lines = step_stream(stream, alloc, spare, key, ended)?;
-            *is_told = *is_told || !lines.is_empty();
+            *is_told = *is_told || !lines.as_slice().is_empty();
             Ok(lines)
         }
     }

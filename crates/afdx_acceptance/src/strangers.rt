@@ -38,13 +38,29 @@ pub(crate) fn why_strange(frame: Checked<'_>, is_named: bool) -> StrangeReason
     }
 }
 
+/// Whether a reason is that a frame is too short, too long, or has a wrong check sequence.
+fn is_damage(reason: Reason) -> bool
+    ensures { result ≡ spec.is_damage (Some reason) }
+{
+    match reason {
+        Reason::TooShort | Reason::TooLong | Reason::BadFcs => true,
+        Reason::BadAddress
+        | Reason::UnknownLink
+        | Reason::WrongPort
+        | Reason::OverLmax
+        | Reason::UnderLmin
+        | Reason::OverRate => false,
+    }
+}
+
 /// Whether a frame is too short, too long, or has a wrong check sequence.
+#[tactic(auto, unfolding(crate::specs::Tapped::is_damaged))]
 pub(crate) fn is_damaged(frame: Checked<'_>) -> bool
     ensures { result ≡ spec.is_damaged (bytes_of frame.entry) }
 {
     match judge_checked(None, 0, frame) {
-        Some(Reason::TooShort | Reason::TooLong | Reason::BadFcs) => true,
-        _ => false,
+        Some(reason) => is_damage(reason),
+        None => false,
     }
 }
 

@@ -1,5 +1,5 @@
-use Rattle.std.proofs.Common.{◌≡◌, Some, ◌||◌, sym, ap, ◌∙◌, subst}
-use Rattle.std.specs.Prelude.{not}
+use Rattle.std.proofs.Common.{◌≡◌, Some, ◌||◌, ◌==◌, sym, ap, ◌∙◌, subst}
+use Rattle.std.specs.Prelude.{length, not}
 use Rattle.afdx_acceptance.specs.Slots.{StreamEnds, StreamStands, told_at}
 use Rattle.afdx_acceptance.specs.Waiting.{slot_due}
 use Rattle.afdx_conform.specs.Standing.{IsEnding, StandsFor, due_of}
@@ -20,7 +20,7 @@ returns-in_ok-lines-in-Stream-clause-stands c z xs ys lines time moment none due
         r.0,
         r.1,
         ap (λ l. told_at c.args.key moment c.in_ok-lines-in-Stream.lines.items l) here.2 ∙ sym r.2,
-        ap (λ b. c.in-Stream.is_told || not b) c.is_empty.ensures
+        ap (λ b. c.in-Stream.is_told || not b) (c.is_empty.ensures ∙ ap (λ l. length l == 0) c.as_slice.ensures.value)
             ∙ sym (told-line c.args.key moment c.in_ok-lines-in-Stream.lines.items lines c.in-Stream.is_told here.3),
       ),
       r.3,
@@ -38,7 +38,7 @@ returns-in_ok-lines-in-Stream-clause-ends c z xs ys lines moment end due stands 
         r.0,
         r.1,
         ap (λ l. told_at c.args.key moment c.in_ok-lines-in-Stream.lines.items l) here.2 ∙ sym r.2,
-        ap (λ b. c.in-Stream.is_told || not b) c.is_empty.ensures
+        ap (λ b. c.in-Stream.is_told || not b) (c.is_empty.ensures ∙ ap (λ l. length l == 0) c.as_slice.ensures.value)
             ∙ sym (told-line c.args.key moment c.in_ok-lines-in-Stream.lines.items lines c.in-Stream.is_told here.3),
       ),
       r.3,

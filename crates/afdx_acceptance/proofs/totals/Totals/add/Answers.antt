@@ -1,4 +1,4 @@
-use Rattle.std.proofs.Common.{◌≡◌, None, true, false, refl, sym, ap, ◌∙◌, subst}
+use Rattle.std.proofs.Common.{◌≡◌, ℕ, None, true, false, refl, sym, ap, ◌∙◌, subst}
 use Rattle.std.specs.Prelude.{is_some}
 use Rattle.afdx_conform.specs.Findings.{Judged}
 use Rattle.afdx_conform.specs.Histories.{counts_of, unsure_in}
@@ -59,5 +59,6 @@ returns-in_default c = record {
   unseen = refl;
   exercised = refl;
   counted = λ n z k xs ys lines due ends has. has-other n z k xs ys lines c.args.slot.now c.args.self.now _
-      c.in_default.not-Stream ends has refl;
+      c.in_default.not-Stream ends has
+      (ap (λ (n : ℕ). record c.args.self.now { idle = n }) c.saturating_add-self-in_default.ensures);
 }
