@@ -98,9 +98,9 @@ _afdx_takes() { # COMMAND : its options, and those that take a value
             valued=()
             ;;
         'afdx conform')
-            options=(--slack --drift --inner --asked --from --until --leave-out --switch \
-                --interface --left --fcs --reorder --stamps --lossy --explain --line-buffered \
-                --progress --summary --help)
+            options=(--slack --drift --inner --asked --from --until --leave-out --exercised \
+                --switch --interface --left --fcs --reorder --stamps --lossy --explain \
+                --line-buffered --progress --summary --help)
             valued=(--slack --drift --inner --asked --from --until --leave-out --switch \
                 --interface --left --fcs --reorder --stamps)
             ;;

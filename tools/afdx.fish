@@ -76,6 +76,8 @@ complete -c afdx -n '__afdx_in conform' -x -l asked \
 complete -c afdx -n '__afdx_in conform' -x -l from -d 'There was traffic before this time, in ns'
 complete -c afdx -n '__afdx_in conform' -x -l until -d 'The end of the recordings, in ns'
 complete -c afdx -n '__afdx_in conform' -x -l leave-out -d 'The link'
+complete -c afdx -n '__afdx_in conform' -l exercised \
+    -d 'Says \'undecided\' if of a link at an output port that was recorded no frame is explained'
 complete -c afdx -n '__afdx_in conform' -x -l switch -d 'The name of the switch that is judged'
 complete -c afdx -n '__afdx_in conform' -x -l interface \
     -d 'Where the frames of interface K came in'

@@ -52,6 +52,7 @@ _afdx_takes() { # COMMAND
             '--from[There was traffic before this time, in ns]:ns:' \
             '--until[The end of the recordings, in ns]:ns:' \
             '*--leave-out[The link]:vl:' \
+            '--exercised[Says '\''undecided'\'' if of a link at an output port that was recorded no frame is explained]' \
             '--switch[The name of the switch that is judged]:name:' \
             '*--interface[Where the frames of interface K came in]:k=place:' \
             '*--left[Where the frames of interface K left]:k=place:' \

@@ -244,7 +244,7 @@ def left_out_conform(judge: Judge, seed: int) -> None:
     nothing_found(judge, pair)
     count = len(own) + sum(line[3].startswith(head) for line in switch.came)
     out = judge.answer(pair).out
-    must(out.endswith(b" left-out %d unseen 0\n" % count), f"not {count}: {out!r}")
+    must(b" left-out %d unseen 0 idle " % count in out, f"not {count}: {out!r}")
     for given in (words[:2], words[2:]):
         status = judge.answer(pair._replace(words=given)).status
         must(status == 5, f"{given} alone: status {status}")
@@ -279,7 +279,7 @@ def steady_memory(program: Program, frames: int) -> None:
     program = program.apart()
     short, long = (steady_lists(program, count) for count in (SHORT, frames))
     room = least_room(lambda room: program.run_limited(room, "conform", *short).status == 0)
-    last = b"conforms explained %d open 0 uncertain 0 left-out 0 unseen 0\n" % frames
+    last = b"conforms explained %d open 0 uncertain 0 left-out 0 unseen 0 idle 3\n" % frames
     answers(program.run_limited(room + 64, "conform", *long), 0, last, b"")
 
 

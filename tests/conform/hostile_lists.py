@@ -77,7 +77,7 @@ def cut_lists(judge: Judge, pair: Pair, seed: int) -> None:
 def most_lines(judge: Judge) -> None:
     """1,000,000 lines of either list, and one more; all of one moment."""
     base, full = Pair(CONFIGS["base"], b"", b"", ()), SHORT * 1_000_000
-    last = b"undecided explained 0 open 0 uncertain 0 left-out 0 unseen 0\n"
+    last = b"undecided explained 0 open 0 uncertain 0 left-out 0 unseen 0 idle 4\n"
     answers(judge.answer(base._replace(came=full)), 3, last, b"")
     for place, name in enumerate(LISTS):
         one = base.with_list(place, full + SHORT)
@@ -93,7 +93,7 @@ def equal_times(judge: Judge, count: int) -> None:
     came, left = list_of("0", "came") * count, list_of("6720", "left") * count
     found = judge.answer(Pair(CONFIGS["base"], came, left, ()))
     told = b"".join(b"passed %d A 3 over-rate\n" % n for n in range(2, count + 1))
-    last = b"deviates %d explained 1 open 0 uncertain 0 left-out 0 unseen 0\n" % (count - 1)
+    last = b"deviates %d explained 1 open 0 uncertain 0 left-out 0 unseen 0 idle 3\n" % (count - 1)
     answers(found, 5, told + last, b"")
 
 
@@ -102,7 +102,7 @@ def nothing_came(judge: Judge) -> None:
     count = 30_000
     found = judge.answer(Pair(CONFIGS["base"], b"", list_of("0", "left") * count, ()))
     told = b"".join(b"strange %d A 3 no-arrival\n" % n for n in range(1, count + 1))
-    last = b"deviates %d explained 0 open 0 uncertain 0 left-out 0 unseen 0\n" % count
+    last = b"deviates %d explained 0 open 0 uncertain 0 left-out 0 unseen 0 idle 3\n" % count
     answers(found, 5, told + last, b"")
 
 
@@ -110,7 +110,7 @@ def many_begun(judge: Judge) -> None:
     """30,000 frames of a stream leave at one moment, which all came before the begin."""
     count = 30_000
     pair = Pair(CONFIGS["base"], b"", list_of("1", "left") * count, ("--from", "0"))
-    last = b"conforms explained %d open 0 uncertain 0 left-out 0 unseen 0\n" % count
+    last = b"conforms explained %d open 0 uncertain 0 left-out 0 unseen 0 idle 3\n" % count
     answers(judge.answer(pair), 0, last, b"")
 
 
@@ -144,7 +144,8 @@ def largest_tables(judge: Judge) -> None:
     ports = [made.system_named(tables, link["from"])["port"] for link in tables["link"]]
     told = "".join(f"stopped {place} A {port}\n" for port in range(1, 25)
                    for place, own in enumerate(ports, 1) if own != port)
-    last = f"deviates {4096 * 23} explained 0 open 0 uncertain 0 left-out 0 unseen 0\n"
+    last = f"deviates {4096 * 23} explained 0 open 0 uncertain 0 left-out 0 unseen 0"
+    last += f" idle {4096 * 23}\n"
     answers(judge.answer(pair), 5, (told + last).encode(), b"")
 
 

@@ -38,7 +38,7 @@ def many_frames(judge: Judge) -> None:
     begin, odd = bytes.fromhex(TWO), bytes.fromhex("030000000001")
     came = bytes.fromhex(packet(0, FIRST_NS, odd)) * MANY
     left = bytes.fromhex(packet(1, FIRST_NS, b"")) * MANY
-    counts = "explained 0 open 0 uncertain 0 left-out 0 unseen 3\n"
+    counts = "explained 0 open 0 uncertain 0 left-out 0 unseen 3 idle 1\n"
     case = RecordedCase(CONFIGS["base"], (begin + came,), tuple(HERE.split()))
     answers(answer_to(judge, case), 3, f"undecided {counts}".encode(), b"")
     told = b"".join(b"strange %d A 3 too-short\n" % n for n in range(2, MANY + 2))

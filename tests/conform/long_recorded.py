@@ -57,5 +57,5 @@ def long_memory(program: Program, frames: int, is_one: bool) -> None:
     """So many frames take no more memory than a few, up to 64 KiB."""
     program = program.apart()
     room = least_room(lambda room: judged(program, SHORT, is_one, room).status == 0)
-    last = b"conforms explained %d open 0 uncertain 0 left-out 0 unseen 3\n" % frames
+    last = b"conforms explained %d open 0 uncertain 0 left-out 0 unseen 3 idle 0\n" % frames
     answers(judged(program, frames, is_one, room + 64), 0, last, b"")

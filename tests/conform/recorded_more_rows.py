@@ -4,8 +4,8 @@ from __future__ import annotations
 
 from edge_rows import block, low, option
 from recorded_forms import packet as any_packet
-from recorded_rows import ALL_OF_A, BACK, BAD, CAME, HERE, PAIR, RIGHT, SAME, SEALED, TWO, X
-from recorded_rows import RecordedRow, one, packet
+from recorded_rows import ALL_OF_A, BACK, BAD, CAME, HERE, LOSSY, PAIR, RIGHT, SAME, SEALED, TWO
+from recorded_rows import RecordedRow, X, one, packet
 from recording_rows import FCS, FIRST_NS, H1, H2, IL9, IW, PB, PL, SL, ZERO, R, Z
 from rows import HEADS, list_of
 
@@ -60,8 +60,9 @@ WORD_ROWS = (
     RecordedRow("a file of one with a switch", RIGHT, "", "", "words NoSuchSwitch",
                 f"{HERE} {K1}"),
     RecordedRow("zeros in front", RIGHT, "", "1/0/0/0", "", "--interface 0000=A:01 --left 01=A:3"),
-    RecordedRow("two interfaces at a port", one(CAME, (1, 6720, H1)), "", "1/0/0/0", "",
-                f"{HERE} --interface 4095=A:1 --left 4094=A:3"),
+    RecordedRow("two interfaces at a port",
+                (TWO + IL9 + IL9 + packet(0, 0, H1) + packet(1, 6720, H1),),
+                "", "1/0/0/0", "", f"{HERE} --interface 3=A:1 --left 2=A:3"),
     RecordedRow("the most that are put in order", RIGHT, "", "1/0/0/0", "",
                 f"{HERE} --reorder 100000"),
 )
@@ -177,13 +178,13 @@ ENDS = (LONG + "01", LONG + "02")  # of 2,010 bytes, alike in the first 2,000
 AT_ENDS = (TWO + "".join(any_packet(place, FIRST_NS + 10_000 * place, bytes.fromhex(each))
                          for place, each in enumerate(ENDS)),)
 LENIENT = f"{HERE} --slack 1000000 --until 3000000"
-NINTH = HEADS["9"] + "00"
+NINTH, THIRD = HEADS["9"] + "00", HEADS["3"] + "00"
 
 
-def wrong(interface: int, time: int) -> str:
-    """A packet of H1, whose check sequence the recorder found wrong."""
+def wrong(interface: int, time: int, frame: str = H1) -> str:
+    """A packet of a frame whose check sequence the recorder found wrong."""
     head = low(interface) + low(FIRST_NS + time >> 32) + low(FIRST_NS + time) + 2 * low(60)
-    return block(6, head + H1 + option(2, "00000001"))
+    return block(6, head + frame + option(2, "00000001"))
 
 
 SEEN_ROWS = (
@@ -192,23 +193,54 @@ SEEN_ROWS = (
     RecordedRow("what a link sends isn't recorded, at a port of none",
                 one((0, 0, H1), (1, 6720, H1), (1, 6721, H2)), "", "1/0/0/1", "",
                 f"{HERE} --leave-out 2"),
-    RecordedRow("an unseen sender's frame at a wrong port", one((0, 0, H1), (1, 13440, H2)), "",
-                "0/0/0/1", "", "--interface 0=A:1 --left 1=A:1", 4),
+    RecordedRow("an unseen sender's frame at a wrong port", one((0, 0, H1), (1, 13440, H2)),
+                "strange 2 A 1 not-its-port", "0/0/0/0", "", "--interface 0=A:1 --left 1=A:1", 4),
+    RecordedRow("an unseen sender's frame of a link that goes elsewhere",
+                one((0, 0, H1), (1, 6720, H1), (1, 9000, THIRD)), "strange 3 A 3 not-its-port",
+                "1/0/0/0/0", "", HERE, 5, config="third"),
+    RecordedRow("an unseen sender's damaged frame",
+                (TWO + packet(0, 0, H1) + packet(1, 6720, H1) + wrong(1, 13440, H2),),
+                "strange 3 A 3 bad-fcs", "1/0/0/0"),
+    RecordedRow("an unseen sender's damaged frame, left out",
+                (TWO + packet(0, 0, H1) + packet(1, 6720, H1) + wrong(1, 13440, H2),), "",
+                "1/0/0/1", "", f"{HERE} --leave-out 2"),
     RecordedRow("an unknown link isn't passed over",
                 one((0, 0, H1), (1, 6720, H1), (1, 6721, NINTH)), "strange 3 A 3 unknown-link",
                 "1/0/0/0"),
-    RecordedRow("the other side", RIGHT, "stopped 1 A 3", "0/0/0/1", "",
+    RecordedRow("the other side", (TWO + IL9 + packet(0, 0, H1) + packet(1, 6720, H1),),
+                "stopped 1 A 3", "0/0/0/1", "",
                 "--interface 0=A:1 --left 1=B:3 --left 2=A:3 --until 40000"),
+    RecordedRow("an interface that isn't there", RIGHT, "", "", "recording Absent 4",
+                f"{HERE} --interface 4=B:1"),
+    RecordedRow("two that aren't there", RIGHT, "", "", "recording Absent 2",
+                f"{HERE} --interface 4=B:1 --left 2=B:3"),
+    RecordedRow("one that isn't there, behind what is found", one(CAME, (1, 17001, H1)),
+                "late 1 A 3 1", "", "recording Absent 2", f"{HERE} --left 2=B:3"),
+    RecordedRow("one that isn't there, and frames that are lost", LOSSY, "late 1 A 3 1", "",
+                "recording Absent 4095", f"{HERE} --left 4095=B:3"),
+    RecordedRow("one that isn't there, and frames that may be lost", LOSSY, "late 1 A 3 1", "",
+                "recording Absent 4095", f"{HERE} --left 4095=B:3 --lossy"),
+    RecordedRow("one that what came hasn't", PAIR, "", "", "recording Absent 1 came",
+                f"{SAME} --interface 1=B:1 --left 1=B:3"),
+    RecordedRow("one that what left hasn't", PAIR, "", "", "recording Absent 1 left",
+                f"{SAME} --left 1=B:3"),
+    RecordedRow("one that another section has",
+                (SL + IL9 + packet(0, 0, H1) + SL + IL9 + IL9 + packet(1, 6720, H1),), "",
+                "1/0/0/0"),
+    RecordedRow("not all was exercised", RIGHT, "", "1/0/0/0/1", "",
+                "--interface 0=A --left 1=A:3 --exercised", 2),
+    RecordedRow("all that was seen was exercised", RIGHT, "", "1/0/0/0/0", "",
+                f"{HERE} --exercised"),
     RecordedRow("the same on the other side", RIGHT, "", "1/0/0/0", "",
                 "--interface 0=B:1 --left 1=B:3"),
-    RecordedRow("both links of a side", BOTH_LINKS, "", "2/0/0/0", "",
+    RecordedRow("both links of a side", BOTH_LINKS, "", "2/0/0/0/0", "",
                 "--interface 0=A --left 1=A:3", 2),
     RecordedRow("before the begin a sender that wasn't recorded",
                 one((0, 0, H1), (1, 6720, H1), (1, 13440, H2), (1, 20160, H2)), "", "0/0/0/1", "",
                 f"{HERE} --from 20000"),
     RecordedRow("the first bytes alone", AT_ENDS, "passed 1 A 3 too-long", "0/0/0/0", "", LENIENT),
     RecordedRow("a switch of two", one((0, 0, H1), (0, 0, H1), (1, 6720, H1)), "stopped 2 A 3",
-                "1/0/0/0", "", f"{K1} {HERE} --until 30000", 1, config="two"),
+                "1/0/0/0/0", "", f"{K1} {HERE} --until 30000", 1, config="two"),
     RecordedRow("stamps of ends", RIGHT, "", "1/0/0/0", "", f"{HERE} --stamps end"),
     # 512 ns of 1 Gbit/s, 51,200 ns of 10 Mbit/s; 57,600 ns of wire time
     RecordedRow("stamps of starts, by two rates", one((0, 0, H1), (1, 6_912, H1)), "", "1/0/0/0",
@@ -262,8 +294,8 @@ SUMMARY_ROWS = (
                  + packet(0, 0, H1[:12] + "020000000140" + H1[24:])
                  + packet(1, 0, H1[:12] + "020000000140" + H1[24:]) + Z(ZERO, low(3), ZERO),),
                 "strange 7 A 3 no-arrival / stopped 5 A 3", "0/0/0/0", "",
-                "--interface 0=A --left 1=A:3 --interface 9=B:1 --summary --lossy --until 40000",
-                2, "1/1/1/1/0/0/3/2/1/1"),
+                "--interface 0=A --left 1=A:3 --summary --lossy --until 40000",
+                2, "1/1/1/1/0/0/3/2/1/0"),
 )
 
 

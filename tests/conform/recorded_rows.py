@@ -54,7 +54,8 @@ class RecordedRow(NamedTuple):
 
     def answer(self) -> Answer:
         """What must be answered."""
-        answer = answer_of(self.lines, self.counts, self.err, self.unseen)
+        answer = answer_of(self.lines, self.counts, self.err, self.unseen,
+                           "--exercised" in self.words())
         return answer._replace(out=answer.out + skipped_lines(self.skipped))
 
 

@@ -4,7 +4,8 @@ A row's lines are spelled with ` / ` between them. H1 is the frame of link 1 of 
 whose last byte is 00, H1(q) one whose last byte is q, H1(q, L) one with zero bytes before q, of L
 bytes with its check sequence; H2 is the frame of link 2, H9 is H1 under link 9, X is no frame of
 any link. A bare number is the time of H1, at link 1's input port in what came, at s3's port in what
-left. The last line is spelled by its numbers: `1/0/0/0` is explained, open, uncertain, left out.
+left. The last line is spelled by its numbers: `1/0/0/0` is explained, open, uncertain, left out;
+a fifth is how many streams are idle, where that isn't all but one that was shown.
 """
 from __future__ import annotations
 
@@ -22,8 +23,12 @@ HEADS = {
     "07d007d0000d0000776f726c64000000000000000000000000",
 }
 HEADS["9"] = HEADS["1"][:10] + "09" + HEADS["1"][12:]
+HEADS["3"] = HEADS["2"][:10] + "03" + HEADS["2"][12:]
 STATUSES = {"words": 2, "config": 1, "list": 3, "recording": 3, "": 0}  # by a fault's first word
 NO_LINK = "ff" * 6 + "00" * 54
+STREAMS = 4  # of the base tables: two links, of one output port each, on both sides
+# a line of a frame that is of no stream
+OF_NONE = re.compile("not-its-port|bad-address|unknown-link|strange .* too-short")
 BARE = {"came": "F {} A 1 H1", "left": "F {} A 3 H1"}
 
 
@@ -47,20 +52,26 @@ def list_of(text: str, which: str) -> bytes:
     return "".join(lines).encode()
 
 
-def answer_of(text: str, counts: str, err: str, unseen: int = 0) -> Answer:
-    """What is answered with these lines, these numbers of the last line, and this fault."""
+def answer_of(
+    text: str, counts: str, err: str, unseen: int = 0, is_exercised: bool = False
+) -> Answer:
+    """What is answered with these lines, these numbers of the last line, and this fault. Of the
+    streams that were recorded all are idle but one, if a frame is explained or a line is a
+    stream's, where no fifth number says another count."""
     lines = [f"{line}\n" for line in text.split(" / ") if line]
     status = STATUSES[err.partition(" ")[0]]
     if counts:
         found = sum(not line.startswith("unsure") for line in lines)
-        explained, opened, uncertain, left_out = counts.split("/")
+        explained, opened, uncertain, left_out, *more = counts.split("/")
+        is_shown = explained != "0" or any(not OF_NONE.search(line) for line in lines)
+        idle = int(more[0]) if more else STREAMS - unseen - is_shown
         verdict, status = "conforms", 0
         if found:
             verdict, status = f"deviates {found}", 5
-        elif len(lines) > found or explained == "0":
+        elif len(lines) > found or explained == "0" or (is_exercised and idle):
             verdict, status = "undecided", 3
         last = f"{verdict} explained {explained} open {opened} uncertain {uncertain}"
-        lines.append(f"{last} left-out {left_out} unseen {unseen}\n")
+        lines.append(f"{last} left-out {left_out} unseen {unseen} idle {idle}\n")
     return Answer(status, "".join(lines).encode(), f"{err}\n".encode() if err else b"")
 
 
@@ -83,7 +94,8 @@ class Row(NamedTuple):
 
     def answer(self) -> Answer:
         """What must be answered."""
-        return answer_of(self.lines, self.counts, self.err)
+        return answer_of(self.lines, self.counts, self.err,
+                         is_exercised="--exercised" in self.words())
 
 
 def long_tables() -> dict:
@@ -106,6 +118,13 @@ def two_tables() -> dict:
     return {"switch": [first, second]}
 
 
+def third_tables() -> dict:
+    """The base tables with a link 3 from s2 to s1."""
+    tables = made.base_tables()
+    third = tables["link"][1] | {"vl": 3, "to": ["s1"]}
+    return tables | {"link": [*tables["link"], third]}
+
+
 def rated_tables() -> dict:
     """The base tables in profile 2, where s1 sends at 1 Gbit/s and s3 gets at 10 Mbit/s."""
     tables = made.base_tables(2)
@@ -116,6 +135,7 @@ def rated_tables() -> dict:
 
 CONFIGS = {
     "base": made.text_of(made.base_tables()),
+    "third": made.text_of(third_tables()),
     "rates": made.text_of(rated_tables()),
     "long": made.text_of(long_tables()),
     "two": cascade_text(two_tables()),
@@ -183,7 +203,7 @@ LATER_ROWS = (
     Row("time inside", "--inner 60000", "0", "77000", "", "1/0/0/0"),
     Row("links that are left out", "--leave-out 9 --leave-out 2", BOTH,
         "F 6720 A 3 H1 / F 6720 B 4 H9", "", "1/0/0/2"),
-    Row("too many states", "--from 0 --until 30000", BOTH, MANY, "unsure 1 A 3", "1/0/1/0"),
+    Row("too many states", "--from 0 --until 30000", BOTH, MANY, "unsure 1 A 3", "1/0/1/0/2"),
     Row("what is of no link left out", "--leave-out other", "0", "F 6720 A 3 H1 / F 20000 A 3 X",
         "", "1/0/0/1"),
     Row("what is of no link", "", "0", "F 6720 A 3 H1 / F 20000 A 3 X",
@@ -203,6 +223,8 @@ UNKNOWN = "--from 0 --until 2000000"
 # H1 with its check sequence, and with each bit of that inverted
 SEALED, DAMAGED = (HEADS["1"] + "00" + sequence for sequence in ("95178b51", "6ae874ae"))
 SIDES_CAME, SIDES_LEFT = "F 0 B 1 H1 / F 0 A 1 H1", "F 34000 B 3 H9 / F 34000 A 2 H1"
+EACH = "F 0 A 1 H1 / F 0 A 2 H2 / F 0 B 1 H1 / F 0 B 2 H2"
+EACH_LEFT = "F 6720 A 3 H1 / F 6720 B 3 H1 / F 13440 A 3 H2 / F 13440 B 3 H2"
 MORE_ROWS = (
     Row("open by four slacks", "--slack 1 --until 17003", "0", "", "", "0/1/0/0"),
     Row("open no longer", "--slack 1 --until 17004", "0", "", STOPPED_1, "0/0/0/0"),
@@ -224,9 +246,9 @@ MORE_ROWS = (
         "", "2/0/3/0"),
     Row("all orders at one moment", "", SIDES_CAME, SIDES_LEFT,
         "strange 2 A 2 not-its-port / stopped 2 A 3 / strange 1 B 3 unknown-link / stopped 1 B 3",
-        "0/0/0/0"),
+        "0/0/0/0/2"),
     Row("links in the file's order", "--until 42000", "F 0 A 2 H2 / F 8000 A 1 H1", "",
-        f"{STOPPED_2} / {STOPPED_1}", "0/0/0/0"),
+        f"{STOPPED_2} / {STOPPED_1}", "0/0/0/0/2"),
     Row("a wrong port, passed", "", "F 0 A 2 H1", "6720", "passed 1 A 3 wrong-port", "0/0/0/0"),
     Row("a short frame, passed", "", "R 0 A 1 030000000001", "R 6720 A 3 030000000001",
         "passed 1 A 3 too-short", "0/0/0/0"),
@@ -239,6 +261,12 @@ MORE_ROWS = (
     Row("damaged as it left, and said whole", "--until 40000", "0", f"R 6720 A 3 {DAMAGED}",
         "strange 1 A 3 bad-fcs / stopped 1 A 3", "0/0/0/0"),
     Row("nothing at all", "", "", "", "", "0/0/0/0"),
+    Row("not all was exercised", "--exercised", "0", "6720", "", "1/0/0/0/3"),
+    Row("all was exercised", "--exercised", EACH, EACH_LEFT, "", "4/0/0/0/0"),
+    Row("not all was exercised, and one was stopped", "--exercised --until 40000", "0", "",
+        STOPPED_1, "0/0/0/0/3"),
+    Row("an arrival alone shows nothing", "--until 10000", "0 / F 0 A 2 H2", "6720", "",
+        "1/1/0/0/3"),
 )
 
 # ---- several switches, words, configurations ---------------------------------------------------
@@ -246,7 +274,7 @@ MORE_ROWS = (
 ONE_K1, TWICE = "--switch k1 --until 30000", "0 / 0"
 NO_SWITCH = "words NoSuchSwitch"
 CASCADE_ROWS = (
-    Row("a switch of two", ONE_K1, TWICE, "6720", STOPPED_2, "1/0/0/0", config="two"),
+    Row("a switch of two", ONE_K1, TWICE, "6720", STOPPED_2, "1/0/0/0/1", config="two"),
     Row("none of two switches", "--until 30000", TWICE, "6720", "", "", NO_SWITCH, "two"),
     Row("a switch that isn't there", "--switch k3", TWICE, "6720", "", "", NO_SWITCH, "two"),
     Row("a switch of a file of one", "--switch k1", TWICE, "6720", "", "", NO_SWITCH),

@@ -133,6 +133,21 @@ class AllLeft(Judging):
         return kept
 
 
+class IdleConforms(Judging):
+    """A stream of which only arrivals came isn't idle."""
+
+    def idle(self) -> int:
+        return sum(self.judged_streams()) - len(self.streams)
+
+
+class StoppedIdle(Judging):
+    """A stream is idle whatever lines it has."""
+
+    def idle(self) -> int:
+        shown = [each for each in self.streams.values() if each.counts()[0]]
+        return sum(self.judged_streams()) - len(shown)
+
+
 def judging_by(terms: type[Terms], stream: type[Stream]) -> type[Judging]:
     """The judging whose streams are judged so."""
 
@@ -153,7 +168,7 @@ OTHER_TERMS: tuple[type[Terms], ...] = (
     AskedFits, AskedNever, RefusedIsNothing,
 )
 OTHER_STREAMS: tuple[type[Stream], ...] = (FirstState, LastState, ClosesFirst, OneNamed)
-OTHER_RUNS: tuple[type[Judging], ...] = (LeftFromStart, AllLeft)
+OTHER_RUNS: tuple[type[Judging], ...] = (LeftFromStart, AllLeft, IdleConforms, StoppedIdle)
 
 
 def wrong_bodies() -> list[tuple[str, type[Judging]]]:

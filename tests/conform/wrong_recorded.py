@@ -3,6 +3,7 @@ recorded_rows.py or recorded_more_rows.py."""
 from __future__ import annotations
 
 from cascade_run import Arrival
+from conform import NO_FRAME
 from conform_recorded import Input, JudgingSeen, Reads, conform_recordings
 from program import must
 from recorded import Frame
@@ -45,13 +46,19 @@ class ForeignUnseen(JudgingSeen):
         return super().passes_over(each, is_left)
 
 
-class OwnPortsOver(JudgingSeen):
-    """What left of such a sender is passed over at the link's ports alone."""
+class OtherPortsOver(JudgingSeen):
+    """What left of such a sender is passed over at ports of other links too."""
 
-    def passes_over(self, each: Arrival, is_left: bool) -> bool:
+    def is_of_link(self, each: Arrival) -> bool:
+        return self.switch.shape(each.port, each.frame) not in NO_FRAME
+
+
+class DamagedOver(JudgingSeen):
+    """What left of such a sender is passed over if it is damaged, too."""
+
+    def is_of_link(self, each: Arrival) -> bool:
         place = self.place_of.get(each.frame.link())
-        is_own = place is None or each.port in self.ports_of(place)
-        return super().passes_over(each, is_left and is_own)
+        return place is not None and each.port in self.ports_of(place)
 
 
 class UnknownOver(JudgingSeen):
@@ -75,9 +82,17 @@ class NotCounted(JudgingSeen):
 class OneSide(JudgingSeen):
     """Streams that weren't recorded are counted of one side."""
 
-    def unseen(self) -> int:
-        return sum(not self.is_judged(0, port, place) for place in self.place_of.values()
-                   for port in self.ports_of(place))
+    def judged_streams(self) -> list[bool]:
+        return [self.is_judged(0, port, place) for place in self.place_of.values()
+                for port in self.ports_of(place)]
+
+
+class NoneIdle(JudgingSeen):
+    """Streams of which nothing came or left aren't idle."""
+
+    def idle(self) -> int:
+        return len(self.streams) - sum(bool(each.found or each.counts()[0])
+                                       for each in self.streams.values())
 
 
 class SidesAlike(JudgingSeen):
@@ -137,8 +152,8 @@ class OtherName(Input):
 
 
 JUDGING: tuple[type[JudgingSeen], ...] = (
-    JudgesUnseen, JudgesAll, KeepsUnseen, ForeignUnseen, OwnPortsOver, UnknownOver, NotCounted,
-    OneSide, SidesAlike,
+    JudgesUnseen, JudgesAll, KeepsUnseen, ForeignUnseen, OtherPortsOver, DamagedOver, UnknownOver,
+    NotCounted, OneSide, SidesAlike, NoneIdle,
 )
 OPTIONS: tuple[type[Options], ...] = (CameStamps, LeftStamps, SkipsLeft, NoneLeft, TakesUnsaid)
 

@@ -114,9 +114,19 @@ class Judging:
         """A stream was recorded."""
         return True
 
-    def unseen(self) -> int:
-        """How many streams weren't recorded."""
-        return 0
+    def sees_sender(self, side: int, place: int) -> bool:
+        """What a link's sender sends to this side was recorded."""
+        return True
+
+    def judged_streams(self) -> list[bool]:
+        """Of each stream, whether it was recorded."""
+        return [self.is_judged(side, port, place) for place in self.place_of.values()
+                for side in range(len(SIDES)) for port in self.ports_of(place)]
+
+    def idle(self) -> int:
+        """How many streams that were recorded have no line and no frame that is explained."""
+        shown = [each for each in self.streams.values() if each.found or each.counts()[0]]
+        return sum(self.judged_streams()) - len(shown)
 
     def own(self, came: list[Arrival]) -> dict[tuple[int, int], list[Came]]:
         """The arrivals of each link on each side."""
@@ -139,7 +149,8 @@ class Judging:
         ports = {place: set(self.ports_of(place)) for place in self.place_of.values()}
         for time, side, _, port, frame in left:
             place = self.place_of.get(frame.link())
-            if place is None or port not in ports[place]:
+            is_heard = place is not None and self.sees_sender(side, place)
+            if place is None or port not in ports[place] or not is_heard:
                 self.foreign(time, side, port, frame)
                 continue
             fault = self.switch.shape(port, frame)
@@ -197,10 +208,11 @@ class Judging:
         status, verdict = CONFORMS, "conforms"
         if self.findings:
             status, verdict = DEVIATES, f"deviates {self.findings}"
-        elif is_unsure or explained == 0:
+        elif is_unsure or explained == 0 or (self.options.is_exercised and self.idle()):
             status, verdict = UNDECIDED, "undecided"
         last = f"{verdict} explained {explained} open {opened} uncertain {uncertain}"
-        last += f" left-out {self.left_out} unseen {self.unseen()}\n"
+        unseen = self.judged_streams().count(False)
+        last += f" left-out {self.left_out} unseen {unseen} idle {self.idle()}\n"
         return Answer(status, self.text() + last.encode(), b"")
 
 

@@ -6,15 +6,15 @@ from typing import NamedTuple, NoReturn
 
 from cascade_run import SIDES, Places
 from cascade_run import Arrival as Line
-from conform import BAD_NUMBER, Judging, Taken, conform, judged_tables
-from conform_terms import Options, options_of
+from conform import BAD_NUMBER, NO_FRAME, Judging, Taken, conform, judged_tables
+from conform_terms import EXERCISED, Options, options_of
 from places import LEFT_OUT, interfaces, said
 from program import Answer
 from recorded_arrivals import BROKEN, SKIPS, Arrival, Look, Systems
 from recorded_arrivals import Options as Recorded
 from recorded_list import COUNTS, LATEST_TIME, MOST_LOST, Ends, Source, line_of
 
-FLAGS = ("--lossy", "--summary", "--line-buffered")
+FLAGS = (EXERCISED, "--lossy", "--summary", "--line-buffered")
 OF_RECORDINGS = ("--interface", "--left", "--fcs", "--stamps", "--reorder", "--lossy")
 NAMES = ("came", "left")  # of two recordings
 MOST_REORDER = 100_000
@@ -40,9 +40,10 @@ class Words(NamedTuple):
         return not self.flags.union(name for name, _ in self.pairs).isdisjoint(OF_RECORDINGS)
 
     def of_lists(self) -> tuple[str, ...]:
-        """Those that lists have too, with a value."""
+        """Those that lists have too."""
         own = [pair for pair in self.pairs if pair[0] not in OF_RECORDINGS]
-        return tuple(word for pair in own for word in pair)
+        words = tuple(word for pair in own for word in pair)
+        return (*words, EXERCISED) if EXERCISED in self.flags else words
 
     def options(self) -> Options | None:
         """What is judged, and how; None where a number is out of its range."""
@@ -172,6 +173,13 @@ class Reading:
         """As it is of two lists."""
         return Taken(self.came, self.left, self.latest, self.fault.encode())
 
+    def absent(self) -> str:
+        """The fault of the least interface that options name and a recording hasn't."""
+        for each in self.inputs:
+            if each.absent is not None:
+                return f"recording Absent {each.absent}{each.name and f' {each.name}'}\n"
+        return ""
+
     def lost(self) -> int:
         """How many frames the recorders lost."""
         return min(sum(each.lost for each in self.inputs), MOST_LOST)
@@ -203,14 +211,16 @@ class JudgingSeen(Judging):
         """Also what left of a sender that wasn't recorded."""
         place = self.place_of.get(each.frame.link())
         is_unseen = is_left and place is not None and not self.sees_sender(each.side, place)
-        return is_unseen or super().passes_over(each, is_left)
+        return self.is_of_link(each) and is_unseen or super().passes_over(each, is_left)
+
+    def is_of_link(self, each: Line) -> bool:
+        """It is undamaged, and its link goes where it left."""
+        place = self.place_of.get(each.frame.link())
+        goes = place is not None and each.port in self.ports_of(place)
+        return goes and self.switch.shape(each.port, each.frame) not in NO_FRAME
 
     def is_judged(self, side: int, port: int, place: int) -> bool:
         return self.sees_sender(side, place) and (side, port) in self.outputs
-
-    def unseen(self) -> int:
-        return sum(not self.is_judged(side, port, place) for place in self.place_of.values()
-                   for side in range(len(SIDES)) for port in self.ports_of(place))
 
 
 class Reads(NamedTuple):
@@ -261,6 +271,8 @@ def answer_of(words: Words, judging: JudgingSeen, reading: Reading) -> Answer:
     if taken.fault:
         status = 4 if taken.fault == f"{BROKEN}\n".encode() else 3
         return Answer(status, judging.text(taken.latest), taken.fault)
+    if reading.absent():
+        return Answer(3, judging.text(), reading.absent().encode())
     if reading.lost() and "--lossy" not in words.flags:
         return Answer(3, judging.text(), f"recording Lossy {reading.lost()}\n".encode())
     answer = judging.answer()

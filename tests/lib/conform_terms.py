@@ -18,6 +18,7 @@ BEFORE_FRAME = 8  # bytes of the line: preamble and delimiter
 MOST = {"--slack": MILLION, "--drift": 1_000, "--inner": MILLION, "--asked": MILLION}
 MOST |= {"--from": LATEST, "--until": LATEST, "--leave-out": 65_535}
 OTHER = "other"  # of --leave-out: frames whose bytes name no link
+EXERCISED = "--exercised"  # it has no value
 
 
 class Options(NamedTuple):
@@ -31,6 +32,7 @@ class Options(NamedTuple):
     until: int | None = None
     left_out: frozenset[int | None] = frozenset()
     switch: str | None = None
+    is_exercised: bool = False
 
     def begin(self, is_left: bool) -> int:
         """The first time whose lines aren't passed over, of what left or of what came."""
@@ -38,12 +40,13 @@ class Options(NamedTuple):
 
 
 def options_of(words: tuple[str, ...]) -> Options | None:
-    """The options of such words, each with its value behind it; None where a number is out of its
-    range."""
+    """The options of such words, each but the flag with its value behind it; None where a number is
+    out of its range."""
     given: dict[str, int] = {}
     left_out: set[int | None] = set()
     switch = None
-    for name, value in zip(words[::2], words[1::2], strict=True):
+    valued = [word for word in words if word != EXERCISED]
+    for name, value in zip(valued[::2], valued[1::2], strict=True):
         if name == "--switch":
             switch = value
         elif (name, value) == ("--leave-out", OTHER):
@@ -54,7 +57,8 @@ def options_of(words: tuple[str, ...]) -> Options | None:
             left_out.add(int(value))
         else:
             given[{"--from": "start"}.get(name, name[2:])] = int(value)
-    return Options(**given, left_out=frozenset(left_out), switch=switch)
+    return Options(**given, left_out=frozenset(left_out), switch=switch,
+                   is_exercised=EXERCISED in words)
 
 
 class Came(NamedTuple):

@@ -111,13 +111,15 @@ class Skipped(NamedTuple):
 
 class Standing(NamedTuple):
     """What stands in a recording before its first fault, that fault, which is empty where there is
-    none, the frames that the recorder lost, and how many interfaces have a place that it hasn't."""
+    none, the frames that the recorder lost, how many
+    interfaces have a place that it hasn't, and the least of them."""
 
     arrivals: list[Arrival]
     skipped: list[Skipped]
     fault: str
     lost: int = 0
     unused: int = 0
+    absent: int | None = None
 
 
 class Look(NamedTuple):
@@ -241,24 +243,25 @@ def standing_in(
         return Standing([], [], "NotRecording 0")
     arrivals, skipped, moments = list[Arrival](), list[Skipped](), list[int]()
     said = recorded(data)
-    unused = sum(each >= said.interfaces for each in options.places)
+    missing = [each for each in options.places if each >= said.interfaces]
+    ends = (said.lost, len(missing), min(missing, default=None))
     for number, frame in enumerate(said.numbers, 1):
         place = frame and place_of(options, systems, frame)
         outcome = next(outcomes(options, systems, frame, place, moments), "")
         if outcome in SKIPS:
             skipped.append(Skipped(number, outcome))
         elif outcome:
-            return Standing(arrivals, skipped, f"{outcome} {number}", said.lost, unused)
+            return Standing(arrivals, skipped, f"{outcome} {number}", *ends)
         else:
             assert frame is not None and place is not None
             moment = moment_of(options, systems, frame, place)
             insort(moments, moment)
             arrivals.append(Arrival(moment, number, frame, place))
     if is_open and said.fault in ("", "Ended"):
-        return Standing(arrivals, skipped, BROKEN, said.lost, unused)
+        return Standing(arrivals, skipped, BROKEN, *ends)
     count = len(said.numbers)
     fault = said.fault or ("NoArrival" if count and not arrivals else "")
-    return Standing(arrivals, skipped, fault and f"{fault} {count}", said.lost, unused)
+    return Standing(arrivals, skipped, fault and f"{fault} {count}", *ends)
 
 
 def looks(standing: Standing, held: int) -> Iterator[Look]:

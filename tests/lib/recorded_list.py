@@ -58,6 +58,7 @@ class Source:
     ) -> None:
         standing = standing_in(options, systems, data, is_open)
         self.options, self.lost, self.unused = options, standing.lost, standing.unused
+        self.absent = standing.absent
         self.looks = looks(standing, options.held())
 
     def end(self, fault: str) -> NoReturn:

@@ -14,8 +14,8 @@ two_lists() { # CAME LEFT : leaves them in files
     spelled "$2" >"$work/left"
 }
 
-judged() { # VERDICT EXPLAINED OPEN UNCERTAIN LEFT_OUT : the last line
-    echo "$1 explained $2 open $3 uncertain $4 left-out $5 unseen 0"
+judged() { # VERDICT EXPLAINED OPEN UNCERTAIN LEFT_OUT [IDLE] : the last line
+    echo "$1 explained $2 open $3 uncertain $4 left-out $5 unseen 0 idle ${6-3}"
 }
 
 # Two lists are judged; the same where one of them is standard input, and where each line is handed
@@ -39,11 +39,19 @@ conform_of 'a frame leaves in time' 0 'F 0 A 1 H1' 'F 6720 A 3 H1' "$(judged con
 conform_of 'both links on both sides' 0 \
     'F 0 A 1 H1 / F 0 A 2 H2 / F 9 B 1 H1 / F 9 B 2 H2' \
     'F 6720 A 3 H1 / F 9000 B 3 H2 / F 13440 A 3 H2 / F 15720 B 3 H1' \
-    "$(judged conforms 4 0 0 0)" ''
+    "$(judged conforms 4 0 0 0 0)" ''
+conform_of 'all links were exercised' 0 \
+    'F 0 A 1 H1 / F 0 A 2 H2 / F 9 B 1 H1 / F 9 B 2 H2' \
+    'F 6720 A 3 H1 / F 9000 B 3 H2 / F 13440 A 3 H2 / F 15720 B 3 H1' \
+    "$(judged conforms 4 0 0 0 0)" '' --exercised
+conform_of 'not all links were exercised' 3 'F 0 A 1 H1' 'F 6720 A 3 H1' \
+    "$(judged undecided 1 0 0 0)" '' --exercised
+conform_of 'a frame is late, and not all links were exercised' 5 'F 0 A 1 H1' 'F 17001 A 3 H1' \
+    "late 1 A 3 1 / $(judged 'deviates 1' 0 0 0 0)" '' --exercised
 conform_of 'a frame is late' 5 'F 0 A 1 H1' 'F 17001 A 3 H1' \
     "late 1 A 3 1 / $(judged 'deviates 1' 0 0 0 0)" ''
-conform_of 'nothing came' 3 '' '' "$(judged undecided 0 0 0 0)" ''
-conform_of 'nothing has left yet' 3 'F 0 A 1 H1' '' "$(judged undecided 0 1 0 0)" ''
+conform_of 'nothing came' 3 '' '' "$(judged undecided 0 0 0 0 4)" ''
+conform_of 'nothing has left yet' 3 'F 0 A 1 H1' '' "$(judged undecided 0 1 0 0 4)" ''
 conform_of 'a link is left out' 0 'F 0 A 1 H1 / F 0 A 2 H2' 'F 6720 A 3 H1' \
     "$(judged conforms 1 0 0 1)" '' --leave-out 2
 conform_of 'slack, drift, time inside and asking' 0 'F 0 A 1 H1 / F 499999 A 1 H1' \
@@ -63,7 +71,7 @@ conform_of 'a frame with a wrong check sequence leaves' 5 "B 0 A 1 H1 / R 1 A 1 
     "passed 1 A 3 bad-fcs / passed 2 A 3 bad-fcs / $(judged 'deviates 2' 0 0 0 0)" ''
 conform_of 'a frame leaves with another check sequence' 5 'F 0 A 1 H1' "R 6720 A 3 $wrong" \
     "strange 1 A 3 bad-fcs / $(judged 'deviates 1' 0 1 0 0)" ''
-conform_of 'four bytes name a link' 3 'F 0 A 1 03000000' '' "$(judged undecided 0 0 0 1)" '' \
+conform_of 'four bytes name a link' 3 'F 0 A 1 03000000' '' "$(judged undecided 0 0 0 1 4)" '' \
     --leave-out 62064
 
 conform_of 'a bad line of CAME' 3 'F 0 A 1 H1 / F 0 A' 'F 40000 A 3 H1' '' 'list came BadLine 2'
@@ -116,11 +124,11 @@ fault_case 'CAME that is a folder' 4 'device Read' "$rules" "$work" "$work/wrong
 fault_case 'LEFT that is a folder' 4 'device Read' "$rules" /dev/null "$work"
 fault_case 'a recording' 3 'list came BadLine 1' "$rules" "$work/recorded" /dev/null
 
-two=examples/two_switches.toml nothing=$(judged undecided 0 0 0 0)$'\n'
-for name in fwd aft; do
-    case_of "conform of the switch $name" 3 "$nothing" '' \
-        conform --switch "$name" "$two" /dev/null /dev/null
-done
+two=examples/two_switches.toml
+case_of 'conform of the switch fwd' 3 "$(judged undecided 0 0 0 0 4)"$'\n' '' \
+    conform --switch fwd "$two" /dev/null /dev/null
+case_of 'conform of the switch aft' 3 "$(judged undecided 0 0 0 0 6)"$'\n' '' \
+    conform --switch aft "$two" /dev/null /dev/null
 fault_case 'no switch of two' 2 'words NoSuchSwitch' "$two" /dev/null /dev/null
 fault_case 'another switch' 2 'words NoSuchSwitch' --switch=none "$two" /dev/null /dev/null
 fault_case 'a line with a switch' 3 'list left BadLine 1' \
@@ -129,7 +137,8 @@ fault_case 'a line with a switch' 3 'list left BadLine 1' \
 # ---- conform: words ------------------------------------------------------------------------
 
 for word in CONFIG CAME LEFT --slack --drift --inner --asked --from --until --leave-out --switch \
-    --line-buffered --explain --progress --summary 'afdx conform' "'device Write', status 4"; do
+    --exercised --line-buffered --explain --progress --summary 'afdx conform' \
+    "'device Write', status 4"; do
     text_case "help of conform tells of $word" 0 out "$word" conform --help
 done
 text_case 'conform in the help' 0 out conform --help

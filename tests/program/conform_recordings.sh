@@ -50,8 +50,8 @@ recorded "$work/nothing"
 here=(--interface '0=A:1' --left '1=A:3') # of one recording
 apart=(--interface '0=A:1' --left '0=A:3')
 
-seen() { # VERDICT EXPLAINED OPEN UNCERTAIN LEFT_OUT UNSEEN : the last line
-    echo "$1 explained $2 open $3 uncertain $4 left-out $5 unseen $6"
+seen() { # VERDICT EXPLAINED OPEN UNCERTAIN LEFT_OUT UNSEEN [IDLE] : the last line
+    echo "$1 explained $2 open $3 uncertain $4 left-out $5 unseen $6 idle ${7-0}"
 }
 
 skipped_line() { # LEFT_OUT NOT_AFDX LOST CLAIMED UNUSED : what --summary says of a recording
@@ -71,8 +71,8 @@ case_of 'conform: one recording of which a frame is late' 5 \
     "late 1 A 3 1"$'\n'"$(seen 'deviates 1' 0 0 0 0 3)"$'\n' '' \
     conform "${here[@]}" "$rules" "$work/late"
 case_of 'conform: one recording with all options' 0 "$right" '' conform "${here[@]}" --fcs no \
-    --stamps end --reorder 0 --lossy --interface 7=B:9 "$rules" "$work/both"
-case_of 'conform: all ports of a side' 0 "$(seen conforms 1 0 0 0 2)"$'\n' '' \
+    --stamps end --reorder 0 --lossy --exercised "$rules" "$work/both"
+case_of 'conform: all ports of a side' 0 "$(seen conforms 1 0 0 0 2 1)"$'\n' '' \
     conform --interface 0=A --left 1=A:3 "$rules" "$work/both"
 foreign_left="strange 2 A 3 bad-address"$'\n'"$(seen 'deviates 1' 1 0 0 0 3)"$'\n'
 case_of 'conform: two recordings' 5 "$foreign_left" '' \
@@ -91,21 +91,38 @@ case_of 'conform: stamps of starts where frames came' 0 "$(seen conforms 1 0 0 0
 
 # ---- what was left out, and what was lost --------------------------------------------------------
 
-case_of 'conform --summary of one recording' 0 "$right$(skipped_line 0 0 0 0 1)"$'\n' '' \
-    conform --summary "${here[@]}" --interface 7=B:9 "$rules" "$work/both"
+case_of 'conform --summary of one recording' 0 "$right$(skipped_line 0 0 0 0 0)"$'\n' '' \
+    conform --summary "${here[@]}" "$rules" "$work/both"
 case_of 'conform --summary of one recording, claimed' 0 \
-    "$(seen conforms 1 0 0 0 2)"$'\n'"$(skipped_line 0 0 0 1 0)"$'\n' '' \
+    "$(seen conforms 1 0 0 0 2 1)"$'\n'"$(skipped_line 0 0 0 1 0)"$'\n' '' \
     conform --summary --interface 0=A --left 1=A:3 "$rules" "$work/both"
 case_of 'conform --summary of two recordings, of which one lost frames' 5 \
-    "${foreign_left/2 A/3 A}$(skipped_line 1 0 37 0 1)"$'\n'"$(skipped_line 1 0 0 0 0)"$'\n' '' \
-    conform --summary --line-buffered --lossy --interface 7=B:9 "${apart[@]}" "$rules" \
-    "$work/lossy" "$work/mixed"
+    "${foreign_left/2 A/3 A}$(skipped_line 1 0 37 0 0)"$'\n'"$(skipped_line 1 0 0 0 0)"$'\n' '' \
+    conform --summary --line-buffered --lossy "${apart[@]}" "$rules" "$work/lossy" "$work/mixed"
 case_of 'conform: frames that the recorder lost' 3 '' $'recording Lossy 37\n' \
     conform --summary "${here[@]}" "$rules" "$work/lossy"
 case_of 'conform: frames that both recorders lost' 3 '' $'recording Lossy 74\n' \
     conform "${here[@]}" "$rules" "$work/lossy" "$work/lossy"
 case_of 'conform: frames that may be lost' 0 "$right" '' \
     conform --lossy "${here[@]}" "$rules" "$work/lossy"
+
+case_of 'conform: an interface that is not there' 3 '' $'recording Absent 4\n' \
+    conform --summary "${here[@]}" --interface 7=B:9 --interface 4=B:1 "$rules" "$work/both"
+case_of 'conform: an interface that is not there, behind a finding' 3 $'late 1 A 3 1\n' \
+    $'recording Absent 2\n' conform "${here[@]}" --left 2=B:3 "$rules" "$work/late"
+case_of 'conform: an interface that is not there, and lost frames' 3 '' $'recording Absent 7\n' \
+    conform --lossy "${here[@]}" --left 7=B:3 "$rules" "$work/lossy"
+case_of 'conform: an interface that what came has not' 3 '' $'recording Absent 2 came\n' \
+    conform --line-buffered "${apart[@]}" --interface 2=B:1 --left 9=B:3 --leave-out other \
+    "$rules" "$work/came" "$work/left"
+case_of 'conform: an interface that what left has not' 3 '' $'recording Absent 9 left\n' \
+    conform "${apart[@]}" --left 9=B:3 --leave-out other "$rules" "$work/came" "$work/left"
+case_of 'conform: not all that was seen was exercised' 3 "$(seen undecided 1 0 0 0 2 1)"$'\n' '' \
+    conform --exercised --interface 0=A --left 1=A:3 "$rules" "$work/both"
+recorded "$work/elsewhere" "$came" "$(packet 1 6720 "${frame:0:10}02${frame:12}")"
+case_of 'conform: a frame where its link does not go, whose sender was not recorded' 5 \
+    $'strange 2 A 1 not-its-port\n'"$(seen 'deviates 1' 0 0 0 0 4)"$'\n' '' \
+    conform --interface 0=A:1 --left 1=A:1 "$rules" "$work/elsewhere"
 
 # ---- the order of faults -------------------------------------------------------------------------
 
@@ -158,7 +175,7 @@ fault_case 'nothing in one recording came or left' 3 'recording NoArrival 2' \
     --interface 2=A:1 --left 3=A:3 "$rules" "$work/both"
 fault_case 'times of one recording that go back' 3 'recording TimeBack 2' \
     --line-buffered "${here[@]}" "$rules" "$work/back"
-case_of 'conform: no frame in a recording' 3 "$(seen undecided 0 0 0 0 3)"$'\n' '' \
+case_of 'conform: no frame in a recording' 3 "$(seen undecided 0 0 0 0 3 1)"$'\n' '' \
     conform "${here[@]}" "$rules" "$work/nothing"
 case_of 'conform of one of two switches, by a recording' 3 "$(seen undecided 0 0 0 0 4)"$'\n' '' \
     conform --switch fwd "${here[@]}" "$two" "$work/nothing"

@@ -71,6 +71,7 @@ for name in OutOfRange 'config OutOfRange' TooManyLines BadHex 'list BadHex' 're
     text_case "the name of a fault: '$name'" 0 out ' ' explain "$name"
 done
 text_case 'frames that a recorder lost' 0 out '--lossy' explain recording Lossy 37
+text_case 'an interface that is not there' 0 out 'capinfos' explain recording Absent 4 came
 text_case 'of frames that a recorder lost, what was judged' 0 out 'All frames' \
     explain recording Lossy 37
 text_case 'a name of two faults' 0 out "'recording TimeBack'" explain TimeBack

@@ -126,7 +126,7 @@ nothing-there : (z : Terms) (k : Key) (xs : List Arrival) (ys : List Gone) (line
 unfolding StreamStands slot_due
 nothing-there z k xs ys lines time Nothing none stands = (stands.0, stands.1, stands.2, refl)
 nothing-there z k xs ys lines time (Strangers s) none stands = absurd stands
-nothing-there z k xs ys lines time (Stream s) none stands = absurd (none tt)
+nothing-there z k xs ys lines time (Stream s told) none stands = absurd (none tt)
 
 module _ (t : Rows) (c : Choices) (until : ℕ) (lawful : IsLawfulSwitch t) (time : ℕ) (given : Key → Given) (lines : List Due)
     (old new : Kept) (key : Key) (slot : Slot) (due : Option ℕ) (at : ℕ) where
@@ -283,7 +283,7 @@ nothing-strange : (k : Key) (all lines : List Due) (slot : Slot) → (IsStrange 
 unfolding StrangersStand slot_due
 nothing-strange k all lines Nothing none stands = (stands.0, stands.1, refl)
 nothing-strange k all lines (Strangers s) none stands = absurd (none tt)
-nothing-strange k all lines (Stream s) none stands = absurd stands
+nothing-strange k all lines (Stream s told) none stands = absurd stands
 
 -- room for them is put where there was none
 pub kept-room : (t : Rows) (c : Choices) (until : ℕ) (lawful : IsLawfulSwitch t) (time : ℕ) (given : Key → Given) (lines : List Due)

@@ -107,7 +107,7 @@ module _ (z : Terms) (k : Key) (Q : ℕ → Type 0) where
         (subst (λ l. IsBehind k Q lines (judged_dues z k (judged_of z ls (l ++ ms)))) (sym no-ys)
         (of-shown nothing_judged (judged_of z ls ms) lines (no-lines ∙ sym (no-dues z k)) (fresh-adds z Q up time here ls ms come leave)))
     stream-behind time here le xs ls ys ms lines (slot.Strangers s) due come leave stands = absurd stands
-    stream-behind time here le xs ls ys ms lines (slot.Stream s) due come leave (j, stands, are) =
+    stream-behind time here le xs ls ys ms lines (slot.Stream s told) due come leave (j, stands, are, said) =
         of-shown j (judged_of z (xs ++ ls) (ys ++ ms)) lines are
         (running-adds z Q up time here xs ls ys ms j s.value stands le due come leave)
 
@@ -121,7 +121,7 @@ module _ (z : Terms) (k : Key) (Q : ℕ → Type 0) where
       later = tt;
     }
     ended-behind xs ys lines (slot.Strangers s) due stands = absurd stands
-    ended-behind xs ys lines (slot.Stream s) due (j, ending, are) =
+    ended-behind xs ys lines (slot.Stream s told) due (j, ending, are, said) =
         of-shown j (judged_of z xs ys) lines are (ended-adds z Q up xs ys j s.value ending due)
 
 -- ---- of frames of no stream
@@ -174,4 +174,4 @@ module _ (k : Key) (Q : ℕ → Type 0) (up : (a b : ℕ) → a ≤ b → Q a �
             (reversed (λ x. Q x.time × (k ≡ k)) w (every-on (λ x. Q x.time) (λ x. Q x.time × (k ≡ k)) (λ x q. (q, refl)) w
             (waiting-at w lines (subst AreFalling stands falling) due))));
       }
-  strangers-behind newer all lines (slot.Stream s) new falling due stands = absurd stands
+  strangers-behind newer all lines (slot.Stream s told) new falling due stands = absurd stands

@@ -96,9 +96,9 @@ module _ (t : Rows) (c : Choices) (more frames : List Frame) where
   pub strange-both : (k : Key) → map (stranger_due t k) (strangers_of t c k.side k.port (more ++ frames))
       ≡ map (stranger_due t k) (strangers_of t c k.side k.port more) ++ map (stranger_due t k) (strangers_of t c k.side k.port frames)
   strange-both k =
-      let test : Frame → Bool = λ x. left_at k.side k.port x && is_stranger t x.arrival in
+      let test : Frame → Bool = λ x. left_at k.side k.port x && is_stranger t c.taps x.arrival in
       ap (λ fs. map (stranger_due t k) (map (λ (x : Frame). x.arrival) (filter
-      (λ x. left_at k.side k.port x && is_stranger t x.arrival) fs)))
+      (λ x. left_at k.side k.port x && is_stranger t c.taps x.arrival) fs)))
       counted-both
       ∙ ap (λ fs. map (stranger_due t k) (map (λ (x : Frame). x.arrival) fs)) (filter-append test (counted t c more) (counted t c frames))
       ∙ ap (λ l. map (stranger_due t k) l)
@@ -150,10 +150,10 @@ module _ (t : Rows) (c : Choices) (time : ℕ) (more : List Frame) (late : ComeF
   strange-late k Q up here =
       every-map (λ d. Q d.moment × (d.key ≡ k)) (stranger_due t k) (strangers_of t c k.side k.port more)
       (every-map (λ (x : Arrival). Q x.time × (k ≡ k)) (λ (x : Frame). x.arrival)
-      (filter (λ x. left_at k.side k.port x && is_stranger t x.arrival) (counted t c more))
+      (filter (λ x. left_at k.side k.port x && is_stranger t c.taps x.arrival) (counted t c more))
       (every-on (λ x. time ≤ x.arrival.time) (λ x. Q x.arrival.time × (k ≡ k)) (λ x le. (up time x.arrival.time le here, refl))
-      (filter (λ x. left_at k.side k.port x && is_stranger t x.arrival) (counted t c more))
-      (passed-late (λ x. left_at k.side k.port x && is_stranger t x.arrival))))
+      (filter (λ x. left_at k.side k.port x && is_stranger t c.taps x.arrival) (counted t c more))
+      (passed-late (λ x. left_at k.side k.port x && is_stranger t c.taps x.arrival))))
 
   -- behind the end that is said none counts
   pub none-counts : (end : ℕ) → c.until ≡ Some end → end < time → counted t c more ≡ []
@@ -268,7 +268,7 @@ module _ (t : Rows) (c : Choices) (until time : ℕ) (more frames : List Frame) 
   known-behind none are = elim (known-cases t k known) [
     | inl no-link ↦ strange-behind (Some until) no-link
         (subst (λ fs. AllByRecursion (λ d. Q d.moment × (d.key ≡ k)) (map (stranger_due t k) (map (λ (x : Frame). x.arrival)
-        (filter (λ x. left_at k.side k.port x && is_stranger t x.arrival) fs)))) (sym none) tt) are
+        (filter (λ x. left_at k.side k.port x && is_stranger t c.taps x.arrival) fs)))) (sym none) tt) are
     | inr of ↦
         (let z = terms_at t c until of.0 k.port in
         subst (λ l. IsBehind k Q (of_key k dues) l)

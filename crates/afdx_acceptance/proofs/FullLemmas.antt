@@ -44,7 +44,7 @@ stream-later : (z : Terms) (k : Key) (xs : List Arrival) (ys : List Gone) (lines
 unfolding StreamStands
 stream-later z k xs ys lines time to slot.Nothing le stands = stands
 stream-later z k xs ys lines time to (slot.Strangers s) le stands = stands
-stream-later z k xs ys lines time to (slot.Stream s) le stands = (
+stream-later z k xs ys lines time to (slot.Stream s told) le stands = (
   stands.0,
   record {
     over = stands.1.over;
@@ -53,6 +53,7 @@ stream-later z k xs ys lines time to (slot.Stream s) le stands = (
     judged = λ until h. stands.1.judged until (omega (arith, h, le));
   },
   stands.2,
+  stands.3,
 )
 
 module _ (t : Rows) (c : Choices) (until : ℕ) (time to : ℕ) (le : time ≤ to) where

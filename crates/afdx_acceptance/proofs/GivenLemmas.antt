@@ -61,7 +61,7 @@ linked k fs (Some l) = given_with (reverse (map (λ x. x.arrival) (filter (is_ar
 -- what these frames give
 abbrev pub given_from : Rows → Taps → Key → List Frame → Option ℕ → Given
 given_from t taps k fs None = given_with [] []
-    (map (stranger_due t k) (map (λ x. x.arrival) (filter (λ x. left_at k.side k.port x && is_stranger t x.arrival) fs)))
+    (map (stranger_due t k) (map (λ x. x.arrival) (filter (λ x. left_at k.side k.port x && is_stranger t taps x.arrival) fs)))
 given_from t taps k fs (Some place) = linked k fs (judged_to t taps k.side place k.port)
 
 pub given-from : (t : Rows) (c : Choices) (frames : List Frame) (k : Key)
@@ -226,10 +226,11 @@ module _ (t : Rows) (c : Choices) (frames : List Frame) (time : ℕ)
 
       by : (o : Option ℕ) → AllByRecursion (λ d. d.moment ≤ time) (given_from t c.taps k (counted t c frames) o).strange
       by None = all-map (λ d. d.moment ≤ time) (stranger_due t k)
-          (map (λ x. x.arrival) (filter (λ x. left_at k.side k.port x && is_stranger t x.arrival) (counted t c frames)))
+          (map (λ x. x.arrival) (filter (λ x. left_at k.side k.port x && is_stranger t c.taps x.arrival) (counted t c frames)))
           (all-map (λ x. x.time ≤ time) (λ (x : Frame). x.arrival)
-          (filter (λ x. left_at k.side k.port x && is_stranger t x.arrival) (counted t c frames))
-          (all-filter (λ x. x.arrival.time ≤ time) (λ x. left_at k.side k.port x && is_stranger t x.arrival) (counted t c frames) all))
+          (filter (λ x. left_at k.side k.port x && is_stranger t c.taps x.arrival) (counted t c frames))
+          (all-filter (λ x. x.arrival.time ≤ time) (λ x. left_at k.side k.port x && is_stranger t c.taps x.arrival)
+          (counted t c frames) all))
       by (Some place) = by-link (judged_to t c.taps k.side place k.port)
 
 pub falling-more : (d : Due) (ds : List Due) → AllByRecursion (λ e. e.moment ≤ d.moment) ds → AreFalling ds → AreFalling (d ∷ ds)

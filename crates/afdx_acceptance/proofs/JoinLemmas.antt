@@ -55,28 +55,6 @@ pub left-start : (t : Rows) (c : Choices) (a : Arrival) → counts t c (frame_wi
 left-start t c a e = let h = ltb-false (a.time + both_slacks c.by) (from_time c.by.start) (counts-time t c (frame_with Left a) e) in
     omega (arith, h)
 
--- of a frame that left and counts, the sender's port is recorded
-pub heard-as : (t : Rows) (c : Choices) (a : Arrival) (place : ℕ) (l : LinkRow) → counts t c (frame_with Left a) ≡ true
-    → place_named t a.bytes ≡ Some place → slice_get t.links place ≡ Some l → is_heard t c.taps a.side l ≡ true
-unfolding counts is_unheard
-heard-as t c a place l e named at =
-    let x = frame_with Left a in
-    let heard-at = not-out (is_left_out c x) (is_heard_at t c.taps a.side (place_named t a.bytes))
-    (and-middle (is_in_time c x) (not (is_passed t c x)) (nat_le (length a.bytes) most_bytes) e) in
-    ap (λ o. option_map_or (is_heard t c.taps a.side) o true) (sym at)
-    ∙ ap (λ o. is_heard_at t c.taps a.side o) (sym named) ∙ heard-at
-  where
-    and-middle : (u v w : Bool) → u && v && w ≡ true → v ≡ true
-    and-middle true true true h = refl
-    and-middle true true false h = refl
-    and-middle true false w h = absurd (true≢false (sym h))
-    and-middle false v w h = absurd (true≢false (sym h))
-
-    not-out : (u v : Bool) → not (u || not v) ≡ true → v ≡ true
-    not-out false true h = refl
-    not-out false false h = absurd (true≢false (sym h))
-    not-out true v h = absurd (true≢false (sym h))
-
 -- which place is named
 pub place-is : (t : Rows) (bytes : List ℕ) (vl : Option VlId) → vl ≡ link_named_by bytes
     → option_and_then (λ v. link_of t.links v.0) vl ≡ place_named t bytes
@@ -96,7 +74,7 @@ module _ (t : Rows) (c : Choices) (until : ℕ) (ended : Option ℕ) (time : ℕ
       → given_of t c (x ∷ frames) k ≡ given_from t c.taps k (x ∷ counted t c frames) k.link
   given-more x k e = given-from t c (x ∷ frames) k ∙ ap (λ fs. given_from t c.taps k fs k.link) (counted-more t c x frames e)
 
-  strange-same : (x : Frame) (k : Key) → ((b : Bool) → left_at k.side k.port x && is_stranger t x.arrival ≡ false)
+  strange-same : (x : Frame) (k : Key) → ((b : Bool) → left_at k.side k.port x && is_stranger t c.taps x.arrival ≡ false)
       → counts t c x ≡ true → (given_of t c (x ∷ frames) k).strange ≡ (given_of t c frames k).strange
   strange-same x k none e = ap (λ g. g.strange) (given-more x k e) ∙ by k.link ∙ sym (ap (λ g. g.strange) (given-from t c frames k))
     where
@@ -107,16 +85,16 @@ module _ (t : Rows) (c : Choices) (until : ℕ) (ended : Option ℕ) (time : ℕ
       by : (o : Option ℕ) → (given_from t c.taps k (x ∷ counted t c frames) o).strange ≡ (given_from t c.taps k
           (counted t c frames) o).strange
       by None = ap (λ v. map (stranger_due t k) (map (λ y. y.arrival)
-          (cond v (x ∷ filter (λ y. left_at k.side k.port y && is_stranger t y.arrival) (counted t c frames))
-          (filter (λ y. left_at k.side k.port y && is_stranger t y.arrival) (counted t c frames))))) (none true)
+          (cond v (x ∷ filter (λ y. left_at k.side k.port y && is_stranger t c.taps y.arrival) (counted t c frames))
+          (filter (λ y. left_at k.side k.port y && is_stranger t c.taps y.arrival) (counted t c frames))))) (none true)
       by (Some place) = by-link (judged_to t c.taps k.side place k.port)
 
-  came-no-stranger : (k : Key) (b : Bool) → left_at k.side k.port (frame_with Came a) && is_stranger t a ≡ false
+  came-no-stranger : (k : Key) (b : Bool) → left_at k.side k.port (frame_with Came a) && is_stranger t c.taps a ≡ false
   unfolding left_at
   came-no-stranger k b = refl
 
-  left-no-stranger : is_stranger t a ≡ false → (k : Key) (b : Bool)
-      → left_at k.side k.port (frame_with Left a) && is_stranger t a ≡ false
+  left-no-stranger : is_stranger t c.taps a ≡ false → (k : Key) (b : Bool)
+      → left_at k.side k.port (frame_with Left a) && is_stranger t c.taps a ≡ false
   left-no-stranger none k b = ap (λ v. left_at k.side k.port (frame_with Left a) && v) none
       ∙ and-false (left_at k.side k.port (frame_with Left a))
     where
@@ -159,18 +137,18 @@ module _ (t : Rows) (c : Choices) (until : ℕ) (ended : Option ℕ) (time : ℕ
 
   -- its stream isn't judged
   pub join-unseen : (place : ℕ) (l : LinkRow) → counts t c (frame_with Left a) ≡ true
-      → place_named t a.bytes ≡ Some place → link_to t place a.port ≡ Some l → is_stranger t a ≡ false
+      → place_named t a.bytes ≡ Some place → link_to t place a.port ≡ Some l → is_stranger t c.taps a ≡ false
       → is_judged t c.taps a.side l a.port ≡ false
       → AreKept t c until ended time (given_of t c frames) lines kept
       → AreKept t c until ended time (given_of t c (frame_with Left a ∷ frames)) lines kept
   join-unseen place l e named to none unseen are =
       kept-same t c until ended time (given_of t c frames) (given_of t c (frame_with Left a ∷ frames)) lines kept
-      (λ k known. given-more (frame_with Left a) k e ∙ given-unseen t c.taps k (counted t c frames) a place l lawful named to unseen
+      (λ k known. given-more (frame_with Left a) k e ∙ given-unseen t c.taps k (counted t c frames) a place l lawful named to none unseen
       ∙ sym (given-from t c frames k))
       (λ k. subst AreFalling (sym (strange-same (frame_with Left a) k (left-no-stranger none k) e)) (are.falling k)) are
 
   pub join-left : (place : ℕ) (l : LinkRow) → counts t c (frame_with Left a) ≡ true
-      → place_named t a.bytes ≡ Some place → link_to t place a.port ≡ Some l → is_stranger t a ≡ false
+      → place_named t a.bytes ≡ Some place → link_to t place a.port ≡ Some l → is_stranger t c.taps a ≡ false
       → is_judged t c.taps a.side l a.port ≡ true
       → ((k : Key) → AreFalling (given_of t c frames k).strange)
       → AreKept t c until ended time (with_left (key_with a.side a.port (Some place)) (gone_of a) (given_of t c frames)) lines kept
@@ -183,7 +161,7 @@ module _ (t : Rows) (c : Choices) (until : ℕ) (ended : Option ℕ) (time : ℕ
       then given_with g.came (g.left ++ gone_of a ∷ []) g.strange else g) (sym (given-from t c frames k)))
       (λ k. subst AreFalling (sym (strange-same (frame_with Left a) k (left-no-stranger none k) e)) (falling k)) are
 
-  pub join-strange : counts t c (frame_with Left a) ≡ true → is_stranger t a ≡ true
+  pub join-strange : counts t c (frame_with Left a) ≡ true → is_stranger t c.taps a ≡ true
       → AllByRecursion (λ x. x.arrival.time ≤ a.time) (counted t c frames)
       → ((k : Key) → AreFalling (given_of t c frames k).strange)
       → AreKept t c until ended time (with_strange (key_with a.side a.port None) (stranger_due t (key_with a.side a.port None) a)
@@ -204,11 +182,11 @@ module _ (t : Rows) (c : Choices) (until : ℕ) (ended : Option ℕ) (time : ℕ
       by : (k : Key) (o : Option ℕ) → AreFalling (given_from t c.taps k (counted t c frames) o).strange
           → AllByRecursion (λ d. d.moment ≤ a.time) (given_from t c.taps k (counted t c frames) o).strange
           → AreFalling (given_from t c.taps k (frame_with Left a ∷ counted t c frames) o).strange
-      by k None f times = tell (left_at k.side k.port (frame_with Left a) && is_stranger t a)
+      by k None f times = tell (left_at k.side k.port (frame_with Left a) && is_stranger t c.taps a)
         where
           tell : (v : Bool) → AreFalling (map (stranger_due t k) (map (λ y. y.arrival)
-              (cond v (frame_with Left a ∷ filter (λ y. left_at k.side k.port y && is_stranger t y.arrival) (counted t c frames))
-              (filter (λ y. left_at k.side k.port y && is_stranger t y.arrival) (counted t c frames)))))
+              (cond v (frame_with Left a ∷ filter (λ y. left_at k.side k.port y && is_stranger t c.taps y.arrival) (counted t c frames))
+              (filter (λ y. left_at k.side k.port y && is_stranger t c.taps y.arrival) (counted t c frames)))))
           tell true = falling-more (stranger_due t k a) (given_from t c.taps k (counted t c frames) None).strange times f
           tell false = f
       by k (Some place) f times = linked-falls k (frame_with Left a ∷ counted t c frames) (judged_to t c.taps k.side place k.port)

@@ -13,10 +13,11 @@ use Rattle.afdx_acceptance.specs.Frames.{frame_with, gone_of, is_arrival_of, is_
 use Rattle.afdx_acceptance.specs.Keeping.{Given, given_with, is_known, is_known_by, with_left, with_strange}
 use Rattle.afdx_acceptance.specs.Keys.{is_key, is_link, key_with}
 use Rattle.afdx_acceptance.specs.Lines.{Due, stranger_due}
-use Rattle.afdx_acceptance.specs.Tapped.{Taps, is_judged, judged_to}
+use Rattle.afdx_acceptance.specs.Tapped.{Taps, is_heard_at, is_judged, judged_to}
 use Rattle.afdx_acceptance.specs.declared.key.Key.{Key}
 use Rattle.afdx_acceptance.proofs.KeyLemmas.{key-same, known-link, link-to, same-side}
 use Rattle.afdx_acceptance.proofs.TappedLemmas.{judged-cases, judged-is}
+use Rattle.afdx_acceptance.proofs.StrangerLemmas.{judged-heard, stranger-no}
 use Rattle.afdx_acceptance.proofs.GivenLemmas.{given_from, linked, named-is}
 use Rattle.afdx_acceptance.proofs.CameLemmas.{and-false, if-false, never-last, same-row, three-parts}
 
@@ -29,18 +30,6 @@ leaves : (x : Frame) (b : Bool) (came : List Arrival) (left : List Frame)
 leaves x false came left = refl
 leaves x true came left =
     ap (λ l. given_with came l []) (reverse-append (gone_of x.arrival ∷ []) (map (λ y. gone_of y.arrival) left))
-
-pub stranger-no : (t : Rows) (a : Arrival) (place : ℕ) (l : LinkRow) → place_named t a.bytes ≡ Some place
-    → link_to t place a.port ≡ Some l → is_stranger t a ≡ false
-unfolding is_stranger
-stranger-no t a place l named to =
-    ap (λ o. not (is_some (option_and_then (λ p. link_to t p a.port) o))) named ∙ ap (λ o. not (is_some o)) to
-
-pub stranger-none : (t : Rows) (a : Arrival) (named : Option ℕ) → place_named t a.bytes ≡ named
-    → option_and_then (λ place. link_to t place a.port) named ≡ None → is_stranger t a ≡ true
-unfolding is_stranger
-stranger-none t a named is none =
-    ap (λ o. not (is_some (option_and_then (λ p. link_to t p a.port) o))) is ∙ ap (λ o. not (is_some o)) none
 
 -- a stream at the port of a frame is that of its link
 judged-there : (t : Rows) (taps : Taps) (a : Arrival) (k : Key) (place p : ℕ) (l m : LinkRow)
@@ -103,14 +92,15 @@ given-left t taps k fs a place l lawful named to known judges = by k.link known
     by None h =
         subst (λ n. given_with [] [] (map (stranger_due t k) (map (λ x. x.arrival)
         (cond (is_side a.side k.side && nat_eq a.port k.port && n)
-        (frame_with Left a ∷ filter (λ x. left_at k.side k.port x && is_stranger t x.arrival) fs)
-        (filter (λ x. left_at k.side k.port x && is_stranger t x.arrival) fs))))
+        (frame_with Left a ∷ filter (λ x. left_at k.side k.port x && is_stranger t taps x.arrival) fs)
+        (filter (λ x. left_at k.side k.port x && is_stranger t taps x.arrival) fs))))
         ≡ (if is_side a.side k.side && nat_eq a.port k.port && false
         then given_with (given_from t taps k fs None).came ((given_from t taps k fs None).left ++ gone_of a ∷ [])
         (given_from t taps k fs None).strange
-        else given_from t taps k fs None)) (sym (stranger-no t a place l named to))
+        else given_from t taps k fs None)) (sym (stranger-no t taps a place l named to
+        (judged-heard t taps a.side place a.port l (link-to t place a.port l to).at judges)))
         (strange (is_side a.side k.side && nat_eq a.port k.port)
-        (filter (λ x. left_at k.side k.port x && is_stranger t x.arrival) fs) (stranger_due t k)
+        (filter (λ x. left_at k.side k.port x && is_stranger t taps x.arrival) fs) (stranger_due t k)
         (given_with (given_from t taps k fs None).came ((given_from t taps k fs None).left ++ gone_of a ∷ [])
         (given_from t taps k fs None).strange))
     by (Some p) h =
@@ -128,10 +118,10 @@ given-left t taps k fs a place l lawful named to known judges = by k.link known
 
 -- one that left where its stream isn't judged
 pub given-unseen : (t : Rows) (taps : Taps) (k : Key) (fs : List Frame) (a : Arrival) (place : ℕ) (l : LinkRow) → IsLawfulSwitch t
-    → place_named t a.bytes ≡ Some place → link_to t place a.port ≡ Some l → is_judged t taps a.side l a.port ≡ false
-    → given_from t taps k (frame_with Left a ∷ fs) k.link ≡ given_from t taps k fs k.link
+    → place_named t a.bytes ≡ Some place → link_to t place a.port ≡ Some l → is_stranger t taps a ≡ false
+    → is_judged t taps a.side l a.port ≡ false → given_from t taps k (frame_with Left a ∷ fs) k.link ≡ given_from t taps k fs k.link
 unfolding is_arrival_of left_at
-given-unseen t taps k fs a place l lawful named to none = by k.link
+given-unseen t taps k fs a place l lawful named to own none = by k.link
   where
     by-three : (s p n : Bool) → (s ≡ true → p ≡ true → n ≡ true → ⊥) → (s && p && n) ≡ false
     by-three false p n never' = refl
@@ -155,14 +145,14 @@ given-unseen t taps k fs a place l lawful named to none = by k.link
 
     by : (o : Option ℕ) → given_from t taps k (frame_with Left a ∷ fs) o ≡ given_from t taps k fs o
     by None = ap (λ v. given_with [] [] (map (stranger_due t k) (map (λ x. x.arrival)
-        (cond v (frame_with Left a ∷ filter (λ x. left_at k.side k.port x && is_stranger t x.arrival) fs)
-        (filter (λ x. left_at k.side k.port x && is_stranger t x.arrival) fs)))))
-        (ap (λ n. is_side a.side k.side && nat_eq a.port k.port && n) (stranger-no t a place l named to)
+        (cond v (frame_with Left a ∷ filter (λ x. left_at k.side k.port x && is_stranger t taps x.arrival) fs)
+        (filter (λ x. left_at k.side k.port x && is_stranger t taps x.arrival) fs)))))
+        (ap (λ n. is_side a.side k.side && nat_eq a.port k.port && n) own
         ∙ and-false (is_side a.side k.side && nat_eq a.port k.port))
     by (Some p) = by-link p (judged_to t taps k.side p k.port) refl
 
 pub given-strange : (t : Rows) (taps : Taps) (k : Key) (fs : List Frame) (a : Arrival) → IsLawfulSwitch t
-    → is_stranger t a ≡ true → is_known t k ≡ true
+    → is_stranger t taps a ≡ true → is_known t k ≡ true
     → given_from t taps k (frame_with Left a ∷ fs) k.link
     ≡ with_strange (key_with a.side a.port None) (stranger_due t (key_with a.side a.port None) a)
     (λ k'. given_from t taps k' fs k'.link) k
@@ -199,7 +189,8 @@ given-strange t taps k fs a lawful strange known = by k.link refl known
         (stranger_due t (key_with a.side a.port None) a ∷ [])
         else linked k fs (Some m))
     judged p m is =
-        let to = (judged-is t taps k.side p k.port m is).0 in
+        let both = judged-is t taps k.side p k.port m is in
+        let to = both.0 in
         let there = link-to t p k.port m to in
         passes (is_side a.side k.side && nat_eq a.port k.port && names m.vl a.bytes)
         (linked k fs (Some m)).came
@@ -207,10 +198,13 @@ given-strange t taps k fs a lawful strange known = by k.link refl known
         (given_with (linked k fs (Some m)).came (linked k fs (Some m)).left
         (stranger_due t (key_with a.side a.port None) a ∷ []))
         (λ e. let first = and_parts (is_side a.side k.side && nat_eq a.port k.port) (names m.vl a.bytes) e in
-        let port : a.port ≡ k.port = eqb-true a.port k.port (and_parts (is_side a.side k.side) (nat_eq a.port k.port) first.0).1 in
+        let where-is = and_parts (is_side a.side k.side) (nat_eq a.port k.port) first.0 in
+        let port : a.port ≡ k.port = eqb-true a.port k.port where-is.1 in
+        let heard : is_heard_at t taps a.side (Some p) ≡ true = ap (λ d. is_heard_at t taps d (Some p)) (same-side a.side k.side where-is.0)
+        ∙ judged-heard t taps k.side p k.port m there.at both.1 in
         let place : place_named t a.bytes ≡ Some p = same-place (place_named t a.bytes) p
         (sym (named-is t p m a.bytes lawful there.at) ∙ first.1) in
-        true≢false (sym strange ∙ stranger-no t a p m place (ap (λ q. link_to t p q) port ∙ to)))
+        true≢false (sym strange ∙ stranger-no t taps a p m place (ap (λ q. link_to t p q) port ∙ to) heard))
         (is_side a.side k.side && nat_eq a.port k.port)
 
     by-link : (p : ℕ) (o : Option LinkRow) → judged_to t taps k.side p k.port ≡ o → linked k (frame_with Left a ∷ fs) o
@@ -230,13 +224,13 @@ given-strange t taps k fs a lawful strange known = by k.link refl known
     by None none h =
         subst (λ n. given_with [] [] (map (stranger_due t k) (map (λ x. x.arrival)
         (cond (is_side a.side k.side && nat_eq a.port k.port && n)
-        (frame_with Left a ∷ filter (λ x. left_at k.side k.port x && is_stranger t x.arrival) fs)
-        (filter (λ x. left_at k.side k.port x && is_stranger t x.arrival) fs))))
+        (frame_with Left a ∷ filter (λ x. left_at k.side k.port x && is_stranger t taps x.arrival) fs)
+        (filter (λ x. left_at k.side k.port x && is_stranger t taps x.arrival) fs))))
         ≡ (if is_side a.side k.side && nat_eq a.port k.port && true
         then given_with [] [] (stranger_due t (key_with a.side a.port None) a ∷ (given_from t taps k fs None).strange)
         else given_from t taps k fs None)) (sym strange)
         (tells (is_side a.side k.side && nat_eq a.port k.port)
-        (filter (λ x. left_at k.side k.port x && is_stranger t x.arrival) fs) (stranger_due t k)
+        (filter (λ x. left_at k.side k.port x && is_stranger t taps x.arrival) fs) (stranger_due t k)
         (stranger_due t (key_with a.side a.port None) a)
         (λ e. ap (λ q. stranger_due t q a) (sym (same-key None none e))))
     by (Some p) is h = by-link p (judged_to t taps k.side p k.port) refl

@@ -12,6 +12,7 @@ pub mod AddedLemmas
 pub mod StepLemmas
 pub mod GivenLemmas
 pub mod CameLemmas
+pub mod StrangerLemmas
 pub mod LeftLemmas
 pub mod PortLemmas
 pub mod JoinLemmas

@@ -8,7 +8,6 @@ use Rattle.afdx_engine.specs.Causes.{Cause, cause_of, FailedRead, FailedWrite, N
 use Rattle.afdx_engine.specs.Engine.{Item}
 use Rattle.afdx_inputs.specs.Arrivals.{By, ByCause}
 use Rattle.afdx_inputs.specs.Joining.{Frame, frames_of}
-use Rattle.afdx_inputs.specs.SeenFrames.{lost_of}
 use Rattle.afdx_inputs.specs.declared.seen.Seen.{Seen}
 use Rattle.afdx_inputs.specs.declared.seen_frames.SeenCount.{SeenCount}
 use Rattle.afdx_lists.specs.Calls.{AppendsFront}
@@ -20,7 +19,7 @@ use Rattle.afdx_text.specs.Sinks.{IsOfOutput}
 use Rattle.afdx_acceptance.proofs.BegunLemmas.{nothing-early}
 use Rattle.afdx_acceptance.proofs.TellingLemmas.{no-text}
 use Rattle.afdx_acceptance.specs.Choices.{Choices}
-use Rattle.afdx_acceptance.specs.Ran.{ConformAnswers, loss_told}
+use Rattle.afdx_acceptance.specs.Ran.{ConformAnswers, fault_behind}
 use Rattle.afdx_acceptance.specs.Counting.{totals_of}
 use Rattle.afdx_acceptance.specs.Lines.{lines_of}
 use Rattle.afdx_acceptance.specs.Telling.{lines_text}
@@ -88,7 +87,7 @@ module _ (Takes : List Frame → Result SeenCount RunFault → Type 0) (k : Rows
     -- it came to its end, and the last line is written
     pub answers-ok : (new : Option (List ℕ)) (count : SeenCount) (totals : Totals)
         → ((past : List (Item Seen)) → Ends past → IsWritten k (frames_of past) old mid totals)
-        → loss_told is_lossy (lost_of count) ≡ None
+        → fault_behind is_lossy count ≡ None
         → Appends mid new (conform_text (last_line totals)) → AreTold (Ok count)
         → ConformAnswers Takes k is_lossy old new (Ok (counted_with totals count))
     answers-ok new count totals ended none last (items, takes, told) =
@@ -107,7 +106,7 @@ module _ (Takes : List Frame → Result SeenCount RunFault → Type 0) (k : Rows
     -- frames were lost
     pub answers-lost : (count : SeenCount) (totals : Totals) (fault : RunFault)
         → ((past : List (Item Seen)) → Ends past → IsWritten k (frames_of past) old mid totals)
-        → loss_told is_lossy (lost_of count) ≡ Some fault → AreTold (Ok count)
+        → fault_behind is_lossy count ≡ Some fault → AreTold (Ok count)
         → ConformAnswers Takes k is_lossy old mid (Err fault)
     answers-lost count totals fault ended some (items, takes, told) =
         let w = ended items told in
@@ -116,7 +115,7 @@ module _ (Takes : List Frame → Result SeenCount RunFault → Type 0) (k : Rows
     -- the last line isn't written, or not all of it
     pub answers-cut : (new : Option (List ℕ)) (count : SeenCount) (totals : Totals) (fault : RunFault) → IsOfOutput fault
         → ((past : List (Item Seen)) → Ends past → IsWritten k (frames_of past) old mid totals)
-        → loss_told is_lossy (lost_of count) ≡ None → AppendsFront mid new (conform_text (last_line totals)) → AreTold (Ok count)
+        → fault_behind is_lossy count ≡ None → AppendsFront mid new (conform_text (last_line totals)) → AreTold (Ok count)
         → ConformAnswers Takes k is_lossy old new (Err fault)
     answers-cut new count totals fault of ended none begun (items, takes, told) =
         let w = ended items told in

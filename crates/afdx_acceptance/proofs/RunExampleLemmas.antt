@@ -31,7 +31,7 @@ use Rattle.afdx_acceptance.specs.Keys.{is_key, key_with}
 use Rattle.afdx_acceptance.specs.Lines.{AreInOrder, AreLines, Due, dues_by, dues_of, judged_dues, of_key, stranger_due, stream_dues}
 use Rattle.afdx_acceptance.specs.RunExample.{PremisesAreMet, choices, frames_at, late_line, link, receiver, sender, tables}
 use Rattle.afdx_acceptance.specs.RunLaws.{AreByTime, IsOfRight, sound_at, uncut_at}
-use Rattle.afdx_acceptance.specs.Tapped.{all_taps, is_unheard, judged_to, link_to, place_named, unseen_among, unseen_to}
+use Rattle.afdx_acceptance.specs.Tapped.{all_taps, goes_there, is_damaged, is_unheard, judged_to, link_to, place_named, unseen_among, unseen_to}
 use Rattle.afdx_acceptance.specs.Telling.{findings_in}
 use Rattle.afdx_acceptance.specs.declared.key.Key.{Key}
 use Rattle.afdx_acceptance.proofs.KeyLemmas.{key-cases, key-same, key-self, link-to, system-at}
@@ -177,9 +177,9 @@ its-key = key_with A 3 (Some 0)
 
 module _ (time : ℕ) (all : counted tables choices (frames_at time) ≡ frames_at time) where
   no-strangers : (side : Side) (port : ℕ) → strangers_of tables choices side port (frames_at time) ≡ []
-  unfolding left_at is_stranger place_named link_to link_of goes_to system_at_port
+  unfolding left_at is_stranger goes_there place_named link_to link_of goes_to system_at_port
   no-strangers side port =
-      ap (λ (fs : List Frame). map (λ x. x.arrival) (filter (λ x. left_at side port x && is_stranger tables x.arrival) fs)) all
+      ap (λ (fs : List Frame). map (λ x. x.arrival) (filter (λ x. left_at side port x && is_stranger tables choices.taps x.arrival) fs)) all
       ∙ ap (λ (b : Bool). map (λ (x : Frame). x.arrival)
       (if b then frame_with Left (arrival_with 1 time A 3 frame_bytes) ∷ [] else []))
       (none-and (left_at side port (frame_with Left (arrival_with 1 time A 3 frame_bytes))))
@@ -240,7 +240,7 @@ its-lines time lines all b-none own others order = record {
 
 its-right : (side : Side) → IsOfRight (terms_at tables choices 6720 link 3) (sound_at tables choices 6720 (frames_at 6720) link side)
     (uncut_at tables choices 6720 (frames_at 6720) link side 3)
-unfolding came counts is_unheard is_arrival_of left_at names sound_of fault_of is_sealed sequence_of shift number port_of rule_of
+unfolding came counts is_unheard goes_there is_damaged is_arrival_of left_at names sound_of fault_of is_sealed sequence_of shift number port_of rule_of
     byte_ns_at system_at_port place_named link_of accepted_asked accepted_after keeps_windows GoByClock EachLeaves AllLeaveLater
 its-right A = record {
   asked = came ∷ [];
@@ -295,7 +295,7 @@ its-right B = record {
 }
 
 pub premises_met : PremisesAreMet
-unfolding counts is_unheard is_arrival_of left_at names sound_of fault_of is_sealed sequence_of shift number port_of rule_of
+unfolding counts is_unheard goes_there is_damaged is_arrival_of left_at names sound_of fault_of is_sealed sequence_of shift number port_of rule_of
     byte_ns_at system_at_port place_named link_of link_to goes_to judged_to judged_dues is_key AreByTime AreInOrder
     events_of up_to are_same does_more one_more thinned_onto front_rest first_named once_named strangeness unexplained
     skipped closed_to deviates came_to sound_events judged_after led_by kept are_behind first_states states_at fits

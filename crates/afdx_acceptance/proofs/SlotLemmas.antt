@@ -1,7 +1,7 @@
 -- The lines of what is found at an event of a stream.
-use Rattle.std.proofs.Common.{Box, Global, ◌≡◌, ℕ, ◌≤◌, ◌⊎◌, inl, inr, Bool, true, false, List, [], ◌∷◌, ◌++◌, map, reverse, refl, sym, ap, ◌∙◌, subst}
+use Rattle.std.proofs.Common.{Box, Global, ◌≡◌, ℕ, ◌≤◌, ◌⊎◌, inl, inr, Bool, true, false, ◌||◌, ◌==◌, List, [], ◌∷◌, ◌++◌, map, reverse, refl, sym, ap, ◌∙◌, subst}
 use Rattle.std.proofs.lemmas.List.{append_assoc, map-append, reverse-append, reverse-reverse}
-use Rattle.std.specs.Prelude.{if◌then◌else◌, Option, Some, None, Result, Ok, Err, IfOk, IfSome, IfNone}
+use Rattle.std.specs.Prelude.{if◌then◌else◌, length, not, Option, Some, None, Result, Ok, Err, IfOk, IfSome, IfNone}
 use Rattle.afdx_conform.specs.Events.{moment_at}
 use Rattle.afdx_conform.specs.Histories.{newest_tag, time_of, unsure_in}
 use Rattle.afdx_conform.specs.Growing.{IsNoSooner}
@@ -12,13 +12,21 @@ use Rattle.afdx_conform.specs.Streams.{Terms}
 use Rattle.afdx_text.specs.declared.conform_line.ConformLine.{ConformLine}
 use Rattle.afdx_text.specs.declared.conform_line.ConformLine.TheVariants.{Unsure}
 use Rattle.afdx_acceptance.specs.Lines.{Due, due_at, found_due, found_line, judged_dues, unsure_dues}
-use Rattle.afdx_acceptance.specs.Slots.{AreFalling, Ends, IsStream, StrangersStand, StreamEnds, StreamStands, told_at, unsure_behind, waiting_due}
+use Rattle.afdx_acceptance.specs.Slots.{AreFalling, Ends, IsStream, StrangersStand, StreamEnds, StreamStands, has_line, told_at, unsure_behind, waiting_due}
 use Rattle.afdx_acceptance.specs.Waiting.{first_time, slot_due}
 use Rattle.afdx_acceptance.specs.declared.key.Key.{Key}
 use Rattle.afdx_acceptance.specs.declared.strangers.Stranger.{Stranger}
 use Rattle.afdx_acceptance.specs.declared.slot.Slot.{Slot}
 use Rattle.afdx_acceptance.specs.declared.slot.Slot.TheVariants as slot
 use Rattle.afdx_conform.specs.declared.streaming.Stream.{Stream}
+
+pub or-none : (a : Bool) → (a || false) ≡ a
+or-none true = refl
+or-none false = refl
+
+pub or-some : (a : Bool) → (a || true) ≡ true
+or-some true = refl
+or-some false = refl
 
 pub map-both : {A B C : Type 0} (f : B → C) (g : A → B) (h : A → C) → ((x : A) → f (g x) ≡ h x) → (xs : List A)
     → map f (map g xs) ≡ map h xs
@@ -102,6 +110,20 @@ told-found z k m found j after due unsure lines all f u l a =
     (ap (λ t. unsure_behind k t lines) (sym u) ∙ sym a)
     ∙ ap (λ l'. map (due_at k m) (reverse all) ++ l') (sym sure)
 
+-- there is a line where there were some, or some are told
+pub told-line : (k : Key) (m : ℕ) (lines : List ConformLine) (before : List Due) (told : Bool) → told ≡ has_line before
+    → has_line (told_at k m lines before) ≡ (told || not (length lines == 0))
+told-line k m [] before told is = sym (or-none told ∙ is)
+told-line k m (x ∷ xs) before told is =
+    ap (λ l. has_line (map (due_at k m) l ++ before)) (reverse-append (x ∷ []) xs)
+    ∙ ap has_line (ap (λ l. l ++ before) (map-append (due_at k m) (reverse xs) (x ∷ []))
+    ∙ append_assoc (map (due_at k m) (reverse xs)) (due_at k m x ∷ []) before)
+    ∙ more (map (due_at k m) (reverse xs)) (due_at k m x) before ∙ sym (or-some told)
+  where
+    more : (ds : List Due) (d : Due) (es : List Due) → has_line (ds ++ d ∷ es) ≡ true
+    more [] d es = refl
+    more (e ∷ ds) d es = refl
+
 -- what holds of an answer, where it follows from what does
 pub if-ok : {X E : Type 0} {P Q : X → Type 0} → ((x : X) → P x → Q x) → (r : Result X E) → IfOk r P → IfOk r Q
 if-ok f (Ok x) p = f x p
@@ -168,9 +190,9 @@ ends-others until (slot.Strangers s) vacant = record {
   due = λ z k xs ys lines time is le all stands. inl refl;
   due_strange = λ k all lines stands. refl;
 }
-ends-others until (slot.Stream s) vacant = absurd (vacant tt)
+ends-others until (slot.Stream s told) vacant = absurd (vacant tt)
 
-pub not-stream : (x : Slot) → ((s : Box Stream Global) → x ≡ slot.Stream s → ⊥) → IsStream x → ⊥
+pub not-stream : (x : Slot) → ((s : Box Stream Global) (told : Bool) → x ≡ slot.Stream s told → ⊥) → IsStream x → ⊥
 not-stream slot.Nothing none is = is
 not-stream (slot.Strangers s) none is = is
-not-stream (slot.Stream s) none is = none s refl
+not-stream (slot.Stream s told) none is = none s told refl

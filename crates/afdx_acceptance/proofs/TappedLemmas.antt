@@ -155,11 +155,3 @@ module _ (t : Rows) (taps : Taps) (side : Side) where
       ap (λ xs. unseen_among t taps side xs) (take_more links place l (slice_get_within links place l at)
       ∙ ap (λ x. take place links ++ x ∷ []) (get_or_from_slice_get links place l l at))
       ∙ among-append (take place links) l
-
--- ---- a frame that left
-
-pub unheard-is : (t : Rows) (taps : Taps) (x : Frame) → x.role ≡ Left
-    → is_unheard t taps x ≡ not (is_heard_at t taps x.arrival.side (place_named t x.arrival.bytes))
-unfolding is_unheard
-unheard-is t taps x left =
-    ap (λ r. not (is_of_came r) && not (is_heard_at t taps x.arrival.side (place_named t x.arrival.bytes))) left

@@ -1,5 +1,5 @@
 -- What a run answers.
-use Rattle.std.proofs.Common.{◌≡◌, ℕ, zero, suc, ◌+◌, ◌-◌, ◌<◌, ◌≤◌, Bool, true, false, ◌||◌, Option, List, [], ◌++◌, length, reverse, refl, sym, ap, ◌∙◌, subst, arith}
+use Rattle.std.proofs.Common.{◌≡◌, ℕ, zero, suc, ◌+◌, ◌-◌, ◌<◌, ◌≤◌, Bool, true, false, true≢false, ◌&&◌, ◌||◌, Option, List, [], ◌++◌, length, reverse, refl, sym, ap, ◌∙◌, subst, arith}
 use Rattle.std.proofs.lemmas.Bool.{eqb-true, eqb-false, ltb-true, ltb-false}
 use Rattle.std.proofs.lemmas.List.{length-reverse}
 use Rattle.std.specs.Prelude.{Some, None, nat_eq, nat_lt, if◌then◌else◌}
@@ -21,8 +21,8 @@ use Rattle.afdx_acceptance.specs.Lines.{Due, lines_of}
 use Rattle.afdx_acceptance.specs.RunLaws.{AreExplained, AreSure, NothingIsFound}
 use Rattle.afdx_acceptance.specs.Tapped.{is_judged}
 use Rattle.afdx_acceptance.specs.Telling.{lines_text}
-use Rattle.afdx_acceptance.specs.Totals.{answer_of, last_line}
-use Rattle.afdx_acceptance.specs.VerdictLaws.{AllIsWrittenOnce, ConformsIsExplained, ExactConforms, IsRun, RightNeverDeviates, SomeLeft, answered, end_of}
+use Rattle.afdx_acceptance.specs.Totals.{answer_of, is_unexercised, last_line}
+use Rattle.afdx_acceptance.specs.VerdictLaws.{AllIsWrittenOnce, ConformsIsExplained, ExactConforms, IsExercised, IsRun, RightNeverDeviates, SomeLeft, answered, end_of}
 use Rattle.afdx_acceptance.specs.declared.totals.Totals.{Totals}
 use Rattle.afdx_acceptance.proofs.FoundLemmas.{all-quiet, quiet-streams}
 use Rattle.afdx_acceptance.proofs.OneAnswerLemmas.{one_answer}
@@ -71,43 +71,69 @@ pub record IsConform (n : Totals) : Type 0 where
   pub none : n.findings ≡ 0
   pub sure : n.is_unsure ≡ false
   pub some : 0 < n.explained
+  pub exercised : n.is_exercised ≡ true → n.idle ≡ 0
+
+some-more : (m : ℕ) → (m ≡ 0 → ⊥) → 0 < m
+some-more zero apart = absurd (apart refl)
+some-more (suc m) apart = omega arith
 
 pub conforms-parts : (n : Totals) → answer_of n ≡ Conforms → IsConform n
-conforms-parts n h = by (nat_lt 0 n.findings) n.is_unsure (nat_eq n.explained 0) refl refl refl h
+conforms-parts n h =
+    by (nat_lt 0 n.findings) n.is_unsure (nat_eq n.explained 0) n.is_exercised (nat_lt 0 n.idle) refl refl refl refl refl h
   where
-    by : (f u e : Bool) → nat_lt 0 n.findings ≡ f → n.is_unsure ≡ u → nat_eq n.explained 0 ≡ e
-        → (if f then Deviates n.findings else if u || e then Undecided else Conforms) ≡ Conforms → IsConform n
-    by true u e fe ue ee k = absurd (cc)
-    by false true e fe ue ee k = absurd (cc)
-    by false false true fe ue ee k = absurd (cc)
-    by false false false fe ue ee k =
+    by : (f u e x i : Bool) → nat_lt 0 n.findings ≡ f → n.is_unsure ≡ u → nat_eq n.explained 0 ≡ e
+        → n.is_exercised ≡ x → nat_lt 0 n.idle ≡ i
+        → (if f then Deviates n.findings else if u || e || (x && i) then Undecided else Conforms) ≡ Conforms → IsConform n
+    by true u e x i fe ue ee xe ie k = absurd (cc)
+    by false true e x i fe ue ee xe ie k = absurd (cc)
+    by false false true x i fe ue ee xe ie k = absurd (cc)
+    by false false false true true fe ue ee xe ie k = absurd (cc)
+    by false false false false i fe ue ee xe ie k =
         let le = ltb-false 0 n.findings fe in
         let other = eqb-false n.explained 0 ee in
-        record { none = omega (arith, le); sure = ue; some = more n.explained other }
-      where
-        more : (m : ℕ) → (m ≡ 0 → ⊥) → 0 < m
-        more zero apart = absurd (apart refl)
-        more (suc m) apart = omega arith
+        record {
+          none = omega (arith, le);
+          sure = ue;
+          some = some-more n.explained other;
+          exercised = λ is. absurd (true≢false (sym is ∙ xe));
+        }
+    by false false false true false fe ue ee xe ie k =
+        let le = ltb-false 0 n.findings fe in
+        let other = eqb-false n.explained 0 ee in
+        let none = ltb-false 0 n.idle ie in
+        record {
+          none = omega (arith, le);
+          sure = ue;
+          some = some-more n.explained other;
+          exercised = λ is. omega (arith, none);
+        }
 
 conforms-from : (n : Totals) → IsConform n → answer_of n ≡ Conforms
 conforms-from n p =
     let none = p.none in
     let some = p.some in
-    ap (λ (b : Bool). if b then Deviates n.findings else if n.is_unsure || nat_eq n.explained 0 then Undecided else Conforms)
+    ap (λ (b : Bool). if b then Deviates n.findings
+    else if n.is_unsure || nat_eq n.explained 0 || is_unexercised n then Undecided else Conforms)
     (not-less 0 n.findings (omega (arith, none)))
     ∙ ap (λ (b : Bool). if b then Undecided else Conforms)
+    (or-none (n.is_unsure || nat_eq n.explained 0) (is_unexercised n)
     (or-none n.is_unsure (nat_eq n.explained 0) p.sure (not-same n.explained 0 (λ e. omega (arith, e, some))))
+    (all-shown n.is_exercised p.exercised))
+  where
+    all-shown : (b : Bool) → (b ≡ true → n.idle ≡ 0) → (b && nat_lt 0 n.idle) ≡ false
+    all-shown false h = refl
+    all-shown true h = not-less 0 n.idle (let none = h refl in omega (arith, none))
 
 never-deviates : (n : Totals) (findings : ℕ) → n.findings ≡ 0 → answer_of n ≡ Deviates findings → ⊥
 never-deviates n findings none h =
-    by n.is_unsure (nat_eq n.explained 0)
-    (sym (ap (λ (b : Bool). if b then Deviates n.findings else if n.is_unsure || nat_eq n.explained 0 then Undecided else Conforms)
+    by (n.is_unsure || nat_eq n.explained 0 || is_unexercised n)
+    (sym (ap (λ (b : Bool). if b then Deviates n.findings
+    else if n.is_unsure || nat_eq n.explained 0 || is_unexercised n then Undecided else Conforms)
     (not-less 0 n.findings (omega (arith, none)))) ∙ h)
   where
-    by : (u e : Bool) → (if u || e then Undecided else Conforms) ≡ Deviates findings → ⊥
-    by true e k = cc
-    by false true k = cc
-    by false false k = cc
+    by : (u : Bool) → (if u then Undecided else Conforms) ≡ Deviates findings → ⊥
+    by true k = cc
+    by false k = cc
 
 module _ (k : Rows × Choices) (frames : List Frame) (lines : List Due) (run : IsRun k frames lines) where
   abbrev End : ℕ
@@ -166,26 +192,30 @@ module _ (k : Rows × Choices) (frames : List Frame) (lines : List Due) (run : I
       omega (arith, there, less)
 
   pub conform-then : answered k frames lines ≡ Conforms
-      → SomeLeft k frames × AreSure k.0 k.1 End frames × AreExplained k.0 k.1 End frames
+      → SomeLeft k frames × AreSure k.0 k.1 End frames × AreExplained k.0 k.1 End frames × IsExercised k frames lines
   conform-then h =
       let p = conforms-parts N h in
       let sure = sure-each k.0 k.1 End frames p.sure in (
         left-then p.some,
         sure,
         found-then k.0 k.1 End frames lines run.lawful run.by_time run.are_lines sure (found-zero p.none),
+        p.exercised,
       )
 
-  conform-from : SomeLeft k frames → AreSure k.0 k.1 End frames → NothingIsFound lines → answered k frames lines ≡ Conforms
-  conform-from s sure none = conforms-from N (record {
+  conform-from : SomeLeft k frames → AreSure k.0 k.1 End frames → NothingIsFound lines → IsExercised k frames lines
+      → answered k frames lines ≡ Conforms
+  conform-from s sure none exercised = conforms-from N (record {
     none = zero-found none;
     sure = each-sure k.0 k.1 End frames run.lawful sure;
     some = then-left s sure none;
+    exercised = exercised;
   })
 
 pub conforms_explained : ConformsIsExplained
 conforms_explained k frames lines run = (
   conform-then k frames lines run,
-  λ h. conform-from k frames lines run h.0 h.1 (then-found k.0 k.1 (end_of k frames) frames lines run.lawful run.by_time run.are_lines h.2),
+  λ h. conform-from k frames lines run h.0 h.1
+      (then-found k.0 k.1 (end_of k frames) frames lines run.lawful run.by_time run.are_lines h.2) h.3,
 )
 
 pub exact_conforms : ExactConforms
@@ -194,8 +224,9 @@ exact_conforms k frames lines exact run =
       λ h. let p = conforms-parts (totals_of k frames lines) h in (
         left-then k frames lines run p.some,
         e.found.0 (found-zero k frames lines run p.none),
+        p.exercised,
       ),
-      λ h. conform-from k frames lines run h.0 e.are_sure (e.found.1 h.1),
+      λ h. conform-from k frames lines run h.0 e.are_sure (e.found.1 h.1) h.2,
     )
 
 pub never_deviates : RightNeverDeviates

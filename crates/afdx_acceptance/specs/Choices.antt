@@ -17,12 +17,13 @@ use Rattle.afdx_acceptance.specs.Tapped.{Taps, is_unheard}
 
 -- The leeway, with the start from which on frames count; the end after which they don't, if one is
 -- said; the links whose frames are left out, `None` for those of no link; the ports that were
--- recorded.
+-- recorded; and whether it conforms only if something is shown of each stream that is judged.
 pub record Choices : Type 0 where
   pub by : Leeway
   pub until : Option ℕ
   pub left_out : List (Option VlId)
   pub taps : Taps
+  pub exercised : Bool
 
 -- the end of the recordings, if one is said, is no later than any time of a list
 abbrev pub IsUntil : Option ℕ → Type 0

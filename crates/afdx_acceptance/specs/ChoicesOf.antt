@@ -10,4 +10,5 @@ choices_of taps choices = record {
   until = choices.until;
   left_out = choices.left_out.items;
   taps = taps;
+  exercised = choices.is_exercised;
 }

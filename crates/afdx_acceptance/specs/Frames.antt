@@ -1,6 +1,6 @@
 -- Of the frames of both roles those of a stream, and those of none. Lists of frames have the newest
 -- first.
-use Rattle.std.specs.Prelude.{ℕ, ◌*◌, Bool, not, ◌&&◌, nat_eq, List, filter, map, is_some, option_and_then}
+use Rattle.std.specs.Prelude.{ℕ, ◌*◌, Bool, not, ◌&&◌, ◌||◌, nat_eq, List, filter, map}
 use Rattle.afdx_bounds.specs.Tables.{rule_of, byte_ns_at}
 use Rattle.afdx_config.specs.Rows.{Rows, LinkRow}
 use Rattle.afdx_frame.specs.declared.link.Side.{Side}
@@ -10,7 +10,7 @@ use Rattle.afdx_inputs.specs.Joining.{Frame}
 use Rattle.afdx_police.specs.Arrival.{Arrival, names}
 use Rattle.afdx_conform.specs.Streams.{Gone, Terms}
 use Rattle.afdx_acceptance.specs.Choices.{Choices, counted}
-use Rattle.afdx_acceptance.specs.Tapped.{is_of_came}
+use Rattle.afdx_acceptance.specs.Tapped.{Taps, goes_there, is_heard_at, is_of_came}
 unfoldable pub use Rattle.afdx_acceptance.specs.Tapped.{link_to, place_named}
 
 abbrev pub frame_with : Role → Arrival → Frame
@@ -29,10 +29,11 @@ left_at side port x =
 abbrev pub gone_of : Arrival → Gone
 gone_of x = record { number = x.tag; time = x.time; bytes = x.bytes }
 
--- what left at a port is of no stream: its bytes name no link that goes there
-unfoldable pub is_stranger : Rows → Arrival → Bool
-is_stranger t x =
-    not (is_some (option_and_then (λ place. link_to t place x.port) (place_named t x.bytes)))
+-- what left at a port is of no stream: its bytes name no link that goes there and whose sender's
+-- port is recorded on its side
+unfoldable pub is_stranger : Rows → Taps → Arrival → Bool
+is_stranger t taps x =
+    not (goes_there t x) || not (is_heard_at t taps x.side (place_named t x.bytes))
 
 -- the frames that count: a link's arrivals on a side, what left of it at a port, and what left
 -- there that is of no stream
@@ -46,7 +47,7 @@ frames_of t c vl side port frames = map (λ x. gone_of x.arrival)
 
 abbrev pub strangers_of : Rows → Choices → Side → ℕ → List Frame → List Arrival
 strangers_of t c side port frames = map (λ x. x.arrival)
-    (filter (λ x. left_at side port x && is_stranger t x.arrival) (counted t c frames))
+    (filter (λ x. left_at side port x && is_stranger t c.taps x.arrival) (counted t c frames))
 
 -- what the stream of a link at a port is judged by
 abbrev pub terms_at : Rows → Choices → (until : ℕ) → LinkRow → (port : ℕ) → Terms

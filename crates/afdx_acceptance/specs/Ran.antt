@@ -1,12 +1,13 @@
 -- What a run answers and writes, whatever gives it its frames. A list of lines has the oldest
 -- first, one of frames the newest.
 use Rattle.std.specs.Prelude.{ℕ, ◌≡◌, ◌⊎◌, Bool, true, false, List, ◌++◌, Option, None, Some, Result, Ok, Err, nat_lt, if◌then◌else◌}
+use Rattle.std.specs.Option.{option_or}
 use Rattle.std.specs.Io.KnownBytes.{Appends}
 use Rattle.afdx_config.specs.Rows.{Rows}
 use Rattle.afdx_engine.specs.Causes.{cause_of}
 use Rattle.afdx_inputs.specs.Arrivals.{ByCause}
 use Rattle.afdx_inputs.specs.Joining.{Frame}
-use Rattle.afdx_inputs.specs.SeenFrames.{lost_of}
+use Rattle.afdx_inputs.specs.SeenFrames.{absent_of, lost_of}
 use Rattle.afdx_inputs.specs.declared.seen_frames.SeenCount.{SeenCount}
 use Rattle.afdx_lists.specs.declared.fault.RunFault.{RunFault}
 use Rattle.afdx_lists.specs.declared.fault.RunFault.TheVariants.{Recording}
@@ -37,10 +38,15 @@ pub record WritesAll (k : Rows × Choices) (frames : List Frame) (old new : Opti
   pub totals_are : totals ≡ totals_of k frames dues
   pub written : Appends old new (lines_text (lines_of dues) ++ conform_text (last_line totals))
 
--- what is told in the place of the last line where recorders lost so many frames, if that matters
+-- the fault of recorders that lost so many frames, if that matters
 abbrev pub loss_told : (is_lossy : Bool) → (lost : ℕ) → Option RunFault
 loss_told true lost = None
 loss_told false lost = if nat_lt 0 lost then Some (Recording (Lossy lost)) else None
+
+-- what is told in the place of the last line: that an interface isn't there, or else that frames
+-- were lost
+abbrev pub fault_behind : (is_lossy : Bool) → SeenCount → Option RunFault
+fault_behind is_lossy count = option_or (absent_of count) (loss_told is_lossy (lost_of count))
 
 -- `Takes` says of frames and an answer that a run with this answer took them; the output held `old`
 -- and holds `new`
@@ -54,18 +60,18 @@ module _ (Takes : List Frame → Result SeenCount RunFault → Type 0) (k : Rows
       × ByCause (cause_of fault) (IsWrittenSoFar k frames old new)
       (IsWrittenSoFar k frames old new ⊎ BeginsWritten k frames old new)
 
-  -- Or it took them all. All lines are written, and the loss of frames is told; or else the last
-  -- line isn't, or not all of it.
+  -- Or it took them all. All lines are written, and a fault of the recordings is told; or else the
+  -- last line isn't, or not all of it.
   abbrev pub StopsBehind : RunFault → Type 0
   StopsBehind fault = (frames : List Frame) × (count : SeenCount) × Takes frames (Ok count)
-      × (((loss_told is_lossy (lost_of count) ≡ Some fault) × WritesDues k frames old new)
-      ⊎ ((loss_told is_lossy (lost_of count) ≡ None) × IsOfOutput fault
+      × (((fault_behind is_lossy count ≡ Some fault) × WritesDues k frames old new)
+      ⊎ ((fault_behind is_lossy count ≡ None) × IsOfOutput fault
       × BeginsLast k frames old new))
 
-  -- all frames were taken, none was lost that matters, and all lines are written; or it stops with
-  -- a fault, without a last line
+  -- all frames were taken, no interface is missing and no frame was lost that matters, and all
+  -- lines are written; or it stops with a fault, without a last line
   abbrev pub ConformAnswers : Result RunCounts RunFault → Type 0
   ConformAnswers (Ok counted) = (frames : List Frame) × Takes frames (Ok counted.count)
-      × (loss_told is_lossy (lost_of counted.count) ≡ None)
+      × (fault_behind is_lossy counted.count ≡ None)
       × WritesAll k frames old new counted.totals
   ConformAnswers (Err fault) = StopsAmong fault ⊎ StopsBehind fault

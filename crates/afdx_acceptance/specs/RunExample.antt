@@ -1,6 +1,6 @@
 -- Runs in which the premises of the laws are met, with exact stamps and clocks: one frame of one
 -- link came and left, once in time and once a nanosecond too late.
-use Rattle.std.specs.Prelude.{ℕ, ◌≡◌, None, Some, List, [], ◌∷◌, codes}
+use Rattle.std.specs.Prelude.{ℕ, ◌≡◌, false, None, Some, List, [], ◌∷◌, codes}
 use Rattle.afdx_config.specs.Lawful.{IsLawfulSwitch}
 use Rattle.afdx_config.specs.Rows.{LinkRow, Rows, SystemRow, example_link}
 use Rattle.afdx_frame.specs.declared.link.Policing.TheVariants.{Frame}
@@ -41,7 +41,13 @@ tables = record {
 }
 
 abbrev pub choices : Choices
-choices = record { by = leeway_with 0 0 0 0 None; until = None; left_out = []; taps = all_taps }
+choices = record {
+  by = leeway_with 0 0 0 0 None;
+  until = None;
+  left_out = [];
+  taps = all_taps;
+  exercised = false;
+}
 
 -- the frame came at 0, and left at this time
 abbrev pub frames_at : ℕ → List joining.Frame

@@ -1,6 +1,6 @@
 -- What is kept of a key stands for its frames and for the lines that are told of it. Lists of
 -- arrivals and frames have the oldest first, those of lines the newest.
-use Rattle.std.specs.Prelude.{◌≡◌, ℕ, ◌≤◌, ◌⊎◌, ⊤, List, [], ◌∷◌, ◌++◌, map, reverse, Option, Some, None}
+use Rattle.std.specs.Prelude.{◌≡◌, ℕ, ◌≤◌, ◌⊎◌, ⊤, Bool, true, false, List, [], ◌∷◌, ◌++◌, map, reverse, Option, Some, None}
 use Rattle.std.specs.List.{AllByRecursion}
 use Rattle.afdx_police.specs.Arrival.{Arrival}
 use Rattle.afdx_conform.specs.Findings.{Judged}
@@ -38,27 +38,34 @@ unfoldable pub StrangersStand : Key → (all lines : List Due) → Slot → Type
 StrangersStand k all lines Nothing = (all ≡ []) × (lines ≡ [])
 StrangersStand k all lines (Strangers s) =
     all ≡ map (waiting_due k) (reverse s.value.waiting.items) ++ lines
-StrangersStand k all lines (Stream s) = ⊥
+StrangersStand k all lines (Stream s told) = ⊥
+
+-- a line is told
+abbrev pub has_line : List Due → Bool
+has_line [] = false
+has_line (d ∷ before) = true
 
 -- a stream of these arrivals and frames, before the end is known
 unfoldable pub StreamStands : Terms → Key → List Arrival → List Gone → (lines : List Due) →
     (time : ℕ) → Slot → Type 0
 StreamStands z k xs ys lines time Nothing = (xs ≡ []) × (ys ≡ []) × (lines ≡ [])
 StreamStands z k xs ys lines time (Strangers s) = ⊥
-StreamStands z k xs ys lines time (Stream s) =
+StreamStands z k xs ys lines time (Stream s told) =
     (j : Judged) × StandsFor z xs ys j time s.value × (lines ≡ judged_dues z k j)
+    × (told ≡ has_line lines)
 
 -- and then
 unfoldable pub StreamEnds : Terms → Key → List Arrival → List Gone → (lines : List Due) →
     Slot → Type 0
 StreamEnds z k xs ys lines Nothing = (xs ≡ []) × (ys ≡ []) × (lines ≡ [])
 StreamEnds z k xs ys lines (Strangers s) = ⊥
-StreamEnds z k xs ys lines (Stream s) =
+StreamEnds z k xs ys lines (Stream s told) =
     (j : Judged) × IsEnding z xs ys j s.value × (lines ≡ judged_dues z k j)
+    × (told ≡ has_line lines)
 
 -- a stream is kept
 abbrev pub IsStream : Slot → Type 0
-IsStream (Stream s) = Unit {0}
+IsStream (Stream s told) = Unit {0}
 IsStream slot = ⊥
 
 -- frames of no stream are

@@ -1,5 +1,5 @@
 -- Laws over what a run answers. Lists have the newest first.
-use Rattle.std.specs.Prelude.{ℕ, ◌<◌, ◌≡◌, ◌↔◌, Option, Some, List, length}
+use Rattle.std.specs.Prelude.{ℕ, ◌<◌, ◌≡◌, ◌↔◌, true, Option, Some, List, length}
 use Rattle.afdx_bounds.specs.Tables.{rule_of}
 use Rattle.afdx_config.specs.Lawful.{IsLawfulSwitch}
 use Rattle.afdx_config.specs.Rows.{Rows, LinkRow}
@@ -48,25 +48,30 @@ module _ (k : Rows × Choices) (frames : List Frame) where
     pub by_time : AreByTime frames
     pub are_lines : AreLines k.0 k.1 end_of frames lines
 
--- it conforms exactly where some frame left, no stream is unsure, and what was recorded has an
--- explanation
+-- where that is asked, no stream that is judged is idle
+abbrev pub IsExercised : Rows × Choices → List Frame → List Due → Type 0
+IsExercised k frames lines = k.1.exercised ≡ true → (totals_of k frames lines).idle ≡ 0
+
+-- it conforms exactly where some frame left, no stream is unsure, what was recorded has an
+-- explanation, and no stream is idle, where that is asked
 abbrev pub ConformsIsExplained : Type 0
 ConformsIsExplained =
     (k : Rows × Choices) (frames : List Frame) (lines : List Due) →
     IsRun k frames lines →
     (answered k frames lines ≡ Conforms)
     ↔ (SomeLeft k frames × AreSure k.0 k.1 (end_of k frames) frames
-    × AreExplained k.0 k.1 (end_of k frames) frames)
+    × AreExplained k.0 k.1 (end_of k frames) frames × IsExercised k frames lines)
 
--- with exact stamps and clocks, from a reset on, it conforms exactly where some frame left and all
--- is as the headline says
+-- with exact stamps and clocks, from a reset on, it conforms exactly where some frame left, all is
+-- as the headline says, and no stream is idle, where that is asked
 abbrev pub ExactConforms : Type 0
 ExactConforms =
     (k : Rows × Choices) (frames : List Frame) (lines : List Due) →
     IsExactBy k.1.by →
     IsRun k frames lines →
     (answered k frames lines ≡ Conforms)
-    ↔ (SomeLeft k frames × AreAsTheHeadline k.0 k.1 (end_of k frames) frames)
+    ↔ (SomeLeft k frames × AreAsTheHeadline k.0 k.1 (end_of k frames) frames
+    × IsExercised k frames lines)
 
 -- and where nothing is open, at each port left, of each link that goes there, the frames that the
 -- window rule accepts of the link's own arrivals, all of them, in order, within the latency, and

@@ -15,13 +15,13 @@ first_time (x ∷ more) = Some x.time
 unfoldable pub slot_due : Slot → Option ℕ
 slot_due Nothing = None
 slot_due (Strangers strangers) = first_time strangers.value.waiting.items
-slot_due (Stream stream) = due_of stream.value
+slot_due (Stream stream told) = due_of stream.value
 
 -- how many frames and events are left there
 unfoldable pub slot_left : Slot → ℕ
 slot_left Nothing = 0
 slot_left (Strangers strangers) = length strangers.value.waiting.items
-slot_left (Stream stream) = undecided_in stream.value
+slot_left (Stream stream told) = undecided_in stream.value
 
 -- and in all slots
 abbrev pub left_in : List Slot → ℕ

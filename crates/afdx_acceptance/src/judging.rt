@@ -20,6 +20,7 @@ ghost use Rattle.afdx_conform.specs.Ranges.{most_held};
 ghost use Rattle.afdx_text.specs.declared.conform_line.ConformLine.{ConformLine as Line};
 ghost use Rattle.afdx_engine.specs.Engine.{Item, item_of};
 ghost use Rattle.afdx_frame.specs.Layout.{link_named_by};
+ghost use Rattle.afdx_frame.specs.Parts.{bytes_of};
 ghost use Rattle.afdx_frame.specs.Seals.{IsSealedAs};
 ghost use Rattle.afdx_frame.specs.Times.{latest_listed};
 ghost use Rattle.afdx_inputs.specs.Joining.{Frame, frame_of, frames_of};
@@ -35,7 +36,7 @@ use crate::totals::Totals;
 use crate::whole::vl_named;
 use afdx_config::Tables;
 use afdx_engine::Machine;
-use afdx_frame::VlId;
+use afdx_frame::{Checked, VlId};
 use afdx_inputs::Seen;
 use afdx_lists::{Role, RunFault};
 use afdx_recorded::Taps;
@@ -89,7 +90,8 @@ impl<'a> Judging<'a> {
             IsWritten k (frames_of past) start end result }
     {
         let unseen = self.streams.unseen();
-        let mut totals = Totals::new(self.findings, self.left_out, unseen);
+        let exercised = self.choices.is_exercised;
+        let mut totals = Totals::new(self.findings, self.left_out, unseen, exercised);
         self.streams.count(&mut totals);
         totals
     }
@@ -238,17 +240,26 @@ impl<'a> Judging<'a> {
     }
 
     /// Whether a line that names this link, at that place of the tables, is passed over: the link
-    /// is left out, or the line left and its sender's port isn't recorded.
-    fn is_passed(&self, seen: &Seen, vl: Option<VlId>, named: Option<usize>) -> bool
+    /// is left out; or the line left where the link goes, undamaged, and its sender's port isn't
+    /// recorded.
+    fn is_passed(
+        &self,
+        seen: &Seen,
+        vl: Option<VlId>,
+        named: Option<usize>,
+        frame: Checked<'_>,
+    ) -> bool
         requires { IfSome named (λ link. link < length self.now.streams.tables.now.links) }
         ensures { (x : Frame) → x.role ≡ seen.now.role → x.arrival.side ≡ seen.now.heading.side →
+            x.arrival.port ≡ seen.now.heading.port → bytes_of frame.entry ≡ x.arrival.bytes →
             vl ≡ link_named_by x.arrival.bytes →
             named ≡ place_named self.now.streams.tables.now x.arrival.bytes →
             result ≡ asked.is_passed self.now.streams.tables.now
             (choices_of (taps_in self.now.streams.taps.now) self.now.choices.now) x }
     {
+        let (side, port) = (seen.heading.side, seen.heading.port);
         is_left_out(self.choices, vl)
-            || self.streams.is_unheard(seen.role, seen.heading.side, named)
+            || self.streams.is_unheard(seen.role, side, port, named, frame)
     }
 
     /// Takes a line: it is passed over, or goes to its streams.
@@ -278,7 +289,7 @@ impl<'a> Judging<'a> {
         let frame = seen.heading.frame(message);
         let vl = vl_named(self.alloc, frame)?;
         let named = self.streams.place_named(vl);
-        if self.is_passed(seen, vl, named) {
+        if self.is_passed(seen, vl, named, frame) {
             self.left_out = self.left_out.saturating_add(1);
             return Ok(());
         }

@@ -134,7 +134,7 @@ impl Kept {
     {
         let place = key.place();
         if place < self.slots.len() {
-            self.slots[place] = Slot::Stream(Box::new(alloc, stream)?);
+            self.slots[place] = Slot::Stream(Box::new(alloc, stream)?, false);
         }
         Ok(())
     }
@@ -300,11 +300,12 @@ impl Kept {
         }
     }
 
-    /// What is counted of the stream of the key, if one is kept.
+    /// What is counted of the stream of the key.
     pub(crate) fn count(&self, key: Key, totals: &mut Totals)
         ensures findings { totals.new.findings ≡ totals.old.findings }
         ensures left_out { totals.new.left_out ≡ totals.old.left_out }
         ensures unseen { totals.new.unseen ≡ totals.old.unseen }
+        ensures exercised { totals.new.is_exercised ≡ totals.old.is_exercised }
         ensures counted { (n : Counted) (z : Terms) (xs : List Arrival) (ys : List Gone)
             (lines : List Due) → slot_due (slot_at self.now.slots.items key) ≡ None →
             StreamEnds z key xs ys lines (slot_at self.now.slots.items key) →
@@ -314,6 +315,8 @@ impl Kept {
         let place = key.place();
         if place < self.slots.len() {
             totals.add(&self.slots[place]);
+        } else {
+            totals.add(&Slot::Nothing);
         }
     }
 }

@@ -24,8 +24,7 @@ pub struct RunCounts {
     pub count: SeenCount,
 }
 
-/// The fault that is told in the place of the last line: recorders lost so many frames, and that
-/// matters.
+/// The fault of recorders that lost so many frames, if that matters.
 fn loss_told(is_lossy: bool, lost: u64) -> Option<RunFault>
     ensures { result ≡ spec.loss_told is_lossy lost }
 {
@@ -36,6 +35,17 @@ fn loss_told(is_lossy: bool, lost: u64) -> Option<RunFault>
     }
 }
 
+/// The fault that is told in the place of the last line: a recording never described an interface
+/// that options name; or recorders lost frames, and that matters.
+fn fault_behind(is_lossy: bool, count: &SeenCount) -> Option<RunFault>
+    ensures { result ≡ spec.fault_behind is_lossy count.now }
+{
+    match count.absent() {
+        Some(fault) => Some(fault),
+        None => loss_told(is_lossy, count.lost()),
+    }
+}
+
 /// Judges whether a switch of these tables did what they say, by the frames that came to it and
 /// those that left it; gives what it counted. What came in at a port of which nothing is said came
 /// in at the port of the sender that it names.
@@ -43,7 +53,9 @@ fn loss_told(is_lossy: bool, lost: u64) -> Option<RunFault>
 /// Frames are taken by time, at one time what came first. Before a frame is taken all findings of
 /// moments before its time are written. The last line is written when the inputs have ended. The
 /// first fault ends the run, without a last line. In the place of the last line
-/// `RecordingFault::Lossy` comes where recorders lost frames, unless the choices allow it.
+/// `RecordingFault::Absent` comes where options name an interface that its recording never
+/// described, else `RecordingFault::Lossy` where recorders lost frames, unless the choices allow
+/// it.
 /// `RunFault::Read` and `RunFault::Write` come exactly where the device of an input, or the
 /// output's, failed; none is tried again.
 pub fn run_conform<P: Drop, A: SeenFrames<P>, O: Sink>(
@@ -74,7 +86,7 @@ pub fn run_conform<P: Drop, A: SeenFrames<P>, O: Sink>(
     let unsaid = UnsaidPort::OfSender(tables);
     let count = inputs.tell_all(alloc, options, unsaid, &mut judging, output)?;
     let totals = judging.totals();
-    if let Some(fault) = loss_told(choices.is_lossy, count.lost()) {
+    if let Some(fault) = fault_behind(choices.is_lossy, &count) {
         return Err(fault);
     }
     output.put(&OutLine::Conform(totals.line()))?;

@@ -29,8 +29,8 @@ pub(crate) enum Slot {
     Nothing,
     /// Frames of no stream.
     Strangers(Box<Strangers>),
-    /// A stream.
-    Stream(Box<Stream>),
+    /// A stream, and whether a line of it was told.
+    Stream(Box<Stream>, bool),
 }
 
 impl Slot {
@@ -42,7 +42,7 @@ impl Slot {
         match self {
             Slot::Nothing => None,
             Slot::Strangers(strangers) => strangers.due(),
-            Slot::Stream(stream) => stream.due(),
+            Slot::Stream(stream, _) => stream.due(),
         }
     }
 
@@ -61,7 +61,7 @@ impl Slot {
         ensures { IsTrue result ↔ IsStream self.now }
     {
         match self {
-            Slot::Stream(_) => true,
+            Slot::Stream(_, _) => true,
             _ => false,
         }
     }
@@ -87,7 +87,7 @@ pub(crate) fn add_arrival(at: &mut Slot, arrived: Arrived) -> Result<Option<u64>
         OnOk result (IsSameOrLater (slot_due at.old) arrived.time (slot_due at.new)) }
 {
     match at {
-        Slot::Stream(stream) => {
+        Slot::Stream(stream, _) => {
             let before = stream.due();
             stream.came(arrived)?;
             Ok(newly_due(before, stream.due()))
@@ -109,7 +109,7 @@ pub(crate) fn add_frame(at: &mut Slot, frame: Frame) -> Result<Option<u64>, Allo
         OnOk result (IsSameOrLater (slot_due at.old) frame.time (slot_due at.new)) }
 {
     match at {
-        Slot::Stream(stream) => {
+        Slot::Stream(stream, _) => {
             let before = stream.due();
             stream.left(frame)?;
             Ok(newly_due(before, stream.due()))
@@ -145,7 +145,7 @@ pub(crate) fn end_at(at: &mut Slot, until: u64)
     ensures { Ends until at.old at.new }
 {
     match at {
-        Slot::Stream(stream) => stream.end(until),
+        Slot::Stream(stream, _) => stream.end(until),
         _ => {}
     }
 }
@@ -300,6 +300,10 @@ pub(crate) fn step(
     match at {
         Slot::Nothing => Ok(Vec::new(alloc)),
         Slot::Strangers(strangers) => step_strangers(strangers, alloc, key),
-        Slot::Stream(stream) => step_stream(stream, alloc, spare, key, ended),
+        Slot::Stream(stream, is_told) => {
+            let lines = step_stream(stream, alloc, spare, key, ended)?;
+            *is_told = *is_told || !lines.as_slice().is_empty();
+            Ok(lines)
+        }
     }
 }

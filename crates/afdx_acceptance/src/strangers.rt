@@ -4,6 +4,7 @@ ghost use Rattle.std.specs.Prelude.{◌≡◌, ◌++◌, ◌∷◌, [], OnOk, No
 ghost use Rattle.afdx_frame.specs.Parts.{bytes_of};
 ghost use Rattle.afdx_police.specs.Shape.{fault_of};
 ghost use Rattle.afdx_acceptance.specs.Lines.{stranger_by};
+ghost use Rattle.afdx_acceptance.specs.Tapped as spec;
 ghost use Rattle.afdx_acceptance.specs.Waiting.{first_time};
 
 use afdx_frame::Checked;
@@ -34,6 +35,32 @@ pub(crate) fn why_strange(frame: Checked<'_>, is_named: bool) -> StrangeReason
         }
         Some(reason) => StrangeReason::Shape(reason),
         None => StrangeReason::NotItsPort,
+    }
+}
+
+/// Whether a reason is that a frame is too short, too long, or has a wrong check sequence.
+fn is_damage(reason: Reason) -> bool
+    ensures { result ≡ spec.is_damage (Some reason) }
+{
+    match reason {
+        Reason::TooShort | Reason::TooLong | Reason::BadFcs => true,
+        Reason::BadAddress
+        | Reason::UnknownLink
+        | Reason::WrongPort
+        | Reason::OverLmax
+        | Reason::UnderLmin
+        | Reason::OverRate => false,
+    }
+}
+
+/// Whether a frame is too short, too long, or has a wrong check sequence.
+#[tactic(auto, unfolding(crate::specs::Tapped::is_damaged))]
+pub(crate) fn is_damaged(frame: Checked<'_>) -> bool
+    ensures { result ≡ spec.is_damaged (bytes_of frame.entry) }
+{
+    match judge_checked(None, 0, frame) {
+        Some(reason) => is_damage(reason),
+        None => false,
     }
 }
 

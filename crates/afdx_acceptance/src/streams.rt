@@ -26,9 +26,9 @@ use crate::counting::count_streams;
 use crate::hints::Hints;
 use crate::joining::{come_to, leave_strange, leave_to};
 use crate::kept::{Kept, Lines};
-use crate::outlets::{outlet_at, receiver};
-use crate::strangers::{Stranger, why_strange};
-use crate::tapped::{is_heard, is_seen, unseen_of};
+use crate::outlets::{receiver, receiver_at};
+use crate::strangers::{Stranger, is_damaged, why_strange};
+use crate::tapped::{heard_outlet, is_heard, is_seen, unseen_of};
 use crate::totals::Totals;
 use afdx_config::Tables;
 use afdx_conform::{CheckedBytes, Frame, Leeway, Spare};
@@ -136,19 +136,35 @@ impl<'a> Streams<'a> {
     }
 
     /// Whether a frame that names the link at this place left on a side on which its sender's port
-    /// isn't recorded.
-    pub(crate) fn is_unheard(&self, role: Role, side: Side, named: Option<usize>) -> bool
+    /// isn't recorded, where the link goes, and isn't damaged.
+    pub(crate) fn is_unheard(
+        &self,
+        role: Role,
+        side: Side,
+        port: u8,
+        named: Option<usize>,
+        frame: Checked<'_>,
+    ) -> bool
         requires { IfSome named (λ link. link < length self.now.tables.now.links) }
-        ensures { (x : Seen) → x.role ≡ role → x.arrival.side ≡ side →
+        ensures { (x : Seen) → x.role ≡ role → x.arrival.side ≡ side → x.arrival.port ≡ port →
+            bytes_of frame.entry ≡ x.arrival.bytes →
             named ≡ spec.place_named self.now.tables.now x.arrival.bytes →
             result ≡ spec.is_unheard self.now.tables.now (taps_in self.now.taps.now) x }
     {
         match role {
             Role::Came => false,
-            Role::Left => match named {
-                Some(link) => !is_heard(self.tables, self.taps, side, link),
-                None => false,
-            },
+            Role::Left => {
+                let Some(link) = named else {
+                    return false;
+                };
+                if is_heard(self.tables, self.taps, side, link) {
+                    return false;
+                }
+                match receiver_at(self.tables, link, port) {
+                    Some(_) => !is_damaged(frame),
+                    None => false,
+                }
+            }
         }
     }
 
@@ -175,10 +191,10 @@ impl<'a> Streams<'a> {
         ensures ended { self.new.ended ≡ self.old.ended }
         ensures rules { IsSameButKept self.old self.new }
     {
-        let (alloc, tables, leeway) = (self.alloc, self.tables, self.leeway);
+        let (alloc, tables, leeway, taps) = (self.alloc, self.tables, self.leeway, self.taps);
         let (side, port, time) = (heading.side, heading.port, heading.time);
-        if let Some((link, system)) = outlet_at(tables, named, port) {
-            if !self.taps.is_tapped(Role::Left, side, port) {
+        if let Some((link, system)) = heard_outlet(tables, taps, side, named, port) {
+            if !taps.is_tapped(Role::Left, side, port) {
                 return Ok(());
             }
             let bytes = CheckedBytes::of(&mut self.spare, frame)?;
@@ -250,11 +266,13 @@ impl<'a> Streams<'a> {
         ensures findings { totals.new.findings ≡ totals.old.findings }
         ensures left_out { totals.new.left_out ≡ totals.old.left_out }
         ensures unseen { totals.new.unseen ≡ totals.old.unseen }
+        ensures exercised { totals.new.is_exercised ≡ totals.old.is_exercised }
         ensures counted { (c : Choices) (until : ℕ) (frames : List Seen) →
+            taps_in self.now.taps.now ≡ c.taps →
             AreEnded self.now.tables.now c until frames self.now.kept →
             HasCounted none_counted totals.old →
             HasCounted (counted_of self.now.tables.now c until frames) totals.new }
     {
-        count_streams(self.tables, &self.kept, totals);
+        count_streams(self.tables, self.taps, &self.kept, totals);
     }
 }

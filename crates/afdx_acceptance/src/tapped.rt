@@ -1,13 +1,16 @@
 //! Which streams are judged, by the ports that were recorded.
 
-ghost use Rattle.std.specs.Prelude.{◌≡◌, ◌<◌, ◌≤◌, Some, length, slice_get, if◌then◌else◌};
-ghost use Rattle.afdx_config.specs.Rows.{LinkRow};
+ghost use Rattle.std.specs.Prelude.{◌≡◌, ◌<◌, ◌≤◌, IfSome, Some, is_none, length, slice_get, true};
+ghost use Rattle.std.specs.Prelude.{if◌then◌else◌};
+ghost use Rattle.afdx_config.specs.Rows.{LinkRow, is_to};
 ghost use Rattle.afdx_bounds.specs.Tables.{port_of};
 ghost use Rattle.afdx_lists.specs.declared.role.Role.TheVariants as role;
+ghost use Rattle.afdx_police.specs.Arrival.{Arrival};
+ghost use Rattle.afdx_acceptance.specs.Frames.{is_stranger, link_to};
 ghost use Rattle.afdx_acceptance.specs.Tapped as spec;
 ghost use Rattle.afdx_acceptance.specs.Tapped.{taps_in};
 
-use crate::outlets::receiver;
+use crate::outlets::{outlet_at, receiver};
 use afdx_config::{SystemId, Tables};
 use afdx_frame::Side;
 use afdx_lists::Role;
@@ -32,7 +35,56 @@ pub(crate) fn is_seen(tables: &Tables, taps: &Taps, side: Side, system: SystemId
     taps.is_tapped(Role::Left, side, tables.system(system).port)
 }
 
-/// 1 if the stream of a link to a system or neighbour isn't judged on a side, else 0.
+/// The place of the link that is named, and the system or neighbour at an output port, if the link
+/// goes to it and the port at which the link comes in is recorded on the side.
+pub(crate) fn heard_outlet(
+    tables: &Tables,
+    taps: &Taps,
+    side: Side,
+    named: Option<usize>,
+    port: u8,
+) -> Option<(usize, SystemId)>
+    requires { IfSome named (λ link. link < length tables.now.links) }
+    ensures link { IfSome result (λ to. (named ≡ Some to.0) × (to.0 < length tables.now.links)) }
+    ensures system { IfSome result (λ to. to.1.0 < length tables.now.systems) }
+    ensures to { (l : LinkRow) → IfSome result (λ to. slice_get tables.now.links to.0 ≡ Some l →
+        (link_to tables.now to.0 port ≡ Some l) × (port_of tables.now to.1.0 ≡ port)
+        × (is_to to.1.0 l ≡ true)) }
+    ensures strange { (x : Arrival) → x.side ≡ side → x.port ≡ port →
+        named ≡ spec.place_named tables.now x.bytes →
+        is_none result ≡ is_stranger tables.now (taps_in taps.now) x }
+{
+    match outlet_at(tables, named, port) {
+        Some((link, system)) => {
+            if is_heard(tables, taps, side, link) {
+                Some((link, system))
+            } else {
+                None
+            }
+        }
+        None => None,
+    }
+}
+
+/// Whether the stream of a link to a system or neighbour is judged on a side: both ports are
+/// recorded.
+pub(crate) fn is_judged(
+    tables: &Tables,
+    taps: &Taps,
+    side: Side,
+    link: usize,
+    system: SystemId,
+) -> bool
+    requires link { link < length tables.now.links }
+    requires system { system.0 < length tables.now.systems }
+    ensures { (l : LinkRow) → slice_get tables.now.links link ≡ Some l →
+        result ≡ spec.is_judged tables.now (taps_in taps.now) side l
+        (port_of tables.now system.0) }
+{
+    is_heard(tables, taps, side, link) && is_seen(tables, taps, side, system)
+}
+
+/// 1 if it isn't, else 0.
 fn unseen_at(tables: &Tables, taps: &Taps, side: Side, link: usize, system: SystemId) -> u64
     requires link { link < length tables.now.links }
     requires system { system.0 < length tables.now.systems }
@@ -41,10 +93,7 @@ fn unseen_at(tables: &Tables, taps: &Taps, side: Side, link: usize, system: Syst
         (port_of tables.now system.0) then 0 else 1) }
     ensures few { result ≤ 1 }
 {
-    if !is_heard(tables, taps, side, link) {
-        return 1;
-    }
-    if is_seen(tables, taps, side, system) {
+    if is_judged(tables, taps, side, link, system) {
         0
     } else {
         1

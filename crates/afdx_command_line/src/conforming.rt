@@ -23,10 +23,9 @@ fn choices_in(alloc: Global, matches: &ArgMatches<'_>) -> Result<Choices, Refuse
     let Some(leeway) = Leeway::new(said.slack, said.drift, said.inner, said.asked, said.from) else {
         return Err(Refused::BadNumber);
     };
-    let Some(choices) = Choices::new(leeway, said.until, said.left_out, said.is_lossy) else {
-        return Err(Refused::BadNumber);
-    };
-    Ok(choices)
+    let (until, left_out) = (said.until, said.left_out);
+    let choices = Choices::new(leeway, until, left_out, said.is_lossy, said.is_exercised);
+    choices.ok_or(Refused::BadNumber)
 }
 
 /// The same, if the inputs are two.

@@ -64,34 +64,37 @@ Less --slack, --drift and --asked, or no --from, leave fewer; so do frames of un
     (
         "\
 conforms
-conforms explained n open n uncertain n left-out n unseen n",
+conforms explained n open n uncertain n left-out n unseen n idle n",
         "\
 conforms: each frame that left is explained, and each that had to leave did.
 explained: frames that left rightly; open: arrivals whose frames may come behind the end;
 uncertain: where dropping and passing would both be right; left-out: frames that weren't looked at,
 by --leave-out, or since what their link's sender sends wasn't recorded; unseen: links at output
-ports that aren't judged, since the sender's port or the output port wasn't recorded.
+ports that aren't judged, since the sender's port or the output port wasn't recorded; idle: those
+that are judged, and of which no frame is explained: nothing was shown of them.
 If uncertain is near explained, nothing was shown of the accounts: --slack is near jitter_us.
 Record with stamps of hardware, or test with greater bag_ms. Of what is unseen nothing is said:
-record these ports too, and name them by --interface and --left.",
+record these ports too, and name them by --interface and --left. With --exercised it is undecided
+where one is idle: send on each link.",
     ),
     (
         "\
 deviates
-deviates n explained n open n uncertain n left-out n unseen n",
+deviates n explained n open n uncertain n left-out n unseen n idle n",
         "\
 deviates D: there are D lines above of what the switch did wrong. Only the first of a link at an
 output port is sure to name the cause.
 See first that the recordings are right: GUIDE has a table of what a recorder makes of a right
-switch. explained, open, uncertain, left-out and unseen are as with conforms.",
+switch. explained, open, uncertain, left-out, unseen and idle are as with
+conforms.",
     ),
     (
         "\
 undecided
-undecided explained n open n uncertain n left-out n unseen n",
+undecided explained n open n uncertain n left-out n unseen n idle n",
         "\
 undecided: nothing wrong was found, but no frame was explained either, or a line 'unsure' stands
-above.
+above; or --exercised was given, and of a link at an output port no frame was explained: idle.
 If explained is 0, LEFT may be empty, or all its frames are left out, or its times are others than
 those of CAME: both count from one moment. If unseen is great, --interface or --left names other
 ports than those of the links; --summary says what was left out. The status is 3.",

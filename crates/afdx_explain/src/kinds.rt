@@ -3,7 +3,7 @@
 use crate::entry::Entry;
 
 /// What the lines of a kind have in common.
-pub const KINDS: [Entry; 22] = [
+pub const KINDS: [Entry; 23] = [
     (
         "list * n",
         "\
@@ -16,6 +16,14 @@ count. What the lines before it gave stands on standard output.",
 CAME or LEFT, as the second word says, has a fault in the line of this number, counted from 1 in
 that list alone; empty lines and remarks count. What was found before it stands on standard output,
 without the last line.",
+    ),
+    (
+        "\
+recording Absent n
+recording Absent n came|left",
+        "\
+All frames of the recordings were judged, and what was found stands on standard output, but for the
+last line. A port that no interface stands for was counted as one that was recorded.",
     ),
     (
         "recording Lossy n",

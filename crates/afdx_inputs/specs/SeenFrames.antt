@@ -1,10 +1,17 @@
 -- What a run takes of inputs that say what came in at switches and what left them, whatever they
 -- are: two lists, one recording, or two recordings. Frames stand with the newest first.
-use Rattle.std.specs.Prelude.{ℕ, ◌≡◌, ◌≤◌, ◌+◌, List, [], ◌∷◌, ◌++◌, length, Option, Some, None, Result, Ok, Err}
+use Rattle.std.specs.Prelude.{ℕ, ◌≡◌, ◌≤◌, ◌+◌, List, [], ◌∷◌, ◌++◌, length, Option, Some, None, option_map, Result, Ok, Err}
+use Rattle.std.specs.Option.{option_or}
 use Rattle.afdx_frame.specs.Times.{latest_listed}
 use Rattle.afdx_lists.specs.Lines.{lines_of, most_reads}
 use Rattle.afdx_lists.specs.Watching.{calls_of, device_of}
+use Rattle.afdx_lists.specs.Faults.{fault_of_role}
 use Rattle.afdx_lists.specs.declared.fault.RunFault.{RunFault}
+use Rattle.afdx_lists.specs.declared.fault.RunFault.TheVariants.{Recording}
+use Rattle.afdx_lists.specs.declared.recording_fault.RecordingFault.{RecordingFault}
+use Rattle.afdx_lists.specs.declared.recording_fault.RecordingFault.TheVariants.{Absent}
+use Rattle.afdx_lists.specs.declared.role.Role.{Role}
+use Rattle.afdx_lists.specs.declared.role.Role.TheVariants.{Came, Left}
 use Rattle.afdx_lists.specs.declared.role.ByRole.{ByRole}
 use Rattle.afdx_lists.specs.declared.watched.Watched.{Watched}
 use Rattle.afdx_engine.specs.Causes.{Cause, cause_of, FailedRead, BadInput}
@@ -16,6 +23,7 @@ use Rattle.afdx_recorded.specs.Places.{place_of}
 use Rattle.afdx_recorded.specs.Taking.{Taken, AreCutOff, taken_of_bytes}
 use Rattle.afdx_recorded.specs.Tapping.{Taps, taps_of, taps_of_both}
 use Rattle.afdx_recorded.specs.declared.becoming.RecordingOptions.{RecordingOptions}
+use Rattle.afdx_recorded.specs.declared.counts.Tally.{Tally}
 use Rattle.afdx_inputs.specs.Arrivals.{IsSound}
 use Rattle.afdx_inputs.specs.Joining.{Coming, Frame, joined, joined_as}
 use Rattle.afdx_inputs.specs.RecordingRun.{IsAskedOnce}
@@ -138,6 +146,20 @@ unfoldable pub lost_of : SeenCount → ℕ
 lost_of (count.Lists lines) = 0
 lost_of (count.Recorded tally) = tally.lost
 lost_of (count.Both tallies) = plus_lost tallies.came.lost tallies.left.lost
+
+-- ---- an interface that options name and a recording never described: the least
+
+abbrev pub absent_by : (RecordingFault → RunFault) → Tally → Option RunFault
+absent_by in_recording tally = option_map (λ k. in_recording (Absent k)) tally.absent
+
+abbrev pub absent_in : Role → Tally → Option RunFault
+absent_in role tally = absent_by (fault_of_role role) tally
+
+unfoldable pub absent_of : SeenCount → Option RunFault
+absent_of (count.Lists lines) = None
+absent_of (count.Recorded tally) = absent_by Recording tally
+absent_of (count.Both tallies) =
+    option_or (absent_in Came tallies.came) (absent_in Left tallies.left)
 
 -- ---- of all frames that a run takes
 

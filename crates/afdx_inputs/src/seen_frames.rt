@@ -4,7 +4,8 @@ ghost use Rattle.std.specs.Prelude.{◌≡◌, ◌⊎◌, [], ℕ, List, Option,
 ghost use Rattle.afdx_engine.specs.Engine.{CanAll, Item};
 ghost use Rattle.afdx_inputs.specs.Arrivals.{By};
 ghost use Rattle.afdx_inputs.specs.Joining.{Frame, frames_of};
-ghost use Rattle.afdx_inputs.specs.SeenFrames.{GoOn, lost_of};
+ghost use Rattle.afdx_inputs.specs.SeenFrames as spec;
+ghost use Rattle.afdx_inputs.specs.SeenFrames.{GoOn, absent_of, lost_of};
 ghost use Rattle.afdx_inputs.specs.declared.seen.Seen.{Seen as Passed};
 ghost use Rattle.afdx_inputs.specs.declared.seen_frames.SeenCount.{SeenCount as Counted};
 ghost use Rattle.afdx_lists.specs.Calls.{is_failed_read, is_failed_write};
@@ -19,7 +20,7 @@ use crate::seen::Seen;
 use crate::seen_run::{run_seen, run_seen_by_role};
 use crate::two_lists_run::run_two_lists;
 use afdx_engine::Machine;
-use afdx_lists::{ByRole, RunFault, Watched};
+use afdx_lists::{ByRole, RecordingFault, Role, RunFault, Watched};
 use afdx_recorded::{RecordingOptions, Tally, Taps, UnsaidPort};
 use afdx_text::Sink;
 use std::alloc::Global;
@@ -47,6 +48,38 @@ impl SeenCount {
             SeenCount::Recorded(tally) => tally.lost,
             SeenCount::Both(tallies) => tallies.came.lost.saturating_add(tallies.left.lost),
         }
+    }
+
+    /// The fault of the least interface that options name and that a recording never described; of
+    /// two recordings that of what came in before that of what left. Of lists None.
+    #[tactic(auto, unfolding(crate::specs::SeenFrames::absent_of))]
+    pub fn absent(&self) -> Option<RunFault>
+        ensures { result ≡ absent_of self.now }
+    {
+        match self {
+            SeenCount::Lists(_) => None,
+            SeenCount::Recorded(tally) => match tally.absent {
+                Some(interface) => {
+                    let fault = RecordingFault::Absent(interface);
+                    Some(RunFault::Recording(fault))
+                }
+                None => None,
+            },
+            SeenCount::Both(tallies) => match absent_in(Role::Came, &tallies.came) {
+                Some(fault) => Some(fault),
+                None => absent_in(Role::Left, &tallies.left),
+            },
+        }
+    }
+}
+
+/// The fault of the recording of this role, if it never described an interface of its options.
+fn absent_in(role: Role, tally: &Tally) -> Option<RunFault>
+    ensures { result ≡ spec.absent_in role tally.now }
+{
+    match tally.absent {
+        Some(interface) => Some(RunFault::of_role(role, RecordingFault::Absent(interface))),
+        None => None,
     }
 }
 

@@ -22,4 +22,5 @@ TheRecordingForms = recording_forms
     ∷ codes "recording Damaged n" ∷ codes "recording Ended n" ∷ codes "recording NoArrival n"
     ∷ codes "recording NotEthernet n" ∷ codes "recording NoTime n" ∷ codes "recording BadTime n"
     ∷ codes "recording Cut n" ∷ codes "recording FcsUnclear n" ∷ codes "recording TimeBack n"
-    ∷ codes "recording TimeTooLarge n" ∷ codes "recording Packed" ∷ codes "recording Lossy n" ∷ []
+    ∷ codes "recording TimeTooLarge n" ∷ codes "recording Packed" ∷ codes "recording Absent n"
+    ∷ codes "recording Lossy n" ∷ []

@@ -48,6 +48,9 @@ pub enum RecordingFault {
     /// It begins as a packed file does.
     #[error("recording Packed")]
     Packed,
+    /// It never described the interface of this number, of which an option speaks.
+    #[error("recording Absent {0}")]
+    Absent(u64),
     /// The recorder lost so many frames, by its own word.
     #[error("recording Lossy {0}")]
     Lossy(u64),
@@ -55,7 +58,7 @@ pub enum RecordingFault {
 
 /// Each fault of a recording, in the order of `RecordingFault`: the form of its line (`n` is the
 /// number of a frame, or a count), and what it means, with what may be done.
-pub const RECORDING_FAULTS: [(&str, &str); 14] = [
+pub const RECORDING_FAULTS: [(&str, &str); 15] = [
     (
         "recording NotRecording n",
         "\
@@ -144,6 +147,13 @@ The input isn't read: its first four bytes are those of a packed file: gzip, zst
 zip. Unpack it on the way, with - in the place of FILE: zcat FILE | afdx .. -
 So do zstdcat, bzcat and xzcat, and unzip -p for zip. Of two inputs, A or B, or came or left,
 behind the word says which, and one alone may be -.",
+    ),
+    (
+        "recording Absent n",
+        "\
+An option speaks of interface n, and the recording has none of that number: it stands for what no
+recorder saw. Count the interfaces from 0, as Wireshark does, anew in each file: capinfos IN lists
+them. A pcap has interface 0 alone. Of two recordings, came or left behind the number says which.",
     ),
     (
         "recording Lossy n",

@@ -41,15 +41,19 @@ fn a_recorded_frame_is_an_arrival(rt: HostRuntime) -> Result<(), Fail> {
     equal(arrival(rt.alloc())?, Some((Side::A, 1, 1_000)))
 }
 
-/// How many of two interfaces of which something is said aren't among so many.
-fn unused(alloc: Global) -> Result<[u64; 3], AllocError> {
+/// How many of two interfaces of which something is said aren't among so many, and the least.
+type Unused = ([u64; 3], [Option<u16>; 3]);
+
+fn unused(alloc: Global) -> Result<Unused, AllocError> {
     let mut interfaces = Interfaces::new(alloc)?;
     interfaces.put(2, Place::LeftOut);
     interfaces.put(3, Place::OnSide(Side::A));
-    Ok([2, 3, 4].map(|count| interfaces.unused(count)))
+    let counts = [2, 3, 4];
+    let least = counts.map(|count| interfaces.first_unused(count));
+    Ok((counts.map(|count| interfaces.unused(count)), least))
 }
 
 #[test]
 fn interfaces_that_arent_there_are_unused(rt: HostRuntime) -> Result<(), Fail> {
-    equal(unused(rt.alloc())?, [2, 1, 0])
+    equal(unused(rt.alloc())?, ([2, 1, 0], [Some(2), Some(3), None]))
 }

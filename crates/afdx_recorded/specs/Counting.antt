@@ -1,5 +1,6 @@
 -- How many numbers of a recording were skipped, and why.
 use Rattle.std.specs.Prelude.{ℕ, ◌+◌, ◌≤◌, Bool, if◌then◌else◌}
+use Rattle.std.specs.Option.{option_or}
 use Rattle.afdx_recordings.specs.Limits.{most_interfaces}
 use Rattle.afdx_recordings.specs.Recordings.{most_numbers, plus_lost}
 use Rattle.afdx_recorded.specs.declared.counts.Counts.{Counts}
@@ -85,4 +86,5 @@ plus_tally a b = record {
   counts = plus_counts a.counts b.counts;
   lost = plus_lost a.lost b.lost;
   unused = a.unused + b.unused;
+  absent = option_or a.absent b.absent;
 }

@@ -13,7 +13,7 @@ use Rattle.afdx_recorded.specs.declared.ordered.Stage.TheVariants.{Reading}
 use Rattle.afdx_recorded.specs.declared.read_recording.ReadRecording.{ReadRecording}
 use Rattle.afdx_recorded.specs.Counting.{no_counts}
 use Rattle.afdx_recorded.specs.OrderedSource.{given_in_order, HasOrdered, HasOrderedAll, HasStoppedOrdering}
-use Rattle.afdx_recorded.specs.RecordingSource.{given, unused_of, HasRead, HasReadAll, HasStoppedReading}
+use Rattle.afdx_recorded.specs.RecordingSource.{given, first_unused_of, unused_of, HasRead, HasReadAll, HasStoppedReading}
 use Rattle.afdx_recorded.specs.Sequences.{Numbers}
 
 abbrev pub OrderedRecording : Type 0
@@ -45,6 +45,7 @@ tally_of_source source = record {
   counts = source.source.counts;
   lost = (totals_by (state_of source.source.reader)).lost;
   unused = unused_of source.source;
+  absent = first_unused_of source.source;
 }
 
 -- ---- from call to call

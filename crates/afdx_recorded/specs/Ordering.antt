@@ -9,7 +9,7 @@ use Rattle.afdx_recorded.specs.declared.counts.Tally.{Tally}
 use Rattle.afdx_recorded.specs.declared.places.Place.{Place}
 use Rattle.afdx_recorded.specs.Becoming.{Options}
 use Rattle.afdx_recorded.specs.Claims.{Ports}
-use Rattle.afdx_recorded.specs.Places.{unused_behind}
+use Rattle.afdx_recorded.specs.Places.{first_unused_behind, unused_behind}
 use Rattle.afdx_recorded.specs.Sequences.{Numbers, Outcome, as_read, counts_of, is_arrival, moment_or}
 
 -- the moment of an arrival
@@ -98,6 +98,7 @@ tally_of place outcome = record {
   counts = counts_of outcome.numbers;
   lost = outcome.totals.lost;
   unused = unused_behind outcome.totals.interfaces place;
+  absent = first_unused_behind outcome.totals.interfaces place;
 }
 
 abbrev pub ending_or : Option ℕ → Ending → Ending

@@ -1,7 +1,7 @@
 -- Where the frames of each interface came in, or left, where that is said.
 use Rattle.std.specs.Prelude.{List, map, string_bytes}
 use Rattle.std.specs.Prelude.{ℕ, ◌-◌, Bool, true, false, ◌==◌, count_by, Option, Some, None, is_some, slice_get, if◌then◌else◌}
-use Rattle.std.specs.List.{range_with_len}
+use Rattle.std.specs.List.{find, range_with_len}
 use Rattle.afdx_frame.specs.declared.link.Side.{Side}
 pub use Rattle.afdx_recordings.specs.Limits.{most_interfaces}
 use Rattle.afdx_lists.specs.declared.role.Role.{Role}
@@ -30,6 +30,11 @@ places_but places interface place k = if k == interface then Some place else pla
 unfoldable pub unused_behind : (count : ℕ) → (ℕ → Option Place) → ℕ
 unused_behind count places =
     count_by (λ k. is_some (places k)) (range_with_len count (most_interfaces - count))
+
+-- the least of them
+unfoldable pub first_unused_behind : (count : ℕ) → (ℕ → Option Place) → Option ℕ
+first_unused_behind count places =
+    find (λ k. is_some (places k)) (range_with_len count (most_interfaces - count))
 
 -- its frames are left out; so are those of an interface of which nothing is said, if that is
 abbrev pub is_left_out : (leaves_unsaid : Bool) → Option Place → Bool

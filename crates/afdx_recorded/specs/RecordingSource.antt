@@ -21,7 +21,7 @@ use Rattle.afdx_recorded.specs.declared.read_recording.ReadRecording.{ReadRecord
 use Rattle.afdx_recorded.specs.Becoming.{Options, options_of, first_bytes}
 use Rattle.afdx_recorded.specs.Claims.{Ports, ports_of}
 use Rattle.afdx_recorded.specs.Counting.{count_one}
-use Rattle.afdx_recorded.specs.Places.{place_of, unused_behind}
+use Rattle.afdx_recorded.specs.Places.{first_unused_behind, place_of, unused_behind}
 use Rattle.afdx_recorded.specs.Sequences.{Numbers, counts_of, has_arrival, is_arrival}
 use Rattle.afdx_recorded.specs.Sequences.{number_after, numbers_read, as_read, read_from}
 
@@ -50,6 +50,12 @@ pub record RemembersOne (old new : ReadRecording) : Type 0 where
 abbrev pub unused_of : ReadRecording → ℕ
 unused_of source =
     unused_behind (totals_by (state_of source.reader)).interfaces
+    (place_of source.options.interfaces)
+
+-- the least of them
+abbrev pub first_unused_of : ReadRecording → Option ℕ
+first_unused_of source =
+    first_unused_behind (totals_by (state_of source.reader)).interfaces
     (place_of source.options.interfaces)
 
 -- the answer behind the last of n numbers

@@ -128,12 +128,14 @@ pub struct Tally {
     pub lost: u64,
     /// Interfaces that options name and the recording doesn't have.
     pub unused: u64,
+    /// The least of them.
+    pub absent: Option<u64>,
 }
 
 impl Tally {
     ghost use Rattle.afdx_recorded.specs.Counting.{plus_tally};
 
-    /// That of two recordings.
+    /// That of two recordings; of the interfaces the first one's least, if it has one.
     pub fn plus(&self, other: &Tally) -> Tally
         requires numbers { IsFew self.now }
         requires others { IsFew other.now }
@@ -144,6 +146,7 @@ impl Tally {
             counts: self.counts.plus(&other.counts),
             lost: self.lost.saturating_add(other.lost),
             unused: self.unused + other.unused,
+            absent: self.absent.or(other.absent),
         }
     }
 }

@@ -50,7 +50,8 @@ pub struct Interfaces {
 
 impl Interfaces {
     ghost use Rattle.std.specs.Prelude.{◌++◌, ◌∷◌, [], string_bytes, List};
-    ghost use Rattle.afdx_recorded.specs.Places.{names_of, place_of, places_but, unused_behind};
+    ghost use Rattle.afdx_recorded.specs.Places.{first_unused_behind, names_of, place_of};
+    ghost use Rattle.afdx_recorded.specs.Places.{places_but, unused_behind};
     ghost use Rattle.afdx_recorded.specs.Placing.{AreMisplaced, ArePlaced};
 
     /// Nothing is said of any interface.
@@ -87,6 +88,18 @@ impl Interfaces {
             }
         }
         unused
+    }
+
+    /// The least of them.
+    pub fn first_unused(&self, count: usize) -> Option<u64>
+        ensures { result ≡ first_unused_behind count (place_of self.now) }
+    {
+        for number in count..MOST_INTERFACES {
+            if self.place(number as u16).is_some() {
+                return Some(number as u64);
+            }
+        }
+        None
     }
 
     /// Says where the frames of this interface came in, or left, in the place of what was said

@@ -77,18 +77,23 @@ impl ReadRecording {
 
     /// How many numbers were read, how many of them were skipped, and why, how many arrivals are
     /// claimed and contradicted, how many frames the recorder lost so far, by its own word, and how
-    /// many interfaces the options name that weren't described so far.
+    /// many interfaces the options name that weren't described so far, and the least of these.
     pub fn tally(&self) -> Tally
         ensures numbers { result.numbers ≡ self.now.numbers }
         ensures counts { result.counts ≡ self.now.counts }
         ensures lost { result.lost ≡ (totals_by (state_of self.now.reader)).lost }
         ensures unused { result.unused ≡ source.unused_of self.now }
+        ensures absent { result.absent ≡ source.first_unused_of self.now }
     {
         Tally {
             numbers: self.numbers,
             counts: self.counts,
             lost: self.reader.lost(),
             unused: self.options.interfaces.unused(self.reader.interfaces()),
+            absent: self
+                .options
+                .interfaces
+                .first_unused(self.reader.interfaces()),
         }
     }
 

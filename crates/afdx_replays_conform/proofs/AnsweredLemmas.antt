@@ -1,5 +1,5 @@
 -- What is answered of a replay's own frames.
-use Rattle.std.proofs.Common.{◌≡◌, ◌<◌, List, [], ◌∷◌, length, refl, sym, subst, arith}
+use Rattle.std.proofs.Common.{◌≡◌, ◌<◌, List, [], ◌∷◌, length, refl, sym, subst, arith, true≢false, ◌∙◌}
 use Rattle.afdx_config.specs.Lawful.{IsLawfulSwitch}
 use Rattle.afdx_config.specs.Rows.{Rows}
 use Rattle.afdx_inputs.specs.Joining.{Frame}
@@ -12,7 +12,7 @@ use Rattle.afdx_cascade.specs.SwitchEvents.{came_to}
 use Rattle.afdx_acceptance.specs.Choices.{Choices, until_or}
 use Rattle.afdx_acceptance.specs.Lines.{Due}
 use Rattle.afdx_acceptance.specs.RunLaws.{ConformsIsTheHeadline, IsExactBy, RightConforms}
-use Rattle.afdx_acceptance.specs.VerdictLaws.{ExactConforms, IsRun, RightNeverDeviates, SomeLeft, answered}
+use Rattle.afdx_acceptance.specs.VerdictLaws.{ExactConforms, IsExercised, IsRun, RightNeverDeviates, SomeLeft, answered}
 use Rattle.afdx_text.specs.declared.conform_line.Answer.TheVariants.{Conforms}
 use Rattle.afdx_replays_conform.specs.Laws.{AreLinesOf, IsAnswered, IsPlain, PromisedIsAnswered, ReplaysAreAnswered, SwitchesAreAnswered}
 use Rattle.afdx_replays_conform.specs.Recorded.{AreRecorded}
@@ -31,12 +31,14 @@ module _ (right : RightConforms) (never : RightNeverDeviates) (headline : Confor
     run : IsRun (t, c) frames lines
     run = record { lawful = lawful; by_time = are.recorded.by_time; are_lines = are.are_lines }
 
-    exact-answer : IsExactBy c.by → SomeLeft (t, c) frames → answered (t, c) frames lines ≡ Conforms
-    exact-answer exact some =
+    exact-answer : IsExactBy c.by → SomeLeft (t, c) frames → IsExercised (t, c) frames lines
+        → answered (t, c) frames lines ≡ Conforms
+    exact-answer exact some exercised =
         (exactly (t, c) frames lines exact run).1 (
           some,
           (headline t c frames lines lawful are.recorded.by_time exact are.are_lines).found.0
               (promised-conforms right t c arrivals left frames lines lawful timed promised are),
+          exercised,
         )
 
     some-left : (ds : List Leaving) → left ≡ ds → 0 < length ds → IsPlain c → SomeLeft (t, c) frames
@@ -49,7 +51,8 @@ module _ (right : RightConforms) (never : RightNeverDeviates) (headline : Confor
     is-answered =
         let drift = are.leeway.drift in
         record {
-          plain = λ plain some. exact-answer plain.exact (some-left left refl some plain);
+          plain = λ plain some. exact-answer plain.exact (some-left left refl some plain)
+              (λ is. absurd (true≢false (sym is ∙ plain.exercised)));
           exact = exact-answer;
           never = λ findings e. never (t, c) frames lines findings (omega (arith, drift)) run
               (are-right t c (until_or c.until frames) lawful arrivals timed left promised frames are.recorded

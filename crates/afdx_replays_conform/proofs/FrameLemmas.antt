@@ -21,9 +21,10 @@ use Rattle.afdx_conform.specs.LimitRanges.{most_bytes}
 use Rattle.afdx_conform.specs.Streams.{Gone}
 use Rattle.afdx_conform.proofs.EveryLemmas.{every-on}
 use Rattle.afdx_acceptance.specs.Choices.{Choices, is_in_time, is_left_out, is_passed, is_same_link, counts, latest_of}
-use Rattle.afdx_acceptance.specs.Frames.{arrivals_of, frames_of, is_arrival_of, left_at, gone_of, is_stranger}
+use Rattle.afdx_acceptance.specs.Frames.{arrivals_of, frames_of, is_arrival_of, left_at, gone_of}
 use Rattle.afdx_acceptance.specs.RunLaws.{AreByTime}
-use Rattle.afdx_acceptance.specs.Tapped.{Taps, is_of_came, place_named, link_to, is_judged, is_unheard, judged_to}
+use Rattle.afdx_acceptance.specs.Tapped.{Taps, is_heard_at, is_of_came, place_named, link_to, is_judged, is_unheard, judged_to}
+use Rattle.afdx_acceptance.proofs.StrangerLemmas.{heard-at, heard-counts}
 use Rattle.afdx_replays_conform.specs.Recorded.{came_among, left_among, AreRecordsOf}
 use Rattle.afdx_replays_conform.proofs.ListLemmas.{filter-same, filter-twice, Descend, descend-filter, descend-map, and-false}
 use Rattle.afdx_replays_conform.proofs.PromisedLemmas.{AreGone}
@@ -129,10 +130,6 @@ module _ (t : Rows) (lawful : IsLawfulSwitch t) (place : ℕ) (l : LinkRow) (at 
   unfolding link_to
   link-to-is port goes = rw (at, goes) refl
 
-  pub none-strange : (x : Arrival) → names l.vl x.bytes ≡ true → goes_to t l x.port ≡ true → is_stranger t x ≡ false
-  unfolding is_stranger
-  none-strange x named goes = rw (place-named-is x.bytes named, link-to-is x.port goes) refl
-
 -- ---- a stream that is judged
 
 pub record IsJudgedOf (t : Rows) (taps : Taps) (side : Side) (place port : ℕ) (l : LinkRow) : Type 0 where
@@ -195,10 +192,11 @@ module _ (t : Rows) (c : Choices) (lawful : IsLawfulSwitch t) (side : Side) (pla
 
   left-heard : (x : Arrival) → is_side x.side side ≡ true → names l.vl x.bytes ≡ true
       → is_unheard t c.taps (frame_as Left x) ≡ false
-  unfolding is_unheard
   left-heard x here named =
       let same : x.side ≡ side = side-here x.side side here in
-      rw (same, place-named-is t lawful place l is.stands x.bytes named, is.stands, is.heard) refl
+      heard-counts t c.taps (frame_as Left x) (ap (λ o. is_heard_at t c.taps x.side o)
+      (place-named-is t lawful place l is.stands x.bytes named)
+      ∙ ap (λ d. is_heard_at t c.taps d (Some place)) same ∙ heard-at t c.taps side place l is.stands ∙ is.heard)
 
   or-false : (a b : Bool) → b ≡ false → (a || b) ≡ a
   or-false true b e = refl

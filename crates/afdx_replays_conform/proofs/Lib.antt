@@ -6,6 +6,7 @@ pub mod PromisedLemmas
 pub mod FrameLemmas
 pub mod TimeLemmas
 pub mod NumberLemmas
+pub mod UndamagedLemmas
 pub mod StreamLemmas
 pub mod ConformLemmas
 pub mod JoinedLemmas

@@ -25,20 +25,21 @@ use Rattle.afdx_conform.specs.LimitRanges.{most_bytes}
 use Rattle.afdx_conform.specs.Right.{Asked, IsRight}
 use Rattle.afdx_conform.specs.Streams.{Gone, Terms}
 use Rattle.afdx_conform.proofs.CutLemmas.{right_cut}
-use Rattle.afdx_conform.proofs.EveryLemmas.{every-unmap}
+use Rattle.afdx_conform.proofs.EveryLemmas.{every-on, every-unmap}
 use Rattle.afdx_acceptance.specs.Choices.{Choices, is_behind, is_in_time, counts, counted}
 use Rattle.afdx_acceptance.specs.Frames.{arrivals_of, frames_of, gone_of, left_at, strangers_of, is_stranger, terms_at}
 use Rattle.afdx_acceptance.specs.RunLaws.{IsOfRight, AreOfRight}
-use Rattle.afdx_acceptance.specs.Tapped.{judged_to, is_of_came}
+use Rattle.afdx_acceptance.specs.Tapped.{judged_to, is_damaged, is_of_came}
 use Rattle.afdx_replays_conform.specs.Leaving.{LeavesAsPromised, LeaveAsPromised}
 use Rattle.afdx_replays_conform.specs.Recorded.{AreRecorded, AreRecordsOf, AreSameArrivals, came_among, left_among}
 use Rattle.afdx_replays_conform.proofs.AskedLemmas.{ask, asks}
-use Rattle.afdx_replays_conform.proofs.FrameLemmas.{IsJudgedOf, judged-of, leaves_out, came-passed, left-passed, asks_of, came_of, arrivals-are, left_here, all_gone, frames-are, gone-are, left-descend, side-here, none-strange}
+use Rattle.afdx_replays_conform.proofs.FrameLemmas.{IsJudgedOf, judged-of, leaves_out, came-passed, left-passed, asks_of, came_of, arrivals-are, left_here, all_gone, frames-are, gone-are, left-descend, side-here, link-to-is, place-named-is}
 use Rattle.afdx_replays_conform.proofs.LeavingLemmas.{is_seen, stream-right}
 use Rattle.afdx_replays_conform.proofs.ListLemmas.{filter-same, filter-map, filter-none, filter-keeps, filter-passes, both-hold, Descend, descend-filter, descend-map, bool-cases, and-false}
 use Rattle.afdx_replays_conform.proofs.TimeLemmas.{accepted-shape, behind-end, frames-up, later-ends, own-go, short-frames, timed-go}
 use Rattle.afdx_replays_conform.proofs.NumberLemmas.{numbered-as, same-accepted, same-frames, same-go, same-own}
 use Rattle.afdx_replays_conform.proofs.PromisedLemmas.{stream-frames}
+use Rattle.afdx_replays_conform.proofs.UndamagedLemmas.{all-undamaged, counted-none}
 
 module _ (t : Rows) (c : Choices) (until : ℕ) (lawful : IsLawfulSwitch t) (original : List Arrival)
     (left : List Leaving) (promised : LeaveAsPromised t original left) (frames : List Frame)
@@ -266,46 +267,67 @@ module _ (t : Rows) (c : Choices) (until : ℕ) (lawful : IsLawfulSwitch t) (ori
 
   -- ---- no frame is of no stream
 
-  strange-none : (ds : List Leaving) (ys : List Arrival) → AllByRecursion (LeavesAsPromised t) ds → AreRecordsOf ds ys
-      → AllByRecursion (λ y. is_stranger t y ≡ false) ys
+  -- of one that left and counts
+  abbrev IsOwn : Arrival → Type 0
+  IsOwn y = counts t c (record { role = Left; arrival = y }) ≡ true → is_stranger t c.taps y ≡ false
+
+  abbrev IsNotStrange : Side → ℕ → Frame → Type 0
+  IsNotStrange side port x = (left_at side port x && is_stranger t c.taps x.arrival) ≡ false
+
+  strange-none : (ds : List Leaving) (ys : List Arrival) → AllByRecursion (LeavesAsPromised t) ds
+      → AllByRecursion (λ d. is_damaged d.frame.bytes ≡ false) ds → AreRecordsOf ds ys → AllByRecursion IsOwn ys
   unfolding AreRecordsOf
-  strange-none [] [] all are = tt
-  strange-none [] (y ∷ ys) all are = absurd are
-  strange-none (d ∷ ds) [] all are = tt
-  strange-none (d ∷ ds) (y ∷ ys) all are =
+  strange-none [] [] all whole are = tt
+  strange-none [] (y ∷ ys) all whole are = absurd are
+  strange-none (d ∷ ds) [] all whole are = tt
+  strange-none (d ∷ ds) (y ∷ ys) all whole are =
       let at = all.0 in
       let named : names at.link.vl y.bytes ≡ true = ap (λ (b : List ℕ). names at.link.vl b) are.0.bytes ∙ at.named in
       let goes : goes_to t at.link y.port ≡ true = ap (λ (n : ℕ). goes_to t at.link n) are.0.port ∙ at.goes in
-      (none-strange t lawful at.place at.link at.stands y named goes, strange-none ds ys all.1 are.1)
+      (
+        counted-none t c y at.place at.link (place-named-is t lawful at.place at.link at.stands y.bytes named)
+            (link-to-is t lawful at.place at.link at.stands y.port goes)
+            (ap (λ (b : List ℕ). is_damaged b) are.0.bytes ∙ whole.0),
+        strange-none ds ys all.1 whole.1 are.1,
+      )
 
   strange-frames : (side : Side) (port : ℕ) (fs : List Frame)
-      → AllByRecursion (λ y. is_stranger t y ≡ false) (left_among fs)
-      → AllByRecursion (λ x. (left_at side port x && is_stranger t x.arrival) ≡ false) fs
+      → AllByRecursion IsOwn (left_among fs)
+      → AllByRecursion (λ x. counts t c x ≡ true → IsNotStrange side port x) fs
   unfolding left_at
   strange-frames side port [] all = tt
   strange-frames side port (x ∷ fs) all = by x.role x.arrival all (λ rest. strange-frames side port fs rest)
     where
       by : (role : Role) (a : Arrival)
-          → AllByRecursion (λ y. is_stranger t y ≡ false)
+          → AllByRecursion IsOwn
           (map (λ x. x.arrival) (if not (is_of_came role)
           then record { role = role; arrival = a } ∷ filter (λ x. not (is_of_came x.role)) fs
           else filter (λ x. not (is_of_came x.role)) fs))
-          → (AllByRecursion (λ y. is_stranger t y ≡ false) (left_among fs)
-          → AllByRecursion (λ x. (left_at side port x && is_stranger t x.arrival) ≡ false) fs)
-          → AllByRecursion (λ x. (left_at side port x && is_stranger t x.arrival) ≡ false)
+          → (AllByRecursion IsOwn (left_among fs)
+          → AllByRecursion (λ x. counts t c x ≡ true → IsNotStrange side port x) fs)
+          → AllByRecursion (λ x. counts t c x ≡ true → IsNotStrange side port x)
           (record { role = role; arrival = a } ∷ fs)
-      by Came a all later = (refl, later all)
-      by Left a all later =
-          (rw all.0 (and-false ((is_side a.side side) && nat_eq a.port port)), later all.1)
+      by Came a all later = (λ e. refl, later all)
+      by Left a all later = (
+        λ e. ap (λ b. is_side a.side side && nat_eq a.port port && b) (all.0 e)
+            ∙ and-false (is_side a.side side && nat_eq a.port port),
+        later all.1,
+      )
 
   no-strangers : (side : Side) (port : ℕ) → strangers_of t c side port frames ≡ []
   no-strangers side port =
       ap (λ (fs : List Frame). map (λ x. x.arrival) fs)
-      (filter-none (λ x. left_at side port x && is_stranger t x.arrival) (counted t c frames)
-      (filter-keeps (λ (x : Frame). (left_at side port x && is_stranger t x.arrival) ≡ false) (counts t c) frames
+      (filter-none (λ x. left_at side port x && is_stranger t c.taps x.arrival) (counted t c frames)
+      (every-on (λ x. (counts t c x ≡ true → IsNotStrange side port x) × (counts t c x ≡ true)) (IsNotStrange side port)
+      (λ x h. h.0 h.1) (counted t c frames)
+      (both-hold (λ x. counts t c x ≡ true → IsNotStrange side port x) (λ x. counts t c x ≡ true) (counted t c frames)
+      (filter-keeps (λ x. counts t c x ≡ true → IsNotStrange side port x) (counts t c) frames
       (strange-frames side port frames
       (strange-none (filter (λ d. c.taps Left d.side d.port) left) (left_among frames)
-      (filter-keeps (LeavesAsPromised t) (λ d. c.taps Left d.side d.port) left promised.each) recorded.left_are))))
+      (filter-keeps (LeavesAsPromised t) (λ d. c.taps Left d.side d.port) left promised.each)
+      (filter-keeps (λ d. is_damaged d.frame.bytes ≡ false) (λ d. c.taps Left d.side d.port) left
+      (all-undamaged t lawful original left promised)) recorded.left_are)))
+      (filter-passes (counts t c) frames))))
 
   -- what is recorded is of a right switch
   all-right : AreOfRight t c until frames

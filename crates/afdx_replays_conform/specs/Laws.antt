@@ -23,7 +23,7 @@ use Rattle.afdx_acceptance.specs.Choices.{Choices, until_or}
 use Rattle.afdx_acceptance.specs.Lines.{AreLines, Due}
 use Rattle.afdx_acceptance.specs.RunLaws.{AreOfRight, IsExactBy, NothingIsFound}
 use Rattle.afdx_acceptance.specs.Tapped.{all_taps}
-use Rattle.afdx_acceptance.specs.VerdictLaws.{SomeLeft, answered}
+use Rattle.afdx_acceptance.specs.VerdictLaws.{IsExercised, SomeLeft, answered}
 use Rattle.afdx_replays_conform.specs.Leaving.{LeaveAsPromised}
 use Rattle.afdx_replays_conform.specs.Recorded.{AreRecorded, AreRecordsOf, AreSameArrivals, LeaveInOrder, both_lists}
 
@@ -100,18 +100,20 @@ ReplaysConformExactly =
 -- ---- what is answered
 
 -- stamps and clocks are exact, the switch was reset before, and nothing is passed over: neither
--- what came or left before or behind some time, nor a link, nor a port
+-- what came or left before or behind some time, nor a link, nor a port; idle streams don't matter
 pub record IsPlain (c : Choices) : Type 0 where
   pub exact : IsExactBy c.by
   pub until : c.until ≡ None
   pub left_out : c.left_out ≡ []
   pub taps : (role : Role) (side : Side) (port : ℕ) → c.taps role side port ≡ true
+  pub exercised : c.exercised ≡ false
 
 -- then it conforms, if a frame left; whatever is asked, it never deviates
 pub record IsAnswered (t : Rows) (c : Choices) (left : List Leaving) (frames : List Frame)
     (lines : List Due) : Type 0 where
   pub plain : IsPlain c → 0 < length left → answered (t, c) frames lines ≡ Conforms
-  pub exact : IsExactBy c.by → SomeLeft (t, c) frames → answered (t, c) frames lines ≡ Conforms
+  pub exact : IsExactBy c.by → SomeLeft (t, c) frames → IsExercised (t, c) frames lines →
+      answered (t, c) frames lines ≡ Conforms
   pub never : (findings : ℕ) → answered (t, c) frames lines ≡ Deviates findings → ⊥
 
 abbrev pub PromisedIsAnswered : Type 0

@@ -12,7 +12,7 @@ use std::test::Fail;
 /// The status, and what is written, of the base tables and these lists.
 fn conformed(alloc: Global, came: &str, left: &str) -> Result<(u8, ShortText), Fail> {
     let leeway = Leeway::new(0, 0, 0, 0, None).ok_or("a leeway")?;
-    let choices = Choices::new(leeway, None, Vec::new(alloc), false).ok_or("choices")?;
+    let choices = Choices::new(leeway, None, Vec::new(alloc), false, false).ok_or("choices")?;
     let (came, left) = (spelled(alloc, came)?, spelled(alloc, left)?);
     let mut inputs = ByRole {
         came: Watched::new(came.as_bytes()),
@@ -39,6 +39,6 @@ fn conformed(alloc: Global, came: &str, left: &str) -> Result<(u8, ShortText), F
 fn a_recorded_switch_is_judged(rt: HostRuntime) -> Result<(), Fail> {
     let came = "F 0 A 1 H1\nF 20000 A 1 H1\n";
     let (status, text) = conformed(rt.alloc(), came, "F 6720 A 3 H1\n")?;
-    let wanted = "conforms explained 1 open 0 uncertain 0 left-out 0 unseen 0\n";
+    let wanted = "conforms explained 1 open 0 uncertain 0 left-out 0 unseen 0 idle 3\n";
     equal((status, text.as_str()), (0, wanted))
 }

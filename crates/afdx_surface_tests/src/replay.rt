@@ -162,6 +162,7 @@ fn number_in(fault: RecordingFault) -> Option<u64> {
         RecordingFault::TimeBack(n) => Some(n),
         RecordingFault::TimeTooLarge(n) => Some(n),
         RecordingFault::Packed => None,
+        RecordingFault::Absent(n) => Some(n),
         RecordingFault::Lossy(n) => Some(n),
     }
 }

@@ -50,12 +50,12 @@ answer_text (Deviates findings) = count_text (codes "deviates ") findings
 answer_text Undecided = codes "undecided"
 
 -- the last line: the answer, and how many frames and arrivals it stands on
-abbrev pub judged_line : Answer → ℕ → ℕ → ℕ → ℕ → ℕ → List ℕ
-judged_line answer explained waiting uncertain left_out unseen =
+abbrev pub judged_line : Answer → ℕ → ℕ → ℕ → ℕ → ℕ → ℕ → List ℕ
+judged_line answer explained waiting uncertain left_out unseen idle =
     answer_text answer
     ++ count_text (codes " explained ") explained ++ count_text (codes " open ") waiting
     ++ count_text (codes " uncertain ") uncertain ++ count_text (codes " left-out ") left_out
-    ++ count_text (codes " unseen ") unseen ++ codes "\n"
+    ++ count_text (codes " unseen ") unseen ++ count_text (codes " idle ") idle ++ codes "\n"
 
 abbrev pub conform_text : ConformLine → List ℕ
 conform_text (Strange n side port why) =
@@ -69,5 +69,5 @@ conform_text (Late n side port by) =
 conform_text (Early n side port by) =
     found_text (codes "early ") n side port ++ codes " " ++ decimal by ++ codes "\n"
 conform_text (Unsure n side port) = found_text (codes "unsure ") n side port ++ codes "\n"
-conform_text (Judged answer explained waiting uncertain left_out unseen) =
-    judged_line answer explained waiting uncertain left_out unseen
+conform_text (Judged answer explained waiting uncertain left_out unseen idle) =
+    judged_line answer explained waiting uncertain left_out unseen idle

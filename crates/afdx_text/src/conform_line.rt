@@ -68,7 +68,7 @@ pub enum ConformLine {
     },
     /// The last line: the answer; the frames that are explained; the arrivals whose frames may come
     /// later; those of which both answers are right; the lines that were left out; the streams that
-    /// weren't recorded.
+    /// weren't recorded; those that were and of which nothing was shown.
     Judged {
         answer: Answer,
         explained: u64,
@@ -76,6 +76,7 @@ pub enum ConformLine {
         uncertain: u64,
         left_out: u64,
         unseen: u64,
+        idle: u64,
     },
 }
 
@@ -152,7 +153,7 @@ fn put_answer(room: &mut [u8], at: usize, answer: Answer) -> usize
     }
 }
 
-/// `VERDICT explained N open K uncertain U left-out L unseen W`.
+/// `VERDICT explained N open K uncertain U left-out L unseen W idle I`.
 #[inline(never)]
 fn put_judged(
     room: &mut [u8],
@@ -163,11 +164,13 @@ fn put_judged(
     uncertain: u64,
     left_out: u64,
     unseen: u64,
+    idle: u64,
 ) -> usize
     requires { at + 256 ≤ length room.old }
     ensures within { result ≤ at + 256 }
     ensures text { take result room.new
-        ≡ take at room.old ++ judged_line answer explained waiting uncertain left_out unseen }
+        ≡ take at room.old
+        ++ judged_line answer explained waiting uncertain left_out unseen idle }
 {
     let at = put_answer(room, at, answer);
     let at = put_count(room, at, b" explained ", explained);
@@ -175,6 +178,7 @@ fn put_judged(
     let at = put_count(room, at, b" uncertain ", uncertain);
     let at = put_count(room, at, b" left-out ", left_out);
     let at = put_count(room, at, b" unseen ", unseen);
+    let at = put_count(room, at, b" idle ", idle);
     put(room, at, b"\n")
 }
 
@@ -224,8 +228,9 @@ impl ConformLine {
                 uncertain,
                 left_out,
                 unseen,
+                idle,
             } => put_judged(
-                room, at, answer, explained, waiting, uncertain, left_out, unseen,
+                room, at, answer, explained, waiting, uncertain, left_out, unseen, idle,
             ),
         }
     }

@@ -34,7 +34,8 @@ The last line begins with one of these, of which each has a status of its own:
 
   conforms    0  each frame that left is explained, each that had to leave did
   deviates D  5  there are D lines of what was wrong
-  undecided   3  nothing was wrong, but no frame is explained, or a line is 'unsure'
+  undecided   3  nothing was wrong, but no frame is explained, or a line is 'unsure';
+                 with --exercised also if a link at an output port is idle
 
 Behind it stands how much that says:
 
@@ -43,6 +44,7 @@ Behind it stands how much that says:
   uncertain U    arrivals that may pass and may be dropped, by the options
   left-out L     lines and frames that were passed over
   unseen W       links at output ports that weren't recorded
+  idle I         of those that were, the ones of which nothing was shown
 
 Without options the stamps are exact, and both switches were reset before the first
 line. It is never said of a right switch that it deviates, if stamps and clocks differ
@@ -52,8 +54,10 @@ One input, or one of --interface, --left, --fcs, --stamps, --reorder and --lossy
 that each input is a recording. Of one input --interface and --left name interfaces of
 it, of two those of CAME and those of LEFT. What others recorded is left out. Only links
 of which the sender's port and an output port were recorded are judged there. Time 0 is
-the moment of the first frame. Where a recorder lost N frames by its own word, the last
-line doesn't come, and the fault is 'recording Lossy N', unless --lossy is given.
+the moment of the first frame. The last line doesn't come where a recording has no
+interface K of --interface or --left: the fault is 'recording Absent K'. Nor does it
+where a recorder lost N frames by its own word: 'recording Lossy N', unless --lossy is
+given.
 
 CONFIG may describe several switches a side. --switch names the one that is judged;
 CAME then has all that came to it, from its systems and by its cables, and each
@@ -92,6 +96,9 @@ over; else the greatest time of all lines";
 
 const LEAVE_OUT_HELP: &str = "The link, 0 to 65535, whose frames are passed over, or 'other' for \
 frames that name no link; may be given again";
+
+const EXERCISED_HELP: &str = "Says 'undecided' if of a link at an output port that was recorded \
+no frame is explained";
 
 const SWITCH_HELP: &str = "The name of the switch that is judged, where CONFIG describes several \
 a side";
@@ -154,6 +161,7 @@ pub fn conform_command<'a>(alloc: Global) -> Result<Command<'a>, AllocError> {
         time_option(alloc, "from", FROM_HELP),
         time_option(alloc, "until", UNTIL_HELP),
         leave_out_option(alloc),
+        flag(alloc, "exercised", EXERCISED_HELP),
         switch_option(alloc),
     ]?;
     let command = command(alloc, "conform", CONFORM_ABOUT, CONFORM_AFTER).args(words)?;
@@ -183,6 +191,8 @@ pub struct ConformOptions {
     pub left_out: Vec<Option<VlId>>,
     /// Whether frames that recorders lost don't matter.
     pub is_lossy: bool,
+    /// Whether it conforms only if something is shown of each stream that is judged.
+    pub is_exercised: bool,
 }
 
 /// The link that a word of `--leave-out` names.
@@ -219,5 +229,6 @@ pub fn conform_options(alloc: Global, matches: &ArgMatches<'_>) -> Result<Confor
         until: matches.get_one::<u64>("until"),
         left_out: links_in(alloc, words)?,
         is_lossy: matches.get_flag("lossy"),
+        is_exercised: matches.get_flag("exercised"),
     })
 }

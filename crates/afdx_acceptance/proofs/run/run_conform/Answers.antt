@@ -11,7 +11,6 @@ use Rattle.afdx_acceptance.proofs.RanLemmas.{answers-cut, answers-err, answers-l
 use Rattle.afdx_config.specs.Rows.{Rows}
 use Rattle.afdx_acceptance.specs.Choices.{Choices}
 use Rattle.afdx_acceptance.specs.ChoicesOf.{choices_of}
-use Rattle.afdx_acceptance.specs.Ran.{loss_told}
 use Rattle.afdx_acceptance.specs.Told.{TellsItems}
 use Rattle.afdx_acceptance.proofs.run.run_conform.Goals as goal
 
@@ -55,7 +54,7 @@ returns-in_err-put-clause-answer g c =
     c.tell_all.new.machine old (g.O.Sink.written c.tell_all.new.output) (g.O.Sink.written c.put.new.self)
     c.in_ok-count.count c.totals-totals.result c.in_err-put.field-0.0 c.in_err-put.ensures.fault
     (c.totals-totals.ensures.written k old (g.O.Sink.written c.tell_all.new.output))
-    (ap (λ n. loss_told c.args.choices.now.is_lossy n) (sym c.lost.ensures) ∙ sym c.loss_told.ensures ∙ c.in_default.is)
+    (sym c.fault_behind.ensures ∙ c.in_default.is)
     (subst (λ (l : ConformLine). AppendsFront (g.O.Sink.written c.tell_all.new.output) (g.O.Sink.written c.put.new.self)
     (conform_text l)) c.line.ensures c.in_err-put.ensures.front) h)
     (g.A.SeenFrames.known c.args.inputs.now)
@@ -72,7 +71,7 @@ returns-in-Some-clause-answer g c =
     c.tell_all.new.machine old (g.O.Sink.written c.tell_all.new.output)
     c.in_ok-count.count c.totals-totals.result c.in-Some.fault
     (c.totals-totals.ensures.written k old (g.O.Sink.written c.tell_all.new.output))
-    (ap (λ n. loss_told c.args.choices.now.is_lossy n) (sym c.lost.ensures) ∙ sym c.loss_told.ensures ∙ c.in-Some.is) h)
+    (sym c.fault_behind.ensures ∙ c.in-Some.is) h)
     (g.A.SeenFrames.known c.args.inputs.now)
     (c.in_ok-count.ensures.answer k
     (subst (λ p. TellsItems (c.args.tables.now, choices_of p c.args.choices.now) c.in_ok-judging.judging old old [])
@@ -87,7 +86,7 @@ returns-clause-answer g c =
     c.tell_all.new.machine old (g.O.Sink.written c.tell_all.new.output) (g.O.Sink.written c.put.new.self)
     c.in_ok-count.count c.totals-totals.result
     (c.totals-totals.ensures.written k old (g.O.Sink.written c.tell_all.new.output))
-    (ap (λ n. loss_told c.args.choices.now.is_lossy n) (sym c.lost.ensures) ∙ sym c.loss_told.ensures ∙ c.in_default.is)
+    (sym c.fault_behind.ensures ∙ c.in_default.is)
     (subst (λ (l : ConformLine). Appends (g.O.Sink.written c.tell_all.new.output) (g.O.Sink.written c.put.new.self)
     (conform_text l)) c.line.ensures c.in_ok-put.ensures.whole) h)
     (g.A.SeenFrames.known c.args.inputs.now)

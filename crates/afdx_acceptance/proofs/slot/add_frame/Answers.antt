@@ -13,4 +13,5 @@ returns-in_ok-left-in-Stream-clause-stands c z k xs ys lines time some may stand
       c.in_ok-left-in-Stream.ensures.stands z xs ys here.0 time may
           (subst (λ (s : Stream). StandsFor z xs ys here.0 time s) (sym c.deref_mut.ensures.value) here.1),
       here.2,
+      here.3,
     )

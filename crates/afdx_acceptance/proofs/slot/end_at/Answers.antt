@@ -16,6 +16,7 @@ returns-in-Stream c = record {
         c.end.ensures.ends z xs ys here.0 time is le
             (subst (λ (s : Stream). StandsFor z xs ys here.0 time s) (sym c.deref_mut.ensures.value) here.1),
         here.2,
+        here.3,
       );
   strangers = λ k all lines stands. absurd (subst (λ (s : Slot). StrangersStand k all lines s) c.in-Stream.is stands);
   due = λ z k xs ys lines time is le all stands.

@@ -1,28 +1,45 @@
-use Rattle.std.proofs.Common.{◌≡◌, Some, sym, ap, ◌∙◌, subst}
+use Rattle.std.proofs.Common.{◌≡◌, Some, ◌||◌, ◌==◌, sym, ap, ◌∙◌, subst}
+use Rattle.std.specs.Prelude.{length, not}
 use Rattle.afdx_acceptance.specs.Slots.{StreamEnds, StreamStands, told_at}
 use Rattle.afdx_acceptance.specs.Waiting.{slot_due}
 use Rattle.afdx_conform.specs.Standing.{IsEnding, StandsFor, due_of}
 use Rattle.afdx_acceptance.specs.declared.slot.Slot.{Slot}
 use Rattle.afdx_conform.specs.declared.streaming.Stream.{Stream}
-use Rattle.afdx_acceptance.proofs.SlotLemmas.{if-ok}
+use Rattle.afdx_acceptance.proofs.SlotLemmas.{told-line}
 use Rattle.afdx_acceptance.proofs.slot.step.Goals as goal
 
-pub returns-in-Stream-clause-stands : goal.returns-in-Stream-clause-stands
+pub returns-in_ok-lines-in-Stream-clause-stands : goal.returns-in_ok-lines-in-Stream-clause-stands
 unfolding StreamStands slot_due
-returns-in-Stream-clause-stands c z xs ys lines time moment none due lt stands =
+returns-in_ok-lines-in-Stream-clause-stands c z xs ys lines time moment none due lt stands =
     let here = subst (λ (s : Slot). StreamStands z c.args.key xs ys lines time s) c.in-Stream.is stands in
     let same = c.deref_mut-in-Stream.ensures.value in
     let at : due_of c.in-Stream.stream.value ≡ Some moment = sym (ap slot_due c.in-Stream.is) ∙ due in
-    if-ok (λ told r. ((r.0, r.1, ap (λ l. told_at c.args.key moment told.items l) here.2 ∙ sym r.2), r.3)) c.step_stream.result
-    (c.step_stream.ensures.stands z xs ys here.0 time moment none (ap due_of same ∙ at) lt
-    (subst (λ (s : Stream). StandsFor z xs ys here.0 time s) (sym same) here.1))
+    let r = c.in_ok-lines-in-Stream.ensures.stands z xs ys here.0 time moment none (ap due_of same ∙ at) lt
+    (subst (λ (s : Stream). StandsFor z xs ys here.0 time s) (sym same) here.1) in (
+      (
+        r.0,
+        r.1,
+        ap (λ l. told_at c.args.key moment c.in_ok-lines-in-Stream.lines.items l) here.2 ∙ sym r.2,
+        ap (λ b. c.in-Stream.is_told || not b) (c.is_empty.ensures ∙ ap (λ l. length l == 0) c.as_slice.ensures.value)
+            ∙ sym (told-line c.args.key moment c.in_ok-lines-in-Stream.lines.items lines c.in-Stream.is_told here.3),
+      ),
+      r.3,
+    )
 
-pub returns-in-Stream-clause-ends : goal.returns-in-Stream-clause-ends
+pub returns-in_ok-lines-in-Stream-clause-ends : goal.returns-in_ok-lines-in-Stream-clause-ends
 unfolding StreamEnds slot_due
-returns-in-Stream-clause-ends c z xs ys lines moment end due stands =
+returns-in_ok-lines-in-Stream-clause-ends c z xs ys lines moment end due stands =
     let here = subst (λ (s : Slot). StreamEnds z c.args.key xs ys lines s) c.in-Stream.is stands in
     let same = c.deref_mut-in-Stream.ensures.value in
     let at : due_of c.in-Stream.stream.value ≡ Some moment = sym (ap slot_due c.in-Stream.is) ∙ due in
-    if-ok (λ told r. ((r.0, r.1, ap (λ l. told_at c.args.key moment told.items l) here.2 ∙ sym r.2), r.3)) c.step_stream.result
-    (c.step_stream.ensures.ends z xs ys here.0 moment end (ap due_of same ∙ at)
-    (subst (λ (s : Stream). IsEnding z xs ys here.0 s) (sym same) here.1))
+    let r = c.in_ok-lines-in-Stream.ensures.ends z xs ys here.0 moment end (ap due_of same ∙ at)
+    (subst (λ (s : Stream). IsEnding z xs ys here.0 s) (sym same) here.1) in (
+      (
+        r.0,
+        r.1,
+        ap (λ l. told_at c.args.key moment c.in_ok-lines-in-Stream.lines.items l) here.2 ∙ sym r.2,
+        ap (λ b. c.in-Stream.is_told || not b) (c.is_empty.ensures ∙ ap (λ l. length l == 0) c.as_slice.ensures.value)
+            ∙ sym (told-line c.args.key moment c.in_ok-lines-in-Stream.lines.items lines c.in-Stream.is_told here.3),
+      ),
+      r.3,
+    )

@@ -37,7 +37,7 @@ returns-then-is_passed-clause-counted c = λ frames before.
     missed-next t k x frames c.args.self.now.left_out c.saturating_add-self.result true
     (missed-in t k x true (sym (c.is_in_time.ensures
     (taps_in c.args.self.now.streams.taps.now) c.args.message.now c.args.n) ∙ c.if-not-is_in_time.false)
-    (sym (c.is_passed.ensures x refl refl (c.in_ok-vl.ensures
+    (sym (c.is_passed.ensures x refl refl refl c.frame-frame.ensures (c.in_ok-vl.ensures
     ∙ ap link_named_by c.frame-frame.ensures)
     (c.place_named-named.ensures.place x.arrival.bytes (c.in_ok-vl.ensures
     ∙ ap link_named_by c.frame-frame.ensures))) ∙ c.if-is_passed.true)) before
@@ -52,7 +52,7 @@ returns-in-Came-clause-counted c = λ frames before.
     (missed-next t k x frames c.args.self.now.left_out c.args.self.now.left_out false
     (missed-in t k x false (sym (c.is_in_time.ensures
     (taps_in c.args.self.now.streams.taps.now) c.args.message.now c.args.n) ∙ c.if-not-is_in_time.false)
-    (sym (c.is_passed.ensures x refl refl (c.in_ok-vl.ensures
+    (sym (c.is_passed.ensures x refl refl refl c.frame-frame.ensures (c.in_ok-vl.ensures
     ∙ ap link_named_by c.frame-frame.ensures)
     (c.place_named-named.ensures.place x.arrival.bytes (c.in_ok-vl.ensures
     ∙ ap link_named_by c.frame-frame.ensures))) ∙ c.if-is_passed.false)) before
@@ -67,7 +67,7 @@ returns-in-Left-clause-counted c = λ frames before.
     (missed-next t k x frames c.args.self.now.left_out c.args.self.now.left_out false
     (missed-in t k x false (sym (c.is_in_time.ensures
     (taps_in c.args.self.now.streams.taps.now) c.args.message.now c.args.n) ∙ c.if-not-is_in_time.false)
-    (sym (c.is_passed.ensures x refl refl (c.in_ok-vl.ensures
+    (sym (c.is_passed.ensures x refl refl refl c.frame-frame.ensures (c.in_ok-vl.ensures
     ∙ ap link_named_by c.frame-frame.ensures)
     (c.place_named-named.ensures.place x.arrival.bytes (c.in_ok-vl.ensures
     ∙ ap link_named_by c.frame-frame.ensures))) ∙ c.if-is_passed.false)) before
@@ -81,7 +81,7 @@ returns-then-length-gt-MOST_BYTES-clause-counted c = λ frames before.
     missed-next t k x frames c.args.self.now.left_out c.args.self.now.left_out false
     (missed-in t k x false (sym (c.is_in_time.ensures
     (taps_in c.args.self.now.streams.taps.now) c.args.message.now c.args.n) ∙ c.if-not-is_in_time.false)
-    (sym (c.is_passed.ensures x refl refl (c.in_ok-vl.ensures
+    (sym (c.is_passed.ensures x refl refl refl c.frame-frame.ensures (c.in_ok-vl.ensures
     ∙ ap link_named_by c.frame-frame.ensures)
     (c.place_named-named.ensures.place x.arrival.bytes (c.in_ok-vl.ensures
     ∙ ap link_named_by c.frame-frame.ensures))) ∙ c.if-is_passed.false)) before
@@ -103,7 +103,7 @@ returns-then-is_passed-clause-stands c k frames lines same-tables chosen latest 
     (λ until dues s. stand-skipped k.0 k.1 until x.arrival.time x frames dues c.args.self.now.streams
     (out-of-choice k.0 k.1 x (subst (λ o. is_passed k.0 o x ≡ true) chosen
     (subst (λ t. is_passed t (choices_of (taps_in c.args.self.now.streams.taps.now) c.args.self.now.choices.now) x ≡ true) same-tables
-    (sym (c.is_passed.ensures x refl refl (c.in_ok-vl.ensures
+    (sym (c.is_passed.ensures x refl refl refl c.frame-frame.ensures (c.in_ok-vl.ensures
     ∙ ap link_named_by c.frame-frame.ensures)
     (c.place_named-named.ensures.place x.arrival.bytes (c.in_ok-vl.ensures
     ∙ ap link_named_by c.frame-frame.ensures))) ∙ c.if-is_passed.true)))) s) refl refl stands
@@ -125,7 +125,7 @@ returns-in-Came-clause-stands c k frames lines same-tables chosen latest few sta
     let out : is_passed k.0 k.1 x ≡ false = subst (λ (o : Choices). is_passed k.0 o x ≡ false) chosen
     (subst (λ (t : Rows). is_passed t (choices_of
     (taps_in c.args.self.now.streams.taps.now) c.args.self.now.choices.now) x ≡ false) same-tables
-    (sym (c.is_passed.ensures x refl refl (c.in_ok-vl.ensures
+    (sym (c.is_passed.ensures x refl refl refl c.frame-frame.ensures (c.in_ok-vl.ensures
     ∙ ap link_named_by c.frame-frame.ensures)
     (c.place_named-named.ensures.place x.arrival.bytes (c.in_ok-vl.ensures
     ∙ ap link_named_by c.frame-frame.ensures))) ∙ c.if-is_passed.false)) in
@@ -153,7 +153,7 @@ returns-in-Left-clause-stands c k frames lines same-tables chosen latest few sta
     let out : is_passed k.0 k.1 x ≡ false = subst (λ (o : Choices). is_passed k.0 o x ≡ false) chosen
     (subst (λ (t : Rows). is_passed t (choices_of
     (taps_in c.args.self.now.streams.taps.now) c.args.self.now.choices.now) x ≡ false) same-tables
-    (sym (c.is_passed.ensures x refl refl (c.in_ok-vl.ensures
+    (sym (c.is_passed.ensures x refl refl refl c.frame-frame.ensures (c.in_ok-vl.ensures
     ∙ ap link_named_by c.frame-frame.ensures)
     (c.place_named-named.ensures.place x.arrival.bytes (c.in_ok-vl.ensures
     ∙ ap link_named_by c.frame-frame.ensures))) ∙ c.if-is_passed.false)) in

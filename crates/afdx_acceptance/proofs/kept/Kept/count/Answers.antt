@@ -4,7 +4,6 @@ use Rattle.afdx_acceptance.specs.Keys.{key_place}
 use Rattle.afdx_acceptance.specs.Slots.{StreamEnds}
 use Rattle.afdx_acceptance.specs.Waiting.{slot_due}
 use Rattle.afdx_acceptance.specs.declared.slot.Slot.TheVariants.{Nothing}
-use Rattle.afdx_acceptance.proofs.CountingLemmas.{has-nothing}
 use Rattle.afdx_acceptance.proofs.AddedLemmas.{read-there}
 use Rattle.afdx_acceptance.proofs.kept.Kept.count.Goals as goal
 
@@ -19,6 +18,7 @@ returns-then-place-len-clause-counted c n z xs ys lines due ends has =
 pub returns-else-place-len-clause-counted : goal.returns-else-place-len-clause-counted
 returns-else-place-len-clause-counted c n z xs ys lines due ends has =
     let slots = c.args.self.now.slots.items in
-    has-nothing n z c.args.key xs ys lines c.args.totals.now
-    (subst (λ s. StreamEnds z c.args.key xs ys lines s) (get_or_past slots (key_place c.args.key) Nothing
-    (let test = c.if-place-len.false in let at = c.place-place.ensures in omega (arith, test, at))) ends) has
+    let there = get_or_past slots (key_place c.args.key) Nothing
+    (let test = c.if-place-len.false in let at = c.place-place.ensures in omega (arith, test, at)) in
+    c.add.ensures.counted n z c.args.key xs ys lines (sym (ap slot_due there) ∙ due)
+    (subst (λ s. StreamEnds z c.args.key xs ys lines s) there ends) has

@@ -19,8 +19,8 @@ use Rattle.afdx_acceptance.specs.declared.key.Key.{Key}
 use Rattle.afdx_acceptance.proofs.AddedLemmas.{on-ok}
 use Rattle.afdx_acceptance.proofs.GivenLemmas.{blank, falling-more, left-times, strange-times}
 use Rattle.afdx_acceptance.proofs.CameLemmas.{and-false}
-use Rattle.afdx_acceptance.proofs.LeftLemmas.{stranger-no, stranger-none}
-use Rattle.afdx_acceptance.proofs.JoinLemmas.{counted-behind, heard-as, join-left, join-strange, join-unseen, left-few, left-start}
+use Rattle.afdx_acceptance.proofs.StrangerLemmas.{stream-heard}
+use Rattle.afdx_acceptance.proofs.JoinLemmas.{counted-behind, join-left, join-strange, join-unseen, left-few, left-start}
 use Rattle.afdx_acceptance.proofs.streams.Streams.left.Goals as goal
 
 pub returns-then-not-is_tapped-clause-stands : goal.returns-then-not-is_tapped-clause-stands
@@ -36,6 +36,8 @@ returns-then-not-is_tapped-clause-stands c t c' until time frames lines named-is
     let l : LinkRow = get_or r.links link blank in
     let at = slice_get-get_or r.links link blank c.in-Some.ensures.link.1 in
     let to = c.in-Some.ensures.to l at in
+    let own : is_stranger r c'.taps a ≡ false =
+    subst (λ (p : Taps). is_stranger r p a ≡ false) stand.taps (sym (c.in-Some.ensures.strange a refl refl named-is)) in
     let unseen : c'.taps Left h.side h.port ≡ false =
     ap (λ (p : Taps). p Left h.side h.port) (sym stand.taps) ∙ sym c.is_tapped.ensures ∙ c.if-not-is_tapped.true in
     subst (λ (x : Rows). StreamsStand x c' until (frame_with Left a ∷ frames) lines time c.args.self.now) stand.tables (record {
@@ -44,8 +46,7 @@ returns-then-not-is_tapped-clause-stands c t c' until time frames lines named-is
       by = mine.by;
       taps = mine.taps;
       kept = join-unseen r c' until c.args.self.now.ended time frames lines c.args.self.now.kept mine.lawful a link l
-          (subst (λ (x : Rows). counts x c' (frame_with Left a) ≡ true) (sym stand.tables) e) named to.0
-          (stranger-no r a link l named to.0)
+          (subst (λ (x : Rows). counts x c' (frame_with Left a) ≡ true) (sym stand.tables) e) named to.0 own
           (ap (λ v. is_heard r c'.taps h.side l && v) unseen ∙ and-false (is_heard r c'.taps h.side l)) mine.kept;
     })
 
@@ -68,10 +69,12 @@ returns-in-Some-clause-stands c t c' until time frames lines named-is e le behin
     let n = left-few r c' frames key in
     let mine-e : counts r c' (frame_with Left a) ≡ true =
     subst (λ (x : Rows). counts x c' (frame_with Left a) ≡ true) (sym stand.tables) e in
+    let own : is_stranger r c'.taps a ≡ false =
+    subst (λ (p : Taps). is_stranger r p a ≡ false) stand.taps (sym (c.in-Some.ensures.strange a refl refl named-is)) in
     let sees : c'.taps Left h.side h.port ≡ true =
     ap (λ (p : Taps). p Left h.side h.port) (sym stand.taps) ∙ sym c.is_tapped.ensures ∙ c.if-not-is_tapped.false in
     let judges : is_judged r c'.taps h.side l h.port ≡ true =
-    ap (λ v. v && c'.taps Left h.side h.port) (heard-as r c' a link l mine-e named at) ∙ sees in
+    ap (λ v. v && c'.taps Left h.side h.port) (stream-heard r c'.taps a link l own named at) ∙ sees in
     let left : gone_of (arrival_with c.args.n h.time h.side h.port c.in_ok-bytes.bytes) ≡ gone_of a =
     ap (λ b. gone_of (arrival_with c.args.n h.time h.side h.port b)) c.in_ok-bytes.ensures in
     on-ok (λ k. subst (λ (x : Rows). StreamsStand x c' until (frame_with Left a ∷ frames) lines time
@@ -82,7 +85,7 @@ returns-in-Some-clause-stands c t c' until time frames lines named-is e le behin
       taps = mine.taps;
       kept = subst (λ o. AreKept r c' until o time (given_of r c' (frame_with Left a ∷ frames)) lines c.leave_to.new.kept) (sym running)
           (join-left r c' until None time frames lines c.leave_to.new.kept mine.lawful a link l mine-e named to.0
-          (stranger-no r a link l named to.0) judges old.falling
+          own judges old.falling
           (subst (λ p. AreKept r c' until None time (with_left (key_with h.side p (Some link)) (gone_of a) (given_of r c' frames)) lines
           c.leave_to.new.kept) to.1
           (subst (λ g. AreKept r c' until None time (with_left key g (given_of r c' frames)) lines c.leave_to.new.kept) left k)));
@@ -100,7 +103,8 @@ returns-clause-stands c t c' until time frames lines named-is e le behind few ru
     subst (λ (x : Rows). StreamsStand x c' until frames lines time c.args.self.now) (sym stand.tables) stand in
     let named : place_named r a.bytes ≡ c.args.named =
     sym named-is in
-    let strange : is_stranger r a ≡ true = stranger-none r a c.args.named named c.in_default.ensures.none in
+    let strange : is_stranger r c'.taps a ≡ true =
+    subst (λ (p : Taps). is_stranger r p a ≡ true) stand.taps (sym (c.in_default.ensures.strange a refl refl named-is)) in
     let why : c.why_strange-why.result ≡ stranger_reason r a.bytes =
     c.why_strange-why.ensures ∙ ap (λ b. stranger_by b (fault_of None 0 a.bytes)) (c.is_some.ensures ∙ ap is_some (sym named)) in
     let old : AreKept r c' until None time (given_of r c' frames) lines c.args.self.now.kept =
