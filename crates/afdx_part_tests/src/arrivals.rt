@@ -42,7 +42,7 @@ fn a_recorded_frame_is_an_arrival(rt: HostRuntime) -> Result<(), Fail> {
 }
 
 /// How many of two interfaces of which something is said aren't among so many, and the least.
-type Unused = ([u64; 3], [Option<u16>; 3]);
+type Unused = ([u64; 3], [Option<u64>; 3]);
 
 fn unused(alloc: Global) -> Result<Unused, AllocError> {
     let mut interfaces = Interfaces::new(alloc)?;
