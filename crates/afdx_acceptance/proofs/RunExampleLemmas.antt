@@ -241,7 +241,8 @@ its-lines time lines all b-none own others order = record {
 its-right : (side : Side) → IsOfRight (terms_at tables choices 6720 link 3) (sound_at tables choices 6720 (frames_at 6720) link side)
     (uncut_at tables choices 6720 (frames_at 6720) link side 3)
 unfolding came counts is_unheard goes_there is_damaged is_arrival_of left_at names sound_of fault_of is_sealed sequence_of shift
-    number port_of rule_of byte_ns_at system_at_port place_named link_of accepted_asked accepted_after keeps_windows GoByClock EachLeaves AllLeaveLater
+    number port_of rule_of byte_ns_at system_at_port place_named link_of accepted_asked accepted_after keeps_windows
+    GoByClock EachLeaves AllLeaveLater
 its-right A = record {
   asked = came ∷ [];
   arrivals = refl;
