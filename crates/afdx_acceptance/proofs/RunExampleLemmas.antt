@@ -240,8 +240,9 @@ its-lines time lines all b-none own others order = record {
 
 its-right : (side : Side) → IsOfRight (terms_at tables choices 6720 link 3) (sound_at tables choices 6720 (frames_at 6720) link side)
     (uncut_at tables choices 6720 (frames_at 6720) link side 3)
-unfolding came counts is_unheard goes_there is_damaged is_arrival_of left_at names sound_of fault_of is_sealed sequence_of shift number port_of rule_of
-    byte_ns_at system_at_port place_named link_of accepted_asked accepted_after keeps_windows GoByClock EachLeaves AllLeaveLater
+unfolding came counts is_unheard goes_there is_damaged is_arrival_of left_at names sound_of fault_of is_sealed sequence_of shift
+    number port_of rule_of byte_ns_at system_at_port place_named link_of accepted_asked accepted_after keeps_windows
+    GoByClock EachLeaves AllLeaveLater
 its-right A = record {
   asked = came ∷ [];
   arrivals = refl;
@@ -295,8 +296,8 @@ its-right B = record {
 }
 
 pub premises_met : PremisesAreMet
-unfolding counts is_unheard goes_there is_damaged is_arrival_of left_at names sound_of fault_of is_sealed sequence_of shift number port_of rule_of
-    byte_ns_at system_at_port place_named link_of link_to goes_to judged_to judged_dues is_key AreByTime AreInOrder
+unfolding counts is_unheard goes_there is_damaged is_arrival_of left_at names sound_of fault_of is_sealed sequence_of shift
+    number port_of rule_of byte_ns_at system_at_port place_named link_of link_to goes_to judged_to judged_dues is_key AreByTime AreInOrder
     events_of up_to are_same does_more one_more thinned_onto front_rest first_named once_named strangeness unexplained
     skipped closed_to deviates came_to sound_events judged_after led_by kept are_behind first_states states_at fits
     is_open is_begun counted_at counted_to counted_among findings_in unseen_to unseen_among is_missed least_from

@@ -20,5 +20,5 @@ returns-else-place-len-clause-counted c n z xs ys lines due ends has =
     let slots = c.args.self.now.slots.items in
     let there = get_or_past slots (key_place c.args.key) Nothing
     (let test = c.if-place-len.false in let at = c.place-place.ensures in omega (arith, test, at)) in
-    c.add.ensures.counted n z c.args.key xs ys lines (sym (ap slot_due there) ∙ due)
+    c.add-else-place-len.ensures.counted n z c.args.key xs ys lines (sym (ap slot_due there) ∙ due)
     (subst (λ s. StreamEnds z c.args.key xs ys lines s) there ends) has
