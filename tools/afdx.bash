@@ -148,8 +148,9 @@ _afdx_takes() { # COMMAND : its options, and those that take a value
             valued=(--side --fcs --origin)
             ;;
         'afdx-capture annotate')
-            options=(--help --no-admission --interface --taps --fcs --origin --reorder --stamps)
-            valued=(--interface --taps --fcs --origin --reorder --stamps)
+            options=(--help --no-admission --conform --interface --taps --fcs --origin --reorder \
+                --stamps)
+            valued=(--conform --interface --taps --fcs --origin --reorder --stamps)
             ;;
         'afdx-fill')
             options=(--help --version --keep --raise-only)

@@ -49,8 +49,9 @@ end
 # printed by bin/pages
 set -g __afdx_valued --slack --drift --inner --asked --from --until --leave-out --switch \
     --interface --left --fcs --reorder --stamps --origin --vl --port --lmin --policing --keep \
-    --out -j --jobs -S --sshlogin --taps --fail-on --junit --config -o --split --side --cables \
-    --profile --reserve --since --link --rows --worst --compare --title --cover --seconds --seed
+    --out -j --jobs -S --sshlogin --taps --fail-on --junit --config -o --split --side --conform \
+    --cables --profile --reserve --since --link --rows --worst --compare --title --cover --seconds \
+    --seed
 
 complete -c afdx -f
 complete -c afdx -n '__afdx_at - 0 0' -l help -d 'Print help and leave'
@@ -268,6 +269,8 @@ complete -c afdx-capture -n '__afdx_at - 0 0' -a annotate \
 complete -c afdx-capture -n '__afdx_in annotate' -l help -d 'show this help message and exit'
 complete -c afdx-capture -n '__afdx_in annotate' -l no-admission \
     -d 'also where the network isn\'t admitted'
+complete -c afdx-capture -n '__afdx_in annotate' -x -l conform \
+    -d 'what afdx conform said of this list'
 complete -c afdx-capture -n '__afdx_in annotate' -x -l interface \
     -d 'where the frames of interface K came in'
 complete -c afdx-capture -n '__afdx_in annotate' -x -l taps -a '(__afdx_files csv)' \

@@ -3,8 +3,8 @@
 --     tshark -X lua_script:tools/afdx.lua -r run.pcap -Y 'afdx.step > 1'
 --
 -- `bin/install PREFIX` puts it at PREFIX/lib/wireshark/plugins/afdx.lua. It reads what stands in
--- the frames and judges nothing: verdicts are lines of the program, which
--- `afdx-capture annotate` writes beside the frames.
+-- the frames and their comments, and judges nothing: verdicts are lines of the program, which
+-- `afdx-capture annotate` writes as comments of the frames.
 
 local afdx = Proto("afdx", "AFDX (ARINC 664 Part 7)")
 
@@ -18,10 +18,20 @@ local fields = {
     gap = ProtoField.double("afdx.gap_ms", "Gap to the link's frame before on this network, in ms"),
     switch = ProtoField.string("afdx.switch", "Switch, of several"),
     port = ProtoField.uint8("afdx.port", "Port of the switch, of several"),
+    verdict = ProtoField.string("afdx.verdict", "Verdict of the switch"),
+    lost = ProtoField.string("afdx.lost", "Lost to a full buffer, at"),
+    too_old = ProtoField.string("afdx.too_old", "Dropped for its age, at"),
+    refused = ProtoField.string("afdx.refused", "Dropped by a receiver, as"),
+    latency = ProtoField.double("afdx.latency_us", "Latency of a copy, in us"),
+    share = ProtoField.double("afdx.share", "Share of the configured latency, in %"),
+    conform = ProtoField.string("afdx.conform", "What conform said"),
+    message = ProtoField.string("afdx.message", "Messages of the link"),
+    sender = ProtoField.string("afdx.sender", "Name of the sending system"),
 }
 afdx.fields = {
     fields.vl, fields.side, fields.system, fields.partition, fields.seq, fields.step, fields.gap,
-    fields.switch, fields.port,
+    fields.switch, fields.port, fields.verdict, fields.lost, fields.too_old, fields.refused,
+    fields.latency, fields.share, fields.conform, fields.message, fields.sender,
 }
 
 local experts = {
@@ -50,6 +60,9 @@ afdx.prefs.fcs = Pref.enum("Frames end with a check sequence", AUTO,
     "Auto looks at the frames themselves",
     { { 1, "Auto", AUTO }, { 2, "Yes", YES }, { 3, "No", NO } }, false)
 
+afdx.prefs.names = Pref.string("Table of names", "",
+    "The file that afdx-icd writes beside a configuration, as net.names.csv")
+
 local CONSTANT = "\3\0\0\0"    -- a destination address of a virtual link begins with it
 local SIDES = { [0x20] = "A", [0x40] = "B" }
 local LOOKED_AT = 10           -- frames in which check sequences are looked for
@@ -70,15 +83,55 @@ local found, tried
 -- Of each frame, by its number: what the frame before it tells.
 local gaps, steps, begins
 
--- The preference, kept here: to ask for it at each frame would be slow.
+-- The preferences, kept here: to ask for them at each frame would be slow. Names are those of the
+-- table, of systems by their numbers, of messages by those of their links.
 local fcs = AUTO
+local system_names, message_names = {}, {}
+
+-- The cells of a line of that table, which afdx-icd wrote: quoted ones have quotes and commas.
+local function cells_of(line)
+    local cells, rest = {}, line:gsub("\r$", "") .. ","
+    while #rest > 0 do
+        local cell, more = rest:match('^"(.-)",(.*)$')
+        while cell and select(2, cell:gsub('"', "")) % 2 == 1 do -- that quote was one of the text
+            local part, behind = more:match('^(.-)",(.*)$')
+            if not part then return {} end
+            cell, more = cell .. '",' .. part, behind
+        end
+        if not cell then cell, more = rest:match("^([^,]*),(.*)$") end
+        cells[#cells + 1], rest = cell:gsub('""', '"'), more
+    end
+    return cells
+end
+
+local function read_names(path)
+    system_names, message_names = {}, {}
+    local file = path ~= "" and io.open(path)
+    if not file then return end
+    for line in file:lines() do
+        local part, _, number, _, called = (table.unpack or unpack)(cells_of(line))
+        number = tonumber(number)
+        if part == "system" and number and called then
+            system_names[number] = called
+        elseif part == "message" and number and called then
+            local before = message_names[number]
+            message_names[number] = before and before .. ", " .. called or called
+        end
+    end
+    file:close()
+end
+
+local function heed_preferences()
+    fcs = afdx.prefs.fcs
+    read_names(afdx.prefs.names)
+end
 
 function afdx.prefs_changed()
-    fcs = afdx.prefs.fcs
+    heed_preferences()
 end
 
 function afdx.init()
-    fcs = afdx.prefs.fcs
+    heed_preferences()
     sealed, looked, last_time, last_seq = {}, {}, {}, {}
     gaps, steps, begins, places = {}, {}, {}, {}
     found, tried = false, 0
@@ -201,6 +254,55 @@ local function place_of()
     return places[name]
 end
 
+-- ---- what `annotate` wrote beside a frame ----------------------------------------------------
+
+local comments_of = Field.new("frame.comment")
+local JUDGED = {}
+for word in ("stopped passed late early strange unsure"):gmatch("%a+") do JUDGED[word] = true end
+
+-- A comment: the program's lines about the frame (V, L, T, X), `latency NS of NS ns at PLACE` of
+-- each copy, what `conform` said, what the link is called.
+local function add_comment(tree, text)
+    local word, rest = text:match("^(%w+) (.*)$")
+    if word == "V" then
+        local reason = rest:match("^%d+ [AB] (.*)$")
+        tree:add(fields.verdict, reason and (reason:match("drop (%S+)$") or reason:match("%S+$")))
+    elseif word == "L" then
+        tree:add(fields.lost, rest:match("^%d+ (.*)$"))
+    elseif word == "T" then
+        tree:add(fields.too_old, rest:match("^%d+ %d+ (.*)$"))
+    elseif word == "X" then
+        local reason = rest:match("(%S+)$")
+        if reason ~= "redundant" then tree:add(fields.refused, reason) end
+    elseif word == "latency" then
+        local took, most = rest:match("^(%d+) of (%d+) ns")
+        tree:add(fields.latency, took / 1000)
+        tree:add(fields.share, math.floor(took * 100000 / most + 0.5) / 1000)
+    elseif word == "called" then
+        tree:add(fields.message, rest)
+    elseif JUDGED[word] then
+        tree:add(fields.conform, word)
+    end
+end
+
+-- Adds what the comments say; true where one has the names of the link's messages.
+local function add_comments(tree)
+    local is_called = false
+    for _, comment in ipairs({ comments_of() }) do
+        local text = tostring(comment)
+        pcall(add_comment, tree, text) -- another's comments may have any form
+        is_called = is_called or text:match("^called ") ~= nil
+    end
+    return is_called
+end
+
+-- The names of the table, where no comment has them.
+local function add_names(tree, vl, system, is_called)
+    local message, sender = message_names[vl], system_names[system]
+    if message and not is_called then tree:add(fields.message, message):set_generated() end
+    if sender then tree:add(fields.sender, sender):set_generated() end
+end
+
 -- ---- a frame ---------------------------------------------------------------------------------
 
 local function add_addresses(tree, tvb, head, side)
@@ -251,6 +353,7 @@ function afdx.dissector(tvb, pinfo, root)
         tree:add(fields.switch, place.switch):set_generated()
         tree:add(fields.port, place.port):set_generated()
     end
+    add_names(tree, vl, head:byte(10) * 256 + head:byte(11), add_comments(tree))
     local seq = add_number(tree, tvb, length, pinfo, key)
     if seq then name = name .. " #" .. seq end
     local columns = pinfo.cols

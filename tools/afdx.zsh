@@ -188,6 +188,7 @@ _afdx_takes() { # COMMAND
     'afdx-capture annotate')
         _arguments $help \
             '--no-admission[also where the network isn'\''t admitted]' \
+            '--conform[what afdx conform said of this list]:file:' \
             '*--interface[where the frames of interface K came in]:k=place:' \
             '--taps[a table of taps in the place of --interface]:file:_files -g "*.csv(-.)"' \
             '--fcs[do recorded frames end with their check sequence]: :(yes no)' \

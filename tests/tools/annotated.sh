@@ -21,8 +21,8 @@ as_recorded() { # GOT WANTED : frames are those of the other recording, as tshar
     if [[ ! -s $work/got ]]; then echo 'no frames'; fi
 }
 
-lines_of() { # RECORDING : the comments, each line of a comment by itself
-    fields_of "$1" frame.comment | tr ';' '\n' | sed '/^$/d' | sort
+lines_of() { # RECORDING : the comments with the program's lines, each line by itself
+    fields_of "$1" frame.comment | tr ';' '\n' | sed '/^$/d; /^latency /d' | sort
 }
 
 replayed_lines() { # WORD.. : the lines of a replay, without messages

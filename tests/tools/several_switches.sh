@@ -70,9 +70,10 @@ annotated_tests() {
         fields_of "$made" frame.time_epoch frame.interface_name frame.comment >"$work/got"
         sort -s -n -k 1,1 "$work/got" >"$work/wanted"
         same "$work/wanted" "$work/got"
-        printf '%s\t%s\t%s\n' 0.001000000 'A fwd port 1' 'V 17 A fwd accept;D 17 1006720 A fwd 24' \
-            0.001006720 'A aft port 20' \
-            'V 17 A aft accept;D 17 1013440 A aft 3;M 1013440 s3 1' >"$work/wanted"
+        printf '%s\t%s\t%s;%s\n' 0.001000000 'A fwd port 1' \
+            'V 17 A fwd accept;D 17 1006720 A fwd 24' 'latency 6720 of 17000 ns at A fwd 24' \
+            0.001006720 'A aft port 20' 'V 17 A aft accept;D 17 1013440 A aft 3;M 1013440 s3 1' \
+            'latency 6720 of 18000 ns at A aft 3' >"$work/wanted"
         grep 'V 17 ' "$work/got" >"$work/found"
         same "$work/wanted" "$work/found"
         same <(replayed_lines "$two.toml" "$two.list") <(lines_of "$made")

@@ -223,11 +223,11 @@ for size, count in ((1518, 1), (1519, 1), (262000, 200)):
 
 # ---- annotated recordings ------------------------------------------------------------------
 
-comments_of() { # RECORDING : each frame's comments, one a line, after the frame's place
+comments_of() { # RECORDING : each frame's lines of the program, after the frame's place
     launch env HOME="$work" tshark -r "$1" -T fields -E aggregator=';' -e frame.number \
         -e frame.comment
     awk -F '\t' '{ n = split($2, line, ";"); for (i = 1; i <= n; i++) print $1, line[i] }' \
-        "$work/out"
+        "$work/out" | grep -v '^[0-9]* latency '
 }
 
 placed_lines() { # the lines of a replay, each after the place of its frame, without messages
@@ -255,6 +255,66 @@ annotated_tests() { # NAME CONFIG LIST [WORD..]
         grep ' drop over-rate$' "$work/wanted" | cut -d ' ' -f 1 >"$work/over"
         same "$work/over" "$work/out"
     )" "$(wc -l <"$work/over") frames"
+}
+
+# Verdict, latency and its share of each frame, as the report counts them.
+said_tests() {
+    local list=examples/bench.list fields=(-e afdx.verdict -e afdx.latency_us -e afdx.share)
+    local frame
+    launch tools/afdx-capture annotate examples/network.toml "$list" "$work/said.pcapng"
+    shark -r "$work/said.pcapng" -Y 'afdx.verdict && afdx.verdict != "too-short"' -T fields \
+        -e frame.number "${fields[@]}"
+    cp "$work/out" "$work/got"
+    "$program" replay examples/network.toml "$list" | awk -v list="$list" \
+        -v none='bad-address|too-short|too-long' '
+        BEGIN { while ((getline line <list) > 0) { split(line, word, " "); came[++n] = word[2] } }
+        $1 == "V" { place[$2] = ++count; verdict[count] = $NF }
+        $1 == "D" { at = place[$2]; took[at] = took[at] "," ($3 - came[$2]) / 1000 }
+        END {
+            for (i = 1; i <= count; i++) {
+                if (verdict[i] !~ none) print i "\t" verdict[i] "\t" substr(took[i], 2)
+            }
+        }' >"$work/wanted"
+    tell 'fields for verdict and latency, from comments' "$(
+        is_status 0
+        cut -f 1-3 "$work/got" >"$work/out"
+        same "$work/wanted" "$work/out"
+    )" "$(wc -l <"$work/wanted") frames"
+    printf 'passed 2 A 3 over-rate\nstrange 3 A 3 out-of-turn\ndeviates 2\n' >"$work/conform"
+    launch tools/afdx-capture annotate --conform "$work/conform" examples/base.toml \
+        examples/one_link.list "$work/judged.pcapng"
+    tell 'annotate takes what conform said' "$(is_status 0)"
+    shark -r "$work/judged.pcapng" -T fields -e afdx.conform "${fields[@]}"
+    tell 'and a field has it' "$(
+        printf '\taccept\t6.72\t39.529\npassed\tover-rate\t\t\n\taccept\t6.72\t39.529\n' \
+            >"$work/wanted"
+        same "$work/wanted" "$work/out"
+    )"
+    launch tools/afdx-capture pcap examples/one_link.list "$work/one.pcap"
+    launch tools/afdx-capture annotate --conform "$work/conform" examples/base.toml \
+        "$work/one.pcap" "$work/judged.pcapng"
+    shark -r "$work/judged.pcapng" -Y 'afdx.latency_us > 6.7 && afdx.share < 40' -T fields \
+        -e frame.number -e afdx.conform
+    tell 'filters by latency and share find recorded frames' "$(
+        printf '1\t\n3\tstrange\n' >"$work/wanted"
+        same "$work/wanted" "$work/out"
+    )"
+    frame=$(frame_of A 0)
+    printf 'F 0 A 1 %s\nF 0 A 2 %s\n' "$frame" "$frame" >"$work/same.list"
+    printf 'passed x\n' >"$work/conform"
+    launch tools/afdx-capture annotate --conform "$work/conform" examples/base.toml \
+        "$work/same.list" "$work/judged.pcapng"
+    tell 'what is no line of conform is refused' "$(is_status 2; says err 'conform line 1')"
+    launch tools/afdx-icd examples/systems.csv examples/messages.csv "$work/called.toml"
+    launch tools/afdx-traffic --config "$work/called.toml" examples/systems.csv \
+        examples/messages.csv "$work/called"
+    capture pcap "$work/called/adc.list" "$work/called.pcap"
+    shark -o "afdx.names:$work/called.names.csv" -r "$work/called.pcap" -c 1 -T fields \
+        -e afdx.message -e afdx.sender
+    tell 'names from the table beside the configuration' "$(text_is out $'air data\tadc\n')"
+    capture annotate "$work/called.toml" "$work/called.pcap" "$work/called.pcapng"
+    shark -r "$work/called.pcapng" -c 1 -T fields -e afdx.message
+    tell 'and from comments' "$(text_is out $'air data\n')"
 }
 
 annotate_fault_tests() {
@@ -324,6 +384,7 @@ elif has tshark && has mergecap; then
         annotated_tests 'a bench' examples/network.toml examples/bench.list
         annotated_tests 'a network that is not admitted' examples/gigabit.toml \
             examples/gigabit.list --no-admission
+        said_tests
         annotate_fault_tests
     else
         skip 'annotated recordings' "there is no program $program"

@@ -34,6 +34,7 @@ from afdx_tools.recordings.options import (
     is_recording,
     recording_options,
 )
+from afdx_tools.recordings.said import Beside, beside
 from afdx_tools.recordings.tapped import found_by
 from afdx_tools.version import add_version
 
@@ -227,7 +228,9 @@ def to_recording(args: argparse.Namespace) -> None:
 # ---- a replay beside its frames --------------------------------------------------------------
 
 
-def of_list(args: argparse.Namespace, config: str, path: str, file: BinaryIO) -> Iterator[None]:
+def of_list(
+    args: argparse.Namespace, config: str, path: str, besides: Beside, file: BinaryIO
+) -> Iterator[None]:
     """Writes the frames of a list with the lines of their replay; gives one None for each."""
     from afdx_tools.recordings.annotating import replayed
     from afdx_tools.recordings.writing import Pcapng, in_range
@@ -239,7 +242,8 @@ def of_list(args: argparse.Namespace, config: str, path: str, file: BinaryIO) ->
     for one in replayed(config, path, args.no_admission, read_list(path)):
         frame, time = sealed(one.listed), int(origin) + one.listed.time
         in_range(time, frame, one.listed.line)
-        recording.write(time, one.listed.place, frame, one.lines)
+        said = one.lines + besides.of(one.listed.line, one.listed.vl)
+        recording.write(time, one.listed.place, frame, said)
         yield None
 
 
@@ -255,6 +259,8 @@ def to_annotated(args: argparse.Namespace) -> None:
     names = names_of(args)
     if names == ["-", "-"]:
         leave(TOOL, "words SameInput")
+    if args.conform is not None and len(names) > 1:
+        leave(TOOL, "--conform is of one list or recording")
     if args.recording != "-" and is_foreign(args.recording):
         raise Refused(f"{args.recording} is a recording that annotate didn't write: name another")
     version()
@@ -265,12 +271,15 @@ def to_annotated(args: argparse.Namespace) -> None:
         options = options_of(args, config, paths)
         file = files.enter_context(finished(args.recording))
         others = [word for word in options if not word.startswith("--origin=")]
-        if len(paths) > 1 or others or args.taps is not None or is_recording(paths[0]):
+        is_list = len(paths) == 1 and not others and args.taps is None
+        is_list = is_list and not is_recording(paths[0])
+        besides = beside(args.config, args.conform, not is_list)
+        if is_list:
+            frames = of_list(args, config, paths[0], besides, file)
+        else:
             from afdx_tools.recordings.annotated import annotated
 
-            frames = annotated(config, paths, options, args.no_admission, file)
-        else:
-            frames = of_list(args, config, paths[0], file)
+            frames = annotated(config, paths, options, args.no_admission, besides, file)
         for _ in counted(frames, "frames"):
             count += 1
     say(f"{count} frames written, each with what became of it as its comments")
@@ -318,6 +327,8 @@ def annotate_words(parser: argparse.ArgumentParser) -> None:
     add("other", metavar="LIST", nargs="?", help="the recording of B, beside that of A")
     add("recording", metavar="RECORDING", help="the pcapng file, or - for standard output")
     add("--no-admission", action="store_true", help="also where the network isn't admitted")
+    conform = "what afdx conform said of this list, or of this one recording: comments, too"
+    add("--conform", metavar="FILE", help=conform)
     add_recording_words(parser)
 
 

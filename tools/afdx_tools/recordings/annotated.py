@@ -12,7 +12,7 @@ from itertools import starmap
 from operator import itemgetter
 from typing import BinaryIO, Iterable, Iterator
 
-from afdx_tools.config import port_at, read_config
+from afdx_tools.config import read_config
 from afdx_tools.faults import Failed, Refused
 from afdx_tools.program import program
 from afdx_tools.recordings.options import WRITER, WRITER_CODE
@@ -25,6 +25,7 @@ from afdx_tools.recordings.reading import (
     Interface,
     Recording,
 )
+from afdx_tools.recordings.said import Beside, far_end, latency_lines
 
 SIDES = ("A", "B")
 LINK = b"\x03\0\0\0"  # a destination address of a link begins with it
@@ -36,11 +37,13 @@ Key = tuple[str, int]  # a side, empty where there is one recording, and a numbe
 
 @dataclass
 class Reported:
-    """What the program says of a frame: its lines; how many verdicts these are, which switches
-    accepted it, how many of its copies came to their end, and how many of these to a cable."""
+    """What the program says of a frame: its lines; how many verdicts these are, when it came to
+    which switches, which of them accepted it, how many of its copies came to their end, and how
+    many of these to a cable."""
 
     lines: list[bytes] = field(default_factory=list)
     verdicts: int = 0
+    came: dict[int, int] = field(default_factory=dict)
     accepted: list[int] = field(default_factory=list)
     ended: int = 0
     sent: int = 0
@@ -73,11 +76,15 @@ def none_of_this(line: bytes) -> Refused:
 
 
 class Followed:
-    """The lines of a replay, by the frames that they are about. `copies` says how many ports the
-    frames of each link go to at each switch; `names` are those of several switches."""
+    """The lines of a replay, by the frames that they are about; `times` are those of the arrivals.
+    `copies` says how many ports the frames of each link go to at each switch; `names` are those of
+    several switches."""
 
-    def __init__(self, config: str, lines: Iterable[bytes], is_pair: bool) -> None:
-        read = read_config(config)
+    def __init__(
+        self, config: str, lines: Iterable[bytes], times: Iterator[int], is_pair: bool
+    ) -> None:
+        self.config = read = read_config(config)
+        self.times = times
         self.names = {name.encode(): number for number, name in enumerate(read.names)}
         rows = {(0, vl): link for vl, link in read.links.items()}
         rows = read.several.rows if read.several else rows
@@ -103,13 +110,17 @@ class Followed:
             one = self.reported.setdefault(key, Reported())
             one.lines.append(text)
             if kind == b"V":
+                if not one.verdicts:  # it comes from its sender, not over a cable
+                    one.came[switch] = next(self.times)
                 one.verdicts += 1
                 if behind[0] == b"accept":
                     one.accepted.append(switch)
             else:
                 one.ended, self.last = one.ended + 1, one
                 if kind == b"D" and self.cables:
-                    one.sent += port_at(switch, int(behind[0])) in self.cables
+                    far = far_end(self.config, switch, behind[0].decode("ascii"))
+                    if far is not None:
+                        one.sent, one.came[far] = one.sent + 1, int(fields[0])
         else:
             raise ValueError
 
@@ -121,7 +132,7 @@ class Followed:
             return
         try:
             self.take(line)
-        except (ValueError, LookupError) as error:
+        except (ValueError, LookupError, StopIteration) as error:
             raise none_of_this(line) from error
 
     def is_done(self, key: Key, content: bytes) -> bool:
@@ -135,15 +146,29 @@ class Followed:
         return one.ended >= wanted and self.last is not one
 
     def of(self, key: Key, content: bytes) -> list[bytes]:
-        """What is said of a frame with these bytes, once all of it is."""
+        """What is said of a frame with these bytes, once all of it is; then how long its copies
+        took."""
         while not self.has_ended and not self.is_done(key, content):
             self.more()
-        return self.reported.pop(key, Reported()).lines
+        one = self.reported.pop(key, Reported())
+        texts = [line.decode("ascii") for line in one.lines]
+        took = latency_lines(self.config, link_of(content), one.came, texts)
+        return one.lines + [line.encode() for line in took]
 
     def finish(self) -> None:
         """Takes the lines that are left."""
         while not self.has_ended:
             self.more()
+
+
+def link_of(content: bytes) -> int | None:
+    """The link that a frame's bytes name, if they name one."""
+    return int.from_bytes(content[4:6], "big") if content.startswith(LINK) else None
+
+
+def times_in(lines: Iterable[bytes]) -> Iterator[int]:
+    """The times of the arrivals that `afdx list` writes, in their order."""
+    return (int(line.split(b" ", 2)[1]) for line in lines if not line.startswith(b"#"))
 
 
 # ---- which numbers are no arrivals, and why ------------------------------------------------------
@@ -265,7 +290,12 @@ def option(code: int, value: bytes) -> bytes:
 
 
 def annotated(
-    config: str, paths: list[str], options: list[str], no_admission: bool, out: BinaryIO
+    config: str,
+    paths: list[str],
+    options: list[str],
+    no_admission: bool,
+    besides: Beside,
+    out: BinaryIO,
 ) -> Iterator[None]:
     """Writes the frames of one recording, or of two, with what becomes of them; gives one None for
     each. Failed where the program had a fault."""
@@ -277,9 +307,11 @@ def annotated(
         for path, (side, recording) in zip(paths, recordings.items()):
             of_one = of_side(options, side, recording) if side else options
             skips[side] = Skips(runs.enter_context(lines_of(["list", *of_one, config, path])))
+        listed = runs.enter_context(lines_of(["list", *options, config, *paths]))
         # the last, so that its fault is reported before a list's
         lines = runs.enter_context(lines_of(replay))
-        followed, file = Followed(config, lines, len(paths) > 1), Copied(out, len(paths) > 1)
+        followed = Followed(config, lines, times_in(listed), len(paths) > 1)
+        file = Copied(out, len(paths) > 1)
         for _, side, frame in merged(recordings):
             why = skips[side].of(frame.number)
             if why is None:
@@ -288,7 +320,8 @@ def annotated(
                 said = [why + f" {side}".rstrip().encode()]
             if not said:
                 break
-            file.write(side, frame, said)
+            others = besides.of(frame.number, link_of(frame.content))
+            file.write(side, frame, said + [text.encode() for text in others])
             yield None
         followed.finish()
     if not said or followed.reported or any(each.next for each in skips.values()):

@@ -12,6 +12,7 @@ from afdx_tools.config import MOST_PORTS, Config, port_at, read_config
 from afdx_tools.faults import Failed, Refused
 from afdx_tools.lists import Listed
 from afdx_tools.program import program, version
+from afdx_tools.recordings.said import latency_lines
 
 
 @dataclass
@@ -105,9 +106,13 @@ class Following:
         return port_at(self._switch(listed.switch), listed.port)
 
     def done(self) -> Iterator[Followed]:
-        """The frames, in the order in which they came, of which nothing more will be said."""
+        """The frames, in the order in which they came, of which nothing more will be said; behind
+        the program's lines those of how long their copies took."""
         while self._waiting and self._waiting[0].copies == 0:
-            yield self._waiting.popleft()
+            one = self._waiting.popleft()
+            came = {self._switch(one.listed.switch): one.listed.time}
+            one.lines += list(latency_lines(self.config, one.listed.vl, came, one.lines))
+            yield one
 
 
 def follow(config: str, listed: Iterator[Listed], lines: Iterable[str]) -> Iterator[Followed]:
