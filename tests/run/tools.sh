@@ -69,11 +69,11 @@ else
     skip 'afdx-report' 'there is no package numpy (apt-get install python3-numpy)'
 fi
 
-parts="recordings report hardening criteria early page capture_faults wireshark"
+parts="recordings report heads hardening criteria early page capture_faults wireshark"
 parts+=" icd explained icd_faults icd_documents icd_growth icd_cables large_tables traffic taps"
 parts+=" fill completion hostile_completion safe_outputs hostile_files around campaigns"
-parts+=" recorded_reports absence evidence annotated several_switches several_reports conformance"
-parts+=" package"
+parts+=" recorded_reports absence evidence annotated several_switches several_reports"
+parts+=" conformance package"
 for part in $parts; do
     # shellcheck source=/dev/null
     source "$top/tests/tools/$part.sh"
