@@ -38,8 +38,8 @@ COLUMNS = {
                 "too_old to_systems to_cables",
     "lines": "from to switch port rate links contract load_A load_B",
     "streams": "link from switch port system side priority came left stopped strange passed "
-               "late early frames least_ns median_ns p99_ns greatest_ns greatest_line bound_ns margin_ns "
-               "configured_ns share",
+               "late early frames least_ns median_ns p99_ns greatest_ns greatest_line bound_ns "
+               "margin_ns configured_ns share",
     "deviations": "what list line time_ns link side port system reason by_ns",
     "unseen": "link from switch port system side lacks",
 }  # fmt: skip
