@@ -73,6 +73,7 @@ fi
 parts=(
     recordings
     report
+    heads
     hardening
     criteria
     early

@@ -102,9 +102,9 @@ install_tests() {
         )"
     fi
     launch "$prefix/bin/afdx-capture" --version
+    "$top/tools/afdx-capture" --version >"$work/wanted"
     tell 'an installed tool knows its version' "$(
         is_status 0
-        "$top/tools/afdx-capture" --version >"$work/wanted"
         same "$work/wanted" "$work/out"
         if [[ $(<"$work/out") == *unknown* ]]; then cat "$work/out"; fi
     )"
@@ -114,6 +114,18 @@ install_tests() {
         launch env HOME="$work/home" tshark -G protocols
         tell 'below ~/.local Wireshark finds the fields of AFDX' "$(says out $'\tafdx')"
     fi
+    echo precious >"$work/precious"
+    for file in bin/afdx lib/afdx/version share/afdx/examples/base.toml share/man/man1/afdx.1; do
+        ln -sf "$work/precious" "$prefix/$file"
+    done
+    launch bin/install "$prefix"
+    tell 'an install over an earlier one follows no link' "$(
+        is_status 0
+        if [[ $(<"$work/precious") != precious ]]; then echo 'a link was followed'; fi
+        same examples/base.toml "$prefix/share/afdx/examples/base.toml"
+        "$prefix/bin/afdx-capture" --version >"$work/got"
+        same "$work/wanted" "$work/got"
+    )"
     launch env AFDX=/nowhere bin/install "$work/none"
     tell 'nothing is installed without a program' "$(
         is_status 1

@@ -153,6 +153,29 @@ traffic_fault_tests() {
         text_is err $'afdx-traffic: made.toml refuses line 5 of sent/fcc.messages: S4\n'
         if [[ -e $at/sent/all-systems.list ]]; then echo 'there is a list'; fi
     )"
+    mkdir -p "$at/sent/fcc.list"
+    echo old >"$at/sent/adc.messages"
+    traffic "$at" --config made.toml
+    tell 'after that the lists of before are there, and no others' "$(
+        is_status 1
+        printf '%s\n' adc.messages fcc.list >"$work/wanted"
+        ls -A "$at/sent" >"$work/got"
+        same "$work/wanted" "$work/got"
+        if [[ $(<"$at/sent/adc.messages") != old ]]; then echo 'a list is another'; fi
+    )"
+    traffic "$at"
+    tell 'a folder that is in the place of no list is none in the way' "$(
+        is_status 0
+        if [[ ! -d $at/sent/fcc.list || ! -s $at/sent/fcc.messages ]]; then ls "$at/sent"; fi
+    )"
+    sed -i 's/lmax = 1046/lmax = 1047/' "$at/made.toml"
+    traffic "$at" --config made.toml --seconds 2
+    tell 'one that is in the place of a list leaves all as it was' "$(
+        is_status 4
+        text_is err $'afdx-traffic: sent/fcc.list: Is a directory\n'
+        find "$at/sent" -mindepth 1 ! -name '*.messages' ! -name fcc.list
+    )"
+    rmdir "$at/sent/fcc.list"
     sed -i 's/"fcc"/"fms"/g' "$at/made.toml"
     traffic "$at" --config made.toml
     tell 'a system that the network has not' "$(

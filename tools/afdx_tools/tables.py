@@ -6,6 +6,7 @@ import math
 import re
 from typing import Sequence
 
+from afdx_tools.columns import columns_of
 from afdx_tools.faults import shown
 
 Row = dict
@@ -127,9 +128,9 @@ def plain(value: object) -> str:
     return f'"{text.replace(chr(34), 2 * chr(34))}"' if set(text) & set(',;"') else text
 
 
-def csv_text(rows: Sequence[Row]) -> str:
-    """Rows as the text of a CSV file."""
-    lines = [heads(rows), *(row.values() for row in rows)]
+def csv_text(rows: Sequence[Row], columns: Sequence[str] = ()) -> str:
+    """Rows as the text of a CSV file; where there are none these columns are its head."""
+    lines = [heads(rows) or columns, *(row.values() for row in rows)]
     return "".join(",".join(map(plain, line)) + "\n" for line in lines)
 
 
@@ -147,14 +148,15 @@ def over_time(arrivals: Row) -> list[Row]:
 
 def files_of(report: Row) -> dict[str, str]:
     """The tables as CSV files, and all of the report as JSON: names and texts."""
-    texts = {f"{name}.csv": csv_text(report[name]) for name in names_of(report)}
-    texts["arrivals.csv"] = csv_text(over_time(report["arrivals"]))
+    rows = {name: report[name] for name in names_of(report)}
+    rows["arrivals"] = over_time(report["arrivals"])
     if "early_ns" in report:
-        texts["early.csv"] = csv_text(report["early_ns"])
-    texts["troubles.csv"] = csv_text(report["troubles"])
+        rows["early"] = report["early_ns"]
+    rows["troubles"] = report["troubles"]
     if "where" in report:
-        texts["where.csv"] = csv_text(report["where"])
+        rows["where"] = report["where"]
     if report.get("compared"):
-        texts["compared.csv"] = csv_text(report["compared"]["rows"])
+        rows["compared"] = report["compared"]["rows"]
+    texts = {f"{name}.csv": csv_text(each, columns_of(name, report)) for name, each in rows.items()}
     parts = (f"{json.dumps(name)}: {json.dumps(value)}" for name, value in report.items())
     return {**texts, "report.json": "{" + ",\n".join(parts) + "}\n"}

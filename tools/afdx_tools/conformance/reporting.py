@@ -10,6 +10,7 @@ import sys
 from typing import Iterable, Iterator, NamedTuple
 from xml.etree import ElementTree as xml
 
+from afdx_tools.columns import columns_of
 from afdx_tools.config import Config, read_config
 from afdx_tools.conformance.frames import Frame, frames_of_list
 from afdx_tools.conformance.grouping import groups, left_twice
@@ -182,7 +183,11 @@ def json_of(report: Row) -> str:
 
 def write_files(report: Row, folder: str, most: int) -> None:
     """Writes page, tables and numbers."""
-    texts = {f"{name}.csv": csv_text(report[name]) for name in TABLES if name in report}
+    texts = {
+        f"{name}.csv": csv_text(report[name], columns_of(name, report))
+        for name in TABLES
+        if name in report
+    }
     texts |= {"report.json": json_of(report), "report.html": page(report, most)}
     write_folder(folder, texts, WRITTEN)
 
