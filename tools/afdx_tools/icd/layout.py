@@ -5,7 +5,8 @@ from __future__ import annotations
 from typing import Iterator, Mapping
 
 from afdx_tools.faults import shown
-from afdx_tools.icd.document import Document
+from afdx_tools.icd.document import MOST_BUFFER, Document
+from afdx_tools.spreadsheets.cells import MOST_US
 
 SOLVED = ("jitter_us", "latency_us", "skew_us")  # the keys of a link that `solve` finds
 PARTS = ("system", "link", "port")
@@ -74,6 +75,14 @@ def config_text(document: Document, tables: dict) -> bytes:
 def asked_text(document: Document) -> bytes:
     """The configuration with the keys that are asked for."""
     return config_text(document, {"link": document.links})
+
+
+def any_text(document: Document) -> bytes:
+    """The configuration with any values, each in its range, in the place of those that are
+    solved."""
+    values = {"jitter_us": 0, "latency_us": MOST_US, "skew_us": MOST_US}
+    links = [link | values for link in document.links]
+    return config_text(document, {"buffer": MOST_BUFFER, "link": links})
 
 
 def several_text(document: Document, switches: list[dict]) -> bytes:
