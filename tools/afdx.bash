@@ -3,27 +3,92 @@
 # shellcheck shell=bash
 # shellcheck disable=SC2026  # a pattern is a command in quotes, and a number
 
-_afdx_files() { # EXTENSION.. : folders, and files with one of these extensions; else any
-    local cur=${COMP_WORDS[COMP_CWORD]} end
-    compopt -o filenames 2>/dev/null
-    mapfile -t COMPREPLY < <(compgen -d -- "$cur")
-    for end in "$@"; do
-        mapfile -t -O "${#COMPREPLY[@]}" COMPREPLY < <(compgen -f -X "!*.$end" -- "$cur")
+# bash takes words apart at = and : (COMP_WORDBREAKS), and so does what a completion replaces. Sets
+# `words` to whole ones, as they were typed, and `behind` to what of the last one stays.
+_afdx_join() {
+    local rest=$COMP_LINE piece last='' gap k
+    words=() behind=
+    for ((k = 0; k <= COMP_CWORD; k++)); do
+        piece=${COMP_WORDS[k]}
+        gap=${rest%%[![:space:]]*}
+        if ((k == 0)) || [[ -n $gap || -z $rest || $piece$last == *[\<\>\|\&\;\(\)]* ]]; then
+            words+=("$piece") behind=
+        else
+            behind=${words[-1]} words[-1]+=$piece
+        fi
+        rest=${rest#"$gap$piece"} last=$piece
     done
-    if [[ ${#COMPREPLY[@]} -eq 0 ]]; then mapfile -t COMPREPLY < <(compgen -f -- "$cur"); fi
+    if [[ $last == [=:] ]]; then behind=${words[-1]}; fi
+}
+
+# What a word means that was typed. Nothing in it is expanded but a ~ for the home.
+_afdx_plain() { # WORD : sets `plain`
+    local rest=$1 quote='' letter
+    plain=
+    # shellcheck disable=SC2088  # it stands for itself
+    if [[ $rest == '~' || $rest == '~/'* ]]; then plain=$HOME rest=${rest:1}; fi
+    while [[ -n $rest ]]; do
+        letter=${rest:0:1} rest=${rest:1}
+        if [[ $letter == "$quote" ]]; then
+            quote=
+        elif [[ -z $quote && $letter == [\'\"] ]]; then
+            quote=$letter
+        elif [[ $letter == \\ && $quote != \' && ( -z $quote || $rest == [\\\"\$\`]* ) ]]; then
+            plain+=${rest:0:1} rest=${rest:1}
+        else
+            plain+=$letter
+        fi
+    done
+}
+
+# Offers what begins with the word, behind what of it is left as it is: `lead` is `--name=`, or the
+# words of a list. `behind`, which isn't replaced, is left out. `compgen -W` isn't called: it expands
+# its words, and runs what stands in them.
+_afdx_offer() { # WORD..
+    local word
+    for word in "$@"; do
+        if [[ $word == "$cur"* ]]; then
+            word=$lead$word
+            COMPREPLY+=("${word#"$behind"}")
+        fi
+    done
+}
+
+_afdx_names() { # PATTERN : the files of such names behind the word, and folders for */
+    local name names=() options
+    options=$(shopt -p failglob nullglob)
+    shopt -u failglob
+    shopt -s nullglob
+    for name in "$cur"$1; do
+        name=${name%/}
+        if [[ $typed == '~'* ]]; then name='~'${name#"$HOME"}; fi
+        names+=("$name")
+    done
+    eval "$options"
+    if [[ $typed == '~'* ]]; then local cur='~'; fi
+    _afdx_offer "${names[@]}"
+}
+
+_afdx_files() { # EXTENSION.. : folders, and files with one of these extensions; else any
+    local end
+    compopt -o filenames 2>/dev/null
+    _afdx_names '*/'
+    for end in "$@"; do _afdx_names "*.$end"; done
+    if [[ ${#COMPREPLY[@]} -eq 0 ]]; then _afdx_names '*'; fi
 }
 
 _afdx_folders() {
     compopt -o filenames 2>/dev/null
-    mapfile -t COMPREPLY < <(compgen -d -- "${COMP_WORDS[COMP_CWORD]}")
+    _afdx_names '*/'
 }
 
-# `compgen -W` isn't called: it expands its words, and runs what stands in them.
-_afdx_words() { # WORD.. : those that the word begins
-    local word
+_afdx_list() { # WORD.. : those that the word behind the last comma begins, each once
+    local word words=()
     for word in "$@"; do
-        if [[ $word == "${COMP_WORDS[COMP_CWORD]}"* ]]; then COMPREPLY+=("$word"); fi
+        if [[ ,${cur%"${cur##*,}"} != *,"$word",* ]]; then words+=("$word"); fi
     done
+    local lead=$lead${cur%"${cur##*,}"} cur=${cur##*,}
+    _afdx_offer "${words[@]}"
 }
 
 # Byte by byte, so that no other can stand in a name; of a configuration's greatest size.
@@ -32,16 +97,17 @@ _afdx_systems() { # CONFIG : the names of its systems
     if [[ ! -f $1 || ! -r $1 ]]; then return; fi
     mapfile -t names < <(head -c 4194304 <"$1" | LC_ALL=C sed 's/#.*//' |
         LC_ALL=C grep -aoE '\bname[[:blank:]]*=[[:blank:]]*"[A-Za-z0-9]{1,16}"' | cut -d '"' -f 2)
-    _afdx_words "${names[@]}"
+    _afdx_offer "${names[@]}"
 }
 
 # Takes apart what stands before the word: `given` are the words that belong to no option, `before`
 # is the option whose value the word is, if it is one.
 _afdx_read() { # FIRST OPTION.. : the place of the first word; the options that take a value
-    local place word
+    local place word plain
     given=() before=
-    for ((place = $1; place < COMP_CWORD; place++)); do
-        word=${COMP_WORDS[place]}
+    for ((place = $1; place < ${#words[@]} - 1; place++)); do
+        _afdx_plain "${words[place]}"
+        word=$plain
         if [[ -n $before ]]; then
             before=
         elif [[ $word != -?* ]]; then
@@ -52,34 +118,41 @@ _afdx_read() { # FIRST OPTION.. : the place of the first word; the options that 
     done
 }
 
-_afdx_is_option() { [[ -z $before && ${COMP_WORDS[COMP_CWORD]} == -* ]]; }
-
 # What the word may be, by what stands below of the command.
 _afdx_command() { # COMMAND PLACE : the place of the first word behind it
     local options=() valued=() given before
     _afdx_takes "$1"
     _afdx_read "$2" "${valued[@]}"
-    if _afdx_is_option; then
-        _afdx_words "${options[@]}"
-    elif [[ -n $before ]]; then
+    if [[ -n $before ]]; then
         _afdx_value "$1 $before"
+    elif [[ $cur == --*=* ]]; then
+        before=${cur%%=*} lead=${cur%%=*}= typed=${typed#*=} cur=${cur#*=}
+        _afdx_value "$1 $before"
+    elif [[ $cur == -* ]]; then
+        _afdx_offer "${options[@]}"
     else
         _afdx_place "$1 ${#given[@]}"
     fi
 }
 
 _afdx() { # TOOL
-    local tool=${1##*/} commands=()
+    local tool=${1##*/} commands=() words=() behind plain cur lead='' typed
     COMPREPLY=()
+    _afdx_join
+    typed=${words[-1]}
+    _afdx_plain "$behind"
+    behind=$plain
+    _afdx_plain "$typed"
+    cur=$plain
     _afdx_commands_of "$tool"
     if ((${#commands[@]} == 0)); then
         _afdx_command "$tool" 1
-    elif ((COMP_CWORD > 1)); then
-        _afdx_command "$tool ${COMP_WORDS[1]}" 2
-    elif [[ ${COMP_WORDS[1]} == -* ]]; then
-        _afdx_words --help --version
+    elif ((${#words[@]} > 2)); then
+        _afdx_command "$tool ${words[1]}" 2
+    elif [[ $cur == -* ]]; then
+        _afdx_offer --help --version
     else
-        _afdx_words "${commands[@]}"
+        _afdx_offer "${commands[@]}"
     fi
 }
 
@@ -182,55 +255,62 @@ _afdx_takes() { # COMMAND : its options, and those that take a value
 
 _afdx_value() { # COMMAND OPTION, in one word
     case $1 in
-        'afdx conform --fcs') _afdx_words yes no ;;
-        'afdx conform --stamps') _afdx_words end start start-end end-start ;;
-        'afdx list --fcs') _afdx_words yes no ;;
-        'afdx list --stamps') _afdx_words end start ;;
-        'afdx police --policing') _afdx_words byte frame ;;
-        'afdx police --fcs') _afdx_words yes no ;;
-        'afdx replay --fcs') _afdx_words yes no ;;
-        'afdx replay --stamps') _afdx_words end start ;;
-        'afdx solve --keep') _afdx_words jitter buffer latency skew ;;
+        'afdx check --explain') _afdx_offer auto always never ;;
+        'afdx conform --fcs') _afdx_offer yes no ;;
+        'afdx conform --stamps') _afdx_offer end start start-end end-start ;;
+        'afdx conform --explain') _afdx_offer auto always never ;;
+        'afdx list --fcs') _afdx_offer yes no ;;
+        'afdx list --stamps') _afdx_offer end start ;;
+        'afdx list --explain') _afdx_offer auto always never ;;
+        'afdx police --policing') _afdx_offer byte frame ;;
+        'afdx police --fcs') _afdx_offer yes no ;;
+        'afdx police --explain') _afdx_offer auto always never ;;
+        'afdx replay --fcs') _afdx_offer yes no ;;
+        'afdx replay --stamps') _afdx_offer end start ;;
+        'afdx replay --explain') _afdx_offer auto always never ;;
+        'afdx send --explain') _afdx_offer auto always never ;;
+        'afdx solve --keep') _afdx_list jitter buffer latency skew ;;
+        'afdx solve --explain') _afdx_offer auto always never ;;
         'afdx-campaign --out') _afdx_folders ;;
         'afdx-campaign --taps') _afdx_files csv ;;
-        'afdx-campaign --fcs') _afdx_words yes no ;;
-        'afdx-campaign --stamps') _afdx_words end start ;;
+        'afdx-campaign --fcs') _afdx_offer yes no ;;
+        'afdx-campaign --stamps') _afdx_offer end start ;;
         'afdx-campaign --fail-on')
-            _afdx_words silent contradicted clock twice late full-buffer too-old dropped unequal \
+            _afdx_list silent contradicted clock twice late full-buffer too-old dropped unequal \
                 missing refused skew jitter first-number recorder-lost left-out unused claimed \
                 lost
             ;;
         'afdx-campaign --junit') _afdx_files xml ;;
         'afdx-capture list --config') _afdx_files toml ;;
         'afdx-capture list --taps') _afdx_files csv ;;
-        'afdx-capture list --fcs') _afdx_words yes no ;;
-        'afdx-capture list --stamps') _afdx_words end start ;;
+        'afdx-capture list --fcs') _afdx_offer yes no ;;
+        'afdx-capture list --stamps') _afdx_offer end start ;;
         'afdx-capture list -o') _afdx_files list ;;
         'afdx-capture list --out') _afdx_files list ;;
         'afdx-capture list --split') _afdx_files list ;;
-        'afdx-capture pcap --side') _afdx_words A B ;;
-        'afdx-capture pcap --fcs') _afdx_words yes no ;;
+        'afdx-capture pcap --side') _afdx_offer A B ;;
+        'afdx-capture pcap --fcs') _afdx_offer yes no ;;
         'afdx-capture annotate --taps') _afdx_files csv ;;
-        'afdx-capture annotate --fcs') _afdx_words yes no ;;
-        'afdx-capture annotate --stamps') _afdx_words end start ;;
-        'afdx-fill --keep') _afdx_words jitter buffer latency skew ;;
+        'afdx-capture annotate --fcs') _afdx_offer yes no ;;
+        'afdx-capture annotate --stamps') _afdx_offer end start ;;
+        'afdx-fill --keep') _afdx_list jitter buffer latency skew ;;
         'afdx-icd --cables') _afdx_files csv ;;
-        'afdx-icd --profile') _afdx_words 1 2 ;;
+        'afdx-icd --profile') _afdx_offer 1 2 ;;
         'afdx-icd --since') _afdx_files toml ;;
         'afdx-report --out') _afdx_folders ;;
         'afdx-report --compare') _afdx_files json ;;
         'afdx-report --cover') _afdx_files toml ;;
         'afdx-report --taps') _afdx_files csv ;;
-        'afdx-report --fcs') _afdx_words yes no ;;
-        'afdx-report --stamps') _afdx_words end start start-end end-start ;;
+        'afdx-report --fcs') _afdx_offer yes no ;;
+        'afdx-report --stamps') _afdx_offer end start start-end end-start ;;
         'afdx-report --fail-on')
-            _afdx_words silent contradicted clock twice late full-buffer too-old dropped unequal \
+            _afdx_list silent contradicted clock twice late full-buffer too-old dropped unequal \
                 missing refused skew jitter first-number recorder-lost left-out unused claimed \
                 lost
             ;;
         'afdx-report --junit') _afdx_files xml ;;
         'afdx-traffic --cables') _afdx_files csv ;;
-        'afdx-traffic --profile') _afdx_words 1 2 ;;
+        'afdx-traffic --profile') _afdx_offer 1 2 ;;
         'afdx-traffic --config') _afdx_files toml ;;
     esac
 }
@@ -244,7 +324,7 @@ _afdx_place() { # COMMAND NUMBER, in one word : the word of that number, from 0
         'afdx list '0) _afdx_files toml ;;
         'afdx list '1) _afdx_files pcap pcapng ;;
         'afdx list '2) _afdx_files pcap pcapng ;;
-        'afdx police '0) _afdx_words 1 2 4 8 16 32 64 128 ;;
+        'afdx police '0) _afdx_offer 1 2 4 8 16 32 64 128 ;;
         'afdx police '3) _afdx_files list pcap pcapng ;;
         'afdx replay '0) _afdx_files toml ;;
         'afdx replay '1) _afdx_files list pcap pcapng ;;

@@ -20,6 +20,7 @@ function __afdx_at --description 'Is the word the one of that number behind COMM
     set -l given (__afdx_given $__afdx_valued)
     set -l before (commandline -opc)[-1]
     contains -- $before $__afdx_valued; and return 1
+    string match -q -- '--*=*' (commandline -ct); and return 1
     if test $argv[1] != -
         test "$given[1]" = $argv[1]; or return 1
         set -e given[1]
@@ -38,6 +39,16 @@ function __afdx_systems --description 'The names of the systems of the configura
     test -f "$given[2]"; and test -r "$given[2]"; or return
     head -c 4194304 <$given[2] | LC_ALL=C sed 's/#.*//' |
         LC_ALL=C grep -aoE '\bname[[:blank:]]*=[[:blank:]]*"[A-Za-z0-9]{1,16}"' | cut -d '"' -f 2
+end
+
+function __afdx_list --description 'A list of these words, with commas, each once'
+    set -l token (string replace -r -- '^--[a-z-]+=' '' (commandline -ct))
+    set -l given (string split , -- $token)
+    set -e given[-1]
+    set -l before (string join '' -- $given,)
+    for word in $argv
+        contains -- $word $given; or echo "$before$word"
+    end
 end
 
 function __afdx_files --description 'Folders, and files with one of these extensions'
@@ -194,7 +205,7 @@ complete -c afdx -n '__afdx_at send 1 1' -a '(__afdx_systems)'
 complete -c afdx -n '__afdx_at send 2 2' -a '(__afdx_files list messages)'
 complete -c afdx -n '__afdx_at - 0 0' -a solve \
     -d 'Writes a network with the least values that keep its latencies'
-complete -c afdx -n '__afdx_in solve' -x -l keep -a 'jitter buffer latency skew' \
+complete -c afdx -n '__afdx_in solve' -x -l keep -a '(__afdx_list jitter buffer latency skew)' \
     -d 'Keys that keep their values'
 complete -c afdx -n '__afdx_in solve' -l raise-only -d 'Lowers no value'
 complete -c afdx -n '__afdx_in solve' -l explain -a 'auto always never' \
@@ -223,7 +234,7 @@ complete -c afdx-campaign -x -l reorder -d 'how many arrivals in front of a fram
 complete -c afdx-campaign -x -l stamps -a 'end start' \
     -d 'whether stamps are those of a frame\'s last bit or of its first'
 complete -c afdx-campaign -x -l fail-on \
-    -a 'silent contradicted clock twice late full-buffer too-old dropped unequal missing refused skew jitter first-number recorder-lost left-out unused claimed lost' \
+    -a '(__afdx_list silent contradicted clock twice late full-buffer too-old dropped unequal missing refused skew jitter first-number recorder-lost left-out unused claimed lost)' \
     -d 'status 6 where one of these isn\'t 0, with commas'
 complete -c afdx-campaign -x -l junit -a '(__afdx_files xml)' \
     -d 'write the run and each criterion as a JUnit test case'
@@ -291,7 +302,7 @@ complete -c afdx-capture -n '__afdx_at annotate 3 3' -a '(__afdx_files pcap pcap
 complete -c afdx-fill -f
 complete -c afdx-fill -l help -d 'show this help message and exit'
 complete -c afdx-fill -l version -d 'print the version and leave'
-complete -c afdx-fill -x -l keep -a 'jitter buffer latency skew' \
+complete -c afdx-fill -x -l keep -a '(__afdx_list jitter buffer latency skew)' \
     -d 'of jitter,buffer,latency,skew'
 complete -c afdx-fill -l raise-only -d 'no value gets less than CONFIG has'
 complete -c afdx-fill -n '__afdx_at - 0 0' -a '(__afdx_files toml)'
@@ -337,7 +348,7 @@ complete -c afdx-report -x -l reorder -d 'how many arrivals in front of a frame 
 complete -c afdx-report -x -l stamps -a 'end start start-end end-start' \
     -d 'whether stamps are those of a frame\'s last bit or of its first'
 complete -c afdx-report -x -l fail-on \
-    -a 'silent contradicted clock twice late full-buffer too-old dropped unequal missing refused skew jitter first-number recorder-lost left-out unused claimed lost' \
+    -a '(__afdx_list silent contradicted clock twice late full-buffer too-old dropped unequal missing refused skew jitter first-number recorder-lost left-out unused claimed lost)' \
     -d 'status 6 where one of these isn\'t 0, with commas'
 complete -c afdx-report -x -l junit -a '(__afdx_files xml)' \
     -d 'write the run and each criterion as a JUnit test case'

@@ -16,7 +16,8 @@ END = "# printed by bin/pages down to here\n"
 NAME = re.compile(r"--?[A-Za-z][a-z-]*")
 WORD = re.compile(r"[A-Za-z0-9][A-Za-z0-9-]*")
 VALUE = re.compile(r"(?:[A-Z]+[A-Za-z=.]*)?")
-# what is offered: files with one of these ends, folders, systems of CONFIG, words; or nothing
+# what is offered: files with one of these ends, folders, systems of CONFIG, words, or a list of
+# them with commas; or nothing
 Kind = tuple[str, ...]
 LISTS, PCAPS = ("list",), ("pcap", "pcapng")
 KINDS: dict[str, Kind] = {
@@ -90,6 +91,8 @@ def option_of(entry: Entry) -> Option:
         kind = next((KINDS[choice] for choice in choices if choice in KINDS), ())
     for word in kind[1:] if kind else ():
         checked(WORD, word)
+    if kind and names[-1] in COMMAS:
+        kind = ("list", *kind[1:])
     text = re.split(r"[;:([]|, at most ", entry.text)[0].replace("`", "").strip()
     text = re.sub(r"[^A-Za-z0-9 ,./=_'-]", "", text)
     text = text.split(",")[0] if len(text) > LONGEST else text
@@ -164,8 +167,8 @@ def wrapped(words: list[str], indent: int, end: str = "") -> str:
 
 def bash_call(kind: Kind) -> str:
     """The function that offers it."""
-    if kind[0] == "words":
-        return "_afdx_words " + " ".join(kind[1:])
+    if kind[0] in ("words", "list"):
+        return " ".join(["_afdx_offer" if kind[0] == "words" else "_afdx_list", *kind[1:]])
     if kind[0] == "files":
         return "_afdx_files " + " ".join(kind[1:])
     return {"folders": "_afdx_folders", "systems": '_afdx_systems "${given[0]}"'}[kind[0]]
@@ -193,7 +196,7 @@ def bash_part(taken: dict[str, list[Taken]]) -> str:
                      else "            valued=()")
         takes += [f"        '{each.command}')", *lines, "            ;;"]
         for option in each.options:
-            if option.kind and not option.optional:
+            if option.kind:
                 for name in option.names:
                     values[f"'{each.command} {name}'"] = option.kind
         for number, place in enumerate(each.places):
@@ -227,6 +230,8 @@ def fish_offer(kind: Kind) -> str:
     """What is offered, as the value of -a."""
     if kind[0] == "words":
         return "'" + " ".join(kind[1:]) + "'"
+    if kind[0] == "list":
+        return f"'(__afdx_list {' '.join(kind[1:])})'"
     if kind[0] == "files":
         return f"'(__afdx_files {' '.join(kind[1:])})'"
     calls = {"folders": "__fish_complete_directories", "systems": "__afdx_systems"}
@@ -283,11 +288,10 @@ def zsh_action(option: Option | Place) -> str:
     kind = option.kind or ()
     if not kind:
         return ""
+    if kind[0] == "list":
+        return f"_values -s , word {' '.join(kind[1:])}"
     if kind[0] == "words":
-        words = " ".join(kind[1:])
-        if isinstance(option, Option) and option.names[-1] in COMMAS:
-            return f"_values -s , word {words}"
-        return f"({words})"
+        return f"({' '.join(kind[1:])})"
     if kind[0] == "files":
         ends = kind[1] if len(kind) == 2 else f"({'|'.join(kind[1:])})"
         return f'_files -g "*.{ends}(-.)"'
@@ -302,19 +306,21 @@ def zsh_option(option: Option) -> str:
     text = option.text.replace("'", "'\\''")
     value = ""
     if option.kind is not None:
-        of_words = option.kind[:1] == ("words",)
+        of_words = option.kind[:1] in (("words",), ("list",))
         value = f":{' ' if of_words else option.value}:{zsh_action(option)}"
     before = "*" if name in SEVERAL else ""
     if option.optional:
         return f"'{name}=-[{text}]:{value}'"
+    typed = name + "=" * (option.kind is not None)  # also in one word with the value
     if option.others and len(option.names) == 1:
-        return f"'({' '.join(option.others)}){name}[{text}]{value}'"
+        return f"'({' '.join(option.others)}){typed}[{text}]{value}'"
+    each = ",".join([*option.names[:-1], typed])
     if len(option.names) > 1 and not before:
         names = " ".join(option.names + option.others)
-        return f"'({names})'{{{','.join(option.names)}}}'[{text}]{value}'"
+        return f"'({names})'{{{each}}}'[{text}]{value}'"
     if len(option.names) > 1:
-        return f"'*'{{{','.join(option.names)}}}'[{text}]{value}'"
-    return f"'{before}{name}[{text}]{value}'"
+        return f"'*'{{{each}}}'[{text}]{value}'"
+    return f"'{before}{typed}[{text}]{value}'"
 
 
 def zsh_place(place: Place) -> str:

@@ -6,11 +6,13 @@
 
 # ---- what each shell offers for the last word of a line ------------------------------------
 
+# Words come as bash takes them apart, at = and : too.
 # shellcheck disable=SC2016  # another shell expands it
 offered_by_bash() { # LINE
     bash --norc -c '
         source tools/afdx.bash
-        read -r -a COMP_WORDS <<<"$1"
+        COMP_LINE=$1
+        read -r -a COMP_WORDS <<<"$(sed "s/[=:]/ & /g" <<<"$1")"
         if [[ $1 == *" " ]]; then COMP_WORDS+=(""); fi
         COMP_CWORD=$((${#COMP_WORDS[@]} - 1)) COMPREPLY=()
         function_of=$(complete -p "${COMP_WORDS[0]}" | sed "s/.*-F \([^ ]*\).*/\1/")
@@ -30,9 +32,11 @@ offered_by_fish() { # LINE
         -c 'source tools/afdx.fish; complete -C $argv[1]' -- "$1" | cut -f 1
 }
 
-offers() { # SHELL LINE WANTED.. : these words, folders aside; of a path the last part
+# These words, folders aside; of a path, of a list and behind `--name=` the last part.
+offers() { # SHELL LINE WANTED..
     local got wanted
-    got=$("offered_by_$1" "$2" | grep -v '/$' | sed 's|.*/||' | sort -u | paste -s -d ' ')
+    got=$("offered_by_$1" "$2" | grep -v '/$' | sed 's|.*/||; s/=$//; s/^--[a-z-]*=//; s/.*,//' |
+        sort -u | paste -s -d ' ')
     wanted=$(printf '%s\n' "${@:3}" | sort -u | paste -s -d ' ')
     if [[ $got != "$wanted" ]]; then echo "'$2' gives '$got', wanted '$wanted'"; fi
 }
@@ -71,6 +75,24 @@ offer_tests() { # SHELL
         offers "$1" "afdx send $files/one.toml " adc fcc
         offers "$1" 'afdx-icd --profile ' 1 2
         offers "$1" 'afdx-fill --keep ' jitter buffer latency skew
+    )"
+    tell "$1 completes words behind = and :" "$(
+        offers "$1" 'afdx replay --fcs=' yes no
+        offers "$1" 'afdx replay --fcs=n' no
+        offers "$1" 'afdx check --explain=' always auto never
+        offers "$1" 'afdx police --interface=0=A:1 --fcs=n' no
+        offers "$1" 'afdx police --interface=0=A:1 1' 1 16 128
+        offers "$1" 'afdx solve --keep=la' latency
+        offers "$1" 'afdx-report --stamps=end-' end-start
+        offers "$1" "afdx replay --interface 0=A:1 $files/" one.toml
+        offers "$1" "afdx replay --interface=0=A:1 $files/one.toml $files/" two.list four.pcap
+        offers "$1" "afdx send $files/one.toml --explain=never " adc fcc
+    )"
+    tell "$1 completes lists" "$(
+        offers "$1" 'afdx solve --keep jitter,' buffer latency skew
+        offers "$1" 'afdx solve --keep jitter,skew,la' latency
+        offers "$1" 'afdx-fill --keep=skew,j' jitter
+        offers "$1" 'afdx-report --fail-on silent,l' late left-out lost
     )"
     tell "$1 completes files, each of the kind that is wanted there" "$(
         offers "$1" "afdx check $files/" one.toml
@@ -156,9 +178,35 @@ options_offered() { # SHELL NAME OPTIONS
     fi
 }
 
+# Names as they are typed: with a space, in quotes or behind a backslash, of a file in the home, and
+# with the letters at which bash takes words apart. At these fish takes a name to begin anew.
+typed_tests() { # SHELL
+    local folder=$work/typed one='' three=''
+    if [[ $1 == fish ]]; then one=two.toml three=four.toml; fi
+    mkdir -p "$folder"
+    touch "$folder"/{'my net.toml',one:two.toml,three=four.toml,five.list}
+    echo 'name = "adc"' >"$folder/my net.toml"
+    launch timeout 1200 tests/tools/typed_tabs.py "$1" "$folder" 'afdx check my\ n' \
+        'afdx check "my n' "afdx check 'my n" 'afdx send my\ net.toml a' 'afdx check ~/own' \
+        'afdx replay ~/own.toml f' "afdx check one:$one" "afdx check three=$three" \
+        'afdx replay --interface 0=A:1 --fcs n' 'afdx check --explain=al' \
+        'afdx solve --keep jitter,la'
+    tell "$1 completes names as they are typed" "$(
+        is_status 0
+        printf '%s\n' "['check', 'my net.toml']" "['check', 'my net.toml']" \
+            "['check', 'my net.toml']" "['send', 'my net.toml', 'adc']" "['check', '~/own.toml']" \
+            "['replay', '~/own.toml', 'five.list']" "['check', 'one:two.toml']" \
+            "['check', 'three=four.toml']" \
+            "['replay', '--interface', '0=A:1', '--fcs', 'no']" \
+            "['check', '--explain=always']" "['solve', '--keep', 'jitter,latency']" >"$work/wanted"
+        same "$work/wanted" "$work/out"
+    )"
+}
+
 for shell in bash zsh fish; do
     if has "$shell"; then
         offer_tests "$shell"
+        typed_tests "$shell"
     else
         skip "completion in $shell" "there is no $shell (apt-get install $shell)"
     fi

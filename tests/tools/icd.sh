@@ -136,6 +136,11 @@ late_tests() {
         text_is err "afdx-icd: $late"$'\n'
         made_says "$at" 20 'latency_us = 112, skew_us = 112'
     )"
+    tables "$at.ms" '' '1s/within_us/Within [ms]/; s/,([0-9]+),(high|low),/,,\2,/
+        /^attitude/s/,,high/,0.1,high/'
+    icd "$at.ms"
+    tell 'a time is told as its column has it, in ms' "$(is_refused "$at.ms" 1 "messages.csv line \
+3, attitude: within_ms 0.1: to disp it can take 111111 ns; 0.112 is enough")"
     cp "$at/made.toml" "$work/before.toml"
     tables "$at" '' '/^air/s/,150,high/,9,high/'
     icd "$at"
@@ -161,6 +166,13 @@ rate 10: the messages to it are more than its line can carry (no A1 3)")"
         says err 'a link may allow 100000 us (no A4 3 21 '
         wc -l <"$work/err" | grep -vx 1
     )"
+    tables "$at" '3,4s/100$/10/' '3s/,10,120,/,1,1471,/; 4s/,200,1000,/,200,1471,/'
+    icd "$at"
+    tell 'all lines and senders that are asked for too much are told at once' "$(
+        is_refused "$at" 1 "systems.csv line 4, disp: rate 10: the messages to it are more than \
+its line can carry (no A1 3)" "systems.csv line 3, fcc: rate 10: its messages can hold one up for \
+2568000 ns; 500000 are the most (no A5 fcc 2568000)"
+    )"
     tables "$at" '3s/100$/10/' '4s/,200,1000,/,200,1471,/'
     icd "$at"
     tell 'a sender that is too busy' "$(is_refused "$at" 1 "systems.csv line 3, fcc: rate 10: its \
@@ -171,7 +183,8 @@ messages can hold one up for 1487200 ns; 500000 are the most (no A5 fcc 1487200)
     done >>"$at/messages.csv"
     icd "$at" --profile 2
     tell 'a buffer that is too large' "$(is_refused "$at" 1 "systems.csv line 3, fcc: port 2: \
-5469493 bytes can wait there; it has room for 4194304 (no A2 2 5469493)")"
+5469493 bytes can wait there; it has room for 4194304 (no A2 2 5469493)" "systems.csv line 2, adc: \
+rate 1000: its messages can hold one up for 34504552 ns; 500000 are the most (no A5 adc 34504552)")"
 }
 
 # ---- files, devices ----------------------------------------------------------------------------

@@ -76,7 +76,7 @@ afdx-icd: cables.csv: columns passed over: owner
     icd "$at"
     tell 'without cables a column of switches is passed over, as ever' "$(
         is_status 2
-        says err 'afdx-icd: systems.csv: columns passed over: switch'
+        says err 'afdx-icd: systems.csv: columns passed over: switch; with --cables each system is'
         says err 'systems.csv line 5, fcc: port 1: systems.csv line 2 has it too'
     )"
 }
@@ -166,7 +166,9 @@ late_over_tests() {
     three_tables "$at" '' '/^acc/s/,5,200,/,1,1400,/' 's/100$/10/'
     icd_over "$at"
     tell 'messages that are too much for a cable' "$(is_refused "$at" 1 "cables.csv line 2, nose: \
-rate 10: the messages from nose to bay are more than the line can carry (no A1 nose 24)")"
+rate 10: the messages from nose to bay are more than the line can carry (no A1 nose 24)" \
+        "systems.csv line 7, rec: rate 10: the messages to rec are more than the line can carry \
+(no A1 bay 3)")"
     three_tables "$at" '' '/^flight/s/,200,1200,/,1,1471,/' '2s/(.*),24,100/\1,24,10/'
     sed -i -E '2s/(.*),(.*),(.*),(.*),(.*)/\3,\4,\1,\2,\5/' "$at/cables.csv"
     icd_over "$at"
@@ -182,6 +184,14 @@ rate 10: the messages to rec are more than the line can carry (no A1 bay 3)")"
     tell 'a sender that is too busy, over two switches' "$(is_refused "$at" 1 "systems.csv line 3, \
 ahrs: rate 10: its messages can hold one up for 1420000 ns; 500000 are the most \
 (no A5 nose ahrs 1420000)")"
+    three_tables "$at" '/^(ahrs|act)/s/100$/10/' \
+        '/^acc/s/,5,200,/,1,1471,/; /^actuator faults/s/,1000,400,/,128,1471,/' 's/100$/10/'
+    icd_over "$at"
+    tell 'all that is asked for too much at several switches is told at once' "$(
+        is_status 1
+        for line in A1 A5; do grep -q "(no $line " "$work/err" || echo "no $line"; done
+        [[ $(grep -c '(no A[15] ' "$work/err") -ge 4 ]] || cat "$work/err"
+    )"
 }
 
 room_over_tests() {
@@ -278,7 +288,7 @@ fault_over_tests() {
         'systems.csv line 4, bay: system bay: a switch has that name' \
         'cables.csv line 3, nose: second switch bay: cables.csv line 2 joins them too' \
         'cables.csv line 4, bay: port 25: it has to be a whole number from 1 to 24' \
-        'cables.csv line 4, bay: rate 1000: it has to be 10 or 100' \
+        'cables.csv line 4, bay: rate 1000: it has to be 10 or 100; with --profile 2 also this' \
         'cables.csv line 4, bay: second switch bay: a cable joins two switches' \
         "cables.csv line 5, tail: second switch no se: $no_name" \
         'cables.csv line 3, nose: port 3: systems.csv line 4 has it too, at nose' \

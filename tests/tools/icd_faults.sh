@@ -50,7 +50,7 @@ messages.csv line 3, attitude: every_ms 0.5: no BAG is so short; the least is 1 
 
 a period is no number
 messages: 3s/,10,120/,10 ms,120/
-messages.csv line 3, attitude: every_ms 10 ms: it has to be a period in ms, as 20 or 12.5
+messages.csv line 3, attitude: every_ms 10 ms: it has to be a period, as 20 or 12.5 ms
 
 a message is too long
 messages: 3s/,10,120/,10,1472/
@@ -112,7 +112,7 @@ systems.csv line 2, a.dc: system a.dc: it has to be a name of 1 to 16 letters A 
 
 a number may be a fraction or thousands
 messages: 4s/,200,1000,1000,/,"1,200",1.000,"1000,0",/
-messages.csv line 4, maintenance report: every_ms 1,200: it has to be a period in ms, as 20 or 12.5
+messages.csv line 4, maintenance report: every_ms 1,200: it has to be a period, as 20 or 12.5 ms
 messages.csv line 4, maintenance report: bytes 1.000: it has to be a whole number from 1 to 1471
 
 a number has a fraction
@@ -129,7 +129,22 @@ messages.csv: no column is named every_ms
 
 a rate is of profile 2
 systems: 2s/100$/1000/
-systems.csv line 2, adc: rate 1000: it has to be 10 or 100
+systems.csv line 2, adc: rate 1000: it has to be 10 or 100; with --profile 2 also this
+
+a rate is of profile 2, in Gbit/s
+systems: 1s/rate/Rate (Gbit_s)/; s/,100$/,1/
+systems.csv line 2, adc: rate_gbit_s 1: it has to be 0.01 or 0.1; with --profile 2 also this
+systems.csv line 3, fcc: rate_gbit_s 1: it has to be 0.01 or 0.1; with --profile 2 also this
+systems.csv line 4, disp: rate_gbit_s 1: it has to be 0.01 or 0.1; with --profile 2 also this
+
+a rate is of no profile
+systems: 2s/100$/1001/
+systems.csv line 2, adc: rate 1001: it has to be 10 or 100
+
+times are in ms and ns
+messages: 1s/within_us/within [ms]/; 1s/every_ms/every [ns]/; 3s/,10,120,120,/,10000000,120,101,/; 2s/,20,64,150,/,20000000,64,0.0001,/; 4,$d
+messages.csv line 2, air data: within_ms 0.0001: it has to be 0.001 to 100, in steps of 0.001
+messages.csv line 3, attitude: within_ms 101: it has to be 0.001 to 100, in steps of 0.001
 
 a column is missing
 messages: 1s/within_us/within/

@@ -316,7 +316,7 @@ def tried(folder: str, tables: Tables) -> bool:
     if status == 2:
         must(all("no cables lead to" in line or ": via " in line for line in said), f"{said}")
         return False
-    if status == 1 and len(said) == 1 and "(no " in said[0]:
+    if status == 1 and said and all("(no " in line for line in said):
         return False
     must(status == 0 and said[-1:] == ["ok"], f"{status} {said}")
     made = read(folder)

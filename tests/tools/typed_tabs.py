@@ -4,8 +4,8 @@
     tests/tools/typed_tabs.py bash|zsh|fish FOLDER LINE..
 
 The shell has the completion of tools/ and begins in FOLDER; `afdx` is a script there that notes its
-words. Prints for each line the words that the script got, as Python writes them, or `nothing` if it
-wasn't run.
+words; the home has a file own.toml. Prints for each line the words that the script got, as Python
+writes them, with ~ for the home, or `nothing` if it wasn't run.
 """
 from __future__ import annotations
 
@@ -40,6 +40,8 @@ def furnish(home: str) -> None:
     with open(os.path.join(home, "afdx"), "w", encoding="ascii") as file:
         file.write(SCRIPT)
     os.chmod(os.path.join(home, "afdx"), 0o755)
+    with open(os.path.join(home, "own.toml"), "w", encoding="ascii"):
+        pass
 
 
 class Typed(NamedTuple):
@@ -96,15 +98,16 @@ def rests(child: int) -> bool:
     return True
 
 
-def noted(path: str) -> str:
+def noted(home: str) -> str:
     """The words that the script got, once it has noted them."""
+    path = os.path.join(home, "noted")
     end = time.monotonic() + LONGEST
     while not os.path.exists(path):
         if time.monotonic() > end:
             return "nothing"
         time.sleep(0.02)
     with open(path, "rb") as file:
-        words = [os.fsdecode(word) for word in file.read().split(b"\0")[:-1]]
+        words = [os.fsdecode(word).replace(home, "~") for word in file.read().split(b"\0")[:-1]]
     os.remove(path)
     return repr(words)
 
@@ -125,7 +128,7 @@ def main() -> None:
         for line in lines:
             type_in(typed, line + "\t")
             type_in(typed, "\r")
-            print(noted(os.path.join(home, "noted")))
+            print(noted(home))
         stop(typed)
 
 

@@ -118,6 +118,14 @@ def bounds(config: bytes) -> Bounds:
     return Bounds(worst_of(needs), fullest)
 
 
+def overloads(line: str, config: bytes) -> list[str]:
+    """All lines of admission that no values make true, with the one by which `solve` refuses a
+    configuration. Here it has values: any, since these lines don't depend on them."""
+    out = run(["check", "--all"], config).out.splitlines()
+    lines = [each for each in out if each.startswith(("no A1 ", "no A5 "))]
+    return lines if line in lines else [line, *lines]
+
+
 def check(config: bytes) -> str:
     """The answer of admission: `ok`, `no ..` or `config ..`."""
     said = run(["check"], config)

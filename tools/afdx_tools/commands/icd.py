@@ -35,14 +35,14 @@ from afdx_tools.icd.cascade import Cascade, Values
 from afdx_tools.icd.changes import Comparison
 from afdx_tools.icd.changes_over import change_lines
 from afdx_tools.icd.document import Document
-from afdx_tools.icd.layout import asked_text, config_text, naming_text, with_solved
+from afdx_tools.icd.layout import any_text, asked_text, config_text, naming_text, with_solved
 from afdx_tools.icd.making import text_with
 from afdx_tools.icd.reading import add_document_words, read_document
 from afdx_tools.icd.room import room_of, roomy
 from afdx_tools.icd.untimely import late_lines, refusal
 from afdx_tools.naming import with_table
 from afdx_tools.outputs import finished
-from afdx_tools.solving import bounds, check, read_admitted, solve
+from afdx_tools.solving import bounds, check, overloads, read_admitted, solve
 from afdx_tools.version import add_version
 
 TOOL = "afdx-icd"
@@ -90,7 +90,8 @@ def run() -> int:
         return make_several(args, Cascade(document, document.cabling), since)
     solved = solve(asked_text(document))
     if solved.line:
-        say([refusal(document, solved.line)])
+        lines = overloads(solved.line, any_text(document))
+        say([refusal(document, line) for line in lines])
         return 1
     return make(args, document, solved_tables(document, solved.text), since)
 

@@ -43,4 +43,4 @@ def made_of(cascade: Cascade, reserve: int, old: Values, is_raised: bool) -> Mad
             return Made(late, None)
         return Made(late, again.with_buffers(given_out(again, roomy)))
     except Unsolved as fault:
-        return Made([str(fault)], None)
+        return Made(list(fault.args), None)

@@ -13,6 +13,8 @@ from afdx_tools.spreadsheets.sheets import Row
 ENDS = (("switch", "port"), (f"{SECOND} switch", f"{SECOND} port"))  # the columns of each end
 CABLES = dict.fromkeys((*ENDS[0], *ENDS[1], "rate"), True)
 RATES = {1: (10, 100), 2: (10, 100, 1000)}
+# rates that need a word of the command
+RATES_WITH: dict[int, dict[int, str]] = {1: {1000: "--profile 2"}, 2: {}}
 MOST_SWITCHES = 24
 
 
@@ -105,7 +107,7 @@ def add_cable(cabling: Cabling, row: Row, profile: int, faults: list[str]) -> No
         End(cabling.switches.get(row.cells[column], ""), cells.whole(port, 1, 24), port)
         for column, port in ENDS
     )
-    rate = cells.member("rate", RATES[profile])
+    rate = cells.member("rate", RATES[profile], RATES_WITH[profile])
     if one.switch == other.switch != "":
         cells.refuse(ENDS[1][0], "a cable joins two switches")
     elif one.switch and other.switch:

@@ -9,7 +9,7 @@ from fractions import Fraction
 from typing import Iterable, Iterator
 
 from afdx_tools.faults import shown
-from afdx_tools.icd.cabling import RATES, Cabling
+from afdx_tools.icd.cabling import RATES, RATES_WITH, Cabling
 from afdx_tools.icd.names import NO_NAME
 from afdx_tools.icd.ways import Tree
 from afdx_tools.spreadsheets.cells import MOST_US, Cells, bag_of
@@ -32,6 +32,7 @@ FULL_MESSAGES = tuple(
 AROUND = 47  # bytes of a frame that aren't the message's
 SHORTEST, LONGEST = 64, 1518  # bytes of a frame
 MOST_LINKS = MOST_PORTS = 4096
+MOST_BUFFER = 4_194_304  # bytes of a port
 POLICINGS = ("byte", "frame")
 # what all rows of a message say alike: the columns, and what a message has of them
 GIVEN_ALIKE = (("every_ms", "period_ms"), ("bytes", "bytes"))
@@ -109,7 +110,7 @@ def add_system(document: Document, row: Row) -> None:
         "port": cells.whole("port", 1, 24),
         "id": cells.whole("id", 0, 65_535),
         "partition": cells.whole("partition", 0, 255),
-        "rate": cells.member("rate", RATES[document.profile]),
+        "rate": cells.member("rate", RATES[document.profile], RATES_WITH[document.profile]),
     }
     document.systems.append(system)
     document.system_rows.setdefault(row.name, row)

@@ -6,8 +6,8 @@ from typing import Iterator, Mapping
 
 from afdx_tools.faults import shown
 from afdx_tools.icd.cascade import Cascade, Place, Receiver
-from afdx_tools.icd.document import Message
-from afdx_tools.icd.untimely import MOST_BUFFER, MOST_JITTER
+from afdx_tools.icd.document import MOST_BUFFER, Message
+from afdx_tools.icd.untimely import MOST_JITTER
 from afdx_tools.spreadsheets.cells import MOST_US
 
 
@@ -45,9 +45,10 @@ def late_lines(
     for message, receiver in late_messages(cascade, enough):
         us = sum(least[place] for place in cascade.places_to(receiver))
         system = shown(cascade.document.called(receiver.system))
+        allowed = message.row.in_head("within_us", enough[receiver])
         lines.append(
             f"{message.row.at('within_us')}: to {system} it can take {us} us "
-            f"({way_text(cascade, receiver, least)}); {enough[receiver]} is enough{room}"
+            f"({way_text(cascade, receiver, least)}); {allowed} is enough{room}"
         )
     return lines
 
@@ -94,7 +95,7 @@ def too_full(cascade: Cascade, switch: str, port: int, needed: str, room: str = 
 
 
 def refusal(cascade: Cascade, line: str) -> str:
-    """The line by which `solve` refuses the tables, in the words of the document."""
+    """A line of admission that no values make true, in the words of the document."""
     document = cascade.document
     match line.split():
         case ["no", "A1", switch, port]:

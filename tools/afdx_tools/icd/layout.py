@@ -5,8 +5,9 @@ from __future__ import annotations
 from typing import Iterator, Mapping
 
 from afdx_tools.faults import shown
-from afdx_tools.icd.document import Document, apart
+from afdx_tools.icd.document import MOST_BUFFER, Document, apart
 from afdx_tools.naming import row_of
+from afdx_tools.spreadsheets.cells import MOST_US
 from afdx_tools.tables import csv_text
 
 SOLVED = ("jitter_us", "latency_us", "skew_us")  # the keys of a link that `solve` finds
@@ -76,6 +77,14 @@ def config_text(document: Document, tables: dict) -> bytes:
 def asked_text(document: Document) -> bytes:
     """The configuration with the keys that are asked for."""
     return config_text(document, {"link": document.links})
+
+
+def any_text(document: Document) -> bytes:
+    """The configuration with any values, each in its range, in the place of those that are
+    solved."""
+    values = {"jitter_us": 0, "latency_us": MOST_US, "skew_us": MOST_US}
+    links = [link | values for link in document.links]
+    return config_text(document, {"buffer": MOST_BUFFER, "link": links})
 
 
 def several_text(document: Document, switches: list[dict]) -> bytes:

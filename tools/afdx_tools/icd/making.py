@@ -7,11 +7,11 @@ from typing import Mapping
 
 from afdx_tools.faults import Failed, Refused
 from afdx_tools.icd.cascade import Cascade, Place, Values
+from afdx_tools.icd.document import MOST_BUFFER
 from afdx_tools.icd.late_ways import refusal, too_full, too_late
 from afdx_tools.icd.layout import several_text, shortened
 from afdx_tools.icd.room import Room
-from afdx_tools.icd.untimely import MOST_BUFFER
-from afdx_tools.solving import Worst, run, solve
+from afdx_tools.solving import Worst, overloads, run, solve
 from afdx_tools.spreadsheets.cells import MOST_US
 
 MOST_BYTES = 4_194_304  # of a configuration
@@ -23,7 +23,7 @@ Latencies = Mapping[Place, int]  # of rows, in us
 
 
 class Unsolved(Exception):
-    """No values are enough; why, in the words of the document."""
+    """No values are enough; why, in lines in the words of the document."""
 
 
 def text_with(cascade: Cascade, values: Values) -> bytes:
@@ -58,6 +58,13 @@ def values_in(cascade: Cascade, text: str) -> Values:
             values.latencies[switch, vl] = next(numbers)
             values.skews[switch, vl] = next(numbers)
     return values
+
+
+def any_values(cascade: Cascade) -> Values:
+    """Values of which each is in its range."""
+    most = dict.fromkeys(cascade.places(), MOST_US)
+    buffers = dict.fromkeys(cascade.switches, MOST_BUFFER)
+    return Values(buffers, dict.fromkeys(most, 0), most, most)
 
 
 class Bounds:
@@ -99,7 +106,8 @@ class Making:
         values = Values(latencies=dict(asked), skews=self.skews)
         found = solve(text_with(self.cascade, values))
         if found.line:
-            raise Unsolved(refusal(self.cascade, found.line))
+            lines = overloads(found.line, text_with(self.cascade, any_values(self.cascade)))
+            raise Unsolved(*(refusal(self.cascade, line) for line in lines))
         return values_in(self.cascade, found.text)
 
     def with_room(self, asked: Latencies) -> Values:

@@ -181,7 +181,10 @@ def read_document(args: argparse.Namespace) -> tuple[Document, list[str]]:
     remarks = []
     for sheet in sheets.values():
         if sheet.others:
-            remarks.append(f"{sheet.name}: columns passed over: {', '.join(sheet.others)}")
+            others = ", ".join(sheet.others)
+            if "switch" in sheet.others:
+                others += "; with --cables each system is at the switch that it names"
+            remarks.append(f"{sheet.name}: columns passed over: {others}")
         if sheet.filled:
             remarks.append(f"{sheet.name}: {sheet.filled} empty cells have what stands above them")
     systems, messages, cables = (sheets.get(name) for name in CABLED_TABLES)

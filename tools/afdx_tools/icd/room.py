@@ -5,8 +5,8 @@ from __future__ import annotations
 from dataclasses import dataclass, field
 
 from afdx_tools.faults import Failed
-from afdx_tools.icd.document import Document
-from afdx_tools.icd.untimely import MOST_BUFFER, too_full, too_late
+from afdx_tools.icd.document import MOST_BUFFER, Document
+from afdx_tools.icd.untimely import too_full, too_late
 from afdx_tools.solving import Bounds
 from afdx_tools.spreadsheets.cells import MOST_US
 

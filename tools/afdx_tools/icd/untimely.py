@@ -3,11 +3,10 @@ from __future__ import annotations
 
 from typing import Iterator, Mapping
 
-from afdx_tools.icd.document import Document, Message
+from afdx_tools.icd.document import MOST_BUFFER, Document, Message
 from afdx_tools.solving import Worst
 from afdx_tools.spreadsheets.cells import MOST_US
 
-MOST_BUFFER = 4_194_304  # bytes of a port
 MOST_JITTER = 500_000  # ns of a sender
 
 
@@ -33,7 +32,7 @@ def late_lines(
         port, needed_ns = worst[vl]
         lines.append(
             f"{message.row.at('within_us')}: to {document.system_at(port)} it can take "
-            f"{needed_ns} ns; {enough_us[vl]} is enough{room}"
+            f"{needed_ns} ns; {message.row.in_head('within_us', enough_us[vl])} is enough{room}"
         )
     return lines
 
@@ -54,7 +53,7 @@ def too_full(document: Document, port: int, needed: str, room: str = "") -> str:
 
 
 def refusal(document: Document, line: str) -> str:
-    """The line by which `solve` refuses the tables, in the words of the document."""
+    """A line of admission that no values make true, in the words of the document."""
     match line.split():
         case ["no", "A1", port]:
             row = document.system_rows[document.system_at(int(port))]

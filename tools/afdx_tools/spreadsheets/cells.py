@@ -5,7 +5,7 @@ import itertools
 import re
 from collections import Counter
 from fractions import Fraction
-from typing import Iterable, Sequence
+from typing import Iterable, Mapping, Sequence
 
 from afdx_tools.spreadsheets.heads import amount_of
 from afdx_tools.spreadsheets.sheets import Row
@@ -29,7 +29,7 @@ class Cells:
     def amount(self, column: str) -> Fraction | None:
         """The number of a cell in the unit of its column, whatever that of its head is."""
         number = amount_of(self.row.cells[column])
-        return None if number is None else number * self.row.factors.get(column, 1)
+        return None if number is None else number * self.row.factor(column)
 
     def whole(self, column: str, least: int, most: int, empty: int | None = None) -> int | None:
         """A whole number of a range."""
@@ -38,7 +38,12 @@ class Cells:
         number = self.amount(column)
         if number is not None and number.denominator == 1 and least <= number <= most:
             return int(number)
-        self.refuse(column, f"it has to be a whole number from {least} to {most}")
+        low, high = self.row.in_head(column, least), self.row.in_head(column, most)
+        if self.row.factor(column) == 1:
+            self.refuse(column, f"it has to be a whole number from {low} to {high}")
+        else:
+            step = self.row.in_head(column, 1)
+            self.refuse(column, f"it has to be {low} to {high}, in steps of {step}")
         return None
 
     def given(self, column: str, least: int, most: int) -> int | None:
@@ -62,24 +67,26 @@ class Cells:
         self.refuse_other(column, words)
         return None
 
-    def member(self, column: str, numbers: Sequence[int]) -> int | None:
-        """One of some numbers."""
+    def member(self, column: str, numbers: Sequence[int], needs: Mapping[int, str]) -> int | None:
+        """One of some numbers; `needs` are words with which others may be given too."""
         number = self.amount(column)
         if number is not None and number in numbers:
             return int(number)
-        self.refuse_other(column, numbers)
+        allowed = [self.row.in_head(column, each) for each in numbers]
+        word = "" if number is None else needs.get(int(number), "")
+        self.refuse_other(column, allowed, f"; with {word} also this" if word else "")
         return None
 
-    def refuse_other(self, column: str, allowed: Sequence[object]) -> None:
+    def refuse_other(self, column: str, allowed: Sequence[str], more: str = "") -> None:
         """Notes that a cell is none of what it may be."""
-        *others, last = map(str, allowed)
-        self.refuse(column, f"it has to be {', '.join(others)} or {last}")
+        *others, last = allowed
+        self.refuse(column, f"it has to be {', '.join(others)} or {last}{more}")
 
     def period_ms(self, column: str) -> Fraction | None:
         """A period in ms, which may have a fraction."""
         number = self.amount(column)
         if number is None or number >= LONGEST_PERIOD:
-            self.refuse(column, "it has to be a period in ms, as 20 or 12.5")
+            self.refuse(column, "it has to be a period, as 20 or 12.5 ms")
         elif number < BAGS_MS[0]:
             self.refuse(column, "no BAG is so short; the least is 1 ms")
         else:

@@ -27,20 +27,21 @@ SECOND = "second"  # before the name of a column: the second one of two that hav
 
 
 class Head(NamedTuple):
-    """The column that a head names, and by what its numbers are multiplied."""
+    """The column that a head names, by what its numbers are multiplied, and how the head is
+    written, in one spelling."""
 
     column: str
     factor: Fraction
+    written: str
 
 
 def heads_of(column: str) -> Iterator[tuple[str, Head]]:
     """The heads that name a column, in one spelling, and what they say."""
-    yield spelled(column), Head(column, Fraction(1))
+    yield spelled(column), Head(column, Fraction(1), column)
     base, factors = UNITS.get(column, ("", {}))
     for unit, factor in factors.items():
-        yield f"{base}_{unit}", Head(column, factor)
-        if factor == 1:
-            yield f"{column}_{unit}", Head(column, factor)
+        for head in (f"{base}_{unit}", *([f"{column}_{unit}"] if factor == 1 else [])):
+            yield head, Head(column, factor, column if factor == 1 else head)
 
 
 def spelled(head: str) -> str:

@@ -5,6 +5,7 @@ from __future__ import annotations
 import csv
 import io
 from dataclasses import dataclass, field
+from decimal import Decimal
 from fractions import Fraction
 from typing import Collection, Iterator, Mapping, NamedTuple
 
@@ -19,12 +20,12 @@ MOST_ROWS = 10_000
 
 class Row(NamedTuple):
     """A row of a table: where it begins, the column that names it, its cells by their columns, and
-    by what the numbers of a column are multiplied."""
+    the heads of these columns."""
 
     place: str
     key: str
     cells: dict[str, str]
-    factors: Mapping[str, Fraction]
+    heads: Mapping[str, Head]
 
     @property
     def name(self) -> str:
@@ -34,12 +35,22 @@ class Row(NamedTuple):
     def at(self, column: str) -> str:
         """The row and one of its cells, for a line to its user."""
         named = f"{self.place}, {shown(self.name)}" if self.name else self.place
-        return f"{named}: {column} {self.shown(column)}"
+        head = self.heads.get(column)
+        return f"{named}: {head.written if head else column} {self.shown(column)}"
 
     def shown(self, column: str) -> str:
         """A cell as it can be printed."""
         text = self.cells[column]
         return shown(text if len(text) <= LONGEST else f"{text[:LONGEST]}..") or "(empty)"
+
+    def factor(self, column: str) -> Fraction:
+        """By what the numbers of a column are multiplied."""
+        return self.heads[column].factor if column in self.heads else Fraction(1)
+
+    def in_head(self, column: str, amount: Fraction | int) -> str:
+        """An amount of a column in the unit of its head, which a power of ten makes of it."""
+        number = Fraction(amount) / self.factor(column)
+        return f"{(Decimal(number.numerator) / number.denominator).normalize():f}"
 
 
 @dataclass
@@ -108,8 +119,7 @@ def row_of(
         raise Refused(f"{place}: it has more cells than the table has columns")
     found = dict.fromkeys(columns, "")
     found.update((head.column, cell) for head, cell in zip(heads, cells) if head)
-    factors = {head.column: head.factor for head in heads if head}
-    return Row(place, next(iter(columns)), found, factors)
+    return Row(place, next(iter(columns)), found, {head.column: head for head in heads if head})
 
 
 def read_sheet(
