@@ -237,7 +237,7 @@ _afdx_takes() { # COMMAND : its options, and those that take a value
             options=(--help --version --out --no-admission --link --from --rows --worst --compare \
                 --title --cover --json --interface --taps --fcs --origin --reorder --stamps \
                 --fail-on --junit --conform --slack --drift --inner --asked --until --leave-out \
-                --switch --left --lossy)
+                --switch --left --lossy --exercised)
             valued=(--out --link --from --rows --worst --compare --title --cover --interface \
                 --taps --fcs --origin --reorder --stamps --fail-on --junit --slack --drift \
                 --inner --asked --until --leave-out --switch --left)

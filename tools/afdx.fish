@@ -362,6 +362,7 @@ complete -c afdx-report -x -l leave-out -d 'a link that isn\'t judged, or other,
 complete -c afdx-report -x -l switch -d 'which of several switches is judged'
 complete -c afdx-report -x -l left -d 'where the frames of interface K left'
 complete -c afdx-report -l lossy -d 'also where the recorder lost frames'
+complete -c afdx-report -l exercised -d 'no verdict where a stream that is judged is idle'
 complete -c afdx-report -n '__afdx_at - 0 0' -a '(__afdx_files toml)'
 complete -c afdx-report -n '__afdx_at - 1 1' -a '(__afdx_files list pcap pcapng)'
 complete -c afdx-report -n '__afdx_at - 2 2' -a '(__afdx_files pcap pcapng)'

@@ -252,6 +252,7 @@ _afdx_takes() { # COMMAND
             '--switch[which of several switches is judged]:name:' \
             '*--left[where the frames of interface K left]:k=place:' \
             '--lossy[also where the recorder lost frames]' \
+            '--exercised[no verdict where a stream that is judged is idle]' \
             ':config:_files -g "*.toml(-.)"' \
             ':list:_files -g "*.(list|pcap|pcapng)(-.)"' \
             '::list:_files -g "*.(pcap|pcapng)(-.)"'

@@ -88,8 +88,8 @@ def tapped(
 def read(
     inputs: Inputs, options: Options, judged: Judged, config: Config
 ) -> tuple[Iterable[Frame], Iterable[Frame], Recorded]:
-    """What came and what left, nothing where a fault ended the run; and what recordings say, also
-    where the fault is that frames stand too far back."""
+    """What came and what left, nothing where a fault ended the run; and what recordings say: after
+    a fault only how far back frames stand, if that is the fault."""
     if judged.fault and not (inputs.are_recorded and judged.fault.startswith(TOO_FAR_BACK)):
         return (), (), Recorded()
     if not inputs.are_recorded:
@@ -98,7 +98,9 @@ def read(
     ends = Ends(config, links_at(config, options.switch)[0])
     reading = Reading(options.recorders, ends, numbers_in(judged.deviations))
     recorded = reading.read(inputs.paths)
-    return ((), (), recorded) if judged.fault else (recorded.came, recorded.left, recorded)
+    if judged.fault:
+        return (), (), Recorded(back=recorded.back)
+    return recorded.came, recorded.left, recorded
 
 
 def made_by(
