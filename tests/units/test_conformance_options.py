@@ -88,6 +88,11 @@ class Slack(unittest.TestCase):
         self.assertIn("the clock of what left is behind", reason)
         self.assertIn("editcap -t 0.00029", reason)
 
+    def test_stamps_of_first_bits(self) -> None:
+        first = "do cards stamp first bits there? Then say --stamps end-start"
+        self.assertIn(first, self.asked(left=lambda time: time - 64 * 800)[1])
+        self.assertNotIn(first, self.asked(left=lambda time: time - 300_000)[1])
+
     def test_a_frame_that_leaves_before_it_can(self) -> None:
         first = rows_of()["--slack"]["value"]
         late = iter([20_000])

@@ -39,9 +39,9 @@ PROVED = (
 COUNTED = (
     "Counted by this report from the lists or recordings, and not proved: how long a frame was "
     "inside, which is the time of the frame that left less that of the one with its bytes that "
-    "came, by their stamps; with percentiles, shares and the picture. A frame of which the program "
-    "found nothing may be paired with another one of equal bytes. So are what the numbers of "
-    "frames say, which links were idle, and the options that the stamps ask for."
+    "came, by their stamps; with percentiles, shares and the picture; what the numbers of frames "
+    "say; which links were idle; and the options that the stamps ask for. A frame of which the "
+    "program found nothing may be paired with another one of equal bytes."
 )
 CARDS = {
     "explained": "explained",

@@ -70,9 +70,10 @@ def of_bunches(lines: Sequence[Line]) -> Proposal | None:
     return Proposal("--slack", half(worst.bunched), reason)
 
 
-def of_early_frames(offsets: Sequence[Offset]) -> Proposal | None:
+def of_early_frames(offsets: Sequence[Offset], is_of_last_bits: bool) -> Proposal | None:
     """Half of that by which a frame left before it can have. Where most frames did, a clock is
-    behind. An option of two clocks that are apart alone would be proposed here for the median."""
+    behind, or stamps that are taken for those of last bits are of first ones. An option of two
+    clocks that are apart alone would be proposed here for the median."""
     steady = [offset for offset in offsets if not offset.slope]
     worst = min(steady, key=lambda offset: offset.spread[0], default=None)
     if worst is None or worst.spread[0] >= 0:
@@ -84,6 +85,8 @@ def of_early_frames(offsets: Sequence[Offset]) -> Proposal | None:
         reason = f"the clock of what left is behind that of what came, {way(worst)}: frames seem "
         reason += f"to leave up to {early} ns before they can have, half of them {-median} ns or "
         reason += f"more. Better set it right: {shift(-median)}"
+        if worst.by_first_bits >= 0 and is_of_last_bits:
+            reason += "; or do cards stamp first bits there? Then say --stamps end-start instead"
     return Proposal("--slack", half(early), reason)
 
 
@@ -104,11 +107,13 @@ def amiss(offset: Offset) -> int:
     return max(-offset.spread[0], offset.most_over)
 
 
-def slack(lines: Sequence[Line], offsets: Sequence[Offset]) -> Proposal | None:
+def slack(
+    lines: Sequence[Line], offsets: Sequence[Offset], is_of_last_bits: bool
+) -> Proposal | None:
     """What stamps need; None where there are none."""
     if not offsets and not any(line.step for line in lines):
         return None
-    found = (of_steps(lines), of_bunches(lines), of_early_frames(offsets),
+    found = (of_steps(lines), of_bunches(lines), of_early_frames(offsets, is_of_last_bits),
              of_clocks_that_part(offsets))  # fmt: skip
     if any(found):
         return max(filter(None, found), key=lambda each: each.value)
@@ -180,8 +185,13 @@ class Proposals:
         self.options = measured.options
         self.lines = lines_of(measured, resolution)
         self.offsets = offsets_of(measured)
-        found = (slack(self.lines, self.offsets), drift(self.offsets), inner(self.offsets),
-                 reorder(back, self.options.reorder))  # fmt: skip
+        is_of_last_bits = not self.options.recorders.are_starts(True)
+        found = (
+            slack(self.lines, self.offsets, is_of_last_bits),
+            drift(self.offsets),
+            inner(self.offsets),
+            reorder(back, self.options.reorder),
+        )
         self.found = [each for each in found if each]
 
     def tables(self) -> Row:

@@ -35,11 +35,21 @@ class Line(NamedTuple):
     bunched: int
 
 
+class Pair(NamedTuple):
+    """A frame that came and left: when it came; the time between, less that on the line; the time
+    between, less its latency; and how long it was on the line, first to last bit."""
+
+    came: int
+    offset: int
+    over: int
+    lasting: int
+
+
 class Offset(NamedTuple):
     """Of frames that came at a port and left at another one: how many; the time between, less that
     on the line: the least, a tenth, half, nine tenths, the greatest; how many were inside for
     longer than their latency, the most by so many ns; the slope in millionths, None where none can
-    be told."""
+    be told; and the least time between if the stamps of what left were of first bits."""
 
     side: str
     came: int
@@ -49,6 +59,7 @@ class Offset(NamedTuple):
     over: int
     most_over: int
     slope: float | None
+    by_first_bits: int
 
 
 # ---- lines ---------------------------------------------------------------------------------------
@@ -133,23 +144,21 @@ def slope_of(times: np.ndarray, offsets: np.ndarray) -> float | None:
     return float(slope) * MILLION if change > max(LEAST_CHANGE, 4 * stray) else 0.0
 
 
-def offset_of(
-    came: int, stream: Stream, pairs: list[tuple[int, int, int]]
-) -> Offset:
-    """How far what left is from what came: of each frame the time at which it came, the time
-    between less that on the line, and that less its latency."""
-    times, offsets, over = (np.array(each, np.int64) for each in zip(*pairs))
+def offset_of(came: int, stream: Stream, pairs: list[Pair]) -> Offset:
+    """How far what left is from what came."""
+    times, offsets, over, lasting = (np.array(each, np.int64) for each in zip(*pairs))
     ranks = np.quantile(offsets, (0, 0.1, 0.5, 0.9, 1), method="lower")
     spread = tuple(int(rank) for rank in ranks)
     slope = slope_of(times, offsets)
     return Offset(stream.side, came, stream.port, len(pairs), spread,  # type: ignore[arg-type]
-                  int(np.sum(over > 0)), int(over.max()), slope)  # fmt: skip
+                  int(np.sum(over > 0)), int(over.max()), slope,
+                  int((offsets + lasting).min()))  # fmt: skip
 
 
 def offsets_of(measured: Measured) -> list[Offset]:
     """The offsets between all ports, of frames that no other one of equal bytes is near to."""
     came = {key: times_by_bytes(frames) for key, frames in measured.came.items()}
-    pairs: dict[tuple[str, int, int], list[tuple[int, int, int]]] = defaultdict(list)
+    pairs: dict[tuple[str, int, int], list[Pair]] = defaultdict(list)
     for stream, frames in measured.left.items():
         link = measured.links[stream.vl]
         all_came = came.get((stream.side, stream.vl))
@@ -163,9 +172,9 @@ def offsets_of(measured: Measured) -> list[Offset]:
             near = min(times[max(at - 1, 0) : at + 1], default=None,
                        key=lambda time: abs(frame.time - time))  # fmt: skip
             if near is not None and abs(frame.time - near) <= MOST_APART:
-                inside = frame.time - near
-                line = (frame.length + BEFORE_FRAME) * byte_ns
-                here.append((near, inside - line, inside - link.latency_ns))
+                inside, lasting = frame.time - near, frame.length * byte_ns
+                line = lasting + BEFORE_FRAME * byte_ns
+                here.append(Pair(near, inside - line, inside - link.latency_ns, lasting))
     return [offset_of(port, Stream(side, 0, left), each)
             for (side, port, left), each in sorted(pairs.items()) if each]  # fmt: skip
 
