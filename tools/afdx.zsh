@@ -45,20 +45,20 @@ _afdx_takes() { # COMMAND
             ':config:_files -g "*.toml(-.)"'
         ;;
     'afdx conform')
-        _arguments '--slack[By how many ns a stamp may be off]:ns:' \
-            '--drift[By how many millionths the rates of the switch'\''s clock and of the recorders'\'' may differ]:ppm:' \
-            '--inner[How many ns a frame may take inside beyond its link'\''s latency]:ns:' \
-            '--asked[By how many ns later than its last bit a frame'\''s account may be asked]:ns:' \
-            '--from[There was traffic before this time, in ns]:ns:' \
-            '--until[The end of the recordings, in ns]:ns:' \
-            '*--leave-out[The link]:vl:' \
+        _arguments '--slack=[By how many ns a stamp may be off]:ns:' \
+            '--drift=[By how many millionths the rates of the switch'\''s clock and of the recorders'\'' may differ]:ppm:' \
+            '--inner=[How many ns a frame may take inside beyond its link'\''s latency]:ns:' \
+            '--asked=[By how many ns later than its last bit a frame'\''s account may be asked]:ns:' \
+            '--from=[There was traffic before this time, in ns]:ns:' \
+            '--until=[The end of the recordings, in ns]:ns:' \
+            '*--leave-out=[The link]:vl:' \
             '--exercised[Says '\''undecided'\'' if of a link at an output port that was recorded no frame is explained]' \
-            '--switch[The name of the switch that is judged]:name:' \
-            '*--interface[Where the frames of interface K came in]:k=place:' \
-            '*--left[Where the frames of interface K left]:k=place:' \
-            '--fcs[Whether each recorded frame ends with its check sequence]: :(yes no)' \
-            '--reorder[By how many frames times of a recording may go back]:n:' \
-            '--stamps[Whether recorders stamp the end of a frame]: :(end start start-end end-start)' \
+            '--switch=[The name of the switch that is judged]:name:' \
+            '*--interface=[Where the frames of interface K came in]:k=place:' \
+            '*--left=[Where the frames of interface K left]:k=place:' \
+            '--fcs=[Whether each recorded frame ends with its check sequence]: :(yes no)' \
+            '--reorder=[By how many frames times of a recording may go back]:n:' \
+            '--stamps=[Whether recorders stamp the end of a frame]: :(end start start-end end-start)' \
             '--lossy[Gives the last line though a recorder lost frames by its own word]' \
             '--explain=-[When a fault is explained, behind its one line]:: :(auto always never)' \
             '--line-buffered[Hands the text of each line over at once]' \
@@ -75,11 +75,11 @@ _afdx_takes() { # COMMAND
             '*:text:'
         ;;
     'afdx list')
-        _arguments '*--interface[Where the frames of interface K of the recording came in]:k=place:' \
-            '--fcs[Whether each frame of the recording ends with its check sequence]: :(yes no)' \
-            '--origin[The moment of the recording that is time 0]:ns:' \
-            '--reorder[By how many arrivals times of a recording may go back]:n:' \
-            '--stamps[Whether the recorder stamps the end of a frame]: :(end start)' \
+        _arguments '*--interface=[Where the frames of interface K of the recording came in]:k=place:' \
+            '--fcs=[Whether each frame of the recording ends with its check sequence]: :(yes no)' \
+            '--origin=[The moment of the recording that is time 0]:ns:' \
+            '--reorder=[By how many arrivals times of a recording may go back]:n:' \
+            '--stamps=[Whether the recorder stamps the end of a frame]: :(end start)' \
             '--explain=-[When a fault is explained, behind its one line]:: :(auto always never)' \
             '--line-buffered[Hands the text of each line over at once]' \
             '--progress[Says after two seconds how much was read]' \
@@ -90,14 +90,14 @@ _afdx_takes() { # COMMAND
             '::list:_files -g "*.(pcap|pcapng)(-.)"'
         ;;
     'afdx police')
-        _arguments '--vl[The link'\''s identifier, 0 to 65535]:n:' \
-            '--port[The input port of its frames, 1 to 24]:n:' \
-            '--lmin[The least length of a frame in bytes, 64 to LMAX]:n:' \
-            '--policing[By bytes a frame is charged by its length]: :(byte frame)' \
-            '*--interface[Where the frames of interface K of the recording came in]:k=place:' \
-            '--fcs[Whether each frame of the recording ends with its check sequence]: :(yes no)' \
-            '--origin[The moment of the recording that is time 0]:ns:' \
-            '--reorder[By how many arrivals times of a recording may go back]:n:' \
+        _arguments '--vl=[The link'\''s identifier, 0 to 65535]:n:' \
+            '--port=[The input port of its frames, 1 to 24]:n:' \
+            '--lmin=[The least length of a frame in bytes, 64 to LMAX]:n:' \
+            '--policing=[By bytes a frame is charged by its length]: :(byte frame)' \
+            '*--interface=[Where the frames of interface K of the recording came in]:k=place:' \
+            '--fcs=[Whether each frame of the recording ends with its check sequence]: :(yes no)' \
+            '--origin=[The moment of the recording that is time 0]:ns:' \
+            '--reorder=[By how many arrivals times of a recording may go back]:n:' \
             '--explain=-[When a fault is explained, behind its one line]:: :(auto always never)' \
             '--line-buffered[Hands the text of each line over at once]' \
             '--progress[Says after two seconds how much was read]' \
@@ -111,11 +111,11 @@ _afdx_takes() { # COMMAND
     'afdx replay')
         _arguments '--no-admission[Replays also in tables that are not admitted]' \
             '--explain-drops[Prints on standard error]' \
-            '*--interface[Where the frames of interface K of the recording came in]:k=place:' \
-            '--fcs[Whether each frame of the recording ends with its check sequence]: :(yes no)' \
-            '--origin[The moment of the recording that is time 0]:ns:' \
-            '--reorder[By how many arrivals times of a recording may go back]:n:' \
-            '--stamps[Whether the recorder stamps the end of a frame]: :(end start)' \
+            '*--interface=[Where the frames of interface K of the recording came in]:k=place:' \
+            '--fcs=[Whether each frame of the recording ends with its check sequence]: :(yes no)' \
+            '--origin=[The moment of the recording that is time 0]:ns:' \
+            '--reorder=[By how many arrivals times of a recording may go back]:n:' \
+            '--stamps=[Whether the recorder stamps the end of a frame]: :(end start)' \
             '--explain=-[When a fault is explained, behind its one line]:: :(auto always never)' \
             '--line-buffered[Hands the text of each line over at once]' \
             '--progress[Says after two seconds how much was read]' \
@@ -136,7 +136,7 @@ _afdx_takes() { # COMMAND
             ':submissions:_files -g "*.(list|messages)(-.)"'
         ;;
     'afdx solve')
-        _arguments '--keep[Keys that keep their values]: :_values -s , word jitter buffer latency skew' \
+        _arguments '--keep=[Keys that keep their values]: :_values -s , word jitter buffer latency skew' \
             '--raise-only[Lowers no value]' \
             '--explain=-[When a fault is explained, behind its one line]:: :(auto always never)' \
             $help \
@@ -145,56 +145,56 @@ _afdx_takes() { # COMMAND
     'afdx-campaign')
         _arguments $help \
             $version \
-            '--out[the folder of the campaign]:dir:_path_files -/' \
+            '--out=[the folder of the campaign]:dir:_path_files -/' \
             '--no-admission[also where the network isn'\''t admitted]' \
             '--pages[a page for each run too, pages/1 and so on]' \
-            '(-j --jobs)'{-j,--jobs}'[runs at a time]:n:' \
+            '(-j --jobs)'{-j,--jobs=}'[runs at a time]:n:' \
             '--resume[repeat the runs that have no result]' \
-            '*'{-S,--sshlogin}'[run on this machine too]:login:' \
+            '*'{-S,--sshlogin=}'[run on this machine too]:login:' \
             '--transfer[copy lists and configuration to those machines first]' \
-            '*--interface[where the frames of interface K came in]:k=place:' \
-            '--taps[a table of taps in the place of --interface]:file:_files -g "*.csv(-.)"' \
-            '--fcs[do recorded frames end with their check sequence]: :(yes no)' \
-            '--origin[the moment that is time 0, in ns since 1970]:ns:' \
-            '--reorder[how many arrivals in front of a frame may be later]:n:' \
-            '--stamps[whether stamps are those of a frame'\''s last bit or of its first]: :(end start)' \
-            '--fail-on[status 6 where one of these isn'\''t 0, with commas]: :_values -s , word silent contradicted clock twice late full-buffer too-old dropped unequal missing refused skew jitter first-number recorder-lost left-out unused claimed lost' \
-            '--junit[write the run and each criterion as a JUnit test case]:file:_files -g "*.xml(-.)"' \
+            '*--interface=[where the frames of interface K came in]:k=place:' \
+            '--taps=[a table of taps in the place of --interface]:file:_files -g "*.csv(-.)"' \
+            '--fcs=[do recorded frames end with their check sequence]: :(yes no)' \
+            '--origin=[the moment that is time 0, in ns since 1970]:ns:' \
+            '--reorder=[how many arrivals in front of a frame may be later]:n:' \
+            '--stamps=[whether stamps are those of a frame'\''s last bit or of its first]: :(end start)' \
+            '--fail-on=[status 6 where one of these isn'\''t 0, with commas]: :_values -s , word silent contradicted clock twice late full-buffer too-old dropped unequal missing refused skew jitter first-number recorder-lost left-out unused claimed lost' \
+            '--junit=[write the run and each criterion as a JUnit test case]:file:_files -g "*.xml(-.)"' \
             ':config:_files -g "*.toml(-.)"' \
             '*:list:_files -g "*.(list|pcap|pcapng)(-.)"'
         ;;
     'afdx-capture list')
         _arguments $help \
-            '--config[the configuration]:config:_files -g "*.toml(-.)"' \
-            '*--interface[where the frames of interface K came in]:k=place:' \
-            '--taps[a table of taps in the place of --interface]:file:_files -g "*.csv(-.)"' \
-            '--fcs[do recorded frames end with their check sequence]: :(yes no)' \
-            '--origin[the moment that is time 0, in ns since 1970]:ns:' \
-            '--reorder[how many arrivals in front of a frame may be later]:n:' \
-            '--stamps[whether stamps are those of a frame'\''s last bit or of its first]: :(end start)' \
-            '(-o --out --split)'{-o,--out}'[the list]:file:_files -g "*.list(-.)"' \
-            '(-o --out)--split[write lists PREFIX-1.list and so on]:prefix:_files -g "*.list(-.)"' \
+            '--config=[the configuration]:config:_files -g "*.toml(-.)"' \
+            '*--interface=[where the frames of interface K came in]:k=place:' \
+            '--taps=[a table of taps in the place of --interface]:file:_files -g "*.csv(-.)"' \
+            '--fcs=[do recorded frames end with their check sequence]: :(yes no)' \
+            '--origin=[the moment that is time 0, in ns since 1970]:ns:' \
+            '--reorder=[how many arrivals in front of a frame may be later]:n:' \
+            '--stamps=[whether stamps are those of a frame'\''s last bit or of its first]: :(end start)' \
+            '(-o --out --split)'{-o,--out=}'[the list]:file:_files -g "*.list(-.)"' \
+            '(-o --out)--split=[write lists PREFIX-1.list and so on]:prefix:_files -g "*.list(-.)"' \
             ':recording:_files -g "*.(pcap|pcapng)(-.)"' \
             '::recording:_files -g "*.(pcap|pcapng)(-.)"'
         ;;
     'afdx-capture pcap')
         _arguments $help \
-            '--side[only this network'\''s frames]: :(A B)' \
-            '--fcs[with each frame'\''s check sequence]: :(yes no)' \
-            '--origin[ns since 1970 of the list'\''s time 0]:ns:' \
+            '--side=[only this network'\''s frames]: :(A B)' \
+            '--fcs=[with each frame'\''s check sequence]: :(yes no)' \
+            '--origin=[ns since 1970 of the list'\''s time 0]:ns:' \
             ':list:_files -g "*.list(-.)"' \
             ':recording:_files -g "*.(pcap|pcapng)(-.)"'
         ;;
     'afdx-capture annotate')
         _arguments $help \
             '--no-admission[also where the network isn'\''t admitted]' \
-            '--conform[what afdx conform said of this list]:file:' \
-            '*--interface[where the frames of interface K came in]:k=place:' \
-            '--taps[a table of taps in the place of --interface]:file:_files -g "*.csv(-.)"' \
-            '--fcs[do recorded frames end with their check sequence]: :(yes no)' \
-            '--origin[the moment that is time 0, in ns since 1970]:ns:' \
-            '--reorder[how many arrivals in front of a frame may be later]:n:' \
-            '--stamps[whether stamps are those of a frame'\''s last bit or of its first]: :(end start)' \
+            '--conform=[what afdx conform said of this list]:file:' \
+            '*--interface=[where the frames of interface K came in]:k=place:' \
+            '--taps=[a table of taps in the place of --interface]:file:_files -g "*.csv(-.)"' \
+            '--fcs=[do recorded frames end with their check sequence]: :(yes no)' \
+            '--origin=[the moment that is time 0, in ns since 1970]:ns:' \
+            '--reorder=[how many arrivals in front of a frame may be later]:n:' \
+            '--stamps=[whether stamps are those of a frame'\''s last bit or of its first]: :(end start)' \
             ':config:_files -g "*.toml(-.)"' \
             ':list:_files -g "*.(list|pcap|pcapng)(-.)"' \
             ':recording:_files -g "*.(pcap|pcapng)(-.)"' \
@@ -203,7 +203,7 @@ _afdx_takes() { # COMMAND
     'afdx-fill')
         _arguments $help \
             $version \
-            '--keep[of jitter,buffer,latency,skew]: :_values -s , word jitter buffer latency skew' \
+            '--keep=[of jitter,buffer,latency,skew]: :_values -s , word jitter buffer latency skew' \
             '--raise-only[no value gets less than CONFIG has]' \
             ':config:_files -g "*.toml(-.)"' \
             ':filled:_files -g "*.toml(-.)"'
@@ -211,12 +211,12 @@ _afdx_takes() { # COMMAND
     'afdx-icd')
         _arguments $help \
             $version \
-            '--cables[the table of the cables between switches]:cables.csv:_files -g "*.csv(-.)"' \
-            '--profile[2 has rates of 1000 Mbit/s]: :(1 2)' \
+            '--cables=[the table of the cables between switches]:cables.csv:_files -g "*.csv(-.)"' \
+            '--profile=[2 has rates of 1000 Mbit/s]: :(1 2)' \
             '--fill[an empty cell that has to have a value has that of the cell above]' \
             '--raise[write it also where messages can'\''t be in time]' \
-            '--reserve[let latencies and buffer be so much more than is needed]:percent:' \
-            '--since[an earlier configuration]:old:_files -g "*.toml(-.)"' \
+            '--reserve=[let latencies and buffer be so much more than is needed]:percent:' \
+            '--since=[an earlier configuration]:old:_files -g "*.toml(-.)"' \
             ':systems.csv:_files -g "*.csv(-.)"' \
             ':messages.csv:_files -g "*.csv(-.)"' \
             ':config:_files -g "*.toml(-.)"'
@@ -224,33 +224,33 @@ _afdx_takes() { # COMMAND
     'afdx-report')
         _arguments $help \
             $version \
-            '--out[the folder for page, CSV and JSON]:dir:_path_files -/' \
+            '--out=[the folder for page, CSV and JSON]:dir:_path_files -/' \
             '--no-admission[also where the network isn'\''t admitted]' \
-            '*--link[a link with a time line]:vl:' \
-            '--from[where the time lines begin]:ns:' \
-            '--rows[links in the picture of latencies]:n:' \
-            '--worst[frames in the tables of the worst]:n:' \
-            '--compare[the report.json of a run to compare with]:other.json:_files -g "*.json(-.)"' \
-            '--title[the title of the page]:title:' \
-            '--cover[a cover from this TOML]:file:_files -g "*.toml(-.)"' \
+            '*--link=[a link with a time line]:vl:' \
+            '--from=[where the time lines begin]:ns:' \
+            '--rows=[links in the picture of latencies]:n:' \
+            '--worst=[frames in the tables of the worst]:n:' \
+            '--compare=[the report.json of a run to compare with]:other.json:_files -g "*.json(-.)"' \
+            '--title=[the title of the page]:title:' \
+            '--cover=[a cover from this TOML]:file:_files -g "*.toml(-.)"' \
             '--json[print the JSON instead of the text]' \
-            '*--interface[where the frames of interface K came in]:k=place:' \
-            '--taps[a table of taps in the place of --interface]:file:_files -g "*.csv(-.)"' \
-            '--fcs[do recorded frames end with their check sequence]: :(yes no)' \
-            '--origin[the moment that is time 0, in ns since 1970]:ns:' \
-            '--reorder[how many arrivals in front of a frame may be later]:n:' \
-            '--stamps[whether stamps are those of a frame'\''s last bit or of its first]: :(end start start-end end-start)' \
-            '--fail-on[status 6 where one of these isn'\''t 0, with commas]: :_values -s , word silent contradicted clock twice late full-buffer too-old dropped unequal missing refused skew jitter first-number recorder-lost left-out unused claimed lost' \
-            '--junit[write the run and each criterion as a JUnit test case]:file:_files -g "*.xml(-.)"' \
+            '*--interface=[where the frames of interface K came in]:k=place:' \
+            '--taps=[a table of taps in the place of --interface]:file:_files -g "*.csv(-.)"' \
+            '--fcs=[do recorded frames end with their check sequence]: :(yes no)' \
+            '--origin=[the moment that is time 0, in ns since 1970]:ns:' \
+            '--reorder=[how many arrivals in front of a frame may be later]:n:' \
+            '--stamps=[whether stamps are those of a frame'\''s last bit or of its first]: :(end start start-end end-start)' \
+            '--fail-on=[status 6 where one of these isn'\''t 0, with commas]: :_values -s , word silent contradicted clock twice late full-buffer too-old dropped unequal missing refused skew jitter first-number recorder-lost left-out unused claimed lost' \
+            '--junit=[write the run and each criterion as a JUnit test case]:file:_files -g "*.xml(-.)"' \
             '--conform[report on a recorded switch]' \
-            '--slack[by how many ns a stamp may be off, with --conform]:ns:' \
-            '--drift[by how many millionths clocks may differ]:ppm:' \
-            '--inner[what a frame may take beyond its latency]:ns:' \
-            '--asked[how much later the account may be asked]:ns:' \
-            '--until[the end of the recordings, with --conform]:ns:' \
-            '*--leave-out[a link that isn'\''t judged, or other, with --conform]:vl:' \
-            '--switch[which of several switches is judged]:name:' \
-            '*--left[where the frames of interface K left]:k=place:' \
+            '--slack=[by how many ns a stamp may be off, with --conform]:ns:' \
+            '--drift=[by how many millionths clocks may differ]:ppm:' \
+            '--inner=[what a frame may take beyond its latency]:ns:' \
+            '--asked=[how much later the account may be asked]:ns:' \
+            '--until=[the end of the recordings, with --conform]:ns:' \
+            '*--leave-out=[a link that isn'\''t judged, or other, with --conform]:vl:' \
+            '--switch=[which of several switches is judged]:name:' \
+            '*--left=[where the frames of interface K left]:k=place:' \
             '--lossy[also where the recorder lost frames]' \
             '--exercised[no verdict where a stream that is judged is idle]' \
             ':config:_files -g "*.toml(-.)"' \
@@ -262,7 +262,7 @@ _afdx_takes() { # COMMAND
             $version \
             '--anyway[print the words also where they don'\''t agree]' \
             '--conform[print the words of '\''afdx conform'\'']' \
-            '--switch[which of several switches is judged]:name:' \
+            '--switch=[which of several switches is judged]:name:' \
             ':config:_files -g "*.toml(-.)"' \
             ':taps:_files -g "*.csv(-.)"' \
             ':recording:_files -g "*.(pcap|pcapng)(-.)"' \
@@ -271,12 +271,12 @@ _afdx_takes() { # COMMAND
     'afdx-traffic')
         _arguments $help \
             $version \
-            '--cables[the table of the cables between switches]:cables.csv:_files -g "*.csv(-.)"' \
-            '--profile[2 has rates of 1000 Mbit/s]: :(1 2)' \
+            '--cables=[the table of the cables between switches]:cables.csv:_files -g "*.csv(-.)"' \
+            '--profile=[2 has rates of 1000 Mbit/s]: :(1 2)' \
             '--fill[an empty cell that has to have a value has that of the cell above]' \
-            '--seconds[for how long]:s:' \
-            '--seed[messages begin by chance within their period]:n:' \
-            '--config[write frames too, as they are sent on this network]:config:_files -g "*.toml(-.)"' \
+            '--seconds=[for how long]:s:' \
+            '--seed=[messages begin by chance within their period]:n:' \
+            '--config=[write frames too, as they are sent on this network]:config:_files -g "*.toml(-.)"' \
             ':systems.csv:_files -g "*.csv(-.)"' \
             ':messages.csv:_files -g "*.csv(-.)"' \
             ':folder:_path_files -/'
