@@ -44,7 +44,7 @@ not-less a b le = by (nat_lt a b) refl
 
 not-true : (b : Bool) → IsTrue b → not b ≡ false
 not-true true is = refl
-not-true false is = absurd is
+not-true false is = absurd (true≢false (sym is))
 
 undamaged-by : (a b c d : Bool) → a ≡ false → b ≡ false → c ≡ false
     → is_damage (first_of ((a, TooShort) ∷ (b, TooLong) ∷ (c, BadFcs) ∷ (d, BadAddress) ∷ (true, UnknownLink) ∷ [])) ≡ false
@@ -69,19 +69,19 @@ from-filters : {X : Type 0} (P : X → Type 0) (xs : List X)
     → AllByRecursion (λ x. (p : X → Bool) × (p x ≡ true) × AllByRecursion P (filter p xs)) xs → AllByRecursion P xs
 from-filters P [] all = tt
 from-filters {X} P (x ∷ xs) all = (
-  first (all.0.0 x) all.0.1 all.0.2,
+  first (filter all.0.0 xs) (all.0.0 x) all.0.1 all.0.2,
   from-filters P xs (every-on (λ y. (p : X → Bool) × (p y ≡ true) × AllByRecursion P (filter p (x ∷ xs)))
       (λ y. (p : X → Bool) × (p y ≡ true) × AllByRecursion P (filter p xs))
-      (λ y h. (h.0, h.1, rest (h.0 x) h.2)) xs all.1),
+      (λ y h. (h.0, h.1, rest (filter h.0 xs) (h.0 x) h.2)) xs all.1),
 )
   where
-    first : {ys : List X} (b : Bool) → b ≡ true → AllByRecursion P (if b then x ∷ ys else ys) → P x
-    first true is h = h.0
-    first false is h = absurd (true≢false (sym is))
+    first : (ys : List X) (b : Bool) → b ≡ true → AllByRecursion P (if b then x ∷ ys else ys) → P x
+    first ys true is h = h.0
+    first ys false is h = absurd (true≢false (sym is))
 
-    rest : {ys : List X} (b : Bool) → AllByRecursion P (if b then x ∷ ys else ys) → AllByRecursion P ys
-    rest true h = h.1
-    rest false h = h
+    rest : (ys : List X) (b : Bool) → AllByRecursion P (if b then x ∷ ys else ys) → AllByRecursion P ys
+    rest ys true h = h.1
+    rest ys false h = h
 
 side-own : (side : Side) → is_side side side ≡ true
 side-own A = refl

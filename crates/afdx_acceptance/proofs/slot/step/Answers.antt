@@ -8,9 +8,9 @@ use Rattle.afdx_conform.specs.declared.streaming.Stream.{Stream}
 use Rattle.afdx_acceptance.proofs.SlotLemmas.{told-line}
 use Rattle.afdx_acceptance.proofs.slot.step.Goals as goal
 
-pub returns-in_ok-lines-in-Stream-clause-stands : goal.returns-in_ok-lines-in-Stream-clause-stands
+pub returns-after-is_told-clause-stands : goal.returns-after-is_told-clause-stands
 unfolding StreamStands slot_due
-returns-in_ok-lines-in-Stream-clause-stands c z xs ys lines time moment none due lt stands =
+returns-after-is_told-clause-stands c z xs ys lines time moment none due lt stands =
     let here = subst (λ (s : Slot). StreamStands z c.args.key xs ys lines time s) c.in-Stream.is stands in
     let same = c.deref_mut-in-Stream.ensures.value in
     let at : due_of c.in-Stream.stream.value ≡ Some moment = sym (ap slot_due c.in-Stream.is) ∙ due in
@@ -26,9 +26,9 @@ returns-in_ok-lines-in-Stream-clause-stands c z xs ys lines time moment none due
       r.3,
     )
 
-pub returns-in_ok-lines-in-Stream-clause-ends : goal.returns-in_ok-lines-in-Stream-clause-ends
+pub returns-after-is_told-clause-ends : goal.returns-after-is_told-clause-ends
 unfolding StreamEnds slot_due
-returns-in_ok-lines-in-Stream-clause-ends c z xs ys lines moment end due stands =
+returns-after-is_told-clause-ends c z xs ys lines moment end due stands =
     let here = subst (λ (s : Slot). StreamEnds z c.args.key xs ys lines s) c.in-Stream.is stands in
     let same = c.deref_mut-in-Stream.ensures.value in
     let at : due_of c.in-Stream.stream.value ≡ Some moment = sym (ap slot_due c.in-Stream.is) ∙ due in
