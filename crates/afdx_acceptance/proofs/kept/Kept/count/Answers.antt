@@ -12,7 +12,7 @@ returns-then-place-len-clause-counted c n z xs ys lines due ends has =
     let slots = c.args.self.now.slots.items in
     let there = read-there slots c.args.key c.place-place.result c.index.result.now c.place-place.ensures
     (let test = c.if-place-len.true in let at = c.place-place.ensures in omega (arith, test, at)) c.index.ensures in
-    c.add-else-place-len.ensures.counted n z c.args.key xs ys lines (ap slot_due there ∙ due)
+    c.add.ensures.counted n z c.args.key xs ys lines (ap slot_due there ∙ due)
     (subst (λ s. StreamEnds z c.args.key xs ys lines s) (sym there) ends) has
 
 pub returns-else-place-len-clause-counted : goal.returns-else-place-len-clause-counted
