@@ -1,7 +1,7 @@
 -- What left as it is promised is undamaged.
-use Rattle.std.proofs.Common.{◌≡◌, ℕ, ◌≤◌, Bool, true, false, not, ◌||◌, List, [], ◌∷◌, ◌++◌, map, ◌&&◌, ◌==◌, refl, sym, ap, ◌∙◌, subst, arith, true≢false}
+use Rattle.std.proofs.Common.{◌≡◌, ℕ, ◌≤◌, Bool, true, false, not, ◌||◌, List, [], ◌∷◌, map, ◌&&◌, ◌==◌, refl, sym, ap, ◌∙◌, subst, arith, true≢false}
 use Rattle.std.proofs.lemmas.Bool.{eq-eqb, ltb-true}
-use Rattle.std.specs.Prelude.{IsTrue, Option, Some, None, filter, is_none, is_some, length, nat_eq, nat_lt, option_and_then, if◌then◌else◌}
+use Rattle.std.specs.Prelude.{IsTrue, Some, None, filter, is_none, is_some, length, nat_lt, if◌then◌else◌}
 use Rattle.std.specs.List.{AllByRecursion}
 use Rattle.afdx_frame.specs.Layout.{link_named_by}
 use Rattle.afdx_frame.specs.Lengths.{least_frame, greatest_frame}
@@ -16,17 +16,15 @@ use Rattle.afdx_inputs.specs.Joining.{Frame}
 use Rattle.afdx_police.specs.Arrival.{Arrival, names, own}
 use Rattle.afdx_police.specs.Rule.{Rule}
 use Rattle.afdx_police.specs.Shape.{IsSound, fault_of, first_of}
-use Rattle.afdx_police.specs.declared.shape.Reason.{Reason}
 use Rattle.afdx_police.specs.declared.shape.Reason.TheVariants.{TooShort, TooLong, BadFcs, BadAddress, UnknownLink}
 use Rattle.afdx_police.proofs.ShapeLemmas.{faultless-is-sound}
-use Rattle.afdx_police.specs.Verdicts.{accepted_arrivals}
-use Rattle.afdx_bounds.specs.Tables.{goes_to, rule_of}
+use Rattle.afdx_bounds.specs.Tables.{rule_of}
 use Rattle.afdx_switch.specs.Admitted.{accepted_on, passing}
 use Rattle.afdx_promises.specs.Lines.{Leaving, is_leaving}
 use Rattle.afdx_conform.proofs.EveryLemmas.{every-map, every-on, every-unmap}
 use Rattle.afdx_acceptance.specs.Choices.{Choices, counts, is_left_out, is_passed}
 use Rattle.afdx_acceptance.specs.Frames.{is_stranger}
-use Rattle.afdx_acceptance.specs.Tapped.{goes_there, is_damage, is_damaged, is_heard_at, is_unheard, link_to, place_named}
+use Rattle.afdx_acceptance.specs.Tapped.{is_damage, is_damaged, is_heard_at, link_to, place_named}
 use Rattle.afdx_acceptance.proofs.FullLemmas.{out-of-choice}
 use Rattle.afdx_acceptance.proofs.StrangerLemmas.{goes-named, stranger-no, unheard-is}
 use Rattle.afdx_replays_conform.specs.Leaving.{LeaveAsPromised, LeavesAsPromised}

@@ -1,8 +1,7 @@
-use Rattle.std.proofs.Common.{◌≡◌, ℕ, Some, None, true, false, get_or, refl, ap, sym, ◌∙◌}
+use Rattle.std.proofs.Common.{◌≡◌, Some, true, false, get_or, refl, ap, sym, ◌∙◌}
 use Rattle.std.proofs.lemmas.Option.{slice_get-get_or}
-use Rattle.std.specs.Prelude.{is_some, not, slice_get}
-use Rattle.afdx_config.specs.Rows.{LinkRow}
-use Rattle.afdx_acceptance.specs.Tapped.{goes_there, is_damaged, is_heard_at, is_of_came, link_to, place_named, taps_in}
+use Rattle.std.specs.Prelude.{is_some, not}
+use Rattle.afdx_acceptance.specs.Tapped.{is_damaged, is_heard_at, is_of_came, link_to, place_named, taps_in}
 use Rattle.afdx_acceptance.proofs.GivenLemmas.{blank}
 use Rattle.afdx_acceptance.proofs.StrangerLemmas.{goes-named, heard-counts, unheard-came, unheard-is}
 use Rattle.afdx_acceptance.proofs.streams.Streams.is_unheard.Goals as goal
