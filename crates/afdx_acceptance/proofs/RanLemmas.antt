@@ -1,25 +1,33 @@
 -- What a run answers.
-use Rattle.std.proofs.Common.{◌≡◌, ◌⊎◌, Bool, subst, ℕ, List, [], Option, None, Some, Ok, Err, inl, inr, refl, sym}
+use Rattle.std.proofs.Common.{◌≡◌, ◌⊎◌, Bool, true, false, subst, ℕ, List, [], Option, None, Some, Ok, Err, inl, inr, refl, sym}
 use Rattle.std.proofs.KnownBytes.{Appends-nil, Appends-trans}
 use Rattle.std.specs.Io.KnownBytes.{Appends}
-use Rattle.std.specs.Prelude.{IfSome, Result}
+use Rattle.std.specs.Option.{option_or}
+use Rattle.std.specs.Prelude.{IfSome, Result, if◌then◌else◌, nat_lt, option_map}
 use Rattle.afdx_config.specs.Rows.{Rows}
 use Rattle.afdx_engine.specs.Causes.{Cause, cause_of, FailedRead, FailedWrite, NoMemory, BadInput}
 use Rattle.afdx_engine.specs.Engine.{Item}
 use Rattle.afdx_inputs.specs.Arrivals.{By, ByCause}
 use Rattle.afdx_inputs.specs.Joining.{Frame, frames_of}
+use Rattle.afdx_inputs.specs.SeenFrames.{absent_in, absent_of, lost_of}
 use Rattle.afdx_inputs.specs.declared.seen.Seen.{Seen}
 use Rattle.afdx_inputs.specs.declared.seen_frames.SeenCount.{SeenCount}
-use Rattle.afdx_lists.specs.Calls.{AppendsFront}
+use Rattle.afdx_inputs.specs.declared.seen_frames.SeenCount.TheVariants as count
+use Rattle.afdx_lists.specs.Calls.{AppendsFront, is_read, is_write}
+use Rattle.afdx_lists.specs.Faults.{fault_of_role}
 use Rattle.afdx_lists.specs.declared.fault.RunFault.{RunFault}
-use Rattle.afdx_lists.specs.declared.fault.RunFault.TheVariants.{Memory}
+use Rattle.afdx_lists.specs.declared.fault.RunFault.TheVariants.{Memory, Recording}
+use Rattle.afdx_lists.specs.declared.recording_fault.RecordingFault.{RecordingFault}
+use Rattle.afdx_lists.specs.declared.recording_fault.RecordingFault.TheVariants.{Absent, Lossy}
+use Rattle.afdx_lists.specs.declared.role.Role.{Role}
+use Rattle.afdx_lists.specs.declared.role.Role.TheVariants.{Came, Left}
 use Rattle.afdx_text.proofs.OutputLemmas.{front-more}
 use Rattle.afdx_text.specs.ConformLines.{conform_text}
 use Rattle.afdx_text.specs.Sinks.{IsOfOutput}
 use Rattle.afdx_acceptance.proofs.BegunLemmas.{nothing-early}
 use Rattle.afdx_acceptance.proofs.TellingLemmas.{no-text}
 use Rattle.afdx_acceptance.specs.Choices.{Choices}
-use Rattle.afdx_acceptance.specs.Ran.{ConformAnswers, fault_behind}
+use Rattle.afdx_acceptance.specs.Ran.{ConformAnswers, fault_behind, loss_told}
 use Rattle.afdx_acceptance.specs.Counting.{totals_of}
 use Rattle.afdx_acceptance.specs.Lines.{lines_of}
 use Rattle.afdx_acceptance.specs.Telling.{lines_text}
@@ -127,3 +135,45 @@ module _ (Takes : List Frame → Result SeenCount RunFault → Type 0) (k : Rows
               (subst (λ (n : Totals). AppendsFront mid new (conform_text (last_line n))) w.totals_are begun);
         } in
         inr (frames_of items, count, takes, inr (none, of, here))
+
+-- ---- what is told in the place of the last line is no fault of a device
+
+abbrev IsNoDevice : RunFault → Type 0
+IsNoDevice fault = (is_read fault ≡ false) × (is_write fault ≡ false)
+
+either-no-device : (a b : Option RunFault) → IfSome a IsNoDevice → IfSome b IsNoDevice → IfSome (option_or a b) IsNoDevice
+either-no-device None b p q = q
+either-no-device (Some fault) b p q = p
+
+absent-no-device : (f : RecordingFault → RunFault) → ((x : RecordingFault) → IsNoDevice (f x)) → (o : Option ℕ)
+    → IfSome (option_map (λ k. f (Absent k)) o) IsNoDevice
+absent-no-device f each None = tt
+absent-no-device f each (Some k) = each (Absent k)
+
+role-no-device : (role : Role) (x : RecordingFault) → IsNoDevice (fault_of_role role x)
+role-no-device Came x = (refl, refl)
+role-no-device Left x = (refl, refl)
+
+loss-no-device : (is_lossy : Bool) (lost : ℕ) → IfSome (loss_told is_lossy lost) IsNoDevice
+loss-no-device true lost = tt
+loss-no-device false lost = by (nat_lt 0 lost)
+  where
+    by : (b : Bool) → IfSome (if b then Some (Recording (Lossy lost)) else None) IsNoDevice
+    by true = (refl, refl)
+    by false = tt
+
+count-no-device : (count : SeenCount) → IfSome (absent_of count) IsNoDevice
+unfolding absent_of
+count-no-device (count.Lists lines) = tt
+count-no-device (count.Recorded tally) = absent-no-device Recording (λ x. (refl, refl)) tally.absent
+count-no-device (count.Both tallies) =
+    either-no-device (absent_in Came tallies.came) (absent_in Left tallies.left)
+    (absent-no-device (fault_of_role Came) (role-no-device Came) tallies.came.absent)
+    (absent-no-device (fault_of_role Left) (role-no-device Left) tallies.left.absent)
+
+pub behind-no-device : (is_lossy : Bool) (count : SeenCount) (fault : RunFault) → fault_behind is_lossy count ≡ Some fault
+    → (is_read fault ≡ false) × (is_write fault ≡ false)
+behind-no-device is_lossy count fault is =
+    subst (λ o. IfSome o IsNoDevice) is
+    (either-no-device (absent_of count) (loss_told is_lossy (lost_of count)) (count-no-device count)
+    (loss-no-device is_lossy (lost_of count)))

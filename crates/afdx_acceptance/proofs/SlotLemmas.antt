@@ -1,5 +1,6 @@
 -- The lines of what is found at an event of a stream.
-use Rattle.std.proofs.Common.{Box, Global, ◌≡◌, ℕ, ◌≤◌, ◌⊎◌, inl, inr, Bool, true, false, ◌||◌, ◌==◌, List, [], ◌∷◌, ◌++◌, map, reverse, refl, sym, ap, ◌∙◌, subst}
+use Rattle.std.proofs.Common.{Box, Global, ◌≡◌, ℕ, ◌<◌, ◌≤◌, ◌⊎◌, inl, inr, Bool, true, false, ◌||◌, ◌==◌, List, [], ◌∷◌, ◌++◌, map, reverse, refl, sym, ap, ◌∙◌, subst, arith}
+use Rattle.std.proofs.lemmas.Bool.{eqb-true}
 use Rattle.std.proofs.lemmas.List.{append_assoc, map-append, reverse-append, reverse-reverse}
 use Rattle.std.specs.Prelude.{if◌then◌else◌, length, not, Option, Some, None, Result, Ok, Err, IfOk, IfSome, IfNone}
 use Rattle.afdx_conform.specs.Events.{moment_at}
@@ -110,6 +111,13 @@ told-found z k m found j after due unsure lines all f u l a =
     (ap (λ t. unsure_behind k t lines) (sym u) ∙ sym a)
     ∙ ap (λ l'. map (due_at k m) (reverse all) ++ l') (sym sure)
 
+filled : (n : ℕ) → 0 < n → (n == 0) ≡ false
+filled n lt = by (n == 0) refl
+  where
+    by : (v : Bool) → (n == 0) ≡ v → v ≡ false
+    by true e = absurd (let is = eqb-true n 0 e in omega (arith, is, lt))
+    by false e = refl
+
 -- there is a line where there were some, or some are told
 pub told-line : (k : Key) (m : ℕ) (lines : List ConformLine) (before : List Due) (told : Bool) → told ≡ has_line before
     → has_line (told_at k m lines before) ≡ (told || not (length lines == 0))
@@ -119,6 +127,7 @@ told-line k m (x ∷ xs) before told is =
     ∙ ap has_line (ap (λ l. l ++ before) (map-append (due_at k m) (reverse xs) (x ∷ []))
     ∙ append_assoc (map (due_at k m) (reverse xs)) (due_at k m x ∷ []) before)
     ∙ more (map (due_at k m) (reverse xs)) (due_at k m x) before ∙ sym (or-some told)
+    ∙ ap (λ v. told || not v) (sym (filled (length (x ∷ xs)) (omega arith)))
   where
     more : (ds : List Due) (d : Due) (es : List Due) → has_line (ds ++ d ∷ es) ≡ true
     more [] d es = refl

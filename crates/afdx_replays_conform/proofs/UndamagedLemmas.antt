@@ -1,7 +1,7 @@
 -- What left as it is promised is undamaged.
-use Rattle.std.proofs.Common.{◌≡◌, ℕ, ◌≤◌, Bool, true, false, not, ◌||◌, List, [], ◌∷◌, ◌++◌, map, ◌&&◌, ◌==◌, refl, sym, ap, ◌∙◌, subst, arith, true≢false}
+use Rattle.std.proofs.Common.{◌≡◌, ℕ, ◌≤◌, Bool, true, false, not, ◌||◌, List, [], ◌∷◌, map, ◌&&◌, ◌==◌, refl, sym, ap, ◌∙◌, subst, arith, true≢false}
 use Rattle.std.proofs.lemmas.Bool.{eq-eqb, ltb-true}
-use Rattle.std.specs.Prelude.{IsTrue, Option, Some, None, filter, is_none, is_some, length, nat_eq, nat_lt, option_and_then, if◌then◌else◌}
+use Rattle.std.specs.Prelude.{IsTrue, Some, None, filter, is_none, is_some, length, nat_lt, if◌then◌else◌}
 use Rattle.std.specs.List.{AllByRecursion}
 use Rattle.afdx_frame.specs.Layout.{link_named_by}
 use Rattle.afdx_frame.specs.Lengths.{least_frame, greatest_frame}
@@ -16,17 +16,15 @@ use Rattle.afdx_inputs.specs.Joining.{Frame}
 use Rattle.afdx_police.specs.Arrival.{Arrival, names, own}
 use Rattle.afdx_police.specs.Rule.{Rule}
 use Rattle.afdx_police.specs.Shape.{IsSound, fault_of, first_of}
-use Rattle.afdx_police.specs.declared.shape.Reason.{Reason}
 use Rattle.afdx_police.specs.declared.shape.Reason.TheVariants.{TooShort, TooLong, BadFcs, BadAddress, UnknownLink}
 use Rattle.afdx_police.proofs.ShapeLemmas.{faultless-is-sound}
-use Rattle.afdx_police.specs.Verdicts.{accepted_arrivals}
-use Rattle.afdx_bounds.specs.Tables.{goes_to, rule_of}
+use Rattle.afdx_bounds.specs.Tables.{rule_of}
 use Rattle.afdx_switch.specs.Admitted.{accepted_on, passing}
 use Rattle.afdx_promises.specs.Lines.{Leaving, is_leaving}
 use Rattle.afdx_conform.proofs.EveryLemmas.{every-map, every-on, every-unmap}
 use Rattle.afdx_acceptance.specs.Choices.{Choices, counts, is_left_out, is_passed}
 use Rattle.afdx_acceptance.specs.Frames.{is_stranger}
-use Rattle.afdx_acceptance.specs.Tapped.{goes_there, is_damage, is_damaged, is_heard_at, is_unheard, link_to, place_named}
+use Rattle.afdx_acceptance.specs.Tapped.{is_damage, is_damaged, is_heard_at, link_to, place_named}
 use Rattle.afdx_acceptance.proofs.FullLemmas.{out-of-choice}
 use Rattle.afdx_acceptance.proofs.StrangerLemmas.{goes-named, stranger-no, unheard-is}
 use Rattle.afdx_replays_conform.specs.Leaving.{LeaveAsPromised, LeavesAsPromised}
@@ -44,7 +42,7 @@ not-less a b le = by (nat_lt a b) refl
 
 not-true : (b : Bool) → IsTrue b → not b ≡ false
 not-true true is = refl
-not-true false is = absurd is
+not-true false is = absurd (true≢false (sym is))
 
 undamaged-by : (a b c d : Bool) → a ≡ false → b ≡ false → c ≡ false
     → is_damage (first_of ((a, TooShort) ∷ (b, TooLong) ∷ (c, BadFcs) ∷ (d, BadAddress) ∷ (true, UnknownLink) ∷ [])) ≡ false
@@ -69,19 +67,19 @@ from-filters : {X : Type 0} (P : X → Type 0) (xs : List X)
     → AllByRecursion (λ x. (p : X → Bool) × (p x ≡ true) × AllByRecursion P (filter p xs)) xs → AllByRecursion P xs
 from-filters P [] all = tt
 from-filters {X} P (x ∷ xs) all = (
-  first (all.0.0 x) all.0.1 all.0.2,
+  first (filter all.0.0 xs) (all.0.0 x) all.0.1 all.0.2,
   from-filters P xs (every-on (λ y. (p : X → Bool) × (p y ≡ true) × AllByRecursion P (filter p (x ∷ xs)))
       (λ y. (p : X → Bool) × (p y ≡ true) × AllByRecursion P (filter p xs))
-      (λ y h. (h.0, h.1, rest (h.0 x) h.2)) xs all.1),
+      (λ y h. (h.0, h.1, rest (filter h.0 xs) (h.0 x) h.2)) xs all.1),
 )
   where
-    first : {ys : List X} (b : Bool) → b ≡ true → AllByRecursion P (if b then x ∷ ys else ys) → P x
-    first true is h = h.0
-    first false is h = absurd (true≢false (sym is))
+    first : (ys : List X) (b : Bool) → b ≡ true → AllByRecursion P (if b then x ∷ ys else ys) → P x
+    first ys true is h = h.0
+    first ys false is h = absurd (true≢false (sym is))
 
-    rest : {ys : List X} (b : Bool) → AllByRecursion P (if b then x ∷ ys else ys) → AllByRecursion P ys
-    rest true h = h.1
-    rest false h = h
+    rest : (ys : List X) (b : Bool) → AllByRecursion P (if b then x ∷ ys else ys) → AllByRecursion P ys
+    rest ys true h = h.1
+    rest ys false h = h
 
 side-own : (side : Side) → is_side side side ≡ true
 side-own A = refl

@@ -1,5 +1,5 @@
 -- What a replay tells conforms. Lists have the newest first.
-use Rattle.std.specs.Prelude.{◌≡◌, ℕ, ◌<◌, true, None, List, [], length}
+use Rattle.std.specs.Prelude.{◌≡◌, ℕ, ◌<◌, true, false, None, List, [], length}
 use Rattle.std.specs.Option.{ForSome}
 use Rattle.afdx_frame.specs.declared.link.Side.{Side}
 use Rattle.afdx_config.specs.Lawful.{IsLawfulSwitch}

@@ -1,4 +1,4 @@
-use Rattle.std.proofs.Common.{rules, ◌≡◌, Err, [], subst, sym, ap, ◌∙◌}
+use Rattle.std.proofs.Common.{rules, ◌≡◌, Err, [], subst, sym, ◌∙◌}
 use Rattle.std.specs.Io.KnownBytes.{Appends}
 use Rattle.afdx_lists.specs.Calls.{AppendsFront}
 use Rattle.afdx_lists.specs.declared.fault.RunFault.TheVariants as run
@@ -7,7 +7,7 @@ use Rattle.afdx_recorded.specs.Tapping.{taps_in}
 use Rattle.afdx_text.specs.ConformLines.{conform_text}
 use Rattle.afdx_text.specs.declared.conform_line.ConformLine.{ConformLine}
 use Rattle.afdx_acceptance.proofs.AddedLemmas.{if-some}
-use Rattle.afdx_acceptance.proofs.RanLemmas.{answers-cut, answers-err, answers-lost, answers-memory, answers-ok, where-known}
+use Rattle.afdx_acceptance.proofs.RanLemmas.{answers-cut, answers-err, answers-lost, answers-memory, answers-ok, behind-no-device, where-known}
 use Rattle.afdx_config.specs.Rows.{Rows}
 use Rattle.afdx_acceptance.specs.Choices.{Choices}
 use Rattle.afdx_acceptance.specs.ChoicesOf.{choices_of}
@@ -76,6 +76,17 @@ returns-in-Some-clause-answer g c =
     (c.in_ok-count.ensures.answer k
     (subst (λ p. TellsItems (c.args.tables.now, choices_of p c.args.choices.now) c.in_ok-judging.judging old old [])
     c.taps-taps.ensures (c.in_ok-judging.ensures old)) (λ item. tt))
+
+-- it is no fault of a device
+pub returns-in-Some-clause-read : goal.returns-in-Some-clause-read
+returns-in-Some-clause-read g c =
+    c.in_ok-count.ensures.read ∙ sym (behind-no-device c.args.choices.now.is_lossy c.in_ok-count.count c.in-Some.fault
+    (sym c.fault_behind.ensures ∙ c.in-Some.is)).0
+
+pub returns-in-Some-clause-write : goal.returns-in-Some-clause-write
+returns-in-Some-clause-write g c =
+    c.in_ok-count.ensures.write ∙ sym (behind-no-device c.args.choices.now.is_lossy c.in_ok-count.count c.in-Some.fault
+    (sym c.fault_behind.ensures ∙ c.in-Some.is)).1
 
 pub returns-clause-answer : goal.returns-clause-answer
 returns-clause-answer g c =

@@ -1,8 +1,7 @@
-use Rattle.std.proofs.Common.{◌≡◌, ℕ, Some, None, true, false, get_or, refl, ap, sym, ◌∙◌}
+use Rattle.std.proofs.Common.{◌≡◌, Some, true, false, get_or, refl, ap, sym, ◌∙◌}
 use Rattle.std.proofs.lemmas.Option.{slice_get-get_or}
-use Rattle.std.specs.Prelude.{is_some}
-use Rattle.afdx_config.specs.Rows.{LinkRow}
-use Rattle.afdx_acceptance.specs.Tapped.{goes_there, is_damaged, is_heard_at, is_of_came, link_to, place_named, taps_in}
+use Rattle.std.specs.Prelude.{is_some, not}
+use Rattle.afdx_acceptance.specs.Tapped.{is_damaged, is_heard_at, is_of_came, link_to, place_named, taps_in}
 use Rattle.afdx_acceptance.proofs.GivenLemmas.{blank}
 use Rattle.afdx_acceptance.proofs.StrangerLemmas.{goes-named, heard-counts, unheard-came, unheard-is}
 use Rattle.afdx_acceptance.proofs.streams.Streams.is_unheard.Goals as goal
@@ -23,3 +22,29 @@ returns-then-is_heard c x role side port bytes named =
     let taps = taps_in c.args.self.now.taps.now in
     sym (heard-counts t taps x (ap (λ o. is_heard_at t taps x.arrival.side o) (sym named ∙ c.in-Some.is)
     ∙ ap (λ d. is_heard_at t taps d (Some c.in-Some.link)) side ∙ sym c.is_heard.ensures.at ∙ c.if-is_heard.true))
+
+pub returns-in-Some-receiver_at : goal.returns-in-Some-receiver_at
+returns-in-Some-receiver_at c x role side port bytes named =
+    let t = c.args.self.now.tables.now in
+    let taps = taps_in c.args.self.now.taps.now in
+    let link = c.in-Some.link in
+    let at : place_named t x.arrival.bytes ≡ Some link = sym named ∙ c.in-Some.is in
+    let there = slice_get-get_or t.links link blank c.receiver_at.requires in
+    ap not (c.is_damaged.ensures ∙ ap (λ b. is_damaged b) bytes)
+    ∙ sym (unheard-is t taps x false true (is_damaged x.arrival.bytes) (role ∙ c.in-Left.is)
+    (ap (λ o. is_heard_at t taps x.arrival.side o) at ∙ ap (λ d. is_heard_at t taps d (Some link)) side
+    ∙ sym c.is_heard.ensures.at ∙ c.if-is_heard.false)
+    (goes-named t x.arrival (Some link) at ∙ ap (λ p. is_some (link_to t link p)) port
+    ∙ ap is_some (c.in-Some-receiver_at.ensures.to (get_or t.links link blank) there).0) refl)
+
+pub returns-in-None : goal.returns-in-None
+returns-in-None c x role side port bytes named =
+    let t = c.args.self.now.tables.now in
+    let taps = taps_in c.args.self.now.taps.now in
+    let link = c.in-Some.link in
+    let at : place_named t x.arrival.bytes ≡ Some link = sym named ∙ c.in-Some.is in
+    sym (unheard-is t taps x false false (is_damaged x.arrival.bytes) (role ∙ c.in-Left.is)
+    (ap (λ o. is_heard_at t taps x.arrival.side o) at ∙ ap (λ d. is_heard_at t taps d (Some link)) side
+    ∙ sym c.is_heard.ensures.at ∙ c.if-is_heard.false)
+    (goes-named t x.arrival (Some link) at ∙ ap (λ p. is_some (link_to t link p)) port
+    ∙ ap is_some c.in-None.ensures.none) refl)
