@@ -283,8 +283,7 @@ module _ (t : Rows) (c : Choices) (until : ℕ) (lawful : IsLawfulSwitch t) (ori
   strange-none (d ∷ ds) (y ∷ ys) all whole are =
       let at = all.0 in
       let named : names at.link.vl y.bytes ≡ true = ap (λ (b : List ℕ). names at.link.vl b) are.0.bytes ∙ at.named in
-      let goes : goes_to t at.link y.port ≡ true = ap (λ (n : ℕ). goes_to t at.link n) are.0.port ∙ at.goes in
-      (
+      let goes : goes_to t at.link y.port ≡ true = ap (λ (n : ℕ). goes_to t at.link n) are.0.port ∙ at.goes in (
         counted-none t c y at.place at.link (place-named-is t lawful at.place at.link at.stands y.bytes named)
             (link-to-is t lawful at.place at.link at.stands y.port goes)
             (ap (λ (b : List ℕ). is_damaged b) are.0.bytes ∙ whole.0),
