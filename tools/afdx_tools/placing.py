@@ -22,12 +22,21 @@ New = Callable[[str], ContextManager[BinaryIO]]  # opens a new file by its name
 
 @contextlib.contextmanager
 def signals_held() -> Iterator[None]:
-    """Signals wait until this has ended, and end the tool then."""
-    before = signal.pthread_sigmask(signal.SIG_BLOCK, signal.valid_signals())
+    """Signals wait until this has ended, and end the tool then. They are held by their handlers:
+    one that this thread blocks would come by another thread of a library."""
+    came: list[int] = []
+    handlers = {number: signal.getsignal(number) for number in signal.valid_signals()}
+    held = [(number, heed) for number, heed in handlers.items() if callable(heed)]
     try:
+        for number, _ in held:
+            signal.signal(number, lambda which, frame: came.append(which))
         yield
     finally:
-        signal.pthread_sigmask(signal.SIG_SETMASK, before)
+        for number, heed in held:
+            signal.signal(number, heed)
+        for number, heed in held:
+            if number in came:
+                heed(number, None)
 
 
 @contextlib.contextmanager
