@@ -42,8 +42,8 @@ _afdx_plain() { # WORD : sets `plain`
 }
 
 # Offers what begins with the word, behind what of it is left as it is: `lead` is `--name=`, or the
-# words of a list. `behind`, which isn't replaced, is left out. `compgen -W` isn't called: it expands
-# its words, and runs what stands in them.
+# words of a list. `behind`, which isn't replaced, is left out. `compgen -W` isn't called: it
+# expands its words, and runs what stands in them.
 _afdx_offer() { # WORD..
     local word
     for word in "$@"; do

@@ -28,8 +28,8 @@ printf '#!/bin/sh\necho glibc 2.36\n' >"$room/machine/getconf"
 chmod +x "$room"/machine/*
 printf 'low: toml\ntests: afdx low\nafdx: low clap\n' >"$room/house/crates.txt"
 # An rt that says what one says. Where the file SLOW is there it works, and then waits, until the
-# launcher has said what it says meanwhile, up to two minutes each. Where TAKEN is there it waits for
-# another checkout, and takes over what that built.
+# launcher has said what it says meanwhile, up to two minutes each. Where TAKEN is there it waits
+# for another checkout, and takes over what that built.
 cat >"$room/kit/rt" <<'RT'
 #!/usr/bin/env bash
 until_said() { # LINE : a pattern
@@ -72,8 +72,8 @@ command -v ps >/dev/null || works=0
 STANDS='^afdx: 0 of 2 crates checked, after [1-9][0-9]* s; now low for [1-9][0-9]* s '
 STANDS+="($works s of processor): 0 of 2 functions checked; in a large crate that stands"
 BETWEEN='^afdx: 1 of 2 crates checked, after [1-9][0-9]* s$'
-WAITS='^afdx: 0 of 2 crates checked, after [1-9][0-9]* s; waiting for low, which another copy of the '
-WAITS+='repository builds, for [1-9][0-9]* s$'
+WAITS='^afdx: 0 of 2 crates checked, after [1-9][0-9]* s; waiting for low, which another copy of '
+WAITS+='the repository builds, for [1-9][0-9]* s$'
 TAKES='^afdx: 1 of 2 crates checked, after [1-9][0-9]* s; now afdx for '
 export STANDS BETWEEN WAITS TAKES
 
@@ -142,7 +142,8 @@ touch "$TAKEN"
 sleep 0.01
 touch "$room/house/crates/low/src/lib.rt"
 launch check
-expect 'where another checkout builds a crate it says which it waits for' grep -q "$WAITS" "$room/err"
+expect 'where another checkout builds a crate it says for which it waits' \
+    grep -q "$WAITS" "$room/err"
 expect 'what it took over from there counts as checked' grep -q "$TAKES" "$room/err"
 expect 'it is run then' [ "$status" = 3 ]
 rm "$TAKEN"
