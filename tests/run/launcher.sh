@@ -142,7 +142,8 @@ touch "$TAKEN"
 sleep 0.01
 touch "$room/house/crates/low/src/lib.rt"
 launch check
-expect 'where another checkout builds a crate it says which' grep -q "$WAITS" "$room/err"
+expect 'where another checkout builds a crate it says for which it waits' \
+    grep -q "$WAITS" "$room/err"
 expect 'what it took over from there counts as checked' grep -q "$TAKES" "$room/err"
 expect 'it is run then' [ "$status" = 3 ]
 rm "$TAKEN"

@@ -11,7 +11,7 @@ fault_cases() { # FOLDER
         while IFS= read -r line && [[ -n $line ]]; do
             case $line in
                 'systems: '*) systems=${line#*: } ;;
-                'messages: '*) messages+=${messages:+; }${line#*: } ;;
+                'messages: '*) messages=${line#*: } ;;
                 *) told+=("$line") ;;
             esac
         done
@@ -141,9 +141,8 @@ a rate is of no profile
 systems: 2s/100$/1001/
 systems.csv line 2, adc: rate 1001: it has to be 10 or 100
 
-times are in ms and ns
-messages: 1s/within_us/within [ms]/; 1s/every_ms/every [ns]/; 3s/,10,120,120,/,10000000,120,101,/
-messages: 2s/,20,64,150,/,20000000,64,0.0001,/; 4,$d
+times are in ms
+messages: 1s/within_us/within [ms]/; 2s/,150,/,0.0001,/; 3s/,120,120,/,120,101,/; 4,$d
 messages.csv line 2, air data: within_ms 0.0001: it has to be 0.001 to 100, in steps of 0.001
 messages.csv line 3, attitude: within_ms 101: it has to be 0.001 to 100, in steps of 0.001
 
