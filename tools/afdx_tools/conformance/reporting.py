@@ -33,7 +33,7 @@ from afdx_tools.report.criteria import suite_of, write_junit
 from afdx_tools.report.made import digest, run_of
 from afdx_tools.report.ranking import latency_text, nearest
 from afdx_tools.report.where import utc
-from afdx_tools.tables import WRITTEN, Row, as_text, cell, csv_text, link_words
+from afdx_tools.tables import VERSION, WRITTEN, Row, as_text, cell, csv_text, link_words
 
 MOST_TOLD = 10  # findings in the head of the text
 
@@ -140,6 +140,7 @@ def report_of(
     numbers = Numbers(config, checked, judged, measured, stood)
     streams, naming = numbers.streams(), naming_beside(args.config)
     return {
+        "version": VERSION,
         "run": made_by(args, inputs, options, called, cover, recorded.time_0),
         "cover": cover.content if cover else None,
         "admission": checked.answer,
