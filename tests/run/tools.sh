@@ -73,7 +73,7 @@ parts="recordings report hardening criteria early page capture_faults wireshark 
 parts+=" explained icd_faults icd_documents icd_growth icd_cables traffic taps fill"
 parts+=" completion hostile_completion safe_outputs hostile_files around campaigns"
 parts+=" recorded_reports absence evidence annotated several_switches several_reports"
-parts+=" conformance schemas package"
+parts+=" conformance schemas workbooks package"
 for part in $parts; do
     # shellcheck source=/dev/null
     source "$top/tests/tools/$part.sh"
