@@ -1,5 +1,5 @@
-"""Tables as spreadsheets write them: CSV with commas, semicolons or tabs, or a workbook (.xlsx); the
-first row names the columns."""
+"""Tables as spreadsheets write them: CSV with commas, semicolons or tabs, or a workbook (.xlsx).
+The first row names the columns."""
 from __future__ import annotations
 
 import csv

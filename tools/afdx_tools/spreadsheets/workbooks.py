@@ -1,4 +1,4 @@
-"""Tables as workbooks (.xlsx), read by openpyxl within bounds: of what unpacks, rows and columns."""
+"""Tables as workbooks (.xlsx), read by openpyxl within bounds: of bytes, rows and columns."""
 from __future__ import annotations
 
 import datetime
