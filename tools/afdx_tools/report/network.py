@@ -157,9 +157,8 @@ def legend(vls: Sequence[int]) -> list[str]:
     for n, name in enumerate(steps):
         parts += [line(x, 16, x + 26, 16, f"load-{n}"), text(x + 32, 20, name, "muted")]
         x += 46 + 6.6 * len(name)
-    parts += [line(x, 16, x + 26, 16, "wrong"), text(x + 32, 20, "late or lost", "bad")]
-    note = "each half of a line is what goes out at its end; at a system's name what it sends"
-    parts.append(text(MARGIN, 40, note, "muted"))
+    note = "late or lost; each half of a line is what goes out at its end, at a name what it sends"
+    parts += [line(MARGIN, 36, MARGIN + 26, 36, "wrong"), text(MARGIN + 32, 40, note, "muted")]
     if vls:
         names = ", ".join(map(str, vls))
         note = f"shaded: the way of link {names}; lines that it doesn't take are pale"
