@@ -104,6 +104,8 @@ parts=(
     several_switches
     several_reports
     conformance
+    schemas
+    workbooks
     package
 )
 if [[ $# -gt 1 ]]; then parts=("${@:2}"); fi

@@ -100,11 +100,25 @@ picture_tests() {
         --out "$flying/linked"
     tell 'a picture of the network, and the tree of a link' "$(
         is_status 0
-        wants_text "$(grep -o '<svg [^>]*class="map"' "$flying/linked/report.html" | wc -l)" 3 maps
-        # to three systems, over three cables: each half is shaded in each of three pictures
-        wants_text "$(grep -o 'class="tree"' "$flying/linked/report.html" | wc -l)" 12 shades
+        wants_text "$(grep -o '<svg [^>]*class="map"' "$flying/linked/report.html" | wc -l)" 1 maps
+        # to three systems, over three cables: each half is shaded
+        wants_text "$(grep -o 'class="tree"' "$flying/linked/report.html" | wc -l)" 4 shades
+        wants_text "$(grep -oE 'section id="(arrivals|picture|network|drops)"' \
+            "$flying/linked/report.html" | cut -d '"' -f 2 | tr '\n' ' ')" \
+            'arrivals picture network drops ' sections
         wants_text "$(grep -o 'class="tree"' "$flying/aircraft/report.html" | wc -l)" 0 shades
         "$python" tests/tools/html_tags.py "$flying/linked/report.html"
+    )"
+    sed 's/^latency_us = .*/latency_us = 7/' examples/two_switches.toml >"$flying/late.toml"
+    launch tools/afdx-report --no-admission "$flying/late.toml" examples/two_switches.list \
+        --out "$flying/late"
+    tell 'the picture shows where copies were late, and cards of what was lost are red' "$(
+        is_status 0
+        grep -q 'Late or lost: aft port 3: 2 late[.]' "$flying/late/report.html" ||
+            echo 'it is not said'
+        wants_text "$(grep -oE 'class="wrong"' "$flying/late/report.html" | wc -l)" 2 lines
+        grep -qE '<dt>dropped</dt><dd class="bad">[1-9]' "$flying/late/report.html" ||
+            echo 'dropped is not red'
     )"
     if has chromium; then
         for size in 1200,4000 400,4000; do

@@ -10,6 +10,7 @@ from afdx_tools.columns import columns_of
 from afdx_tools.faults import shown
 
 Row = dict
+VERSION = 1  # of the form of report.json, which docs/report.schema.json describes
 NAMES = {
     "silences": "Silences: which network, system or link, on which side, from when to when",
     "dropped": "Dropped frames: by link, side, reason and the port where they came in",

@@ -36,7 +36,7 @@ from afdx_tools.report.cover import Cover
 from afdx_tools.report.criteria import suite_of, write_junit
 from afdx_tools.report.made import digest, run_of
 from afdx_tools.report.where import utc
-from afdx_tools.tables import WRITTEN, Row, csv_text
+from afdx_tools.tables import VERSION, WRITTEN, Row, csv_text
 
 
 TOO_FAR_BACK = "recording TimeBack"  # how a fault begins
@@ -148,6 +148,7 @@ def report_of(
     streams, idle, found = numbers.streams(), numbers.idle(), numbers.deviations()
     naming = naming_beside(args.config)
     return {
+        "version": VERSION,
         "run": made_by(args, inputs, options, called, cover, recorded.time_0),
         "cover": cover.content if cover else None,
         "admission": checked.answer,

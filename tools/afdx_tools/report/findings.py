@@ -1,4 +1,5 @@
-"""What isn't as it should be in a run, in sentences: the head of the page, and of the text."""
+"""What isn't as it should be in a run, in sentences and as values: the head of the page, and of the
+text."""
 from __future__ import annotations
 
 from typing import Callable, Iterator, Sequence
@@ -9,6 +10,10 @@ from afdx_tools.report.ranking import latencies_of, latency_words, ranked
 from afdx_tools.tables import Row, link_words
 
 MOST_NAMED = 3  # of a kind, each in a sentence of its own
+Finding = tuple[str, Row]  # in words, and as values
+# the values that a finding has of its rows, by their columns
+VALUES = {"links": "link", "sides": "side", "systems": "system", "switches": "switch",
+          "reasons": "reason"}  # fmt: skip
 
 
 def moment(ns: int) -> str:
@@ -38,6 +43,21 @@ def named_links(rows: Sequence[Row], most: int = 5) -> str:
 def with_message(row: Row, words: str) -> str:
     """Words about a row's link behind what its messages are called, where that is known."""
     return ", ".join(filter(None, (row.get("message"), words)))
+
+
+def about(rows: Sequence[Row], count: int) -> Row:
+    """A finding as values: how many there are; the links, sides and so on of its rows, and the
+    moments between which it was."""
+    found: Row = {"count": count}
+    for name, column in VALUES.items():
+        values = dict.fromkeys(row[column] for row in rows if row.get(column) is not None)
+        if values:
+            found[name] = list(values)
+    begins = [row["from_ns"] for row in rows if row.get("from_ns") is not None]
+    ends = [row["until_ns"] for row in rows if row.get("until_ns") is not None]
+    if begins and ends:
+        found |= {"from_ns": min(begins), "until_ns": max(ends)}
+    return found
 
 
 # ---- silence -------------------------------------------------------------------------------------
@@ -70,37 +90,41 @@ def silence_words(row: Row) -> str:
     return words
 
 
-def silent(report: Row) -> Iterator[str]:
+def silent(report: Row) -> Iterator[Finding]:
     """The silences, those of networks first, of each kind the longest."""
     for level, more in ((NETWORK, "networks"), (SYSTEM, "systems"), (LINK, "links")):
         rows = [row for row in report["silences"] if row["silent"] == level]
         rows.sort(key=lambda row: (-row["bags"], row["from_ns"]))
         if level == LINK and len(rows) > MOST_NAMED:
-            yield f"{many(len(rows), 'silence', 'silences')} of {named_links(rows)}; the longest:"
-        yield from map(silence_words, rows[:MOST_NAMED])
+            words = f"{many(len(rows), 'silence', 'silences')} of {named_links(rows)}; the longest:"
+            yield words, about(rows, len(rows))
+        yield from ((silence_words(row), about([row], 1)) for row in rows[:MOST_NAMED])
         if level != LINK and len(rows) > MOST_NAMED:
-            yield f"{len(rows) - MOST_NAMED:,} more silences of {more}"
+            rest = rows[MOST_NAMED:]
+            yield f"{len(rest):,} more silences of {more}", about(rest, len(rest))
 
 
 # ---- sides and numbers ---------------------------------------------------------------------------
 
 
-def contradicted(report: Row) -> Iterator[str]:
+def contradicted(report: Row) -> Iterator[Finding]:
     """Source addresses of the other network."""
     count, frames = report["totals"]["contradicted"], report["totals"]["frames"]
     if count:
         swapped = "; are the recordings swapped?" if 2 * count > frames else ""
-        yield f"{count:,} of {frames:,} frames name the other network in their address{swapped}"
+        words = f"{count:,} of {frames:,} frames name the other network in their address{swapped}"
+        yield words, about([], count)
 
 
-def unused(report: Row) -> Iterator[str]:
+def unused(report: Row) -> Iterator[Finding]:
     """Interfaces that aren't there."""
     if count := report["totals"]["unused"]:
         interfaces = many(count, "interface", "interfaces")
-        yield f"{interfaces} that --interface names, and that the recording doesn't have"
+        words = f"{interfaces} that --interface names, and that the recording doesn't have"
+        yield words, about([], count)
 
 
-def clock(report: Row) -> Iterator[str]:
+def clock(report: Row) -> Iterator[Finding]:
     """Clocks that are apart."""
     rows = [row for row in report["clocks"] if row["clock"]]
     if rows:
@@ -112,58 +136,63 @@ def clock(report: Row) -> Iterator[str]:
         drift = abs(end - begin) > abs(median) // 4
         drifts = f", at the begin {amount(begin)}, at the end {amount(end)}" if drift else ""
         of = many(len(rows), "sender that has", "senders that have")
-        yield (
+        words = (
             f"the clocks are apart: of {'the' if len(rows) == 1 else 'all'} {of} enough copies, "
             f"those on {later} came {amount(abs(median))} after those on {sooner} "
             f"(the median{drifts})"
         )
+        yield words, about(rows, len(rows)) | {"median_ns": median}
 
 
-def twice(report: Row) -> Iterator[str]:
+def twice(report: Row) -> Iterator[Finding]:
     """Messages that were delivered twice."""
     rows = [row for row in report["skews"] if row["twice"]]
     if rows:
         count, delivered = report["totals"]["twice"], report["totals"]["delivered"]
-        yield (
+        words = (
             f"{count:,} of {delivered - count:,} messages were delivered twice, of "
             f"{named_links(rows)}: the copy came more than SkewMax later"
         )
+        yield words, about(rows, count)
 
 
-def unequal(report: Row) -> Iterator[str]:
+def unequal(report: Row) -> Iterator[Finding]:
     """Frames that came on one side alone."""
     rows = [row for row in report["sides"] if row["alone"]]
     if rows:
         sums = {side: sum(row["alone"] for row in rows if row["side"] == side) for side in "AB"}
-        yield (
+        words = (
             f"{many(sum(sums.values()), 'frame', 'frames')} came on one side alone, on A "
             f"{sums['A']:,}, on B {sums['B']:,}, of {named_links(rows)}"
         )
+        yield words, about(rows, sum(sums.values()))
 
 
-def missing(report: Row) -> Iterator[str]:
+def missing(report: Row) -> Iterator[Finding]:
     """Sequence numbers that were skipped."""
     rows = [row for row in report["sides"] if row["missing"]]
     if rows:
         sums = {side: sum(row["missing"] for row in rows if row["side"] == side) for side in "AB"}
         numbers = many(sum(sums.values()), "sequence number is", "sequence numbers are")
-        yield f"{numbers} missing, on A {sums['A']:,}, on B {sums['B']:,}, of {named_links(rows)}"
+        words = f"{numbers} missing, on A {sums['A']:,}, on B {sums['B']:,}, of {named_links(rows)}"
+        yield words, about(rows, sum(sums.values()))
 
 
-def first_number(report: Row) -> Iterator[str]:
+def first_number(report: Row) -> Iterator[Finding]:
     """Links that don't begin with number 0."""
     rows = [row for row in report["sides"] if row["first_number"]]
     if rows:
-        yield (
+        words = (
             f"the first number isn't 0 of {named_links(rows)}: their senders began before the run, "
             "or the first frames are missing"
         )
+        yield words, about(rows, len(rows))
 
 
 # ---- at the switches and receivers ---------------------------------------------------------------
 
 
-def dropped(report: Row) -> Iterator[str]:
+def dropped(report: Row) -> Iterator[Finding]:
     """Frames that a switch dropped: by link and reason, those at wrong ports first."""
     sums: dict[tuple, list[Row]] = {}
     for row in report["dropped"]:
@@ -173,14 +202,16 @@ def dropped(report: Row) -> Iterator[str]:
         sums.values(),
         key=lambda rows: (rows[0]["reason"] != "wrong-port", -sum(r["frames"] for r in rows)),
     )
-    yield from map(drop_words, groups[:MOST_NAMED])
+    for rows in groups[:MOST_NAMED]:
+        yield drop_words(rows), about(rows, sum(row["frames"] for row in rows))
     if rest := [row for rows in groups[MOST_NAMED:] for row in rows]:
         reasons: dict[str, int] = {}
         for row in rest:
             reasons[row["reason"]] = reasons.get(row["reason"], 0) + row["frames"]
         words = ", ".join(f"{count:,} {word}" for word, count in reasons.items())
         frames = many(sum(reasons.values()), "other frame was", "other frames were")
-        yield f"{frames} dropped: {words}, of {named_links(rest)}"
+        words = f"{frames} dropped: {words}, of {named_links(rest)}"
+        yield words, about(rest, sum(reasons.values()))
 
 
 def drop_words(rows: Sequence[Row]) -> str:
@@ -205,7 +236,7 @@ def drop_words(rows: Sequence[Row]) -> str:
     )
 
 
-def late(report: Row) -> Iterator[str]:
+def late(report: Row) -> Iterator[Finding]:
     """Copies that left too late."""
     tables = latencies_of(report), report["latency"]
     late_rows = ([row for row in ranked(table) if row["late"]] for table in tables)
@@ -213,26 +244,28 @@ def late(report: Row) -> Iterator[str]:
     if rows:
         copies = many(report["totals"]["late"], "copy", "copies")
         copies += places_of(report["totals"], "late")
-        yield f"LATE: {copies} of {named_links(rows)}; {latency_words(rows[0])}"
+        words = f"LATE: {copies} of {named_links(rows)}; {latency_words(rows[0])}"
+        worst = {name: rows[0][name] for name in ("greatest_ns", "configured_ns")}
+        yield words, about(rows, report["totals"]["late"]) | worst
 
 
-def full_buffer(report: Row) -> Iterator[str]:
+def full_buffer(report: Row) -> Iterator[Finding]:
     """Copies for which a port had no room."""
     if count := report["totals"]["full_buffer"]:
         rows = [row for row in report["links"] if row["full_buffer"]]
         copies = many(count, "copy", "copies") + places_of(report["totals"], "full-buffer")
-        yield f"{copies} lost to a full buffer, of {named_links(rows)}"
+        yield f"{copies} lost to a full buffer, of {named_links(rows)}", about(rows, count)
 
 
-def too_old(report: Row) -> Iterator[str]:
+def too_old(report: Row) -> Iterator[Finding]:
     """Copies that were dropped for their age."""
     if count := report["totals"]["too_old"]:
         rows = [row for row in report["links"] if row["too_old"]]
         copies = many(count, "copy", "copies") + places_of(report["totals"], "too-old")
-        yield f"{copies} dropped as too old, of {named_links(rows)}"
+        yield f"{copies} dropped as too old, of {named_links(rows)}", about(rows, count)
 
 
-def refused(report: Row) -> Iterator[str]:
+def refused(report: Row) -> Iterator[Finding]:
     """Copies that a receiver dropped, redundant ones apart."""
     rows = [row for row in report["links"] if row["refused"]]
     if rows:
@@ -242,39 +275,42 @@ def refused(report: Row) -> Iterator[str]:
                 reasons[word] = reasons.get(word, 0) + count
         words = ", ".join(f"{count:,} {word}" for word, count in sorted(reasons.items()))
         copies = many(report["totals"]["refused"], "copy", "copies")
-        yield f"{copies} refused at receivers: {words}, of {named_links(rows)}"
+        words = f"{copies} refused at receivers: {words}, of {named_links(rows)}"
+        yield words, about(rows, report["totals"]["refused"]) | {"reasons": sorted(reasons)}
 
 
-def skew(report: Row) -> Iterator[str]:
+def skew(report: Row) -> Iterator[Finding]:
     """Copies that left the switches further apart than SkewMax."""
     rows = [row for row in report["skews"] if (row["at_receivers_ns"] or 0) > row["table_skew_ns"]]
     if rows:
         worst = max(rows, key=lambda row: row["at_receivers_ns"] / row["table_skew_ns"])
-        yield (
+        words = (
             f"skew over SkewMax of {named_links(rows)}; link {link_words(worst)}: "
             f"{amount(worst['at_receivers_ns'])}, SkewMax {amount(worst['table_skew_ns'])}"
         )
+        yield words, about(rows, len(rows))
 
 
-def jitter(report: Row) -> Iterator[str]:
+def jitter(report: Row) -> Iterator[Finding]:
     """Links that came with more jitter than their tables have."""
     rows = [row for row in report["sides"] if (row["jitter_ns"] or 0) > row["table_jitter_ns"]]
     if rows:
         worst = max(rows, key=lambda row: row["jitter_ns"] - row["table_jitter_ns"])
-        yield (
+        words = (
             f"jitter over the table's of {named_links(rows)}; link {link_words(worst)} on "
             f"{worst['side']}: {amount(worst['jitter_ns'])}, in the table "
             f"{amount(worst['table_jitter_ns'])}"
         )
+        yield words, about(rows, len(rows))
 
 
 # ---- at the recorder -----------------------------------------------------------------------------
 
 
-def recorder_lost(report: Row) -> Iterator[str]:
+def recorder_lost(report: Row) -> Iterator[Finding]:
     """Frames that the recorder lost."""
     if count := report["totals"]["recorder_lost"]:
-        yield f"the recorder itself lost {many(count, 'frame', 'frames')}"
+        yield f"the recorder itself lost {many(count, 'frame', 'frames')}", about([], count)
 
 
 def left_words(report: Row) -> str:
@@ -285,23 +321,24 @@ def left_words(report: Row) -> str:
     )
 
 
-def left_out(report: Row) -> Iterator[str]:
+def left_out(report: Row) -> Iterator[Finding]:
     """Frames that were recorded and are no arrivals."""
     if count := report["totals"]["left_out"]:
         frames = many(count, "recorded frame was", "recorded frames were")
-        yield f"{frames} left out: {left_words(report)}"
+        yield f"{frames} left out: {left_words(report)}", about([], count)
 
 
-def claimed(report: Row) -> Iterator[str]:
+def claimed(report: Row) -> Iterator[Finding]:
     """Frames that only their own addresses place."""
     if count := report["totals"]["claimed"]:
-        yield (
+        words = (
             f"{count:,} of {report['totals']['frames']:,} frames are only claimed to have come "
             "where they did: their own addresses say it, and no word of --interface"
         )
+        yield words, about([], count)
 
 
-FINDINGS: dict[str, Callable[[Row], Iterator[str]]] = {
+FINDINGS: dict[str, Callable[[Row], Iterator[Finding]]] = {
     "silent": silent,
     "contradicted": contradicted,
     "clock": clock,
@@ -326,7 +363,7 @@ FINDINGS: dict[str, Callable[[Row], Iterator[str]]] = {
 def findings_of(report: Row) -> list[Row]:
     """Each finding with its criterion, the gravest first."""
     return [
-        {"criterion": word, "words": words}
+        {"criterion": word, "words": words, **values}
         for word, find in FINDINGS.items()
-        for words in find(report)
+        for words, values in find(report)
     ]

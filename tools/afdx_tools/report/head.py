@@ -86,7 +86,7 @@ def findings(report: Row) -> str:
 
 def cards(report: Row) -> str:
     """The sums, one a card."""
-    bad = ("full_buffer", "late", "too_old", "missing", "silent")
+    bad = ("dropped", "full_buffer", "late", "too_old", "refused", "missing", "silent")
     return cards_of(
         (words, report["totals"][key], key in bad) for key, words in CARDS.items()
     )

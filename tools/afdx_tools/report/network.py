@@ -1,9 +1,9 @@
-"""Pictures of a network of several switches: switches with their systems, and the cables between
+"""The picture of a network of several switches: switches with their systems, and the cables between
 them. Each line has two halves, one for each direction, coloured by its load."""
 from __future__ import annotations
 
 import math
-from typing import Collection, NamedTuple, Sequence
+from typing import Collection, Mapping, NamedTuple, Sequence
 
 from afdx_tools.config import MOST_PORTS, Cable, Config, System
 from afdx_tools.report.layout import Layout, Point, halves, laid_out
@@ -20,15 +20,18 @@ MOST_NAMED = 8
 
 
 class Lines(NamedTuple):
-    """What is known of the lines: the loads of one column by port and direction (True: into the
-    switch), and the ports of the links whose trees are shown."""
+    """What is known of the lines: the loads by port and direction (True: into the switch), the
+    ports of the links whose trees are shown, and what was late or lost at an output port."""
 
     loads: dict[tuple[int, bool], float]
     rows: dict[tuple[int, bool], Row]
     tree: Collection[tuple[int, bool]]
+    wrong: Mapping[int, str]
 
     def kind(self, key: tuple[int, bool]) -> str:
         """The style of a line."""
+        if not key[1] and key[0] in self.wrong:
+            return "wrong"
         load = self.loads[key]
         step = next((n for n, (most, _) in enumerate(STEPS) if load <= most), len(STEPS))
         return f"load-{step}" + ("" if not self.tree or key in self.tree else " aside")
@@ -36,20 +39,23 @@ class Lines(NamedTuple):
     def words(self, key: tuple[int, bool]) -> str:
         """A line in words."""
         row = self.rows[key]
+        wrong = "" if key[1] or key[0] not in self.wrong else f"; {self.wrong[key[0]]}"
         return (
             f"{row['from']} to {row['to']} ({row['switch']} port {row['port']}, {row['rate']} "
-            f"Mbit/s): {percent(self.loads[key])}; {row['links']} links"
+            f"Mbit/s): {percent(self.loads[key])}; {row['links']} links{wrong}"
         )
 
 
-def lines_of(config: Config, rows: Sequence[Row], column: str, vls: Sequence[int]) -> Lines:
-    """The lines with the loads of a column."""
+def lines_of(
+    config: Config, rows: Sequence[Row], wrong: Mapping[int, str], vls: Sequence[int]
+) -> Lines:
+    """The lines with their loads, and with what was wrong."""
     switches = {name: place for place, name in enumerate(config.names)}
     loads, by_key = {}, {}
     for row in rows:
         key = MOST_PORTS * switches[row["switch"]] + row["port"], row["to"] == row["switch"]
-        loads[key], by_key[key] = row[column], row
-    return Lines(loads, by_key, tree_of(config, vls))
+        loads[key], by_key[key] = row["load"], row
+    return Lines(loads, by_key, tree_of(config, vls), wrong)
 
 
 def tree_of(config: Config, vls: Sequence[int]) -> set[tuple[int, bool]]:
@@ -151,8 +157,8 @@ def legend(vls: Sequence[int]) -> list[str]:
     for n, name in enumerate(steps):
         parts += [line(x, 16, x + 26, 16, f"load-{n}"), text(x + 32, 20, name, "muted")]
         x += 46 + 6.6 * len(name)
-    note = "each half of a line is what goes out at its end; at a system's name what it sends"
-    parts.append(text(MARGIN, 40, note, "muted"))
+    note = "late or lost; each half of a line is what goes out at its end, at a name what it sends"
+    parts += [line(MARGIN, 36, MARGIN + 26, 36, "wrong"), text(MARGIN + 32, 40, note, "muted")]
     if vls:
         names = ", ".join(map(str, vls))
         note = f"shaded: the way of link {names}; lines that it doesn't take are pale"
@@ -162,13 +168,12 @@ def legend(vls: Sequence[int]) -> list[str]:
 
 def in_words(lines: Lines) -> str:
     """The lines with the greatest loads."""
-    order = sorted(lines.loads, key=lambda key: -lines.loads[key])
+    order = sorted(lines.loads, key=lambda key: (lines.kind(key) != "wrong", -lines.loads[key]))
     return ". ".join(lines.words(key) for key in order[:MOST_NAMED])
 
 
 class Map:
-    """The layout of a network, for pictures by any column of the loads; there is none where
-    Graphviz makes none."""
+    """The layout of a network; there is none where Graphviz makes none."""
 
     def __init__(self, config: Config) -> None:
         self.config = config
@@ -181,11 +186,13 @@ class Map:
         sizes = [(each.width, each.height) for each in self.boxes]
         self.layout: Layout | None = laid_out(sizes, list(self.cables))
 
-    def picture(self, name: str, rows: Sequence[Row], column: str, vls: Sequence[int]) -> str:
-        """The network with the loads of a column; nothing where there is no layout."""
+    def picture(
+        self, name: str, rows: Sequence[Row], wrong: Mapping[int, str], vls: Sequence[int]
+    ) -> str:
+        """The network with its loads, and with what was wrong; nothing where there is no layout."""
         if self.layout is None:
             return ""
-        lines = lines_of(self.config, rows, column, vls)
+        lines = lines_of(self.config, rows, wrong, vls)
         shown = [vl for vl in dict.fromkeys(vls) if vl in self.config.links]
         drawn: list[str] = []
         for ends, cable in self.cables.items():

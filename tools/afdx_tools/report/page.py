@@ -14,7 +14,7 @@ from afdx_tools.report.head import answer, cards, words_section
 from afdx_tools.report.lanes import lanes
 from afdx_tools.report.parts import paper_rows, section, table, table_section
 from afdx_tools.report.ranking import FEWEST, latencies_of
-from afdx_tools.report.several import hops_section, network_sections
+from afdx_tools.report.several import hops_section, network_section
 from afdx_tools.report.where import Where
 from afdx_tools.report.whole import FIND, NEAREST, first_words, links_of, one_each, whole_page
 from afdx_tools.tables import (
@@ -99,8 +99,8 @@ def arrivals_section(report: Row) -> str:
 
 def pictures(report: Row, counting: Counting, args: argparse.Namespace) -> str:
     """All pictures."""
-    parts = [network_sections(report, counting, args)] if "ways" in report else []
-    parts += [arrivals_section(report), latency_section(report, counting, args.rows)]
+    parts = [arrivals_section(report), latency_section(report, counting, args.rows)]
+    parts += [network_section(report, counting, args)] if "ways" in report else []
     if report["latency"]:
         words = "How near the copies came to their link's configured latency, sides A and B apart."
         shares = figures.histogram(report["histogram"])
@@ -180,8 +180,9 @@ def table_sections(report: Row, where: Where) -> str:
 
 def links_to(report: Row) -> str:
     """Anchors to the parts of the page."""
-    names = {"words": "words", **({"network": "network"} if "ways" in report else {})}
-    names |= {"arrivals": "arrivals", "picture": "latency", "drops": "drops"}
+    names = {"words": "words", "arrivals": "arrivals", "picture": "latency"}
+    names |= {"network": "network"} if "ways" in report else {}
+    names |= {"drops": "drops"}
     names |= {name: f"table of {name}" for name in (*names_of(report), "troubles")}
     names |= {"early": "table of over-rate frames"} if "early_ns" in report else {}
     names |= {"made": "what made it"}

@@ -49,6 +49,7 @@ from afdx_tools.tables import (
     PROVED,
     PROVED_OF_SEVERAL,
     UNPROMISED,
+    VERSION,
     WRITTEN,
     Row,
     as_text,
@@ -130,6 +131,7 @@ def report_of(
     counting = Counting(as_called(tables, naming), listed.listing, events)
     where = Where(source, counting)
     report: Row = {
+        "version": VERSION,
         "run": header(args, source, counting, where, called, cover),
         "cover": cover.content if cover else None,
         "admission": checked.answer,

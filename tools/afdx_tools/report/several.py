@@ -6,40 +6,52 @@ import argparse
 from typing import Sequence
 
 from afdx_tools.replay.counting import Counting
+from afdx_tools.replay.events import FATES, LOST, OLD
 from afdx_tools.report.layout import is_there
 from afdx_tools.report.network import Map
 from afdx_tools.report.parts import section
 from afdx_tools.report.svg import WIDTH, box, in_us, line, picture, text, titled
 from afdx_tools.tables import Row, percent
 
-CONTRACT, IN_REPLAY = "contract", ("load_A", "load_B")
 NO_GRAPHVIZ = "Graphviz isn't installed (apt-get install graphviz)"
 NO_LAYOUT = "Graphviz made no layout"
+MOST_TOLD = 10  # ports at which copies were late or lost
 
 
 # ---- the network ---------------------------------------------------------------------------------
 
 
-def network_sections(report: Row, counting: Counting, args: argparse.Namespace) -> str:
-    """The network with its loads: by contract, and in the replay on each side."""
-    network = Map(counting.config)
+def wrong_at(counting: Counting) -> dict[int, str]:
+    """Of each output port at which copies were late or lost how many, in words."""
+    ports, count = counting.events.port, counting.ports
+    fates, late = counting.fates_by(ports, count), counting.late_by(ports, count)
+    found = {}
+    for port in range(count):
+        counts = {"late": late[port], "at a full buffer": fates[port][FATES.index(LOST)],
+                  "too old": fates[port][FATES.index(OLD)]}  # fmt: skip
+        if any(counts.values()):
+            found[port] = ", ".join(f"{n:,} {word}" for word, n in counts.items() if n)
+    return found
+
+
+def network_section(report: Row, counting: Counting, args: argparse.Namespace) -> str:
+    """The network with its loads in the replay, and where copies were late or lost."""
+    network, head = Map(counting.config), "The network: where copies were late or lost, and loads"
     if network.layout is None:
         why = NO_LAYOUT if is_there() else NO_GRAPHVIZ
         words = f"{why}, so there is no picture: the table of lines below has its numbers."
-        return section("network", "The network", words, "")
-    heads = {
-        CONTRACT: ("network", "The network, and the load of each line by contract",
-                   "The share of a line that the links on it may take up, as A1 adds it up."),
-        **{
-            column: (f"network-{side}", f"The same in the replay, side {side}",
-                     f"The share of each line that frames took up over the run, on side {side}.")
-            for column, side in zip(IN_REPLAY, "AB")
-        },
-    }  # fmt: skip
-    return "".join(
-        section(name, head, words, network.picture(name, report["lines"], column, args.link))
-        for column, (name, head, words) in heads.items()
+        return section("network", head, words, "")
+    words = (
+        "Loads are the share of each line that frames took up over the run, on the side with more; "
+        "the table of lines has both, and what contracts allow. "
     )
+    wrong = wrong_at(counting)
+    most = [f"{counting.config.called(port)}: {what}" for port, what in wrong.items()]
+    words += f"Late or lost: {'; '.join(most[:MOST_TOLD])}." if wrong else "None was late or lost."
+    if len(most) > MOST_TOLD:
+        words += f" So were copies at {len(most) - MOST_TOLD} more ports."
+    rows = [{**row, "load": max(row["load_A"], row["load_B"])} for row in report["lines"]]
+    return section("network", head, words, network.picture("network-loads", rows, wrong, args.link))
 
 
 # ---- where the time goes -------------------------------------------------------------------------

@@ -108,6 +108,7 @@ svg.map { max-width: var(--most); min-width: var(--least); }
 .load-5 { stroke: var(--load-5); stroke-width: 5.2; }
 .load-6 { stroke: var(--load-6); stroke-width: 6.4; }
 .load-7 { stroke: var(--bad); stroke-width: 8; }
+.wrong { stroke: var(--bad); stroke-width: 5; stroke-dasharray: 7 3; }
 footer { color: var(--muted); margin-top: 20px; font-size: 13px; }
 footer code { font-size: 12px; overflow-wrap: anywhere; }
 @page { size: A4 portrait; margin: 12mm; }

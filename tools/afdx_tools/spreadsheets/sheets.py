@@ -1,5 +1,5 @@
-"""Tables as spreadsheets write them: CSV with commas, semicolons or tabs, whose first row names the
-columns."""
+"""Tables as spreadsheets write them: CSV with commas, semicolons or tabs, or a workbook (.xlsx).
+The first row names the columns."""
 from __future__ import annotations
 
 import csv
@@ -11,6 +11,7 @@ from typing import Collection, Iterator, Mapping, NamedTuple
 
 from afdx_tools.faults import Refused, shown
 from afdx_tools.spreadsheets.heads import Head, columns_of
+from afdx_tools.spreadsheets.workbooks import cells_of_workbook, is_workbook
 
 DELIMITERS = ",;\t"
 LONGEST = 40  # characters of a cell that are shown
@@ -93,19 +94,25 @@ def delimiter_of(text: str) -> str:
     return max(DELIMITERS, key=first.count)
 
 
-def cells_of(path: str, text: str) -> Iterator[tuple[int, list[str]]]:
+def cells_of(path: str) -> Iterator[tuple[int, list[str]]]:
     """The rows that aren't empty: the line at which each begins, its cells without the spaces
     around them."""
+    rows = cells_of_workbook(path) if is_workbook(path) else cells_of_text(path, text_of(path))
+    for line, cells in rows:
+        if len(max(cells, key=len, default="")) > LONGEST_CELL:
+            text = f"a cell has more than {LONGEST_CELL:,} characters"
+            raise Refused(f"{shown(path)} line {line}: {text}")
+        if any(cells):
+            yield line, cells
+
+
+def cells_of_text(path: str, text: str) -> Iterator[tuple[int, list[str]]]:
+    """The rows of a CSV file."""
     reader = csv.reader(io.StringIO(text), delimiter=delimiter_of(text), strict=True)
     begin = 1
     try:
         for row in reader:
-            cells = [cell.strip() for cell in row]
-            if len(max(cells, key=len, default="")) > LONGEST_CELL:
-                text = f"a cell has more than {LONGEST_CELL:,} characters"
-                raise Refused(f"{shown(path)} line {begin}: {text}")
-            if any(cells):
-                yield begin, cells
+            yield begin, [cell.strip() for cell in row]
             begin = reader.line_num + 1
     except csv.Error as error:
         raise Refused(f"{shown(path)} line {begin}: {error}") from error
@@ -129,7 +136,7 @@ def read_sheet(
     whether each has to be there; of one that isn't the cells are empty. An empty cell of a column
     of `filled` gets the content of the one above."""
     sheet = Sheet(path)
-    rows = cells_of(path, text_of(path))
+    rows = cells_of(path)
     first = next(rows, (1, [""]))[1]
     heads = columns_of(path, first, columns)
     sheet.others = [shown(name.lower()) for name, head in zip(first, heads) if name and not head]
