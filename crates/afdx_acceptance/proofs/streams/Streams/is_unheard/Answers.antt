@@ -1,6 +1,6 @@
-use Rattle.std.proofs.Common.{◌≡◌, Some, true, false, get_or, refl, ap, sym, ◌∙◌}
+use Rattle.std.proofs.Common.{◌≡◌, ◌<◌, Some, true, false, get_or, refl, ap, sym, ◌∙◌, subst}
 use Rattle.std.proofs.lemmas.Option.{slice_get-get_or}
-use Rattle.std.specs.Prelude.{is_some, not}
+use Rattle.std.specs.Prelude.{IfSome, is_some, length, not}
 use Rattle.afdx_acceptance.specs.Tapped.{is_damaged, is_heard_at, is_of_came, link_to, place_named, taps_in}
 use Rattle.afdx_acceptance.proofs.GivenLemmas.{blank}
 use Rattle.afdx_acceptance.proofs.StrangerLemmas.{goes-named, heard-counts, unheard-came, unheard-is}
@@ -29,7 +29,8 @@ returns-in-Some-receiver_at c x role side port bytes named =
     let taps = taps_in c.args.self.now.taps.now in
     let link = c.in-Some.link in
     let at : place_named t x.arrival.bytes ≡ Some link = sym named ∙ c.in-Some.is in
-    let there = slice_get-get_or t.links link blank c.receiver_at.requires in
+    let below : link < length t.links = subst (λ o. IfSome o (λ l. l < length t.links)) c.in-Some.is c.requires in
+    let there = slice_get-get_or t.links link blank below in
     ap not (c.is_damaged.ensures ∙ ap (λ b. is_damaged b) bytes)
     ∙ sym (unheard-is t taps x false true (is_damaged x.arrival.bytes) (role ∙ c.in-Left.is)
     (ap (λ o. is_heard_at t taps x.arrival.side o) at ∙ ap (λ d. is_heard_at t taps d (Some link)) side
