@@ -24,7 +24,7 @@ returns-after-is_told-clause-stands c z xs ys lines time moment none due lt stan
         ap (λ l. told_at c.args.key moment told l) here.2 ∙ sym r.2,
         elim c.if-is_told.branch [
           | then-is_told w ↦
-              w.is_told-is ∙ sym (told-line c.args.key moment told lines c.in-Stream.is_told here.3
+              w.is_told-is ∙ w.if-is_told.true ∙ sym (told-line c.args.key moment told lines c.in-Stream.is_told here.3
               ∙ ap (λ b. b || not (length told == 0)) w.if-is_told.true)
           | else-is_told w ↦
               w.is_told-is ∙ ap not (w.is_empty.ensures ∙ ap (λ l. length l == 0) w.as_slice.ensures.value)
@@ -50,7 +50,7 @@ returns-after-is_told-clause-ends c z xs ys lines moment end due stands =
         ap (λ l. told_at c.args.key moment told l) here.2 ∙ sym r.2,
         elim c.if-is_told.branch [
           | then-is_told w ↦
-              w.is_told-is ∙ sym (told-line c.args.key moment told lines c.in-Stream.is_told here.3
+              w.is_told-is ∙ w.if-is_told.true ∙ sym (told-line c.args.key moment told lines c.in-Stream.is_told here.3
               ∙ ap (λ b. b || not (length told == 0)) w.if-is_told.true)
           | else-is_told w ↦
               w.is_told-is ∙ ap not (w.is_empty.ensures ∙ ap (λ l. length l == 0) w.as_slice.ensures.value)
