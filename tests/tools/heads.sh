@@ -44,7 +44,7 @@ head_tests() {
     )"
     report_on sides --conform "$base" "$work/came.list" "$work/left.list"
     report_on sides_nothing --conform "$base" "$work/nothing.list" "$work/nothing.list"
-    tell 'the heads of a judged switch' "$(same_heads sides sides_nothing '')"
+    tell 'the heads of a judged switch' "$(same_heads sides sides_nothing 'offsets options ')"
 }
 
 recorded_head_tests() {

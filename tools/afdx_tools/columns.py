@@ -40,7 +40,13 @@ COLUMNS = {
     "streams": "link from switch port system side priority came left stopped strange passed "
                "late early frames least_ns median_ns p99_ns greatest_ns greatest_line bound_ns "
                "margin_ns configured_ns share",
-    "deviations": "what list line time_ns link side port system reason by_ns",
+    "deviations": "what list line time_ns link side port system reason by_ns by_numbers",
+    "groups": "findings what reason link side port system first_line by_ns words",
+    "idle": "link from switch port system side came",
+    "options": "option value given reason",
+    "stamps": "side port way frames step_ns nearest_ns bunched_ns",
+    "offsets": "side came_port left_port frames least_ns tenth_ns median_ns nine_tenths_ns "
+               "greatest_ns over_latency slope_ppm",
     "unseen": "link from switch port system side lacks",
 }  # fmt: skip
 # what stands behind them where a table names frames of a recording

@@ -17,8 +17,8 @@ take the shortest ways, or those that messages name in a column via.
 The messages of one vl share a virtual link. `afdx solve` finds the least
 jitters, buffers, latencies and skews with which the network is admitted. Prints
 `ok`; or names each message that can't be in time, and writes nothing then
-(status 1). Beside network.toml it writes network.names.csv, what the tables call
-systems, switches and messages: reports and Wireshark show these names.
+(status 1). Beside network.toml it writes network.names.csv, what the tables
+call systems, switches and messages: reports and Wireshark show these names.
 """
 from __future__ import annotations
 
