@@ -6,14 +6,14 @@ use crate::running::{Replaying, Run, run_inputs, run_sender};
 use afdx_commands::status::{DONE, WRONG_WORDS};
 use afdx_console::{
     complain, end_with, line_of, memory, print_lists, print_meaning, read_config, take_places,
-    tell_text,
+    tell_text, visible_text,
 };
 use afdx_explain::meaning_of;
 use afdx_replay::{CommandedRule, Policing, RunFault};
 use afdx_words::afdx_command;
 use clap::error::ErrorKind;
 use clap::{ArgMatches, Error};
-use std::alloc::AllocError;
+use std::alloc::{AllocError, Global};
 
 /// The rule that the words of `police` give.
 fn commanded_rule(matches: &ArgMatches<'_>) -> Option<CommandedRule> {
@@ -141,26 +141,48 @@ fn run_matches(rt: &HostRuntime, matches: &ArgMatches<'_>) -> u8 {
     }
 }
 
+/// The words as a terminal can show them.
+fn visible_words(alloc: Global, given: &[String]) -> Result<Vec<String>, AllocError> {
+    let mut words = Vec::new(alloc);
+    for word in given {
+        words.push(visible_text(alloc, word.as_str())?)?;
+    }
+    Ok(words)
+}
+
+/// What `clap` says of words that it refuses, as a terminal can show them: with an escape in them
+/// they are refused for the same reason, since no option and no value has a backslash.
+fn refuse_words(rt: &HostRuntime, given: &[String]) -> Result<u8, AllocError> {
+    let words = visible_words(rt.alloc(), given)?;
+    let command = afdx_command(rt.alloc())?;
+    if let Err(refusal) = command.try_get_matches_from(words.as_slice()) {
+        if refusal.kind() == ErrorKind::OutOfMemory {
+            return Ok(memory(rt));
+        }
+        tell_text(rt, &refusal);
+    }
+    Ok(WRONG_WORDS)
+}
+
 /// What `clap` says of words that it refuses, and of `--help` and `--version`.
-fn answer_refusal(rt: &HostRuntime, refusal: &Error) -> u8 {
+fn answer_refusal(rt: &HostRuntime, refusal: &Error, given: &[String]) -> Result<u8, AllocError> {
     if refusal.kind() == ErrorKind::OutOfMemory {
-        return memory(rt);
+        return Ok(memory(rt));
     }
     if refusal.use_stderr() {
-        tell_text(rt, refusal);
-        return WRONG_WORDS;
+        return refuse_words(rt, given);
     }
     if refusal.print(rt).is_err() {
-        return end_with(rt, RunFault::Write);
+        return Ok(end_with(rt, RunFault::Write));
     }
-    DONE
+    Ok(DONE)
 }
 
 fn run_words(rt: &HostRuntime, given: &[String]) -> Result<u8, AllocError> {
     let command = afdx_command(rt.alloc())?;
     match command.try_get_matches_from(given) {
         Ok(matches) => Ok(run_matches(rt, &matches)),
-        Err(refusal) => Ok(answer_refusal(rt, &refusal)),
+        Err(refusal) => answer_refusal(rt, &refusal, given),
     }
 }
 

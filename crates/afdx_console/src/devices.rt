@@ -118,7 +118,7 @@ impl LastLine {
     }
 }
 
-/// A writer, and the last line that was written to it. Each call is passed on as it is.
+/// A writer, and the last line that it took. Each call is passed on as it is.
 #[derive(Drop)]
 pub struct Heard<W> {
     device: W,
@@ -159,8 +159,11 @@ impl<W: Write> Write for Heard<W> {
     ghost contents = { λ heard. W.contents heard.device };
 
     fn write(&mut self, buf: &[u8]) -> io::Result<usize> {
-        self.last.add(buf);
-        self.device.write(buf)
+        let written = self.device.write(buf);
+        if let Ok(count) = &written {
+            self.last.add(&buf[..buf.len().min(*count)]);
+        }
+        written
     }
 
     fn flush(&mut self) -> io::Result<()> {

@@ -2,6 +2,7 @@
 
 use crate::devices::INPUT_NAME;
 use crate::telling::tell_text;
+use crate::visible::visible_text;
 use afdx_admit::{ADMISSION, CASCADE_ADMISSION};
 use afdx_config::{
     CASCADE_KEYS, CONFIG_FAULTS, Key, LINK_KEYS, NEIGHBOUR_KEYS, PORT_KEYS, SWITCH_KEYS,
@@ -260,9 +261,11 @@ fn device_in<'a>(line: &str, cause: &Cause<'a>) -> &'a str {
 
 /// Which device failed, and why.
 fn tell_device(rt: &HostRuntime, line: &str, cause: &Cause<'_>) {
-    let path = device_in(line, cause);
+    let Ok(path) = visible_text(rt.alloc(), device_in(line, cause)) else {
+        return;
+    };
     match &cause.reason {
-        Some(reason) if path == INPUT_NAME && reason.kind() == ErrorKind::IsADirectory => {
+        Some(reason) if path.as_str() == INPUT_NAME && reason.kind() == ErrorKind::IsADirectory => {
             tell_text(rt, &format_args!("{path}: {reason}, or closed\n"));
         }
         Some(reason) => {
