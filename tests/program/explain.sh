@@ -199,6 +199,34 @@ for command in list replay; do
 done
 explained_case 'send explains a name' 2 '' 'words NoSuchSystem' 'no SYSTEM of that name' \
     send --explain examples/network.toml nobody -
+# ---- characters that a terminal obeys ------------------------------------------------------
+
+for word in $'ch\e[31meck' $'--\e]0;x\a' $'a\nb' $'\xe2\x80\xae'; do
+    for words in "$word" "check
+$word
+$word" "police
+--fcs
+$word"; do
+        mapfile -t given <<<"$words"
+        if [[ $word == *$'\n'* ]]; then given=("$word"); fi
+        launch "${given[@]}"
+        tell "a refused word is shown as it can be: $(printf '%q ' "${given[@]}")" "$(
+            has_status 2
+            if grep -qP '[^\n -~]' "$work/err"; then echo 'a control character'; fi
+            if ! grep -qF '\' "$work/err"; then echo 'no escape'; fi
+        )"
+    done
+done
+for word in check 'police 1 64 500'; do
+    # shellcheck disable=SC2086  # the words of a command
+    launch $word --explain $'/nowhere/\e[31m\xc2\x9b\n'
+    tell "so is the name of a file, of $word" "$(
+        has_status 4
+        if grep -qP '[^\n -~]' "$work/err"; then echo 'a control character'; fi
+        if ! grep -qF '/nowhere/\u{1b}[31m\u{9b}\n: No such' "$work/err"; then echo 'no name'; fi
+    )"
+done
+
 status=0
 "$program" police --explain 1 64 500 examples/one_link.list >/dev/full 2>"$work/err" || status=$?
 tell 'why standard output failed' "$(

@@ -75,6 +75,20 @@ def weak_config(program: Program, words: list[str], config: bytes, status: int) 
             answers(found, 4, b"", b"device Config\n")
 
 
+def explained_config(program: Program, words: list[str], config: bytes, status: int) -> None:
+    """A command whose last line is explained: so it is however little of it a call writes."""
+    shim = os.path.join(program.folder, "devices.so")
+    program = program.apart()
+    path = program.write("config", config)
+    env = {"LD_PRELOAD": shim, "DEVICE_LOG": os.path.join(program.folder, "calls")}
+    env["DEVICE_LIST"] = path
+    whole = program.run(*words, "--explain", path)
+    must(whole.status == status and whole.err.count(b"\n") > 1, "it isn't explained")
+    for most in range(1, FEW + 1):
+        env["DEVICE_MOST"] = str(most)
+        answers(program.run(*words, "--explain", path, env=env), status, whole.out, whole.err)
+
+
 def deaf_errors(program: Program, words: list[str], given: bytes, status: int) -> None:
     """A fault that can't be reported leaves the status as it is."""
     with open("/dev/full", "wb") as full:
@@ -199,6 +213,8 @@ def weak_configs(program: Program) -> Iterator[tuple]:
         ("solve of two switches, in vain", ["solve", "--keep", "latency"], hasty, 1),
     ):
         yield name, weak_config, program, words, config, status
+    yield "check, explained", explained_config, program, ["check"], small, 1
+    yield "solve, explained", explained_config, program, ["solve", "--keep", "buffer"], small, 1
 
 
 def untold_faults(program: Program, config: str) -> Iterator[tuple]:
