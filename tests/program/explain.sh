@@ -213,7 +213,7 @@ $word"; do
         tell "a refused word is shown as it can be: $(printf '%q ' "${given[@]}")" "$(
             has_status 2
             if grep -qP '[^\n -~]' "$work/err"; then echo 'a control character'; fi
-            if ! grep -qF '\u{' "$work/err"; then echo 'no escape'; fi
+            if ! grep -q '[\\]' "$work/err"; then echo 'no escape'; fi
         )"
     done
 done
