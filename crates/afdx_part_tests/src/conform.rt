@@ -37,7 +37,7 @@ fn pass(
     rule: &LinkRule,
     number: u64,
     time: u32,
-    frame: &[u8],
+    frame: &[u8; 64],
 ) -> Result<(), AllocError> {
     let (came, left): (u64, u64) = (time.into(), u64::from(time).saturating_add(6_720));
     decide_before(told, came)?;
