@@ -181,7 +181,7 @@ options_offered() { # SHELL NAME OPTIONS
 # Names as they are typed: with a space, in quotes or behind a backslash, of a file in the home, and
 # with the letters at which bash takes words apart. At these fish takes a name to begin anew.
 typed_tests() { # SHELL
-    local folder=$work/typed one='' three=''
+    local folder=$work/typed_names one='' three=''
     if [[ $1 == fish ]]; then one=two.toml three=four.toml; fi
     mkdir -p "$folder"
     touch "$folder"/{'my net.toml',one:two.toml,three=four.toml,five.list}
