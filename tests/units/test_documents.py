@@ -12,14 +12,14 @@ from afdx_tools.icd.submissions import Stream, begin_of, streams_of, submissions
 from afdx_tools.solving import Bounds, Worst
 from afdx_tools.spreadsheets.cells import Cells, bag_of, sum_of
 from afdx_tools.spreadsheets.heads import amount_of, columns_of
-from afdx_tools.spreadsheets.sheets import Row, Sheet, cells_of, row_of
+from afdx_tools.spreadsheets.sheets import Row, Sheet, cells_of_text, row_of
 
 MS = 1_000_000  # ns
 
 
 def sheet_of(name: str, columns: dict[str, bool], text: str) -> Sheet:
     """The table that a text spells."""
-    (_, first), *others = cells_of(name, text)
+    (_, first), *others = cells_of_text(name, text)
     heads = columns_of(name, first, columns)
     rows = [row_of(f"{name} line {line}", heads, columns, cells) for line, cells in others]
     return Sheet(name, rows)
@@ -79,7 +79,7 @@ class Units(unittest.TestCase):
     def test_a_period_below_a_ms_has_no_bag(self) -> None:
         cells, faults = one("every_us", "999")
         self.assertIsNone(cells.period_ms("every_ms"))
-        self.assertEqual(faults, ["t.csv line 2, 999: every_ms 999: no BAG is so short; the least "
+        self.assertEqual(faults, ["t.csv line 2, 999: every_us 999: no BAG is so short; the least "
                                   "is 1 ms"])
 
     def test_a_latency_has_to_be_whole_in_us(self) -> None:
@@ -93,9 +93,9 @@ class Units(unittest.TestCase):
     def test_a_rate(self) -> None:
         for head, cell in (("rate", "1000"), ("Rate [Mbit/s]", "1000"), ("rate (Gbit/s)", "1"),
                            ("rate_gbps", "1.0")):
-            self.assertEqual(one(head, cell, "rate")[0].member("rate", (10, 100, 1000)), 1000)
+            self.assertEqual(one(head, cell, "rate")[0].member("rate", (10, 100, 1000), {}), 1000)
         cells, faults = one("rate", "25", "rate")
-        self.assertIsNone(cells.member("rate", (10, 100)))
+        self.assertIsNone(cells.member("rate", (10, 100), {}))
         self.assertEqual(faults, ["t.csv line 2, 25: rate 25: it has to be 10 or 100"])
 
     def test_columns_that_are_missing_or_there_twice(self) -> None:

@@ -15,7 +15,7 @@ from afdx_tools.icd.room import Room
 from afdx_tools.icd.sharing import filled, left_over, limits_of, needed, shares, wishes
 from afdx_tools.icd.ways import shortest, way_to
 from afdx_tools.spreadsheets.heads import columns_of
-from afdx_tools.spreadsheets.sheets import Sheet, cells_of, row_of
+from afdx_tools.spreadsheets.sheets import Sheet, cells_of_text, row_of
 
 CABLE_HEAD = "switch,port,switch,port,rate\n"
 SYSTEM_HEAD = "system,switch,port,id,partition,rate\n"
@@ -24,7 +24,7 @@ MESSAGE_HEAD = "message,vl,from,to,every_ms,bytes,within_us,priority,port,kind,v
 
 def sheet_of(name: str, columns: dict[str, bool], text: str) -> Sheet:
     """The table that a text spells."""
-    (_, first), *others = cells_of(name, text)
+    (_, first), *others = cells_of_text(name, text)
     heads = columns_of(name, first, columns)
     rows = [row_of(f"{name} line {line}", heads, columns, cells) for line, cells in others]
     return Sheet(name, rows)
