@@ -128,7 +128,7 @@ def strangers(judge: Judge, count: int) -> None:
     came, left = distinct_list(1, 0, 0, count), distinct_list(3, 6_720, count, count)
     found = judge.answer(Pair(CONFIGS["base"], came, left, ()))
     told = b"".join(b"strange %d A 3 no-arrival\n" % n for n in range(1, count + 1))
-    last = b"deviates %d explained 0 open 1 uncertain 0 left-out 0 unseen 0\n" % count
+    last = b"deviates %d explained 0 open 1 uncertain 0 left-out 0 unseen 0 idle 3\n" % count
     answers(found, 5, told + last, b"")
 
 
