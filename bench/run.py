@@ -35,7 +35,7 @@ callgrind reckons them.
 
 With --only the rows whose name has TEXT in it are measured. With --scaling another table is
 printed: how time and memory grow with the lines of a list and with the links of a network, and for
-`conform` with the frames that came. With --short it is the table that stands in README, where user
+`conform` with the frames that came. With --short it is a table of five rows, where user
 CPU is that of a million lines, and the ratios to C are the least and the greatest of the turns.
 
 Needs Linux and Python 3, no packages; with /usr/bin/time the figure for memory is the program's
@@ -260,7 +260,7 @@ def read_words():
     )
     tables = words.add_mutually_exclusive_group()
     tables.add_argument("--scaling", action="store_true", help="print the table of growth")
-    tables.add_argument("--short", action="store_true", help="print the table of README")
+    tables.add_argument("--short", action="store_true", help="print a table of five rows")
     given = words.parse_args()
     if not 1 <= given.lines <= MOST_LINES:
         words.error(f"N is 1 to {MOST_LINES}")

@@ -1,4 +1,4 @@
-"""The short table of bench/run.py, which stands in README: five rows, by a million lines."""
+"""The short table of bench/run.py: five rows, by a million lines."""
 from table import head, show
 
 HEAD = [
