@@ -132,9 +132,15 @@ def half_conforms(judge: Judge, seed: int, count: int) -> None:
         must(b" unseen %d idle " % unseen in out, f"case {case}, not {unseen}: {out!r}")
 
 
+def is_foreign(switch: RecordedSwitch, word: str, vl: int, port: int) -> bool:
+    """A frame left that no right switch sends, whatever came: damaged, or where its link doesn't
+    go."""
+    return word == "strange" and (switch.damages or port not in switch.ports_of(vl))
+
+
 def half_is_found(judge: Judge, wrong: type[RecordedSwitch]) -> None:
-    """Of a wrong switch what it was amiss with is found in the streams that were recorded, and
-    nothing of others."""
+    """Of a wrong switch what it was amiss with is found in the streams that were recorded, and of
+    others what is foreign at a port that was."""
     told, case = 0, -1
     while case < 3 or (told == 0 and case < 20):
         case += 1
@@ -142,9 +148,12 @@ def half_is_found(judge: Judge, wrong: type[RecordedSwitch]) -> None:
         chance = random.Random(f"{case} half {wrong.__name__}")
         half = half_of(chance, pair)
 
-        def is_told(each: Told, half: list[Key] = half, tables: dict = switch.tables) -> bool:
-            vl = int(each[3][8:12], 16)
-            return is_seen(tables, half, vl, SIDES.index(each[1]), each[2])
+        def is_told(
+            each: Told, half: list[Key] = half, switch: RecordedSwitch = switch
+        ) -> bool:
+            vl, side, port = int(each[3][8:12], 16), SIDES.index(each[1]), each[2]
+            is_open = (True, side, port) in half and is_foreign(switch, each[0], vl, port)
+            return is_open or is_seen(switch.tables, half, vl, side, port)
 
         wanted = set(filter(is_told, switch.told))
         answer = half_judge(judge, chance, half).answer(pair)

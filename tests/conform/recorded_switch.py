@@ -69,6 +69,8 @@ class Arriving(NamedTuple):
 class RecordedSwitch:
     """Runs over all that comes. A wrong switch overrides a step."""
 
+    damages = False  # frames that leave it may be damaged
+
     def __init__(self, tables: dict, options: Options, chance: random.Random) -> None:
         self.tables, self.options, self.chance = tables, options, chance
         self.switch = Switch(tables | {"neighbour": []})

@@ -127,6 +127,8 @@ class OtherPort(EachNinth):
 class Damages(EachNinth):
     """Each ninth frame leaves damaged."""
 
+    damages = True
+
     def amiss(self, port: int, end: int, arriving: Arriving) -> None:
         self.put(arriving.side, port, end, "B", arriving.content)
         self.tell("strange", port, arriving)
