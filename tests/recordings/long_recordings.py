@@ -74,9 +74,10 @@ def recording(run: Long) -> Iterator[bytes]:
 def write_to(pipe: int, pieces: Iterable[bytes]) -> None:
     """Writes a recording, as far as it is read."""
     try:
-        with open(pipe, "wb", buffering=0) as file:
+        with open(pipe, "wb") as file:  # (unbuffered it may write a part alone)
             for piece in pieces:
                 file.write(piece)
+                file.flush()
     except BrokenPipeError:
         pass
 
