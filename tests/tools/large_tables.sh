@@ -17,8 +17,8 @@ milliseconds_of() { # WORD.. : the processor's time that a command takes
 }
 
 # What is wrong if a command's time grows faster than its table. FOLDER/1, FOLDER/2 and FOLDER/4
-# have one of a length, and of twice and of four times that. Of some tries the least time counts, and
-# 300 ms are left to chance: what grows as the square takes seconds more at these lengths.
+# have one of a length, and of twice and of four times that. Of some tries the least time counts,
+# and 300 ms are left to chance: what grows as the square takes seconds more at these lengths.
 grows() { # FOLDER COMMAND..
     local tries part now least=([1]=999999 [2]=999999 [4]=999999)
     for tries in {1..5}; do
