@@ -105,7 +105,7 @@ explained_case 'check explains a fault' 1 '' 'config OutOfRange link 1 key 4' \
     check --explain "$work/explained.toml"
 sed 's/^jitter_us = 517/jitter_us = 101001/' examples/two_switches.toml >"$work/explained.toml"
 for words in 'where from is a neighbour, up to' \
-    'jitter_us of link 1 (vl 1) of switch 2 (name aft).'; do
+    'jitter_us of link 1 (vl 1) of switch 2 (name aft) is 101001.'; do
     explained_case "check explains a fault in a switch: '$words'" 1 '' \
         'config OutOfRange switch 2 link 1 key 7' "$words" check --explain "$work/explained.toml"
 done

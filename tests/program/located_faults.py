@@ -8,7 +8,7 @@ one line or several, remarks and texts with brackets in them, keys and texts in 
 other ends of lines. One value is put out of range, one key left out, or one that isn't known put
 in, in a table, at the top of a switch or at that of the file: with a value of any kind, with dots,
 or as a table below a head of its own. The last line on standard error must name the line on which
-it was written, the key, and the table and its switch by their values.
+it was written, the key, the table and its switch by their values, and what is out of range.
 Prints a line for each layout that isn't explained so, and nothing where all are; ends with status 1
 if there is one.
 """
@@ -223,6 +223,15 @@ def table_text(tables: dict, place: Place) -> str:
     return " of ".join(texts)
 
 
+def value_text(value: object) -> str:
+    """What the key is, if that is short."""
+    if isinstance(value, int):
+        return f" is {value}"
+    if isinstance(value, str) and len(value) <= 40 and " " not in value:
+        return f" is '{value}'"
+    return ""
+
+
 def wanted(layout: Layout, tables: dict, fault: Fault) -> str:
     """The last line of the explanation."""
     place, key, how = fault
@@ -232,7 +241,8 @@ def wanted(layout: Layout, tables: dict, fault: Fault) -> str:
     table = table_text(tables, place)
     if how == "absent":
         return f"{line}: {table}, without {key}."
-    return f"{line}: {key} of {table}." if place else f"{line}: {key}."
+    value = "" if key == UNKNOWN else value_text(table_at(tables, place)[key])
+    return f"{line}: {key} of {table}{value}." if place else f"{line}: {key}{value}."
 
 
 def sound_tables(chance: random.Random) -> dict:

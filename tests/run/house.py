@@ -199,7 +199,7 @@ def wide_lines(most: int, *patterns: str) -> list[str]:
 def makes_memory(line: str) -> bool:
     """It has an AllocError or a fault's Memory as a value: not as a type, nor as a pattern."""
     code = line.split("//")[0]
-    if re.match(r"\s*(pub |ghost )*(use|ensures|requires)\b", code):
+    if re.match(r"\s*(pub |ghost )*(use|ensures|requires|type)\b", code):
         return False
     errors = re.search(r"(^\s*|[(,=>] ?)AllocError\b(?!\s*[>}])", code)
     faults = re.search(r"(?<!\| )\b\w+(Fault|Error)::Memory\b(?!\)*\s*(=>|\||=[^=]))", code)

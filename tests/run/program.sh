@@ -91,8 +91,8 @@ full_case() { # NAME STATUS ERR WORD..
     )"
 }
 
-for part in police check replay conform conform_recordings words explain send solve \
-    standard_streams; do
+for part in police check replay conform conform_recordings words explain explained_causes send \
+    solve standard_streams; do
     # shellcheck source=/dev/null
     source "$top/tests/program/$part.sh"
 done

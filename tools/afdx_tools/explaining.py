@@ -8,10 +8,18 @@ import sys
 from typing import Iterable, Sequence
 
 from afdx_tools.faults import Refused, shown
-from afdx_tools.program import program
+from afdx_tools.program import EXPLAIN, program
 
 LINE = re.compile(r"[a-z]+( [A-Za-z0-9-]+)*")  # what a line of the program may be
 OF_CONFIG = ("config ", "device Config")
+
+
+def is_asked() -> bool:
+    """Whether faults are explained: where standard error is a terminal, unless the variable
+    AFDX_EXPLAIN says `always` or `never`."""
+    if EXPLAIN in ("always", "never"):
+        return EXPLAIN == "always"
+    return sys.stderr is not None and sys.stderr.isatty()
 
 
 def said(words: Sequence[str], stream: str) -> str:
@@ -42,16 +50,16 @@ def meaning(line: str, again: Sequence[str] = ()) -> str:
 
 
 def explain(line: str, again: Sequence[str] = ()) -> None:
-    """Says what a fault that was reported just now means, if standard error is a terminal, as the
-    program itself does."""
-    if sys.stderr is not None and sys.stderr.isatty():
+    """Says what a fault that was reported just now means, if that is asked for, as the program
+    itself does."""
+    if is_asked():
         with contextlib.suppress(OSError, Refused):
             print(meaning(line, again), end="", file=sys.stderr)
 
 
 def explain_all(lines: Iterable[str], again: Sequence[str] = ()) -> None:
     """The same of several, each meaning once, after the first line that has it."""
-    if not sys.stderr.isatty():
+    if not is_asked():
         return
     known = set()
     with contextlib.suppress(OSError, Refused):

@@ -15,6 +15,9 @@ PATIENCE = 2.0  # seconds after which a program is asked again to end
 NAME = "afdx "  # how its answer begins
 LONGEST = 40  # characters of another answer that are shown
 NEW_LINE = "\n"
+# when faults are explained; the program doesn't by itself, since the tools read what it says
+EXPLAIN = os.environ.get("AFDX_EXPLAIN", "auto")
+os.environ["AFDX_EXPLAIN"] = "never"
 
 
 def program() -> str:

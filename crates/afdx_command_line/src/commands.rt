@@ -5,8 +5,8 @@ use crate::conforming::judge_inputs;
 use crate::running::{Replaying, Run, run_inputs, run_sender};
 use afdx_commands::status::{DONE, WRONG_WORDS};
 use afdx_console::{
-    complain, end_with, line_of, memory, print_lists, print_meaning, read_config, take_places,
-    tell_text, visible_text,
+    Cause, complain, end_with, explain_if_asked, line_of, memory, print_lists, print_meaning,
+    read_config, take_places, tell_text, visible_text,
 };
 use afdx_explain::meaning_of;
 use afdx_replay::{CommandedRule, Policing, RunFault};
@@ -102,6 +102,14 @@ fn send_list(rt: &HostRuntime, matches: &ArgMatches<'_>) -> u8 {
     ended(run_sender(rt, matches, config.as_slice(), system, list))
 }
 
+/// Tells that a text is no line or word of the program, and gives the status.
+fn refuse_text(rt: &HostRuntime, matches: &ArgMatches<'_>) -> u8 {
+    let line = "words UnknownText";
+    complain(rt, line);
+    explain_if_asked(rt, matches, line, &Cause::none());
+    WRONG_WORDS
+}
+
 /// Says what a line means, or what each word of the closed lists means.
 fn explain_words(rt: &HostRuntime, matches: &ArgMatches<'_>) -> u8 {
     if matches.get_flag("list") {
@@ -118,8 +126,7 @@ fn explain_words(rt: &HostRuntime, matches: &ArgMatches<'_>) -> u8 {
     };
     let line = line.as_str();
     let Some(meaning) = meaning_of(line) else {
-        complain(rt, "words UnknownText");
-        return WRONG_WORDS;
+        return refuse_text(rt, matches);
     };
     if print_meaning(rt, line, meaning).is_err() {
         return end_with(rt, RunFault::Write);

@@ -18,7 +18,7 @@ use std::io;
 use std::io::Write;
 
 /// What the words ask for, if their numbers are in range.
-fn choices_in(alloc: Global, matches: &ArgMatches<'_>) -> Result<Choices, Refused> {
+fn choices_in<'a>(alloc: Global, matches: &ArgMatches<'a>) -> Result<Choices, Refused<'a>> {
     let said = conform_options(alloc, matches)?;
     let Some(leeway) = Leeway::new(said.slack, said.drift, said.inner, said.asked, said.from) else {
         return Err(Refused::BadNumber);
@@ -29,11 +29,11 @@ fn choices_in(alloc: Global, matches: &ArgMatches<'_>) -> Result<Choices, Refuse
 }
 
 /// The same, if the inputs are two.
-fn choices_of_two(
+fn choices_of_two<'a>(
     alloc: Global,
-    matches: &ArgMatches<'_>,
+    matches: &ArgMatches<'a>,
     words: &ByRole<&str>,
-) -> Result<Choices, Refused> {
+) -> Result<Choices, Refused<'a>> {
     let choices = choices_in(alloc, matches)?;
     if words.came == STANDARD_INPUT && words.left == STANDARD_INPUT {
         return Err(Refused::SameInput);
@@ -42,7 +42,11 @@ fn choices_of_two(
 }
 
 /// What words say, or the status where they are refused.
-fn taken<T>(rt: &HostRuntime, matches: &ArgMatches<'_>, said: Result<T, Refused>) -> Result<T, u8> {
+fn taken<T>(
+    rt: &HostRuntime,
+    matches: &ArgMatches<'_>,
+    said: Result<T, Refused<'_>>,
+) -> Result<T, u8> {
     match said {
         Ok(said) => Ok(said),
         Err(refused) => Err(refuse(rt, matches, refused)),

@@ -1,11 +1,12 @@
 //! Runs over lists and recordings: their devices, and how they end.
 
-ghost use Rattle.std.specs.Prelude.{◌≡◌, false};
+ghost use Rattle.std.specs.Prelude.{◌≡◌, Some, codes, false};
+ghost use Rattle.clap.specs.Words.{found_of, one_text};
 
 use afdx_commands::status::{DONE, WRONG_WORDS};
 use afdx_console::{
     Cause, Cleared, Count, Counted, Heard, Input, Traced, complain, error_lines, explain_if_asked,
-    is_told, memory, name_of_input, no_file,
+    is_told, memory, name_of_input, no_file, tell_visible,
 };
 use afdx_frame::BySide;
 use afdx_replay::{
@@ -22,7 +23,10 @@ const OUTPUT_BUFFER: usize = 65_536;
 
 /// How many bytes are gathered before they go to standard output: none if each line is to be seen
 /// at once, or a person reads.
-pub fn output_room(rt: &HostRuntime, matches: &ArgMatches<'_>) -> usize {
+pub fn output_room(rt: &HostRuntime, matches: &ArgMatches<'_>) -> usize
+    ensures { one_text (found_of matches.now) (codes "line-buffered") ≡ Some (codes "true")
+        → result ≡ 0 }
+{
     if matches.get_flag("line-buffered") || rt.stdout().is_terminal() {
         0
     } else {
@@ -110,20 +114,19 @@ impl Run<'_> {
 }
 
 /// Tells why the words of a run over recordings are refused, and gives the status.
-pub fn refuse(rt: &HostRuntime, matches: &ArgMatches<'_>, refused: Refused) -> u8 {
+pub fn refuse(rt: &HostRuntime, matches: &ArgMatches<'_>, refused: Refused<'_>) -> u8 {
     let line = match refused {
         Refused::Memory => return memory(rt),
-        Refused::BadInterface => "words BadInterface",
+        Refused::BadInterface(_) => "words BadInterface",
         Refused::BadNumber => "words BadNumber",
         Refused::SameInput => "words SameInput",
     };
     complain(rt, line);
-    let cause = Cause {
-        config: &[],
-        path: "",
-        reason: None,
-    };
-    explain_if_asked(rt, matches, line, &cause);
+    if explain_if_asked(rt, matches, line, &Cause::none())
+        && let Refused::BadInterface(place) = refused
+    {
+        tell_visible(rt, &place);
+    }
     WRONG_WORDS
 }
 

@@ -1,5 +1,6 @@
 //! What the program tells on standard error, in whole lines.
 
+use crate::visible::visible_text;
 use afdx_lists::RunFault;
 use afdx_text::WholeLines;
 use std::fmt::Display;
@@ -24,6 +25,15 @@ pub fn tell_text<D: Display>(rt: &HostRuntime, text: &D) {
         Err(_) => {
             let _ = rt.eprint(text);
         }
+    }
+}
+
+/// A line of any length on standard error, as a terminal can show it, if there is memory for it.
+pub fn tell_visible<D: Display>(rt: &HostRuntime, line: &D) {
+    if let Ok(line) = line.to_string(rt.alloc())
+        && let Ok(line) = visible_text(rt.alloc(), line.as_str())
+    {
+        tell_text(rt, &format_args!("{line}\n"));
     }
 }
 

@@ -56,7 +56,7 @@ fn place_of(fault: &str) -> Option<Place<'_>> {
 }
 
 /// Whether the configuration describes several switches, by the keys of its top.
-fn has_switches(tree: &Table) -> bool {
+pub(crate) fn has_switches(tree: &Table) -> bool {
     tree.contains_key("switch") && !tree.contains_key("profile")
 }
 
@@ -160,21 +160,48 @@ fn put_tables(text: &mut String, tables: &[Named<'_>]) -> Result<(), AllocError>
     Ok(())
 }
 
-/// Puts the key and its table, or the table, which lacks the key.
-fn put_found(
-    text: &mut String,
-    name: &str,
-    is_there: bool,
-    tables: &[Named<'_>],
-) -> Result<(), AllocError> {
-    if !is_there {
-        put_tables(text, tables)?;
-        return writeln!(text, ", without {name}.");
+/// Puts what a key is, if that is short.
+fn put_value(text: &mut String, value: &Value) -> Result<(), AllocError> {
+    match value {
+        Value::Integer(value) => write!(text, " is {value}"),
+        Value::Boolean(value) => write!(text, " is {value}"),
+        Value::String(value) if value.is_empty() || is_shown(value) => {
+            write!(text, " is '{value}'")
+        }
+        _ => Ok(()),
     }
+}
+
+/// Puts a key with its table.
+fn put_key(text: &mut String, name: &str, tables: &[Named<'_>]) -> Result<(), AllocError> {
     text.push_str(if is_shown(name) { name } else { "the key" })?;
     if !tables.is_empty() {
         text.push_str(" of ")?;
         put_tables(text, tables)?;
+    }
+    Ok(())
+}
+
+/// Puts the key with its table and its value, which is left out where the key isn't known; or the
+/// table, which lacks the key.
+fn put_found(
+    text: &mut String,
+    name: &str,
+    value: Option<&Value>,
+    is_known: bool,
+    tables: &[Named<'_>],
+) -> Result<(), AllocError> {
+    match value {
+        None => {
+            put_tables(text, tables)?;
+            write!(text, ", without {name}")?;
+        }
+        Some(value) => {
+            put_key(text, name, tables)?;
+            if is_known {
+                put_value(text, value)?;
+            }
+        }
     }
     text.push_str(".\n")
 }
@@ -188,14 +215,14 @@ pub fn place_in(alloc: Global, fault: &str, config: &[u8]) -> Option<String> {
     let tables = tables_at(alloc, &tree, place)?;
     let row = tables.last().map_or(&tree, |table| table.row);
     let name = name_at(&tree, place, row)?;
-    let is_there = row.contains_key(name);
+    let value = row.get(name);
     let mut steps = Vec::new(alloc);
     for table in tables.iter() {
         steps.push(Step::to(table.array, table.number)).ok()?;
     }
-    let line = line_with(alloc, config, steps, is_there.then_some(name))?;
+    let line = line_with(alloc, config, steps, value.is_some().then_some(name))?;
     let mut text = String::new(alloc);
     write!(text, "Line {line} of CONFIG: ").ok()?;
-    put_found(&mut text, name, is_there, tables.as_slice()).ok()?;
+    put_found(&mut text, name, value, place.number > 0, tables.as_slice()).ok()?;
     Some(text)
 }

@@ -1,6 +1,11 @@
 //! The words of `conform`, and what they say.
 
+ghost use Rattle.std.specs.Prelude.{IfOk};
+ghost use Rattle.clap.specs.Words.{found_of};
+ghost use Rattle.afdx_words.specs.ConformSaid.{SaysConform};
+
 use crate::recording_words::Refused;
+use crate::said::{is_given, number_of};
 use crate::seen_words::{
     came_option, left_option, lossy_option, seen_fcs_option, seen_reorder_option,
     seen_stamps_option,
@@ -69,8 +74,9 @@ Examples:
   afdx conform --slack 500 --drift 100 network.toml came.list left.list
   afdx conform --interface 0=A:1 --left 1=A:3 network.toml bench.pcapng";
 
-const CAME_HELP: &str = "The path of a list or a recording (pcap) of the frames that came, or, \
-without LEFT, of a recording of both; - for standard input";
+const CAME_HELP: &str = "\
+The path of a list or a recording (pcap) of the frames that came, or, without LEFT,
+of a recording of both; - for standard input";
 
 const LEFT_HELP: &str = "The path of a list or a recording of the frames that left, or - for \
 standard input";
@@ -79,28 +85,36 @@ const SUMMARY_HELP: &str = "Prints how much of each recording was left out, behi
 
 const SLACK_HELP: &str = "By how many ns a stamp may be off, at most 1,000,000";
 
-const DRIFT_HELP: &str = "By how many millionths the rates of the switch's clock and of the \
+const DRIFT_HELP: &str = "\
+By how many millionths the rates of the switch's clock and of the
 recorders' may differ, at most 1,000";
 
-const INNER_HELP: &str = "How many ns a frame may take inside beyond its link's latency, at most \
+const INNER_HELP: &str = "\
+How many ns a frame may take inside beyond its link's latency, at most
 1,000,000";
 
-const ASKED_HELP: &str = "By how many ns later than its last bit a frame's account may be asked, \
+const ASKED_HELP: &str = "\
+By how many ns later than its last bit a frame's account may be asked,
 at most 1,000,000";
 
-const FROM_HELP: &str = "There was traffic before this time, in ns, at most 10^15: lines before it \
-are passed over; else the switches were reset before the first line";
+const FROM_HELP: &str = "\
+There was traffic before this time, in ns, at most 10^15: lines before
+it are passed over; else the switches were reset before the first line";
 
-const UNTIL_HELP: &str = "The end of the recordings, in ns, at most 10^15: later lines are passed \
+const UNTIL_HELP: &str = "\
+The end of the recordings, in ns, at most 10^15: later lines are passed
 over; else the greatest time of all lines";
 
-const LEAVE_OUT_HELP: &str = "The link, 0 to 65535, whose frames are passed over, or 'other' for \
+const LEAVE_OUT_HELP: &str = "\
+The link, 0 to 65535, whose frames are passed over, or 'other' for
 frames that name no link; may be given again";
 
-const EXERCISED_HELP: &str = "Says 'undecided' if of a link at an output port that was recorded \
-no frame is explained";
+const EXERCISED_HELP: &str = "\
+Says 'undecided' if of a link at an output port that was recorded no
+frame is explained";
 
-const SWITCH_HELP: &str = "The name of the switch that is judged, where CONFIG describes several \
+const SWITCH_HELP: &str = "\
+The name of the switch that is judged, where CONFIG describes several
 a side";
 
 /// The word for frames that name no link.
@@ -196,7 +210,7 @@ pub struct ConformOptions {
 }
 
 /// The link that a word of `--leave-out` names.
-fn link_in(word: &str) -> Result<Option<VlId>, Refused> {
+fn link_in(word: &str) -> Result<Option<VlId>, Refused<'_>> {
     if word == OTHER {
         return Ok(None);
     }
@@ -207,7 +221,7 @@ fn link_in(word: &str) -> Result<Option<VlId>, Refused> {
 }
 
 /// The links that the words of `--leave-out` name.
-fn links_in(alloc: Global, words: &[&str]) -> Result<Vec<Option<VlId>>, Refused> {
+fn links_in<'a>(alloc: Global, words: &[&'a str]) -> Result<Vec<Option<VlId>>, Refused<'a>> {
     let mut links = Vec::new(alloc);
     for word in words {
         if links.push(link_in(word)?).is_err() {
@@ -218,17 +232,22 @@ fn links_in(alloc: Global, words: &[&str]) -> Result<Vec<Option<VlId>>, Refused>
 }
 
 /// What the words of `conform` ask for, if those of `--leave-out` are taken.
-pub fn conform_options(alloc: Global, matches: &ArgMatches<'_>) -> Result<ConformOptions, Refused> {
+pub fn conform_options<'a>(
+    alloc: Global,
+    matches: &ArgMatches<'a>,
+) -> Result<ConformOptions, Refused<'a>>
+    ensures { IfOk result (SaysConform (found_of matches.now)) }
+{
     let words = matches.get_strs("leave-out").unwrap_or(&[]);
     Ok(ConformOptions {
-        slack: matches.get_one::<u64>("slack").unwrap_or(0),
-        drift: matches.get_one::<u64>("drift").unwrap_or(0),
-        inner: matches.get_one::<u64>("inner").unwrap_or(0),
-        asked: matches.get_one::<u64>("asked").unwrap_or(0),
-        from: matches.get_one::<u64>("from"),
-        until: matches.get_one::<u64>("until"),
+        slack: number_of(matches, "slack").unwrap_or(0),
+        drift: number_of(matches, "drift").unwrap_or(0),
+        inner: number_of(matches, "inner").unwrap_or(0),
+        asked: number_of(matches, "asked").unwrap_or(0),
+        from: number_of(matches, "from"),
+        until: number_of(matches, "until"),
         left_out: links_in(alloc, words)?,
-        is_lossy: matches.get_flag("lossy"),
-        is_exercised: matches.get_flag("exercised"),
+        is_lossy: is_given(matches, "lossy"),
+        is_exercised: is_given(matches, "exercised"),
     })
 }

@@ -3,13 +3,16 @@
 
 mod conform_words;
 mod list_words;
+mod misplaced;
 mod place_words;
 mod recording_words;
+mod said;
 mod seen_words;
 mod solve_words;
 mod words;
 
 pub use conform_words::{ConformOptions, conform_options};
+pub use misplaced::{BadPlace, Misplaced};
 pub use recording_words::{Refused, STANDARD_INPUT, pair_options, recording_options};
 pub use seen_words::{seen_options, seen_pair_options};
 pub use words::afdx_command;

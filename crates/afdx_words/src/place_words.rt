@@ -1,8 +1,9 @@
 //! Where the frames of each interface of a recording came in, by the words of `--interface`.
 
-ghost use Rattle.std.specs.Prelude.{◌<◌, IfSome};
+ghost use Rattle.std.specs.Prelude.{◌<◌, IfOk, IfSome};
 ghost use Rattle.afdx_recorded.specs.Places.{most_interfaces};
 
+use crate::misplaced::{Given, Misplaced};
 use crate::recording_words::Refused;
 use afdx_frame::{BySide, LAST_PORT, Side};
 use afdx_recorded::{Interfaces, Place};
@@ -111,13 +112,18 @@ fn interface_in(word: &str) -> Option<(u16, Said<'_>)>
 }
 
 /// The place that is said, with the number that a name of a switch gets.
-fn place_of(alloc: Global, interfaces: &mut Interfaces, said: Said<'_>) -> Result<Place, Refused> {
+fn place_of<'a>(
+    alloc: Global,
+    interfaces: &mut Interfaces,
+    given: Given<'a>,
+    said: Said<'_>,
+) -> Result<Place, Refused<'a>> {
     match said {
         Said::LeftOut => Ok(Place::LeftOut),
         Said::At(side, Some(name), port) => {
             let name = String::from_str(alloc, name)?;
             let Some(number) = interfaces.name(name)? else {
-                return Err(Refused::BadInterface);
+                return Err(given.refused(Misplaced::Many));
             };
             Ok(Place::AtNamed(side, number, port))
         }
@@ -127,41 +133,43 @@ fn place_of(alloc: Global, interfaces: &mut Interfaces, said: Said<'_>) -> Resul
 }
 
 /// Says where the frames of an interface were, unless that was said before.
-pub(crate) fn put_new(
+pub(crate) fn put_new<'a>(
     interfaces: &mut Interfaces,
+    given: Given<'a>,
     interface: u16,
     place: Place,
-) -> Result<(), Refused>
+) -> Result<(), Refused<'a>>
     requires { interface < most_interfaces }
 {
     if interfaces.place(interface).is_some() {
-        return Err(Refused::BadInterface);
+        return Err(given.refused(Misplaced::Twice));
     }
     interfaces.put(interface, place);
     Ok(())
 }
 
 /// Says where the frames of an interface came in, unless that was said before.
-fn put_once(
+fn put_once<'a>(
     alloc: Global,
     interfaces: &mut Interfaces,
+    given: Given<'a>,
     interface: u16,
     said: Said<'_>,
-) -> Result<(), Refused>
+) -> Result<(), Refused<'a>>
     requires { interface < most_interfaces }
 {
-    let place = place_of(alloc, interfaces, said)?;
-    put_new(interfaces, interface, place)
+    let place = place_of(alloc, interfaces, given, said)?;
+    put_new(interfaces, given, interface, place)
 }
 
 /// An interface, and the side and the port that a word `K=SIDE` or `K=SIDE:PORT` names.
-pub(crate) fn sided_in(word: &str) -> Option<(u16, Side, Option<u8>)>
-    ensures { IfSome result (λ at. at.0 < most_interfaces) }
+pub(crate) fn sided_in<'a>(given: Given<'a>) -> Result<(u16, Side, Option<u8>), Refused<'a>>
+    ensures { IfOk result (λ at. at.0 < most_interfaces) }
 {
-    let (interface, said) = interface_in(word)?;
-    match said {
-        Said::At(side, None, port) => Some((interface, side, port)),
-        Said::At(_, Some(_), _) | Said::LeftOut => None,
+    match interface_in(given.word) {
+        Some((interface, Said::At(side, None, port))) => Ok((interface, side, port)),
+        Some((_, Said::At(_, Some(_), _))) => Err(given.refused(Misplaced::Switch)),
+        Some((_, Said::LeftOut)) | None => Err(given.refused(Misplaced::Form)),
     }
 }
 
@@ -175,58 +183,61 @@ fn names_switch(said: Said<'_>) -> bool {
 
 /// Where the frames of each interface came in, by the words of `--interface`; there may be several
 /// switches on a side, or there is one.
-pub(crate) fn interfaces_in(
+pub(crate) fn interfaces_in<'a>(
     alloc: Global,
-    words: &[&str],
+    words: &[&'a str],
     several: bool,
-) -> Result<Interfaces, Refused> {
+) -> Result<Interfaces, Refused<'a>> {
     let mut interfaces = Interfaces::new(alloc)?;
     for word in words {
+        let given = Given::interface(word);
         let Some((interface, said)) = interface_in(word) else {
-            return Err(Refused::BadInterface);
+            return Err(given.refused(Misplaced::Form));
         };
         if names_switch(said) && !several {
-            return Err(Refused::BadInterface);
+            return Err(given.refused(Misplaced::Switch));
         }
-        put_once(alloc, &mut interfaces, interface, said)?;
+        put_once(alloc, &mut interfaces, given, interface, said)?;
     }
     Ok(interfaces)
 }
 
 /// Says where the frames of an interface came in, unless that was said before: in the recording of
 /// the place's side, or that they are left out of both.
-fn put_in_pair(
+fn put_in_pair<'a>(
     alloc: Global,
     pair: &mut BySide<Interfaces>,
+    given: Given<'a>,
     interface: u16,
     said: Said<'_>,
-) -> Result<(), Refused>
+) -> Result<(), Refused<'a>>
     requires { interface < most_interfaces }
 {
     match said {
         Said::LeftOut => {
-            put_once(alloc, &mut pair.a, interface, said)?;
-            put_once(alloc, &mut pair.b, interface, said)
+            put_once(alloc, &mut pair.a, given, interface, said)?;
+            put_once(alloc, &mut pair.b, given, interface, said)
         }
-        Said::At(Side::A, _, _) => put_once(alloc, &mut pair.a, interface, said),
-        Said::At(Side::B, _, _) => put_once(alloc, &mut pair.b, interface, said),
+        Said::At(Side::A, _, _) => put_once(alloc, &mut pair.a, given, interface, said),
+        Said::At(Side::B, _, _) => put_once(alloc, &mut pair.b, given, interface, said),
     }
 }
 
 /// Where the frames of each interface of two recordings came in, by the words of `--interface`.
-pub(crate) fn pair_interfaces_in(
+pub(crate) fn pair_interfaces_in<'a>(
     alloc: Global,
-    words: &[&str],
-) -> Result<BySide<Interfaces>, Refused> {
+    words: &[&'a str],
+) -> Result<BySide<Interfaces>, Refused<'a>> {
     let mut pair = BySide {
         a: Interfaces::new(alloc)?,
         b: Interfaces::new(alloc)?,
     };
     for word in words {
+        let given = Given::interface(word);
         let Some((interface, said)) = interface_in(word) else {
-            return Err(Refused::BadInterface);
+            return Err(given.refused(Misplaced::Form));
         };
-        put_in_pair(alloc, &mut pair, interface, said)?;
+        put_in_pair(alloc, &mut pair, given, interface, said)?;
     }
     Ok(pair)
 }

@@ -1,8 +1,13 @@
 //! What the words of `conform` say of recordings: where each interface was, and how to read them.
 
+ghost use Rattle.std.specs.Prelude.{◌≡◌, IfOk, IfSome};
+ghost use Rattle.clap.specs.Words.{found_of};
+ghost use Rattle.afdx_words.specs.RecordingSaid.{SaysSeen, says_either};
+
+use crate::misplaced::{BadPlace, Given, Misplaced};
 use crate::place_words::{put_new, sided_in};
 use crate::recording_words::{
-    Refused, fcs_in, fcs_option, interface_option, reorder_in, reorder_option, usual_reorder,
+    Refused, fcs_in, fcs_option, interface_option, reorder_in, reorder_option,
 };
 use crate::words::flag;
 use afdx_lists::ByRole;
@@ -10,20 +15,26 @@ use afdx_recorded::{Interfaces, Place, RecordingOptions};
 use clap::{Arg, ArgAction, ArgMatches};
 use std::alloc::Global;
 
-const INTERFACE_HELP: &str = "Where the frames of interface K came in: A:PORT or B:PORT, or A or B \
+const INTERFACE_HELP: &str = "\
+Where the frames of interface K came in: A:PORT or B:PORT, or A or B
 where each names its sender; may be given again";
 
-const LEFT_HELP: &str =
-    "Where the frames of interface K left: A:PORT or B:PORT; may be given again";
+const LEFT_HELP: &str = "\
+Where the frames of interface K left: A:PORT or B:PORT; may be given
+again";
 
-const FCS_HELP: &str = "Whether each recorded frame ends with its check sequence, whatever the \
+const FCS_HELP: &str = "\
+Whether each recorded frame ends with its check sequence, whatever the
 recording says";
 
-const REORDER_HELP: &str = "By how many frames times of a recording may go back, at most 100,000; \
+const REORDER_HELP: &str = "\
+By how many frames times of a recording may go back, at most 100,000;
 else 10,000, and with --line-buffered 0";
 
-const STAMPS_HELP: &str = "Whether recorders stamp the end of a frame, as most do, or its start; \
-in 'start-end' the first word is for what came, the second for what left";
+const STAMPS_HELP: &str = "\
+Whether recorders stamp the end of a frame, as most do, or its start;
+in 'start-end' the first word is for what came, the second for what
+left";
 
 const LOSSY_HELP: &str = "Gives the last line though a recorder lost frames by its own word";
 
@@ -82,59 +93,61 @@ fn are_recordings(matches: &ArgMatches<'_>) -> bool {
 
 /// Takes what each word of `--interface` says, of which there is one at least. Where a switch of
 /// several is judged each says a port: what a frame claims is its first sender.
-fn put_came(interfaces: &mut Interfaces, matches: &ArgMatches<'_>) -> Result<(), Refused> {
+fn put_came<'a>(interfaces: &mut Interfaces, matches: &ArgMatches<'a>) -> Result<(), Refused<'a>> {
     let needs_port = matches.contains_id("switch");
     let words = matches.get_strs("interface").unwrap_or(&[]);
     for word in words {
-        let Some((interface, side, port)) = sided_in(word) else {
-            return Err(Refused::BadInterface);
-        };
+        let given = Given::interface(word);
+        let (interface, side, port) = sided_in(given)?;
         match port {
-            Some(port) => put_new(interfaces, interface, Place::AtPort(side, port))?,
-            None if needs_port => return Err(Refused::BadInterface),
-            None => put_new(interfaces, interface, Place::OnSide(side))?,
+            Some(port) => put_new(interfaces, given, interface, Place::AtPort(side, port))?,
+            None if needs_port => return Err(given.refused(Misplaced::Port)),
+            None => put_new(interfaces, given, interface, Place::OnSide(side))?,
         }
     }
-    any_of(words)
+    any_of("interface", words)
 }
 
 /// Takes what each word of `--left` says, of which there is one at least; each says a port.
-fn put_left(interfaces: &mut Interfaces, matches: &ArgMatches<'_>) -> Result<(), Refused> {
+fn put_left<'a>(interfaces: &mut Interfaces, matches: &ArgMatches<'a>) -> Result<(), Refused<'a>> {
     let words = matches.get_strs("left").unwrap_or(&[]);
     for word in words {
-        let Some((interface, side, Some(port))) = sided_in(word) else {
-            return Err(Refused::BadInterface);
+        let given = Given::left(word);
+        let (interface, side, port) = sided_in(given)?;
+        let Some(port) = port else {
+            return Err(given.refused(Misplaced::Port));
         };
-        put_new(interfaces, interface, Place::Left(side, port))?;
+        put_new(interfaces, given, interface, Place::Left(side, port))?;
     }
-    any_of(words)
+    any_of("left", words)
 }
 
-/// Refuses that there is none.
-fn any_of(words: &[&str]) -> Result<(), Refused> {
+/// Refuses that there is no word of an option.
+fn any_of<'a>(option: &'static str, words: &[&'a str]) -> Result<(), Refused<'a>> {
     if words.is_empty() {
-        return Err(Refused::BadInterface);
+        return Err(Refused::BadInterface(BadPlace::Absent(option)));
     }
     Ok(())
 }
 
-/// Whether stamps are those of first bits, of what came and of what left.
-fn stamps_in(matches: &ArgMatches<'_>) -> ByRole<bool> {
-    let (came, left) = match matches.get_str("stamps") {
-        Some("start") => (true, true),
-        Some("start-end") => (true, false),
-        Some("end-start") => (false, true),
-        _ => (false, false),
-    };
-    ByRole { came, left }
+/// Whether one of two words stands at the option of stamps.
+fn stamps_are(matches: &ArgMatches<'_>, first: &str, second: &str) -> bool
+    ensures { result ≡ says_either (found_of matches.now) first.now second.now }
+{
+    match matches.get_str("stamps") {
+        Some(said) => said == first || said == second,
+        None => false,
+    }
 }
 
 /// With these interfaces, what the words say of how a recording is read.
-fn options_of(
+fn options_of<'a>(
     interfaces: Interfaces,
-    matches: &ArgMatches<'_>,
-) -> Result<RecordingOptions, Refused> {
-    let stamps = stamps_in(matches);
+    matches: &ArgMatches<'a>,
+) -> Result<RecordingOptions, Refused<'a>>
+    ensures { IfOk result (SaysSeen (found_of matches.now)) }
+{
+    let reorder = reorder_in(matches)?;
     Ok(RecordingOptions {
         interfaces,
         leaves_unsaid: true,
@@ -142,15 +155,20 @@ fn options_of(
         origin: None,
         network: None,
         is_second: false,
-        reorder: reorder_in(matches)?.unwrap_or(usual_reorder(matches)),
-        from_start: stamps.came,
-        left_from_start: stamps.left,
+        reorder,
+        from_start: stamps_are(matches, "start", "start-end"),
+        left_from_start: stamps_are(matches, "start", "end-start"),
         are_given: true,
     })
 }
 
 /// What the words say of one recording of what came and what left, if they are taken.
-pub fn seen_options(alloc: Global, matches: &ArgMatches<'_>) -> Result<RecordingOptions, Refused> {
+pub fn seen_options<'a>(
+    alloc: Global,
+    matches: &ArgMatches<'a>,
+) -> Result<RecordingOptions, Refused<'a>>
+    ensures { IfOk result (SaysSeen (found_of matches.now)) }
+{
     let mut interfaces = Interfaces::new(alloc)?;
     put_came(&mut interfaces, matches)?;
     put_left(&mut interfaces, matches)?;
@@ -159,10 +177,15 @@ pub fn seen_options(alloc: Global, matches: &ArgMatches<'_>) -> Result<Recording
 
 /// What the words say of two recordings, of what came and of what left, if they are taken. None:
 /// they say that both inputs are lists.
-pub fn seen_pair_options(
+pub fn seen_pair_options<'a>(
     alloc: Global,
-    matches: &ArgMatches<'_>,
-) -> Result<Option<ByRole<RecordingOptions>>, Refused> {
+    matches: &ArgMatches<'a>,
+) -> Result<Option<ByRole<RecordingOptions>>, Refused<'a>>
+    ensures came { IfOk result (λ said. IfSome said (λ both.
+        SaysSeen (found_of matches.now) both.came)) }
+    ensures left { IfOk result (λ said. IfSome said (λ both.
+        SaysSeen (found_of matches.now) both.left)) }
+{
     if !are_recordings(matches) {
         return Ok(None);
     }

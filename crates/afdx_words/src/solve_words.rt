@@ -39,8 +39,10 @@ Examples:
   afdx solve --keep buffer,latency --raise-only examples/network.toml
   afdx solve examples/two_switches.toml";
 
-const KEEP_HELP: &str = "Keys that keep their values, which have to be there, in range: any of \
-jitter, buffer, latency and skew, with commas between them";
+const KEEP_HELP: &str = "\
+Keys that keep their values, which have to be there, in range: any of
+jitter, buffer, latency and skew, with commas between
+them";
 
 const RAISE_HELP: &str = "Lowers no value: each is the greater of the least and that of CONFIG";
 

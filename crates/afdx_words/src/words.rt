@@ -57,7 +57,8 @@ Examples:
   afdx police 1 64 500 examples/one_link.list
   afdx police --vl 501 --port 5 2 160 200 examples/bench.list";
 
-pub const CONFIG_HELP: &str = "The path of a configuration (TOML), at most 4,194,304 bytes; \
+pub const CONFIG_HELP: &str = "\
+The path of a configuration (TOML), at most 4,194,304 bytes;
 /dev/stdin for standard input";
 
 const LIST_HELP: &str = "The path of a frame list or a recording (pcap), or - for \
@@ -94,13 +95,15 @@ pub fn line_buffered<'a>(alloc: Global) -> Arg<'a> {
     flag(alloc, "line-buffered", help)
 }
 
-const EXPLAIN_HELP: &str = "When a fault is explained, behind its one line: 'auto' is where \
-standard error is a terminal";
+const EXPLAIN_HELP: &str = "\
+When a fault is explained, behind its one line: 'auto' is where
+standard error is a terminal; where it isn't given, AFDX_EXPLAIN says
+it, else 'auto'";
 
 /// When a fault is explained; `always` is what the option alone says.
 const TIMES_TO_EXPLAIN: &[&str] = &["auto", "always", "never"];
 
-/// The option by which a fault is explained.
+/// The option by which a fault is explained; where it isn't given, a variable may say when.
 pub fn explain_option<'a>(alloc: Global) -> Arg<'a> {
     Arg::new(alloc, "explain")
         .long("explain")
@@ -108,15 +111,17 @@ pub fn explain_option<'a>(alloc: Global) -> Arg<'a> {
         .help(EXPLAIN_HELP)
         .num_args(0..=1)
         .require_equals(true)
-        .default_value("auto")
         .default_missing_value("always")
         .value_parser(TIMES_TO_EXPLAIN)
 }
 
+const PROGRESS_HELP: &str = "\
+Says after two seconds how much was read, if standard error is a
+terminal";
+
 /// The option by which a person sees how far a run is.
 pub fn progress_option<'a>(alloc: Global) -> Arg<'a> {
-    let help = "Says after two seconds how much was read, if standard error is a terminal";
-    flag(alloc, "progress", help)
+    flag(alloc, "progress", PROGRESS_HELP)
 }
 
 /// The option by which the counts of a run are printed.
@@ -229,8 +234,10 @@ Example:
 
 const FREELY_HELP: &str = "Replays also in tables that are not admitted";
 
-const EARLY_HELP: &str = "Prints on standard error, for each frame that was dropped as over-rate, \
-'early n NS': it came NS ns too early; of several switches 'early n side SWITCH NS'";
+const EARLY_HELP: &str = "\
+Prints on standard error, for each frame that was dropped as over-rate,
+'early n NS': it came NS ns too early; of several switches
+'early n side SWITCH NS'";
 
 fn replay_command<'a>(alloc: Global) -> Result<Command<'a>, AllocError> {
     let words = vec![in alloc;
@@ -310,7 +317,9 @@ const VL_HELP: &str = "The link's identifier, 0 to 65535";
 
 const PORT_HELP: &str = "The input port of its frames, 1 to 24";
 
-const POLICING_HELP: &str = "By bytes a frame is charged by its length, by frames as the longest";
+const POLICING_HELP: &str = "\
+By bytes a frame is charged by its length, by frames as the
+longest";
 
 const KINDS_OF_POLICING: &[&str] = &["byte", "frame"];
 

@@ -20,6 +20,7 @@ import sys
 from typing import BinaryIO, Callable, Iterator, NoReturn
 
 from afdx_tools.command_line import Parser
+from afdx_tools.explaining import is_asked
 from afdx_tools.faults import Refused, leave, let_go, shown
 from afdx_tools.guard import guarded
 from afdx_tools.inputs import at_hand
@@ -115,7 +116,7 @@ def tapped(args: argparse.Namespace, config: str, paths: list[str]) -> list[str]
 def program_words(args: argparse.Namespace) -> list[str]:
     """The words of `afdx list`."""
     words = [program(), "list", "--summary", *recording_options(args)]
-    words += ["--explain=always"] if sys.stderr.isatty() else []
+    words += ["--explain=always"] if is_asked() else []
     names = names_of(args)
     if args.taps is not None:
         for name in names:
