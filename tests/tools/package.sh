@@ -102,6 +102,22 @@ package_tests() {
     installed_tests "$deb"
     launch bin/package "$work/packages2"
     tell 'the same files give the same package' "$(cmp "$deb" "$(tail -n 1 "$work/out")" 2>&1)"
+    planted_test "$deb"
+}
+
+planted_test() { # DEB : a link stands where the package is to stand
+    local folder=$work/packages3 name=${1##*/}
+    mkdir "$folder"
+    echo precious >"$work/precious"
+    ln -s "$work/precious" "$folder/$name"
+    launch bin/package "$folder"
+    tell 'a link in the place of a package is replaced, and nothing else stays there' "$(
+        is_status 0
+        grep -qxa precious "$work/precious" || echo 'the link was followed'
+        if [[ -L $folder/$name ]]; then echo 'the link stays'; fi
+        cmp "$1" "$folder/$name" 2>&1
+        find "$folder" -mindepth 1 ! -name "$name"
+    )"
 }
 
 packaged() { # DEB FILE : its bytes
