@@ -47,6 +47,45 @@ head_tests() {
     tell 'the heads of a judged switch' "$(same_heads sides sides_nothing 'offsets options ')"
 }
 
+# What came and what left of a switch, and lists of which the second has a fault: no table has rows.
+judged_heads() { # NAME WORD.. CONFIG
+    report_on "$1" --conform "${@:2}" "$work/came.list" "$work/left.list"
+    launch tools/afdx-report --conform "${@:2}" "$work/came.list" "$work/faulty.list" \
+        --out "$headed/$1_faulty"
+    is_status 3
+}
+
+# Beside a configuration stands what its messages are called.
+named_network() { # NAME
+    cp "examples/$1.toml" "$headed/$1.toml"
+    printf 'part,name,number,udp,called\nmessage,,1,1000,air data\n' >"$headed/$1.names.csv"
+}
+
+several_and_named_head_tests() {
+    local few='offsets options '
+    tell 'the heads of one of several switches that is judged, of a list with a fault' "$(
+        judged_heads fwd --switch fwd examples/two_switches.toml
+        same_heads fwd fwd_faulty "$few"
+        head -n 1 "$headed/fwd_faulty/streams.csv" | grep -v '^link,from,switch,port,'
+    )"
+    named_network base
+    named_network two_switches
+    report_on named "$headed/base.toml" examples/babbling.list
+    report_on named_nothing "$headed/base.toml" "$work/nothing.list"
+    tell 'the heads where links have names' "$(
+        same_heads named named_nothing 'clocks skews '
+        head -n 1 "$headed/named_nothing/links.csv" | grep -v '^link,message,frames,'
+    )"
+    tell 'the heads of a judged switch where links have names' "$(
+        judged_heads called "$headed/base.toml"
+        same_heads called called_faulty "$few"
+        head -n 1 "$headed/called_faulty/groups.csv" | grep -v '^findings,what,reason,link,message,'
+        judged_heads both --switch fwd "$headed/two_switches.toml"
+        same_heads both both_faulty "$few"
+        head -n 1 "$headed/both_faulty/idle.csv" | grep -v '^link,message,from,switch,port,'
+    )"
+}
+
 recorded_head_tests() {
     local recorded=(--interface "0=A:1" examples/base.toml)
     tools/afdx-capture pcap examples/babbling.list "$work/full.pcap" 2>"$work/err"
@@ -59,10 +98,12 @@ recorded_head_tests() {
 }
 
 : >"$work/nothing.list"
+echo 'F 0 A' >"$work/faulty.list"
 printf 'F 0 A 1 %s\nF 9000000 A 1 %s\n' "$(frame_of A 0)" "$(frame_of A 1)" >"$work/came.list"
 printf 'F 20000 A 2 %s\n' "$(frame_of A 0)" >"$work/left.list"
 if [[ -n $reporting ]]; then
     head_tests
+    several_and_named_head_tests
     if [[ -n $dpkt ]]; then recorded_head_tests; fi
 else
     skip 'heads of tables' "there is no program $program, or no numpy"

@@ -1,7 +1,7 @@
 """The columns of a report's tables, so that a CSV file without rows has its head too."""
 from __future__ import annotations
 
-from typing import Iterator
+from typing import Collection, Iterator
 
 Row = dict
 
@@ -56,21 +56,23 @@ STAMPS = {
     "deviations": "interface name stamp",
 }
 RECORDED = ("where", "unseen")  # the tables that reports on recordings have alone
+SWITCH = "switch"  # of several switches a side which one a port is at
 BEHIND_LINK = "message"  # what a link is called, where that is known
 
 
 def has_column(report: Row, column: str) -> bool:
     """A row of some table of a report has that column."""
-    tables = (report[name] for name in COLUMNS if isinstance(report.get(name), list))
+    tables = [report[name] for name in COLUMNS if isinstance(report.get(name), list)]
+    tables += [report["arrivals"]["links"]] if "arrivals" in report else []
     return any(column in rows[0] for rows in tables if rows)
 
 
-def found_columns(name: str, report: Row) -> Iterator[str]:
+def found_columns(name: str, report: Row, known: Collection[str]) -> Iterator[str]:
     """The columns of a table of a report."""
-    is_several = "switches" in report or has_column(report, "switch")
-    is_named = has_column(report, BEHIND_LINK)
+    is_several = SWITCH in known or "switches" in report
+    is_named = BEHIND_LINK in known or has_column(report, BEHIND_LINK)
     for column in COLUMNS[name].split():
-        if column != "switch" or is_several:
+        if column != SWITCH or is_several:
             yield column
         if column == "link" and is_named:
             yield BEHIND_LINK
@@ -78,6 +80,7 @@ def found_columns(name: str, report: Row) -> Iterator[str]:
         yield from STAMPS.get(name, "").split()
 
 
-def columns_of(name: str, report: Row) -> list[str]:
-    """The same as a list; none of a table that isn't known."""
-    return list(found_columns(name, report)) if name in COLUMNS else []
+def columns_of(name: str, report: Row, known: Collection[str] = ()) -> list[str]:
+    """The columns of a table; none of a table that isn't known. `known` are those that rows of this
+    report have, besides what the report shows itself."""
+    return list(found_columns(name, report, known)) if name in COLUMNS else []

@@ -5,6 +5,7 @@ from __future__ import annotations
 from collections import Counter
 from typing import Sequence
 
+from afdx_tools.columns import BEHIND_LINK
 from afdx_tools.conformance.measuring import Measured
 from afdx_tools.tables import Row, link_words
 
@@ -87,6 +88,7 @@ def groups(rows: Sequence[Row], twice: set[int]) -> list[Row]:
             "what": what,
             "reason": each[0]["reason"],
             "link": link,
+            **{name: each[0][name] for name in [BEHIND_LINK] if name in each[0]},
             "side": side,
             "port": port,
             "system": each[0]["system"],

@@ -7,10 +7,10 @@ import contextlib
 import json
 import os
 import sys
-from typing import Iterable, Iterator, NamedTuple
+from typing import Collection, Iterable, Iterator, NamedTuple
 from xml.etree import ElementTree as xml
 
-from afdx_tools.columns import columns_of
+from afdx_tools.columns import BEHIND_LINK, SWITCH, columns_of
 from afdx_tools.config import Config, read_config
 from afdx_tools.conformance.frames import Frame, frames_of_list
 from afdx_tools.conformance.grouping import groups, left_twice
@@ -25,7 +25,7 @@ from afdx_tools.conformance.text import print_text
 from afdx_tools.explaining import explain
 from afdx_tools.faults import Failed, Refused, shown
 from afdx_tools.inputs import as_file, at_hand
-from afdx_tools.naming import named_rows, naming_beside
+from afdx_tools.naming import Naming, named_rows, naming_beside
 from afdx_tools.outputs import write_folder
 from afdx_tools.program import program, version
 from afdx_tools.progress import Progress
@@ -130,7 +130,11 @@ def made_by(
 
 
 def report_of(
-    args: argparse.Namespace, options: Options, inputs: Inputs, progress: Progress
+    args: argparse.Namespace,
+    options: Options,
+    inputs: Inputs,
+    naming: Naming,
+    progress: Progress,
 ) -> Row:
     """Runs the program, and measures: the report."""
     cover = Cover(args.cover) if args.cover else None
@@ -146,7 +150,6 @@ def report_of(
     stood = recorded.stood if inputs.are_recorded else None
     numbers = Numbers(config, checked, judged, measured, stood)
     streams, idle, found = numbers.streams(), numbers.idle(), numbers.deviations()
-    naming = naming_beside(args.config)
     return {
         "version": VERSION,
         "run": made_by(args, inputs, options, called, cover, recorded.time_0),
@@ -184,10 +187,17 @@ def json_of(report: Row) -> str:
     return "{" + ",\n".join(parts) + "}\n"
 
 
-def write_files(report: Row, folder: str, most: int) -> None:
+def known_columns(options: Options, naming: Naming) -> list[str]:
+    """The columns that the tables have, also without rows: which of several switches is judged, and
+    what links are called."""
+    columns = [] if options.switch is None else [SWITCH]
+    return columns + ([BEHIND_LINK] if naming.messages else [])
+
+
+def write_files(report: Row, known: Collection[str], folder: str, most: int) -> None:
     """Writes page, tables and numbers."""
     texts = {
-        f"{name}.csv": csv_text(report[name], columns_of(name, report))
+        f"{name}.csv": csv_text(report[name], columns_of(name, report, known))
         for name in TABLES
         if name in report
     }
@@ -211,13 +221,16 @@ def suite(name: str, report: Row) -> xml.Element:
 def report_conformance(tool: str, args: argparse.Namespace, options: Options) -> int:
     """Makes the report; the status, which is that of the program."""
     progress = Progress(tool)
+    naming = naming_beside(args.config)
     try:
         with inputs_of(args, options) as inputs:
-            report = report_of(args, tapped(args, inputs, options, progress), inputs, progress)
+            told = tapped(args, inputs, options, progress)
+            report = report_of(args, told, inputs, naming, progress)
     finally:
         progress.done()
     if args.out or not args.json:
-        write_files(report, as_file(args.out or "report"), args.rows)
+        known = known_columns(options, naming)
+        write_files(report, known, as_file(args.out or "report"), args.rows)
     if args.junit:
         names = [os.path.basename(name) for name in (args.list, args.other) if name is not None]
         write_junit(args.junit, [suite(",".join(names), report)])
