@@ -197,3 +197,16 @@ full_case 'conform --summary on a full device, and lost frames' 3 $'recording Lo
     conform --summary "${here[@]}" "$rules" "$work/lossy"
 full_case 'conform of one recording on a full device, each line at once' 4 $'device Write\n' \
     conform --line-buffered "${here[@]}" "$rules" "$work/late"
+
+# ---- Ctrl-C while it is recorded -----------------------------------------------------------------
+
+interrupted() { # INPUT [--blocks]
+    python3 "$top/tests/program/interrupted.py" "$program" "$@" 2>&1 || true
+}
+
+for input_of in pipe fifo lists; do
+    tell "conform --line-buffered: after Ctrl-C its findings stand there, $input_of" \
+        "$(interrupted "$input_of")"
+    tell "conform: after Ctrl-C none stands in a pipe, $input_of" \
+        "$(interrupted "$input_of" --blocks)"
+done
