@@ -231,6 +231,35 @@ report_place_tests() {
     rm -rf "$safe"/{old,new,report}
 }
 
+# SIGKILL comes, and then docs/TOOLS.md is followed: back to the old report, or on to the new one.
+killed_report() { # RENAME : the one at which it comes
+    local folder=$safe/report back=$safe/back
+    rm -rf "$folder"
+    cp -a "$safe/old" "$folder"
+    launch "${weak[@]}" AT_RENAME="$1:SIGKILL" tools/afdx-report examples/base.toml \
+        "$work/one_line.list" --out "$folder"
+    is_status 137
+    cp -a "$folder" "$back"
+    find "$back" -maxdepth 1 -type f -newermt '12 hours ago' -delete
+    find "$back" -path '*/.afdx-*.old/*' -exec mv {} "$back" \;
+    rm -rf "$back"/.afdx-*
+    diff -r "$safe/old" "$back" | cut -c 1-160
+    launch tools/afdx-report examples/base.toml "$work/one_line.list" --out "$folder"
+    rm -rf "$back" "$safe"/.afdx-* "$folder"/.afdx-*
+    if ! is_newer "$folder"; then echo "no newer report, killed at rename $1"; fi
+}
+
+killed_report_tests() {
+    local place
+    older_and_newer mine/notes
+    find "$safe/old" -exec touch -d yesterday {} +
+    tell 'after SIGKILL between two files of a report the old one can be had, or the new one' "$(
+        for place in 1 2 3 5 20; do killed_report "$place"; done
+        if ! grep -qF '.afdx-*.old' docs/TOOLS.md; then echo 'TOOLS.md does not say how'; fi
+    )"
+    rm -rf "$safe"/{old,new,report}
+}
+
 folder_in_way_test() {
     local folder=$safe/report
     tools/afdx-report examples/base.toml examples/babbling.list --out "$folder" >"$work/out"
@@ -324,6 +353,7 @@ if [[ -n $reporting ]]; then
     report_room_tests
     older_report_tests
     report_place_tests
+    killed_report_tests
     folder_in_way_test
     campaign_link_tests
 else
