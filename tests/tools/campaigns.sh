@@ -65,6 +65,23 @@ criteria_campaign_tests() {
     tell 'and without them' "$(is_status 0)"
 }
 
+named_config() { # FILE : it, and what a document calls its messages
+    cp examples/base.toml "$1"
+    printf 'part,name,number,udp,called\nmessage,,1,1000,air data\n' >"${1%.toml}.names.csv"
+}
+
+named_campaign_tests() {
+    named_config "$work/named.toml"
+    launch tools/afdx-campaign "$work/named.toml" "$work/sound.list" "$work/dropping.list" \
+        --out "$work/criteria" --fail-on dropped,late --junit "$work/named.xml"
+    tell 'a test case that failed says which links it is about, as the document calls them' "$(
+        is_status 6
+        wants_cases "$work/named.xml" '6 0 1'
+        grep -q '^ *<failure message="1 frames that a switch dropped">1 frame of link 1 (air data' \
+            "$work/named.xml" || grep -A 2 failure "$work/named.xml"
+    )"
+}
+
 # ---- runs without a result, and what all of them come to -----------------------------------
 
 runs_logged() { # FOLDER NUMBER : how often that run stands in the job log
@@ -219,6 +236,13 @@ machine_tests() {
     rm -rf "$work/machines/hidden/out"
     on_machines "$work/machines/hidden" --transfer
     tell 'and are copied with --transfer' "$(ran_there "$work/machines/hidden")"
+    named_config "$work/machines/hidden/base.toml"
+    on_machines "$work/machines/hidden" --transfer --fail-on dropped --junit "$work/there.xml"
+    tell 'so is the table of names' "$(
+        is_status 6
+        grep -q 'of link 1 (air data' "$work/there.xml" || cat "$work/there.xml"
+    )"
+    rm "$work/machines/hidden/base.names.csv"
     on_machines "$work/machines/hidden" --transfer --sshlogin 1/:
     tell 'on this machine too' "$(
         is_status 0
@@ -240,6 +264,7 @@ without_rsync_test() {
 if [[ -n $reporting ]] && has parallel; then
     odd_name_tests
     criteria_campaign_tests
+    named_campaign_tests
     worst_tests
     without_rsync_test
     if has rsync; then

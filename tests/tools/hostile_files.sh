@@ -199,6 +199,14 @@ odd_run_tests() { # what a run gave is of another kind
             wants_number "$folder/runs/1/stdout" 'r["totals"]["frames"]' 3
         )"
     done
+    sed 's/"words": "/"words": 5, "was": "/' "$work/kept.json" >"$folder/runs/1/stdout"
+    tell 'nor has one with a finding in no words' "$(
+        go_on env PATH="$idle:$PATH"
+        is_status 4
+        says out 'values of another kind'
+        go_on env
+        is_status 0
+    )"
     sed 's/"share": [0-9.e-]*/"share": NaN/' "$work/kept.json" >"$folder/runs/1/stdout"
     printf '\e]0;x\a what\n' >"$folder/runs/1/stderr"
     printf 'cut' >>"$folder/joblog"

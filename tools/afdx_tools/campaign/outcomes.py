@@ -10,7 +10,7 @@ from afdx_tools.campaign.rounds import Attempt
 from afdx_tools.faults import shown
 from afdx_tools.report.criteria import judged
 from afdx_tools.report.ranking import latencies_of, nearest, place_of, port_of
-from afdx_tools.tables import Row
+from afdx_tools.tables import Row, link_words
 
 SUMS = (
     "frames",
@@ -31,13 +31,14 @@ REFUSED = (1, 2, 3)  # those of a run whose words or files can't be used: a resu
 
 
 class Outcome(NamedTuple):
-    """What came of a run: its row, its machine, its sums if it gave a report, its fault. A run
-    without a result is repeated. It has answered if the tool began on its machine and said how it
-    ended."""
+    """What came of a run: its row, its machine, the sums and findings of its report if it gave one,
+    its fault. A run without a result is repeated. It has answered if the tool began on its machine
+    and said how it ended."""
 
     row: Row
     machine: str
     totals: Row | None
+    findings: Sequence[Row]
     fault: str
     is_result: bool
     has_answered: bool
@@ -53,17 +54,19 @@ def text_of(path: str) -> str:
 
 
 def is_report(report: Row) -> bool:
-    """Has a report what stands in the table, each of its kind?"""
+    """Has a report what stands in the table and in test cases, each of its kind?"""
     counts = [report["totals"][key] for key in SUMS]
     rows = latencies_of(report)
     counts += [row[key] for row in rows for key in ("greatest_ns", "configured_ns")]
     counts += [row[key] for row in rows for key in ("frames", "late", "bound_ns")]
     places = [(*place_of(row), row["side"]) for row in rows]
+    texts = [one[key] for one in report["findings"] for key in ("criterion", "words")]
+    texts += [row.get("message", "") for row in rows]
     return (
         all(count is None or isinstance(count, int) for count in counts)
         and all(isinstance(part, (int, str)) for place in places for part in place)
         and all(0 <= row["share"] < math.inf for row in rows)
-        and isinstance(report["fault"], str)
+        and all(isinstance(text, str) for text in [*texts, report["fault"]])
     )
 
 
@@ -89,7 +92,7 @@ def run_row(name: str, report: Row | None, fault: str, status: int | None, unmet
     row["bound_ns"] = most["bound_ns"] if most else None
     row["configured_ns"] = most["configured_ns"] if most else None
     row["share"] = most["share"] if most else None
-    row["where"] = f"{most['link']} at {port_of(most)}, {most['side']}" if most else None
+    row["where"] = f"{link_words(most)} at {port_of(most)}, {most['side']}" if most else None
     row["status"] = NO_RESULT if status == 0 and not report else status  # 0 only with a report
     row["fault"] = fault or ("not met: " + ", ".join(unmet) if unmet else None)
     return row
@@ -112,15 +115,15 @@ def outcome_of(
     page = os.path.join(out, "pages", str(number), "report.html")
     if is_good and report and wants_page and not os.path.exists(page):
         is_good, fault = False, "its page didn't come back"
-    totals = report["totals"] if report else None
+    totals, findings = (report["totals"], report["findings"]) if report else (None, [])
     row = run_row(name, report, fault, status, judged(totals, criteria))
-    return Outcome(row, machine, totals, fault, is_good, has_answered)
+    return Outcome(row, machine, totals, findings, fault, is_good, has_answered)
 
 
 def not_run(name: str) -> Outcome:
     """What came of a list that was never run."""
     fault = "not run"
-    return Outcome(run_row(name, None, fault, None, []), "", None, fault, False, False)
+    return Outcome(run_row(name, None, fault, None, []), "", None, [], fault, False, False)
 
 
 def worst(outcomes: Sequence[Outcome]) -> int:

@@ -29,6 +29,7 @@ from afdx_tools.explaining import explain_all
 from afdx_tools.faults import Refused, shown
 from afdx_tools.guard import guarded
 from afdx_tools.inputs import as_file
+from afdx_tools.naming import table_beside
 from afdx_tools.outputs import whole
 from afdx_tools.placing import clear
 from afdx_tools.program import HERE, program, version
@@ -49,8 +50,9 @@ def job(args: argparse.Namespace, remote: bool) -> str:
     """The command line of one run, which GNU parallel fills in, and quotes what it puts there: {1}
     is the number of the run, {2} the list, {3} the recording of B beside it, or the configuration
     where there is none, {4} the configuration, {5} the word that names the program, {6} the tool,
-    {7} the folder of pages, {8} and on the options of recordings. On another machine pages are
-    written where the job runs, and so stand the files that were copied there."""
+    {7} the folder of pages, {8} and on the options of recordings; then the table of names that is
+    only copied. On another machine pages are written where the job runs, and so stand the files
+    that were copied there."""
     words = ["--json"]
     if args.no_admission:
         words.append("--no-admission")
@@ -80,14 +82,16 @@ def remote_words(args: argparse.Namespace) -> list[str]:
     if "PARALLEL_SSH" not in os.environ:
         words += ["--ssh", f"ssh {PATIENCE}"]
     if args.transfer:
+        copied = [2, 3, 4, *(8 + len(handed_on(args)) for _ in args.names)]
         for word in args.lists:
-            names = [os.path.basename(path) for path in (args.config, *files_of(word))]
+            files = (args.config, *args.names, *files_of(word))
+            names = [os.path.basename(path) for path in files]
             if len(names) != len(set(names)):
                 raise Refused(
                     "--transfer wants lists that have other names than the configuration, and "
                     "other names than one another where two belong together"
                 )
-        for place in (2, 3, 4):
+        for place in copied:
             words += ["--transferfile", f"{{{place}//}}/./{{{place}/}}"]
     return words + (["--return", "pages/{1}"] if args.pages else [])
 
@@ -97,7 +101,7 @@ def starter(args: argparse.Namespace, machines: Machines) -> list[str]:
     parallel = shutil.which("parallel")
     if parallel is None:
         raise Refused("GNU parallel is missing: apt-get install parallel")
-    words = [parallel, "--null", "--max-args", str(7 + len(handed_on(args)))]
+    words = [parallel, "--null", "--max-args", str(7 + len(handed_on(args) + args.names))]
     words += ["--joblog", "+joblog", "--results", os.path.join("runs", "{1}", "")]
     if sys.stderr.isatty():
         words.append("--bar")
@@ -124,8 +128,14 @@ def records(args: argparse.Namespace, numbers: Sequence[int]) -> Iterator[bytes]
     for number in numbers:
         first, *second = (os.path.abspath(path) for path in files_of(args.lists[number - 1]))
         files = [first, *(second or [config])]
-        words = [str(number), *files, config, afdx, tool, pages, *handed_on(args)]
+        words = [str(number), *files, config, afdx, tool, pages, *handed_on(args), *args.names]
         yield b"".join(os.fsencode(word) + b"\0" for word in words)
+
+
+def names_to_copy(args: argparse.Namespace) -> list[str]:
+    """The table of names beside the configuration, where there is one, and files are copied."""
+    path = os.path.abspath(table_beside(args.config))
+    return [path] if args.transfer and os.path.isfile(path) else []
 
 
 def noted(path: str) -> list[bytes]:
@@ -230,7 +240,7 @@ def report(args: argparse.Namespace, outcomes: Sequence[Outcome]) -> None:
     """Writes the table and the criteria, and prints the table with a last line of sums."""
     if args.junit:
         suites = [
-            suite_of(name, outcome.fault, outcome.totals, args.fail_on)
+            suite_of(name, outcome.fault, outcome.totals, args.fail_on, outcome.findings)
             for name, outcome in zip(args.lists, outcomes)
         ]
         write_junit(args.junit, suites)
@@ -247,7 +257,7 @@ def report(args: argparse.Namespace, outcomes: Sequence[Outcome]) -> None:
 
 def run(args: argparse.Namespace) -> int:
     """Runs all lists and prints the table; the worst status."""
-    args.out = as_file(args.out)
+    args.out, args.names = as_file(args.out), names_to_copy(args)
     version()  # built once, if at all
     machines = Machines(args.sshlogin)
     words = starter(args, machines)
