@@ -6,8 +6,8 @@
 It wants a network of its own, which ends with it. Each cable is a pair of interfaces: p1 to p3 are
 the switch's, s1 to s3 those of the systems. SWITCH is a name of live_switches.py. `dumpcap` records
 at each port what comes in and what leaves, each as an interface of its own, into FOLDER/run.pcapng;
-FOLDER/said.json has what the switch was amiss with, and by how much a frame went out later than it
-was meant to, at most.
+FOLDER/said.json has what the switch was amiss with, by how much a frame went out later than it was
+meant to, at most, and how many frames that were sent the recorder lost.
 """
 from __future__ import annotations
 
@@ -36,8 +36,8 @@ EVERY_FRAME = 3  # ETH_P_ALL
 AF_PACKET, OUTGOING = 263, 4  # a level of socket options; how a socket calls what it hasn't to give
 IGNORE_OUTGOING = 23
 STAMPS = 35  # SO_TIMESTAMPNS: the moment at which the kernel took a frame, as recorders get it
-PATIENCE = 120  # seconds
-LOST = 30  # seconds after which what isn't recorded is lost
+PATIENCE = 300  # seconds
+LOST = 120  # seconds after which what isn't recorded is lost
 PORTS = [system["port"] for system in SYSTEMS]
 
 
@@ -70,9 +70,9 @@ def opened(name: str) -> socket.socket:
 
 
 @contextlib.contextmanager
-def recorder(path: str, seconds: int) -> Iterator[Callable[[Counter[bytes]], None]]:
+def recorder(path: str, seconds: int) -> Iterator[Callable[[Counter[bytes]], int]]:
     """Records at all ports of the switch; it ends by itself, too. What is given waits until these
-    frames are recorded."""
+    frames are recorded, and says how many are lost."""
     words = ["dumpcap", "-w", path, "-a", f"duration:{seconds + PATIENCE}"]
     for port in PORTS:
         for way in ("inbound", "outbound"):
@@ -89,14 +89,16 @@ def recorder(path: str, seconds: int) -> Iterator[Callable[[Counter[bytes]], Non
             run.communicate(timeout=PATIENCE)
 
 
-def until_recorded(path: str, sent: Counter[bytes]) -> None:
-    """Waits until these frames stand in the recording, each so many times; but not for ever."""
+def until_recorded(path: str, sent: Counter[bytes]) -> int:
+    """Waits until these frames stand in the recording, each so many times; but not for ever. How
+    many don't."""
     end = time.monotonic() + LOST
-    while time.monotonic() < end:
+    while True:
         with open(path, "rb") as file:
             frames = recorded(file.read()).numbers
-        if not sent - collections.Counter(frame.bytes for frame in frames if frame):
-            return
+        missing = sent - collections.Counter(frame.bytes for frame in frames if frame)
+        if not missing or time.monotonic() >= end:
+            return missing.total()
         time.sleep(0.2)
 
 
@@ -177,10 +179,10 @@ def main() -> None:
         switch = SWITCHES[name](lambda now: begin + FROM + 300 * MS < now < end - 500 * MS)
         bench = Bench(switch, begin)
         bench.run(coming, length)
-        await_recorded(bench.sent)
+        lost = await_recorded(bench.sent)
     found = [[each.content.hex(), each.came, each.left] for each in switch.found]
     with open(os.path.join(folder, "said.json"), "w", encoding="ascii") as file:
-        json.dump({"found": found, "longest": bench.longest}, file)
+        json.dump({"found": found, "longest": bench.longest, "lost": lost}, file)
 
 
 if __name__ == "__main__":

@@ -16,8 +16,8 @@ from concurrent.futures import ThreadPoolExecutor
 from typing import Callable, NamedTuple, NoReturn
 
 TOP = os.path.dirname(os.path.dirname(os.path.dirname(os.path.abspath(__file__))))
-LONGEST = 600  # seconds of one run, which end one that hangs
-PATIENCE = 120  # seconds in which comes what has to come, however busy the machine is
+LONGEST = 3600  # seconds of one run, which end one that hangs
+PATIENCE = 300  # seconds in which comes what has to come, however busy the machine is
 LOOK = 0.002  # seconds between two looks at a run
 
 

@@ -1,4 +1,4 @@
-"""Waits until all that stands in a pipe is read: its standard output. At most two minutes, and not
+"""Waits until all that stands in a pipe is read: its standard output. At most ten minutes, and not
 where nobody reads it.
 
     { echo first; tests/lib/until_read.py; echo second; } | PROGRAM
@@ -9,7 +9,7 @@ import sys
 import termios
 import time
 
-LONGEST = 120.0  # seconds
+LONGEST = 600.0  # seconds
 LOOK = 0.01  # seconds between two looks
 
 

@@ -9,7 +9,7 @@ from frames import frame_of, number_of
 from made_recordings import SENDERS
 from program import Cases, must
 
-LONGEST = 600  # seconds of one run, which end one that hangs
+LONGEST = 3600  # seconds of one run, which end one that hangs
 STAMP = "-t '%Y-%m-%d %H:%M:%S.%f'"
 
 # a file, and how it is made of those before it; what stands after `<` is its standard input

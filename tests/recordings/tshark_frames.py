@@ -10,7 +10,7 @@ from program import Program, Wrong, must
 from recorded import Broken, Frame, Recording, Section, numbered, recorded
 from recorded_arrivals import Options
 
-LONGEST = 600  # seconds of one run, which end one that hangs
+LONGEST = 3600  # seconds of one run, which end one that hangs
 
 
 class Said(NamedTuple):

@@ -60,7 +60,7 @@ from solved_cascades import KEEPS, check_solve, with_any  # noqa: E402
 from tables import one_link_tables  # noqa: E402
 
 PROGRAM = os.path.join(made.TOP, "crates", "afdx", "out", "afdx")
-LONGEST = 600  # seconds of one run, which end one that hangs
+LONGEST = 3600  # seconds of one run, which end one that hangs
 JUDGED = ("config-", "came-", "left-", "input-")  # how the files begin that `conform` is given
 
 

@@ -35,7 +35,7 @@ from sender import Message, list_sent, submission_list  # noqa: E402
 from weak_recorded import cut_cases  # noqa: E402
 
 MS = 1_000_000
-SOON = 20  # seconds of the processor that a run may take
+SOON = 100  # seconds of the processor that a run may take
 POLICE = ["police", "1", "64", "500"]
 H1 = HELLO.hex().encode()
 SOUND = sealed(HELLO).hex().encode()

@@ -28,12 +28,12 @@ printf '#!/bin/sh\necho glibc 2.36\n' >"$room/machine/getconf"
 chmod +x "$room"/machine/*
 printf 'low: toml\ntests: afdx low\nafdx: low clap\n' >"$room/house/crates.txt"
 # An rt that says what one says. Where the file SLOW is there it works, and then waits, until the
-# launcher has said what it says meanwhile, up to two minutes each. Where TAKEN is there it waits
+# launcher has said what it says meanwhile, up to ten minutes each. Where TAKEN is there it waits
 # for another checkout, and takes over what that built.
 cat >"$room/kit/rt" <<'RT'
 #!/usr/bin/env bash
 until_said() { # LINE : a pattern
-    for ((k = 0; k < 1200; k++)); do
+    for ((k = 0; k < 6000; k++)); do
         ! grep -q "$1" "$SAID" || break
         sleep 0.1
     done
@@ -52,7 +52,7 @@ fi
 echo 'rt: chose --jobs 2 for low'
 echo 'so far: 0 of 2 functions checked; the verdict comes last'
 if [[ -e $SLOW ]]; then
-    timeout 120 sha256sum /dev/zero &
+    timeout 600 sha256sum /dev/zero &
     until_said "$STANDS"
     kill $!
     wait

@@ -49,13 +49,21 @@ TRIES = 3  # of a bench that was too slow
 
 class Run(NamedTuple):
     """A switch, recorded: the recording, the lists of it, what it was amiss with as `live_bench.py`
-    says it, and by how much a frame went out later than it was meant to, at most."""
+    says it, by how much a frame went out later than it was meant to, at most, and how many frames
+    the recorder lost."""
 
     recording: bytes
     came: bytes
     left: bytes
     found: list[list[str]]
     longest: int
+    lost: int
+
+    def why_not(self) -> str:
+        """Why it says nothing of the switch; empty where it does."""
+        if self.longest > SLOW:
+            return f"this machine let a frame wait for {self.longest // MS} ms"
+        return f"the recorder lost {self.lost} frames here" if self.lost else ""
 
 
 def network_words() -> list[str]:
@@ -99,7 +107,7 @@ def run_of(name: str, seconds: int, folder: str) -> Run:
         recording = file.read()
     with open(os.path.join(folder, "said.json"), encoding="ascii") as file:
         said = json.load(file)
-    return Run(recording, *lists_of(recording), said["found"], said["longest"])
+    return Run(recording, *lists_of(recording), said["found"], said["longest"], said["lost"])
 
 
 def numbers_in(text: bytes) -> dict[str, int]:
@@ -205,10 +213,10 @@ def try_switch(cases: Cases, judge: Judge, name: str, seconds: int, kept: str) -
         except Wrong as wrong:
             cases.try_case(f"{name}: the bench", must, False, str(wrong))
             return
-        if run.longest <= SLOW:
+        if not run.why_not():
             break
     else:
-        cases.skip(name, f"this machine let a frame wait for {run.longest // MS} ms")
+        cases.skip(name, run.why_not())
         return
     for way, text in zip(WAYS, (run.came, run.left)):
         with open(os.path.join(kept, f"{way}.list"), "wb") as file:

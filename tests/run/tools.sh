@@ -26,8 +26,9 @@ launch() { # WORD.. : both streams go to files, the status to `status`
     "$@" >"$work/out" 2>"$work/err" </dev/null || status=$?
 }
 
-launch_within() { # SECONDS WORD.. : no program of it may take more of the processor
-    launch timeout 600 prlimit --cpu="$1" "${@:2}"
+# No program of it may take more of the processor than so many seconds of a usual machine.
+launch_within() { # SECONDS WORD..
+    launch timeout 3600 prlimit --cpu="$(($1 * slowness))" "${@:2}"
 }
 
 same() { # WANTED GOT : two files
@@ -56,6 +57,15 @@ if [[ ! -x $python ]]; then
     echo '0 passed, 0 failed, 1 skipped'
     exit 0
 fi
+
+# How many times as much time of the processor as on a usual machine a command takes here.
+slowness=$("$python" -c 'import time
+USUAL = 0.025  # seconds
+def took():
+    begin = time.process_time()
+    sum(n * n for n in range(300_000))
+    return time.process_time() - begin
+print(max(1, round(min(took() for _ in range(5)) / USUAL)))')
 
 if "$python" -c 'import numpy' 2>"$work/err"; then numpy=1; else numpy=; fi
 for tool in afdx-capture ${numpy:+afdx-report} afdx-campaign afdx-icd afdx-fill afdx-traffic \

@@ -168,10 +168,33 @@ all_ran() { # COUNT : each of so many lists has a result
         "$(printf '1%.0s' $(seq "$1"))" 'frames of each'
 }
 
+# A program that on the machine two holds each run but the first until its cable is unplugged.
+held_program() { # FILE
+    cat >"$1" <<END_OF_FILE
+#!/bin/sh
+if [ "\$1" = replay ] && [ "\${SSH_CONNECTION#*$(<"$work/machines/two.address")}" != \
+    "\$SSH_CONNECTION" ] && ! mkdir "$work/first" 2>/dev/null; then
+    until [ -e "$work/unplugged" ]; do sleep 0.1; done
+fi
+exec "$program" "\$@"
+END_OF_FILE
+    chmod +x "$1"
+}
+
+unplug_later() { # takes machine two away when it has done a run; ten minutes are enough for one
+    local tries
+    for ((tries = 0; tries < 6000; tries++)); do
+        if [[ -s $work/many/joblog ]] && [[ $(on_machine two) -gt 0 ]]; then break; fi
+        sleep 0.1
+    done
+    tests/tools/two_hosts.sh cut "$work/machines" two
+    touch "$work/unplugged"
+}
+
 # A machine that can't be reached, and one whose cable is unplugged once it has done a run.
 dead_machine_tests() {
-    local ssh="1/ssh -F $work/machines/config" count=12 tries
-    local quick="$ssh -oConnectTimeout=60 -oServerAliveInterval=1 -oServerAliveCountMax=6"
+    local ssh="1/ssh -F $work/machines/config" count=12
+    local quick="$ssh -oConnectTimeout=60 -oServerAliveInterval=1 -oServerAliveCountMax=10"
     many_lists "$work" "$count"
     launch tools/afdx-campaign examples/base.toml "$work"/many*.list --out "$work/many" \
         -S "$ssh refusing,$ssh one"
@@ -183,20 +206,14 @@ dead_machine_tests() {
         wants_text "$(cell_of "$work/many/campaign.csv" 3 18)" "'$ssh one'" 'the machine'
     )"
     rm "$work/many/joblog"
-    ( # ten minutes are enough, however busy the processors are
-        for ((tries = 0; tries < 6000; tries++)); do
-            if [[ -s $work/many/joblog ]] && [[ $(on_machine two) -gt 0 ]]; then break; fi
-            sleep 0.1
-        done
-        tests/tools/two_hosts.sh cut "$work/machines" two
-    ) &
-    launch tools/afdx-campaign examples/base.toml "$work"/many*.list --out "$work/many" \
-        -S "$ssh one" -S "$quick two"
+    held_program "$work/held"
+    unplug_later &
+    launch env AFDX="$work/held" tools/afdx-campaign examples/base.toml "$work"/many*.list \
+        --out "$work/many" -S "$ssh one" -S "$quick two"
     tell 'a machine that dies midway takes none either' "$(
         is_status 0
         all_ran "$count"
-        if [[ $(on_machine two) -eq 0 ]]; then echo 'it did nothing before'; fi
-        if [[ $(on_machine one) -le $((count / 2)) ]]; then echo 'the other did too little'; fi
+        wants_text "$(on_machine two) $(on_machine one)" "1 $((count - 1))" 'runs on two and one'
     )"
     wait
     launch tools/afdx-campaign examples/base.toml "$work"/many*.list --out "$work/many" \

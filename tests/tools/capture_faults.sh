@@ -146,7 +146,7 @@ progress_tests() { # a list that comes slowly: two seconds after its first half 
         >"$work/out" 2>&1 </dev/null
     wait $!
     tell 'progress on a terminal' "$(
-        says out '2,000 lines'
+        says out ',000 lines' # the 2,000th, and on a busy machine an earlier one
         says out '3000 frames written'
     )"
     launch tools/afdx-capture pcap "$work/two.list" "$work/two.pcap"

@@ -23,7 +23,7 @@ offered_by_bash() { # LINE
 offered_by_zsh() { # LINE
     mkdir -p "$work/zsh"
     cp tools/afdx.zsh "$work/zsh/_afdx"
-    timeout 600 zsh -f tests/tools/zsh_offers.zsh "$work/zsh" "$1"
+    timeout 3600 zsh -f tests/tools/zsh_offers.zsh "$work/zsh" "$1"
 }
 
 # shellcheck disable=SC2016  # fish expands it
@@ -186,7 +186,7 @@ typed_tests() { # SHELL
     mkdir -p "$folder"
     touch "$folder"/{'my net.toml',one:two.toml,three=four.toml,five.list}
     echo 'name = "adc"' >"$folder/my net.toml"
-    launch timeout 1200 tests/tools/typed_tabs.py "$1" "$folder" 'afdx check my\ n' \
+    launch timeout 3600 tests/tools/typed_tabs.py "$1" "$folder" 'afdx check my\ n' \
         'afdx check "my n' "afdx check 'my n" 'afdx send my\ net.toml a' 'afdx check ~/own' \
         'afdx replay ~/own.toml f' "afdx check one:$one" "afdx check three=$three" \
         'afdx replay --interface 0=A:1 --fcs n' 'afdx check --explain=al' \

@@ -85,7 +85,7 @@ early_tests() {
     "$python" -c 'import sys
 for number in range(20_000):
     print(f"F {1000 * number} A 1 {sys.argv[1]}")' "$(frame_of A 0)" >"$work/early.list"
-    launch timeout 600 tools/afdx-report examples/base.toml "$work/early.list" \
+    launch timeout 3600 tools/afdx-report examples/base.toml "$work/early.list" \
         --out "$work/early.many"
     tell 'more of them than a pipe holds' "$(
         is_status 0

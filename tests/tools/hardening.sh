@@ -84,7 +84,7 @@ file_tests() {
     mkfifo "$work/fifo.list" "$work/fifo.toml"
     cat examples/one_link.list >"$work/fifo.list" &
     cat examples/base.toml >"$work/fifo.toml" &
-    launch timeout 600 tools/afdx-report "$work/fifo.toml" "$work/fifo.list" --json
+    launch timeout 3600 tools/afdx-report "$work/fifo.toml" "$work/fifo.list" --json
     wait
     tell 'configuration and list from FIFOs' "$(
         is_status 0

@@ -60,7 +60,7 @@ for shell in bash zsh fish; do
         skip "hostile files in $shell" "there is no $shell (apt-get install $shell)"
         continue
     fi
-    launch timeout 1200 tests/tools/typed_tabs.py "$shell" "$hostile" "${lines[@]}"
+    launch timeout 3600 tests/tools/typed_tabs.py "$shell" "$hostile" "${lines[@]}"
     tell "$shell runs nothing that stands in a file or its name, and offers names alone" "$(
         is_status 0
         same "$work/wanted.typed" "$work/out"

@@ -16,21 +16,38 @@ milliseconds_of() { # WORD.. : the processor's time that a command takes
     tr -d . <"$work/time" | sed 's/^0*\(.\)/\1/'
 }
 
+least_of() { # MILLISECONDS COMMAND.. : that, or the processor's time of the command if it is less
+    local now
+    now=$(milliseconds_of "${@:2}")
+    echo $((now < $1 ? now : $1))
+}
+
 # What is wrong if a command's time grows faster than its table. FOLDER/1, FOLDER/2 and FOLDER/4
 # have one of a length, and of twice and of four times that. Of some tries the least time counts,
-# and 300 ms are left to chance: what grows as the square takes seconds more at these lengths.
+# and 300 ms of a usual machine are left to chance: what grows as the square takes seconds more
+# there at these lengths.
 grows() { # FOLDER COMMAND..
-    local tries part now least=([1]=999999 [2]=999999 [4]=999999)
-    for tries in {1..5}; do
+    local tries part least=([1]=999999 [2]=999999 [4]=999999)
+    for tries in {1..9}; do
         for part in 1 2 4; do
-            now=$(milliseconds_of env -C "$1/$part" "${@:2}")
-            if [[ $now -lt ${least[part]} ]]; then least[part]=$now; fi
+            least[part]=$(least_of "${least[part]}" env -C "$1/$part" "${@:2}")
         done
-        if [[ $((least[4] - least[2])) -le $((3 * (least[2] - least[1]) + 300)) ]]; then
+        if [[ $((least[4] - least[2])) -le $((3 * (least[2] - least[1]) + 300 * slowness)) ]]; then
             return
         fi
     done
     echo "${least[1]}, ${least[2]} and ${least[4]} ms, after $tries tries"
+}
+
+# What is wrong if a command takes more than twice as long in a folder as in another one.
+twice() { # FOLDER OTHER COMMAND..
+    local tries one=999999 other=999999
+    for tries in {1..9}; do
+        one=$(least_of "$one" env -C "$1" "${@:3}")
+        other=$(least_of "$other" env -C "$2" "${@:3}")
+        if [[ $one -le $((2 * other)) ]]; then return; fi
+    done
+    echo "$one ms, and $other, after $tries tries"
 }
 
 write_sizes() { # KIND ROWS : so many, twice and four times as many
@@ -53,17 +70,14 @@ at most
 }
 
 message_growth_tests() {
-    local icd=("$top/tools/afdx-icd" systems.csv messages.csv made.toml) odd even
+    local icd=("$top/tools/afdx-icd" systems.csv messages.csv made.toml)
     write_sizes odd 2400
     write_sizes unsent 2400
     tell '9,600 messages of odd periods on a link' "$(grows "$large/odd" "${icd[@]}")"
     tell '9,600 rows of a message without receivers' "$(grows "$large/unsent" "${icd[@]}")"
     write_large even 9600 "$large/even"
-    odd=$(milliseconds_of env -C "$large/odd/4" "${icd[@]}")
-    even=$(milliseconds_of env -C "$large/even" "${icd[@]}")
-    tell 'odd periods take as long as even ones' "$(
-        if [[ $odd -gt $((2 * even)) ]]; then echo "$odd ms, and $even"; fi
-    )" "$odd and $even ms"
+    tell 'odd periods take as long as even ones' \
+        "$(twice "$large/odd/4" "$large/even" "${icd[@]}")"
 }
 
 tap_growth_tests() {

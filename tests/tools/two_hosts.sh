@@ -41,8 +41,17 @@ PidFile none
 END_OF_FILE
 }
 
-machine() { # FOLDER HIDDEN NAME NUMBER
-    local space=$3.$$ line=$3.$$ net=10.$((64 + $$ % 128)).$4 address
+free_net() { # the begin of addresses that no interface has
+    local number
+    for number in {0..127}; do
+        number=$((64 + ($$ + number) % 128))
+        if [[ -z $(ip -4 addr show to "10.$number.0.0/16") ]]; then break; fi
+    done
+    echo "10.$number"
+}
+
+machine() { # FOLDER HIDDEN NAME NUMBER NET
+    local space=$3.$$ line=$3.$$ net=$5.$4 address
     address=$net.2
     ip netns add "$space"
     echo "$space" >>"$1/spaces"
@@ -65,7 +74,7 @@ machine() { # FOLDER HIDDEN NAME NUMBER
 }
 
 up() { # FOLDER HIDDEN
-    local tries
+    local tries net
     if [[ $(id -u) -ne 0 ]]; then lacking 'only root may make network namespaces'; fi
     for tool in ip ssh ssh-keygen unshare /usr/sbin/sshd; do
         command -v "$tool" >/dev/null || lacking "there is no $tool"
@@ -75,8 +84,9 @@ up() { # FOLDER HIDDEN
     mkdir -p "$1"
     chmod 700 "$1"
     keys "$1"
-    machine "$1" "$2" one 1
-    machine "$1" "$2" two 2
+    net=$(free_net)
+    machine "$1" "$2" one 1 "$net"
+    machine "$1" "$2" two 2 "$net"
     printf 'Host refusing\n HostName 127.0.0.1\n Port 9\n' >>"$1/config"
     cat >>"$1/config" <<END_OF_FILE
 Host *

@@ -22,7 +22,7 @@ from typing import NamedTuple
 
 QUIET = 0.3  # seconds after which a shell that rests has written all
 LOOK = 0.02  # seconds between two looks
-LONGEST = 120.0  # seconds that it may take
+LONGEST = 300.0  # seconds that it may take
 TOOLS = os.path.join(os.path.dirname(os.path.abspath(__file__)), "..", "..", "tools")
 SCRIPT = '#!/bin/sh\nprintf "%s\\0" "$@" >"$NOTED.new"\nmv "$NOTED.new" "$NOTED"\n'
 SHELLS = {
@@ -67,18 +67,21 @@ def start(shell: str, folder: str, home: str) -> Typed:
 
 
 def type_in(typed: Typed, text: str) -> None:
-    """Types a text and waits till the shell is quiet."""
+    """Types a text, of which the shell shows at least what was typed, and waits till it is
+    quiet."""
     os.write(typed.terminal, os.fsencode(text))
     wait(typed)
 
 
 def wait(typed: Typed) -> None:
-    """Reads until nothing more comes from a shell that waits for something to be typed."""
-    end, since = time.monotonic() + LONGEST, time.monotonic()
-    while (now := time.monotonic()) < end and now - since < QUIET:
+    """Reads until something has come from the shell, and then nothing more does while it waits for
+    something to be typed."""
+    end, has_come = time.monotonic() + LONGEST, False
+    since = time.monotonic()
+    while (now := time.monotonic()) < end and not (has_come and now - since >= QUIET):
         if select.select([typed.terminal], [], [], LOOK)[0]:
             os.read(typed.terminal, 65_536)
-            since = time.monotonic()
+            since, has_come = time.monotonic(), True
         elif not rests(typed.child):
             since = time.monotonic()
 
