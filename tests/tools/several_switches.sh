@@ -229,8 +229,12 @@ if [[ -x $program ]]; then
     filled_tests
     several_taps_tests
     several_traffic_tests
-    pcap_faults_tests
-    if "$python" -c 'import dpkt' 2>"$work/said" && has tshark; then
+    if [[ -n $dpkt ]]; then
+        pcap_faults_tests
+    else
+        skip 'lists of several switches as recordings' 'there is no package dpkt'
+    fi
+    if [[ -n $dpkt ]] && has tshark; then
         annotated_tests
         recorded_several_tests
     else
