@@ -78,9 +78,10 @@ shown_tests() {
         has_text "$named/report2/links.csv" '20,<b>\x1b[31m=1+1,'
     )"
     launch tools/afdx-report --conform "$named/net.toml" "$named/traffic/FCC1.list" /dev/null \
-        --out "$named/judged"
+        --out "$named/judged" --junit "$named/judged.xml"
     tell 'so does a report on a recorded switch' "$(
         has_text "$named/judged/streams.csv" '20,attitude,FCC_1,3,disp,A'
+        has_text "$named/judged.xml" 'of link 20 (attitude) at port 3 of A had to leave'
     )"
 }
 

@@ -214,7 +214,8 @@ def suite(name: str, report: Row) -> xml.Element:
         xml.SubElement(case, "skipped", message="there is no verdict")
     elif report["status"]:
         found.set("failures", "1")
-        xml.SubElement(case, "failure", message=report["verdict"])
+        failure = xml.SubElement(case, "failure", message=report["verdict"])
+        failure.text = "\n".join(shown(group["words"]) for group in report["groups"]) or None
     return found
 
 
