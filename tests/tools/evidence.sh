@@ -171,31 +171,73 @@ END_OF_FILE
     tell 'a cover that is not there' "$(is_status 4; one_line; says err nowhere.toml)"
 }
 
-large_test() { # on paper the largest network is some sheets
+words_on() { # WORDS [SHEET] : how often they stand on paper, of all sheets or of one
+    pdftotext ${2:+-f "$2" -l "$2"} -layout "$proof/large.pdf" - | grep -o -- "$1" | wc -l
+}
+
+sheet_of() { # WORDS : the first sheet that has them
+    local sheet
+    for ((sheet = 1; sheet <= sheets; sheet++)); do
+        if [[ $(words_on "$1" "$sheet") -gt 0 ]]; then break; fi
+    done
+    echo "$sheet"
+}
+
+least_type() { # thirds of a point
+    pdftohtml -xml -i -zoom 3 -stdout "$proof/large.pdf" |
+        sed -n 's/.*<fontspec [^>]*size="\([0-9]*\)".*/\1/p' | sort -n | head -n 1
+}
+
+paper_tests() {
+    local sheets wrong
+    sheets=$(pdfinfo "$proof/large.pdf" | awk '/^Pages/ {print $2}')
+    tell 'it is at most 20 sheets' "$(
+        if [[ ! $sheets -gt 5 || $sheets -gt 20 ]]; then echo "$sheets sheets"; fi
+        for words in 'wrong-port' 'came in at port' 'What made this report' 'on paper' \
+            "sheet $sheets of $sheets" 'the rest is in links.csv, latency.csv, frames.csv' \
+            "Configuration $(sha256sum "$proof/large.toml" | cut -c 1-12), List "; do
+            if [[ $(words_on "$words") -eq 0 ]]; then echo "no '$words'"; fi
+        done
+    )" "$sheets sheets"
+    tell 'its type is of 7 pt or more' "$(
+        if [[ ! $(least_type) -ge 21 ]]; then echo "$(least_type) thirds of a point"; fi
+    )"
+    wrong=$(cat "$proof/large/dropped.csv" <(head -n 501 "$proof/large/troubles.csv") |
+        grep -c ',wrong-port,')
+    tell 'all that is wrong stands there' "$(
+        if [[ $(words_on wrong-port) -lt $wrong ]]; then
+            echo "wrong-port stands there $(words_on wrong-port) times, not $wrong"
+        fi
+        awk -F , 'NR > 1 && $13 > 0 {print $1}' "$proof/large/sides.csv" >"$work/alone"
+        pdftotext -layout "$proof/large.pdf" "$work/page.txt"
+        while read -r number; do
+            if ! grep -qE "! $number +[AB] " "$work/page.txt"; then echo "no link $number"; fi
+        done <"$work/alone"
+        if [[ $(wc -l <"$work/alone") -lt 70 ]]; then echo 'no frame came on one side alone'; fi
+    )" "$wrong frames at wrong ports"
+    tell 'no sheet ends in a small table' "$(
+        for words in 'Senders: by how much' 'Ports: load'; do
+            sheet=$(sheet_of "$words")
+            if [[ $(words_on '\bs1[0-6]\b' "$sheet") -lt 7 ]]; then echo "$words"; fi
+        done
+    )"
+}
+
+large_test() { # the largest network, on a page and on paper
     "$python" tests/tools/large_network.py "$proof/large.toml" "$proof/large.list"
     launch tools/afdx-report --no-admission "$proof/large.toml" "$proof/large.list" \
         --out "$proof/large" --rows 4096 --worst 10000
     tell 'a report on 4,096 links' "$(
         is_status 0
         wants_number "$proof/large/report.json" 'r["totals"]["unequal"]' 70
-        if ! grep -qF '; on paper 20 of them, the CSV file has all' \
-            "$proof/large/report.html"; then
-            echo 'it does not say that the rest is in the CSV file'
-        fi
-    )"
-    launch timeout 1200 chromium --headless --no-sandbox --disable-gpu --no-pdf-header-footer \
-        --print-to-pdf="$proof/large.pdf" "file://$proof/large/report.html"
-    local sheets
-    sheets=$(pdfinfo "$proof/large.pdf" | awk '/^Pages/ {print $2}')
-    tell 'it is at most 40 sheets' "$(
-        if [[ ! $sheets -gt 10 || $sheets -gt 40 ]]; then echo "$sheets sheets"; fi
-        pdftotext -layout "$proof/large.pdf" "$work/page.txt"
-        for words in 'wrong-port' 'came in at port' 'What made this report' 'on paper' \
-            "sheet $sheets of $sheets" \
-            "Configuration $(sha256sum "$proof/large.toml" | cut -c 1-12), List "; do
-            if ! grep -qF "$words" "$work/page.txt"; then echo "no '$words'"; fi
+        for words in '; on paper 20 of them, links.csv has all' \
+            'the rest is in links.csv, latency.csv, frames.csv, sides.csv, skews.csv.'; do
+            if ! grep -qF "$words" "$proof/large/report.html"; then echo "no '$words'"; fi
         done
-    )" "$sheets sheets"
+    )"
+    launch timeout 3600 chromium --headless --no-sandbox --disable-gpu --no-pdf-header-footer \
+        --print-to-pdf="$proof/large.pdf" "file://$proof/large/report.html"
+    paper_tests
 }
 
 mkdir -p "$proof"

@@ -40,7 +40,7 @@ paper_test() {
     tell 'on paper all rows stand, and all columns' "$(
         for name in links latency sides ports; do
             last=$(tail -n 1 "$work/timelines/$name.csv" | cut -d , -f 1)
-            if ! grep -qE "^ *$last " "$work/page.txt"; then echo "no row $last of $name"; fi
+            if ! grep -qE "(^|  ) *$last " "$work/page.txt"; then echo "no row $last of $name"; fi
         done
         for words in 'share +late$' 'table jitter|jitter +ns$' 'bound +buffer$' 'of configured$'; do
             if ! grep -qE "$words" "$work/page.txt"; then echo "no '$words'"; fi

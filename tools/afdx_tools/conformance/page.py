@@ -8,7 +8,8 @@ from afdx_tools.conformance.numbers import account_words, no_verdict
 from afdx_tools.report import figures
 from afdx_tools.report.findings import left_words
 from afdx_tools.report.head import badge
-from afdx_tools.report.parts import paper_rows, section, table, table_section
+from afdx_tools.report.paper import cut_words, on_paper
+from afdx_tools.report.parts import section, table, table_section
 from afdx_tools.report.ranking import FEWEST
 from afdx_tools.report.whole import (
     FIND,
@@ -92,13 +93,16 @@ def picture(report: Row, most: int) -> str:
 
 def tables(report: Row) -> str:
     """All tables, and the field that finds rows in them."""
-    shown = {name: head for name, head in TABLES.items() if name in report}
-    paper = paper_rows({name: report[name] for name in shown})
+    shown = {name: report[name] for name in TABLES if name in report}
+    papers = on_paper(shown)
     sections = [
-        table_section(name, head, table(report[name], head, paper[name]))
-        for name, head in shown.items()
-    ]
-    return FIND + "".join(sections)
+        table_section(
+            name, TABLES[name], table(rows, TABLES[name], papers[name].places, file=f"{name}.csv"),
+            papers[name].styles,
+        )
+        for name, rows in shown.items()
+    ]  # fmt: skip
+    return FIND + cut_words(shown, papers) + "".join(sections)
 
 
 def words_of(report: Row) -> str:

@@ -106,7 +106,7 @@ def words_section(report: Row) -> str:
     head = "".join(f'<th scope="col" class="{kind}">{name}</th>' for name, kind in kinds.items())
     caption = "<caption>The words for what isn't there, on a frame's way</caption>"
     return (
-        '<section id="words" class="table"><div class="box" tabindex="0" role="region" '
+        '<section id="words"><div class="box" tabindex="0" role="region" '
         f'aria-label="The words for what is absent"><table>{caption}<thead><tr>{head}</tr></thead>'
         f'<tbody>{"".join(rows)}</tbody></table></div></section>'
     )

@@ -24,7 +24,7 @@ from afdx_tools.version import NUMBER
 
 TAP = "--interface="
 LONGEST_ROW = 1_000  # characters of a row on the page; report.json has all
-FOOT = "font: 7px system-ui, sans-serif; color: #444a52;"
+FOOT = "font: 7pt system-ui, sans-serif; color: #444a52;"
 
 
 def digest(path: str) -> str:
@@ -129,7 +129,7 @@ def made_table(run: Row) -> str:
 
 def made_section(run: Row) -> str:
     """The table in a section of its own."""
-    return f"<section>{made_table(run)}</section>"
+    return f'<section class="wide small">{made_table(run)}</section>'
 
 
 def sheet_style(run: Row) -> str:

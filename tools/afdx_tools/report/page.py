@@ -12,7 +12,8 @@ from afdx_tools.report.compare import words_of
 from afdx_tools.report.findings import left_words
 from afdx_tools.report.head import answer, cards, words_section
 from afdx_tools.report.lanes import lanes
-from afdx_tools.report.parts import paper_rows, section, table, table_section
+from afdx_tools.report.paper import cut_words, file_of, on_paper
+from afdx_tools.report.parts import section, table, table_section
 from afdx_tools.report.ranking import FEWEST, latencies_of
 from afdx_tools.report.several import hops_section, network_section
 from afdx_tools.report.where import Where
@@ -61,8 +62,8 @@ def track_sections(counting: Counting, args: argparse.Namespace) -> str:
     parts: list[str] = []
     for vl in dict.fromkeys(args.link or ([] if first is None else [first])):
         part = track_section(counting, vl, wrong, args.begin or 0)
-        on_paper = len(parts) < TRACKS_ON_PAPER
-        parts.append(part if on_paper else f'<div class="screen">{part}</div>')
+        is_on_paper = len(parts) < TRACKS_ON_PAPER
+        parts.append(part if is_on_paper else f'<div class="screen">{part}</div>')
     return "".join(parts)
 
 
@@ -167,15 +168,19 @@ def table_sections(report: Row, where: Where) -> str:
     first = f" (the first {TROUBLES_SHOWN:,}; the CSV file has {len(troubles):,})"
     cut = first if len(troubles) > TROUBLES_SHOWN else ""
     tables["troubles"] = TROUBLES + cut, troubles[:TROUBLES_SHOWN]
-    paper = paper_rows({name: rows for name, (_, rows) in tables.items()})
+    shown = {name: rows for name, (_, rows) in tables.items()}
+    papers = on_paper(shown)
     sections = {
-        name: table_section(name, head, table(rows, head, paper[name], where))
+        name: table_section(
+            name, head, table(rows, head, papers[name].places, where, file_of(name)),
+            papers[name].styles,
+        )
         for name, (head, rows) in tables.items()
-    }
+    }  # fmt: skip
     words = " ".join(words_of(report["compared"])) if both else ""
     first = section("other", "Compared with another run", words, "") if both else ""
     first += "".join(sections.pop(name) for name in both)
-    return first + FIND + "".join(sections.values())
+    return first + FIND + cut_words(shown, papers) + "".join(sections.values())
 
 
 def links_to(report: Row) -> str:

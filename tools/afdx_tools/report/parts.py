@@ -9,8 +9,6 @@ from afdx_tools.tables import Row, cell, heads
 
 MOST_ROWS = 10_000  # of a table on a page
 LONG = 60  # rows that don't find room in a box
-ON_PAPER = 800  # rows of all tables together: some 25 sheets
-MOST_BAD, LEAST_TOP = 50, 20  # of a table on paper: rows that aren't as they should be; the nearest
 # what isn't counted, and so has no commas
 PLAIN = ("link", "port", "number", "line", "first_number", "came_in", "own_port", "interface")
 PLACES = ("came_in",)  # ports that the search field finds
@@ -45,7 +43,7 @@ def is_over(row: Row) -> bool:
     return over or bool(wrong) or ("latency_ns" in row and row["share"] > 1)
 
 
-# ---- which rows, and which of them on paper ------------------------------------------------------
+# ---- which rows ----------------------------------------------------------------------------------
 
 
 def most_shown(rows: Sequence[Row]) -> Sequence[Row]:
@@ -61,30 +59,19 @@ def share_of(row: Row) -> float:
     return float(row.get("share") or 0)
 
 
-def needed(rows: Sequence[Row]) -> set[int]:
-    """The places of the rows that stand on paper in any case: those that aren't as they should be
-    or are about frames that were dropped and the like, and the nearest to their latency, or the
-    first ones."""
-    bad = [n for n, row in enumerate(rows) if is_over(row) or "reason" in row or "what" in row]
-    top = sorted(range(len(rows)), key=lambda n: (-share_of(rows[n]), n))[:LEAST_TOP]
-    return {*sorted(bad, key=lambda n: -share_of(rows[n]))[:MOST_BAD], *top}
-
-
-def paper_rows(tables: dict[str, Sequence[Row]]) -> dict[str, Collection[int]]:
-    """Of each table the places of the rows that stand on paper: in any case some, and all of those
-    tables for which there is room, the shortest first."""
-    shown = {name: most_shown(rows) for name, rows in tables.items()}
-    chosen: dict[str, Collection[int]] = {name: needed(rows) for name, rows in shown.items()}
-    room = ON_PAPER - sum(map(len, chosen.values()))
-    for name in sorted(shown, key=lambda name: len(shown[name])):
-        more = len(shown[name]) - len(chosen[name])
-        if more <= room:
-            room -= more
-            chosen[name] = range(len(shown[name]))
-    return chosen
-
-
 # ---- tables --------------------------------------------------------------------------------------
+
+
+def words_in(name: str, value: object) -> str:
+    """A value of a column as it stands on the page."""
+    if isinstance(value, int) and not is_plain(name):
+        return f"{value:,}"
+    return cell(value)
+
+
+def heads_of(name: str) -> str:
+    """What stands above a column."""
+    return name.replace("_", " ")
 
 
 def body_row(row: Row, kinds: Sequence[str], styles: str, titles: dict[str, str]) -> str:
@@ -92,7 +79,7 @@ def body_row(row: Row, kinds: Sequence[str], styles: str, titles: dict[str, str]
     parts = [f'<tr class="{styles}">' if styles else "<tr>"]
     late = '<b class="late-row">LATE</b> ' if row.get("late") else ""
     for number, ((name, value), kind) in enumerate(zip(row.items(), kinds)):
-        shown = f"{value:,}" if isinstance(value, int) and not is_plain(name) else cell(value)
+        shown = words_in(name, value)
         styled = f' class="{kind}"' if kind else ""
         styled += f' title="{escape(titles[name])}"' if titles.get(name) else ""
         if number == 0:
@@ -109,14 +96,14 @@ def titles_of(row: Row, where: Where | None) -> dict[str, str]:
     return {name: where.in_words(place) for name, place in named_in(row, where.is_pair)}
 
 
-def caption_of(all_rows: Sequence[Row], shown: int, paper: int, head: str) -> str:
+def caption_of(all_rows: Sequence[Row], shown: int, paper: int, head: str, file: str) -> str:
     """What a table is, how many of its rows stand there, and how many on paper."""
     count = f"{len(all_rows):,} rows" if len(all_rows) != 1 else "1 row"
     if shown < len(all_rows):
-        count = f"the {shown:,} with the greatest share of {count}; the CSV file has all"
+        count = f"the {shown:,} with the greatest share of {count}; {file} has all"
     words = f"{escape(head)}: {count}"
     if paper < shown:
-        words += f'<span class="on-paper">; on paper {paper:,} of them, the CSV file has all</span>'
+        words += f'<span class="on-paper">; on paper {paper:,} of them, {file} has all</span>'
     return f"<caption>{words}</caption>"
 
 
@@ -125,16 +112,17 @@ def table(
     head: str,
     paper: Collection[int] | None = None,
     where: Where | None = None,
+    file: str = "the CSV file",
 ) -> str:
-    """Rows as a table; on paper those at these places alone."""
+    """Rows as a table; on paper those at these places alone. `file` has all of them."""
     rows = most_shown(all_rows)
     on_paper = range(len(rows)) if paper is None else paper
-    caption = caption_of(all_rows, len(rows), len(on_paper), head)
+    caption = caption_of(all_rows, len(rows), len(on_paper), head, file)
     if not rows:
         return f"<table>{caption}<tbody><tr><td>none</td></tr></tbody></table>"
     kinds = [kind_of(name, rows) for name in heads(rows)]
     names = "".join(
-        f'<th scope="col"{f" class={kind!r}" if kind else ""}>{escape(name.replace("_", " "))}</th>'
+        f'<th scope="col"{f" class={kind!r}" if kind else ""}>{escape(heads_of(name))}</th>'
         for name, kind in zip(heads(rows), kinds)
     )
     parts = []
@@ -157,10 +145,11 @@ def section(name: str, title: str, words: str, body: str) -> str:
     )
 
 
-def table_section(name: str, head: str, body: str) -> str:
-    """A table, in a box that rolls on a screen and is whole on paper."""
+def table_section(name: str, head: str, body: str, styles: str) -> str:
+    """A table, in a box that rolls on a screen and is whole on paper, where it has these classes,
+    too."""
     box = "box long" if body.count("<tr") > LONG else "box"
     return (
-        f'<section id="{name}" class="table"><div class="{box}" tabindex="0" role="region" '
-        f'aria-label="{escape(head)}">{body}</div></section>'
+        f'<section id="{name}" class="{f"wide {styles}".strip()}"><div class="{box}" '
+        f'tabindex="0" role="region" aria-label="{escape(head)}">{body}</div></section>'
     )

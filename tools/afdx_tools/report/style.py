@@ -111,26 +111,37 @@ svg.map { max-width: var(--most); min-width: var(--least); }
 .wrong { stroke: var(--bad); stroke-width: 5; stroke-dasharray: 7 3; }
 footer { color: var(--muted); margin-top: 20px; font-size: 13px; }
 footer code { font-size: 12px; overflow-wrap: anywhere; }
-@page { size: A4 portrait; margin: 12mm; }
-@page wide { size: A4 landscape; margin: 10mm; }
+@page { size: A4 portrait; margin: 9mm 8mm 12mm; }
+@page wide { size: A4 landscape; margin: 8mm 8mm 12mm; }
 @media print {
   :root { --ground: #ffffff; --sheet: #ffffff; --ink: #000000; --muted: #444a52; --rule: #dddddd;
     --grid: #dddddd; --axis: #666c72; --replayed: #5f90bf; --median: #174a7c; --bound: #000000;
     --configured: #a3690f; --good: #2c7a51; --bad: #b3362f; --second: #b07a2c;
     --load-1: #7fa8cf; --load-2: #3f79b0; --load-3: #2c8c7e; --load-4: #b08a1c; --load-5: #c9601d;
     --load-6: #a3201b; --tree: #f1e3b4; color-scheme: light; }
-  body { font-size: 11px; } main { max-width: none; padding: 0; }
-  section { overflow: visible; padding: 8px 0; border-width: 1px 0 0; border-radius: 0; }
-  svg, svg.map { min-width: 0; break-inside: avoid; } svg.map { max-height: 235mm; }
+  body { font-size: 8pt; line-height: 1.3; } main { max-width: none; padding: 0; }
+  h1 { font-size: 14pt; } h2, caption { font-size: 9pt; } p { margin: 0 0 3pt; }
+  section { overflow: visible; padding: 4pt 0 0; margin-top: 5pt; border-width: 1px 0 0;
+    border-radius: 0; }
+  svg, svg.map { min-width: 0; margin-top: 2pt; break-inside: avoid; }
+  svg.map { max-height: 235mm; }
+  svg text, svg text.small, svg text.lane-name { font-size: 12.8px; }
   h2, section > p, caption { break-after: avoid; }
-  section > p, .findings li, .card { break-inside: avoid; }
+  section > p, .findings li, .card, .small { break-inside: avoid; }
   nav, .find, .screen { display: none; } .on-paper { display: inline; }
+  p.on-paper { display: block; margin-top: 5pt; }
   #cover { break-after: page; } .box { max-height: none; overflow: visible; }
-  .cards { grid-template-columns: repeat(6, 1fr); gap: 5px; } .card { padding: 3px 8px; }
-  .table { page: wide; } #words { page: auto; }
-  table { font-size: 8.6px; } th, td { padding: 1px 5px 1px 0; }
+  .cards { grid-template-columns: repeat(6, 1fr); gap: 3pt; margin: 6pt 0 0; }
+  .card { padding: 2pt 5pt; } .card dd { font-size: 11pt; } .card dt { font-size: 7pt; }
+  .wide { page: wide; } .columns-2 .box { columns: 2; } .columns-3 .box { columns: 3; }
+  .box { column-gap: 16px; } .columns-2:not(.small), .columns-3:not(.small) { break-before: page; }
+  table, #made, #cover #made, footer, footer code { font-size: 7pt; line-height: 1.2; }
+  table { font-family: "Liberation Sans", Arial, Helvetica, "DejaVu Sans Condensed", sans-serif; }
+  #cover table { font-size: 9pt; } .long { content-visibility: visible; }
+  th, td { padding: 0 5px 0 0; } td.words { min-width: 9em; } .broken td { white-space: normal; }
+  tbody th { white-space: nowrap; } tr.over td { font-weight: 400; }
   thead th { position: static; box-shadow: none; border-bottom: 1px solid var(--axis); }
-  tr { break-inside: avoid; } tr[hidden] { display: table-row; } }
+  tr { break-inside: avoid; } tr[hidden]:not(.screen) { display: table-row; } }
 """
 
 # Shows of all tables the rows that have each word: a number as the row's head or another name, a

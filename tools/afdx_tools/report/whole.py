@@ -73,6 +73,6 @@ def whole_page(
         f"<header><h1>{escape(title)}</h1><p>{escape(words)}</p></header>",
         *parts,
         "" if cover else made_section(run),
-        f"<footer>{foot}</footer>",
+        f"<footer class='wide small'>{foot}</footer>",
         f"</main><script>{SCRIPT}</script></body></html>\n",
     ])  # fmt: skip
