@@ -114,12 +114,16 @@ def many_begun(judge: Judge) -> None:
     answers(judge.answer(pair), 0, last, b"")
 
 
+def distinct_frames(first: int, count: int) -> list[str]:
+    """The digits of so many frames of link 1, no two of the same bytes, numbered from the first."""
+    system = made.base_tables()["system"][0]
+    payloads = (place.to_bytes(4, "big") for place in range(first, first + count))
+    return [frame_of(system, 1, 1000, payload, 0, "A").hex() for payload in payloads]
+
+
 def distinct_list(port: int, time: int, first: int, count: int) -> bytes:
-    """So many frames of link 1 at this time, no two of the same bytes, numbered from the first."""
-    system, lines = made.base_tables()["system"][0], []
-    for place in range(first, first + count):
-        frame = frame_of(system, 1, 1000, place.to_bytes(4, "big"), 0, "A")
-        lines.append(f"R {time} A {port} {frame.hex()}\n")
+    """They at this time."""
+    lines = (f"R {time} A {port} {frame}\n" for frame in distinct_frames(first, count))
     return "".join(lines).encode()
 
 
@@ -130,6 +134,44 @@ def strangers(judge: Judge, count: int) -> None:
     told = b"".join(b"strange %d A 3 no-arrival\n" % n for n in range(1, count + 1))
     last = b"deviates %d explained 0 open 1 uncertain 0 left-out 0 unseen 0 idle 3\n" % count
     answers(found, 5, told + last, b"")
+
+
+def turned_round(judge: Judge, count: int, span: int) -> None:
+    """So many frames come at one moment, and leave in the other order, within so many ns."""
+    came, lines = distinct_list(1, 0, 0, count), []
+    for place, frame in enumerate(reversed(distinct_frames(0, count))):
+        lines.append(f"R {6_720 + span * place // count} A 3 {frame}\n")
+    found = judge.answer(Pair(CONFIGS["base"], came, "".join(lines).encode(), ()))
+    told = b"stopped 1 A 3\n"
+    told += b"".join(b"passed %d A 3 over-rate\n" % n for n in range(count, 1, -1))
+    told += b"strange %d A 3 out-of-turn\n" % count
+    last = b"deviates %d explained 0 open 0 uncertain 0 left-out 0 unseen 0 idle 3\n" % (count + 1)
+    answers(found, 5, told + last, b"")
+
+
+def forms_of(place: int, chance: random.Random) -> list[bytes]:
+    """Lines, without time and port, of a frame of link 1: sealed, sealed wrongly, and with other
+    ends; of some the bytes are the same."""
+    system = made.base_tables()["system"][0]
+    frame = frame_of(system, 1, 1000, place.to_bytes(2, "big"), 0, "A")
+    front, seal = frame[:-4], frame[-4:]
+    ends = seal, bytes(255 - byte for byte in seal), chance.randbytes(4), b""
+    whole = [b"R %s" % (front + end).hex().encode() for end in ends]
+    return [b"F %s" % front.hex().encode(), b"B %s" % front.hex().encode(), *whole]
+
+
+def out_of_order(judge: Judge, seed: int) -> None:
+    """Some frames in several forms come and leave many times within two latencies, in any order."""
+    chance = random.Random(seed)
+    forms = [line for place in range(8) for line in forms_of(place, chance)]
+    lists = []
+    for port, latest, count in ((1, 20_000, 700), (3, 40_000, 300)):
+        times = sorted(chance.randrange(latest) for _ in range(count))
+        lines = [chance.choice(forms).split() for _ in times]
+        lists.append(b"".join(b"%s %d A %d %s\n" % (form, time, port, digits)
+                              for time, (form, digits) in zip(times, lines)))
+    words = ("--slack", str(chance.choice([0, 1, 1_000])))
+    same_as_computed(judge, Pair(CONFIGS["base"], lists[0], lists[1], words))
 
 
 def largest_tables(judge: Judge) -> None:
@@ -185,6 +227,11 @@ def hostile_lists(program: Program) -> Iterator[tuple]:
     yield "conform: nothing came", nothing_came, judge
     for times in (1, 2, 4):  # what is quadratic takes too long
         yield f"conform: {20_000 * times} strangers", strangers, judge, 20_000 * times
+        for span in (0, 10_000):
+            name = f"conform: {20_000 * times} turned round within {span} ns"
+            yield name, turned_round, judge, 20_000 * times, span
+    for seed in range(4):
+        yield f"conform: out of order, {seed}", out_of_order, judge, seed
     yield "conform: the largest tables", largest_tables, judge
     yield "conform: many have begun", many_begun, judge
     yield "conform: many states", many_states, judge

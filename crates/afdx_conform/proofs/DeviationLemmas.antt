@@ -1,6 +1,6 @@
 -- What the switch did with an arrival that leads to no state, by the tests of the code.
-use Rattle.std.proofs.Common.{◌≡◌, ℕ, ◌+◌, ◌-◌, ◌*◌, ◌<◌, ◌≤◌, Bool, true, false, ◌&&◌, List, map, drop, get_or, length, refl, sym, ap, ◌∙◌}
-use Rattle.std.proofs.lemmas.List.{drop_more, drop_all}
+use Rattle.std.proofs.Common.{◌≡◌, ℕ, ◌+◌, ◌-◌, ◌*◌, ◌<◌, Bool, true, false, ◌&&◌, List, map, drop, get_or, length, refl, sym, ap, ◌∙◌}
+use Rattle.std.proofs.lemmas.List.{drop_more}
 use Rattle.std.specs.Prelude.{if◌then◌else◌, nat_lt, nat_le, not, ◌||◌}
 use Rattle.std.specs.Int.{div_ceil}
 use Rattle.std.specs.List.{list_any}
@@ -140,7 +140,3 @@ any-arrived test xs i a b lt is e =
     ap (λ (l : List Arrived). list_any test (map arrival_of l)) (drop_more xs i a lt)
     ∙ ap (λ (v : Arrived). test (arrival_of v) || list_any test (map arrival_of (drop (i + 1) xs))) (sym is)
     ∙ ap (λ (c : Bool). c || list_any test (map arrival_of (drop (i + 1) xs))) e
-
-pub any-arrived-end : (test : Arrival → Bool) (xs : List Arrived) (i : ℕ) → length xs ≤ i
-    → list_any test (map arrival_of (drop i xs)) ≡ false
-any-arrived-end test xs i le = ap (λ (l : List Arrived). list_any test (map arrival_of l)) (drop_all i xs le)

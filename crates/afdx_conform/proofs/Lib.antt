@@ -73,3 +73,6 @@ pub mod OpenLemmas
 pub mod AloneLemmas
 pub mod CheckedLemmas
 pub mod BytesLemmas
+pub mod PlacesLemmas
+pub mod SearchLemmas
+pub mod GatherLemmas

@@ -1,10 +1,10 @@
 //! The bytes of a frame that is kept, whose check sequence isn't held.
 
-ghost use Rattle.std.specs.Prelude.{◌≡◌, ◌↔◌, IfOk, IsTrue, length};
+ghost use Rattle.std.specs.Prelude.{◌≡◌, ◌↔◌, IfOk, IsTrue, if◌then◌else◌, length};
 ghost use Rattle.std.specs.Str.{bytes_eq};
 ghost use Rattle.afdx_frame.specs.Parts.{bytes_of};
 ghost use Rattle.afdx_frame.specs.Sealing.{is_sealed, sealed_wrongly};
-ghost use Rattle.afdx_conform.specs.KnownBytes.{front_of};
+ghost use Rattle.afdx_conform.specs.KnownBytes.{are_wrong, front_of, key_of};
 
 use crate::spare::Spare;
 use afdx_frame::{Checked, Seal, fcs};
@@ -29,6 +29,20 @@ fn without_four(bytes: &[u8]) -> &[u8]
     ensures { result.now ≡ front_of bytes.now }
 {
     &bytes[..bytes.len().saturating_sub(4)]
+}
+
+/// These bytes, without the last four if those are the complement of the others' check sequence.
+#[cold]
+#[inline(never)]
+fn without_wrong(bytes: &[u8]) -> &[u8]
+    ensures { result.now ≡ (if are_wrong bytes.now then front_of bytes.now else bytes.now) }
+{
+    let front = without_four(bytes);
+    if is_sealed_wrongly(bytes, front) {
+        front
+    } else {
+        bytes
+    }
 }
 
 /// Whether two frames are sealed alike.
@@ -94,15 +108,15 @@ impl CheckedBytes {
         self.frame().length()
     }
 
-    /// All but the last four.
-    pub(crate) fn front(&self) -> &[u8]
-        ensures { result.now ≡ front_of self.now }
+    /// What they are found by: the message. Of bytes that are the same it is the same.
+    pub(crate) fn key(&self) -> &[u8]
+        ensures { result.now ≡ key_of self.now }
     {
         let message = self.message.as_slice();
         match self.seal {
             Seal::Right => message,
             Seal::Wrong => message,
-            Seal::Missing => without_four(message),
+            Seal::Missing => without_wrong(message),
         }
     }
 

@@ -97,8 +97,9 @@ fn last_after(arrived: &Arrived, last: u64) -> u64
 }
 
 impl Growth {
-    /// Before the first event: its states are those of all frames that may be of arrivals before
-    /// the start. Fails only out of memory; then nothing has changed.
+    /// Before an event: where the arrivals stand is known. Before the first one its states are those
+    /// of all frames that may be of arrivals before the start. Fails only out of memory; then nothing
+    /// has changed.
     fn start(&mut self, alloc: Global) -> Result<(), AllocError>
         requires sound { IsSound self.old }
         ensures sound { IsSound self.new }
@@ -107,6 +108,7 @@ impl Growth {
             self.old.judging.is_unsure ≡ false → OnOk result (IsReady z xs ys cut over self.new) }
         ensures same { IsSame self.old self.new }
     {
+        self.known.gather(self.arrivals.as_slice())?;
         if self.is_started {
             return Ok(());
         }

@@ -113,15 +113,16 @@ pub(crate) fn deviate(
         (λ h. IsWithin bounds.now.rates (length frames.now) (count + 1) h) out.held.items) }
     ensures length { length marks.new.items ≡ length marks.old.items }
 {
-    let behind = &arrivals[marks.len() + 1..];
+    let from = marks.len() + 1;
     let mut held = held;
     let at_first = held.as_slice();
     let mut front = front_of(at_first, frames.len());
     let mut found = Vec::new(alloc);
     while front < frames.len() {
         let frame = &frames[front];
-        let is_strange = known.is_other(&frame.bytes);
-        match deviation(&bounds.limits, arrived, behind, frame, is_strange) {
+        let sought = known.sought(arrivals, &frame.bytes)?;
+        let places = known.places(&frame.bytes, sought.as_slice());
+        match deviation(&bounds.limits, arrived, arrivals, from, places, frame) {
             Deviation::Stopped => {
                 let stopped = Finding::Stopped(arrived.number);
                 let states = held.as_slice();
@@ -151,7 +152,7 @@ pub(crate) fn deviate(
             }
             Deviation::Other => {}
         }
-        let finding = unexplained(&bounds.limits, arrivals, marks, 0, frame, is_strange);
+        let finding = unexplained(&bounds.limits, arrivals, marks, 0, places, frame);
         found.push(finding)?;
         let before = held.as_slice();
         let lead = lead_past(alloc, before, front, front + 1)?;

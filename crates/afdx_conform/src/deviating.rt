@@ -1,11 +1,11 @@
 //! What a switch did with an arrival that leaves no state.
 
-ghost use Rattle.std.specs.Prelude.{◌≡◌, ◌+◌, ◌-◌, IsTrue, map};
+ghost use Rattle.std.specs.Prelude.{◌≡◌, ◌+◌, ◌-◌, drop, map};
 ghost use Rattle.std.specs.List.{list_any};
 ghost use Rattle.std.specs.Str.{bytes_eq};
 ghost use Rattle.afdx_conform.specs.Findings.{is_far as far, is_late as late, is_early as early};
 ghost use Rattle.afdx_conform.specs.Findings.{deviation_of};
-ghost use Rattle.afdx_conform.specs.KnownBytes.{AreOthers};
+ghost use Rattle.afdx_conform.specs.KnownBytes.{StandAt};
 ghost use Rattle.afdx_conform.specs.Limits.{AreLimits, gone_of};
 ghost use Rattle.afdx_conform.specs.Marks.{arrival_of};
 ghost use Rattle.afdx_conform.specs.Streams.{Terms, fits as fits_it, is_no_sooner as no_sooner};
@@ -14,6 +14,7 @@ ghost use Rattle.afdx_conform.specs.Streams.{latency, wire_time};
 use crate::arrived::Arrived;
 use crate::finding::{Deviation, Finding};
 use crate::limits::{Frame, Limits};
+use crate::places::no_less;
 
 /// Whether the frame left so late that, at worst, it is of another arrival.
 fn is_far(limits: &Limits, arrived: &Arrived, frame: &Frame) -> bool
@@ -61,31 +62,30 @@ fn is_early(limits: &Limits, arrived: &Arrived, frame: &Frame) -> bool
     !is_no_sooner(limits, arrived, frame)
 }
 
-/// Whether the frame fits one of these arrivals, by each of them.
-fn fits_among(limits: &Limits, arrivals: &[Arrived], frame: &Frame) -> bool
+/// Whether the frame fits one of the arrivals from `from` on. All of these that have its bytes
+/// stand at `places`.
+fn fits_one(
+    limits: &Limits,
+    arrivals: &[Arrived],
+    from: usize,
+    places: &[usize],
+    frame: &Frame,
+) -> bool
+    requires { StandAt frame.now.bytes from (drop from arrivals.now) places.now }
     ensures { (z : Terms) → AreLimits z limits.now → result
-        ≡ list_any (λ w. fits_it z w (gone_of frame.now)) (map arrival_of arrivals.now) }
+        ≡ list_any (λ w. fits_it z w (gone_of frame.now))
+        (map arrival_of (drop from arrivals.now)) }
 {
-    for arrived in arrivals {
+    for place in places {
+        if *place >= arrivals.len() {
+            return false;
+        }
+        let arrived = &arrivals[*place];
         if limits.fits(arrived.time, &arrived.bytes, frame) {
             return true;
         }
     }
     false
-}
-
-/// Whether the frame fits one of these arrivals. `is_other` says that none is known to have its
-/// bytes.
-fn fits_one(limits: &Limits, arrivals: &[Arrived], frame: &Frame, is_other: bool) -> bool
-    requires { IsTrue is_other → AreOthers frame.now.bytes arrivals.now }
-    ensures { (z : Terms) → AreLimits z limits.now → result
-        ≡ list_any (λ w. fits_it z w (gone_of frame.now)) (map arrival_of arrivals.now) }
-{
-    if is_other {
-        false
-    } else {
-        fits_among(limits, arrivals, frame)
-    }
 }
 
 /// By how many ns the frame, which is the arrival's, left too early.
@@ -108,18 +108,19 @@ fn late_by(limits: &Limits, arrived: &Arrived, frame: &Frame) -> u64
         .saturating_sub(limits.latency)
 }
 
-/// What the switch did with an arrival, by the next frame; `behind` came after it. `is_other` says
-/// that none of these is known to have the frame's bytes.
+/// What the switch did with an arrival, by the next frame; those from `from` on came after it. All
+/// arrivals that have the frame's bytes stand at `places`.
 pub(crate) fn deviation(
     limits: &Limits,
     arrived: &Arrived,
-    behind: &[Arrived],
+    arrivals: &[Arrived],
+    from: usize,
+    places: &[usize],
     frame: &Frame,
-    is_other: bool,
 ) -> Deviation
-    requires { IsTrue is_other → AreOthers frame.now.bytes behind.now }
+    requires { StandAt frame.now.bytes 0 arrivals.now places.now }
     ensures { (z : Terms) → AreLimits z limits.now → result
-        ≡ deviation_of z (map arrival_of behind.now) (arrival_of arrived.now)
+        ≡ deviation_of z (map arrival_of (drop from arrivals.now)) (arrival_of arrived.now)
         (gone_of frame.now) }
 {
     if is_far(limits, arrived, frame) {
@@ -129,7 +130,8 @@ pub(crate) fn deviation(
         let by = early_by(limits, arrived, frame);
         return Deviation::Took(Finding::Early(arrived.number, by));
     }
-    if fits_one(limits, behind, frame, is_other) {
+    let behind = no_less(places, from);
+    if fits_one(limits, arrivals, from, behind, frame) {
         return Deviation::Stopped;
     }
     if is_late(limits, arrived, frame) {

@@ -141,6 +141,7 @@ impl Growth {
         }
         give_back_first(&mut self.arrivals, count, spare);
         forget_first(&mut self.judging.marks, count);
+        self.known.forget();
     }
 
     /// Lets go of what no later event asks for, whose memory is for others.

@@ -29,7 +29,7 @@ use std::alloc::{AllocError, Global};
 const MOST_HELD: u64 = 1 << 56;
 
 /// What is kept of a stream: what it is judged by, the arrivals and frames that are held and how
-/// far they are judged, the bytes of these arrivals, and what is counted of all of them.
+/// far they are judged, where these arrivals stand, and what is counted of all of them.
 ///
 /// `rule` is that of its link. `closed` of the frames that are held are closed; `closing` were as
 /// old as the one that was closed last, by which a guess saves to count them for each frame of one
@@ -125,7 +125,13 @@ impl Growth {
             return Ok(());
         }
         self.known.tell(self.arrivals.as_slice(), &arrived)?;
-        self.arrivals.push(arrived)?;
+        match self.arrivals.push(arrived) {
+            Ok(()) => {}
+            Err(_) => {
+                self.known.forget();
+                return Err(AllocError);
+            }
+        }
         self.came += 1;
         Ok(())
     }

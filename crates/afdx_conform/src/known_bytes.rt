@@ -1,23 +1,47 @@
-//! The bytes of a stream's arrivals, by which a frame with other bytes is told at once.
+//! Where arrivals of a stream stand that have the bytes of a frame.
 
-ghost use Rattle.std.specs.Prelude.{◌≡◌, ◌++◌, ◌∷◌, [], List, true, IfOk, OnOk, IsTrue};
-ghost use Rattle.afdx_conform.specs.KnownBytes.{AreKnown, AreOthers, HasEach, front_of, has_front};
+ghost use Rattle.std.specs.Prelude.{◌≡◌, ◌++◌, ◌∷◌, [], List, false, IfOk, OnErr, OnOk};
+ghost use Rattle.afdx_conform.specs.KnownBytes.{AreKept, AreKnown, StandAt};
 
 use crate::arrived::Arrived;
 use crate::checked_bytes::CheckedBytes;
+use crate::places::Places;
 use std::alloc::{AllocError, Global};
-use std::collections::BTreeSet;
 
-/// So many arrivals are looked at in turn.
+/// Of fewer arrivals each is looked at.
 const FEW_ARRIVALS: usize = 256;
 
-/// The bytes of the arrivals that are held, without the last four, where they are many; if
-/// `is_whole`, those of each of them. Bytes of forgotten ones may be among them.
+/// Where the arrivals stand that are held, by their bytes, if `is_whole`. Else they are few, or
+/// weren't gathered yet.
 #[derive(Drop)]
 pub(crate) struct KnownBytes {
     alloc: Global,
-    fronts: BTreeSet<Vec<u8>>,
+    places: Places,
     is_whole: bool,
+}
+
+/// Where each of these arrivals stands, by its bytes. Fails only out of memory.
+fn places_of(alloc: Global, arrivals: &[Arrived]) -> Result<Places, AllocError>
+    ensures { IfOk result (λ places. AreKept places arrivals.now) }
+{
+    let mut places = Places::new(alloc);
+    for place in 0..arrivals.len() {
+        places.add(arrivals[place].bytes.key(), place)?;
+    }
+    Ok(places)
+}
+
+/// Where arrivals stand that have these bytes, by a look at each of them. Fails only out of memory.
+fn seek(alloc: Global, arrivals: &[Arrived], bytes: &CheckedBytes) -> Result<Vec<usize>, AllocError>
+    ensures { IfOk result (λ found. StandAt bytes.now 0 arrivals.now found.items) }
+{
+    let mut found = Vec::new(alloc);
+    for place in 0..arrivals.len() {
+        if arrivals[place].bytes.is_same(bytes) {
+            found.push(place)?;
+        }
+    }
+    Ok(found)
 }
 
 impl KnownBytes {
@@ -27,73 +51,76 @@ impl KnownBytes {
     {
         KnownBytes {
             alloc,
-            fronts: BTreeSet::new(alloc),
+            places: Places::new(alloc),
             is_whole: false,
         }
     }
 
-    /// It has these bytes too. Fails only out of memory.
-    fn add(&mut self, bytes: &CheckedBytes) -> Result<(), AllocError>
-        ensures whole { self.new.is_whole ≡ self.old.is_whole }
-        ensures added { OnOk result (has_front self.new (front_of bytes.now) ≡ true) }
-        ensures kept { (arrivals : List Arrived) → HasEach self.old arrivals →
-            HasEach self.new arrivals }
-    {
-        let front = Vec::from_slice(self.alloc, bytes.front())?;
-        self.fronts.insert(front)?;
-        Ok(())
-    }
-
-    /// It has the bytes of each of these. Fails only out of memory.
-    fn of(alloc: Global, arrivals: &[Arrived]) -> Result<KnownBytes, AllocError>
-        ensures { IfOk result (λ known. HasEach known arrivals.now) }
-    {
-        let mut known = KnownBytes::new(alloc);
-        for arrived in arrivals {
-            known.add(&arrived.bytes)?;
-        }
-        known.is_whole = true;
-        Ok(known)
-    }
-
-    /// It has the bytes of each of these arrivals, and no more than twice as many, or it is made
-    /// anew. Fails only out of memory; then nothing has changed.
-    fn gather(&mut self, arrivals: &[Arrived]) -> Result<(), AllocError>
+    /// It knows where each of these arrivals stands, if they are many. Fails only out of memory.
+    pub(crate) fn gather(&mut self, arrivals: &[Arrived]) -> Result<(), AllocError>
         requires { AreKnown self.old arrivals.now }
-        ensures each { OnOk result (HasEach self.new arrivals.now) }
-        ensures kept { AreKnown self.new arrivals.now }
+        ensures { AreKnown self.new arrivals.now }
     {
-        if self.is_whole && self.fronts.len() / 2 <= arrivals.len() {
+        if self.is_whole || arrivals.len() < FEW_ARRIVALS {
             return Ok(());
         }
-        let known = KnownBytes::of(self.alloc, arrivals)?;
-        *self = known;
+        self.places = places_of(self.alloc, arrivals)?;
+        self.is_whole = true;
         Ok(())
     }
 
-    /// It has the bytes of each of these arrivals, and of the one that comes behind them, once they
-    /// are many. Fails only out of memory.
+    /// One more arrival comes behind these. Fails only out of memory.
     pub(crate) fn tell(&mut self, arrivals: &[Arrived], arrived: &Arrived) -> Result<(), AllocError>
         requires { AreKnown self.old arrivals.now }
         ensures told { OnOk result (AreKnown self.new (arrivals.now ++ arrived.now ∷ [])) }
-        ensures kept { AreKnown self.new arrivals.now }
+        ensures refused { OnErr result (AreKnown self.new arrivals.now) }
     {
-        if arrivals.len() < FEW_ARRIVALS {
-            if self.is_whole {
-                *self = KnownBytes::new(self.alloc);
-            }
+        if !self.is_whole {
             return Ok(());
         }
-        self.gather(arrivals)?;
-        self.add(&arrived.bytes)?;
+        self.is_whole = false;
+        self.places.add(arrived.bytes.key(), arrivals.len())?;
+        self.is_whole = true;
         Ok(())
     }
 
-    /// Whether none of the arrivals has these bytes, if that is known.
-    pub(crate) fn is_other(&self, bytes: &CheckedBytes) -> bool
-        ensures { (arrivals : List Arrived) → AreKnown self.now arrivals → IsTrue result →
-            AreOthers bytes.now arrivals }
+    /// The first arrivals are forgotten: those that are left stand at other places.
+    pub(crate) fn forget(&mut self)
+        ensures { (arrivals : List Arrived) → AreKnown self.new arrivals }
     {
-        self.is_whole && !self.fronts.contains(bytes.front())
+        if self.is_whole {
+            *self = KnownBytes::new(self.alloc);
+        }
+    }
+
+    /// What `places` wants: where arrivals stand that have these bytes, unless it knows. Fails only
+    /// out of memory.
+    pub(crate) fn sought(
+        &self,
+        arrivals: &[Arrived],
+        bytes: &CheckedBytes,
+    ) -> Result<Vec<usize>, AllocError>
+        ensures { IfOk result (λ found. self.now.is_whole ≡ false →
+            StandAt bytes.now 0 arrivals.now found.items) }
+    {
+        if self.is_whole {
+            Ok(Vec::new(self.alloc))
+        } else {
+            seek(self.alloc, arrivals, bytes)
+        }
+    }
+
+    /// Where all arrivals stand that have these bytes, and with them at most others that have the
+    /// same message. `sought` is what the look-up gave.
+    pub(crate) fn places<'a>(&'a self, bytes: &CheckedBytes, sought: &'a [usize]) -> &'a [usize]
+        ensures { (arrivals : List Arrived) → AreKnown self.now arrivals →
+            (self.now.is_whole ≡ false → StandAt bytes.now 0 arrivals sought.now) →
+            StandAt bytes.now 0 arrivals result.now }
+    {
+        if self.is_whole {
+            self.places.at(bytes.key())
+        } else {
+            sought
+        }
     }
 }

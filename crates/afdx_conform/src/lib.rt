@@ -28,6 +28,7 @@ mod leeway;
 mod levels;
 mod limits;
 mod naming;
+mod places;
 mod spare;
 mod states;
 mod streaming;

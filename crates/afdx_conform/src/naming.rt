@@ -1,14 +1,13 @@
 //! What is found of a frame that no arrival explains.
 
 ghost use Rattle.std.specs.Prelude.{◌≡◌, ◌≤◌, ◌<◌, ℕ, IfOk, IfSome, IsTrue, MatchOption};
-ghost use Rattle.std.specs.Prelude.{length, map, slice_get, take};
+ghost use Rattle.std.specs.Prelude.{drop, length, map, slice_get, take};
 ghost use Rattle.std.specs.List.{list_any};
 ghost use Rattle.afdx_conform.specs.Findings.{names_it as may_name, is_of_right};
 ghost use Rattle.afdx_conform.specs.Findings.{damage as damage_of, strangeness as strangeness_of};
-ghost use Rattle.afdx_conform.specs.Findings.{damaged_or, first_named, once_named, finding_or, Judged};
-ghost use Rattle.afdx_conform.specs.KnownBytes.{AreKnown, AreOthers};
+ghost use Rattle.afdx_conform.specs.Findings.{first_named, once_named, finding_or, Judged};
+ghost use Rattle.afdx_conform.specs.KnownBytes.{AreKnown, StandAt};
 ghost use Rattle.afdx_conform.specs.declared.finding.Finding.TheVariants.{Strange};
-ghost use Rattle.afdx_conform.specs.declared.finding.Strangeness.TheVariants.{NoArrival};
 ghost use Rattle.afdx_conform.specs.Marks.{marked_of, marked_all, told};
 ghost use Rattle.afdx_conform.specs.Naming.{AreSettled, IsNoneNamed, IsNamedAt, may_be_named};
 ghost use Rattle.afdx_conform.specs.Naming.{unexplained_all};
@@ -20,9 +19,13 @@ use crate::checked_bytes::CheckedBytes;
 use crate::finding::{Finding, Mark, Strangeness};
 use crate::known_bytes::KnownBytes;
 use crate::limits::{Frame, Limits};
+use crate::places::no_less;
 use afdx_frame::{GREATEST_FRAME, LEAST_FRAME};
 use afdx_police::Reason;
 use std::alloc::{AllocError, Global};
+
+/// Of fewer places each is looked at.
+const FEW_PLACES: usize = 16;
 
 /// Whether a finding may name an arrival with this mark.
 fn is_to_name(mark: Mark) -> bool
@@ -47,6 +50,20 @@ fn settled_from(marks: &[Mark], settled: usize) -> usize
     count
 }
 
+/// The same where so many arrivals may be the frame's; where they are few, what was known to be.
+fn settled_for(marks: &[Mark], settled: usize, places: usize) -> usize
+    requires within { settled ≤ length marks.now }
+    requires settled { AreSettled settled marks.now }
+    ensures within { result ≤ length marks.now }
+    ensures settled { AreSettled result marks.now }
+{
+    if places <= FEW_PLACES {
+        settled
+    } else {
+        settled_from(marks, settled)
+    }
+}
+
 /// The reason by which the finding of a frame may name the arrival.
 fn names_it(limits: &Limits, arrived: &Arrived, mark: Mark, frame: &Frame) -> Option<Reason>
     ensures { (z : Terms) → AreLimits z limits.now →
@@ -60,25 +77,30 @@ fn names_it(limits: &Limits, arrived: &Arrived, mark: Mark, frame: &Frame) -> Op
 }
 
 /// The first arrival that the finding of a frame may name, behind the first `settled`: its place,
-/// and the reason.
+/// and the reason. Behind those all that have the frame's bytes stand at `places`.
 fn first_place(
     limits: &Limits,
     arrivals: &[Arrived],
     marks: &[Mark],
     settled: usize,
+    places: &[usize],
     frame: &Frame,
 ) -> Option<(usize, Reason)>
     requires marks { length marks.now ≤ length arrivals.now }
     requires within { settled ≤ length marks.now }
     requires settled { AreSettled settled marks.now }
+    requires places { StandAt frame.now.bytes settled (drop settled arrivals.now) places.now }
     ensures within { IfSome result (λ at. (settled ≤ at.0) × (at.0 < length marks.now)) }
     ensures named { (z : Terms) → AreLimits z limits.now → MatchOption result
         (IsNoneNamed z (gone_of frame.now) (marked_all arrivals.now marks.now))
         (λ at. IsNamedAt z (gone_of frame.now) (marked_all arrivals.now marks.now) at.0 at.1) }
 {
-    for place in settled..marks.len() {
-        match names_it(limits, &arrivals[place], marks[place], frame) {
-            Some(reason) => return Some((place, reason)),
+    for place in places {
+        if *place >= marks.len() {
+            return None;
+        }
+        match names_it(limits, &arrivals[*place], marks[*place], frame) {
+            Some(reason) => return Some((*place, reason)),
             None => {}
         }
     }
@@ -93,14 +115,24 @@ fn fits_without_mark(limits: &Limits, arrived: &Arrived, mark: Mark, frame: &Fra
     mark.reason.is_none() && limits.fits(arrived.time, &arrived.bytes, frame)
 }
 
-/// Whether the frame fits an arrival that isn't refused.
-fn fits_unmarked(limits: &Limits, arrivals: &[Arrived], marks: &[Mark], frame: &Frame) -> bool
-    requires { length marks.now ≤ length arrivals.now }
+/// Whether the frame fits an arrival that isn't refused. All that have its bytes stand at `places`.
+fn fits_unmarked(
+    limits: &Limits,
+    arrivals: &[Arrived],
+    marks: &[Mark],
+    places: &[usize],
+    frame: &Frame,
+) -> bool
+    requires marks { length marks.now ≤ length arrivals.now }
+    requires places { StandAt frame.now.bytes 0 arrivals.now places.now }
     ensures { (z : Terms) → AreLimits z limits.now → result
         ≡ list_any (λ m. is_of_right z (gone_of frame.now) m) (marked_all arrivals.now marks.now) }
 {
-    for place in 0..marks.len() {
-        if fits_without_mark(limits, &arrivals[place], marks[place], frame) {
+    for place in places {
+        if *place >= marks.len() {
+            return false;
+        }
+        if fits_without_mark(limits, &arrivals[*place], marks[*place], frame) {
             return true;
         }
     }
@@ -123,26 +155,23 @@ fn damage(bytes: &CheckedBytes) -> Option<Reason>
     None
 }
 
-/// What is wrong with a frame whose bytes no arrival has.
-fn strangeness_alone(frame: &Frame) -> Strangeness
-    ensures { result ≡ damaged_or (damage_of frame.now.bytes) NoArrival }
-{
-    match damage(&frame.bytes) {
-        Some(reason) => Strangeness::Damaged(reason),
-        None => Strangeness::NoArrival,
-    }
-}
-
-/// What is wrong with a frame that no arrival explains.
-fn strangeness(limits: &Limits, arrivals: &[Arrived], marks: &[Mark], frame: &Frame) -> Strangeness
-    requires { length marks.now ≤ length arrivals.now }
+/// What is wrong with a frame that no arrival explains. All that have its bytes stand at `places`.
+fn strangeness(
+    limits: &Limits,
+    arrivals: &[Arrived],
+    marks: &[Mark],
+    places: &[usize],
+    frame: &Frame,
+) -> Strangeness
+    requires marks { length marks.now ≤ length arrivals.now }
+    requires places { StandAt frame.now.bytes 0 arrivals.now places.now }
     ensures { (z : Terms) → AreLimits z limits.now →
         result ≡ strangeness_of z (marked_all arrivals.now marks.now) (gone_of frame.now) }
 {
     match damage(&frame.bytes) {
         Some(reason) => Strangeness::Damaged(reason),
         None => {
-            if fits_unmarked(limits, arrivals, marks, frame) {
+            if fits_unmarked(limits, arrivals, marks, places, frame) {
                 Strangeness::OutOfTurn
             } else {
                 Strangeness::NoArrival
@@ -152,20 +181,20 @@ fn strangeness(limits: &Limits, arrivals: &[Arrived], marks: &[Mark], frame: &Fr
 }
 
 /// What is found of a frame that no arrival explains. An arrival that the finding names, behind the
-/// first `settled`, is marked so. Marks are those of the first arrivals. `is_other` says that no
-/// arrival is known to have its bytes.
+/// first `settled`, is marked so. Marks are those of the first arrivals. All arrivals that have the
+/// frame's bytes stand at `places`.
 pub(crate) fn unexplained(
     limits: &Limits,
     arrivals: &[Arrived],
     marks: &mut Vec<Mark>,
     settled: usize,
+    places: &[usize],
     frame: &Frame,
-    is_other: bool,
 ) -> Finding
     requires marks { length marks.old.items ≤ length arrivals.now }
     requires within { settled ≤ length marks.old.items }
     requires settled { AreSettled settled marks.old.items }
-    requires other { IsTrue is_other → AreOthers frame.now.bytes arrivals.now }
+    requires places { StandAt frame.now.bytes 0 arrivals.now places.now }
     ensures finding { (z : Terms) → AreLimits z limits.now → result
         ≡ finding_or (first_named z (gone_of frame.now) (marked_all arrivals.now marks.old.items))
         (Strange frame.now.number
@@ -175,13 +204,10 @@ pub(crate) fn unexplained(
     ensures length { length marks.new.items ≡ length marks.old.items }
     ensures kept { take settled marks.new.items ≡ take settled marks.old.items }
 {
-    if is_other {
-        let strangeness = strangeness_alone(frame);
-        return Finding::Strange(frame.number, strangeness);
-    }
-    match first_place(limits, arrivals, marks.as_slice(), settled, frame) {
+    let later = no_less(places, settled);
+    match first_place(limits, arrivals, marks.as_slice(), settled, later, frame) {
         None => {
-            let strangeness = strangeness(limits, arrivals, marks.as_slice(), frame);
+            let strangeness = strangeness(limits, arrivals, marks.as_slice(), places, frame);
             Finding::Strange(frame.number, strangeness)
         }
         Some((place, reason)) => {
@@ -215,9 +241,10 @@ pub(crate) fn unexplained_all(
     let mut found = Vec::new(alloc);
     let mut settled = 0;
     for frame in frames {
-        settled = settled_from(marks.as_slice(), settled);
-        let is_strange = known.is_other(&frame.bytes);
-        let finding = unexplained(limits, arrivals, marks, settled, frame, is_strange);
+        let sought = known.sought(arrivals, &frame.bytes)?;
+        let places = known.places(&frame.bytes, sought.as_slice());
+        settled = settled_for(marks.as_slice(), settled, places.len());
+        let finding = unexplained(limits, arrivals, marks, settled, places, frame);
         found.push(finding)?;
     }
     Ok(found)

@@ -1,5 +1,5 @@
-use Rattle.std.proofs.Common.{rules, ◌≡◌, ℕ, ◌+◌, List, [], map, drop, get_or, length, refl, sym, ap, ◌∙◌, subst, arith}
-use Rattle.std.proofs.lemmas.List.{length-map, take_rest}
+use Rattle.std.proofs.Common.{rules, ◌≡◌, ℕ, ◌+◌, List, [], map, drop, get_or, length, refl, sym, ap, ◌∙◌, arith}
+use Rattle.std.proofs.lemmas.List.{length-map}
 use Rattle.std.proofs.lemmas.List.Elements.{All-same}
 use Rattle.std.specs.Prelude.{IsTrue, nat_eq}
 use Rattle.std.specs.List.{filter}
@@ -7,7 +7,6 @@ use Rattle.afdx_conform.specs.Accounts.{AreLevels, AreNear}
 use Rattle.afdx_conform.specs.Explanations.{link, charge, levels_then}
 use Rattle.afdx_conform.specs.Findings.{Finding, Judged, aged, as_accepted, deviates, front_rest, with_states}
 use Rattle.afdx_conform.specs.HeldStates.{IsWithin, IsSmall, past, state_of}
-use Rattle.afdx_conform.specs.KnownBytes.{AreOthers}
 use Rattle.afdx_conform.specs.Levels.{has_to_pass}
 use Rattle.afdx_conform.specs.Limits.{gone_of}
 use Rattle.afdx_conform.specs.Marks.{arrival_of, marked_all, told}
@@ -19,7 +18,7 @@ use Rattle.afdx_conform.proofs.DeviateSteps.{at-start, at-same, at-end, at-stop,
 use Rattle.afdx_conform.proofs.LeadLemmas.{lead-past}
 use Rattle.afdx_conform.proofs.NamingLemmas.{told-unexplained}
 use Rattle.afdx_conform.proofs.KeepLemmas.{if-ok-on}
-use Rattle.afdx_conform.proofs.BytesLemmas.{others-drop}
+use Rattle.afdx_conform.proofs.PlacesLemmas.{stand-sought}
 use Rattle.afdx_conform.proofs.deviate.deviate.Goals as goal
 
 pub loop-front-init : goal.loop-front-init
@@ -27,8 +26,8 @@ loop-front-init c = record {
   bounds = c.requires.within;
   marks = refl;
   behind =
-      let len : c.len.result ≡ length c.args.marks.now.items = search rules in
-      take_rest c.args.arrivals.now (c.len.result + 1) ∙ ap (λ (n : ℕ). drop (n + 1) c.args.arrivals.now) len;
+      let len : c.len-from.result ≡ length c.args.marks.now.items = search rules in
+      ap (λ (n : ℕ). drop (n + 1) c.args.arrivals.now) len;
   within = λ link by count r all. all;
   defined = λ z last j b k ns opens marks none.
       at-start z last _ (arrival_of c.args.arrived.now) (map gone_of c.args.frames.now) c.args.held.items c.front_of-front.result
@@ -72,7 +71,7 @@ loop-front-preserved c = record {
       (c.in_ok-lead.ensures ∙ ap (λ (l : List Held). map (λ h. past (c.loop-front.front + 1) h)
       (filter (λ h. nat_eq h.passed c.loop-front.front) l)) c.as_slice-before.ensures.value) in
       let gone : c.in_ok-led.led.items ≡ [] =
-      sym c.as_slice.ensures.value ∙ c.has_any.ensures.none c.if-has_any.false in
+      sym c.as_slice-in-loop-front.ensures.value ∙ c.has_any.ensures.none c.if-has_any.false in
       let led = sym (ap (λ (l : List Held). map (state_of (map gone_of c.args.frames.now)) l) (sym gone)
       ∙ c.in_ok-led.ensures.defined z last b k ns opens
       ∙ ap (λ (l : List Held). led_by (λ s. states_at z (arrival_of c.args.arrived.now)
@@ -111,7 +110,7 @@ returns-then-has_any-clause-defined c z last j b k ns opens marks none =
     (levels_then z s.levels last (arrival_of c.args.arrived.now)) s) (map (state_of (map gone_of c.args.frames.now)) l))
     c.as_slice-asked.ensures.value) in
     let some = some-held (map gone_of c.args.frames.now) c.in_ok-led.led.items
-    (λ e. c.has_any.ensures.left c.if-has_any.true (c.as_slice.ensures.value ∙ e)) in
+    (λ e. c.has_any.ensures.left c.if-has_any.true (c.as_slice-in-loop-front.ensures.value ∙ e)) in
     ap (λ (s : Judged). with_states (map (state_of (map gone_of c.args.frames.now)) c.in_ok-led.led.items) s)
     (ap (λ (l : List Finding). told c.args.arrived.now.time l (marked_all c.args.arrivals.now c.unexplained-finding.new.marks.items) j)
     c.in_ok-push.ensures.items
@@ -275,7 +274,11 @@ returns-then-has_any-clause-within c link by count r all =
     (c.loop-front.invariant.within link by count r all)))
 
 pub deviation-requires : goal.deviation-requires
-deviation-requires c h = subst (λ (l : List Arrived). AreOthers c.index-frames-front.result.bytes l)
-    (sym c.loop-front.invariant.behind)
-    (others-drop c.index-frames-front.result.bytes (length c.args.marks.now.items + 1) c.args.arrivals.now
-    (c.is_other-is_strange.ensures c.args.arrivals.now c.requires.known h))
+deviation-requires c = stand-sought c.index-frames-front.result.bytes c.args.arrivals.now c.args.known.now.is_whole
+    c.in_ok-sought.sought.items c.as_slice.result.now c.places-places.result.now c.as_slice.ensures.value c.in_ok-sought.ensures
+    (c.places-places.ensures c.args.arrivals.now c.requires.known)
+
+pub unexplained-finding-requires-clause-places : goal.unexplained-finding-requires-clause-places
+unexplained-finding-requires-clause-places c = stand-sought c.index-frames-front.result.bytes c.args.arrivals.now c.args.known.now.is_whole
+    c.in_ok-sought.sought.items c.as_slice.result.now c.places-places.result.now c.as_slice.ensures.value c.in_ok-sought.ensures
+    (c.places-places.ensures c.args.arrivals.now c.requires.known)

@@ -19,7 +19,7 @@ abbrev pub invariant-loop-front : goal.invariant-loop-front
 invariant-loop-front l = record {
   bounds : (count : ℕ) × (count < most_held) × All (λ h. IsWithin l.bounds.rates (length l.frames) count h) l.held.items;
   marks : length l.marks.items ≡ length l.fn.marks.items;
-  behind : l.behind ≡ drop (length l.fn.marks.items + 1) l.arrivals;
+  behind : drop l.from l.arrivals ≡ drop (length l.fn.marks.items + 1) l.arrivals;
   within : (link : Regulation) (by : Leeway) (count : ℕ) → AreRates link by l.bounds.rates
       → All (λ h. IsWithin l.bounds.rates (length l.frames) count h) l.fn.held.items
       → All (λ h. IsWithin l.bounds.rates (length l.frames) count h) l.held.items;
@@ -28,7 +28,7 @@ invariant-loop-front l = record {
       → j.arrivals ≡ marked_all l.arrivals l.fn.marks.items
       → led_by (λ s. states_at z (arrival_of l.arrived) (levels_then z s.levels last (arrival_of l.arrived)) s)
       (map (state_of (map gone_of l.frames)) l.fn.held.items) ≡ []
-      → AreAt z last (map arrival_of l.behind) (arrival_of l.arrived) (map gone_of l.frames) l.fn.held.items l.held.items l.front
+      → AreAt z last (map arrival_of (drop l.from l.arrivals)) (arrival_of l.arrived) (map gone_of l.frames) l.fn.held.items l.held.items l.front
       j (told l.arrived.time l.found.items (marked_all l.arrivals l.marks.items) j);
 }
 

@@ -8,6 +8,7 @@ use Rattle.afdx_conform.specs.Streams.{Gone}
 use Rattle.afdx_conform.specs.declared.finding.Mark.{Mark}
 use Rattle.afdx_conform.specs.declared.limits.Frame.{Frame}
 use Rattle.afdx_conform.proofs.NamingLemmas.{told-none, told-unexplained, all-more, all-none}
+use Rattle.afdx_conform.proofs.PlacesLemmas.{stand-sought}
 use Rattle.afdx_conform.proofs.naming.unexplained_all.Goals as goal
 
 pub loop-frame-init : goal.loop-frame-init
@@ -23,12 +24,12 @@ loop-frame-init c = (
 
 pub loop-frame-preserved : goal.loop-frame-preserved
 loop-frame-preserved c =
-    let within : c.settled_from-settled.result ≤ length c.loop-frame.marks.items =
-    subst (λ (l : List Mark). c.settled_from-settled.result ≤ length l) c.as_slice.ensures.value
-    c.settled_from-settled.ensures.within in
-    let settled : AreSettled c.settled_from-settled.result c.loop-frame.marks.items =
-    subst (λ (l : List Mark). AreSettled c.settled_from-settled.result l) c.as_slice.ensures.value
-    c.settled_from-settled.ensures.settled in (
+    let within : c.settled_for-settled.result ≤ length c.loop-frame.marks.items =
+    subst (λ (l : List Mark). c.settled_for-settled.result ≤ length l) c.as_slice-in-loop-frame.ensures.value
+    c.settled_for-settled.ensures.within in
+    let settled : AreSettled c.settled_for-settled.result c.loop-frame.marks.items =
+    subst (λ (l : List Mark). AreSettled c.settled_for-settled.result l) c.as_slice-in-loop-frame.ensures.value
+    c.settled_for-settled.ensures.settled in (
       λ z time j a e.
           let is : c.frame-item.result ≡ get_or c.args.frames.now c.loop-frame.frame-index c.frame-item.result = search rules in
           ap (λ (l : List Finding). told time l (marked_all c.args.arrivals.now c.unexplained-finding.new.marks.items) j)
@@ -48,7 +49,7 @@ loop-frame-preserved c =
           ∙ map-append gone_of (take c.loop-frame.frame-index c.args.frames.now)
           (get_or c.args.frames.now c.loop-frame.frame-index c.frame-item.result ∷ []))),
       c.unexplained-finding.ensures.length ∙ c.loop-frame.invariant.1,
-      subst (λ (n : ℕ). c.settled_from-settled.result ≤ n) (sym c.unexplained-finding.ensures.length) within,
+      subst (λ (n : ℕ). c.settled_for-settled.result ≤ n) (sym c.unexplained-finding.ensures.length) within,
       subst (λ (l : List Mark). All (λ m. IsTrue (not (may_be_named m))) l) (sym c.unexplained-finding.ensures.kept) settled,
     )
 
@@ -57,3 +58,8 @@ returns-clause-found c z time j a e =
     c.loop-frame.invariant.0 z time j a e
     ∙ ap (λ (l : List Frame). unexplained_all z time (map gone_of l) j)
     (take_all c.loop-frame.frame-index c.args.frames.now (let h = c.loop-frame-test.false in omega (arith, h)))
+
+pub unexplained-finding-requires-clause-places : goal.unexplained-finding-requires-clause-places
+unexplained-finding-requires-clause-places c = stand-sought c.frame-item.result.bytes c.args.arrivals.now c.args.known.now.is_whole
+    c.in_ok-sought.sought.items c.as_slice.result.now c.places-places.result.now c.as_slice.ensures.value c.in_ok-sought.ensures
+    (c.places-places.ensures c.args.arrivals.now c.requires.known)

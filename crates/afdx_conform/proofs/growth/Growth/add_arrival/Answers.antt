@@ -10,11 +10,11 @@ returns-then-self-clause-after c z xs ys cut time over j m o f =
 pub returns-clause-after : goal.returns-clause-after
 returns-clause-after c z xs ys cut time over j m o f =
     after-came z xs ys cut time over c.args.arrived c.args.self.now c.push.new.self (c.args.self.now.came + 1) c.tell.new.self
-    c.in_ok-push.ensures.items refl j m o c.requires.sound.places f
+    c.in-Ok.ensures.items refl j m o c.requires.sound.places f
 
 pub returns-clause-due : goal.returns-clause-due
 returns-clause-due c =
-    due-came c.args.self.now c.args.arrived c.push.new.self (c.args.self.now.came + 1) c.tell.new.self c.in_ok-push.ensures.items
+    due-came c.args.self.now c.args.arrived c.push.new.self (c.args.self.now.came + 1) c.tell.new.self c.in-Ok.ensures.items
     c.requires.sound.places
 
 pub returns-then-self-ge-MOST_HELD-clause-after : goal.returns-then-self-ge-MOST_HELD-clause-after

@@ -5,6 +5,7 @@ use Rattle.std.specs.Vec.{vec_len}
 use Rattle.afdx_conform.specs.declared.states.Held.{Held}
 use Rattle.afdx_conform.proofs.UndecidedLemmas.{forgot-arrivals, undecided-same}
 use Rattle.afdx_conform.proofs.ForgetLemmas.{after-arrivals, due-arrivals, early-arrivals, none-early}
+use Rattle.afdx_conform.proofs.GatherLemmas.{after-known, due-known}
 use Rattle.afdx_conform.proofs.growth.Growth.forget_arrivals.Goals as goal
 use Rattle.afdx_conform.proofs.growth.Growth.forget_arrivals.Goals.{then-not-is_empty+else-not-is_too_late, else-not-is_empty}
 
@@ -18,7 +19,7 @@ returns-clause-after c z xs ys cut over f =
     c.forget_first.new.items c.give_back_first.ensures c.forget_first.ensures less places
     (subst (λ (l : List Held). All (λ h. h.waiting ≡ 0) l) c.as_slice.ensures.value
     (c.none_waits.ensures c.if-not-none_waits.false)) in
-    elim c.if-not-is_empty.branch [
+    after-known z xs ys cut over _ c.forget.new.self (elim c.if-not-is_empty.branch [
       | then-not-is_empty+else-not-is_too_late w ↦ after
           (λ h. early-arrivals z xs ys cut over c.args.self.now c.div_ceil-count.result w.index-last.result.now w.index.result.now
           f.bounds f.told some (omega (arith, less, places)) w.index-last.ensures w.index.ensures
@@ -27,12 +28,12 @@ returns-clause-after c z xs ys cut over f =
           (λ h. none-early z c.args.self.now c.div_ceil-count.result
           (let none = (Decides-eqb (vec_len c.args.self.now.frames) 0).0 (sym c.is_empty.ensures ∙ w.if-not-is_empty.false) in
           let ok = c.args.self.now.frames.ok in omega (arith, none, ok))) f
-    ]
+    ])
 
 pub returns-clause-due : goal.returns-clause-due
 returns-clause-due c =
     let less = c.if-count-len.false in
-    due-arrivals c.args.self.now c.div_ceil-count.result c.give_back_first.new.items c.forget_first.new.items
+    due-known _ c.forget.new.self ∙ due-arrivals c.args.self.now c.div_ceil-count.result c.give_back_first.new.items c.forget_first.new.items
     c.give_back_first.ensures c.forget_first.ensures (omega (arith, less))
 
 pub returns-clause-undecided : goal.returns-clause-undecided

@@ -1,13 +1,7 @@
-use Rattle.afdx_conform.proofs.BytesLemmas.{each-more}
+use Rattle.std.proofs.Common.{length, refl}
+use Rattle.afdx_conform.proofs.PlacesLemmas.{kept-more}
 use Rattle.afdx_conform.proofs.known_bytes.KnownBytes.tell.Goals as goal
 
 pub returns-clause-told : goal.returns-clause-told
-returns-clause-told c whole =
-    each-more c.add.new.self c.args.arrivals.now c.args.arrived.now
-    (c.add.ensures.kept c.args.arrivals.now c.in_ok-gather.ensures.each) c.in_ok-add.ensures.added
-
-pub returns-clause-kept : goal.returns-clause-kept
-returns-clause-kept c whole = c.add.ensures.kept c.args.arrivals.now c.in_ok-gather.ensures.each
-
-pub returns-in_err-add-clause-kept : goal.returns-in_err-add-clause-kept
-returns-in_err-add-clause-kept c whole = c.add.ensures.kept c.args.arrivals.now c.in_ok-gather.ensures.each
+returns-clause-told c whole = kept-more c.args.self.now.places c.add.new.self c.args.arrivals.now c.args.arrived.now c.key.result.now
+    (length c.args.arrivals.now) c.key.ensures refl c.in_ok-add.ensures (c.requires c.if-not-self.false)
