@@ -97,9 +97,9 @@ fn last_after(arrived: &Arrived, last: u64) -> u64
 }
 
 impl Growth {
-    /// Before an event: where the arrivals stand is known. Before the first one its states are those
-    /// of all frames that may be of arrivals before the start. Fails only out of memory; then nothing
-    /// has changed.
+    /// Before an event: where the arrivals stand is known. Before the first one its states are
+    /// those of all frames that may be of arrivals before the start. Fails only out of memory;
+    /// then nothing has changed.
     fn start(&mut self, alloc: Global) -> Result<(), AllocError>
         requires sound { IsSound self.old }
         ensures sound { IsSound self.new }

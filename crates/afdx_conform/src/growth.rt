@@ -127,9 +127,9 @@ impl Growth {
         self.known.tell(self.arrivals.as_slice(), &arrived)?;
         match self.arrivals.push(arrived) {
             Ok(()) => {}
-            Err(_) => {
+            Err(error) => {
                 self.known.forget();
-                return Err(AllocError);
+                return Err(error.into());
             }
         }
         self.came += 1;

@@ -28,7 +28,8 @@ invariant-loop-front l = record {
       → j.arrivals ≡ marked_all l.arrivals l.fn.marks.items
       → led_by (λ s. states_at z (arrival_of l.arrived) (levels_then z s.levels last (arrival_of l.arrived)) s)
       (map (state_of (map gone_of l.frames)) l.fn.held.items) ≡ []
-      → AreAt z last (map arrival_of (drop l.from l.arrivals)) (arrival_of l.arrived) (map gone_of l.frames) l.fn.held.items l.held.items l.front
+      → AreAt z last (map arrival_of (drop l.from l.arrivals)) (arrival_of l.arrived) (map gone_of l.frames)
+      l.fn.held.items l.held.items l.front
       j (told l.arrived.time l.found.items (marked_all l.arrivals l.marks.items) j);
 }
 

@@ -19,7 +19,8 @@ returns-then-fits c z a =
     sym (inv.2 z a
     ∙ fit-reached z (gone_of c.args.frame.now) c.args.arrivals.now inv.0 (get_or c.args.places.now c.loop-place.place-index 0)
     (drop (c.loop-place.place-index + 1) c.args.places.now) k
-    ∙ any-arrived (λ w. fits z w (gone_of c.args.frame.now)) c.args.arrivals.now (get_or c.args.places.now c.loop-place.place-index 0) c.index-arrivals-place.result
+    ∙ any-arrived (λ w. fits z w (gone_of c.args.frame.now)) c.args.arrivals.now
+    (get_or c.args.places.now c.loop-place.place-index 0) c.index-arrivals-place.result
     true k.within there
     (sym (c.fits.ensures z (arrival_of c.index-arrivals-place.result) a refl refl) ∙ c.if-fits.true))
 
@@ -27,13 +28,15 @@ pub loop-place-preserved : goal.loop-place-preserved
 loop-place-preserved c =
     let inv = c.loop-place.invariant in
     let k = here c.args.frame.now.bytes c.args.arrivals.now inv.0 c.args.places.now c.loop-place.place-index c.loop-place-test.true inv.1 in
-    let there : c.index-arrivals-place.result ≡ get_or c.args.arrivals.now (get_or c.args.places.now c.loop-place.place-index 0) c.index-arrivals-place.result = search rules in (
+    let there : c.index-arrivals-place.result ≡ get_or c.args.arrivals.now
+    (get_or c.args.places.now c.loop-place.place-index 0) c.index-arrivals-place.result = search rules in (
       (get_or c.args.places.now c.loop-place.place-index 0) + 1,
       k.behind,
       λ z a. inv.2 z a
           ∙ fit-reached z (gone_of c.args.frame.now) c.args.arrivals.now inv.0 (get_or c.args.places.now c.loop-place.place-index 0)
           (drop (c.loop-place.place-index + 1) c.args.places.now) k
-          ∙ any-arrived (λ w. fits z w (gone_of c.args.frame.now)) c.args.arrivals.now (get_or c.args.places.now c.loop-place.place-index 0) c.index-arrivals-place.result
+          ∙ any-arrived (λ w. fits z w (gone_of c.args.frame.now)) c.args.arrivals.now
+          (get_or c.args.places.now c.loop-place.place-index 0) c.index-arrivals-place.result
           false k.within there
           (sym (c.fits.ensures z (arrival_of c.index-arrivals-place.result) a refl refl) ∙ c.if-fits.false),
     )

@@ -15,5 +15,6 @@ loop-place-preserved c =
     let is : c.index-arrivals-place.result ≡ get_or c.args.arrivals.now c.loop-place.place c.index-arrivals-place.result = search rules in
     kept-next c.add.new.self c.args.arrivals.now c.loop-place.place c.index-arrivals-place.result lt is
     (kept-more c.loop-place.places c.add.new.self (take c.loop-place.place c.args.arrivals.now) c.index-arrivals-place.result
-    c.key.result.now c.loop-place.place (c.key.ensures ∙ ap (λ (v : Arrived). key_of v.bytes) (sym is)) (sym (length-take-le c.loop-place.place c.args.arrivals.now le))
+    c.key.result.now c.loop-place.place (c.key.ensures ∙ ap (λ (v : Arrived). key_of v.bytes) (sym is)) (sym (length-take-le
+    c.loop-place.place c.args.arrivals.now le))
     c.in_ok-add.ensures c.loop-place.invariant)

@@ -28,5 +28,6 @@ loop-place-preserved c =
           (λ (v : Vec ℕ). StandAt c.args.bytes.now 0 (take (c.loop-place.place + 1) c.args.arrivals.now) v.items) (sym w.found-is)
           (stand-next c.args.bytes.now c.args.arrivals.now c.loop-place.place c.index-arrivals-place.result c.loop-place.found.items lt is
           (stand-other c.args.bytes.now 0 (take c.loop-place.place c.args.arrivals.now) c.loop-place.found.items
-          c.index-arrivals-place.result (ap (λ (v : Arrived). bytes_eq v.bytes c.args.bytes.now) is ∙ sym c.is_same.ensures ∙ w.if-is_same.false) c.loop-place.invariant))
+          c.index-arrivals-place.result (ap (λ (v : Arrived). bytes_eq v.bytes c.args.bytes.now) is ∙ sym c.is_same.ensures ∙
+          w.if-is_same.false) c.loop-place.invariant))
     ]

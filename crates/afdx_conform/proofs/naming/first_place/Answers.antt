@@ -19,21 +19,25 @@ pub returns-then-place-marks-clause-named : goal.returns-then-place-marks-clause
 returns-then-place-marks-clause-named c z a =
     let inv = c.loop-place.invariant in
     let k = here c.args.frame.now.bytes c.args.arrivals.now inv.0 c.args.places.now c.loop-place.place-index c.loop-place-test.true inv.2 in
-    from-end z (gone_of c.args.frame.now) c.args.arrivals.now c.args.marks.now (get_or c.args.places.now c.loop-place.place-index 0) c.if-place-marks.true
+    from-end z (gone_of c.args.frame.now) c.args.arrivals.now c.args.marks.now (get_or c.args.places.now
+    c.loop-place.place-index 0) c.if-place-marks.true
     c.requires.marks
-    (named-reached z (gone_of c.args.frame.now) c.args.arrivals.now c.args.marks.now inv.0 (get_or c.args.places.now c.loop-place.place-index 0)
+    (named-reached z (gone_of c.args.frame.now) c.args.arrivals.now c.args.marks.now inv.0 (get_or c.args.places.now
+    c.loop-place.place-index 0)
     (drop (c.loop-place.place-index + 1) c.args.places.now) k (inv.3 z a))
 
 pub returns-in-Some-clause-named : goal.returns-in-Some-clause-named
 returns-in-Some-clause-named c z a =
     let inv = c.loop-place.invariant in
     let k = here c.args.frame.now.bytes c.args.arrivals.now inv.0 c.args.places.now c.loop-place.place-index c.loop-place-test.true inv.2 in
-    let lt : (get_or c.args.places.now c.loop-place.place-index 0) < length c.args.marks.now = (let h = c.if-place-marks.false in omega (arith, h)) in
+    let lt : (get_or c.args.places.now c.loop-place.place-index 0) < length c.args.marks.now = (let h = c.if-place-marks.false
+    in omega (arith, h)) in
     let there = c.index-arrivals-place.is in
     from-here z (gone_of c.args.frame.now) c.args.arrivals.now c.args.marks.now (get_or c.args.places.now c.loop-place.place-index 0)
     c.index-arrivals-place.result no-mark c.in-Some.reason lt c.requires.marks there
     (sym (c.names_it.ensures z a) ∙ c.in-Some.is)
-    (named-reached z (gone_of c.args.frame.now) c.args.arrivals.now c.args.marks.now inv.0 (get_or c.args.places.now c.loop-place.place-index 0)
+    (named-reached z (gone_of c.args.frame.now) c.args.arrivals.now c.args.marks.now inv.0 (get_or c.args.places.now
+    c.loop-place.place-index 0)
     (drop (c.loop-place.place-index + 1) c.args.places.now) k (inv.3 z a))
 
 pub returns-in-Some-clause-within : goal.returns-in-Some-clause-within
@@ -50,15 +54,19 @@ loop-place-preserved c =
     let k = here c.args.frame.now.bytes c.args.arrivals.now inv.0 c.args.places.now c.loop-place.place-index c.loop-place-test.true inv.2 in
     let low = inv.1 in
     let place = k.place in
-    let lt : (get_or c.args.places.now c.loop-place.place-index 0) < length c.args.marks.now = (let h = c.if-place-marks.false in omega (arith, h)) in
-    let there : c.index-arrivals-place.result ≡ get_or c.args.arrivals.now (get_or c.args.places.now c.loop-place.place-index 0) c.index-arrivals-place.result = search rules in (
+    let lt : (get_or c.args.places.now c.loop-place.place-index 0) < length c.args.marks.now = (let h = c.if-place-marks.false
+    in omega (arith, h)) in
+    let there : c.index-arrivals-place.result ≡ get_or c.args.arrivals.now (get_or c.args.places.now c.loop-place.place-index
+    0) c.index-arrivals-place.result = search rules in (
       (get_or c.args.places.now c.loop-place.place-index 0) + 1,
       omega (arith, low, place),
       k.behind,
-      λ z a. from-next z (gone_of c.args.frame.now) c.args.arrivals.now c.args.marks.now (get_or c.args.places.now c.loop-place.place-index 0)
+      λ z a. from-next z (gone_of c.args.frame.now) c.args.arrivals.now c.args.marks.now (get_or c.args.places.now
+          c.loop-place.place-index 0)
           c.index-arrivals-place.result no-mark lt c.requires.marks there
           (sym (c.names_it.ensures z a) ∙ c.in-None.is)
-          (named-reached z (gone_of c.args.frame.now) c.args.arrivals.now c.args.marks.now inv.0 (get_or c.args.places.now c.loop-place.place-index 0)
+          (named-reached z (gone_of c.args.frame.now) c.args.arrivals.now c.args.marks.now inv.0 (get_or c.args.places.now
+          c.loop-place.place-index 0)
           (drop (c.loop-place.place-index + 1) c.args.places.now) k (inv.3 z a)),
     )
 

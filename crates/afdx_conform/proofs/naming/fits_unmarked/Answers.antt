@@ -15,35 +15,45 @@ returns-then-place-marks c z a =
     let inv = c.loop-place.invariant in
     let k = here c.args.frame.now.bytes c.args.arrivals.now inv.0 c.args.places.now c.loop-place.place-index c.loop-place-test.true inv.1 in
     sym (inv.2 z a
-    ∙ right-reached z (gone_of c.args.frame.now) c.args.arrivals.now c.args.marks.now inv.0 (get_or c.args.places.now c.loop-place.place-index 0)
+    ∙ right-reached z (gone_of c.args.frame.now) c.args.arrivals.now c.args.marks.now inv.0 (get_or c.args.places.now
+    c.loop-place.place-index 0)
     (drop (c.loop-place.place-index + 1) c.args.places.now) k
-    ∙ any-end (λ m. is_of_right z (gone_of c.args.frame.now) m) c.args.arrivals.now c.args.marks.now (get_or c.args.places.now c.loop-place.place-index 0)
+    ∙ any-end (λ m. is_of_right z (gone_of c.args.frame.now) m) c.args.arrivals.now c.args.marks.now (get_or c.args.places.now
+    c.loop-place.place-index 0)
     c.if-place-marks.true c.requires.marks)
 
 pub returns-then-fits_without_mark : goal.returns-then-fits_without_mark
 returns-then-fits_without_mark c z a =
     let inv = c.loop-place.invariant in
     let k = here c.args.frame.now.bytes c.args.arrivals.now inv.0 c.args.places.now c.loop-place.place-index c.loop-place-test.true inv.1 in
-    let lt : (get_or c.args.places.now c.loop-place.place-index 0) < length c.args.marks.now = (let h = c.if-place-marks.false in omega (arith, h)) in
+    let lt : (get_or c.args.places.now c.loop-place.place-index 0) < length c.args.marks.now = (let h = c.if-place-marks.false
+    in omega (arith, h)) in
     let there = c.index-arrivals-place.is in
     sym (inv.2 z a
-    ∙ right-reached z (gone_of c.args.frame.now) c.args.arrivals.now c.args.marks.now inv.0 (get_or c.args.places.now c.loop-place.place-index 0)
+    ∙ right-reached z (gone_of c.args.frame.now) c.args.arrivals.now c.args.marks.now inv.0 (get_or c.args.places.now
+    c.loop-place.place-index 0)
     (drop (c.loop-place.place-index + 1) c.args.places.now) k
-    ∙ any-from (λ m. is_of_right z (gone_of c.args.frame.now) m) c.args.arrivals.now c.args.marks.now (get_or c.args.places.now c.loop-place.place-index 0)
-    c.index-arrivals-place.result no-mark true lt c.requires.marks there (sym (c.fits_without_mark.ensures z a) ∙ c.if-fits_without_mark.true))
+    ∙ any-from (λ m. is_of_right z (gone_of c.args.frame.now) m) c.args.arrivals.now c.args.marks.now (get_or c.args.places.now
+    c.loop-place.place-index 0)
+    c.index-arrivals-place.result no-mark true lt c.requires.marks there (sym (c.fits_without_mark.ensures z a) ∙
+    c.if-fits_without_mark.true))
 
 pub loop-place-preserved : goal.loop-place-preserved
 loop-place-preserved c =
     let inv = c.loop-place.invariant in
     let k = here c.args.frame.now.bytes c.args.arrivals.now inv.0 c.args.places.now c.loop-place.place-index c.loop-place-test.true inv.1 in
-    let lt : (get_or c.args.places.now c.loop-place.place-index 0) < length c.args.marks.now = (let h = c.if-place-marks.false in omega (arith, h)) in
-    let there : c.index-arrivals-place.result ≡ get_or c.args.arrivals.now (get_or c.args.places.now c.loop-place.place-index 0) c.index-arrivals-place.result = search rules in (
+    let lt : (get_or c.args.places.now c.loop-place.place-index 0) < length c.args.marks.now = (let h = c.if-place-marks.false
+    in omega (arith, h)) in
+    let there : c.index-arrivals-place.result ≡ get_or c.args.arrivals.now (get_or c.args.places.now c.loop-place.place-index
+    0) c.index-arrivals-place.result = search rules in (
       (get_or c.args.places.now c.loop-place.place-index 0) + 1,
       k.behind,
       λ z a. inv.2 z a
-          ∙ right-reached z (gone_of c.args.frame.now) c.args.arrivals.now c.args.marks.now inv.0 (get_or c.args.places.now c.loop-place.place-index 0)
+          ∙ right-reached z (gone_of c.args.frame.now) c.args.arrivals.now c.args.marks.now inv.0 (get_or c.args.places.now
+          c.loop-place.place-index 0)
           (drop (c.loop-place.place-index + 1) c.args.places.now) k
-          ∙ any-from (λ m. is_of_right z (gone_of c.args.frame.now) m) c.args.arrivals.now c.args.marks.now (get_or c.args.places.now c.loop-place.place-index 0)
+          ∙ any-from (λ m. is_of_right z (gone_of c.args.frame.now) m) c.args.arrivals.now c.args.marks.now (get_or
+          c.args.places.now c.loop-place.place-index 0)
           c.index-arrivals-place.result no-mark false lt c.requires.marks there
           (sym (c.fits_without_mark.ensures z a) ∙ c.if-fits_without_mark.false),
     )

@@ -33,7 +33,8 @@ returns-clause-after c z xs ys cut over f =
 pub returns-clause-due : goal.returns-clause-due
 returns-clause-due c =
     let less = c.if-count-len.false in
-    due-known _ c.forget.new.self ∙ due-arrivals c.args.self.now c.div_ceil-count.result c.give_back_first.new.items c.forget_first.new.items
+    due-known _ c.forget.new.self ∙ due-arrivals c.args.self.now c.div_ceil-count.result c.give_back_first.new.items
+    c.forget_first.new.items
     c.give_back_first.ensures c.forget_first.ensures (omega (arith, less))
 
 pub returns-clause-undecided : goal.returns-clause-undecided

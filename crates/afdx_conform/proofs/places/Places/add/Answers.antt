@@ -9,7 +9,8 @@ use Rattle.afdx_conform.proofs.PlacesLemmas.{kept-added, kept-none}
 use Rattle.afdx_conform.proofs.places.Places.add.Goals as goal
 
 pub returns-in-Some : goal.returns-in-Some
-returns-in-Some c = kept-added c.args.self.now (record c.args.self.now { by_key = c.get_mut.follows.lender c.push.new.self }) c.args.key.now c.push.new.self c.args.place
+returns-in-Some c = kept-added c.args.self.now (record c.args.self.now { by_key = c.get_mut.follows.lender c.push.new.self })
+    c.args.key.now c.push.new.self c.args.place
     (c.in_ok-push.ensures.items ∙ ap (λ (o : Option (Vec ℕ)). all_of o ++ (c.args.place ∷ [])) c.in-Some.ensures.value)
     ((c.get_mut.follows.holds c.push.new.self).3
     (subst (λ (o : Option (Vec ℕ)). IsSome o) c.in-Some.ensures.value refl))
