@@ -11,7 +11,7 @@ use Rattle.afdx_police.specs.Shape.{fault_of}
 use Rattle.afdx_conform.specs.Events.{GoUp, arrival_times, frame_times}
 use Rattle.afdx_conform.specs.Headline.{GoByTime, sound_of}
 use Rattle.afdx_conform.specs.Histories.{uncut}
-use Rattle.afdx_conform.specs.Leeway.{both_slacks}
+use Rattle.afdx_conform.specs.Leeway.{reach}
 use Rattle.afdx_conform.specs.Streams.{Gone, Terms}
 use Rattle.afdx_conform.proofs.EveryLemmas.{every-append, every-reverse, reverse-first}
 use Rattle.afdx_acceptance.specs.Choices.{Choices, counted, counts, latest_of}
@@ -162,5 +162,5 @@ module _ (t : Rows) (c : Choices) (frames : List Frame) (order : AreByTime frame
     uncut-go z =
         subst (λ (l : List ℕ). GoUp l) (sym (map-reverse (λ (y : Gone). y.time) (uncut z (frames_of t c vl side port frames))))
         (down-up (map (λ y. y.time) (uncut z (frames_of t c vl side port frames)))
-        (down-filter (λ (y : Gone). y.time) (λ y. nat_le (y.time + both_slacks z.by) z.until) (frames_of t c vl side port frames)
+        (down-filter (λ (y : Gone). y.time) (λ y. nat_le (y.time + reach z.by) z.until) (frames_of t c vl side port frames)
         down-gone))

@@ -16,7 +16,7 @@ use Rattle.afdx_conform.specs.Explanations.{from_time}
 use Rattle.afdx_conform.specs.Findings.{Judged, Marked}
 use Rattle.afdx_conform.specs.Growing.{AreTold}
 use Rattle.afdx_conform.specs.Histories.{judged_of, shown}
-use Rattle.afdx_conform.specs.Leeway.{both_slacks}
+use Rattle.afdx_conform.specs.Leeway.{reach}
 use Rattle.afdx_conform.specs.Streams.{Terms}
 use Rattle.afdx_conform.proofs.EveryLemmas.{every-map, every-on, every-reverse}
 use Rattle.afdx_acceptance.specs.Beginning.{ComeFrom, IsEndFrom}
@@ -60,9 +60,9 @@ came-from c Came time came h = ltb-false time (from_time c.by.start) h
 came-from c Left time came h = absurd (true≢false (sym came))
 
 left-from : (c : Choices) (role : Role) (time : ℕ) → is_before c role time ≡ false
-    → from_time c.by.start ≤ time + both_slacks c.by
+    → from_time c.by.start ≤ time + reach c.by
 left-from c Came time h = let le = ltb-false time (from_time c.by.start) h in omega (arith, le)
-left-from c Left time h = ltb-false (time + both_slacks c.by) (from_time c.by.start) h
+left-from c Left time h = ltb-false (time + reach c.by) (from_time c.by.start) h
 
 module _ (t : Rows) (c : Choices) (frames : List Frame) where
   counted-pass : (test : Frame → Bool)
@@ -86,15 +86,15 @@ module _ (t : Rows) (c : Choices) (frames : List Frame) where
       (filter (is_arrival_of l.vl k.side) (counted t c frames)) (counted-pass (is_arrival_of l.vl k.side))))
 
   left-start : (k : Key) (o : Option LinkRow)
-      → AllByRecursion (λ y. from_time c.by.start ≤ y.time + both_slacks c.by) (given_to t c k frames o).left
+      → AllByRecursion (λ y. from_time c.by.start ≤ y.time + reach c.by) (given_to t c k frames o).left
   left-start k None = tt
   left-start k (Some l) =
       let test : Frame → Bool = λ x. left_at k.side k.port x && names l.vl x.arrival.bytes in
-      every-reverse (λ y. from_time c.by.start ≤ y.time + both_slacks c.by) (frames_of t c l.vl k.side k.port frames)
-      (every-map (λ y. from_time c.by.start ≤ y.time + both_slacks c.by) (λ (x : Frame). gone_of x.arrival)
+      every-reverse (λ y. from_time c.by.start ≤ y.time + reach c.by) (frames_of t c l.vl k.side k.port frames)
+      (every-map (λ y. from_time c.by.start ≤ y.time + reach c.by) (λ (x : Frame). gone_of x.arrival)
       (filter (λ x. left_at k.side k.port x && names l.vl x.arrival.bytes) (counted t c frames))
       (every-on (λ x. (test x ≡ true) × (counts t c x ≡ true))
-      (λ x. from_time c.by.start ≤ x.arrival.time + both_slacks c.by)
+      (λ x. from_time c.by.start ≤ x.arrival.time + reach c.by)
       (λ x h. left-from c x.role x.arrival.time (counts-time t c x h.1))
       (filter test (counted t c frames)) (counted-pass test)))
 
@@ -108,7 +108,7 @@ module _ (t : Rows) (c : Choices) (frames : List Frame) where
       left = frames-go t c frames order l.vl k.side k.port;
       start = subst (λ b. AllByRecursion (λ x. from_time b.start ≤ x.time) (given_to t c k frames (Some l)).came) (sym same)
           (came-start k (Some l));
-      begun = subst (λ b. AllByRecursion (λ y. from_time b.start ≤ y.time + both_slacks b) (given_to t c k frames (Some l)).left)
+      begun = subst (λ b. AllByRecursion (λ y. from_time b.start ≤ y.time + reach b) (given_to t c k frames (Some l)).left)
           (sym same) (left-start k (Some l));
     }
 

@@ -10,7 +10,7 @@ use Rattle.afdx_config.specs.Lawful.{IsLawfulSwitch}
 use Rattle.afdx_config.specs.Reading.{link_of}
 use Rattle.afdx_config.specs.Rows.{LinkRow, Rows}
 use Rattle.afdx_conform.specs.Explanations.{from_time}
-use Rattle.afdx_conform.specs.Leeway.{both_slacks}
+use Rattle.afdx_conform.specs.Leeway.{reach}
 use Rattle.afdx_conform.specs.LimitRanges.{most_bytes}
 use Rattle.afdx_frame.specs.Layout.{link_named_by}
 use Rattle.afdx_frame.specs.declared.link.Side.{Side}
@@ -51,8 +51,8 @@ pub came-start : (t : Rows) (c : Choices) (a : Arrival) → counts t c (frame_wi
 came-start t c a e = let h = ltb-false a.time (from_time c.by.start) (counts-time t c (frame_with Came a) e) in omega (arith, h)
 
 pub left-start : (t : Rows) (c : Choices) (a : Arrival) → counts t c (frame_with Left a) ≡ true
-    → from_time c.by.start ≤ a.time + both_slacks c.by
-left-start t c a e = let h = ltb-false (a.time + both_slacks c.by) (from_time c.by.start) (counts-time t c (frame_with Left a) e) in
+    → from_time c.by.start ≤ a.time + reach c.by
+left-start t c a e = let h = ltb-false (a.time + reach c.by) (from_time c.by.start) (counts-time t c (frame_with Left a) e) in
     omega (arith, h)
 
 -- which place is named

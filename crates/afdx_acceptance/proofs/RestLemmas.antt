@@ -12,7 +12,7 @@ use Rattle.afdx_conform.specs.Findings.{Judged, judged_after}
 use Rattle.afdx_conform.specs.Growing.{AreTold, IsAfter}
 use Rattle.afdx_conform.specs.Histories.{AreEvents, AreOver, coming, judged_by, judged_of, next_of, nothing_judged, shown, uncut, unclosed}
 use Rattle.afdx_conform.specs.Later.{ComeLater}
-use Rattle.afdx_conform.specs.Leeway.{both_slacks}
+use Rattle.afdx_conform.specs.Leeway.{reach}
 use Rattle.afdx_conform.specs.Standing.{IsEnding, StandsFor, due_of}
 use Rattle.afdx_conform.specs.States.{Event, Came, Closing, arrivals_came}
 use Rattle.afdx_conform.specs.Streams.{Gone, Terms}
@@ -115,7 +115,7 @@ module _ (z : Terms) where
     at-later a b le h = up (moment_at z a) (moment_at z b) (omega (arith, le)) h
 
     abbrev pub AreAt : List Arrival → List Gone → Type 0
-    AreAt cs us = AllByRecursion (λ x. At x.time) cs × AllByRecursion (λ y. At (y.time + both_slacks z.by)) us
+    AreAt cs us = AllByRecursion (λ x. At x.time) cs × AllByRecursion (λ y. At (y.time + reach z.by)) us
 
     arrivals-at : (x : Arrival) (cs : List Arrival) → GoUp (arrival_times (x ∷ cs)) → At x.time
         → AllByRecursion (λ w. At w.time) (x ∷ cs)
@@ -126,13 +126,13 @@ module _ (z : Terms) where
           (every-unmap (λ t. x.time ≤ t) (λ (w : Arrival). w.time) cs go.0),
     )
 
-    frames-at : (y : Gone) (us : List Gone) → GoUp (frame_times (y ∷ us)) → At (y.time + both_slacks z.by)
-        → AllByRecursion (λ w. At (w.time + both_slacks z.by)) (y ∷ us)
+    frames-at : (y : Gone) (us : List Gone) → GoUp (frame_times (y ∷ us)) → At (y.time + reach z.by)
+        → AllByRecursion (λ w. At (w.time + reach z.by)) (y ∷ us)
     unfolding GoUp
     frames-at y us go h = (
       h,
-      every-on (λ w. y.time ≤ w.time) (λ w. At (w.time + both_slacks z.by))
-          (λ w le. at-later (y.time + both_slacks z.by) (w.time + both_slacks z.by) (omega (arith, le)) h) us
+      every-on (λ w. y.time ≤ w.time) (λ w. At (w.time + reach z.by))
+          (λ w le. at-later (y.time + reach z.by) (w.time + reach z.by) (omega (arith, le)) h) us
           (every-unmap (λ t. y.time ≤ t) (λ (w : Gone). w.time) us go.0),
     )
 
@@ -150,14 +150,14 @@ module _ (z : Terms) where
         by : (b : Bool) → closes_before z y x ≡ b → AreAt (x ∷ cs) (y ∷ us)
         by true e =
             let here = h (Closing y.time) (next-is true e) in
-            let lt = ltb-true (y.time + both_slacks z.by) x.time e in (
-              arrivals-at x cs go (at-later (y.time + both_slacks z.by) x.time (omega (arith, lt)) here),
+            let lt = ltb-true (y.time + reach z.by) x.time e in (
+              arrivals-at x cs go (at-later (y.time + reach z.by) x.time (omega (arith, lt)) here),
               frames-at y us gone here,
             )
         by false e =
             let here = h (Came x) (next-is false e) in
-            let le = ltb-false (y.time + both_slacks z.by) x.time e in
-            (arrivals-at x cs go here, frames-at y us gone (at-later x.time (y.time + both_slacks z.by) le here))
+            let le = ltb-false (y.time + reach z.by) x.time e in
+            (arrivals-at x cs go here, frames-at y us gone (at-later x.time (y.time + reach z.by) le here))
 
     -- what is judged once all is, by what is so far
     whole-adds : (xs : List Arrival) (ys : List Gone) (over : List Event) → AreEvents z xs ys over
@@ -185,7 +185,7 @@ module _ (z : Terms) where
 
     late-uncut : (time : ℕ) (ns : List Gone) → AllByRecursion (λ y. time ≤ y.time) ns → AreLate z time (uncut z ns)
     late-uncut time [] all = tt
-    late-uncut time (y ∷ ns) all = by (nat_le (y.time + both_slacks z.by) z.until) (late-uncut time ns all.1)
+    late-uncut time (y ∷ ns) all = by (nat_le (y.time + reach z.by) z.until) (late-uncut time ns all.1)
       where
         by : (b : Bool) → AreLate z time (uncut z ns) → AreLate z time (if b then y ∷ uncut z ns else uncut z ns)
         by true k = ((let at = all.0 in omega (arith, at)), k)
@@ -197,10 +197,10 @@ module _ (z : Terms) where
         every-on (λ x. time ≤ x.time) (λ x. At x.time) (λ x k. up time (moment_at z x.time) (omega (arith, k)) here) ls come
 
     frames-late : (time : ℕ) → Q time → (ms : List Gone) → AllByRecursion (λ y. time ≤ y.time) ms
-        → AllByRecursion (λ y. At (y.time + both_slacks z.by)) (uncut z ms)
+        → AllByRecursion (λ y. At (y.time + reach z.by)) (uncut z ms)
     frames-late time here ms leave =
-        every-on (λ y. time ≤ y.time + both_slacks z.by) (λ y. At (y.time + both_slacks z.by))
-        (λ y k. up time (moment_at z (y.time + both_slacks z.by)) (omega (arith, k)) here) (uncut z ms) (late-uncut time ms leave)
+        every-on (λ y. time ≤ y.time + reach z.by) (λ y. At (y.time + reach z.by))
+        (λ y k. up time (moment_at z (y.time + reach z.by)) (omega (arith, k)) here) (uncut z ms) (late-uncut time ms leave)
 
     -- ---- where nothing came before
 
@@ -256,8 +256,8 @@ module _ (z : Terms) where
                 (subst (λ (l : List ℕ). GoUp l) (map-append (λ (y : Gone). y.time) us off)
                 (subst (λ (l : List Gone). GoUp (frame_times l)) ends-at told.left));
             start = told.start;
-            begun = every-left (λ y. from_time z.by.start ≤ y.time + both_slacks z.by) us off
-                (subst (λ (l : List Gone). AllByRecursion (λ y. from_time z.by.start ≤ y.time + both_slacks z.by) l) ends-at
+            begun = every-left (λ y. from_time z.by.start ≤ y.time + reach z.by) us off
+                (subst (λ (l : List Gone). AllByRecursion (λ y. from_time z.by.start ≤ y.time + reach z.by) l) ends-at
                 told.begun);
           }
 
@@ -286,17 +286,17 @@ module _ (z : Terms) where
             subst (λ (l : List Arrival). AllByRecursion (λ x. At x.time) l)
                 (sym (drop-append-le (length (arrivals_came over)) xs ls (came-within z xs (us ++ ws) over events-more)))
                 (every-append (λ x. At x.time) (coming xs over) ls all.0 (arrivals-late time now-at ls come)),
-            subst (λ (l : List Gone). AllByRecursion (λ y. At (y.time + both_slacks z.by)) l)
+            subst (λ (l : List Gone). AllByRecursion (λ y. At (y.time + reach z.by)) l)
                 (sym (unclosed-more z xs us ws over closed-low))
-                (every-append (λ y. At (y.time + both_slacks z.by)) (unclosed us over) ws
-                (every-left (λ y. At (y.time + both_slacks z.by)) (unclosed us over) off
-                (subst (λ (l : List Gone). AllByRecursion (λ y. At (y.time + both_slacks z.by)) l)
+                (every-append (λ y. At (y.time + reach z.by)) (unclosed us over) ws
+                (every-left (λ y. At (y.time + reach z.by)) (unclosed us over) off
+                (subst (λ (l : List Gone). AllByRecursion (λ y. At (y.time + reach z.by)) l)
                 (ap (λ (l : List Gone). unclosed l over) ends-at ∙ unclosed-more z xs us off over closed-low) all.1))
                 (frames-late time now-at ms leave)),
           )
 
       parts : uncut z (ys ++ ms) ≡ us ++ ws
-      parts = filter-append (λ y. nat_le (y.time + both_slacks z.by) z.until) ys ms
+      parts = filter-append (λ y. nat_le (y.time + reach z.by) z.until) ys ms
 
       -- where the events that are left are at such moments, or there were too many states
       pub more-adds : ((judged_by z xs ys over).is_unsure ≡ true) ⊎ AreAt (coming xs over) (unclosed ys over)

@@ -303,7 +303,7 @@ unfolding counts is_unheard goes_there is_damaged is_arrival_of left_at names so
     is_open is_begun counted_at counted_to counted_among findings_in unseen_to unseen_among is_missed least_from
 premises_met = record {
   lawful = is-lawful;
-  exact = record { slack = refl; drift = refl; asked = refl; start = refl };
+  exact = record { slack = refl; between = refl; drift = refl; asked = refl; start = refl };
   by_time = (omega arith, (omega arith, tt));
   is_right = record {
     none_strange = λ side port small. no-strangers 6720 refl side port;

@@ -18,7 +18,7 @@ use Rattle.afdx_conform.specs.LimitRanges.{most_bytes}
 use Rattle.afdx_conform.specs.Explanations.{Explains}
 use Rattle.afdx_conform.specs.Headline.{IsAsTheHeadline, IsExact, sound_of}
 use Rattle.afdx_conform.specs.Histories.{judged_of, uncut}
-use Rattle.afdx_conform.specs.Leeway.{both_slacks}
+use Rattle.afdx_conform.specs.Leeway.{reach}
 use Rattle.afdx_conform.specs.Streams.{Gone, Terms}
 use Rattle.afdx_conform.proofs.CutLemmas.{uncut-reverse}
 use Rattle.afdx_conform.proofs.HeadlineLemmas.{exact_is_the_headline}
@@ -74,10 +74,10 @@ module _ (z : Terms) (own : List Arrival) (left : List Gone) where
       ap (λ (j : Judged). j.findings) whole-is
       ∙ finds_nothing z (reverse own) (reverse (uncut z left)) p (other-way e)
 
-  uncut-all : (ys : List Gone) → AllByRecursion (λ y. y.time + both_slacks z.by ≤ z.until) ys → uncut z ys ≡ ys
+  uncut-all : (ys : List Gone) → AllByRecursion (λ y. y.time + reach z.by ≤ z.until) ys → uncut z ys ≡ ys
   uncut-all [] h = refl
   uncut-all (y ∷ ys) h =
-      ap (λ (b : Bool). if b then y ∷ uncut z ys else uncut z ys) (le-leb (y.time + both_slacks z.by) z.until h.0)
+      ap (λ (b : Bool). if b then y ∷ uncut z ys else uncut z ys) (le-leb (y.time + reach z.by) z.until h.0)
       ∙ ap (λ (l : List Gone). y ∷ l) (uncut-all ys h.1)
 
 -- ---- frames that count are no later than the end
@@ -207,15 +207,21 @@ module _ (t : Rows) (c : Choices) (frames : List Frame) (lines : List Due) (lawf
   End = until_or c.until frames
 
   exact-at : (l : LinkRow) (port : ℕ) → IsExact (terms_at t c End l port)
-  exact-at l port = record { slack = exact.slack; drift = exact.drift; asked = exact.asked; start = exact.start }
+  exact-at l port = record {
+    account = record { slack = exact.slack; drift = exact.drift; asked = exact.asked; start = exact.start };
+    between = exact.between;
+  }
 
   sure-at : AreSure t c End frames
-  sure-at side place port l is = (exact_sure (terms_at t c End l port) _ [] _ (exact-at l port)).sure
+  sure-at side place port l is = (exact_sure (terms_at t c End l port) _ [] _ (exact-at l port).account).sure
 
   gone-until : (fs : List Frame) → AllByRecursion (λ x. x.arrival.time ≤ End) fs
-      → AllByRecursion (λ y. y.time + both_slacks c.by ≤ End) (map (λ x. gone_of x.arrival) fs)
+      → AllByRecursion (λ y. y.time + reach c.by ≤ End) (map (λ x. gone_of x.arrival) fs)
   gone-until [] h = tt
-  gone-until (x ∷ fs) h = (let a = h.0 in let s = exact.slack in omega (arith, a, s), gone-until fs h.1)
+  gone-until (x ∷ fs) h = (
+    (let a = h.0 in let s = exact.slack in let b = exact.between in omega (arith, a, s, b)),
+    gone-until fs h.1,
+  )
 
   uncut-is : (l : LinkRow) (side : Side) (port : ℕ) → uncut_at t c End frames l side port ≡ frames_of t c l.vl side port frames
   uncut-is l side port =

@@ -13,7 +13,7 @@ use Rattle.afdx_conform.specs.Findings.{Judged}
 use Rattle.afdx_conform.specs.Headline.{GoByTime, sound_of}
 use Rattle.afdx_conform.specs.Hiding.{KeepAll}
 use Rattle.afdx_conform.specs.Histories.{counts_of, counts_with, judged_of, least_waiting, uncut}
-use Rattle.afdx_conform.specs.Leeway.{both_slacks}
+use Rattle.afdx_conform.specs.Leeway.{reach}
 use Rattle.afdx_conform.specs.Open.{AreLeastOpen}
 use Rattle.afdx_conform.specs.Streams.{Gone, Terms}
 use Rattle.afdx_bounds.specs.Tables.{rule_of}
@@ -82,7 +82,7 @@ module _ (z : Terms) (own : List Arrival) (left : List Gone) (order : GoUp (arri
       let turned = length-reverse left in
       let off = parts.0 in
       let all : uncut z left ≡ left =
-      all-pass (λ y. nat_le (y.time + both_slacks z.by) z.until) left (omega (arith, count, turned, off)) in
+      all-pass (λ y. nat_le (y.time + reach z.by) z.until) left (omega (arith, count, turned, off)) in
       let e = least.some in
       let waits : e.waiting ≡ [] = no-list e.waiting
       (least.are_so_many ∙ ap (λ (j : Judged). least_waiting j.states) (sym (whole-is z own left)) ∙ parts.1) in
@@ -129,7 +129,10 @@ shows_the_rule k frames lines exact run conforms closed =
           let s = all side place port l is in
           exact_shows_all (terms_at k.0 k.1 (end_of k frames) l port) (arrivals_of k.0 k.1 l.vl side frames)
           (frames_of k.0 k.1 l.vl side port frames) s.answers
-          (record { slack = exact.slack; drift = exact.drift; asked = exact.asked; start = exact.start })
+          (record {
+            account = record { slack = exact.slack; drift = exact.drift; asked = exact.asked; start = exact.start };
+            between = exact.between;
+          })
           (bag-of k.0 k.1 side place port l run.lawful is) (arrivals-by-time k.0 k.1 frames run.by_time l.vl side)
           s.are_answered s.are_allowed s.are_pairs;
     }

@@ -11,7 +11,7 @@ use Rattle.afdx_lists.specs.declared.role.Role.{Role}
 use Rattle.afdx_lists.specs.declared.role.Role.TheVariants.{Came, Left}
 use Rattle.afdx_inputs.specs.Joining.{Frame}
 use Rattle.afdx_conform.specs.Explanations.{from_time}
-use Rattle.afdx_conform.specs.Leeway.{Leeway, both_slacks}
+use Rattle.afdx_conform.specs.Leeway.{Leeway, reach}
 use Rattle.afdx_conform.specs.LimitRanges.{most_bytes}
 use Rattle.afdx_acceptance.specs.Tapped.{Taps, is_unheard}
 
@@ -41,10 +41,11 @@ is_behind time None = false
 is_behind time (Some until) = nat_lt until time
 
 module _ (c : Choices) where
-  -- a frame that came counts from the start on, one that left from two slacks before it
+  -- a frame that came counts from the start on, one that left from the reach of two stamps before
+  -- it
   abbrev pub is_before : Role → ℕ → Bool
   is_before Came time = nat_lt time (from_time c.by.start)
-  is_before Left time = nat_lt (time + both_slacks c.by) (from_time c.by.start)
+  is_before Left time = nat_lt (time + reach c.by) (from_time c.by.start)
 
   -- the frame is from start to end
   abbrev pub is_in_time : Frame → Bool

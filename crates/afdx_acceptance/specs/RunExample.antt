@@ -42,7 +42,7 @@ tables = record {
 
 abbrev pub choices : Choices
 choices = record {
-  by = leeway_with 0 0 0 0 None;
+  by = leeway_with 0 0 0 0 0 None;
   until = None;
   left_out = [];
   taps = all_taps;

@@ -90,6 +90,7 @@ module _ (t : Rows) (c : Choices) (until : ℕ) (frames : List Frame) where
 -- stamps and clocks are exact, accounts are asked at once, and the switch was reset before
 pub record IsExactBy (by : Leeway) : Type 0 where
   pub slack : by.slack ≡ 0
+  pub between : by.between ≡ 0
   pub drift : by.drift ≡ 0
   pub asked : by.asked ≡ 0
   pub start : by.start ≡ None

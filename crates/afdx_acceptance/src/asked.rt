@@ -26,7 +26,7 @@ pub(crate) fn is_behind(time: u64, until: Option<u64>) -> bool
     }
 }
 
-/// Whether a line of this time lies before the start: one of what left, by two slacks.
+/// Whether a line of this time lies before the start: one of what left, by the reach of two stamps.
 fn is_before(leeway: &Leeway, role: Role, time: u64) -> bool
     ensures { (c : Chosen) → c.by ≡ leeway_of leeway.now → result ≡ asked.is_before c role time }
 {
@@ -35,7 +35,7 @@ fn is_before(leeway: &Leeway, role: Role, time: u64) -> bool
     };
     match role {
         Role::Came => time < start,
-        Role::Left => time < start.saturating_sub(2 * leeway.slack),
+        Role::Left => time < start.saturating_sub(leeway.reach()),
     }
 }
 

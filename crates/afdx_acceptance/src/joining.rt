@@ -6,7 +6,7 @@ ghost use Rattle.afdx_bounds.specs.Tables.{port_of};
 ghost use Rattle.afdx_config.specs.Lawful.{IsLawfulSwitch};
 ghost use Rattle.afdx_config.specs.Rows.{LinkRow, Rows, is_to};
 ghost use Rattle.afdx_conform.specs.Explanations.{from_time};
-ghost use Rattle.afdx_conform.specs.Leeway.{both_slacks};
+ghost use Rattle.afdx_conform.specs.Leeway.{reach};
 ghost use Rattle.afdx_conform.specs.LeewayOf.{leeway_of};
 ghost use Rattle.afdx_conform.specs.LimitRanges.{most_bytes};
 ghost use Rattle.afdx_conform.specs.Limits.{gone_of};
@@ -140,7 +140,7 @@ pub(crate) fn leave_to(
     ensures { (c : Choices) (until time : ℕ) (given : Key → Given) (lines : List Due)
         (l : LinkRow) → slice_get tables.now.links link ≡ Some l → is_to system.0 l ≡ true →
         leeway_of leeway ≡ c.by → time ≤ frame.time →
-        from_time c.by.start ≤ frame.time + both_slacks c.by →
+        from_time c.by.start ≤ frame.time + reach c.by →
         AllByRecursion (λ y. y.time ≤ frame.time)
         (given (key_with side (port_of tables.now system.0) (Some link))).left →
         length (given (key_with side (port_of tables.now system.0) (Some link))).left + 1

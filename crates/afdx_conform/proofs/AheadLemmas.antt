@@ -6,7 +6,7 @@ use Rattle.std.specs.Prelude.{if◌then◌else◌, nat_lt}
 use Rattle.std.specs.List.{AllByRecursion, list_all}
 use Rattle.std.specs.Str.{bytes_eq}
 use Rattle.afdx_police.specs.Arrival.{Arrival}
-use Rattle.afdx_conform.specs.Leeway.{both_slacks}
+use Rattle.afdx_conform.specs.Leeway.{reach}
 use Rattle.afdx_conform.specs.Levels.{Levels, first_levels, may_pass, has_to_pass, charged, refused}
 use Rattle.afdx_conform.specs.Streams.{Gone, Terms, fits, is_open, is_begun, is_no_sooner, is_in_time, latency}
 use Rattle.afdx_conform.specs.Explanations.{link, charge, last_time, levels_then}
@@ -64,10 +64,10 @@ and-false true b e = e
 and-false false b e = refl
 
 module _ (z : Terms) where
-  pub too-late : (x : Arrival) (y : Gone) → x.time + latency z + both_slacks z.by < y.time → fits z x y ≡ false
+  pub too-late : (x : Arrival) (y : Gone) → x.time + latency z + reach z.by < y.time → fits z x y ≡ false
   unfolding fits
   too-late x y h = and-false (bytes_eq x.bytes y.bytes && is_no_sooner z x y) (is_in_time z x y)
-      (lt-leb y.time (x.time + latency z + both_slacks z.by) h)
+      (lt-leb y.time (x.time + latency z + reach z.by) h)
 
   pub first-more : (levels : Levels) (ys more : List Gone) → AllByRecursion (λ y. is_begun z y ≡ false) more
       → first_states z levels (ys ++ more) ≡ map (with_more more) (first_states z levels ys)
@@ -84,7 +84,7 @@ module _ (z : Terms) where
       by false e = refl
 
   accepted-more : (x : Arrival) (levels : Levels) (n : ℕ) (rest more : List Gone) → is_open z x ≡ false
-      → AllByRecursion (λ y. x.time + latency z + both_slacks z.by < y.time) more
+      → AllByRecursion (λ y. x.time + latency z + reach z.by < y.time) more
       → accepted_states z x levels n (rest ++ more) ≡ map (with_more more) (accepted_states z x levels n rest)
   accepted-more x levels n [] [] opens all = by (is_open z x) opens
     where
@@ -103,7 +103,7 @@ module _ (z : Terms) where
       by false = refl
 
   pub at-more : (x : Arrival) (levels : Levels) (more : List Gone) → is_open z x ≡ false
-      → AllByRecursion (λ y. x.time + latency z + both_slacks z.by < y.time) more
+      → AllByRecursion (λ y. x.time + latency z + reach z.by < y.time) more
       → (s : State) → states_at z x levels (with_more more s) ≡ map (with_more more) (states_at z x levels s)
   unfolding states_at
   at-more x levels more opens all s =

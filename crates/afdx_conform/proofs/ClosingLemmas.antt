@@ -7,7 +7,7 @@ use Rattle.std.specs.Prelude.{if◌then◌else◌, nat_le, ◌&&◌, ◌||◌, C
 use Rattle.std.specs.List.{AllByRecursion, list_any}
 use Rattle.afdx_conform.specs.Findings.{Judged, with_states, has_some, lead, with_rest, front_rest, skipped, unexplained, closed_by, closed_to}
 use Rattle.afdx_conform.specs.HeldStates.{AreClosed, state_of}
-use Rattle.afdx_conform.specs.Leeway.{both_slacks}
+use Rattle.afdx_conform.specs.Leeway.{reach}
 use Rattle.afdx_conform.specs.Naming.{unexplained_all}
 use Rattle.afdx_conform.specs.States.{State, kept, are_behind}
 use Rattle.afdx_conform.specs.Streams.{Gone, Terms}
@@ -107,7 +107,7 @@ module _ (z : Terms) (time passed : ℕ) (ys : List Gone) (held : List Held) (j 
 
 module _ (z : Terms) (time : ℕ) (front : List State) where
   abbrev At : ℕ
-  At = time + both_slacks z.by
+  At = time + reach z.by
 
   behind-not : (y : Gone) (rest : List Gone) → y.time ≤ time → are_behind time (y ∷ rest) ≡ false
   unfolding are_behind
@@ -152,7 +152,7 @@ pub skip-from : (z : Terms) (time passed from : ℕ) (ys : List Gone) (states : 
     → from < passed → drop from ys ≡ front_rest states
     → skipped z time (lead states) (front_rest states) j
     ≡ with_states (with_rest (drop passed ys) (lead states))
-    (unexplained_all z (time + both_slacks z.by) (take (passed - from) (drop from ys)) j)
+    (unexplained_all z (time + reach z.by) (take (passed - from) (drop from ys)) j)
 skip-from z time passed from ys states j closed lt front =
     let within = closed.within in
     let size = length-drop from ys in
@@ -166,7 +166,7 @@ skip-from z time passed from ys states j closed lt front =
     (take-between (λ y. y.time ≤ time) ys from passed (omega (arith, lt)) closed.closed)
     (ap (λ (l : List Gone). are_behind time l) rest ∙ closed.behind)
     ∙ ap (λ (l : List Gone). with_states (with_rest l (lead states))
-    (unexplained_all z (time + both_slacks z.by) (take (passed - from) (drop from ys)) j)) rest
+    (unexplained_all z (time + reach z.by) (take (passed - from) (drop from ys)) j)) rest
 
 -- no state is behind the closing, so the front is before it
 none-passed : (passed : ℕ) (xs : List Held) → list_any (λ h. nat_le passed h.passed) xs ≡ false

@@ -5,7 +5,7 @@ use Rattle.std.proofs.lemmas.List.Elements.{filter-append}
 use Rattle.std.specs.Prelude.{if◌then◌else◌, nat_le}
 use Rattle.std.specs.List.{AllByRecursion, filter}
 use Rattle.afdx_conform.specs.Histories.{uncut}
-use Rattle.afdx_conform.specs.Leeway.{both_slacks}
+use Rattle.afdx_conform.specs.Leeway.{reach}
 use Rattle.afdx_conform.specs.Right.{AllLeaveLater, Asked, EachLeaves, IsUnseen}
 use Rattle.afdx_conform.specs.RightCut.{RightIsCut}
 use Rattle.afdx_conform.specs.Streams.{Gone, Terms}
@@ -25,7 +25,7 @@ filter-reverse test (x ∷ xs) =
     by false = append-nil (reverse (filter test xs))
 
 pub uncut-reverse : (z : Terms) (ys : List Gone) → uncut z (reverse ys) ≡ reverse (uncut z ys)
-uncut-reverse z ys = filter-reverse (λ y. nat_le (y.time + both_slacks z.by) z.until) ys
+uncut-reverse z ys = filter-reverse (λ y. nat_le (y.time + reach z.by) z.until) ys
 
 -- ---- those that are cut off are of arrivals that leave later
 

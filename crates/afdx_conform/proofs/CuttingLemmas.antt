@@ -9,7 +9,7 @@ use Rattle.afdx_conform.specs.Ahead.{with_more}
 use Rattle.afdx_conform.specs.Events.{GoUp, closings_in, frame_times}
 use Rattle.afdx_conform.specs.HeldStates.{state_of}
 use Rattle.afdx_conform.specs.Histories.{AreEvents, AreOver, coming, uncut, unclosed}
-use Rattle.afdx_conform.specs.Leeway.{both_slacks}
+use Rattle.afdx_conform.specs.Leeway.{reach}
 use Rattle.afdx_conform.specs.States.{Event, Came, Closing, State, state_with}
 use Rattle.afdx_conform.specs.Streams.{Gone, Terms}
 use Rattle.afdx_conform.specs.declared.states.Held.{Held}
@@ -21,10 +21,10 @@ module _ (z : Terms) where
   -- ---- the frames that are cut off stand behind the others
 
   abbrev pub IsCutOff : Gone → Type 0
-  IsCutOff y = z.until < y.time + both_slacks z.by
+  IsCutOff y = z.until < y.time + reach z.by
 
   abbrev pub IsShown : Gone → Type 0
-  IsShown y = y.time + both_slacks z.by ≤ z.until
+  IsShown y = y.time + reach z.by ≤ z.until
 
   pub record IsSplit (ys : List Gone) : Type 0 where
     pub off : List Gone
@@ -33,19 +33,19 @@ module _ (z : Terms) where
 
   none-uncut : (ys : List Gone) → AllByRecursion IsCutOff ys → uncut z ys ≡ []
   none-uncut [] h = refl
-  none-uncut (y ∷ ys) h = by (nat_le (y.time + both_slacks z.by) z.until) refl (none-uncut ys h.1)
+  none-uncut (y ∷ ys) h = by (nat_le (y.time + reach z.by) z.until) refl (none-uncut ys h.1)
     where
-      by : (b : Bool) → nat_le (y.time + both_slacks z.by) z.until ≡ b → uncut z ys ≡ []
+      by : (b : Bool) → nat_le (y.time + reach z.by) z.until ≡ b → uncut z ys ≡ []
           → (if b then y ∷ uncut z ys else uncut z ys) ≡ []
-      by true e k = absurd (let le = leb-true (y.time + both_slacks z.by) z.until e in let lt = h.0 in omega (arith, le, lt))
+      by true e k = absurd (let le = leb-true (y.time + reach z.by) z.until e in let lt = h.0 in omega (arith, le, lt))
       by false e k = k
 
   pub split : (ys : List Gone) → GoUp (frame_times ys) → IsSplit ys
   unfolding GoUp
   split [] h = record { off = []; same = refl; are_off = tt }
-  split (y ∷ ys) h = by (nat_le (y.time + both_slacks z.by) z.until) refl (split ys h.1)
+  split (y ∷ ys) h = by (nat_le (y.time + reach z.by) z.until) refl (split ys h.1)
     where
-      by : (b : Bool) → nat_le (y.time + both_slacks z.by) z.until ≡ b → IsSplit ys → IsSplit (y ∷ ys)
+      by : (b : Bool) → nat_le (y.time + reach z.by) z.until ≡ b → IsSplit ys → IsSplit (y ∷ ys)
       by true e s = record {
         off = s.off;
         same = ap (λ (l : List Gone). y ∷ l) s.same
@@ -53,7 +53,7 @@ module _ (z : Terms) where
         are_off = s.are_off;
       }
       by false e s =
-          let lt = leb-false (y.time + both_slacks z.by) z.until e in
+          let lt = leb-false (y.time + reach z.by) z.until e in
           let all : AllByRecursion IsCutOff (y ∷ ys) = (
             lt,
             every-on (λ w. y.time ≤ w.time) IsCutOff
@@ -67,16 +67,16 @@ module _ (z : Terms) where
 
   pub all-shown : (ys : List Gone) → AllByRecursion IsShown (uncut z ys)
   all-shown [] = tt
-  all-shown (y ∷ ys) = by (nat_le (y.time + both_slacks z.by) z.until) refl (all-shown ys)
+  all-shown (y ∷ ys) = by (nat_le (y.time + reach z.by) z.until) refl (all-shown ys)
     where
-      by : (b : Bool) → nat_le (y.time + both_slacks z.by) z.until ≡ b → AllByRecursion IsShown (uncut z ys)
+      by : (b : Bool) → nat_le (y.time + reach z.by) z.until ≡ b → AllByRecursion IsShown (uncut z ys)
           → AllByRecursion IsShown (if b then y ∷ uncut z ys else uncut z ys)
-      by true e k = (leb-true (y.time + both_slacks z.by) z.until e, k)
+      by true e k = (leb-true (y.time + reach z.by) z.until e, k)
       by false e k = k
 
   pub are-late : (time : ℕ) (off : List Gone) → time ≤ z.until → AllByRecursion IsCutOff off → AreLate z time off
   are-late time off le h =
-      every-on IsCutOff (λ y. time ≤ y.time + both_slacks z.by) (λ y lt. omega (arith, le, lt)) off h
+      every-on IsCutOff (λ y. time ≤ y.time + reach z.by) (λ y lt. omega (arith, le, lt)) off h
 
   drop-all : (us rs : List Gone) → drop (length us) (us ++ rs) ≡ rs
   drop-all [] rs = refl

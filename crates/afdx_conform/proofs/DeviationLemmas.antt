@@ -18,13 +18,13 @@ use Rattle.afdx_conform.specs.declared.arrived.Arrived.{Arrived}
 use Rattle.afdx_conform.specs.declared.limits.Limits.{Limits}
 
 module _ (z : Terms) (x : Arrival) (y : Gone) (l : Limits) (a : AreLimits z l) where
-  pub far-is : nat_lt (x.time + l.latency + l.latency + l.slacks) y.time ≡ is_far z x y
-  far-is = ap (λ (n : ℕ). nat_lt (x.time + n + n + l.slacks) y.time) a.latency
-      ∙ ap (λ (n : ℕ). nat_lt (x.time + latency z + latency z + n) y.time) a.slacks
+  pub far-is : nat_lt (x.time + l.latency + l.latency + l.reach) y.time ≡ is_far z x y
+  far-is = ap (λ (n : ℕ). nat_lt (x.time + n + n + l.reach) y.time) a.latency
+      ∙ ap (λ (n : ℕ). nat_lt (x.time + latency z + latency z + n) y.time) a.reach
 
-  pub late-is : nat_lt (x.time + l.latency + l.slacks) y.time ≡ is_late z x y
-  late-is = ap (λ (n : ℕ). nat_lt (x.time + n + l.slacks) y.time) a.latency
-      ∙ ap (λ (n : ℕ). nat_lt (x.time + latency z + n) y.time) a.slacks
+  pub late-is : nat_lt (x.time + l.latency + l.reach) y.time ≡ is_late z x y
+  late-is = ap (λ (n : ℕ). nat_lt (x.time + n + l.reach) y.time) a.latency
+      ∙ ap (λ (n : ℕ). nat_lt (x.time + latency z + n) y.time) a.reach
 
   pub wire-of : (wire : ℕ) → wire ≡ div_ceil (parts * ((length x.bytes + 8) * l.byte_ns)) (parts + l.drift)
       → wire ≡ wire_time z x.bytes
@@ -33,13 +33,13 @@ module _ (z : Terms) (x : Arrival) (y : Gone) (l : Limits) (a : AreLimits z l) w
       ∙ ap (λ (n : ℕ). div_ceil (parts * ((length x.bytes + 8) * z.byte_ns)) (parts + n)) a.drift
 
   pub sooner-is : (wire : ℕ) → wire ≡ div_ceil (parts * ((length x.bytes + 8) * l.byte_ns)) (parts + l.drift)
-      → nat_le (x.time + wire) (y.time + l.slacks) ≡ is_no_sooner z x y
-  sooner-is wire w = ap (λ (n : ℕ). nat_le (x.time + n) (y.time + l.slacks)) (wire-of wire w)
-      ∙ ap (λ (n : ℕ). nat_le (x.time + wire_time z x.bytes) (y.time + n)) a.slacks
+      → nat_le (x.time + wire) (y.time + l.reach) ≡ is_no_sooner z x y
+  sooner-is wire w = ap (λ (n : ℕ). nat_le (x.time + n) (y.time + l.reach)) (wire-of wire w)
+      ∙ ap (λ (n : ℕ). nat_le (x.time + wire_time z x.bytes) (y.time + n)) a.reach
 
-  pub early-is : (bytes_eq x.bytes y.bytes && nat_le x.time (y.time + l.slacks) && not (is_no_sooner z x y))
+  pub early-is : (bytes_eq x.bytes y.bytes && nat_le x.time (y.time + l.reach) && not (is_no_sooner z x y))
       ≡ is_early z x y
-  early-is = ap (λ (n : ℕ). bytes_eq x.bytes y.bytes && nat_le x.time (y.time + n) && not (is_no_sooner z x y)) a.slacks
+  early-is = ap (λ (n : ℕ). bytes_eq x.bytes y.bytes && nat_le x.time (y.time + n) && not (is_no_sooner z x y)) a.reach
 
 -- ---- the order of the tests
 

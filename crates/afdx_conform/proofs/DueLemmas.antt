@@ -15,10 +15,10 @@ use Rattle.afdx_conform.specs.declared.limits.Limits.{Limits}
 in-came : (limits : Limits) (cs : List Arrived) (fs : List Frame) (a : Arrived)
     → IsSameOrLater (due_in limits cs fs) a.time (due_in limits (cs ++ (a ∷ [])) fs)
 in-came limits [] [] a = inr (omega arith)
-in-came limits [] (f ∷ fs) a = by (nat_lt (f.time + limits.slacks) a.time)
+in-came limits [] (f ∷ fs) a = by (nat_lt (f.time + limits.reach) a.time)
   where
-    by : (b : Bool) → IsSameOrLater (Some (due_at limits (f.time + limits.slacks))) a.time
-        (if b then Some (due_at limits (f.time + limits.slacks)) else Some (due_at limits a.time))
+    by : (b : Bool) → IsSameOrLater (Some (due_at limits (f.time + limits.reach))) a.time
+        (if b then Some (due_at limits (f.time + limits.reach)) else Some (due_at limits a.time))
     by true = inl refl
     by false = inr (omega arith)
 in-came limits (c ∷ cs) [] a = inl refl
@@ -27,10 +27,10 @@ in-came limits (c ∷ cs) (f ∷ fs) a = inl refl
 in-left : (limits : Limits) (cs : List Arrived) (fs : List Frame) (g : Frame)
     → IsSameOrLater (due_in limits cs fs) g.time (due_in limits cs (fs ++ (g ∷ [])))
 in-left limits [] [] g = inr (omega arith)
-in-left limits (c ∷ cs) [] g = by (nat_lt (g.time + limits.slacks) c.time)
+in-left limits (c ∷ cs) [] g = by (nat_lt (g.time + limits.reach) c.time)
   where
     by : (b : Bool) → IsSameOrLater (Some (due_at limits c.time)) g.time
-        (if b then Some (due_at limits (g.time + limits.slacks)) else Some (due_at limits c.time))
+        (if b then Some (due_at limits (g.time + limits.reach)) else Some (due_at limits c.time))
     by true = inr (omega arith)
     by false = inl refl
 in-left limits [] (f ∷ fs) g = inl refl

@@ -20,20 +20,20 @@ head-is zero (y ∷ xs) rest x e = by e
 head-is (suc n) (y ∷ xs) rest x e = head-is n xs rest x e
 
 in-arrival : (limits : Limits) (a : Arrived) (rest : List Arrived) (fs : List Frame)
-    → ((f : Frame) (more : List Frame) → fs ≡ f ∷ more → a.time ≤ f.time + limits.slacks)
+    → ((f : Frame) (more : List Frame) → fs ≡ f ∷ more → a.time ≤ f.time + limits.reach)
     → Some (due_at limits a.time) ≡ due_in limits (a ∷ rest) fs
 in-arrival limits a rest [] h = refl
 in-arrival limits a rest (f ∷ fs) h =
-    sym (ap (λ (b : Bool). if b then Some (due_at limits (f.time + limits.slacks)) else Some (due_at limits a.time))
-    (le-ltb (f.time + limits.slacks) a.time (h f fs refl)))
+    sym (ap (λ (b : Bool). if b then Some (due_at limits (f.time + limits.reach)) else Some (due_at limits a.time))
+    (le-ltb (f.time + limits.reach) a.time (h f fs refl)))
 
 in-closing : (limits : Limits) (f : Frame) (rest : List Frame) (come : List Arrived)
-    → ((a : Arrived) (more : List Arrived) → come ≡ a ∷ more → f.time + limits.slacks < a.time)
-    → Some (due_at limits (f.time + limits.slacks)) ≡ due_in limits come (f ∷ rest)
+    → ((a : Arrived) (more : List Arrived) → come ≡ a ∷ more → f.time + limits.reach < a.time)
+    → Some (due_at limits (f.time + limits.reach)) ≡ due_in limits come (f ∷ rest)
 in-closing limits f rest [] h = refl
 in-closing limits f rest (a ∷ come) h =
-    sym (ap (λ (b : Bool). if b then Some (due_at limits (f.time + limits.slacks)) else Some (due_at limits a.time))
-    (lt-ltb (f.time + limits.slacks) a.time (h a come refl)))
+    sym (ap (λ (b : Bool). if b then Some (due_at limits (f.time + limits.reach)) else Some (due_at limits a.time))
+    (lt-ltb (f.time + limits.reach) a.time (h a come refl)))
 
 less-than : {X : Type 0} (n : ℕ) (xs rest : List X) (x : X) → drop n xs ≡ x ∷ rest → n < length xs
 less-than n xs rest x e =
@@ -65,7 +65,7 @@ module _ (g : Growth) where
   pub due-arrival : (a : Arrived) (moment : ℕ) → g.judging.is_unsure ≡ false → Place < length g.arrivals.items
       → a ≡ get_or g.arrivals.items Place a
       → ((f : Frame) → g.closed < length g.frames.items → f ≡ get_or g.frames.items g.closed f
-      → a.time ≤ f.time + g.bounds.limits.slacks)
+      → a.time ≤ f.time + g.bounds.limits.reach)
       → moment ≡ due_at g.bounds.limits a.time → Some moment ≡ due_by g
   due-arrival a moment sure lt at first is =
       ap (λ (n : ℕ). Some n) is
@@ -78,8 +78,8 @@ module _ (g : Growth) where
   pub due-closing : (f : Frame) (moment : ℕ) → g.judging.is_unsure ≡ false → g.closed < length g.frames.items
       → f ≡ get_or g.frames.items g.closed f
       → ((a : Arrived) → Place < length g.arrivals.items → a ≡ get_or g.arrivals.items Place a
-      → f.time + g.bounds.limits.slacks < a.time)
-      → moment ≡ due_at g.bounds.limits (f.time + g.bounds.limits.slacks) → Some moment ≡ due_by g
+      → f.time + g.bounds.limits.reach < a.time)
+      → moment ≡ due_at g.bounds.limits (f.time + g.bounds.limits.reach) → Some moment ≡ due_by g
   due-closing f moment sure lt at before is =
       ap (λ (n : ℕ). Some n) is
       ∙ in-closing g.bounds.limits f (drop (g.closed + 1) g.frames.items) (drop Place g.arrivals.items)

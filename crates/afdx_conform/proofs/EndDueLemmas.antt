@@ -29,19 +29,19 @@ due-first : (limits : Limits) (cs : List Arrived) (fs : List Frame) (n : ℕ)
 due-first limits cs [] zero = due-itself (due_in limits cs [])
 due-first limits cs [] (suc n) = due-itself (due_in limits cs [])
 due-first limits [] (f ∷ fs) zero = tt
-due-first limits (a ∷ cs) (f ∷ fs) zero = by (nat_lt (f.time + limits.slacks) a.time) refl
+due-first limits (a ∷ cs) (f ∷ fs) zero = by (nat_lt (f.time + limits.reach) a.time) refl
   where
-    by : (b : Bool) → nat_lt (f.time + limits.slacks) a.time ≡ b
-        → IsDueLater (if b then Some (due_at limits (f.time + limits.slacks)) else Some (due_at limits a.time))
+    by : (b : Bool) → nat_lt (f.time + limits.reach) a.time ≡ b
+        → IsDueLater (if b then Some (due_at limits (f.time + limits.reach)) else Some (due_at limits a.time))
         (Some (due_at limits a.time))
-    by true e = let lt = ltb-true (f.time + limits.slacks) a.time e in omega (arith, lt)
+    by true e = let lt = ltb-true (f.time + limits.reach) a.time e in omega (arith, lt)
     by false e = omega arith
 due-first limits [] (f ∷ fs) (suc n) = due-itself (due_in limits [] (f ∷ fs))
 due-first limits (a ∷ cs) (f ∷ fs) (suc n) = due-itself (due_in limits (a ∷ cs) (f ∷ fs))
 
 due-same : (limits : Limits) (until : ℕ) (cs : List Arrived) (fs : List Frame) (n : ℕ)
     → AllByRecursion (λ a. a.time ≤ until) cs
-    → ((f : Frame) (rest : List Frame) → n ≡ 0 → fs ≡ f ∷ rest → until < f.time + limits.slacks)
+    → ((f : Frame) (rest : List Frame) → n ≡ 0 → fs ≡ f ∷ rest → until < f.time + limits.reach)
     → (due_in limits cs (take n fs) ≡ due_in limits cs fs) ⊎ (due_in limits cs (take n fs) ≡ None)
 due-same limits until cs [] zero h c = inl refl
 due-same limits until cs [] (suc n) h c = inl refl
@@ -49,8 +49,8 @@ due-same limits until [] (f ∷ fs) zero h c = inr refl
 due-same limits until (a ∷ cs) (f ∷ fs) zero h c =
     let one = h.0 in
     let two = c f fs refl refl in
-    inl (ap (λ (b : Bool). if b then Some (due_at limits (f.time + limits.slacks)) else Some (due_at limits a.time))
-    (sym (le-ltb (f.time + limits.slacks) a.time (omega (arith, one, two)))))
+    inl (ap (λ (b : Bool). if b then Some (due_at limits (f.time + limits.reach)) else Some (due_at limits a.time))
+    (sym (le-ltb (f.time + limits.reach) a.time (omega (arith, one, two)))))
 due-same limits until [] (f ∷ fs) (suc n) h c = inl refl
 due-same limits until (a ∷ cs) (f ∷ fs) (suc n) h c = inl refl
 
@@ -100,7 +100,7 @@ module _ (old : Growth) (frames' : Vec Frame) (held' : Vec Held) (kept count : �
   pub due-then : (z : Terms) (xs : List Arrival) (ys : List Gone) (over : List Event) (until : ℕ)
       → old.judging.is_unsure ≡ false → AllByRecursion (λ x. x.time ≤ until) xs → IsAfter z xs ys 0 over old
       → ((g : Frame) → kept < length old.frames.items → g ≡ get_or old.frames.items kept g
-      → until < g.time + old.bounds.limits.slacks)
+      → until < g.time + old.bounds.limits.reach)
       → (due_by New ≡ due_by old) ⊎ (due_by New ≡ None)
   unfolding due_by
   due-then z xs ys over until sure all f cuts =
@@ -119,7 +119,7 @@ module _ (old : Growth) (frames' : Vec Frame) (held' : Vec Held) (kept count : �
           (subst (λ (l : List Arrival). AllByRecursion (λ x. x.time ≤ until) l) h.kept.came all)))
 
       off : (g : Frame) (rest : List Frame) → kept - old.closed ≡ 0 → drop old.closed old.frames.items ≡ g ∷ rest
-          → until < g.time + old.bounds.limits.slacks
+          → until < g.time + old.bounds.limits.reach
       off g rest none e =
           let here : old.closed ≡ kept = omega (arith, none, low) in
           let size = length-drop old.closed old.frames.items in

@@ -16,7 +16,7 @@ use Rattle.afdx_conform.specs.Growing.{AreTold, Continues, IsAfter, IsHeld, IsKe
 use Rattle.afdx_conform.specs.HeldStates.{IsWithin, state_of}
 use Rattle.afdx_conform.specs.Histories.{AreEvents, AreOver, judged_by, shown, uncut, unsure_in}
 use Rattle.afdx_conform.specs.Later.{judged_more}
-use Rattle.afdx_conform.specs.Leeway.{both_slacks}
+use Rattle.afdx_conform.specs.Leeway.{reach}
 use Rattle.afdx_conform.specs.Limits.{gone_of}
 use Rattle.afdx_conform.specs.States.{Event}
 use Rattle.afdx_conform.specs.Streams.{Gone, Terms, fits}
@@ -83,12 +83,12 @@ first-are (f ∷ fs) (y ∷ here) off e =
     tails k = cc
 
 -- as many are kept as aren't cut off, however many were looked at
-kept-is : (z : Terms) (fs : List Frame) (here off : List Gone) (slacks from kept : ℕ) → slacks ≡ both_slacks z.by
+kept-is : (z : Terms) (fs : List Frame) (here off : List Gone) (apart from kept : ℕ) → apart ≡ reach z.by
     → map gone_of fs ≡ here ++ off → AllByRecursion (IsShown z) here → AllByRecursion (IsCutOff z) off → from ≤ length here
-    → ((k : ℕ) (f : Frame) → from ≤ k → k < kept → f ≡ get_or fs k f → f.time + slacks ≤ z.until)
-    → ((f : Frame) → kept < length fs → f ≡ get_or fs kept f → z.until < f.time + slacks)
+    → ((k : ℕ) (f : Frame) → from ≤ k → k < kept → f ≡ get_or fs k f → f.time + apart ≤ z.until)
+    → ((f : Frame) → kept < length fs → f ≡ get_or fs kept f → z.until < f.time + apart)
     → kept ≤ length fs → kept ≡ length here
-kept-is z fs here off slacks from kept same e inside outside low shown cut high =
+kept-is z fs here off apart from kept same e inside outside low shown cut high =
     by (nat_lt kept (length here)) refl (nat_lt (length here) kept) refl
   where
     size : length fs ≡ length here + length off
@@ -98,7 +98,7 @@ kept-is z fs here off slacks from kept same e inside outside low shown cut high 
     not-less lt =
         let some = some-at fs kept (omega (arith, lt, size)) in
         let one = cut some.frame (omega (arith, lt, size)) some.at in
-        let two = subst (λ (f : Frame). f.time + both_slacks z.by ≤ z.until) (sym some.at)
+        let two = subst (λ (f : Frame). f.time + reach z.by ≤ z.until) (sym some.at)
         (at-first (IsShown z) fs here off kept some.frame e lt inside) in
         omega (arith, one, two, same)
 
@@ -106,7 +106,7 @@ kept-is z fs here off slacks from kept same e inside outside low shown cut high 
     not-more lt =
         let some = some-at fs (length here) (omega (arith, lt, high)) in
         let one = shown (length here) some.frame low lt some.at in
-        let two = subst (λ (f : Frame). z.until < f.time + both_slacks z.by) (sym some.at)
+        let two = subst (λ (f : Frame). z.until < f.time + reach z.by) (sym some.at)
         (at-next (IsCutOff z) fs here off some.frame e (omega (arith, lt, high, size)) outside) in
         omega (arith, one, two, same)
 
@@ -139,7 +139,7 @@ module _ (z : Terms) (xs : List Arrival) (us off : List Gone) (time : ℕ) (over
     left = up-left (frame_times us) (frame_times off)
         (subst (λ (l : List ℕ). GoUp l) (map-append (λ (y : Gone). y.time) us off) f.told.left);
     start = f.told.start;
-    begun = every-left (λ y. from_time z.by.start ≤ y.time + both_slacks z.by) us off f.told.begun;
+    begun = every-left (λ y. from_time z.by.start ≤ y.time + reach z.by) us off f.told.begun;
   }
 
   events' : AreEvents z xs us over
@@ -172,9 +172,9 @@ module _ (z : Terms) (xs : List Arrival) (us off : List Gone) (time : ℕ) (over
       (items : frames'.items ≡ take kept old.frames.items)
       (among : ((held'.items ≡ []) × (front ≡ 0)) ⊎ ((s : Held) × Contains held'.items s × (s.passed ≡ front)))
       (shows : (k : ℕ) (g : Frame) → max front old.closed ≤ k → k < kept → g ≡ get_or old.frames.items k g
-      → g.time + old.bounds.limits.slacks ≤ z.until)
+      → g.time + old.bounds.limits.reach ≤ z.until)
       (cuts : (g : Frame) → kept < length old.frames.items → g ≡ get_or old.frames.items kept g
-      → z.until < g.time + old.bounds.limits.slacks)
+      → z.until < g.time + old.bounds.limits.reach)
       (high : kept ≤ length old.frames.items) (counted : count ≡ length old.frames.items - kept) (all : cut ≡ length off) where
     past-low : length h.past ≤ length us
     past-low = let c = h.kept.closed in let l = closed-low in omega (arith, c, l)
@@ -230,7 +230,7 @@ module _ (z : Terms) (xs : List Arrival) (us off : List Gone) (time : ℕ) (over
             omega (arith, is, one)
 
     kept-here : kept ≡ length c.here
-    kept-here = kept-is z old.frames.items c.here off old.bounds.limits.slacks (max front old.closed) kept f.bounds.limits.slacks
+    kept-here = kept-is z old.frames.items c.here off old.bounds.limits.reach (max front old.closed) kept f.bounds.limits.reach
         c.behind here-shown outside
         (let n = h.kept.closed in let l = closed-low in let u = us-size in let p = front-low in omega (arith, n, l, u, p))
         shows cuts high
@@ -330,9 +330,9 @@ module _ (z : Terms) (xs : List Arrival) (ys : List Gone) (time : ℕ) (over : L
       → frames'.items ≡ take kept old.frames.items
       → ((held'.items ≡ []) × (front ≡ 0)) ⊎ ((s : Held) × Contains held'.items s × (s.passed ≡ front))
       → ((k : ℕ) (g : Frame) → max front old.closed ≤ k → k < kept → g ≡ get_or old.frames.items k g
-      → g.time + old.bounds.limits.slacks ≤ z.until)
+      → g.time + old.bounds.limits.reach ≤ z.until)
       → ((g : Frame) → kept < length old.frames.items → g ≡ get_or old.frames.items kept g
-      → z.until < g.time + old.bounds.limits.slacks)
+      → z.until < g.time + old.bounds.limits.reach)
       → kept ≤ length old.frames.items → count ≡ length old.frames.items - kept
       → IsAfter z xs (uncut z ys) (length ys - length (uncut z ys)) over (ended old frames' held' count)
   after-end frames' held' front kept count states items among shows cuts high counted =

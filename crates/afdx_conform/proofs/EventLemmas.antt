@@ -6,7 +6,7 @@ use Rattle.std.specs.List.{AllByRecursion}
 use Rattle.afdx_police.specs.Arrival.{Arrival}
 use Rattle.afdx_conform.specs.EventLaws.{EventsJoin, EventsAreWhole}
 use Rattle.afdx_conform.specs.Events.{GoUp, arrival_times, frame_times, closings_in, closes_before, up_to, events_of, event_time}
-use Rattle.afdx_conform.specs.Leeway.{both_slacks}
+use Rattle.afdx_conform.specs.Leeway.{reach}
 use Rattle.afdx_conform.specs.States.{Event, Came, Closing, arrivals_came, IsBehindClosings, AreInOrder}
 use Rattle.afdx_conform.specs.Streams.{Gone, Terms}
 use Rattle.afdx_conform.proofs.EveryLemmas.{every-map, every-unmap, every-on, every-all, every-reverse, reverse-first}
@@ -112,9 +112,9 @@ module _ (z : Terms) where
   from-arrivals time xs h = every-unmap (λ other. time ≤ other) (λ x. x.time) xs h
 
   from-frames : (time : ℕ) (ys : List Gone) → AllByRecursion (λ other. time ≤ other) (frame_times ys)
-      → AllByRecursion (λ y. NotBelow (time + both_slacks z.by) (Closing y.time)) ys
+      → AllByRecursion (λ y. NotBelow (time + reach z.by) (Closing y.time)) ys
   from-frames time ys h =
-      every-on (λ y. time ≤ y.time) (λ y. NotBelow (time + both_slacks z.by) (Closing y.time))
+      every-on (λ y. time ≤ y.time) (λ y. NotBelow (time + reach z.by) (Closing y.time))
       (λ y le. omega (arith, le)) ys
       (every-unmap (λ other. time ≤ other) (λ y. y.time) ys h)
 
@@ -127,8 +127,8 @@ module _ (z : Terms) where
   unfolding GoUp events_of up_to
   by-time [] [] p q = tt
   by-time [] (y ∷ ys) p q = (
-    every-map (λ other. y.time + both_slacks z.by ≤ other) (event_time z) (events_of z [] ys)
-        (every-event (NotBelow (y.time + both_slacks z.by)) [] ys tt (from-frames y.time ys q.0)),
+    every-map (λ other. y.time + reach z.by ≤ other) (event_time z) (events_of z [] ys)
+        (every-event (NotBelow (y.time + reach z.by)) [] ys tt (from-frames y.time ys q.0)),
     by-time [] ys p q.1,
   )
   by-time (x ∷ xs) [] p q = (
@@ -139,26 +139,26 @@ module _ (z : Terms) where
   by-time (x ∷ xs) (y ∷ ys) p q =
       let one = by-time (x ∷ xs) ys p q.1 in
       let two = by-time xs (y ∷ ys) p.1 q in
-      let closing = y.time + both_slacks z.by in
+      let closing = y.time + reach z.by in
       if-of (λ l. GoUp (map (event_time z) l)) (closes_before z y x) (Closing y.time ∷ events_of z (x ∷ xs) ys)
       (Came x ∷ events_of z xs (y ∷ ys))
       (λ e.
-      let lt = ltb-true (y.time + both_slacks z.by) x.time e in (
-        every-map (λ other. y.time + both_slacks z.by ≤ other) (event_time z) (events_of z (x ∷ xs) ys)
-            (every-event (NotBelow (y.time + both_slacks z.by)) (x ∷ xs) ys (
+      let lt = ltb-true (y.time + reach z.by) x.time e in (
+        every-map (λ other. y.time + reach z.by ≤ other) (event_time z) (events_of z (x ∷ xs) ys)
+            (every-event (NotBelow (y.time + reach z.by)) (x ∷ xs) ys (
               omega (arith, lt),
-              every-on (λ w. x.time ≤ w.time) (λ w. NotBelow (y.time + both_slacks z.by) (Came w))
+              every-on (λ w. x.time ≤ w.time) (λ w. NotBelow (y.time + reach z.by) (Came w))
                   (λ w le. omega (arith, le, lt)) xs (from-arrivals x.time xs p.0),
             )
             (from-frames y.time ys q.0)),
         one,
       ))
       (λ e.
-      let le = ltb-false (y.time + both_slacks z.by) x.time e in (
+      let le = ltb-false (y.time + reach z.by) x.time e in (
         every-map (λ other. x.time ≤ other) (event_time z) (events_of z xs (y ∷ ys))
             (every-event (NotBelow x.time) xs (y ∷ ys) (from-arrivals x.time xs p.0) (
               le,
-              every-on (λ w. NotBelow (y.time + both_slacks z.by) (Closing w.time))
+              every-on (λ w. NotBelow (y.time + reach z.by) (Closing w.time))
                   (λ w. NotBelow x.time (Closing w.time))
                   (λ w k. omega (arith, k, le)) ys (from-frames y.time ys q.0),
             )),
@@ -168,7 +168,7 @@ module _ (z : Terms) where
   -- ---- arrivals behind closings
 
   abbrev ComesBehind : ℕ → Event → Type 0
-  ComesBehind time (Came x) = time + both_slacks z.by < x.time
+  ComesBehind time (Came x) = time + reach z.by < x.time
   ComesBehind time (Closing other) = ⊤
 
   behind-came : (w x : Arrival) (l : List Event) → IsBehindClosings z w l → IsBehindClosings z w (l ++ (Came x ∷ []))
@@ -183,7 +183,7 @@ module _ (z : Terms) where
   order-came x (Came w ∷ l) h = (behind-came w x l h.0, order-came x l h.1)
   order-came x (Closing time ∷ l) h = order-came x l h
 
-  behind-closing : (w : Arrival) (time : ℕ) (l : List Event) → time + both_slacks z.by < w.time → IsBehindClosings z w l
+  behind-closing : (w : Arrival) (time : ℕ) (l : List Event) → time + reach z.by < w.time → IsBehindClosings z w l
       → IsBehindClosings z w (l ++ (Closing time ∷ []))
   unfolding IsBehindClosings
   behind-closing w time [] lt h = (lt, tt)
@@ -218,7 +218,7 @@ module _ (z : Terms) where
       if-of (λ l. AreInOrder z (reverse l)) (closes_before z y x) (Closing y.time ∷ events_of z (x ∷ xs) ys)
       (Came x ∷ events_of z xs (y ∷ ys))
       (λ e.
-      let lt = ltb-true (y.time + both_slacks z.by) x.time e in
+      let lt = ltb-true (y.time + reach z.by) x.time e in
       order-first (Closing y.time) (events_of z (x ∷ xs) ys)
       (order-closing y.time (reverse (events_of z (x ∷ xs) ys))
       (every-reverse (ComesBehind y.time) (events_of z (x ∷ xs) ys)

@@ -25,7 +25,7 @@ use Rattle.afdx_conform.specs.Headline.{sound_of, GoByTime}
 
 -- no leeway but for an inner delay
 abbrev pub exact : ℕ → Leeway
-exact inner = record { slack = 0; drift = 0; inner = inner; asked = 0; start = None }
+exact inner = record { slack = 0; between = 0; drift = 0; inner = inner; asked = 0; start = None }
 
 -- over numbers: an account's unit is `k` of a level's, and `p` of its own
 later-number : (k p s lo miss g : ℕ) → k * lo ≡ p * miss → k * (lo - s * p * g) ≡ p * (miss - s * k * g)

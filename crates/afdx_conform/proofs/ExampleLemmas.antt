@@ -14,7 +14,7 @@ terms = record {
   rule = rule_with 1 1 1 64 64 500 Frame;
   latency_ns = 17000;
   byte_ns = 80;
-  by = record { slack = 1; drift = 100; inner = 0; asked = 10; start = None };
+  by = record { slack = 1; between = 20000; drift = 100; inner = 0; asked = 10; start = None };
   until = 1000000;
 }
 
@@ -28,7 +28,7 @@ asked = record {
 }
 
 frame : Gone
-frame = record { number = 1; time = 8000; bytes = [] }
+frame = record { number = 1; time = 28001; bytes = [] }
 
 pub some_is_right : SomeIsRight
 unfolding terms asked frame accepted_asked accepted_after keeps_windows GoByClock EachLeaves AllLeaveLater
@@ -38,6 +38,7 @@ some_is_right = record {
   frame = frame;
   slack = omega arith;
   drift = omega arith;
+  apart = omega arith;
   is_right = record {
     first = [];
     moment = 0;

@@ -67,9 +67,9 @@ unfolding is_begun
 begun-none z y e = sym (ap (λ (s : Option ℕ). is_begun_by z s y) e)
 
 pub begun-some : (z : Terms) (y : Gone) (l : Limits) (start : ℕ) → AreLimits z l → z.by.start ≡ Some start
-    → nat_lt y.time (start + l.latency + l.slacks) ≡ is_begun z y
+    → nat_lt y.time (start + l.latency + l.reach) ≡ is_begun z y
 unfolding is_begun
 begun-some z y l start a e =
-    ap (λ (n : ℕ). nat_lt y.time (start + n + l.slacks)) a.latency
-    ∙ ap (λ (n : ℕ). nat_lt y.time (start + latency z + n)) a.slacks
+    ap (λ (n : ℕ). nat_lt y.time (start + n + l.reach)) a.latency
+    ∙ ap (λ (n : ℕ). nat_lt y.time (start + latency z + n)) a.reach
     ∙ sym (ap (λ (s : Option ℕ). is_begun_by z s y) e)

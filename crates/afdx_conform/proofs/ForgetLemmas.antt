@@ -386,7 +386,7 @@ no-later (a ∷ b ∷ come) (suc n) d h lt =
 module _ (z : Terms) (xs : List Arrival) (ys : List Gone) (cut : ℕ) (over : List Event) (old : Growth) (n : ℕ) (a : Arrived)
     (f : Frame) (rest : List Frame) (bounds : AreBounds z old.bounds) (told : AreTold z xs ys) (lt : n < length old.arrivals.items)
     (at : a ≡ get_or old.arrivals.items n a) (frames : old.frames.items ≡ f ∷ rest)
-    (late : a.time + old.bounds.limits.latency + old.bounds.limits.slacks < f.time) (held : IsHeld z xs ys cut over old) where
+    (late : a.time + old.bounds.limits.latency + old.bounds.limits.reach < f.time) (held : IsHeld z xs ys cut over old) where
   come-up : GoUp (map (λ a. a.time) old.arrivals.items)
   come-up = subst (λ (l : List ℕ). GoUp l) (map-map (λ (x : Arrival). x.time) arrival_of old.arrivals.items)
       (up-right (map (λ x. x.time) (map (λ m. m.arrival) held.gone)) (map (λ x. x.time) (map arrival_of old.arrivals.items))
@@ -409,7 +409,7 @@ module _ (z : Terms) (xs : List Arrival) (ys : List Gone) (cut : ℕ) (over : Li
       (marked_all (take (suc n) old.arrivals.items) (take (suc n) old.judging.marks.items))
   too-early =
       let lat = bounds.limits.latency in
-      let slip = bounds.limits.slacks in
+      let slip = bounds.limits.reach in
       subst (λ (l : List Frame). FitNone z (map gone_of l)
       (marked_all (take (suc n) old.arrivals.items) (take (suc n) old.judging.marks.items))) (sym frames)
       (every-on (λ y. f.time ≤ y.time)
@@ -426,7 +426,7 @@ module _ (z : Terms) (xs : List Arrival) (ys : List Gone) (cut : ℕ) (over : Li
 pub early-arrivals : (z : Terms) (xs : List Arrival) (ys : List Gone) (cut : ℕ) (over : List Event) (old : Growth) (count : ℕ)
     (a : Arrived) (f : Frame) → AreBounds z old.bounds → AreTold z xs ys → 0 < count → count ≤ length old.arrivals.items
     → a ≡ get_or old.arrivals.items (count - 1) a → f ≡ get_or old.frames.items 0 f
-    → a.time + old.bounds.limits.latency + old.bounds.limits.slacks < f.time → IsHeld z xs ys cut over old
+    → a.time + old.bounds.limits.latency + old.bounds.limits.reach < f.time → IsHeld z xs ys cut over old
     → FitNone z (map gone_of old.frames.items)
     (marked_all (take count old.arrivals.items) (take count old.judging.marks.items))
 early-arrivals z xs ys cut over old count a f bounds told some le at first late held =

@@ -9,7 +9,7 @@ use Rattle.afdx_police.specs.declared.shape.Reason.{Reason}
 use Rattle.afdx_conform.specs.Explanations.{levels_then}
 use Rattle.afdx_conform.specs.Findings.{Finding, Judged, Marked, judged_with, marked, found_at, finding_or, damaged_or, damage, passed_or, named_or, is_of_right, first_named, once_named, strangeness, lead, with_rest, has_some, front_rest, unexplained, skipped, closed_by, closed_to, with_states, with_mark, most_states, aged, asked, deviation_of, deviates_by, deviates, answered_by, few_of, came_by, came_to, rate_mark, is_uncertain, one_if, thinned_onto}
 use Rattle.afdx_conform.specs.Forgetting.{FitNone, with_gone, ForgettingChangesNothing}
-use Rattle.afdx_conform.specs.Leeway.{both_slacks}
+use Rattle.afdx_conform.specs.Leeway.{reach}
 use Rattle.afdx_conform.specs.States.{State, led_by, kept, are_behind, states_at}
 use Rattle.afdx_conform.specs.Streams.{Gone, Terms, fits}
 use Rattle.afdx_conform.specs.declared.finding.Deviation.{Deviation}
@@ -74,11 +74,11 @@ module _ (z : Terms) where
     same-skipped time front (y ∷ rest) j h =
         ap (λ (k : Judged). if are_behind time rest then with_states (with_rest rest front) k
         else skipped z time front rest k)
-        (same-unexplained (time + both_slacks z.by) y j h.0)
-        ∙ by (are_behind time rest) (same-skipped time front rest (unexplained z (time + both_slacks z.by) y j) h.1)
+        (same-unexplained (time + reach z.by) y j h.0)
+        ∙ by (are_behind time rest) (same-skipped time front rest (unexplained z (time + reach z.by) y j) h.1)
       where
         next : Judged
-        next = unexplained z (time + both_slacks z.by) y j
+        next = unexplained z (time + reach z.by) y j
 
         by : (b : Bool) → skipped z time front rest (G next) ≡ G (skipped z time front rest next)
             → (if b then with_states (with_rest rest front) (G next) else skipped z time front rest (G next))

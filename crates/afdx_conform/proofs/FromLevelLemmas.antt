@@ -9,13 +9,13 @@ use Rattle.afdx_conform.specs.FromLevel.{Decides, filled, Leads, SomeLeads, Allo
 use Rattle.afdx_conform.specs.Levels.{Levels, parts, full, cost, fast_slip}
 use Rattle.afdx_conform.specs.Streams.{Terms}
 
-module _ (rule : Rule) (latency_ns byte_ns inner until start : ℕ) where
+module _ (rule : Rule) (latency_ns byte_ns between inner until start : ℕ) where
   abbrev z : Terms
   z = record {
     rule = rule;
     latency_ns = latency_ns;
     byte_ns = byte_ns;
-    by = record { slack = 0; drift = 0; inner = inner; asked = 0; start = Some start };
+    by = record { slack = 0; between = between; drift = 0; inner = inner; asked = 0; start = Some start };
     until = until;
   }
 
@@ -137,27 +137,28 @@ module _ (rule : Rule) (latency_ns byte_ns inner until start : ℕ) where
       let rest = some-first answers allowed (levels_after z answers).lo (record { low = omega arith; high = order }) in
       record { first = rest.0; level = (levels_after z answers).lo; within = rest.1; leads = rest.2 }
 
-abbrev terms-with : Rule → ℕ → ℕ → ℕ → ℕ → ℕ → ℕ → ℕ → Option ℕ → Terms
-terms-with rule latency_ns byte_ns until s d i q st = record {
+abbrev terms-with : Rule → ℕ → ℕ → ℕ → ℕ → ℕ → ℕ → ℕ → ℕ → Option ℕ → Terms
+terms-with rule latency_ns byte_ns until s b d i q st = record {
   rule = rule;
   latency_ns = latency_ns;
   byte_ns = byte_ns;
-  by = record { slack = s; drift = d; inner = i; asked = q; start = st };
+  by = record { slack = s; between = b; drift = d; inner = i; asked = q; start = st };
   until = until;
 }
 
-same-terms : (rule : Rule) (latency_ns byte_ns until s d i q : ℕ) (st : Option ℕ) (start : ℕ)
+same-terms : (rule : Rule) (latency_ns byte_ns until s b d i q : ℕ) (st : Option ℕ) (start : ℕ)
     → s ≡ 0 → d ≡ 0 → q ≡ 0 → st ≡ Some start
-    → terms-with rule latency_ns byte_ns until s d i q st ≡ terms-with rule latency_ns byte_ns until 0 0 i 0 (Some start)
-same-terms rule latency_ns byte_ns until s d i q st start a b g c = rw (a, b, g, c) refl
+    → terms-with rule latency_ns byte_ns until s b d i q st ≡ terms-with rule latency_ns byte_ns until 0 b 0 i 0 (Some start)
+same-terms rule latency_ns byte_ns until s b d i q st start at rate asks from = rw (at, rate, asks, from) refl
 
 pub allowed_some : AllowedIsSomeAccount
 allowed_some t answers start a b g c =
-    let same = same-terms t.rule t.latency_ns t.byte_ns t.until t.by.slack t.by.drift t.by.inner t.by.asked t.by.start start a b g c in (
+    let same = same-terms t.rule t.latency_ns t.byte_ns t.until t.by.slack t.by.between t.by.drift t.by.inner t.by.asked
+    t.by.start start a b g c in (
       λ h. subst (λ (w : Terms). SomeLeads w answers) (sym same)
-          (exactly-some t.rule t.latency_ns t.byte_ns t.by.inner t.until start answers
+          (exactly-some t.rule t.latency_ns t.byte_ns t.by.between t.by.inner t.until start answers
           (subst (λ (w : Terms). AreAllowed w answers) same h)),
       λ h. subst (λ (w : Terms). AreAllowed w answers) (sym same)
           (let s = subst (λ (w : Terms). SomeLeads w answers) same h in
-          (leads-in t.rule t.latency_ns t.byte_ns t.by.inner t.until start s.first s.within answers s.level s.leads).0),
+          (leads-in t.rule t.latency_ns t.byte_ns t.by.between t.by.inner t.until start s.first s.within answers s.level s.leads).0),
     )

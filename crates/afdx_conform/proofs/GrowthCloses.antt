@@ -11,7 +11,7 @@ use Rattle.afdx_conform.specs.Forgetting.{FitNone, with_gone}
 use Rattle.afdx_conform.specs.Growing.{Continues, IsAfter, IsKept, most_found}
 use Rattle.afdx_conform.specs.Histories.{AreEvents, coming, judged_by, newest_tag, next_of, unclosed, unsure_in}
 use Rattle.afdx_conform.specs.Judging.{StandsFor, AreFound}
-use Rattle.afdx_conform.specs.Leeway.{both_slacks}
+use Rattle.afdx_conform.specs.Leeway.{reach}
 use Rattle.afdx_conform.specs.Limits.{AreFrames, gone_of}
 use Rattle.afdx_conform.specs.States.{Event, Closing, State, are_behind, kept}
 use Rattle.afdx_conform.specs.Streams.{Gone, Terms}
@@ -63,7 +63,7 @@ module _ (z : Terms) where
   skipped-unsure time front [] j = refl
   skipped-unsure time front (y ∷ rest) j =
       of-both (λ (k : Judged). k.is_unsure ≡ j.is_unsure) (are_behind time rest) _ _ refl
-      (skipped-unsure time front rest (unexplained z (time + both_slacks z.by) y j))
+      (skipped-unsure time front rest (unexplained z (time + reach z.by) y j))
 
   pub closed-unsure : (time : ℕ) (j : Judged) → (closed_to z time j).is_unsure ≡ j.is_unsure
   unfolding closed_to
@@ -118,12 +118,12 @@ module _ (z : Terms) where
 
       module _ (c : Continues z xs ys over gone old) (sure : old.judging.is_unsure ≡ false)
           (stands : StandsFor old.bounds.rates old.frames.items old.arrivals.items (closed_to z f.time c.j) judging')
-          (are : AreFound (f.time + both_slacks z.by) found c.j (closed_to z f.time c.j))
+          (are : AreFound (f.time + reach z.by) found c.j (closed_to z f.time c.j))
           (marks : length judging'.marks.items ≡ length old.judging.marks.items) where
-        found-close : AreFound (f.time + both_slacks z.by) found (judged_by z xs ys over) (judged_by z xs ys (Closing f.time ∷ over))
+        found-close : AreFound (f.time + reach z.by) found (judged_by z xs ys over) (judged_by z xs ys (Closing f.time ∷ over))
         found-close =
-            subst (λ (v : Judged). AreFound (f.time + both_slacks z.by) found v (judged_by z xs ys (Closing f.time ∷ over))) c.same
-            (subst (λ (v : Judged). AreFound (f.time + both_slacks z.by) found (with_gone gone 0 c.j) v) (sym (closed-next c))
+            subst (λ (v : Judged). AreFound (f.time + reach z.by) found v (judged_by z xs ys (Closing f.time ∷ over))) c.same
+            (subst (λ (v : Judged). AreFound (f.time + reach z.by) found (with_gone gone 0 c.j) v) (sym (closed-next c))
             (record { findings = are.findings; frames = are.frames }))
 
         kept-close : IsKept z xs ys cut (Closing f.time ∷ over) gone past Close
@@ -166,7 +166,7 @@ module _ (z : Terms) where
 
         pub after-close : IsAfter z xs ys cut over old → next_of z (coming xs over) (unclosed ys over) ≡ Some (Closing f.time)
             → IsAfter z xs ys cut (Closing f.time ∷ over) Close
-            × AreFound (f.time + both_slacks z.by) found (judged_by z xs ys over) (judged_by z xs ys (Closing f.time ∷ over))
+            × AreFound (f.time + reach z.by) found (judged_by z xs ys over) (judged_by z xs ys (Closing f.time ∷ over))
         unfolding AreEvents
         after-close g next = (
           record {

@@ -14,7 +14,7 @@ use Rattle.afdx_conform.specs.Growing.{AreTold, Continues, IsAfter, IsHeld, IsKe
 use Rattle.afdx_conform.specs.HeldStates.{IsWithin, state_of}
 use Rattle.afdx_conform.specs.Histories.{AreEvents, AreOver, coming, judged_by, shown, unsure_in}
 use Rattle.afdx_conform.specs.Later.{judged_more}
-use Rattle.afdx_conform.specs.Leeway.{both_slacks}
+use Rattle.afdx_conform.specs.Leeway.{reach}
 use Rattle.afdx_conform.specs.Limits.{gone_of}
 use Rattle.afdx_conform.specs.Marks.{arrival_of}
 use Rattle.afdx_conform.specs.Ranges.{most_held}
@@ -81,7 +81,7 @@ module _ (z : Terms) where
       came = t.came;
       left = times-up (λ (y : Gone). y.time) ys (gone_of f) t.left m.by_time;
       start = t.start;
-      begun = every-append (λ y. from_time z.by.start ≤ y.time + both_slacks z.by) ys One t.begun (m.start, tt);
+      begun = every-append (λ y. from_time z.by.start ≤ y.time + reach z.by) ys One t.begun (m.start, tt);
     }
 
     late : MayLeave z ys time (gone_of f) → AreLate z time One

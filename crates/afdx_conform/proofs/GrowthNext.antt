@@ -9,7 +9,7 @@ use Rattle.afdx_conform.specs.Events.{closings_in, event_time, moment_at}
 use Rattle.afdx_conform.specs.Findings.{Marked}
 use Rattle.afdx_conform.specs.Growing.{IsKept, due_at, due_in}
 use Rattle.afdx_conform.specs.Histories.{coming, next_of, unclosed}
-use Rattle.afdx_conform.specs.Leeway.{both_slacks}
+use Rattle.afdx_conform.specs.Leeway.{reach}
 use Rattle.afdx_conform.specs.Limits.{AreLimits, gone_of}
 use Rattle.afdx_conform.specs.Marks.{arrival_of}
 use Rattle.afdx_conform.specs.States.{Event, Came, Closing, arrivals_came}
@@ -61,45 +61,45 @@ module _ (z : Terms) where
       → due_in limits cs fs ≡ option_map (λ e. moment_at z (event_time z e)) (next_of z (map arrival_of cs) (map gone_of fs))
   due-next limits [] [] b = refl
   due-next limits [] (f ∷ fs) b =
-      ap (λ (n : ℕ). Some n) (let l = b.latency in let s = b.slacks in omega (arith, l, s))
+      ap (λ (n : ℕ). Some n) (let l = b.latency in let s = b.reach in omega (arith, l, s))
   due-next limits (c ∷ cs) [] b =
-      ap (λ (n : ℕ). Some n) (let l = b.latency in let s = b.slacks in omega (arith, l, s))
+      ap (λ (n : ℕ). Some n) (let l = b.latency in let s = b.reach in omega (arith, l, s))
   due-next limits (c ∷ cs) (f ∷ fs) b =
-      ap (λ (n : ℕ). if nat_lt (f.time + n) c.time then Some (due_at limits (f.time + limits.slacks)) else Some (due_at limits c.time))
-      b.slacks
-      ∙ by (nat_lt (f.time + both_slacks z.by) c.time)
+      ap (λ (n : ℕ). if nat_lt (f.time + n) c.time then Some (due_at limits (f.time + limits.reach)) else Some (due_at limits c.time))
+      b.reach
+      ∙ by (nat_lt (f.time + reach z.by) c.time)
     where
-      by : (t : Bool) → (if t then Some (due_at limits (f.time + limits.slacks)) else Some (due_at limits c.time))
+      by : (t : Bool) → (if t then Some (due_at limits (f.time + limits.reach)) else Some (due_at limits c.time))
           ≡ option_map (λ e. moment_at z (event_time z e)) (if t then Some (Closing f.time) else Some (Came (arrival_of c)))
-      by true = ap (λ (n : ℕ). Some n) (let l = b.latency in let s = b.slacks in omega (arith, l, s))
-      by false = ap (λ (n : ℕ). Some n) (let l = b.latency in let s = b.slacks in omega (arith, l, s))
+      by true = ap (λ (n : ℕ). Some n) (let l = b.latency in let s = b.reach in omega (arith, l, s))
+      by false = ap (λ (n : ℕ). Some n) (let l = b.latency in let s = b.reach in omega (arith, l, s))
 
   -- ---- which it is
 
-  first-arrives : (cs : List Arrived) (fs : List Frame) (a : Arrived) (slacks : ℕ) → slacks ≡ both_slacks z.by
+  first-arrives : (cs : List Arrived) (fs : List Frame) (a : Arrived) (apart : ℕ) → apart ≡ reach z.by
       → 0 < length cs → a ≡ get_or cs 0 a
-      → ((f : Frame) → 0 < length fs → f ≡ get_or fs 0 f → a.time ≤ f.time + slacks)
+      → ((f : Frame) → 0 < length fs → f ≡ get_or fs 0 f → a.time ≤ f.time + apart)
       → next_of z (map arrival_of cs) (map gone_of fs) ≡ Some (Came (arrival_of a))
-  first-arrives [] fs a slacks e lt at first = absurd (omega (arith, lt))
-  first-arrives (c ∷ cs) [] a slacks e lt at first = ap (λ (v : Arrived). Some (Came (arrival_of v))) (sym at)
-  first-arrives (c ∷ cs) (f ∷ fs) a slacks e lt at first =
+  first-arrives [] fs a apart e lt at first = absurd (omega (arith, lt))
+  first-arrives (c ∷ cs) [] a apart e lt at first = ap (λ (v : Arrived). Some (Came (arrival_of v))) (sym at)
+  first-arrives (c ∷ cs) (f ∷ fs) a apart e lt at first =
       let le = first f (omega arith) refl in
       let same = ap (λ (v : Arrived). v.time) at in
       ap (λ (b : Bool). if b then Some (Closing f.time) else Some (Came (arrival_of c)))
-      (le-ltb (f.time + both_slacks z.by) c.time (omega (arith, le, same, e)))
+      (le-ltb (f.time + reach z.by) c.time (omega (arith, le, same, e)))
       ∙ ap (λ (v : Arrived). Some (Came (arrival_of v))) (sym at)
 
-  first-closes : (cs : List Arrived) (fs : List Frame) (f : Frame) (slacks : ℕ) → slacks ≡ both_slacks z.by
+  first-closes : (cs : List Arrived) (fs : List Frame) (f : Frame) (apart : ℕ) → apart ≡ reach z.by
       → 0 < length fs → f ≡ get_or fs 0 f
-      → ((a : Arrived) → 0 < length cs → a ≡ get_or cs 0 a → f.time + slacks < a.time)
+      → ((a : Arrived) → 0 < length cs → a ≡ get_or cs 0 a → f.time + apart < a.time)
       → next_of z (map arrival_of cs) (map gone_of fs) ≡ Some (Closing f.time)
-  first-closes cs [] f slacks e lt at first = absurd (omega (arith, lt))
-  first-closes [] (g ∷ fs) f slacks e lt at first = ap (λ (v : Frame). Some (Closing v.time)) (sym at)
-  first-closes (c ∷ cs) (g ∷ fs) f slacks e lt at first =
+  first-closes cs [] f apart e lt at first = absurd (omega (arith, lt))
+  first-closes [] (g ∷ fs) f apart e lt at first = ap (λ (v : Frame). Some (Closing v.time)) (sym at)
+  first-closes (c ∷ cs) (g ∷ fs) f apart e lt at first =
       let less = first c (omega arith) refl in
       let same = ap (λ (v : Frame). v.time) at in
       ap (λ (b : Bool). if b then Some (Closing g.time) else Some (Came (arrival_of c)))
-      (lt-ltb (g.time + both_slacks z.by) c.time (omega (arith, less, same, e)))
+      (lt-ltb (g.time + reach z.by) c.time (omega (arith, less, same, e)))
       ∙ ap (λ (v : Frame). Some (Closing v.time)) (sym at)
 
   pub next-none : (cs : List Arrived) (fs : List Frame) → length cs ≤ 0 → length fs ≤ 0
@@ -113,24 +113,24 @@ module _ (z : Terms) where
   get-drop : {X : Type 0} (n : ℕ) (xs : List X) (d : X) → get_or (drop n xs) 0 d ≡ get_or xs n d
   get-drop n xs d = get_or-drop n xs 0 d ∙ ap (λ (k : ℕ). get_or xs k d) (omega arith)
 
-  pub arrives-at : (place closed : ℕ) (cs : List Arrived) (fs : List Frame) (a : Arrived) (slacks : ℕ) → slacks ≡ both_slacks z.by
+  pub arrives-at : (place closed : ℕ) (cs : List Arrived) (fs : List Frame) (a : Arrived) (apart : ℕ) → apart ≡ reach z.by
       → place < length cs → a ≡ get_or cs place a
-      → ((f : Frame) → closed < length fs → f ≡ get_or fs closed f → a.time ≤ f.time + slacks)
+      → ((f : Frame) → closed < length fs → f ≡ get_or fs closed f → a.time ≤ f.time + apart)
       → next_of z (map arrival_of (drop place cs)) (map gone_of (drop closed fs)) ≡ Some (Came (arrival_of a))
-  arrives-at place closed cs fs a slacks e lt at first =
+  arrives-at place closed cs fs a apart e lt at first =
       let size = length-drop place cs in
       let many = length-drop closed fs in
-      first-arrives (drop place cs) (drop closed fs) a slacks e (omega (arith, lt, size)) (at ∙ sym (get-drop place cs a))
+      first-arrives (drop place cs) (drop closed fs) a apart e (omega (arith, lt, size)) (at ∙ sym (get-drop place cs a))
       (λ f less is. first f (omega (arith, less, many)) (is ∙ get-drop closed fs f))
 
-  pub closes-at : (place closed : ℕ) (cs : List Arrived) (fs : List Frame) (f : Frame) (slacks : ℕ) → slacks ≡ both_slacks z.by
+  pub closes-at : (place closed : ℕ) (cs : List Arrived) (fs : List Frame) (f : Frame) (apart : ℕ) → apart ≡ reach z.by
       → closed < length fs → f ≡ get_or fs closed f
-      → ((a : Arrived) → place < length cs → a ≡ get_or cs place a → f.time + slacks < a.time)
+      → ((a : Arrived) → place < length cs → a ≡ get_or cs place a → f.time + apart < a.time)
       → next_of z (map arrival_of (drop place cs)) (map gone_of (drop closed fs)) ≡ Some (Closing f.time)
-  closes-at place closed cs fs f slacks e lt at first =
+  closes-at place closed cs fs f apart e lt at first =
       let size = length-drop closed fs in
       let many = length-drop place cs in
-      first-closes (drop place cs) (drop closed fs) f slacks e (omega (arith, lt, size)) (at ∙ sym (get-drop closed fs f))
+      first-closes (drop place cs) (drop closed fs) f apart e (omega (arith, lt, size)) (at ∙ sym (get-drop closed fs f))
       (λ a less is. first a (omega (arith, less, many)) (is ∙ get-drop place cs a))
 
   pub none-at : (place closed : ℕ) (cs : List Arrived) (fs : List Frame) → length cs ≤ place → length fs ≤ closed

@@ -8,7 +8,7 @@ use Rattle.afdx_conform.specs.Growing.{IsAfter, IsQuiet, most_found}
 use Rattle.afdx_conform.specs.HeldStates.{AreClosed}
 use Rattle.afdx_conform.specs.Histories.{coming, judged_by, next_of, unclosed}
 use Rattle.afdx_conform.specs.Judging.{AreFound, StandsFor}
-use Rattle.afdx_conform.specs.Leeway.{both_slacks}
+use Rattle.afdx_conform.specs.Leeway.{reach}
 use Rattle.afdx_conform.specs.Limits.{gone_of}
 use Rattle.afdx_conform.specs.States.{Event, Closing}
 use Rattle.afdx_conform.specs.Streams.{Gone, Terms}
@@ -48,7 +48,7 @@ module _ (z : Terms) (xs : List Arrival) (ys : List Gone) (cut : ℕ) (over : Li
     (next : next_of z (coming xs over) (unclosed ys over) ≡ Some (Closing f.time))
     (closed : AreClosed f.time to (map gone_of old.frames.items))
     (all : AllByRecursion (λ (h : Held). to ≤ h.passed) old.judging.held.items)
-    (early : f.time + both_slacks z.by ≤ moment) where
+    (early : f.time + reach z.by ≤ moment) where
   pub after-quiet : IsAfter z xs ys cut (Closing f.time ∷ over) (Closed old to)
       × IsQuiet z xs ys over moment (Some f.time)
   after-quiet =
@@ -59,7 +59,7 @@ module _ (z : Terms) (xs : List Arrival) (ys : List Gone) (cut : ℕ) (over : Li
       (sym c.stands.unsure ∙ sure) all in
       let after = after-close z xs ys cut over f old old.judging [] to h.gone h.past h.kept c sure
       (subst (λ (j : Judged). StandsFor old.bounds.rates old.frames.items old.arrivals.items j old.judging) (sym same) c.stands)
-      (nothing-found (f.time + both_slacks z.by) c.j (closed_to z f.time c.j) same) refl g next in (
+      (nothing-found (f.time + reach z.by) c.j (closed_to z f.time c.j) same) refl g next in (
         subst (λ (s : Growth). IsAfter z xs ys cut (Closing f.time ∷ over) s)
             (same-growth old to (judged_by z xs ys over).frames z xs ys cut over f started h.kept.found) after.0,
         record {

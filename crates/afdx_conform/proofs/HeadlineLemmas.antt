@@ -37,8 +37,8 @@ module _ (rule : Rule) (is : IsTrue (is_bag rule.bag_ms)) (latency_ns byte_ns in
   fits-frame x y h =
       let both = and_parts (bytes_eq x.bytes y.bytes && is_no_sooner z x y) (is_in_time z x y) h in
       let two = and_parts (bytes_eq x.bytes y.bytes) (is_no_sooner z x y) both.0 in
-      let stored = leb-true (x.time + wire_time z x.bytes) (y.time + (0 + 0)) two.1 in
-      let in_time = leb-true y.time (x.time + latency z + (0 + 0)) both.1 in
+      let stored = leb-true (x.time + wire_time z x.bytes) (y.time + (0 + (0 + 0))) two.1 in
+      let in_time = leb-true y.time (x.time + latency z + (0 + (0 + 0))) both.1 in
       let w = whole-ceil ((length x.bytes + 8) * byte_ns) in
       let d = whole-div (latency_ns + inner) in
       record {
@@ -56,8 +56,8 @@ module _ (rule : Rule) (is : IsTrue (is_bag rule.bag_ms)) (latency_ns byte_ns in
       let in_time = h.in_time in
       and_from (bytes_eq x.bytes y.bytes && is_no_sooner z x y) (is_in_time z x y)
       (and_from (bytes_eq x.bytes y.bytes) (is_no_sooner z x y) ((bytes_eq-Decides x.bytes y.bytes).1 h.bytes)
-      (le-leb (x.time + wire_time z x.bytes) (y.time + (0 + 0)) (omega (arith, sooner, w))))
-      (le-leb y.time (x.time + latency z + (0 + 0)) (omega (arith, in_time, d)))
+      (le-leb (x.time + wire_time z x.bytes) (y.time + (0 + (0 + 0))) (omega (arith, sooner, w))))
+      (le-leb y.time (x.time + latency z + (0 + (0 + 0))) (omega (arith, in_time, d)))
 
   none-begun : (ys : List Gone) → AllByRecursion (λ y. IsTrue (is_begun z y)) ys → AreTheirFrames z [] ys
   unfolding is_begun AreTheirFrames
@@ -110,24 +110,24 @@ module _ (rule : Rule) (is : IsTrue (is_bag rule.bag_ms)) (latency_ns byte_ns in
         are_pairs = frames-pairs h.took frames h.are_frames;
       }
 
-abbrev terms-with : Rule → ℕ → ℕ → ℕ → ℕ → ℕ → ℕ → ℕ → Option ℕ → Terms
-terms-with rule latency_ns byte_ns until s d i q st = record {
+abbrev terms-with : Rule → ℕ → ℕ → ℕ → ℕ → ℕ → ℕ → ℕ → ℕ → Option ℕ → Terms
+terms-with rule latency_ns byte_ns until s b d i q st = record {
   rule = rule;
   latency_ns = latency_ns;
   byte_ns = byte_ns;
-  by = record { slack = s; drift = d; inner = i; asked = q; start = st };
+  by = record { slack = s; between = b; drift = d; inner = i; asked = q; start = st };
   until = until;
 }
 
-same-terms : (rule : Rule) (latency_ns byte_ns until s d i q : ℕ) (st : Option ℕ) → s ≡ 0 → d ≡ 0 → q ≡ 0 → st ≡ None
-    → terms-with rule latency_ns byte_ns until s d i q st ≡ terms-with rule latency_ns byte_ns until 0 0 i 0 None
-same-terms rule latency_ns byte_ns until s d i q st a b g c = rw (a, b, g, c) refl
+same-terms : (rule : Rule) (latency_ns byte_ns until s b d i q : ℕ) (st : Option ℕ) → s ≡ 0 → b ≡ 0 → d ≡ 0 → q ≡ 0 → st ≡ None
+    → terms-with rule latency_ns byte_ns until s b d i q st ≡ terms-with rule latency_ns byte_ns until 0 0 0 i 0 None
+same-terms rule latency_ns byte_ns until s b d i q st at apart rate asks from = rw (at, apart, rate, asks, from) refl
 
 pub exact_is_the_headline : ExactIsTheHeadline
 exact_is_the_headline z own frames e is order =
-    let same : z ≡ terms-with z.rule z.latency_ns z.byte_ns z.until 0 0 z.by.inner 0 None =
-    same-terms z.rule z.latency_ns z.byte_ns z.until z.by.slack z.by.drift z.by.inner z.by.asked z.by.start
-    e.slack e.drift e.asked e.start in (
+    let same : z ≡ terms-with z.rule z.latency_ns z.byte_ns z.until 0 0 0 z.by.inner 0 None =
+    same-terms z.rule z.latency_ns z.byte_ns z.until z.by.slack z.by.between z.by.drift z.by.inner z.by.asked z.by.start
+    e.account.slack e.between e.account.drift e.account.asked e.account.start in (
       λ h. subst (λ (t : Terms). IsAsTheHeadline t own frames) (sym same)
           (there z.rule is z.latency_ns z.byte_ns z.by.inner z.until own frames order
           (subst (λ (t : Terms). Explains t (sound_of z.rule own) frames) same h)),
@@ -138,9 +138,9 @@ exact_is_the_headline z own frames e is order =
 
 pub exact_shows_all : ExactShowsAll
 exact_shows_all z own frames answers e is order answered allowed pairs =
-    let same : z ≡ terms-with z.rule z.latency_ns z.byte_ns z.until 0 0 z.by.inner 0 None =
-    same-terms z.rule z.latency_ns z.byte_ns z.until z.by.slack z.by.drift z.by.inner z.by.asked z.by.start
-    e.slack e.drift e.asked e.start in
+    let same : z ≡ terms-with z.rule z.latency_ns z.byte_ns z.until 0 0 0 z.by.inner 0 None =
+    same-terms z.rule z.latency_ns z.byte_ns z.until z.by.slack z.by.between z.by.drift z.by.inner z.by.asked z.by.start
+    e.account.slack e.between e.account.drift e.account.asked e.account.start in
     subst (λ (t : Terms). AreTheirFrames t (accepted_arrivals z.rule own) frames) (sym same)
     (all-there z.rule is z.latency_ns z.byte_ns z.by.inner z.until own frames order answers answered
     (subst (λ (t : Terms). AreAllowed t answers) same allowed)

@@ -7,7 +7,7 @@ use Rattle.std.specs.List.{AllByRecursion}
 use Rattle.afdx_police.specs.Arrival.{Arrival}
 use Rattle.afdx_conform.specs.Events.{closes_before, closings_in, event_time, events_of, moment_at, up_to}
 use Rattle.afdx_conform.specs.Histories.{AreEvents, AreOver, coming, next_of, over_at, unclosed}
-use Rattle.afdx_conform.specs.Leeway.{both_slacks}
+use Rattle.afdx_conform.specs.Leeway.{reach}
 use Rattle.afdx_conform.specs.States.{Event, Came, Closing, arrivals_came}
 use Rattle.afdx_conform.specs.Streams.{Gone, Terms}
 use Rattle.afdx_conform.proofs.EveryLemmas.{reverse-first}
@@ -85,17 +85,17 @@ module _ (z : Terms) where
   with-arrival [] (y ∷ us) x e lt h =
       let is : Closing y.time ≡ e = cc in
       let less = subst (λ (v : Event). event_time z v < x.time) (sym is) lt in
-      ap (λ (b : Bool). if b then Some (Closing y.time) else Some (Came x)) (lt-ltb (y.time + both_slacks z.by) x.time less) ∙ h
+      ap (λ (b : Bool). if b then Some (Closing y.time) else Some (Came x)) (lt-ltb (y.time + reach z.by) x.time less) ∙ h
   with-arrival (c ∷ cs) [] x e lt h = h
   with-arrival (c ∷ cs) (y ∷ us) x e lt h = h
 
-  with-frame : (cs : List Arrival) (us : List Gone) (y : Gone) (e : Event) → event_time z e ≤ y.time + both_slacks z.by
+  with-frame : (cs : List Arrival) (us : List Gone) (y : Gone) (e : Event) → event_time z e ≤ y.time + reach z.by
       → next_of z cs us ≡ Some e → next_of z cs (us ++ (y ∷ [])) ≡ Some e
   with-frame [] [] y e le h = absurd (cc)
   with-frame (c ∷ cs) [] y e le h =
       let is : Came c ≡ e = cc in
-      let less = subst (λ (v : Event). event_time z v ≤ y.time + both_slacks z.by) (sym is) le in
-      ap (λ (b : Bool). if b then Some (Closing y.time) else Some (Came c)) (le-ltb (y.time + both_slacks z.by) c.time less) ∙ h
+      let less = subst (λ (v : Event). event_time z v ≤ y.time + reach z.by) (sym is) le in
+      ap (λ (b : Bool). if b then Some (Closing y.time) else Some (Came c)) (le-ltb (y.time + reach z.by) c.time less) ∙ h
   with-frame [] (u ∷ us) y e le h = h
   with-frame (c ∷ cs) (u ∷ us) y e le h = h
 
@@ -162,7 +162,7 @@ module _ (z : Terms) where
       )
 
   pub events-left : (xs : List Arrival) (ys : List Gone) (y : Gone) (time : ℕ) (over : List Event)
-      → time ≤ y.time + both_slacks z.by → AreOver z time over → AreEvents z xs ys over → AreEvents z xs (ys ++ (y ∷ [])) over
+      → time ≤ y.time + reach z.by → AreOver z time over → AreEvents z xs ys over → AreEvents z xs (ys ++ (y ∷ [])) over
   unfolding AreEvents AreOver
   events-left xs ys y time [] le o h = tt
   events-left xs ys y time (e ∷ before) le o h =

@@ -12,7 +12,7 @@ use Rattle.afdx_conform.specs.Events.{moment_at}
 use Rattle.afdx_conform.specs.Explanations.{last_time, levels_then}
 use Rattle.afdx_conform.specs.Findings.{Judged, lead, with_rest, front_rest, unexplained, closed_to, with_mark, aged, is_early, is_late, is_far, deviation_of, deviates_by, deviates, answered_by, few_of, came_by, came_to, rate_mark, is_uncertain, one_if, sound_events, judged_after}
 use Rattle.afdx_conform.specs.Later.{ComeLater, LaterArrivalsFindNothing}
-use Rattle.afdx_conform.specs.Leeway.{both_slacks}
+use Rattle.afdx_conform.specs.Leeway.{reach}
 use Rattle.afdx_conform.specs.States.{Came, Closing, State, arrivals_came, led_by, states_at}
 use Rattle.afdx_conform.specs.Streams.{Gone, Terms, fits, is_no_sooner, is_in_time, latency, wire_time}
 use Rattle.afdx_conform.specs.declared.finding.Deviation.{Deviation}
@@ -25,7 +25,7 @@ or-false false b e = e
 
 module _ (z : Terms) (behind more : List Arrival) (x : Arrival)
     (later : AllByRecursion (λ w. moment_at z x.time < w.time) more) where
-  too-soon : (w : Arrival) (y : Gone) → y.time + both_slacks z.by < w.time → fits z w y ≡ false
+  too-soon : (w : Arrival) (y : Gone) → y.time + reach z.by < w.time → fits z w y ≡ false
   unfolding fits
   too-soon w y h = by (bytes_eq w.bytes y.bytes) (is_no_sooner z w y) (is_in_time z w y) refl
     where
@@ -33,14 +33,14 @@ module _ (z : Terms) (behind more : List Arrival) (x : Arrival)
       by false b c e = refl
       by true false c e = refl
       by true true c e = absurd
-          (let k = leb-true (w.time + wire_time z w.bytes) (y.time + both_slacks z.by) e in omega (arith, k, h))
+          (let k = leb-true (w.time + wire_time z w.bytes) (y.time + reach z.by) e in omega (arith, k, h))
 
   none-fits : (y : Gone) → is_far z x y ≡ false → (ws : List Arrival)
       → AllByRecursion (λ w. moment_at z x.time < w.time) ws
       → list_any (λ w. fits z w y) ws ≡ false
   none-fits y near [] h = refl
   none-fits y near (w ∷ ws) h =
-      let n = ltb-false (x.time + latency z + latency z + both_slacks z.by) y.time near in
+      let n = ltb-false (x.time + latency z + latency z + reach z.by) y.time near in
       let l = h.0 in
       rw (too-soon w y (omega (arith, n, l))) (none-fits y near ws h.1)
 

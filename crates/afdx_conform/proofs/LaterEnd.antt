@@ -8,7 +8,7 @@ use Rattle.afdx_conform.specs.Ahead.{until_then, NoneIsOpen}
 use Rattle.afdx_conform.specs.Explanations.{link, last_time, levels_then}
 use Rattle.afdx_conform.specs.Findings.{Finding, Judged, Marked, judged_with, found_at, finding_or, passed_or, named_or, names_it, first_named, once_named, strangeness, lead, with_rest, has_some, front_rest, unexplained, skipped, closed_by, closed_to, with_states, with_mark, aged, asked, deviation_of, deviates_by, deviates, answered_by, few_of, came_by, came_to, rate_mark, is_uncertain, one_if, sound_events, judged_after}
 use Rattle.afdx_conform.specs.Later.{EndFindsNothing}
-use Rattle.afdx_conform.specs.Leeway.{both_slacks}
+use Rattle.afdx_conform.specs.Leeway.{reach}
 use Rattle.afdx_conform.specs.Levels.{first_levels}
 use Rattle.afdx_conform.specs.States.{Event, Came, Closing, State, arrivals_came, led_by, kept, are_behind, states_at}
 use Rattle.afdx_conform.specs.Streams.{Gone, Terms, fits, is_open}
@@ -49,10 +49,10 @@ module _ (z : Terms) (until : ℕ) where
   same-skipped time front (y ∷ rest) j =
       ap (λ (k : Judged). if are_behind time rest then with_states (with_rest rest front) k
       else skipped w time front rest k)
-      (same-unexplained (time + both_slacks z.by) y j)
+      (same-unexplained (time + reach z.by) y j)
       ∙ ap (λ (k : Judged). if are_behind time rest
-      then with_states (with_rest rest front) (unexplained z (time + both_slacks z.by) y j) else k)
-      (same-skipped time front rest (unexplained z (time + both_slacks z.by) y j))
+      then with_states (with_rest rest front) (unexplained z (time + reach z.by) y j) else k)
+      (same-skipped time front rest (unexplained z (time + reach z.by) y j))
 
   same-closed : (time : ℕ) (j : Judged) → closed_to w time j ≡ closed_to z time j
   unfolding closed_to

@@ -14,7 +14,7 @@ use Rattle.afdx_conform.specs.Explanations.{link, charge, last_time, levels_then
 use Rattle.afdx_conform.specs.Findings.{Finding, Judged, judged_with, with_finding, stopped, took, is_early, is_late, lead, with_rest, has_some, front_rest, unexplained, skipped, closed_by, closed_to, with_states, with_mark, aged, as_accepted, asked, is_far, deviation_of, deviates_by, deviates, answered_by, few_of, most_states, sound_came, came_by, came_to, rate_mark, is_uncertain, one_if, sound_events, judged_after, thinned_onto}
 use Rattle.afdx_conform.specs.Later.{AreFar, judged_more, LaterFramesFindNothing}
 use Rattle.afdx_conform.specs.Laws.{IsSomeState}
-use Rattle.afdx_conform.specs.Leeway.{both_slacks}
+use Rattle.afdx_conform.specs.Leeway.{reach}
 use Rattle.afdx_conform.specs.Levels.{first_levels, may_pass, has_to_pass}
 use Rattle.afdx_conform.specs.States.{Came, Closing, State, state_with, arrivals_came, led_by, kept, are_behind, states_at}
 use Rattle.afdx_conform.specs.Streams.{Gone, Terms, fits, latency, wire_time, is_open}
@@ -52,14 +52,14 @@ module _ (z : Terms) (more : List Gone) where
   unfolding skipped unexplained are_behind
   skipped-more time front y [] j h =
       if-equal (are_behind time more) true _ _ _ (behind-same time [] more h)
-      (ap (λ (l : List State). with_states l (unexplained z (time + both_slacks z.by) y j)) (rest-more more [] front))
+      (ap (λ (l : List State). with_states l (unexplained z (time + reach z.by) y j)) (rest-more more [] front))
   skipped-more time front y (w ∷ rest) j h =
       if-equal (are_behind time (w ∷ (rest ++ more))) (are_behind time (w ∷ rest)) _ _ _
       (behind-same time (w ∷ rest) more h)
-      (by (are_behind time (w ∷ rest)) (skipped-more time front w rest (unexplained z (time + both_slacks z.by) y j) h))
+      (by (are_behind time (w ∷ rest)) (skipped-more time front w rest (unexplained z (time + reach z.by) y j) h))
     where
       next : Judged
-      next = unexplained z (time + both_slacks z.by) y j
+      next = unexplained z (time + reach z.by) y j
 
       by : (b : Bool) → skipped z time (M front) (w ∷ (rest ++ more)) (J next)
           ≡ J (skipped z time front (w ∷ rest) next)
@@ -107,9 +107,9 @@ module _ (z : Terms) (more : List Gone) where
 
   module _ (behind : List Arrival) (x : Arrival) (opens : is_open z x ≡ false)
       (far : AllByRecursion (λ y. is_far z x y ≡ true) more) where
-    late : AllByRecursion (λ y. x.time + latency z + both_slacks z.by < y.time) more
-    late = every-on (λ y. is_far z x y ≡ true) (λ y. x.time + latency z + both_slacks z.by < y.time)
-        (λ y e. let h = ltb-true (x.time + latency z + latency z + both_slacks z.by) y.time e in omega
+    late : AllByRecursion (λ y. x.time + latency z + reach z.by < y.time) more
+    late = every-on (λ y. is_far z x y ≡ true) (λ y. x.time + latency z + reach z.by < y.time)
+        (λ y e. let h = ltb-true (x.time + latency z + latency z + reach z.by) y.time e in omega
         (arith, h)) more far
 
     asked-more : (rest : List Gone) (l : List State) → IsSomeState l

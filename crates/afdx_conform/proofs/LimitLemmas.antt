@@ -4,7 +4,7 @@ use Rattle.std.specs.Prelude.{nat_le, nat_lt}
 use Rattle.std.specs.Int.{div_ceil}
 use Rattle.std.specs.Str.{bytes_eq}
 use Rattle.afdx_police.specs.Arrival.{Arrival}
-use Rattle.afdx_conform.specs.Leeway.{both_slacks}
+use Rattle.afdx_conform.specs.Leeway.{reach}
 use Rattle.afdx_conform.specs.Levels.{parts}
 use Rattle.afdx_conform.specs.Limits.{AreLimits, gone_of}
 use Rattle.afdx_conform.specs.HeldStates.{IsNext}
@@ -33,22 +33,22 @@ module _ (z : Terms) (x : Arrival) (y : Gone) (l : Limits) (time wire : ℕ) (by
       ∙ ap (λ (n : ℕ). div_ceil (parts * ((length bytes + 8) * l.byte_ns)) (parts + n)) (sym a.drift)
       ∙ sym w
 
-  pub fits-is : fits z x y ≡ (bytes_eq bytes y.bytes && nat_le (time + wire) (y.time + l.slacks)
-      && nat_le y.time (time + l.latency + l.slacks))
+  pub fits-is : fits z x y ≡ (bytes_eq bytes y.bytes && nat_le (time + wire) (y.time + l.reach)
+      && nat_le y.time (time + l.latency + l.reach))
   unfolding fits
   fits-is =
-      let s = a.slacks in
+      let s = a.reach in
       let t = a.latency in
       let u = wire-is in
-      ap (λ (b : List ℕ). bytes_eq b y.bytes && nat_le (x.time + wire_time z x.bytes) (y.time + both_slacks z.by)
-      && nat_le y.time (x.time + latency z + both_slacks z.by)) of
-      ∙ ap (λ (b : Bool). bytes_eq bytes y.bytes && b && nat_le y.time (x.time + latency z + both_slacks z.by))
-      (le-same (x.time + wire_time z x.bytes) (time + wire) (y.time + both_slacks z.by) (y.time + l.slacks)
+      ap (λ (b : List ℕ). bytes_eq b y.bytes && nat_le (x.time + wire_time z x.bytes) (y.time + reach z.by)
+      && nat_le y.time (x.time + latency z + reach z.by)) of
+      ∙ ap (λ (b : Bool). bytes_eq bytes y.bytes && b && nat_le y.time (x.time + latency z + reach z.by))
+      (le-same (x.time + wire_time z x.bytes) (time + wire) (y.time + reach z.by) (y.time + l.reach)
       (ap (λ (n : ℕ). n + wire_time z x.bytes) at ∙ ap (λ (n : ℕ). time + n) u) (ap (λ (n : ℕ). y.time + n) (sym s)))
-      ∙ ap (λ (b : Bool). bytes_eq bytes y.bytes && nat_le (time + wire) (y.time + l.slacks) && b)
+      ∙ ap (λ (b : Bool). bytes_eq bytes y.bytes && nat_le (time + wire) (y.time + l.reach) && b)
       (ap (λ (n : ℕ). nat_le y.time n)
-      (ap (λ (n : ℕ). n + latency z + both_slacks z.by) at
-      ∙ ap (λ (n : ℕ). time + n + both_slacks z.by) (sym t)
+      (ap (λ (n : ℕ). n + latency z + reach z.by) at
+      ∙ ap (λ (n : ℕ). time + n + reach z.by) (sym t)
       ∙ ap (λ (n : ℕ). time + l.latency + n) (sym s)))
 
 pub fits-other : (b c d : Bool) → b ≡ false → (b && c && d) ≡ false
@@ -67,15 +67,15 @@ fits-last true false d e k = absurd (cc)
 fits-last false c d e k = absurd (cc)
 
 pub open-is : (z : Terms) (x : Arrival) (l : Limits) (time end : ℕ) → AreLimits z l → x.time ≡ time → z.until ≡ end
-    → nat_lt end (time + l.latency + l.slacks + l.slacks) ≡ is_open z x
+    → nat_lt end (time + l.latency + l.reach + l.reach) ≡ is_open z x
 unfolding is_open
 open-is z x l time end a at until =
-    let s = a.slacks in
+    let s = a.reach in
     let t = a.latency in
-    sym (lt-same z.until end (x.time + latency z + both_slacks z.by + both_slacks z.by)
-    (time + l.latency + l.slacks + l.slacks) until
-    (ap (λ (n : ℕ). n + latency z + both_slacks z.by + both_slacks z.by) at
-    ∙ ap (λ (n : ℕ). time + n + both_slacks z.by + both_slacks z.by) (sym t)
+    sym (lt-same z.until end (x.time + latency z + reach z.by + reach z.by)
+    (time + l.latency + l.reach + l.reach) until
+    (ap (λ (n : ℕ). n + latency z + reach z.by + reach z.by) at
+    ∙ ap (λ (n : ℕ). time + n + reach z.by + reach z.by) (sym t)
     ∙ ap (λ (n : ℕ). time + l.latency + n + n) (sym s)))
 
 drop-map : (g : Frame → Gone) (fs : List Frame) (p : ℕ) (d : Frame) → p < length fs

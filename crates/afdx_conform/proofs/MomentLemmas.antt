@@ -11,7 +11,7 @@ use Rattle.afdx_conform.specs.EventLaws.{IsTimeOf, AreKnownAt, WhatIsOverStays}
 use Rattle.afdx_conform.specs.Events.{GoUp, arrival_times, frame_times, closes_before, up_to, events_of, event_time, moment_at, judged_whole, found_before}
 use Rattle.afdx_conform.specs.Findings.{Found, Judged, is_far, judged_after}
 use Rattle.afdx_conform.specs.Later.{AreFar, ComeLater}
-use Rattle.afdx_conform.specs.Leeway.{both_slacks}
+use Rattle.afdx_conform.specs.Leeway.{reach}
 use Rattle.afdx_conform.specs.States.{Event, Came, Closing, arrivals_came}
 use Rattle.afdx_conform.specs.Streams.{Gone, Terms, is_open, is_begun, latency}
 use Rattle.afdx_conform.proofs.EventLemmas.{join, every-event, came-all}
@@ -127,21 +127,21 @@ module _ (z : Terms) (moment : ℕ) where
   -- ---- what events that are over don't ask for
 
   far-from : (more : List Gone) (events : List Event) → moment ≤ z.until
-      → AllByRecursion (λ y. moment ≤ y.time + both_slacks z.by) more
+      → AllByRecursion (λ y. moment ≤ y.time + reach z.by) more
       → AllByRecursion (λ y. is_begun z y ≡ false) more → AllByRecursion (λ e. IsBefore (event_time z e)) events
       → AreFar z more events
   unfolding AreFar is_open
   far-from more [] end late begun h = begun
   far-from more (Came x ∷ events) end late begun h =
       let k = h.0 in (
-        le-ltb z.until (x.time + latency z + both_slacks z.by + both_slacks z.by) (omega (arith, k, end)),
-        every-on (λ y. moment ≤ y.time + both_slacks z.by) (λ y. is_far z x y ≡ true)
-            (λ y l. lt-ltb (x.time + latency z + latency z + both_slacks z.by) y.time (omega (arith, k, l))) more late,
+        le-ltb z.until (x.time + latency z + reach z.by + reach z.by) (omega (arith, k, end)),
+        every-on (λ y. moment ≤ y.time + reach z.by) (λ y. is_far z x y ≡ true)
+            (λ y l. lt-ltb (x.time + latency z + latency z + reach z.by) y.time (omega (arith, k, l))) more late,
         far-from more events end late begun h.1,
       )
   far-from more (Closing time ∷ events) end late begun h =
       let k = h.0 in (
-        every-on (λ y. moment ≤ y.time + both_slacks z.by) (λ y. time < y.time) (λ y l. omega (arith, k, l)) more late,
+        every-on (λ y. moment ≤ y.time + reach z.by) (λ y. time < y.time) (λ y l. omega (arith, k, l)) more late,
         far-from more events end late begun h.1,
       )
 
@@ -163,7 +163,7 @@ module _ (z : Terms) (moment : ℕ) where
   none-open until [] end h = tt
   none-open until (Came x ∷ events) end h =
       let k = h.0 in (
-        le-ltb until (x.time + latency z + both_slacks z.by + both_slacks z.by) (omega (arith, k, end)),
+        le-ltb until (x.time + latency z + reach z.by + reach z.by) (omega (arith, k, end)),
         none-open until events end h.1,
       )
   none-open until (Closing time ∷ events) end h = none-open until events end h.1
@@ -174,8 +174,8 @@ module _ (z : Terms) (moment : ℕ) where
       (known : AreKnownAt z moment (first ++ behind) later (closed ++ left) more)
       (came-first : AllByRecursion (λ x. IsBefore x.time) first)
       (came-behind : AllByRecursion (λ x. IsBehind x.time) behind)
-      (left-first : AllByRecursion (λ y. IsBefore (y.time + both_slacks z.by)) closed)
-      (left-behind : AllByRecursion (λ y. IsBehind (y.time + both_slacks z.by)) left) where
+      (left-first : AllByRecursion (λ y. IsBefore (y.time + reach z.by)) closed)
+      (left-behind : AllByRecursion (λ y. IsBehind (y.time + reach z.by)) left) where
     abbrev Before : List Event
     Before = events_of z first closed
 
@@ -186,23 +186,23 @@ module _ (z : Terms) (moment : ℕ) where
     all-behind = every-append (λ x. IsBehind x.time) behind later came-behind
         (every-on (λ x. moment ≤ x.time) (λ x. IsBehind x.time) (λ x k. omega (arith, k)) later known.come_later)
 
-    all-left : AllByRecursion (λ y. IsBehind (y.time + both_slacks z.by)) (left ++ more)
-    all-left = every-append (λ y. IsBehind (y.time + both_slacks z.by)) left more left-behind
-        (every-on (λ y. moment ≤ y.time + both_slacks z.by) (λ y. IsBehind (y.time + both_slacks z.by))
+    all-left : AllByRecursion (λ y. IsBehind (y.time + reach z.by)) (left ++ more)
+    all-left = every-append (λ y. IsBehind (y.time + reach z.by)) left more left-behind
+        (every-on (λ y. moment ≤ y.time + reach z.by) (λ y. IsBehind (y.time + reach z.by))
         (λ y k. omega (arith, k)) more known.leave_later)
 
     closed-before : AllByRecursion (λ y. AllByRecursion (λ x. closes_before z y x ≡ true) (behind ++ later)) closed
-    closed-before = every-on (λ y. IsBefore (y.time + both_slacks z.by))
+    closed-before = every-on (λ y. IsBefore (y.time + reach z.by))
         (λ y. AllByRecursion (λ x. closes_before z y x ≡ true) (behind ++ later))
         (λ y h. every-on (λ x. IsBehind x.time) (λ x. closes_before z y x ≡ true)
-        (λ x k. lt-ltb (y.time + both_slacks z.by) x.time (omega (arith, h, k)))
+        (λ x k. lt-ltb (y.time + reach z.by) x.time (omega (arith, h, k)))
         (behind ++ later) all-behind) closed left-first
 
     came-before : AllByRecursion (λ x. AllByRecursion (λ y. closes_before z y x ≡ false) (left ++ more)) first
     came-before = every-on (λ x. IsBefore x.time)
         (λ x. AllByRecursion (λ y. closes_before z y x ≡ false) (left ++ more))
-        (λ x h. every-on (λ y. IsBehind (y.time + both_slacks z.by)) (λ y. closes_before z y x ≡ false)
-        (λ y k. le-ltb (y.time + both_slacks z.by) x.time (omega (arith, h, k)))
+        (λ x h. every-on (λ y. IsBehind (y.time + reach z.by)) (λ y. closes_before z y x ≡ false)
+        (λ y k. le-ltb (y.time + reach z.by) x.time (omega (arith, h, k)))
         (left ++ more) all-left) first came-first
 
     before-all : AllByRecursion (λ e. IsBefore (event_time z e)) (reverse Before)
@@ -262,7 +262,7 @@ module _ (z : Terms) (moment : ℕ) where
         ∙ filter-all (λ f. nat_lt (moment_at z f.time) moment) First.findings first-before
 
     begun-not : AllByRecursion (λ y. is_begun z y ≡ false) more
-    begun-not = every-on (λ y. moment ≤ y.time + both_slacks z.by) (λ y. is_begun z y ≡ false)
+    begun-not = every-on (λ y. moment ≤ y.time + reach z.by) (λ y. is_begun z y ≡ false)
         (λ y h. known.begun y h) more known.leave_later
 
     -- it is what was found of the lines that are known
@@ -294,8 +294,8 @@ over-cut : (z : Terms) (until moment : ℕ) (first behind later others : List Ar
     → AreKnownAt z moment (first ++ behind) later (closed ++ left) more
     → AreKnownAt (until_then until z) moment (first ++ behind) others (closed ++ left) rest
     → AllByRecursion (λ x. IsBefore z moment x.time) first → AllByRecursion (λ x. IsBehind z moment x.time) behind
-    → AllByRecursion (λ y. IsBefore z moment (y.time + both_slacks z.by)) closed
-    → AllByRecursion (λ y. IsBehind z moment (y.time + both_slacks z.by)) left
+    → AllByRecursion (λ y. IsBefore z moment (y.time + reach z.by)) closed
+    → AllByRecursion (λ y. IsBehind z moment (y.time + reach z.by)) left
     → found_before z moment (judged_whole z ((first ++ behind) ++ later) ((closed ++ left) ++ more)).findings
     ≡ found_before z moment
     (judged_whole (until_then until z) ((first ++ behind) ++ others) ((closed ++ left) ++ rest)).findings
@@ -318,8 +318,8 @@ over_stays z until moment xs later others ys more rest p q =
     (subst (λ l. GoUp l) (map-append (λ (y : Gone). y.time) ys more) p.left) in
     let c = cut (λ (x : Arrival). moment_at z x.time) moment xs
     (up-on (λ (x : Arrival). x.time) (λ t. moment_at z t) (λ m n h. omega (arith, h)) xs up-xs) in
-    let d = cut (λ (y : Gone). moment_at z (y.time + both_slacks z.by)) moment ys
-    (up-on (λ (y : Gone). y.time) (λ t. moment_at z (t + both_slacks z.by)) (λ m n h. omega (arith, h)) ys up-ys) in
+    let d = cut (λ (y : Gone). moment_at z (y.time + reach z.by)) moment ys
+    (up-on (λ (y : Gone). y.time) (λ t. moment_at z (t + reach z.by)) (λ m n h. omega (arith, h)) ys up-ys) in
     subst (λ l. found_before z moment (judged_whole z (l ++ later) (ys ++ more)).findings
     ≡ found_before z moment (judged_whole (until_then until z) (l ++ others) (ys ++ rest)).findings) (sym c.same)
     (subst (λ l. found_before z moment (judged_whole z ((c.first ++ c.behind) ++ later) (l ++ more)).findings

@@ -8,7 +8,7 @@ use Rattle.afdx_police.specs.Shape.{fault_of}
 use Rattle.afdx_police.specs.declared.shape.Reason.{Reason}
 use Rattle.afdx_conform.specs.Explanations.{link, charge, last_time, levels_then}
 use Rattle.afdx_conform.specs.Findings.{Judged, lead, with_rest, has_some, front_rest, unexplained, skipped, closed_by, closed_to, with_states, aged, as_accepted, asked, deviation_of, deviates_by, deviates, answered_by, came_by, came_to, sound_events, judged_after, one_more, thinned_onto, does_more}
-use Rattle.afdx_conform.specs.Leeway.{both_slacks}
+use Rattle.afdx_conform.specs.Leeway.{reach}
 use Rattle.afdx_conform.specs.Levels.{Levels, charged, refused, first_levels, may_pass, has_to_pass}
 use Rattle.afdx_conform.specs.States.{Event, Came, Closing, State, state_with, arrivals_came, led_by, kept, are_behind, first_states, accepted_states, states_at}
 use Rattle.afdx_conform.specs.Streams.{Gone, Terms, fits, is_open, is_begun}
@@ -117,8 +117,8 @@ module _ (R : Gone → Type 0) where
     holds-skipped time front [] j r = holds-rest [] tt front
     holds-skipped time front (y ∷ rest) j r =
         if-both (λ (k : Judged). Holds k.states) (are_behind time rest)
-        (with_states (with_rest rest front) (unexplained z (time + both_slacks z.by) y j)) _ (holds-rest rest r.1 front)
-        (holds-skipped time front rest (unexplained z (time + both_slacks z.by) y j) r.1)
+        (with_states (with_rest rest front) (unexplained z (time + reach z.by) y j)) _ (holds-rest rest r.1 front)
+        (holds-skipped time front rest (unexplained z (time + reach z.by) y j) r.1)
 
     pub holds-closed : (time : ℕ) (j : Judged) → Holds j.states → Holds (closed_to z time j).states
     unfolding closed_to
@@ -209,10 +209,10 @@ past-skipped : (z : Terms) (time : ℕ) (front : List State) (rest : List Gone) 
 unfolding skipped
 past-skipped z time front [] j = holds-rest (IsPast time) [] tt front
 past-skipped z time front (y ∷ rest) j =
-    by (are_behind time rest) refl (past-skipped z time front rest (unexplained z (time + both_slacks z.by) y j))
+    by (are_behind time rest) refl (past-skipped z time front rest (unexplained z (time + reach z.by) y j))
   where
     next : Judged
-    next = unexplained z (time + both_slacks z.by) y j
+    next = unexplained z (time + reach z.by) y j
 
     by : (b : Bool) → are_behind time rest ≡ b → Holds (IsPast time) (skipped z time front rest next).states
         → Holds (IsPast time)

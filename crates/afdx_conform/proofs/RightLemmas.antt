@@ -15,7 +15,7 @@ use Rattle.afdx_police.specs.Account.{missing, overdrawn}
 use Rattle.afdx_police.specs.Arrival.{Arrival}
 use Rattle.afdx_police.specs.Window as window
 use Rattle.afdx_police.specs.Window.{Charged}
-use Rattle.afdx_conform.specs.Leeway.{Leeway, both_slacks, account_slip}
+use Rattle.afdx_conform.specs.Leeway.{Leeway, reach, account_slip}
 use Rattle.afdx_conform.specs.Levels.{Levels, parts, first_levels, may_pass, has_to_pass, charged, refused, later, full, cost, fast_slip, slow_slip, fastest, slowest}
 use Rattle.afdx_conform.specs.Streams.{Gone, Terms, fits, is_open, is_begun, is_begun_by, is_no_sooner, is_in_time, wire_time, latency}
 use Rattle.afdx_conform.specs.Explanations.{accepted_in, arrivals_in, from_time, link, charge, levels_by, levels_after, IsAllowed, AreAllowed, ArePairs}
@@ -360,7 +360,7 @@ module _ (z : Terms) (slow : z.by.drift < parts) where
             (omega (arith, slow)) (omega (arith, lates, slowest, turned)),
       )
 
-  leaves-fits : (x : Asked) (y : Gone) → IsStamped z.by x.arrival.time x.moment → LeavesAs z x y → IsTrue (fits z x.arrival y)
+  leaves-fits : (x : Asked) (y : Gone) → IsStamped z.by.slack x.arrival.time x.moment → LeavesAs z x y → IsTrue (fits z x.arrival y)
   unfolding fits
   leaves-fits x y at h =
       let span = spent x y h in
@@ -374,12 +374,12 @@ module _ (z : Terms) (slow : z.by.drift < parts) where
       and_from (bytes_eq x.arrival.bytes y.bytes && is_no_sooner z x.arrival y) (is_in_time z x.arrival y)
       (and_from (bytes_eq x.arrival.bytes y.bytes) (is_no_sooner z x.arrival y)
       ((bytes_eq-Decides x.arrival.bytes y.bytes).1 h.bytes)
-      (le-leb (x.arrival.time + wire_time z x.arrival.bytes) (y.time + both_slacks z.by)
+      (le-leb (x.arrival.time + wire_time z x.arrival.bytes) (y.time + reach z.by)
       (omega (arith, quick, moments, late, early1))))
-      (le-leb y.time (x.arrival.time + latency z + both_slacks z.by)
+      (le-leb y.time (x.arrival.time + latency z + reach z.by)
       (omega (arith, slowly, moments, early, late1)))
 
-  later-open : (x : Asked) → IsStamped z.by x.arrival.time x.moment → LeavesLater z x → IsTrue (is_open z x.arrival)
+  later-open : (x : Asked) → IsStamped z.by.slack x.arrival.time x.moment → LeavesLater z x → IsTrue (is_open z x.arrival)
   unfolding is_open
   later-open x at h =
       let span = spent x h.frame h.leaves in
@@ -388,7 +388,7 @@ module _ (z : Terms) (slow : z.by.drift < parts) where
       let early = at.early in
       let late1 = h.leaves.stamped.late in
       let unseen = h.unseen in
-      lt-ltb z.until (x.arrival.time + latency z + both_slacks z.by + both_slacks z.by)
+      lt-ltb z.until (x.arrival.time + latency z + reach z.by + reach z.by)
       (omega (arith, slowly, moments, early, late1, unseen))
 
 -- ---- all of it
@@ -416,7 +416,7 @@ answers-accepted z first (x ∷ before) = by (is_accepted z first before x) (ans
 
 -- all of these are stamped
 abbrev AreStamped : Terms → List Asked → Type 0
-AreStamped z xs = AllByRecursion (λ x. IsStamped z.by x.arrival.time x.moment) xs
+AreStamped z xs = AllByRecursion (λ x. IsStamped z.by.slack x.arrival.time x.moment) xs
 
 stamped-all : (z : Terms) (moment clock : ℕ) (asked : List Asked) → GoByClock z moment clock asked → AreStamped z asked
 unfolding GoByClock
@@ -462,7 +462,7 @@ module _ (z : Terms) (slow : z.by.drift < parts) where
       let early = h.stamped.early in
       let late1 = h.leaves.stamped.late in
       let before = h.before in
-      lt-ltb y.time (start + latency z + both_slacks z.by) (omega (arith, slowly, moments, early, late1, before))
+      lt-ltb y.time (start + latency z + reach z.by) (omega (arith, slowly, moments, early, late1, before))
 
   unseen-begun : (ys : List Gone) → AllByRecursion (λ y. IsUnseen z z.by.start y) ys
       → AllByRecursion (λ y. IsTrue (is_begun z y)) ys

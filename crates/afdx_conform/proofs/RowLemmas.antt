@@ -23,4 +23,11 @@ all_worked = record {
   over_rate = refl;
   twice = refl;
   right = refl;
+  late_apart = refl;
+  as_late = refl;
+  early_apart = refl;
+  as_early = refl;
+  over_rate_apart = refl;
+  open_apart = refl;
+  shut_apart = refl;
 }

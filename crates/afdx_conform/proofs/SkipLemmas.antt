@@ -7,7 +7,7 @@ use Rattle.std.specs.List.{filter, list_any}
 use Rattle.afdx_conform.specs.Findings.{Finding, Judged, with_states, lead, with_rest, front_rest, skipped, closed_to}
 use Rattle.afdx_conform.specs.HeldStates.{AreClosed, IsWithin, state_of, past}
 use Rattle.afdx_conform.specs.Judging.{StandsFor, AreFound}
-use Rattle.afdx_conform.specs.Leeway.{both_slacks}
+use Rattle.afdx_conform.specs.Leeway.{reach}
 use Rattle.afdx_conform.specs.Limits.{gone_of}
 use Rattle.afdx_conform.specs.Marks.{marked_all, told}
 use Rattle.afdx_conform.specs.Naming.{unexplained_all}
@@ -57,7 +57,7 @@ module _ (z : Terms) (time passed foremost front : ℕ) (fs : List Frame) (arriv
   S l = map (state_of (map gone_of fs)) l
 
   abbrev At : ℕ
-  At = time + both_slacks z.by
+  At = time + reach z.by
 
   abbrev After : Judged
   After = told At found (marked_all arrivals marks) j

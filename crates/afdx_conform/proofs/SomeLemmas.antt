@@ -7,7 +7,7 @@ use Rattle.afdx_police.specs.declared.shape.Reason.{Reason}
 use Rattle.afdx_conform.specs.Explanations.{link, charge, last_time, levels_then}
 use Rattle.afdx_conform.specs.Findings.{Judged, lead, with_rest, has_some, front_rest, unexplained, skipped, closed_by, closed_to, with_states, aged, as_accepted, asked, deviation_of, deviates_by, deviates, answered_by, came_by, came_to, sound_events, judged_after, thinned_onto}
 use Rattle.afdx_conform.specs.Laws.{IsSomeState}
-use Rattle.afdx_conform.specs.Leeway.{both_slacks}
+use Rattle.afdx_conform.specs.Leeway.{reach}
 use Rattle.afdx_conform.specs.Levels.{charged, first_levels}
 use Rattle.afdx_conform.specs.States.{Event, Came, Closing, State, state_with, arrivals_came, led_by, kept, are_behind, states_at}
 use Rattle.afdx_conform.specs.Streams.{Gone, Terms}
@@ -34,7 +34,7 @@ module _ (z : Terms) where
   skipped-some time front [] j h = rest-some [] front h
   skipped-some time front (y ∷ rest) j h =
       if-both (λ (r : Judged). IsSomeState r.states) (are_behind time rest) _ _ (rest-some rest front h)
-      (skipped-some time front rest (unexplained z (time + both_slacks z.by) y j) h)
+      (skipped-some time front rest (unexplained z (time + reach z.by) y j) h)
 
   pub closed-some : (time : ℕ) (j : Judged) → IsSomeState j.states → IsSomeState (closed_to z time j).states
   unfolding closed_to

@@ -10,7 +10,7 @@ use Rattle.afdx_conform.specs.Findings.{Finding, Marked, judged_after, sound_eve
 use Rattle.afdx_conform.specs.Growing.{AreTold, Decides, IsAfter, IsNoSooner, closed_too, due_by, due_in}
 use Rattle.afdx_conform.specs.Histories.{AreEvents, coming, judged_by, next_of, shown, time_of, unclosed}
 use Rattle.afdx_conform.specs.Judging.{AreFound}
-use Rattle.afdx_conform.specs.Leeway.{both_slacks}
+use Rattle.afdx_conform.specs.Leeway.{reach}
 use Rattle.afdx_conform.specs.Standing.{Finds}
 use Rattle.afdx_conform.specs.States.{Event, Came, Closing, arrivals_came}
 use Rattle.afdx_conform.specs.Streams.{Gone, Terms}
@@ -42,53 +42,53 @@ module _ (z : Terms) where
       subst (λ (v : Event). x.time ≤ event_time z v) is (by (closes_before z u x) refl here)
     where
       by : (b : Bool) → closes_before z u x ≡ b → (if b then Some (Closing u.time) else Some (Came x)) ≡ Some (Came x)
-          → x.time ≤ u.time + both_slacks z.by
+          → x.time ≤ u.time + reach z.by
       by true k h = absurd (cc)
-      by false k h = ltb-false (u.time + both_slacks z.by) x.time k
+      by false k h = ltb-false (u.time + reach z.by) x.time k
   later-came x (c ∷ cs) (u ∷ us) e up here there =
       one (closes_before z u c) there (by (closes_before z u x) refl here)
     where
       by : (b : Bool) → closes_before z u x ≡ b → (if b then Some (Closing u.time) else Some (Came x)) ≡ Some (Came x)
-          → x.time ≤ u.time + both_slacks z.by
+          → x.time ≤ u.time + reach z.by
       by true k h = absurd (cc)
-      by false k h = ltb-false (u.time + both_slacks z.by) x.time k
+      by false k h = ltb-false (u.time + reach z.by) x.time k
 
-      one : (b : Bool) → (if b then Some (Closing u.time) else Some (Came c)) ≡ Some e → x.time ≤ u.time + both_slacks z.by
+      one : (b : Bool) → (if b then Some (Closing u.time) else Some (Came c)) ≡ Some e → x.time ≤ u.time + reach z.by
           → x.time ≤ event_time z e
       one true h le = let is : Closing u.time ≡ e = cc in subst (λ (v : Event). x.time ≤ event_time z v) is le
       one false h le = let is : Came c ≡ e = cc in subst (λ (v : Event). x.time ≤ event_time z v) is up.0.0
 
   later-closed : (cs : List Arrival) (y : Gone) (us : List Gone) (e : Event) → GoUp (frame_times (y ∷ us))
-      → next_of z cs (y ∷ us) ≡ Some (Closing y.time) → next_of z cs us ≡ Some e → y.time + both_slacks z.by ≤ event_time z e
+      → next_of z cs (y ∷ us) ≡ Some (Closing y.time) → next_of z cs us ≡ Some e → y.time + reach z.by ≤ event_time z e
   unfolding GoUp
   later-closed [] y [] e up here there = absurd (cc)
   later-closed [] y (u ∷ us) e up here there =
       let is : Closing u.time ≡ e = cc in
       let le = up.0.0 in
-      subst (λ (v : Event). y.time + both_slacks z.by ≤ event_time z v) is (omega (arith, le))
+      subst (λ (v : Event). y.time + reach z.by ≤ event_time z v) is (omega (arith, le))
   later-closed (c ∷ cs) y [] e up here there =
       let is : Came c ≡ e = cc in
-      subst (λ (v : Event). y.time + both_slacks z.by ≤ event_time z v) is (by (closes_before z y c) refl here)
+      subst (λ (v : Event). y.time + reach z.by ≤ event_time z v) is (by (closes_before z y c) refl here)
     where
       by : (b : Bool) → closes_before z y c ≡ b → (if b then Some (Closing y.time) else Some (Came c)) ≡ Some (Closing y.time)
-          → y.time + both_slacks z.by ≤ c.time
-      by true k h = (let lt = ltb-true (y.time + both_slacks z.by) c.time k in omega (arith, lt))
+          → y.time + reach z.by ≤ c.time
+      by true k h = (let lt = ltb-true (y.time + reach z.by) c.time k in omega (arith, lt))
       by false k h = absurd (cc)
   later-closed (c ∷ cs) y (u ∷ us) e up here there =
       one (closes_before z u c) there (by (closes_before z y c) refl here)
     where
       by : (b : Bool) → closes_before z y c ≡ b → (if b then Some (Closing y.time) else Some (Came c)) ≡ Some (Closing y.time)
-          → y.time + both_slacks z.by ≤ c.time
-      by true k h = (let lt = ltb-true (y.time + both_slacks z.by) c.time k in omega (arith, lt))
+          → y.time + reach z.by ≤ c.time
+      by true k h = (let lt = ltb-true (y.time + reach z.by) c.time k in omega (arith, lt))
       by false k h = absurd (cc)
 
-      one : (b : Bool) → (if b then Some (Closing u.time) else Some (Came c)) ≡ Some e → y.time + both_slacks z.by ≤ c.time
-          → y.time + both_slacks z.by ≤ event_time z e
+      one : (b : Bool) → (if b then Some (Closing u.time) else Some (Came c)) ≡ Some e → y.time + reach z.by ≤ c.time
+          → y.time + reach z.by ≤ event_time z e
       one true h le =
           let is : Closing u.time ≡ e = cc in
           let more = up.0.0 in
-          subst (λ (v : Event). y.time + both_slacks z.by ≤ event_time z v) is (omega (arith, more))
-      one false h le = let is : Came c ≡ e = cc in subst (λ (v : Event). y.time + both_slacks z.by ≤ event_time z v) is le
+          subst (λ (v : Event). y.time + reach z.by ≤ event_time z v) is (omega (arith, more))
+      one false h le = let is : Came c ≡ e = cc in subst (λ (v : Event). y.time + reach z.by ≤ event_time z v) is le
 
   pub in-order : (xs : List Arrival) (ys : List Gone) (over : List Event) (e n : Event) → AreTold z xs ys
       → next_of z (coming xs over) (unclosed ys over) ≡ Some e

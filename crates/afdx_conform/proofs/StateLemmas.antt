@@ -6,7 +6,7 @@ use Rattle.std.specs.Prelude.{IsTrue, if◌then◌else◌, nat_lt}
 use Rattle.std.specs.List.{AllByRecursion}
 use Rattle.std.specs.Str.{bytes_eq}
 use Rattle.afdx_police.specs.Arrival.{Arrival}
-use Rattle.afdx_conform.specs.Leeway.{both_slacks}
+use Rattle.afdx_conform.specs.Leeway.{reach}
 use Rattle.afdx_conform.specs.Levels.{Levels, first_levels, may_pass, has_to_pass, charged, refused}
 use Rattle.afdx_conform.specs.Streams.{Gone, Terms, fits, is_open, is_no_sooner, is_in_time, wire_time}
 use Rattle.afdx_conform.specs.Explanations.{Answered, answered, accepted_in, arrivals_in, last_time, link, charge, levels_then, levels_after, AreAllowed, ArePairs, Explains}
@@ -30,12 +30,12 @@ behind-none (Came x ∷ before) = behind-none before
 behind-none (Closing time ∷ before) = (refl, behind-none before)
 
 -- what fits is no earlier than the arrival, but for the stamps
-fits-after : (z : Terms) (x : Arrival) (y : Gone) → IsTrue (fits z x y) → x.time ≤ y.time + both_slacks z.by
+fits-after : (z : Terms) (x : Arrival) (y : Gone) → IsTrue (fits z x y) → x.time ≤ y.time + reach z.by
 unfolding fits
 fits-after z x y h =
     let both = and_parts (bytes_eq x.bytes y.bytes && is_no_sooner z x y) (is_in_time z x y) h in
     let two = and_parts (bytes_eq x.bytes y.bytes) (is_no_sooner z x y) both.0 in
-    let stored = leb-true (x.time + wire_time z x.bytes) (y.time + both_slacks z.by) two.1 in omega (arith, stored)
+    let stored = leb-true (x.time + wire_time z x.bytes) (y.time + reach z.by) two.1 in omega (arith, stored)
 
 behind-next : (z : Terms) (x : Arrival) (y : Gone) (rest : List Gone) (events : List Event)
     → IsTrue (fits z x y) → IsBehindClosings z x events → AreBehindAll rest events → AreBehindAll (y ∷ rest) events

@@ -10,7 +10,7 @@ use Rattle.afdx_conform.specs.EventLaws.{IsTimeOf, AddsFound, FoundStays}
 use Rattle.afdx_conform.specs.Events.{event_time}
 use Rattle.afdx_conform.specs.Explanations.{last_time, levels_then}
 use Rattle.afdx_conform.specs.Findings.{Found, Judged, lead, with_rest, has_some, front_rest, unexplained, skipped, closed_by, closed_to, with_states, aged, asked, deviation_of, deviates_by, deviates, answered_by, came_by, came_to, sound_events, judged_after}
-use Rattle.afdx_conform.specs.Leeway.{both_slacks}
+use Rattle.afdx_conform.specs.Leeway.{reach}
 use Rattle.afdx_conform.specs.States.{Event, Came, Closing, State, arrivals_came, led_by, kept, are_behind, states_at}
 use Rattle.afdx_conform.specs.Streams.{Gone, Terms}
 use Rattle.afdx_conform.specs.declared.finding.Deviation.{Deviation}
@@ -40,28 +40,28 @@ adds-one z time y j = record { found = _ ∷ []; added = refl; at_time = (refl, 
 
 module _ (z : Terms) where
   skipped-adds : (time : ℕ) (front : List State) (rest : List Gone) (j : Judged)
-      → Adds (time + both_slacks z.by) j (skipped z time front rest j)
+      → Adds (time + reach z.by) j (skipped z time front rest j)
   unfolding skipped
-  skipped-adds time front [] j = adds-none (time + both_slacks z.by) j _ refl
+  skipped-adds time front [] j = adds-none (time + reach z.by) j _ refl
   skipped-adds time front (y ∷ rest) j =
-      let one = adds-one z (time + both_slacks z.by) y j in
-      if-both (λ (r : Judged). Adds (time + both_slacks z.by) j r) (are_behind time rest)
-      (with_states (with_rest rest front) (unexplained z (time + both_slacks z.by) y j))
-      (skipped z time front rest (unexplained z (time + both_slacks z.by) y j))
+      let one = adds-one z (time + reach z.by) y j in
+      if-both (λ (r : Judged). Adds (time + reach z.by) j r) (are_behind time rest)
+      (with_states (with_rest rest front) (unexplained z (time + reach z.by) y j))
+      (skipped z time front rest (unexplained z (time + reach z.by) y j))
       (record { found = one.found; added = one.added; at_time = one.at_time })
-      (adds-on (time + both_slacks z.by) j (unexplained z (time + both_slacks z.by) y j) _ one
-      (skipped-adds time front rest (unexplained z (time + both_slacks z.by) y j)))
+      (adds-on (time + reach z.by) j (unexplained z (time + reach z.by) y j) _ one
+      (skipped-adds time front rest (unexplained z (time + reach z.by) y j)))
 
-  closed-adds : (time : ℕ) (j : Judged) → Adds (time + both_slacks z.by) j (closed_to z time j)
+  closed-adds : (time : ℕ) (j : Judged) → Adds (time + reach z.by) j (closed_to z time j)
   unfolding closed_to
   closed-adds time j =
-      if-both (λ (r : Judged). Adds (time + both_slacks z.by) j r) j.is_unsure j
-      (closed_by z time (kept (λ s. are_behind time s.rest) j.states) j) (adds-none (time + both_slacks z.by) j j refl)
+      if-both (λ (r : Judged). Adds (time + reach z.by) j r) j.is_unsure j
+      (closed_by z time (kept (λ s. are_behind time s.rest) j.states) j) (adds-none (time + reach z.by) j j refl)
       (by (kept (λ s. are_behind time s.rest) j.states))
     where
-      by : (l : List State) → Adds (time + both_slacks z.by) j (closed_by z time l j)
+      by : (l : List State) → Adds (time + reach z.by) j (closed_by z time l j)
       by [] = skipped-adds time (lead j.states) (front_rest j.states) j
-      by (s ∷ l) = adds-none (time + both_slacks z.by) j _ refl
+      by (s ∷ l) = adds-none (time + reach z.by) j _ refl
 
   deviates-adds : (behind : List Arrival) (x : Arrival) (l : List State) (rest : List Gone) (j : Judged)
       → Adds x.time j (deviates z behind x l rest j)

@@ -9,8 +9,8 @@ use Rattle.afdx_police.specs.Shape.{fault_of}
 use Rattle.afdx_police.specs.declared.shape.Reason.{Reason}
 use Rattle.afdx_conform.specs.Explanations.{link, charge, last_time, levels_then}
 use Rattle.afdx_conform.specs.Findings.{Judged, lead, with_rest, has_some, front_rest, unexplained, skipped, closed_by, closed_to, with_states, aged, as_accepted, asked, deviation_of, deviates_by, deviates, answered_by, few_of, most_states, came_by, came_to, is_uncertain, one_if, sound_events, judged_after, one_more, thinned_onto}
-use Rattle.afdx_conform.specs.Headline.{IsExact}
-use Rattle.afdx_conform.specs.Leeway.{Leeway, account_slip, both_slacks}
+use Rattle.afdx_conform.specs.Headline.{IsAccountKnown}
+use Rattle.afdx_conform.specs.Leeway.{Leeway, account_slip, reach}
 use Rattle.afdx_conform.specs.Levels.{Levels, parts, fastest, slowest, full, cost, fast_slip, first_levels, later, charged, refused, may_pass, has_to_pass}
 use Rattle.afdx_conform.specs.States.{Event, Came, Closing, State, state_with, arrivals_came, led_by, kept, are_behind, first_states, accepted_states, states_at}
 use Rattle.afdx_conform.specs.Streams.{Gone, Terms, fits, is_open, is_begun, is_begun_by}
@@ -68,7 +68,7 @@ lead-one : (s : State) → lead (s ∷ []) ≡ s ∷ []
 unfolding front_rest kept
 lead-one s = if-true (nat_eq (length s.rest) (length s.rest)) (s ∷ []) [] (eq-eqb (length s.rest) (length s.rest) refl)
 
-module _ (z : Terms) (e : IsExact z) where
+module _ (z : Terms) (e : IsAccountKnown z) where
   -- an arrival leads to one, or has to pass and leads to none
   abbrev IsLed : Arrival → Levels → List State → Type 0
   IsLed x levels l = IsOne l ⊎ ((l ≡ []) × (has_to_pass (link z) z.by (charge z x) levels ≡ true))
@@ -278,13 +278,13 @@ module _ (z : Terms) (e : IsExact z) where
   }
   skipped-even time s front (y ∷ rest) j is even c sure =
       if-both (λ (k : Judged). IsEven k) (are_behind time rest)
-      (with_states (with_rest rest front) (unexplained z (time + both_slacks z.by) y j)) _
+      (with_states (with_rest rest front) (unexplained z (time + reach z.by) y j)) _
       (record {
         one = record { of = _; is = ap (λ (k : List State). with_rest rest k) is; even = even };
         certain = c;
         sure = sure;
       })
-      (skipped-even time s front rest (unexplained z (time + both_slacks z.by) y j) is even c sure)
+      (skipped-even time s front rest (unexplained z (time + reach z.by) y j) is even c sure)
 
   closed-even : (time : ℕ) (j : Judged) → IsEven j → IsEven (closed_to z time j)
   unfolding closed_to kept

@@ -1,7 +1,7 @@
 -- What may be decided before later frames are known.
 use Rattle.std.specs.Prelude.{◌≡◌, ℕ, ◌+◌, ◌<◌, false, ⊤, List, [], ◌∷◌, ◌++◌, map}
 use Rattle.std.specs.List.{AllByRecursion}
-use Rattle.afdx_conform.specs.Leeway.{both_slacks}
+use Rattle.afdx_conform.specs.Leeway.{reach}
 use Rattle.afdx_conform.specs.Streams.{Gone, Terms, latency, is_open, is_begun}
 use Rattle.afdx_conform.specs.States.{Event, Came, Closing, State, state_with, states_after}
 
@@ -14,7 +14,7 @@ with_more more s = state_with (s.rest ++ more) s.levels s.waiting
 unfoldable pub AreBeyond : Terms → List Gone → List Event → Type 0
 AreBeyond z more [] = AllByRecursion (λ y. is_begun z y ≡ false) more
 AreBeyond z more (Came x ∷ before) = (is_open z x ≡ false)
-    × AllByRecursion (λ y. x.time + latency z + both_slacks z.by < y.time) more
+    × AllByRecursion (λ y. x.time + latency z + reach z.by < y.time) more
     × AreBeyond z more before
 AreBeyond z more (Closing time ∷ before) = AllByRecursion (λ y. time < y.time) more
     × AreBeyond z more before

@@ -7,7 +7,7 @@ use Rattle.afdx_conform.specs.Events.{GoUp, arrival_times, frame_times, closings
 use Rattle.afdx_conform.specs.Explanations.{Explains}
 use Rattle.afdx_conform.specs.Findings.{Found, judged_after}
 use Rattle.afdx_conform.specs.Headline.{sound_of}
-use Rattle.afdx_conform.specs.Leeway.{both_slacks}
+use Rattle.afdx_conform.specs.Leeway.{reach}
 use Rattle.afdx_conform.specs.States.{Event, arrivals_came, AreInOrder}
 use Rattle.afdx_conform.specs.Streams.{Gone, Terms, is_begun}
 
@@ -67,9 +67,9 @@ pub record AreKnownAt (z : Terms) (moment : ℕ) (xs later : List Arrival) (ys m
   pub came : GoUp (arrival_times (xs ++ later))
   pub left : GoUp (frame_times (ys ++ more))
   pub come_later : AllByRecursion (λ x. moment ≤ x.time) later
-  pub leave_later : AllByRecursion (λ y. moment ≤ y.time + both_slacks z.by) more
+  pub leave_later : AllByRecursion (λ y. moment ≤ y.time + reach z.by) more
   pub end : moment ≤ z.until
-  pub begun : (y : Gone) → moment ≤ y.time + both_slacks z.by → is_begun z y ≡ false
+  pub begun : (y : Gone) → moment ≤ y.time + reach z.by → is_begun z y ≡ false
 
 -- what is found of moments before one is the same whatever comes at it or later, and whenever the
 -- recordings end

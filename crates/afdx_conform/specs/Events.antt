@@ -3,7 +3,7 @@ use Rattle.std.specs.Prelude.{ℕ, ◌+◌, ◌≤◌, Bool, ⊤, nat_lt, List, 
 use Rattle.std.specs.List.{AllByRecursion, filter}
 use Rattle.afdx_police.specs.Arrival.{Arrival}
 use Rattle.afdx_conform.specs.Findings.{Found, Judged, judged_after}
-use Rattle.afdx_conform.specs.Leeway.{both_slacks}
+use Rattle.afdx_conform.specs.Leeway.{reach}
 use Rattle.afdx_conform.specs.States.{Event, Came, Closing}
 use Rattle.afdx_conform.specs.Streams.{Gone, Terms, latency}
 
@@ -27,7 +27,7 @@ closings_in (Closing time ∷ more) = time ∷ closings_in more
 module _ (z : Terms) where
   -- the frame is closed before the arrival: at one time the arrival is first
   abbrev pub closes_before : Gone → Arrival → Bool
-  closes_before y x = nat_lt (y.time + both_slacks z.by) x.time
+  closes_before y x = nat_lt (y.time + reach z.by) x.time
 
   -- the closings before an arrival, then it; `next` is what comes then
   unfoldable pub up_to : Arrival → (next : List Gone → List Event) → List Gone → List Event
@@ -43,11 +43,11 @@ module _ (z : Terms) where
   -- when an event is
   abbrev pub event_time : Event → ℕ
   event_time (Came x) = x.time
-  event_time (Closing time) = time + both_slacks z.by
+  event_time (Closing time) = time + reach z.by
 
   -- the moment of what is found at an event of this time
   abbrev pub moment_at : ℕ → ℕ
-  moment_at time = time + latency z + latency z + both_slacks z.by + both_slacks z.by
+  moment_at time = time + latency z + latency z + reach z.by + reach z.by
 
   -- how far a stream is judged once all its events are over
   abbrev pub judged_whole : List Arrival → List Gone → Judged

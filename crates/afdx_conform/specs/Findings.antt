@@ -17,7 +17,7 @@ use Rattle.afdx_conform.specs.declared.finding.Strangeness.TheVariants.{Damaged,
 use Rattle.afdx_conform.specs.declared.finding.Deviation.{Deviation}
 use Rattle.afdx_conform.specs.declared.finding.Deviation.TheVariants as deviation
 use Rattle.afdx_conform.specs.Explanations.{link, charge, last_time, levels_then}
-use Rattle.afdx_conform.specs.Leeway.{both_slacks}
+use Rattle.afdx_conform.specs.Leeway.{reach}
 use Rattle.afdx_conform.specs.Levels.{first_levels, charged, may_pass, has_to_pass}
 use Rattle.afdx_conform.specs.States.{Event, Came, Closing, State, state_with, arrivals_came, led_by, kept, are_behind, first_states, states_at}
 use Rattle.afdx_conform.specs.Streams.{Gone, Terms, fits, is_no_sooner, latency, wire_time}
@@ -203,8 +203,8 @@ module _ (z : Terms) where
   skipped time front [] j = with_states (with_rest [] front) j
   skipped time front (y ∷ rest) j =
       if are_behind time rest
-      then with_states (with_rest rest front) (unexplained (time + both_slacks z.by) y j)
-      else skipped time front rest (unexplained (time + both_slacks z.by) y j)
+      then with_states (with_rest rest front) (unexplained (time + reach z.by) y j)
+      else skipped time front rest (unexplained (time + reach z.by) y j)
 
   abbrev pub closed_by : ℕ → List State → Judged → Judged
   closed_by time [] j = skipped time (lead j.states) (front_rest j.states) j
@@ -235,14 +235,14 @@ module _ (z : Terms) where
       with_states (with_rest rest (as_accepted x (lead states))) (with_finding x.time finding 1 j)
 
   abbrev pub is_early : Arrival → Gone → Bool
-  is_early x y = bytes_eq x.bytes y.bytes && nat_le x.time (y.time + both_slacks z.by)
+  is_early x y = bytes_eq x.bytes y.bytes && nat_le x.time (y.time + reach z.by)
       && not (is_no_sooner z x y)
 
   abbrev pub is_late : Arrival → Gone → Bool
-  is_late x y = nat_lt (x.time + latency z + both_slacks z.by) y.time
+  is_late x y = nat_lt (x.time + latency z + reach z.by) y.time
 
   abbrev pub is_far : Arrival → Gone → Bool
-  is_far x y = nat_lt (x.time + latency z + latency z + both_slacks z.by) y.time
+  is_far x y = nat_lt (x.time + latency z + latency z + reach z.by) y.time
 
   -- what the switch did with the arrival, by the next frame; `behind` came after it
   abbrev pub deviation_of : List Arrival → Arrival → Gone → Deviation

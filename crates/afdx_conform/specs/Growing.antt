@@ -14,7 +14,7 @@ use Rattle.afdx_conform.specs.HeldStates.{IsWithin}
 use Rattle.afdx_conform.specs.Histories.{AreEvents, judged_by, unsure_in}
 use Rattle.afdx_conform.specs.Judging as judging
 use Rattle.afdx_conform.specs.KnownBytes.{AreKnown}
-use Rattle.afdx_conform.specs.Leeway.{both_slacks}
+use Rattle.afdx_conform.specs.Leeway.{reach}
 use Rattle.afdx_conform.specs.LeewayOf.{leeway_of}
 use Rattle.afdx_conform.specs.Limits.{gone_of}
 use Rattle.afdx_conform.specs.Marks.{IsJudged, arrival_of}
@@ -68,14 +68,14 @@ pub record IsSame (before after : Growth) : Type 0 where
 
 -- the moment of an event of this time
 abbrev pub due_at : Limits → ℕ → ℕ
-due_at limits time = time + limits.latency + limits.latency + limits.slacks + limits.slacks
+due_at limits time = time + limits.latency + limits.latency + limits.reach + limits.reach
 
 abbrev pub due_in : Limits → List Arrived → List Frame → Option ℕ
 due_in limits [] [] = None
-due_in limits [] (f ∷ frames) = Some (due_at limits (f.time + limits.slacks))
+due_in limits [] (f ∷ frames) = Some (due_at limits (f.time + limits.reach))
 due_in limits (a ∷ arrivals) [] = Some (due_at limits a.time)
 due_in limits (a ∷ arrivals) (f ∷ frames) =
-    if nat_lt (f.time + limits.slacks) a.time then Some (due_at limits (f.time + limits.slacks))
+    if nat_lt (f.time + limits.reach) a.time then Some (due_at limits (f.time + limits.reach))
     else Some (due_at limits a.time)
 
 unfoldable pub due_by : Growth → Option ℕ
@@ -96,7 +96,7 @@ pub record AreTold (z : Terms) (xs : List Arrival) (ys : List Gone) : Type 0 whe
   pub came : GoUp (arrival_times xs)
   pub left : GoUp (frame_times ys)
   pub start : AllByRecursion (λ x. from_time z.by.start ≤ x.time) xs
-  pub begun : AllByRecursion (λ y. from_time z.by.start ≤ y.time + both_slacks z.by) ys
+  pub begun : AllByRecursion (λ y. from_time z.by.start ≤ y.time + reach z.by) ys
 
 -- an event is over
 abbrev pub is_some : List Event → Bool
@@ -198,12 +198,12 @@ pub record MayCome (z : Terms) (xs : List Arrival) (time : ℕ) (x : Arrival) : 
   pub start : from_time z.by.start ≤ x.time
   pub few : length xs + 1 < most_held
 
--- a frame no earlier than those before it, which aren't too many, than the start, but for the
--- slacks, and than this time
+-- a frame no earlier than those before it, which aren't too many, than the start, but for the reach
+-- of stamps, and than this time
 pub record MayLeave (z : Terms) (ys : List Gone) (time : ℕ) (y : Gone) : Type 0 where
   pub behind : time ≤ y.time
   pub by_time : AllByRecursion (λ w. w.time ≤ y.time) ys
-  pub start : from_time z.by.start ≤ y.time + both_slacks z.by
+  pub start : from_time z.by.start ≤ y.time + reach z.by
   pub few : length ys + 1 < most_held
 
 -- ---- what is due

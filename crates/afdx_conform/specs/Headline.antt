@@ -19,12 +19,18 @@ unfoldable pub GoByTime : List Arrival → Type 0
 GoByTime [] = ⊤
 GoByTime (x ∷ past) = AllByRecursion (λ w. w.time ≤ x.time) past × GoByTime past
 
--- stamps and clocks are exact, accounts are asked at once, and the switch was reset before
-pub record IsExact (z : Terms) : Type 0 where
+-- clocks and stamps of what came are exact, accounts are asked at once, and the switch was reset
+-- before: what an account lacks is known
+pub record IsAccountKnown (z : Terms) : Type 0 where
   pub slack : z.by.slack ≡ 0
   pub drift : z.by.drift ≡ 0
   pub asked : z.by.asked ≡ 0
   pub start : z.by.start ≡ None
+
+-- and so are the stamps of what left
+pub record IsExact (z : Terms) : Type 0 where
+  pub account : IsAccountKnown z
+  pub between : z.by.between ≡ 0
 
 module _ (z : Terms) where
   -- the frame is the accepted arrival, byte for byte, and leaves within its latency, no sooner than

@@ -5,7 +5,7 @@ use Rattle.std.specs.List.{filter}
 use Rattle.afdx_police.specs.Arrival.{Arrival}
 use Rattle.afdx_conform.specs.Events.{closes_before, closings_in, event_time, judged_whole, moment_at}
 use Rattle.afdx_conform.specs.Findings.{Judged, Marked, judged_after, judged_with, with_states}
-use Rattle.afdx_conform.specs.Leeway.{both_slacks}
+use Rattle.afdx_conform.specs.Leeway.{reach}
 use Rattle.afdx_conform.specs.States.{Event, Came, Closing, State, arrivals_came}
 use Rattle.afdx_conform.specs.Streams.{Gone, Terms, latency}
 use Rattle.afdx_conform.specs.declared.counts.Counts.{Counts}
@@ -48,7 +48,7 @@ judged_by z xs ys over = judged_after z ys (coming xs over) over
 
 -- the frames that aren't cut off
 abbrev pub uncut : Terms → List Gone → List Gone
-uncut z ys = filter (λ y. nat_le (y.time + both_slacks z.by) z.until) ys
+uncut z ys = filter (λ y. nat_le (y.time + reach z.by) z.until) ys
 
 -- how far it is judged once all was recorded and all its events are over
 abbrev pub judged_of : Terms → List Arrival → List Gone → Judged
@@ -63,7 +63,7 @@ nothing_judged = judged_with [] [] [] 0 0 false
 
 -- the time of the event of this moment
 abbrev pub time_of : Terms → ℕ → ℕ
-time_of z moment = moment - latency z - latency z - both_slacks z.by - both_slacks z.by
+time_of z moment = moment - latency z - latency z - reach z.by - reach z.by
 
 -- the number of the newest arrival
 abbrev pub newest_tag : List Marked → Option ℕ

@@ -1,6 +1,6 @@
 -- What the code keeps of a stream to tell which frame may be of which arrival.
 use Rattle.std.specs.Prelude.{◌≡◌, ℕ, ◌<◌, ◌≤◌, List, get_or, length}
-use Rattle.afdx_conform.specs.Leeway.{both_slacks}
+use Rattle.afdx_conform.specs.Leeway.{reach}
 use Rattle.afdx_conform.specs.Streams.{Gone, Terms, latency}
 use Rattle.afdx_conform.specs.declared.limits.Frame.{Frame}
 use Rattle.afdx_conform.specs.declared.limits.Limits.{Limits}
@@ -12,7 +12,7 @@ gone_of frame = record { number = frame.number; time = frame.time; bytes = frame
 -- these are a stream's limits
 pub record AreLimits (z : Terms) (limits : Limits) : Type 0 where
   pub latency : limits.latency ≡ latency z
-  pub slacks : limits.slacks ≡ both_slacks z.by
+  pub reach : limits.reach ≡ reach z.by
   pub byte_ns : limits.byte_ns ≡ z.byte_ns
   pub drift : limits.drift ≡ z.by.drift
 

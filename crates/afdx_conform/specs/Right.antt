@@ -7,9 +7,9 @@ use Rattle.afdx_police.specs.Arrival.{Arrival}
 use Rattle.afdx_police.specs.Verdicts.{charged_by}
 use Rattle.afdx_police.specs.Window as window
 use Rattle.afdx_police.specs.Window.{Charged}
-use Rattle.afdx_conform.specs.Leeway.{Leeway, both_slacks}
+use Rattle.afdx_conform.specs.Leeway.{Leeway, left_slack, reach}
 use Rattle.afdx_conform.specs.Levels.{parts}
-use Rattle.afdx_conform.specs.Streams.{Gone, Terms}
+use Rattle.afdx_conform.specs.Streams.{Gone, Terms, latency}
 use Rattle.afdx_conform.specs.Explanations.{Answered, answered, link, Explains}
 
 -- an arrival as recorded, when it came in truth, and when its account was asked, each with what the
@@ -21,10 +21,10 @@ pub record Asked : Type 0 where
   pub asked_at : ℕ
   pub asked_clock : ℕ
 
--- the stamp is as exact as it has to be
-pub record IsStamped (by : Leeway) (stamp moment : ℕ) : Type 0 where
-  pub late : stamp ≤ moment + by.slack
-  pub early : moment ≤ stamp + by.slack
+-- the stamp is off by so much at most
+pub record IsStamped (slack stamp moment : ℕ) : Type 0 where
+  pub late : stamp ≤ moment + slack
+  pub early : moment ≤ stamp + slack
 
 -- from one moment to a later one the switch's clock goes on as it may
 pub record GoesOn (by : Leeway) (moment clock later then_clock : ℕ) : Type 0 where
@@ -33,9 +33,9 @@ pub record GoesOn (by : Leeway) (moment clock later then_clock : ℕ) : Type 0 w
   pub slowest : (parts - by.drift) * (later - moment) ≤ parts * (then_clock - clock)
   pub fastest : parts * (then_clock - clock) ≤ (parts + by.drift) * (later - moment)
 
--- its stamp is, and its account is asked soon
+-- its stamp is as exact as one of what came has to be, and its account is asked soon
 pub record Comes (by : Leeway) (x : Asked) : Type 0 where
-  pub stamped : IsStamped by x.arrival.time x.moment
+  pub stamped : IsStamped by.slack x.arrival.time x.moment
   pub not_before : x.moment ≤ x.asked_at
   pub soon : x.asked_at ≤ x.moment + by.asked
 
@@ -97,7 +97,7 @@ module _ (z : Terms) where
     pub moment : ℕ
     pub clock : ℕ
     pub goes_on : GoesOn z.by x.moment x.clock moment clock
-    pub stamped : IsStamped z.by y.time moment
+    pub stamped : IsStamped (left_slack z.by) y.time moment
     pub no_sooner : x.clock + (length x.arrival.bytes + 8) * z.byte_ns ≤ clock
     pub in_time : clock ≤ x.clock + (z.latency_ns + z.by.inner)
 
@@ -105,12 +105,12 @@ module _ (z : Terms) where
   pub record LeavesLater (x : Asked) : Type 0 where
     pub frame : Gone
     pub leaves : LeavesAs x frame
-    pub unseen : z.until < frame.time + both_slacks z.by
+    pub unseen : z.until < frame.time + reach z.by
 
   -- the frame is of an arrival that came before the start, and isn't among those that were recorded
   pub record LeavesUnseen (start : ℕ) (y : Gone) : Type 0 where
     pub of : Asked
-    pub stamped : IsStamped z.by of.arrival.time of.moment
+    pub stamped : IsStamped z.by.slack of.arrival.time of.moment
     pub before : of.arrival.time < start
     pub leaves : LeavesAs of y
 
@@ -150,11 +150,13 @@ RightIsExplained =
     IsRight z asked frames →
     Explains z (map (λ x. x.arrival) asked) frames
 
--- there is one, of which something was recorded, with a slack and a drift
+-- there is one, of which something was recorded, with a slack and a drift, and by recorders so far
+-- apart that by slacks alone its frame would be late
 pub record SomeIsRight : Type 0 where
   pub terms : Terms
   pub asked : Asked
   pub frame : Gone
   pub slack : 0 < terms.by.slack
   pub drift : 0 < terms.by.drift
+  pub apart : asked.arrival.time + latency terms + terms.by.slack + terms.by.slack < frame.time
   pub is_right : IsRight terms (asked ∷ []) (frame ∷ [])

@@ -3,7 +3,7 @@
 use Rattle.std.specs.Prelude.{ℕ, ◌+◌, ◌<◌, Bool, ⊤, nat_lt, List, [], ◌∷◌, ◌++◌, if◌then◌else◌}
 use Rattle.std.specs.List.{list_all}
 use Rattle.afdx_police.specs.Arrival.{Arrival}
-use Rattle.afdx_conform.specs.Leeway.{both_slacks}
+use Rattle.afdx_conform.specs.Leeway.{reach}
 use Rattle.afdx_conform.specs.Levels.{Levels, first_levels, may_pass, has_to_pass, charged, refused}
 use Rattle.afdx_conform.specs.Streams.{Gone, Terms, fits, is_open, is_begun}
 use Rattle.afdx_conform.specs.Explanations.{link, charge, last_time, levels_then}
@@ -81,7 +81,7 @@ module _ (z : Terms) where
   IsBehindClosings x [] = ⊤
   IsBehindClosings x (Came w ∷ before) = IsBehindClosings x before
   IsBehindClosings x (Closing time ∷ before) =
-      (time + both_slacks z.by < x.time) × IsBehindClosings x before
+      (time + reach z.by < x.time) × IsBehindClosings x before
 
   -- events go by time, arrivals first
   unfoldable pub AreInOrder : List Event → Type 0

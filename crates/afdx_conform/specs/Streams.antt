@@ -4,7 +4,7 @@ use Rattle.std.specs.Int.{div_ceil}
 use Rattle.std.specs.Str.{bytes_eq}
 use Rattle.afdx_police.specs.Arrival.{Arrival}
 use Rattle.afdx_police.specs.Rule.{Rule}
-use Rattle.afdx_conform.specs.Leeway.{Leeway, both_slacks}
+use Rattle.afdx_conform.specs.Leeway.{Leeway, reach}
 use Rattle.afdx_conform.specs.Levels.{parts}
 
 -- a frame that left: its number, the time of its last bit, its bytes
@@ -33,11 +33,11 @@ module _ (z : Terms) where
 
   -- the frame isn't too early for the arrival
   abbrev pub is_no_sooner : Arrival → Gone → Bool
-  is_no_sooner x y = nat_le (x.time + wire_time x.bytes) (y.time + both_slacks z.by)
+  is_no_sooner x y = nat_le (x.time + wire_time x.bytes) (y.time + reach z.by)
 
   -- nor too late
   abbrev pub is_in_time : Arrival → Gone → Bool
-  is_in_time x y = nat_le y.time (x.time + latency + both_slacks z.by)
+  is_in_time x y = nat_le y.time (x.time + latency + reach z.by)
 
   -- the frame may be what the switch made of the arrival
   unfoldable pub fits : Arrival → Gone → Bool
@@ -45,12 +45,12 @@ module _ (z : Terms) where
 
   -- what the switch makes of it may have left unseen
   unfoldable pub is_open : Arrival → Bool
-  is_open x = nat_lt z.until (x.time + latency + both_slacks z.by + both_slacks z.by)
+  is_open x = nat_lt z.until (x.time + latency + reach z.by + reach z.by)
 
   -- the frame may be of an arrival before the start
   abbrev pub is_begun_by : Option ℕ → Gone → Bool
   is_begun_by None y = false
-  is_begun_by (Some start) y = nat_lt y.time (start + latency + both_slacks z.by)
+  is_begun_by (Some start) y = nat_lt y.time (start + latency + reach z.by)
 
   unfoldable pub is_begun : Gone → Bool
   is_begun y = is_begun_by z.by.start y

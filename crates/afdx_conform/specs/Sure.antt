@@ -1,8 +1,8 @@
--- What is so of every stream whose stamps and clocks are exact, from a reset on.
+-- What is so of every stream whose account is known, from a reset on.
 use Rattle.std.specs.Prelude.{◌≡◌, false, List, length}
 use Rattle.afdx_police.specs.Arrival.{Arrival}
 use Rattle.afdx_conform.specs.Findings.{Judged, judged_after}
-use Rattle.afdx_conform.specs.Headline.{IsExact}
+use Rattle.afdx_conform.specs.Headline.{IsAccountKnown}
 use Rattle.afdx_conform.specs.States.{Event}
 use Rattle.afdx_conform.specs.Streams.{Gone, Terms}
 
@@ -12,8 +12,9 @@ pub record IsSure (j : Judged) : Type 0 where
   pub certain : j.uncertain ≡ 0
   pub sure : j.is_unsure ≡ false
 
+-- however far apart the recorders are
 abbrev pub ExactIsSure : Type 0
 ExactIsSure =
     (z : Terms) (ys : List Gone) (behind : List Arrival) (events : List Event) →
-    IsExact z →
+    IsAccountKnown z →
     IsSure (judged_after z ys behind events)

@@ -80,9 +80,9 @@ fn is_closing(upcoming: Option<Upcoming>) -> bool
 /// Whether the closing of a frame that left at this time is later than the moment.
 fn is_later(limits: &Limits, time: u64, moment: u64) -> bool
     requires { time ≤ latest_listed }
-    ensures { IsTrue result ↔ (moment < time + limits.now.slacks) }
+    ensures { IsTrue result ↔ (moment < time + limits.now.reach) }
 {
-    moment < time + limits.slacks
+    moment < time + limits.reach
 }
 
 /// When the last arrival of the right shape came, once this one did.

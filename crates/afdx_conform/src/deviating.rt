@@ -21,7 +21,7 @@ fn is_far(limits: &Limits, arrived: &Arrived, frame: &Frame) -> bool
     ensures { (z : Terms) → AreLimits z limits.now →
         result ≡ far z (arrival_of arrived.now) (gone_of frame.now) }
 {
-    arrived.time + limits.latency + limits.latency + limits.slacks < frame.time
+    arrived.time + limits.latency + limits.latency + limits.reach < frame.time
 }
 
 /// Whether the frame left too late to be of the arrival.
@@ -29,7 +29,7 @@ fn is_late(limits: &Limits, arrived: &Arrived, frame: &Frame) -> bool
     ensures { (z : Terms) → AreLimits z limits.now →
         result ≡ late z (arrival_of arrived.now) (gone_of frame.now) }
 {
-    arrived.time + limits.latency + limits.slacks < frame.time
+    arrived.time + limits.latency + limits.reach < frame.time
 }
 
 /// Whether the frame isn't too early to be of the arrival.
@@ -38,7 +38,7 @@ fn is_no_sooner(limits: &Limits, arrived: &Arrived, frame: &Frame) -> bool
         result ≡ no_sooner z (arrival_of arrived.now) (gone_of frame.now) }
 {
     let wire = limits.wire_time(arrived.bytes.length());
-    arrived.time + wire <= frame.time + limits.slacks
+    arrived.time + wire <= frame.time + limits.reach
 }
 
 /// Whether the frame has the bytes of the arrival.
@@ -56,7 +56,7 @@ fn is_early(limits: &Limits, arrived: &Arrived, frame: &Frame) -> bool
     if !is_same(arrived, frame) {
         return false;
     }
-    if arrived.time > frame.time + limits.slacks {
+    if arrived.time > frame.time + limits.reach {
         return false;
     }
     !is_no_sooner(limits, arrived, frame)

@@ -19,9 +19,9 @@ use crate::states::Held;
 
 /// Whether what is shown of the frame may lie behind the end of the recordings.
 fn is_cut(limits: &Limits, frame: &Frame, until: u64) -> bool
-    ensures { IsTrue result ↔ (until < frame.now.time + limits.now.slacks) }
+    ensures { IsTrue result ↔ (until < frame.now.time + limits.now.reach) }
 {
-    until < frame.time + limits.slacks
+    until < frame.time + limits.reach
 }
 
 /// How many of the frames aren't cut off; those from `from` on are looked at.
@@ -30,9 +30,9 @@ fn kept_until(limits: &Limits, frames: &[Frame], from: usize, until: u64) -> usi
     ensures low { from ≤ result }
     ensures high { result ≤ length frames.now }
     ensures kept { (k : ℕ) (f : Frame) → from ≤ k → k < result → f ≡ get_or frames.now k f →
-        f.time + limits.now.slacks ≤ until }
+        f.time + limits.now.reach ≤ until }
     ensures cut { (f : Frame) → result < length frames.now → f ≡ get_or frames.now result f →
-        until < f.time + limits.now.slacks }
+        until < f.time + limits.now.reach }
 {
     for place in from..frames.len() {
         if is_cut(limits, &frames[place], until) {

@@ -43,7 +43,7 @@ fn is_begun(limits: &Limits, by: &Leeway, frame: &Frame) -> bool
 {
     match by.start {
         None => false,
-        Some(start) => frame.time < start + limits.latency + limits.slacks,
+        Some(start) => frame.time < start + limits.latency + limits.reach,
     }
 }
 

@@ -89,10 +89,10 @@ fn none_waits(held: &[Held]) -> bool
 
 /// Whether the frame left too late to fit the arrival, or any before it.
 fn is_too_late(limits: &Limits, arrived: &Arrived, frame: &Frame) -> bool
-    ensures { IsTrue result → arrived.now.time + limits.now.latency + limits.now.slacks
+    ensures { IsTrue result → arrived.now.time + limits.now.latency + limits.now.reach
         < frame.now.time }
 {
-    arrived.time + limits.latency + limits.slacks < frame.time
+    arrived.time + limits.latency + limits.reach < frame.time
 }
 
 impl Growth {

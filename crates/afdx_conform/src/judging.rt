@@ -7,7 +7,7 @@ ghost use Rattle.afdx_conform.specs.Findings.{Judged, closed_to};
 ghost use Rattle.afdx_conform.specs.HeldStates.{AreClosed, IsWithin};
 ghost use Rattle.afdx_conform.specs.Judging.{StandsFor, AreFound};
 ghost use Rattle.afdx_conform.specs.KnownBytes.{AreKnown};
-ghost use Rattle.afdx_conform.specs.Leeway.{both_slacks};
+ghost use Rattle.afdx_conform.specs.Leeway.{reach};
 ghost use Rattle.afdx_conform.specs.Limits.{gone_of};
 ghost use Rattle.afdx_conform.specs.Streams.{Terms};
 
@@ -61,7 +61,7 @@ fn skip(
         StandsFor bounds.now.rates frames.now arrivals.now j judging.old →
         IfOk result (λ found.
         StandsFor bounds.now.rates frames.now arrivals.now (closed_to z time j) judging.new
-        × AreFound (time + both_slacks z.by) found.items j (closed_to z time j)) }
+        × AreFound (time + reach z.by) found.items j (closed_to z time j)) }
     ensures marks { length judging.new.marks.items ≡ length judging.old.marks.items }
     ensures uncertain { judging.new.uncertain ≡ judging.old.uncertain }
     ensures within { (count : ℕ) →
@@ -102,7 +102,7 @@ pub(crate) fn close_with(
         StandsFor bounds.now.rates frames.now arrivals.now j judging.old →
         IfOk result (λ found.
         StandsFor bounds.now.rates frames.now arrivals.now (closed_to z time j) judging.new
-        × AreFound (time + both_slacks z.by) found.items j (closed_to z time j)) }
+        × AreFound (time + reach z.by) found.items j (closed_to z time j)) }
     ensures marks { length judging.new.marks.items ≡ length judging.old.marks.items }
     ensures uncertain { judging.new.uncertain ≡ judging.old.uncertain }
     ensures within { (count : ℕ) →
@@ -136,7 +136,7 @@ pub fn judge_closing(
         StandsFor bounds.now.rates frames.now arrivals.now j judging.old →
         IfOk result (λ found.
         StandsFor bounds.now.rates frames.now arrivals.now (closed_to z time j) judging.new
-        × AreFound (time + both_slacks z.by) found.items j (closed_to z time j)) }
+        × AreFound (time + reach z.by) found.items j (closed_to z time j)) }
     ensures marks { length judging.new.marks.items ≡ length judging.old.marks.items }
     ensures uncertain { judging.new.uncertain ≡ judging.old.uncertain }
     ensures within { (count : ℕ) →

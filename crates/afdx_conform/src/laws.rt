@@ -110,8 +110,8 @@ pub fn all_events_are_explained()
     ensures { AllEventsAreExplained }
 {}
 
-/// With exact stamps and clocks, from a reset on, there is always one state: a stream is never
-/// unsure.
+/// With exact clocks and stamps of what came, from a reset on, there is always one state, and no
+/// answer is uncertain, however far apart the recorders are: a stream is never unsure.
 pub fn exact_is_sure()
     ensures { ExactIsSure }
 {}

@@ -25,16 +25,16 @@ pub struct Frame {
 
 /// What a stream's frames are held against.
 ///
-/// The longest from an arrival to its frame is `latency` ns, by the recorder's clock; two stamps
-/// together may be off by `slacks` ns; a byte lasts `byte_ns` on the line; a clock's rate may be
-/// off by `drift` millionths.
+/// The longest from an arrival to its frame is `latency` ns, by the recorder's clock; their two
+/// stamps together may be off by `reach` ns; a byte lasts `byte_ns` on the line; a clock's rate may
+/// be off by `drift` millionths.
 #[derive(Clone, Copy, Debug)]
 pub struct Limits {
     pub latency: u64,
-    pub slacks: u64,
+    pub reach: u64,
     pub byte_ns: u64,
     pub drift: u64,
-    pub ghost in_range: { AreLimitsInRange latency slacks byte_ns drift },
+    pub ghost in_range: { AreLimitsInRange latency reach byte_ns drift },
 }
 
 impl Limits {
@@ -51,7 +51,7 @@ impl Limits {
     {
         Limits {
             latency: PARTS * (latency_ns + by.inner) / (PARTS - by.drift),
-            slacks: by.slack + by.slack,
+            reach: by.reach(),
             byte_ns,
             drift: by.drift,
         }
@@ -78,10 +78,10 @@ impl Limits {
             return false;
         }
         let wire = self.wire_time(bytes.length());
-        if frame.time + self.slacks < time + wire {
+        if frame.time + self.reach < time + wire {
             return false;
         }
-        frame.time <= time + self.latency + self.slacks
+        frame.time <= time + self.latency + self.reach
     }
 
     /// What stands next for an arrival, where so many frames are explained.
@@ -120,6 +120,6 @@ impl Limits {
         ensures { (z : Terms) (x : Arrival) → AreLimits z self.now →
             x.time ≡ time → z.until ≡ end → result ≡ is_open_by z x }
     {
-        end < time + self.latency + self.slacks + self.slacks
+        end < time + self.latency + self.reach + self.reach
     }
 }

@@ -19,10 +19,11 @@ use std::alloc::{AllocError, Global};
 /// One stream: a link, on one side, at one port where it leaves. It is judged while its arrivals
 /// and frames come, each of them in order of time, and lets go of what is decided.
 ///
-/// What is found at an event has a moment: the event's time, two latencies and four slacks later.
-/// An event may be decided once all lines of times before its moment, and of none behind it, have
-/// come: what comes later, and when the recordings end, then changes nothing of it. With the event
-/// of an arrival the closing of a frame behind it may be over too, where nothing is found there.
+/// What is found at an event has a moment: the event's time, two latencies and twice the reach of
+/// two stamps later. An event may be decided once all lines of times before its moment, and of none
+/// behind it, have come: what comes later, and when the recordings end, then changes nothing of it.
+/// With the event of an arrival the closing of a frame behind it may be over too, where nothing is
+/// found there.
 #[derive(Drop)]
 pub struct Stream {
     growth: Growth,

@@ -17,9 +17,9 @@ pub(crate) enum Upcoming {
 
 /// Whether the frame is closed before the arrival comes.
 fn closes_before(limits: &Limits, frame: &Frame, arrived: &Arrived) -> bool
-    ensures { IsTrue result ↔ (frame.now.time + limits.now.slacks < arrived.now.time) }
+    ensures { IsTrue result ↔ (frame.now.time + limits.now.reach < arrived.now.time) }
 {
-    frame.time + limits.slacks < arrived.time
+    frame.time + limits.reach < arrived.time
 }
 
 /// The moment of what is found at an event of this time.
@@ -27,7 +27,7 @@ pub(crate) fn moment_of(limits: &Limits, time: u64) -> u64
     requires { time ≤ 0x1000000000000000 }
     ensures { result ≡ due_at limits.now time }
 {
-    time + limits.latency + limits.latency + limits.slacks + limits.slacks
+    time + limits.latency + limits.latency + limits.reach + limits.reach
 }
 
 impl Growth {
@@ -42,14 +42,14 @@ impl Growth {
             self.now.closed < length self.now.frames.items →
             a ≡ get_or self.now.arrivals.items (length self.now.judging.marks.items) a →
             f ≡ get_or self.now.frames.items self.now.closed f →
-            a.time ≤ f.time + self.now.bounds.limits.slacks }
+            a.time ≤ f.time + self.now.bounds.limits.reach }
         ensures closing { result ≡ Some Upcoming.Closing →
             self.now.closed < length self.now.frames.items }
         ensures before { (a : Arrived) (f : Frame) → result ≡ Some Upcoming.Closing →
             length self.now.judging.marks.items < length self.now.arrivals.items →
             a ≡ get_or self.now.arrivals.items (length self.now.judging.marks.items) a →
             f ≡ get_or self.now.frames.items self.now.closed f →
-            f.time + self.now.bounds.limits.slacks < a.time }
+            f.time + self.now.bounds.limits.reach < a.time }
     {
         let place = self.judging.marks.len();
         if self.closed >= self.frames.len() {
@@ -84,7 +84,7 @@ impl Growth {
                 Some(moment_of(&self.bounds.limits, self.arrivals[place].time))
             }
             Some(Upcoming::Closing) => {
-                let closing = self.frames[self.closed].time + self.bounds.limits.slacks;
+                let closing = self.frames[self.closed].time + self.bounds.limits.reach;
                 Some(moment_of(&self.bounds.limits, closing))
             }
         }

@@ -8,7 +8,7 @@ use Rattle.afdx_police.specs.Arrival.{Arrival}
 use Rattle.afdx_police.specs.Verdicts.{accepted_arrivals}
 use Rattle.afdx_conform.specs.Explanations.{from_time}
 use Rattle.afdx_conform.specs.Headline.{GoByTime, IsItsFrame, AreTheirFrames}
-use Rattle.afdx_conform.specs.Leeway.{both_slacks}
+use Rattle.afdx_conform.specs.Leeway.{reach}
 use Rattle.afdx_conform.specs.Right.{Asked, LeavesAs, IsUnseen, EachLeaves, AllLeaveLater, IsRight}
 use Rattle.afdx_conform.specs.Streams.{Gone, Terms}
 use Rattle.afdx_replays_conform.proofs.AskedLemmas.{goes-on, ask, asks, first, spans, IsHarmless, asked-accepted, asks-by-clock, is-first}
@@ -46,9 +46,9 @@ module _ (z : Terms) where
 
 module _ (z : Terms) (ends : ℕ → Bool) (later : (m n : ℕ) → m ≤ n → ends m ≡ true → ends n ≡ true)
     (behind : (n : ℕ) → ends n ≡ true → z.until < n) (q : Arrival → Bool) where
-  -- a frame that left from two slacks before the start on, and not behind the end
+  -- a frame that left from the reach of two stamps before the start on, and not behind the end
   abbrev pub is_seen : Gone → Bool
-  is_seen y = not (nat_lt (y.time + both_slacks z.by) (from_time z.by.start)) && not (ends y.time)
+  is_seen y = not (nat_lt (y.time + reach z.by) (from_time z.by.start)) && not (ends y.time)
 
   abbrev spanned : List Arrival → List Arrival
   spanned xs = filter (spans z ends later q) xs
@@ -103,10 +103,10 @@ module _ (z : Terms) (ends : ℕ → Bool) (later : (m n : ℕ) → m ≤ n → 
       → is_seen y ≡ true
   seen-frame x y late h off =
       let above = ltb-false x.time (from_time z.by.start) late in
-      rw (le-ltb (y.time + both_slacks z.by) (from_time z.by.start) (omega (arith, above, h)), off) refl
+      rw (le-ltb (y.time + reach z.by) (from_time z.by.start) (omega (arith, above, h)), off) refl
 
   unseen-frame : (y : Gone) → ends y.time ≡ true → is_seen y ≡ false
-  unseen-frame y e = rw e (and-false (not (nat_lt (y.time + both_slacks z.by) (from_time z.by.start))))
+  unseen-frame y e = rw e (and-false (not (nat_lt (y.time + reach z.by) (from_time z.by.start))))
 
   not-ended : (m n : ℕ) → m ≤ n → ends n ≡ false → ends m ≡ false
   not-ended m n h off = by (ends m) refl

@@ -15,7 +15,7 @@ use Rattle.afdx_bounds.specs.Tables.{port_of}
 use Rattle.afdx_switch.proofs.ArrivalLemmas.{same-side}
 use Rattle.afdx_promises.specs.Lines.{Leaving, is_leaving}
 use Rattle.afdx_conform.specs.Explanations.{from_time}
-use Rattle.afdx_conform.specs.Leeway.{both_slacks}
+use Rattle.afdx_conform.specs.Leeway.{reach}
 use Rattle.afdx_conform.specs.Histories.{uncut}
 use Rattle.afdx_conform.specs.Streams.{Gone, Terms}
 use Rattle.afdx_conform.proofs.EveryLemmas.{every-map}
@@ -90,7 +90,7 @@ module _ (t : Rows) (c : Choices) (lawful : IsLawfulSwitch t) (arrivals : List A
   all-seen (y ∷ ys) =
       let start : from_time z.by.start ≡ 0 = ap from_time plain.exact.start in (
         rw (
-          le-ltb (y.time + both_slacks z.by) (from_time z.by.start)
+          le-ltb (y.time + reach z.by) (from_time z.by.start)
               (omega (arith, start)),
           plain.until,
         ) refl,
@@ -109,12 +109,13 @@ module _ (t : Rows) (c : Choices) (lawful : IsLawfulSwitch t) (arrivals : List A
       (at-most-latest frames recorded.by_time))))
 
   none-cut : (ys : List Gone) → AllByRecursion (λ y. y.time ≤ latest_of frames) ys
-      → AllByRecursion (λ y. nat_le (y.time + both_slacks z.by) z.until ≡ true) ys
+      → AllByRecursion (λ y. nat_le (y.time + reach z.by) z.until ≡ true) ys
   none-cut [] all = tt
   none-cut (y ∷ ys) all =
       let exact = plain.exact.slack in
+      let together = plain.exact.between in
       let at = all.0 in
-      (le-leb (y.time + both_slacks z.by) z.until (omega (arith, exact, at)), none-cut ys all.1)
+      (le-leb (y.time + reach z.by) z.until (omega (arith, exact, together, at)), none-cut ys all.1)
 
   uncut-all : uncut z (frames_of t c one.link.vl d.side d.port frames) ≡ gone
   uncut-all =
@@ -128,7 +129,7 @@ module _ (t : Rows) (c : Choices) (lawful : IsLawfulSwitch t) (arrivals : List A
       (timed-go arrivals timed)) these.kept d.side one.place d.port one.link is
       none-out
       ∙ filter-whole seen gone (all-seen gone))
-      ∙ filter-whole (λ y. nat_le (y.time + both_slacks z.by) z.until) gone (none-cut gone gone-known)
+      ∙ filter-whole (λ y. nat_le (y.time + reach z.by) z.until) gone (none-cut gone gone-known)
 
   one-told : is_leaving one.link.vl d.side d.port d ≡ true
   one-told = rw (same-side d.side, eq-eqb d.port d.port refl) one.named

@@ -4,4 +4,4 @@ use Rattle.afdx_conform.proofs.ending.kept_until.Given as goal
 
 abbrev pub invariant-loop-place : goal.invariant-loop-place
 invariant-loop-place l = (k : ℕ) (f : Frame) → l.from ≤ k → k < l.place → f ≡ get_or l.frames k f
-    → f.time + l.limits.slacks ≤ l.until
+    → f.time + l.limits.reach ≤ l.until

@@ -3,7 +3,7 @@ use Rattle.std.specs.Prelude.{nat_le}
 use Rattle.std.specs.List.{list_any}
 use Rattle.afdx_conform.specs.Findings.{Finding, Judged, closed_to, with_states}
 use Rattle.afdx_conform.specs.HeldStates.{state_of}
-use Rattle.afdx_conform.specs.Leeway.{both_slacks}
+use Rattle.afdx_conform.specs.Leeway.{reach}
 use Rattle.afdx_conform.specs.Limits.{gone_of}
 use Rattle.afdx_conform.specs.Marks.{marked_all, told}
 use Rattle.afdx_conform.specs.declared.states.Held.{Held}
@@ -16,14 +16,14 @@ pub returns-then-is_one_passed-clause-defined : goal.returns-then-is_one_passed-
 returns-then-is_one_passed-clause-defined c z time j b closed sure s =
     let any = ap (λ (l : List Held). list_any (λ h. nat_le c.args.closed h.passed) l) (sym c.as_slice.ensures.value)
     ∙ sym c.is_one_passed.ensures ∙ c.if-is_one_passed.true in
-    let nothing = ap (λ (l : List Finding). told (time + both_slacks z.by) l
+    let nothing = ap (λ (l : List Finding). told (time + reach z.by) l
     (marked_all c.args.arrivals.now c.args.judging.now.marks.items) j) c.new.ensures.items
-    ∙ told-none (time + both_slacks z.by) (marked_all c.args.arrivals.now c.args.judging.now.marks.items) j (sym s.marks) in
+    ∙ told-none (time + reach z.by) (marked_all c.args.arrivals.now c.args.judging.now.marks.items) j (sym s.marks) in
     let whole = sym (close-kept z time c.args.closed (map gone_of c.args.frames.now) c.args.judging.now.held.items j closed s.states sure
     c.close.new.held.items any (c.close.ensures.left (map gone_of c.args.frames.now) time closed))
     ∙ ap (λ (k : Judged). with_states (map (state_of (map gone_of c.args.frames.now)) c.close.new.held.items) k) (sym nothing) in
     stands-after c.args.bounds.now.rates c.args.frames.now c.args.arrivals.now j (closed_to z time j) c.args.judging.now _
-    c.new.result.items (time + both_slacks z.by) s whole refl refl
+    c.new.result.items (time + reach z.by) s whole refl refl
     (c.close.ensures.within c.args.bounds.now.rates (length c.args.frames.now) (length c.args.judging.now.marks.items) s.within)
     refl
 

@@ -3,7 +3,7 @@ use Rattle.std.specs.Prelude.{Contains, nat_eq}
 use Rattle.std.specs.List.{filter}
 use Rattle.afdx_conform.specs.Findings.{closed_to}
 use Rattle.afdx_conform.specs.HeldStates.{past}
-use Rattle.afdx_conform.specs.Leeway.{both_slacks}
+use Rattle.afdx_conform.specs.Leeway.{reach}
 use Rattle.afdx_conform.specs.Marks.{marked_all}
 use Rattle.afdx_conform.specs.declared.finding.Mark.{Mark}
 use Rattle.afdx_conform.specs.declared.states.Held.{Held}
@@ -29,10 +29,10 @@ returns-clause-defined c z time j b closed none sure s =
     ⊎ ((h : Held) × Contains l h × (h.passed ≡ c.front_of-foremost.result))) c.as_slice-held.ensures.value
     c.front_of-foremost.ensures.among)
     c.min-front.ensures lead_is
-    (c.in_ok-found.ensures.found z (time + both_slacks z.by) j b.limits
+    (c.in_ok-found.ensures.found z (time + reach z.by) j b.limits
     (sym s.marks ∙ ap (λ (l : List Mark). marked_all c.args.arrivals.now l) (sym items))) in
     stands-after c.args.bounds.now.rates c.args.frames.now c.args.arrivals.now j (closed_to z time j) c.args.judging.now _
-    c.in_ok-found.found.items (time + both_slacks z.by) s whole refl refl
+    c.in_ok-found.found.items (time + reach z.by) s whole refl refl
     (same-count c.args.bounds.now.rates (length c.args.frames.now) (length c.args.judging.now.marks.items)
     (length c.unexplained_all.new.marks.items) c.in_ok-lead.lead.items
     (sym (c.in_ok-found.ensures.length ∙ ap (λ (l : List Mark). length l) items))

@@ -4,7 +4,7 @@ use Rattle.afdx_conform.specs.Growing.{Decides, IsAfter, IsSound, undecided_by}
 use Rattle.afdx_conform.specs.HeldStates.{AreClosed, IsWithin}
 use Rattle.afdx_conform.specs.Histories.{coming, judged_by, next_of, unclosed}
 use Rattle.afdx_conform.specs.Judging.{AreFound, StandsFor}
-use Rattle.afdx_conform.specs.Leeway.{both_slacks}
+use Rattle.afdx_conform.specs.Leeway.{reach}
 use Rattle.afdx_conform.specs.Limits.{AreFrames, gone_of}
 use Rattle.afdx_conform.specs.States.{Closing}
 use Rattle.afdx_conform.specs.declared.arrived.Arrived.{Arrived}
@@ -64,7 +64,7 @@ returns-clause-decides c z xs ys cut over f sure at next r =
     let to = c.closed_by-to.result in
     let next' = subst (λ (v : Frame). next_of z (coming xs over) (unclosed ys over) ≡ Some (Closing v.time)) (sym same) next in
     let one = subst (λ (s : Growth). IsAfter z xs ys cut (Closing c.index.result.now.time ∷ over) s
-    × AreFound (c.index.result.now.time + both_slacks z.by) c.in_ok-found.found.items (judged_by z xs ys over)
+    × AreFound (c.index.result.now.time + reach z.by) c.in_ok-found.found.items (judged_by z xs ys over)
     (judged_by z xs ys (Closing c.index.result.now.time ∷ over))) (sym (c.count.ensures
     ∙ ap (λ (l : List Finding). Close z xs ys cut over c.index.result.now c.args.self.now c.close_with.new.judging l to)
     c.as_slice-3.ensures.value))

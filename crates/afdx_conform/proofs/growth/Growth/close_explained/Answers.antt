@@ -22,7 +22,7 @@ returns-clause-after c = (
       let at = c.index.ensures in
       let next = next-held z xs ys cut over h.gone h.past c.args.self.now h.kept
       ∙ closes-at z (length c.args.self.now.judging.marks.items) c.args.self.now.closed c.args.self.now.arrivals.items
-      c.args.self.now.frames.items c.index.result.now c.args.self.now.bounds.limits.slacks f.bounds.limits.slacks lt at
+      c.args.self.now.frames.items c.index.result.now c.args.self.now.bounds.limits.reach f.bounds.limits.reach lt at
       (λ a less e. c.upcoming.ensures.before a c.index.result.now is less e at) in
       let order = subst (λ (l : List Frame). AreFrames l) (sym c.as_slice.ensures.value)
       (frames-held h.past ys c.args.self.now.frames.items f.told.left h.kept.left) in
@@ -33,16 +33,16 @@ returns-clause-after c = (
       let passed = subst (λ (l : List Held). All (λ h. c.passed_by_all-passed.result ≤ h.passed) l) c.as_slice-2.ensures.value
       c.passed_by_all-passed.ensures.all in
       let ge = c.if-passed-to.false in
-      let early = not-later c.args.moment (c.index.result.now.time + c.args.self.now.bounds.limits.slacks) c.is_later.result
+      let early = not-later c.args.moment (c.index.result.now.time + c.args.self.now.bounds.limits.reach) c.is_later.result
       c.is_later.ensures c.if-is_later.false in
-      let slacks = f.bounds.limits.slacks in
+      let apart = f.bounds.limits.reach in
       after-quiet z xs ys cut over c.index.result.now c.args.self.now c.closed_by-to.result c.args.moment f c.if-self.false
       c.requires.started next
       (subst (λ (l : List Frame). AreClosed c.index.result.now.time c.closed_by-to.result (map gone_of l))
       c.as_slice.ensures.value closed)
       (recursion_from_All (λ (h : Held). c.closed_by-to.result ≤ h.passed) c.args.self.now.judging.held.items
       (λ i d less. let le = passed i d less in omega (arith, le, ge)))
-      (omega (arith, early, slacks)),
+      (omega (arith, early, apart)),
 )
 
 pub returns-clause-less : goal.returns-clause-less

@@ -91,7 +91,7 @@ returns-clause-decides c = (
       let two = c.close_explained.ensures.after.1 z xs ys cut (Came (arrival_of c.index-arrived.result.now) ∷ over) one.0 in
       let closed = c.close_explained.ensures.after.0 in
       let told : c.moment_of-told.result ≡ moment_at z c.index-arrived.result.now.time =
-      (let e = c.moment_of-told.ensures in let l = r.after.bounds.limits.latency in let s = r.after.bounds.limits.slacks in
+      (let e = c.moment_of-told.ensures in let l = r.after.bounds.limits.latency in let s = r.after.bounds.limits.reach in
       omega (arith, e, l, s)) in
       subst (λ (v : Arrived). Decides z xs ys cut over c.forget.new.self (Came (arrival_of v)) closed c.in_ok-found.found.items) same (
         c.forget.ensures.after z xs ys cut (closed_too closed (Came (arrival_of c.index-arrived.result.now) ∷ over)) two.0,

@@ -36,7 +36,7 @@ returns-in-Arrival-clause-decides c =
           let h = f.sure sure in
           let first = next-held z xs ys cut over h.gone h.past c.args.self.now h.kept
           ∙ arrives-at z (length c.args.self.now.judging.marks.items) c.args.self.now.closed c.args.self.now.arrivals.items
-          c.args.self.now.frames.items one.0 c.args.self.now.bounds.limits.slacks f.bounds.limits.slacks lt one.1
+          c.args.self.now.frames.items one.0 c.args.self.now.bounds.limits.reach f.bounds.limits.reach lt one.1
           (λ g less at. c.upcoming.ensures.first one.0 g is less one.1 at) in
           let same = c.in_ok-start.ensures.same in
           let event = the-event (sym next ∙ first) in
@@ -59,7 +59,7 @@ returns-in-Closing-clause-decides c =
           let h = f.sure sure in
           let first = next-held z xs ys cut over h.gone h.past c.args.self.now h.kept
           ∙ closes-at z (length c.args.self.now.judging.marks.items) c.args.self.now.closed c.args.self.now.arrivals.items
-          c.args.self.now.frames.items one.0 c.args.self.now.bounds.limits.slacks f.bounds.limits.slacks lt one.1
+          c.args.self.now.frames.items one.0 c.args.self.now.bounds.limits.reach f.bounds.limits.reach lt one.1
           (λ a less at. c.upcoming.ensures.before a one.0 is less at one.1) in
           let same = c.in_ok-start.ensures.same in
           let event = the-event (sym next ∙ first) in
