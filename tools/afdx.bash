@@ -171,10 +171,10 @@ _afdx_takes() { # COMMAND : its options, and those that take a value
             valued=()
             ;;
         'afdx conform')
-            options=(--slack --drift --inner --asked --from --until --leave-out --exercised \
-                --switch --interface --left --fcs --reorder --stamps --lossy --explain \
-                --line-buffered --progress --summary --help)
-            valued=(--slack --drift --inner --asked --from --until --leave-out --switch \
+            options=(--slack --between --drift --inner --asked --from --until --leave-out \
+                --exercised --switch --interface --left --fcs --reorder --stamps --lossy \
+                --explain --line-buffered --progress --summary --help)
+            valued=(--slack --between --drift --inner --asked --from --until --leave-out --switch \
                 --interface --left --fcs --reorder --stamps)
             ;;
         'afdx explain')
@@ -236,11 +236,11 @@ _afdx_takes() { # COMMAND : its options, and those that take a value
         'afdx-report')
             options=(--help --version --out --no-admission --link --from --rows --worst --compare \
                 --title --cover --json --interface --taps --fcs --origin --reorder --stamps \
-                --fail-on --junit --conform --slack --drift --inner --asked --until --leave-out \
-                --switch --left --lossy --exercised)
+                --fail-on --junit --conform --slack --between --drift --inner --asked --until \
+                --leave-out --switch --left --lossy --exercised)
             valued=(--out --link --from --rows --worst --compare --title --cover --interface \
-                --taps --fcs --origin --reorder --stamps --fail-on --junit --slack --drift \
-                --inner --asked --until --leave-out --switch --left)
+                --taps --fcs --origin --reorder --stamps --fail-on --junit --slack --between \
+                --drift --inner --asked --until --leave-out --switch --left)
             ;;
         'afdx-taps')
             options=(--help --version --anyway --conform --switch)

@@ -58,7 +58,7 @@ function __afdx_files --description 'Folders, and files with one of these extens
 end
 
 # printed by bin/pages
-set -g __afdx_valued --slack --drift --inner --asked --from --until --leave-out --switch \
+set -g __afdx_valued --slack --between --drift --inner --asked --from --until --leave-out --switch \
     --interface --left --fcs --reorder --stamps --origin --vl --port --lmin --policing --keep \
     --out -j --jobs -S --sshlogin --taps --fail-on --junit --config -o --split --side --conform \
     --cables --profile --reserve --since --link --rows --worst --compare --title --cover --seconds \
@@ -79,6 +79,8 @@ complete -c afdx -n '__afdx_at check 0 0' -a '(__afdx_files toml)'
 complete -c afdx -n '__afdx_at - 0 0' -a conform \
     -d 'Says whether a recorded switch did what its tables say'
 complete -c afdx -n '__afdx_in conform' -x -l slack -d 'By how many ns a stamp may be off'
+complete -c afdx -n '__afdx_in conform' -x -l between \
+    -d 'By how many ns more a stamp of LEFT may be off'
 complete -c afdx -n '__afdx_in conform' -x -l drift \
     -d 'By how many millionths the rates of the switch\'s clock and of the recorders\' may differ'
 complete -c afdx -n '__afdx_in conform' -x -l inner \
@@ -354,6 +356,7 @@ complete -c afdx-report -x -l junit -a '(__afdx_files xml)' \
     -d 'write the run and each criterion as a JUnit test case'
 complete -c afdx-report -l conform -d 'report on a recorded switch'
 complete -c afdx-report -x -l slack -d 'by how many ns a stamp may be off, with --conform'
+complete -c afdx-report -x -l between -d 'by how many ns more one of LEFT is off'
 complete -c afdx-report -x -l drift -d 'by how many millionths clocks may differ'
 complete -c afdx-report -x -l inner -d 'what a frame may take beyond its latency'
 complete -c afdx-report -x -l asked -d 'how much later the account may be asked'

@@ -46,6 +46,7 @@ _afdx_takes() { # COMMAND
         ;;
     'afdx conform')
         _arguments '--slack=[By how many ns a stamp may be off]:ns:' \
+            '--between=[By how many ns more a stamp of LEFT may be off]:ns:' \
             '--drift=[By how many millionths the rates of the switch'\''s clock and of the recorders'\'' may differ]:ppm:' \
             '--inner=[How many ns a frame may take inside beyond its link'\''s latency]:ns:' \
             '--asked=[By how many ns later than its last bit a frame'\''s account may be asked]:ns:' \
@@ -244,6 +245,7 @@ _afdx_takes() { # COMMAND
             '--junit=[write the run and each criterion as a JUnit test case]:file:_files -g "*.xml(-.)"' \
             '--conform[report on a recorded switch]' \
             '--slack=[by how many ns a stamp may be off, with --conform]:ns:' \
+            '--between=[by how many ns more one of LEFT is off]:ns:' \
             '--drift=[by how many millionths clocks may differ]:ppm:' \
             '--inner=[what a frame may take beyond its latency]:ns:' \
             '--asked=[how much later the account may be asked]:ns:' \

@@ -16,7 +16,7 @@ from rows import CONFIGS, ROWS, Row, list_of
 from small_cases import Pair, small_pair
 from traffic_made import bench_tables, traffic
 
-NAMES = {"slack": "--slack", "drift": "--drift", "inner": "--inner", "asked": "--asked"}
+NAMES = {name: f"--{name}" for name in ("slack", "between", "drift", "inner", "asked")}
 FILES = ("config", "came", "left")  # the inputs of a judge
 SHORT = 5_000  # frames of which it holds what it holds of any number
 # options that change nothing of an answer, and the list that is read as standard input
@@ -83,8 +83,8 @@ def bodies_are_refused(body: type[Judging]) -> None:
 
 
 def are_explained(seed: int, count: int) -> None:
-    """In small cases a stream has no finding exactly where it has an explanation; by exact stamps,
-    exactly where it is right."""
+    """In small cases a stream has no finding exactly where it has an explanation; where the account
+    is known, exactly where it is right, and no answer is uncertain."""
     tried = 0
 
     class Explaining(Judging):
@@ -98,10 +98,12 @@ def are_explained(seed: int, count: int) -> None:
                 none, terms = not stream.found, stream.terms
                 explained = is_explained(terms, stream.came, stream.left)
                 must(stream.is_unsure or explained == none, f"{stream.found} in case {case}")
-                if options[:4] == (0, 0, options.inner, 0) and options.start is None:
-                    right = is_right(terms, links[place], stream.came, stream.left)
-                    must(right == none, f"by exact stamps {stream.found} in case {case}")
+                apart, inner = options.between, options.inner
+                if options[:5] == (0, apart, 0, inner, 0) and options.start is None:
                     must(len(stream.states) == 1, f"several states in case {case}")
+                    must(not stream.counts()[2], f"something is uncertain in case {case}")
+                    right = is_right(terms, links[place], stream.came, stream.left)
+                    must(right == none, f"by a known account {stream.found} in case {case}")
                 tried += 1
 
     for case in range(count):
@@ -159,8 +161,9 @@ def words_of(options: Options) -> tuple[str, ...]:
 def any_options(chance: random.Random) -> Options:
     """Any leeway of a bench."""
     slack, drift = chance.choice([0, 1, 500, 100_000]), chance.choice([0, 1, 100, 1_000])
+    between = chance.choice([0, 0, 1, 20_000, 300_000, 100 * MS])
     inner, asked = chance.choice([0, 60_000]), chance.choice([0, 1, 10_000])
-    return Options(slack=slack, drift=drift, inner=inner, asked=asked)
+    return Options(slack=slack, between=between, drift=drift, inner=inner, asked=asked)
 
 
 def nothing_found(judge: Judge, pair: Pair) -> None:
@@ -184,8 +187,8 @@ def recorded(
 def near(chance: random.Random, switch: RecordedSwitch) -> int:
     """A time at which a line of a recording may be missing."""
     time = chance.choice(chance.choice([switch.came, switch.left or switch.came]))[0]
-    slack = switch.options.slack
-    return max(0, time + chance.choice([-1, 0, 1, slack, 2 * slack, chance.randint(0, MS)]))
+    slack, reach = switch.options.slack, switch.options.reach()
+    return max(0, time + chance.choice([-1, 0, 1, slack, reach, chance.randint(0, MS)]))
 
 
 def right_conform(judge: Judge, seed: int, count: int) -> None:
@@ -204,7 +207,7 @@ def right_conform(judge: Judge, seed: int, count: int) -> None:
         until = (*words, "--until", str(end))
         nothing_found(judge, recorded(switch, until, none, stopped))
         nothing_found(judge, recorded(switch, until, none, stopped[::-1]))
-        first = max(0, begin - 2 * options.slack)
+        first = max(0, begin - options.reach())
         starts = begin, first - chance.randrange(MS)
         nothing_found(judge, recorded(switch, (*words, "--from", str(begin)), starts, far))
         nothing_found(judge, recorded(switch, (*until, "--from", str(begin)), starts, stopped))
@@ -212,11 +215,13 @@ def right_conform(judge: Judge, seed: int, count: int) -> None:
 
 def anywhere_conform(judge: Judge, seed: int) -> None:
     """Wherever a recording begins or ends, a right switch isn't accused. Stamps may be off by more
-    than a frame takes, so that it may seem to leave before it came."""
+    than a frame takes, so that it may seem to leave before it came, by their own accuracy or since
+    the recorders are apart."""
     chance = random.Random(f"{seed} anywhere")
     tables = bench_tables(chance, 1)
     tables["link"][0] |= {"to": ["s3"], "latency_us": 150}
-    options = Options(slack=100_000, asked=chance.choice([0, 10_000]))
+    slack = (100_000, 50_000, 0)[seed % 3]
+    options = Options(slack, between=200_000 - 2 * slack, asked=chance.choice([0, 10_000]))
     switch = RecordedSwitch(tables, options, chance)
     switch.run([each for each in traffic(chance, tables, 12, 1000, odd=0) if each.side == "A"])
     words, far = words_of(options), (10**18, 10**18)
@@ -225,7 +230,7 @@ def anywhere_conform(judge: Judge, seed: int) -> None:
             at = max(0, time + more)
             until, start = (*words, "--until", str(at)), (*words, "--from", str(at))
             nothing_found(judge, recorded(switch, until, (0, 0), (at, at)))
-            begins = at, max(0, at - 200_000)
+            begins = at, max(0, at - options.reach())
             nothing_found(judge, recorded(switch, start, begins, far))
 
 

@@ -194,7 +194,8 @@ def largest_tables(judge: Judge) -> None:
 def largest_numbers(judge: Judge, seed: int) -> None:
     """The greatest times and options."""
     chance = random.Random(seed)
-    most = [("--slack", MS), ("--drift", 1000), ("--inner", MS), ("--asked", MS)]
+    most = [("--slack", MS), ("--between", 100 * MS), ("--drift", 1000), ("--inner", MS),
+            ("--asked", MS)]
     most += [("--from", LATEST), ("--until", LATEST)]
     for _ in range(100):
         words = [word for name, value in chance.sample(most, chance.randint(0, len(most)))

@@ -180,7 +180,7 @@ def apart_conforms(judge: Judge, seed: int, count: int) -> None:
         begin, end = sorted(max(0, chance.choice(times)) for _ in range(2))
         words = (*words_of(options), "--from", str(begin), "--until", str(end))
         switch.came = within(chance, switch.came, begin, end)
-        switch.left = within(chance, switch.left, begin - 2 * options.slack, end)
+        switch.left = within(chance, switch.left, begin - options.reach(), end)
         pair = recorded(switch, words, (0, 0), (FAR, FAR))
         nothing_found(RecordingJudge(judge, case % 2 == 0), pair)
 

@@ -75,6 +75,7 @@ class RecordedSwitch:
         self.tables, self.options, self.chance = tables, options, chance
         self.switch = Switch(tables | {"neighbour": []})
         self.clock = Clock(chance, options.drift)
+        self.ahead = self.apart(options.between)
         plain = options._replace(drift=0)
         self.byte_ns = {port: out.byte_ns for port, out in self.switch.ports.items()}
         self.terms = {
@@ -91,6 +92,11 @@ class RecordedSwitch:
         self.ends: dict[tuple[str, int, int], int] = defaultdict(int)  # the last end of a stream
         self.pending: list[tuple[int, int, str, int, str, bytes]] = []  # what is to leave
         self.count = 0
+
+    def apart(self, most: int) -> int | None:
+        """By how much the recorder of what left is ahead of that of what came, where they are so
+        far apart at most; None: now by this, now by that."""
+        return self.chance.choice([None, self.off_by(most)]) if most else 0
 
     def ports_of(self, vl: int) -> list[int]:
         """The output ports of a link."""
@@ -126,10 +132,17 @@ class RecordedSwitch:
 
     def stamp(self, is_left: bool, side: str, port: int, moment: int) -> int:
         """The stamp of a moment; those of a line don't go back."""
-        slack, line = self.options.slack, (is_left, side, port)
-        off = self.chance.choice([-slack, slack, self.chance.randint(-slack, slack)])
+        line, off = (is_left, side, port), self.off_by(self.options.slack)
+        if is_left and self.ahead is None:
+            off += self.off_by(self.options.between)
+        elif is_left:
+            off += self.ahead
         self.stamps[line] = max(self.stamps[line], moment + off)
         return self.stamps[line]
+
+    def off_by(self, most: int) -> int:
+        """By how much something is off that is off by so much at most."""
+        return self.chance.choice([-most, most, self.chance.randint(-most, most)])
 
     def run(self, arriving: list[Arriving]) -> None:
         """All that comes, by true time."""

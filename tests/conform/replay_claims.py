@@ -20,6 +20,7 @@ from tables import EXAMPLES, example
 LEEWAYS: tuple[tuple[str, ...], ...] = (
     (), ("--slack", "1000"), ("--drift", "100", "--from", "2000000"), ("--asked", "10000"),
     ("--inner", "60000", "--until", "30000000"), ("--slack", "50000", "--from", "0"),
+    ("--between", "300000"),
 )
 ONE, TWO = ("network.toml", "bench.list"), ("two_switches.toml", "two_switches.list")
 

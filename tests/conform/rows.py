@@ -147,6 +147,7 @@ BOTH, LONG = "F 0 A 1 H1 / F 0 A 2 H2", "F 0 A 1 H1(00,1518) / F 0 A 1 H1(00,749
 LONG_LEFT = "F 123040 A 3 H1(00,1518) / F 184560 A 3 H1(00,749) / 191280"
 TURNED = "F 6720 A 3 H1(01) / F 13440 A 3 H1"
 STEADY, SHORT, EDGE = "--drift 1000", "--drift 1000 --until 600000", "--asked 1 --until 600000"
+APART = "--between 20000 --until 60000"
 AFTER_5, ASKED_5 = "--from 5 --until 2000000", "--asked 2 --from 5 --until 2000000"
 MANY = " / ".join(1_024 * ["1"]) + " / F 7000 A 3 H2"
 RATE_2, STOPPED_1, STOPPED_2 = "passed 2 A 3 over-rate", "stopped 1 A 3", "stopped 2 A 3"
@@ -215,6 +216,10 @@ LATER_ROWS = (
     Row("late whenever asked", "--asked 1", "0", "17001", "late 1 A 3 1", "0/0/0/0"),
     Row("an unknown account, asked later", ASKED_5, "0 / 1000006", "", "", "0/0/1/0"),
     Row("a full account, asked later", ASKED_5, "0 / 1000007", "", STOPPED_2, "0/0/0/0"),
+    Row("late by recorders that are apart", APART, "0", "37000", "", "1/0/0/0"),
+    Row("late by more than these", APART, "0", "37001", "late 1 A 3 20001", "0/0/0/0"),
+    Row("sooner by recorders that are apart", "--between 1000 --until 600000", "0 / 499999",
+        "6720 / 506720", RATE_2, "1/0/0/0"),
 )
 
 # ---- beside these: what else a program may get wrong ---------------------------------------------
@@ -229,6 +234,27 @@ MORE_ROWS = (
     Row("open by four slacks", "--slack 1 --until 17003", "0", "", "", "0/1/0/0"),
     Row("open no longer", "--slack 1 --until 17004", "0", "", STOPPED_1, "0/0/0/0"),
     Row("cut off by two slacks", "--slack 1 --until 12000", "0", "11999", "", "0/2/0/0"),
+    Row("early by recorders that are apart", "--between 5760 --until 60000", "0", "0", "",
+        "1/0/0/0"),
+    Row("early by more than these", "--between 5759 --until 60000", "0", "0",
+        "early 1 A 3 5760", "0/0/0/0"),
+    Row("early by both", "--slack 10 --between 5740 --until 60000", "0", "0", "", "1/0/0/0"),
+    Row("open by recorders that are apart", "--between 20000 --until 56999", "0", "", "",
+        "0/1/0/0"),
+    Row("open no longer, apart", "--between 20000 --until 57000", "0", "", STOPPED_1, "0/0/0/0"),
+    Row("cut off by recorders that are apart", "--between 20000 --until 30000", "0", "10001", "",
+        "0/2/0/0"),
+    Row("cut off no longer, apart", "--between 20000 --until 30000", "0", "10000", "", "1/0/0/0"),
+    Row("apart, and what had to leave", "--between 1000 --until 600000", "0 / 500000", "6720",
+        STOPPED_2, "1/0/0/0"),
+    Row("left before the begin, apart", "--between 20 --from 100 --until 100", "", "79 / 80", "",
+        "1/0/0/0"),
+    Row("came before the begin, apart", "--between 20 --from 100 --until 100", "99 / 100", "", "",
+        "0/0/1/0"),
+    Row("begun before the begin, apart", "--between 20 --from 0 --until 40000", "", "17019", "",
+        "1/0/0/0"),
+    Row("too late to be begun, apart", "--between 20 --from 0 --until 40000", "", "17020",
+        "strange 1 A 3 no-arrival", "0/0/0/0"),
     Row("early by the drift", STEADY, "0", "5755", "", "1/0/0/0"),
     Row("early by more than the drift", STEADY, "0", "5754", "early 1 A 3 1", "0/0/0/0"),
     Row("two that wrongly passed", "", "0 / 1 / 2", "6720 / 6721 / 6722",
@@ -279,7 +305,8 @@ CASCADE_ROWS = (
     Row("a switch that isn't there", "--switch k3", TWICE, "6720", "", "", NO_SWITCH, "two"),
     Row("a switch of a file of one", "--switch k1", TWICE, "6720", "", "", NO_SWITCH),
 )
-NUMBERS = [("--slack", 10**6), ("--drift", 1000), ("--inner", 10**6), ("--asked", 10**6)]
+NUMBERS = [("--slack", 10**6), ("--between", 10**8), ("--drift", 1000), ("--inner", 10**6)]
+NUMBERS += [("--asked", 10**6)]
 NUMBERS += [("--from", 10**15), ("--until", 10**15), ("--leave-out", 65_535)]
 FAULT_ROWS = (
     *(Row(f"{name} out of its range", f"{name} {most + 1}", "", "", "", "", "words BadNumber",

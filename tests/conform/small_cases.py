@@ -15,7 +15,7 @@ GAPS = [0, 0, 1, 5_760, 54_617, 480_000, 498_000, 499_499, 499_501, 499_999, 500
 GAPS += [500_500, 999_000, MS - 1, MS, MS + 1_001, 2 * MS]
 OFF = (-5_760, -1_000, -2, -1, 0, 0, 1, 2, 1_000, 17_000)  # of times, by which lists are changed
 SLACKS, DRIFTS, INNERS = (0, 1, 1_000, 50_000, MS), (0, 1, 100, 1_000), (0, 1, 60_000, MS)
-ASKED = (0, 1, 700, 10_000)
+ASKED, APART = (0, 1, 700, 10_000), (0, 1, 1_000, 20_000, 300_000, 100 * MS)
 ODD_BYTES = ("0300", "ff" * 60, "0300000000", "03000000ffff" + "00" * 58, "-", "00" * 1_519)
 BAD_LINES = (b"F 0 A\n", b"F 1 A 25 00\n", b"F 0 A 1 0\n", b"X\n", b"F 9 C 1 00\n", b"#\n", b"\n")
 
@@ -132,8 +132,8 @@ class Maker:
     def options(self, times: list[int]) -> tuple[str, ...]:
         """Options, or none."""
         chance, words = self.chance, []
-        for name, values in (("--slack", SLACKS), ("--drift", DRIFTS), ("--inner", INNERS),
-                             ("--asked", ASKED)):
+        for name, values in (("--slack", SLACKS), ("--between", APART), ("--drift", DRIFTS),
+                             ("--inner", INNERS), ("--asked", ASKED)):
             if chance.random() < 0.35:
                 words += [name, str(chance.choice(values))]
         for name in ("--from", "--until"):

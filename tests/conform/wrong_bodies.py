@@ -9,10 +9,10 @@ from frames import OVERHEAD
 
 
 class HalfOpen(Terms):
-    """An arrival is open for two slacks alone."""
+    """An arrival is open for the reach of two stamps once."""
 
     def is_open(self, arrival: Came) -> bool:
-        return arrival.time + self.latency + self.twice > self.until
+        return arrival.time + self.latency + self.reach > self.until
 
 
 class NoMin(Terms):
@@ -70,7 +70,46 @@ class AskedNever(Terms):
 
     def __init__(self, link: dict, byte_ns: int, options: Options, until: int) -> None:
         super().__init__(link, byte_ns, options, until)
-        self.asked = self.twice
+        self.asked = 2 * options.slack
+
+
+class ApartNever(Terms):
+    """Recorders are never apart."""
+
+    def __init__(self, link: dict, byte_ns: int, options: Options, until: int) -> None:
+        super().__init__(link, byte_ns, options._replace(between=0), until)
+
+
+class ApartWhenAsked(Terms):
+    """Recorders that are apart leave open when the account is asked."""
+
+    def __init__(self, link: dict, byte_ns: int, options: Options, until: int) -> None:
+        super().__init__(link, byte_ns, options, until)
+        self.asked += options.between
+
+
+class ApartTwice(Terms):
+    """The stamps of what came may be off by as much as those of what left."""
+
+    def __init__(self, link: dict, byte_ns: int, options: Options, until: int) -> None:
+        super().__init__(link, byte_ns, options, until)
+        self.reach += options.between
+
+
+class LateApart(Terms):
+    """What left may be later by recorders that are apart, but not sooner."""
+
+    def is_early(self, arrival: Came, frame: Left) -> bool:
+        later = frame._replace(time=frame.time - self.options.between)
+        return super().is_early(arrival, later)
+
+
+class EarlyApart(Terms):
+    """What left may be sooner by recorders that are apart, but not later."""
+
+    def is_late(self, arrival: Came, frame: Left) -> bool:
+        later = frame._replace(time=frame.time + self.options.between)
+        return super().is_late(arrival, later)
 
 
 class RefusedIsNothing(Terms):
@@ -122,6 +161,14 @@ class LeftFromStart(Judging):
         return super().kept([each for each in lines if each.time >= start], is_left)
 
 
+class LeftByTheSlacks(Judging):
+    """What left is taken from two slacks before the begin of what came on."""
+
+    def kept(self, lines: list[Arrival], is_left: bool) -> list[Arrival]:
+        start = (self.options.start or 0) - 2 * self.options.slack * is_left
+        return super().kept([each for each in lines if each.time >= start], is_left)
+
+
 class AllLeft(Judging):
     """What left before the begin is judged."""
 
@@ -165,10 +212,13 @@ def judging_by(terms: type[Terms], stream: type[Stream]) -> type[Judging]:
 
 OTHER_TERMS: tuple[type[Terms], ...] = (
     HalfOpen, NoMin, MinAtOnce, WireWithoutDrift, WireWithGap, LatencyWithoutDrift, JudgesCutOff,
-    AskedFits, AskedNever, RefusedIsNothing,
+    AskedFits, AskedNever, RefusedIsNothing, ApartNever, ApartWhenAsked, ApartTwice, LateApart,
+    EarlyApart,
 )
 OTHER_STREAMS: tuple[type[Stream], ...] = (FirstState, LastState, ClosesFirst, OneNamed)
-OTHER_RUNS: tuple[type[Judging], ...] = (LeftFromStart, AllLeft, IdleConforms, StoppedIdle)
+OTHER_RUNS: tuple[type[Judging], ...] = (
+    LeftFromStart, LeftByTheSlacks, AllLeft, IdleConforms, StoppedIdle,
+)
 
 
 def wrong_bodies() -> list[tuple[str, type[Judging]]]:

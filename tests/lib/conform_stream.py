@@ -188,7 +188,7 @@ class Stream:
         the states before it and those behind."""
         terms, lead = self.terms, self.lead(states)
         first = lead[0].passed  # the place of the next frame
-        near = arrival.time + 2 * terms.latency + terms.twice
+        near = arrival.time + 2 * terms.latency + terms.reach
         frame = self.left[first] if first < len(self.left) else None
         if frame is None or frame.time > near:
             self.tell("stopped", arrival.number)
@@ -221,7 +221,7 @@ class Stream:
 
     def fitting(self, frame: Left) -> list[int]:
         """The places of the arrivals whose events came and which the frame fits."""
-        first = bisect.bisect_left(self.times, frame.time - self.terms.latency - self.terms.twice)
+        first = bisect.bisect_left(self.times, frame.time - self.terms.latency - self.terms.reach)
         return [at for at in range(first, self.over) if self.terms.fits(self.came[at], frame)]
 
     def unexplained(self, place: int) -> None:

@@ -15,8 +15,8 @@ from one_switch import MS
 MILLION = 1_000_000
 BEFORE_FRAME = 8  # bytes of the line: preamble and delimiter
 # the greatest value of each option that has a number
-MOST = {"--slack": MILLION, "--drift": 1_000, "--inner": MILLION, "--asked": MILLION}
-MOST |= {"--from": LATEST, "--until": LATEST, "--leave-out": 65_535}
+MOST = {"--slack": MILLION, "--between": 100 * MILLION, "--drift": 1_000, "--inner": MILLION}
+MOST |= {"--asked": MILLION, "--from": LATEST, "--until": LATEST, "--leave-out": 65_535}
 OTHER = "other"  # of --leave-out: frames whose bytes name no link
 EXERCISED = "--exercised"  # it has no value
 
@@ -25,6 +25,7 @@ class Options(NamedTuple):
     """The options: ns and millionths; `start` and `until` are None where they aren't given."""
 
     slack: int = 0
+    between: int = 0
     drift: int = 0
     inner: int = 0
     asked: int = 0
@@ -34,9 +35,13 @@ class Options(NamedTuple):
     switch: str | None = None
     is_exercised: bool = False
 
+    def reach(self) -> int:
+        """By how much the times of a line that came and of one that left may be off together."""
+        return 2 * self.slack + self.between
+
     def begin(self, is_left: bool) -> int:
         """The first time whose lines aren't passed over, of what left or of what came."""
-        return 0 if self.start is None else self.start - 2 * self.slack * is_left
+        return 0 if self.start is None else self.start - self.reach() * is_left
 
 
 def options_of(words: tuple[str, ...]) -> Options | None:
@@ -95,12 +100,13 @@ class Terms:
         drift, smax = options.drift, link["lmax"] + OVERHEAD
         self.options, self.until, self.byte_ns = options, until, byte_ns
         self.smax, self.is_byte = smax, link["policing"] == "byte"
-        self.twice = 2 * options.slack  # by how much the times of two lines may be off
+        self.reach = options.reach()
         self.latency = self.most(1000 * link["latency_us"] + options.inner)
         self.fast, self.slow = smax * (MILLION + drift), smax * (MILLION - drift)
         self.bag = link["bag_ms"] * MS
         self.cap = MILLION * smax * (self.bag + 1000 * link["jitter_us"])
-        self.asked = self.twice + options.asked  # how far apart two moments of asking may be
+        # how far apart two moments of asking may be, by the stamps of what came
+        self.asked = 2 * options.slack + options.asked
 
     # ---- times -----------------------------------------------------------------------------------
 
@@ -115,33 +121,33 @@ class Terms:
 
     def closing(self, frame: Left) -> int:
         """When a frame must have been explained."""
-        return frame.time + self.twice
+        return frame.time + self.reach
 
     def moment(self, time: int) -> int:
         """When what is found at an event of this time is told."""
-        return time + 2 * self.latency + 2 * self.twice
+        return time + 2 * self.latency + 2 * self.reach
 
     def is_cut_off(self, frame: Left) -> bool:
         """The frame may be of an arrival that the recording doesn't have."""
-        return frame.time + self.twice > self.until
+        return frame.time + self.reach > self.until
 
     def is_open(self, arrival: Came) -> bool:
         """The arrival's frame may be cut off."""
-        return arrival.time + self.latency + 2 * self.twice > self.until
+        return arrival.time + self.latency + 2 * self.reach > self.until
 
     def is_begun(self, frame: Left) -> bool:
         """The frame may be of an arrival before the recording's begin."""
         start = self.options.start
-        return start is not None and frame.time < start + self.latency + self.twice
+        return start is not None and frame.time < start + self.latency + self.reach
 
     def is_late(self, arrival: Came, frame: Left) -> bool:
         """The frame left too late for the arrival."""
-        return frame.time > arrival.time + self.latency + self.twice
+        return frame.time > arrival.time + self.latency + self.reach
 
     def is_early(self, arrival: Came, frame: Left) -> bool:
         """The frame left too early for the arrival, if their bytes are equal."""
         wire = self.wire_time(len(frame.content))
-        return frame.time + self.twice < arrival.time + wire
+        return frame.time + self.reach < arrival.time + wire
 
     def fits(self, arrival: Came, frame: Left) -> bool:
         """The frame may be that of the arrival."""

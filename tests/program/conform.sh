@@ -57,6 +57,10 @@ conform_of 'a link is left out' 0 'F 0 A 1 H1 / F 0 A 2 H2' 'F 6720 A 3 H1' \
 conform_of 'slack, drift, time inside and asking' 0 'F 0 A 1 H1 / F 499999 A 1 H1' \
     'F 6720 A 3 H1 / F 577000 A 3 H1' "$(judged conforms 2 0 1 0)" '' \
     --slack 1 --drift=100 --inner 60000 --asked=1 --until 2000000
+conform_of 'recorders that are apart' 0 'F 0 A 1 H1' 'F 37000 A 3 H1' \
+    "$(judged conforms 1 0 0 0)" '' --between 20000 --until 60000
+conform_of 'recorders that are apart, and a late frame' 5 'F 0 A 1 H1' 'F 37001 A 3 H1' \
+    "late 1 A 3 20001 / $(judged 'deviates 1' 0 0 0 0)" '' --between=20000 --until=60000
 conform_of 'a part of what was recorded' 0 'F 0 A 1 H1 / F 2000000 A 1 H1 / F 4000000 A 1 H1' \
     'F 2006720 A 3 H1 / F 5000000 A 3 H1' "$(judged conforms 1 0 1 0)" '' \
     --from 2000000 --until 3000000
@@ -136,8 +140,8 @@ fault_case 'a line with a switch' 3 'list left BadLine 1' \
 
 # ---- conform: words ------------------------------------------------------------------------
 
-for word in CONFIG CAME LEFT --slack --drift --inner --asked --from --until --leave-out --switch \
-    --exercised --line-buffered --explain --progress --summary 'afdx conform' \
+for word in CONFIG CAME LEFT --slack --between --drift --inner --asked --from --until --leave-out \
+    --switch --exercised --line-buffered --explain --progress --summary 'afdx conform' \
     "'device Write', status 4"; do
     text_case "help of conform tells of $word" 0 out "$word" conform --help
 done
@@ -145,8 +149,8 @@ text_case 'conform in the help' 0 out conform --help
 case_of 'conform without LEFT, and without interfaces' 2 '' $'words BadInterface\n' \
     conform "$rules" -
 text_case 'a third list is too many for conform' 2 err third conform "$rules" one two third
-for word in --slack=x --drift=-1 --inner= --asked=1e3 --from=0x1 --until=99999999999999999999999 \
-    --jitter=1; do
+for word in --slack=x --between=2. --drift=-1 --inner= --asked=1e3 --from=0x1 \
+    --until=99999999999999999999999 --jitter=1; do
     text_case "conform $word" 2 err "${word%%=*}" conform "$word" "$rules" "${lists[@]}"
 done
 case_of 'an argument of conform that is no text' 2 '' $'words NotText\n' \

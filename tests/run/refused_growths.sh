@@ -170,9 +170,9 @@ refuse_conform() { # PROGRAM
     refuse_program 'conform' "$1" conform "$base" - "$work/left"
     refuse_program 'conform, a bad line' "$1" conform "$base" - "$work/bad"
     input=$work/left
-    refuse_program 'conform with leeway' "$1" conform --slack 1000 --drift 100 --inner 60000 \
-        --asked 10000 --from 5 --until 9000000 --leave-out 9 --leave-out other --leave-out 7 \
-        --line-buffered "$base" "$work/came" -
+    refuse_program 'conform with leeway' "$1" conform --slack 1000 --between 20000 --drift 100 \
+        --inner 60000 --asked 10000 --from 5 --until 9000000 --leave-out 9 --leave-out other \
+        --leave-out 7 --line-buffered "$base" "$work/came" -
     refuse_program 'conform of a switch of two' "$1" conform --switch fwd "$two" "$work/came" -
     refuse_program 'conform, no such switch' "$1" conform --switch none "$two" "$work/came" -
     refuse_conform_recorded "$1" "$base" "$two"

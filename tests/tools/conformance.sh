@@ -233,8 +233,14 @@ stamp_tests() {
     judge_stamps behind=3000
     tell 'a clock that is behind' "$(
         is_status 5
-        says out '--slack 1020: the clock of what left is behind that of what came, from A:1 to A:3'
+        says out '--between 2040: the clock of what left is behind that of what came, from A:1'
         says out 'editcap -t 0.000002040'
+        says out 'option      --slack 0 (as given): '
+    )"
+    judge_stamps behind=3000 -- --between 2040
+    tell 'with what it is behind the switch conforms' "$(
+        is_status 0
+        says out 'option      --between 2040 (as given): '
     )"
     judge_stamps ppm=50
     tell 'clocks that go apart' "$(

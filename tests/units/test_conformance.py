@@ -107,7 +107,7 @@ class Measuring(unittest.TestCase):
         self.assertEqual([found.pairs(each) for each in found.streams()], [[], [], []])
 
     def test_what_is_passed_over(self) -> None:
-        options = Options(slack=10, start=100, until=90_000, left_out=(20,))
+        options = Options(slack=8, between=4, start=100, until=90_000, left_out=(20,))
         found = measured(
             [arrival(99, "A", 10, 1), arrival(100, "A", 10, 2), arrival(100, "A", 20, 1)],
             [left(79, 1), left(80, 2), left(90_001, 3)],
@@ -197,9 +197,9 @@ class Words(unittest.TestCase):
     def test_those_of_recordings_are_handed_on(self) -> None:
         words = ["--interface=0=A:1", "--fcs=no", "--reorder=0", "--stamps=end-start",
                  "--left=1=A:3", "--lossy"]  # fmt: skip
-        options = conform_options(self.given("--conform", "--slack=1", *words))
+        options = conform_options(self.given("--conform", "--slack=1", "--between=9", *words))
         self.assertEqual(options.of_recordings, tuple(words))
-        self.assertEqual(options.words(), ["--slack=1"])
+        self.assertEqual(options.words(), ["--slack=1", "--between=9"])
         self.assertEqual(options.recorders, Recorders(("0=A:1",), ("1=A:3",), False, "end-start"))
 
     def test_they_are_handed_on(self) -> None:
@@ -223,7 +223,8 @@ class Words(unittest.TestCase):
             conform_options(self.given("--conform", "--taps=taps.csv", "--left=1=A:3"))
 
     def test_those_of_conform_are_refused_for_a_replay(self) -> None:
-        for word in ("--left=1=A:3", "--lossy", "--exercised", "--stamps=end-start", "--slack=1"):
+        for word in ("--left=1=A:3", "--lossy", "--exercised", "--stamps=end-start", "--slack=1",
+                     "--between=1"):
             with self.assertRaises(Refused):
                 refuse_conform_options(self.given(word))
         refuse_conform_options(self.given("--stamps=start", "--interface=0=A"))

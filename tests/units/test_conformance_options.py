@@ -82,17 +82,6 @@ class Slack(unittest.TestCase):
         line = 84 * 80  # ns of a frame with what is around it, on a line that may be faster
         self.assertEqual(rows[0]["value"], -(-(2 * (line - line * 200 // MS) - 3_000) // 2))
 
-    def test_a_clock_that_is_behind(self) -> None:
-        value, reason = self.asked(left=lambda time: time - 300_000)
-        self.assertEqual(value, 147_500)
-        self.assertIn("the clock of what left is behind", reason)
-        self.assertIn("editcap -t 0.00029", reason)
-
-    def test_stamps_of_first_bits(self) -> None:
-        first = "do cards stamp first bits there? Then say --stamps end-start"
-        self.assertIn(first, self.asked(left=lambda time: time - 64 * 800)[1])
-        self.assertNotIn(first, self.asked(left=lambda time: time - 300_000)[1])
-
     def test_a_frame_that_leaves_before_it_can(self) -> None:
         first = rows_of()["--slack"]["value"]
         late = iter([20_000])
@@ -101,12 +90,47 @@ class Slack(unittest.TestCase):
         self.assertIn(value, range(7_000, 7_501))
         self.assertIn("before it can have, from A:1 to A:3", reason)
 
+
+class Between(unittest.TestCase):
+    """By how much recorders are apart, at the least."""
+
+    def test_recorders_that_are_not(self) -> None:
+        self.assertNotIn("--between", rows_of())
+        row = rows_of(options=Options(between=7))["--between"]
+        self.assertIn("--between 0 (7 was given, which is more): no frame", option_words(row))
+
+    def test_a_clock_that_is_behind(self) -> None:
+        rows = rows_of(left=lambda time: time - 300_000)
+        self.assertIn(rows["--between"]["value"], range(294_900, 295_001))
+        self.assertIn("the clock of what left is behind", rows["--between"]["reason"])
+        self.assertIn("editcap -t 0.00029", rows["--between"]["reason"])
+        self.assertEqual(rows["--slack"]["value"], 0)
+        self.assertNotIn("none leaves before", rows["--slack"]["reason"])
+
+    def test_beside_what_the_slack_allows(self) -> None:
+        rows = rows_of(left=lambda time: (time - 300_000) // 1000 * 1000)
+        self.assertEqual(rows["--slack"]["value"], 500)
+        self.assertIn(rows["--between"]["value"], range(294_000, 295_001))
+
+    def test_stamps_of_first_bits(self) -> None:
+        first = "do cards stamp first bits there? Then say --stamps end-start"
+        for behind, is_told in ((64 * 800, True), (300_000, False)):
+            reason = rows_of(left=lambda time: time - behind)["--between"]["reason"]
+            self.assertEqual(first in reason, is_told)
+
     def test_clocks_that_go_apart(self) -> None:
         for ppm in (50, -50):
             rows = rows_of(left=lambda time: time + time * ppm // MS)
-            self.assertIn("go apart", rows["--slack"]["reason"])
+            self.assertIn("go apart", rows["--between"]["reason"])
+            self.assertEqual(rows["--slack"]["value"], 0)
             self.assertNotIn("--inner", rows)
             self.assertIn(rows["--drift"]["value"], (50, 51))
+
+    def test_a_clock_that_is_ahead(self) -> None:
+        rows = rows_of(left=lambda time: time + 300_000, options=Options(between=263_600))
+        self.assertNotIn("--between", rows)
+        row = rows["--inner"]
+        self.assertIn(f"or say --between {row['value']} instead", row["reason"])
 
 
 class Others(unittest.TestCase):

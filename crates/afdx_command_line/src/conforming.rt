@@ -20,7 +20,8 @@ use std::io::Write;
 /// What the words ask for, if their numbers are in range.
 fn choices_in<'a>(alloc: Global, matches: &ArgMatches<'a>) -> Result<Choices, Refused<'a>> {
     let said = conform_options(alloc, matches)?;
-    let Some(leeway) = Leeway::new(said.slack, said.drift, said.inner, said.asked, said.from) else {
+    let together = Leeway::new(said.slack, said.drift, said.inner, said.asked, said.from);
+    let Some(leeway) = together.and_then(|leeway| leeway.apart(said.between)) else {
         return Err(Refused::BadNumber);
     };
     let (until, left_out) = (said.until, said.left_out);

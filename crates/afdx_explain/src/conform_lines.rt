@@ -37,8 +37,9 @@ late n A|B n n",
         "\
 late n side port NS: frame n of CAME left that output port NS ns later than its link's latency_us
 allows.
-If the switch may take longer inside, give --inner; if the stamps are less exact, --slack. Stamps
-of first bits at one side and of last bits at the other make frames early or late: --stamps.",
+If the switch may take longer inside, give --inner; if the stamps are less exact, --slack; if two
+recorders' clocks are apart, --between. Stamps of first bits at one side and of last bits at the
+other make frames early or late: --stamps.",
     ),
     (
         "\
@@ -47,8 +48,9 @@ early n A|B n n",
         "\
 early n side port NS: frame n of CAME left that output port NS ns before all of it can have gone
 over the line, so the stamps are wrong.
-They may be cut to 8 ns or to whole us, or come from two clocks: --slack. If all are early, they are
-those of first bits: --stamps, of lists stamps of last bits on both sides.
+They may be cut to 8 ns or to whole us: --slack; or come from two clocks that are apart:
+--between. If all are early, they are those of first bits: --stamps, of lists stamps of last bits
+on both sides.
 With --explain-drops, of several switches: port is a switch's name that is all digits, and the
 frame came NS ns too early for its link's account.",
     ),
@@ -59,7 +61,8 @@ unsure n A|B n",
         "\
 unsure n side port: from the arrival of frame n of CAME on nothing is said of its link at that
 output port: with these options more than 1024 explanations were possible.
-Less --slack, --drift and --asked, or no --from, leave fewer; so do frames of unlike bytes.",
+Less --slack, --between, --drift and --asked, or no --from, leave fewer; so do frames of unlike
+bytes.",
     ),
     (
         "\

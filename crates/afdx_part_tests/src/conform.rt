@@ -82,3 +82,13 @@ fn what_is_decided_is_let_go_of(rt: HostRuntime) -> Result<(), Fail> {
     decide_before(&mut told, u64::MAX)?;
     equal((told.stream.due(), told.stream.held()), (None, 0))
 }
+
+#[test]
+fn recorders_may_be_apart() -> Result<(), Fail> {
+    let together = Leeway::new(1, 0, 0, 0, None).ok_or("a leeway")?;
+    let apart = together.apart(100_000_000).ok_or("a leeway")?;
+    let beyond = together.apart(100_000_001);
+    equal((together.reach(), apart.reach()), (2, 100_000_002))?;
+    equal((apart.slack, apart.between), (1, 100_000_000))?;
+    equal(beyond.is_none(), true)
+}

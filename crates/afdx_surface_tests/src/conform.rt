@@ -7,11 +7,14 @@ use afdx_samples::{equal, hello};
 use std::alloc::{AllocError, Global};
 use std::test::Fail;
 
-/// A stream of link 1, at a port of 100 Mbit/s, with stamps that may be off by 1 ns.
+/// A stream of link 1, at a port of 100 Mbit/s, with stamps that may be off by 1 ns, and recorders
+/// that are 1,000 ns apart.
 fn stream(alloc: Global, rule: &LinkRule) -> Option<Stream> {
     let (slack, drift, inner, asked): (u64, u64, u64, u64) = (1, 0, 0, 0);
     let start: Option<u64> = None;
     let by: Leeway = Leeway::new(slack, drift, inner, asked, start)?;
+    let between: u64 = 1_000;
+    let by: Leeway = by.apart(between)?;
     let (latency_ns, byte_ns): (u64, u64) = (17_000, 80);
     let stream: Stream = Stream::new(alloc, rule, latency_ns, byte_ns, by);
     Some(stream)
@@ -51,7 +54,7 @@ fn one_stream(rt: HostRuntime) -> Result<(), Fail> {
     let unsure: Option<u64> = stream.unsure_behind();
     let counts: Counts = stream.counts();
     let held: usize = stream.held();
-    equal((due, unsure), (Some(34_004), None))?;
+    equal((due, unsure), (Some(36_004), None))?;
     equal((found.len(), rest.len(), held <= 2), (0, 0, true))?;
     equal(
         (counts.explained, counts.waiting, counts.uncertain),

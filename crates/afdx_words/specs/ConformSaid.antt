@@ -6,6 +6,7 @@ use Rattle.afdx_words.specs.declared.conform_words.ConformOptions.{ConformOption
 
 pub record SaysConform (found : Found) (asked : ConformOptions) : Type 0 where
   pub slack : SaysOrZero found (codes "slack") asked.slack
+  pub between : SaysOrZero found (codes "between") asked.between
   pub drift : SaysOrZero found (codes "drift") asked.drift
   pub inner : SaysOrZero found (codes "inner") asked.inner
   pub account : SaysOrZero found (codes "asked") asked.asked

@@ -83,6 +83,10 @@ standard input";
 
 const SUMMARY_HELP: &str = "Prints how much of each recording was left out, behind the last line";
 
+const BETWEEN_HELP: &str = "\
+By how many ns more a stamp of LEFT may be off, where recorders are
+apart, at most 100,000,000";
+
 const SLACK_HELP: &str = "By how many ns a stamp may be off, at most 1,000,000";
 
 const DRIFT_HELP: &str = "\
@@ -169,6 +173,7 @@ fn with_recordings<'a>(alloc: Global, command: Command<'a>) -> Result<Command<'a
 pub fn conform_command<'a>(alloc: Global) -> Result<Command<'a>, AllocError> {
     let words = vec![in alloc;
         leeway_option(alloc, "slack", "NS", SLACK_HELP),
+        leeway_option(alloc, "between", "NS", BETWEEN_HELP),
         leeway_option(alloc, "drift", "PPM", DRIFT_HELP),
         leeway_option(alloc, "inner", "NS", INNER_HELP),
         leeway_option(alloc, "asked", "NS", ASKED_HELP),
@@ -196,6 +201,8 @@ pub fn conform_command<'a>(alloc: Global) -> Result<Command<'a>, AllocError> {
 #[derive(Debug, Drop)]
 pub struct ConformOptions {
     pub slack: u64,
+    /// By how much stamps of what left may be off beyond that.
+    pub between: u64,
     pub drift: u64,
     pub inner: u64,
     pub asked: u64,
@@ -241,6 +248,7 @@ pub fn conform_options<'a>(
     let words = matches.get_strs("leave-out").unwrap_or(&[]);
     Ok(ConformOptions {
         slack: number_of(matches, "slack").unwrap_or(0),
+        between: number_of(matches, "between").unwrap_or(0),
         drift: number_of(matches, "drift").unwrap_or(0),
         inner: number_of(matches, "inner").unwrap_or(0),
         asked: number_of(matches, "asked").unwrap_or(0),

@@ -119,7 +119,7 @@ class Measured:
         near the end that they may be of arrivals behind it."""
         until = self.options.until
         end = self.latest if until is None else until
-        return all(frame.time + self.options.twice > end for frame in self.left.get(stream, []))
+        return all(frame.time + self.options.reach > end for frame in self.left.get(stream, []))
 
     def streams(self) -> list[Stream]:
         """The streams that are judged and of which something came or left."""
@@ -135,12 +135,12 @@ class Measured:
     def most(self, stream: Stream) -> int:
         """By how much a frame that came and the one that left are apart at most."""
         inside = self.links[stream.vl].latency_ns + (self.options.inner or 0)
-        return 2 * (MILLION * inside // (MILLION - (self.options.drift or 0))) + self.options.twice
+        return 2 * (MILLION * inside // (MILLION - (self.options.drift or 0))) + self.options.reach
 
     def pairs(self, stream: Stream) -> list[Pair]:
         """Of each frame that left, the first one before it that came with its bytes, is of no other
         frame, and isn't apart by over twice the latency."""
-        twice, most = self.options.twice, self.most(stream)
+        reach, most = self.options.reach, self.most(stream)
         waiting: dict[bytes, deque[Frame]] = defaultdict(deque)
         for frame in self.came.get((stream.side, stream.vl), []):
             waiting[frame.key].append(frame)
@@ -149,7 +149,7 @@ class Measured:
             others = waiting[frame.key]
             while others and others[0].time < frame.time - most:
                 others.popleft()
-            latest = frame.time + twice - self.least(frame.length, stream.port)
+            latest = frame.time + reach - self.least(frame.length, stream.port)
             if frame.line not in self.strange and others and others[0].time <= latest:
                 came = others.popleft()
                 pairs.append(Pair(came.line, frame.line, frame.time - came.time))

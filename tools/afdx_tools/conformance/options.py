@@ -14,6 +14,7 @@ LATEST = 10**15
 OTHER = "other"  # frames that name no link
 AMOUNTS = {
     "slack": (1_000_000, "NS", "by how many ns a stamp may be off, with --conform (0)"),
+    "between": (100_000_000, "NS", "by how many ns more one of LEFT is off, with --conform (0)"),
     "drift": (1_000, "PPM", "by how many millionths clocks may differ, with --conform (0)"),
     "inner": (1_000_000, "NS", "what a frame may take beyond its latency, with --conform (0)"),
     "asked": (1_000_000, "NS", "how much later the account may be asked, with --conform (0)"),
@@ -59,6 +60,7 @@ class Options:
     """The options of `afdx conform`: ns and millionths; None where they aren't given."""
 
     slack: int | None = None
+    between: int | None = None
     drift: int | None = None
     inner: int | None = None
     asked: int | None = None
@@ -87,13 +89,13 @@ class Options:
                        recorders=replace(self.recorders, came=came, left=left))  # fmt: skip
 
     @property
-    def twice(self) -> int:
-        """By how much the times of two lines may be off."""
-        return 2 * (self.slack or 0)
+    def reach(self) -> int:
+        """By how much the times of a line that came and of one that left may be off together."""
+        return 2 * (self.slack or 0) + (self.between or 0)
 
     def is_taken(self, time: int, vl: int | None, is_left: bool) -> bool:
         """A line of this time and link isn't passed over."""
-        begin = (self.start or 0) - self.twice * is_left
+        begin = (self.start or 0) - self.reach * is_left
         return begin <= time <= (LATEST if self.until is None else self.until) and (
             vl not in self.left_out
         )

@@ -70,36 +70,54 @@ def of_bunches(lines: Sequence[Line]) -> Proposal | None:
     return Proposal("--slack", half(worst.bunched), reason)
 
 
-def of_early_frames(offsets: Sequence[Offset], is_of_last_bits: bool) -> Proposal | None:
-    """Half of that by which a frame left before it can have. Where most frames did, a clock is
-    behind, or stamps that are taken for those of last bits are of first ones. An option of two
-    clocks that are apart alone would be proposed here for the median."""
-    steady = [offset for offset in offsets if not offset.slope]
+def is_behind(offset: Offset) -> bool:
+    """Most frames left before they can have."""
+    return not offset.slope and offset.spread[2] < 0
+
+
+def earliest(offsets: Sequence[Offset], are_behind: bool) -> Offset | None:
+    """Where a frame left the furthest before it can have, by a clock that is behind, or by one that
+    is not; None where none did."""
+    steady = [each for each in offsets if not each.slope and is_behind(each) == are_behind]
     worst = min(steady, key=lambda offset: offset.spread[0], default=None)
-    if worst is None or worst.spread[0] >= 0:
+    return None if worst is None or worst.spread[0] >= 0 else worst
+
+
+def of_early_frames(offsets: Sequence[Offset]) -> Proposal | None:
+    """Half of that by which a frame left before it can have, where most frames did not."""
+    worst = earliest(offsets, False)
+    if worst is None:
         return None
-    early, median = -worst.spread[0], worst.spread[2]
-    if median >= 0:
-        reason = f"a frame seems to leave {early} ns before it can have, {way(worst)}"
-    else:
-        reason = f"the clock of what left is behind that of what came, {way(worst)}: frames seem "
-        reason += f"to leave up to {early} ns before they can have, half of them {-median} ns or "
-        reason += f"more. Better set it right: {shift(-median)}"
-        if worst.by_first_bits >= 0 and is_of_last_bits:
-            reason += "; or do cards stamp first bits there? Then say --stamps end-start instead"
+    early = -worst.spread[0]
+    reason = f"a frame seems to leave {early} ns before it can have, {way(worst)}"
     return Proposal("--slack", half(early), reason)
 
 
+def of_a_clock_behind(offsets: Sequence[Offset], is_of_last_bits: bool) -> Proposal | None:
+    """That by which frames left before they can have, where most did: a clock is behind, or stamps
+    that are taken for those of last bits are of first ones."""
+    worst = earliest(offsets, True)
+    if worst is None:
+        return None
+    early, median = -worst.spread[0], worst.spread[2]
+    reason = f"the clock of what left is behind that of what came, {way(worst)}: frames seem "
+    reason += f"to leave up to {early} ns before they can have, half of them {-median} ns or "
+    reason += f"more. Better set it right: {shift(-median)}"
+    if worst.by_first_bits >= 0 and is_of_last_bits:
+        reason += "; or do cards stamp first bits there? Then say --stamps end-start instead"
+    return Proposal("--between", early, reason)
+
+
 def of_clocks_that_part(offsets: Sequence[Offset]) -> Proposal | None:
-    """Half of that by which frames seem to leave too early or too late, where left less came grows
-    or shrinks with time."""
+    """That by which frames seem to leave too early or too late, where left less came grows or
+    shrinks with time."""
     parting = [offset for offset in offsets if offset.slope]
     worst = max(parting, key=amiss, default=None)
     if worst is None or amiss(worst) <= 0:
         return None
     reason = f"the recorders' clocks go apart, {way(worst)}, so that frames seem to leave up to "
     reason += f"{amiss(worst)} ns too early or too late. Better record by one clock"
-    return Proposal("--slack", half(amiss(worst)), reason)
+    return Proposal("--between", amiss(worst), reason)
 
 
 def amiss(offset: Offset) -> int:
@@ -107,21 +125,34 @@ def amiss(offset: Offset) -> int:
     return max(-offset.spread[0], offset.most_over)
 
 
-def slack(
-    lines: Sequence[Line], offsets: Sequence[Offset], is_of_last_bits: bool
-) -> Proposal | None:
+def slack(lines: Sequence[Line], offsets: Sequence[Offset]) -> Proposal | None:
     """What stamps need; None where there are none."""
     if not offsets and not any(line.step for line in lines):
         return None
-    found = (of_steps(lines), of_bunches(lines), of_early_frames(offsets, is_of_last_bits),
-             of_clocks_that_part(offsets))  # fmt: skip
+    found = of_steps(lines), of_bunches(lines), of_early_frames(offsets)
     if any(found):
         return max(filter(None, found), key=lambda each: each.value)
-    reason = "frames in a row stand as far apart as they take on the line, and none leaves before "
-    reason += "it can have"
+    reason = "frames in a row stand as far apart as they take on the line"
+    if all(offset.spread[0] >= 0 for offset in offsets):
+        reason += ", and none leaves before it can have"
     if all(line.step is None for line in lines):
         return Proposal("--slack", 0, f"{reason}; but there are few frames to tell by")
     return Proposal("--slack", 0, f"stamps have steps of 1 ns, {reason}")
+
+
+def between(
+    offsets: Sequence[Offset], is_of_last_bits: bool, slack_ns: int, given: int | None
+) -> Proposal | None:
+    """What recorders that are apart need beside so much slack; None where they aren't, but for an
+    option that was given."""
+    found = of_a_clock_behind(offsets, is_of_last_bits), of_clocks_that_part(offsets)
+    worst = max(filter(None, found), key=lambda each: each.value, default=None)
+    if worst is not None and worst.value > 2 * slack_ns:
+        return worst._replace(value=worst.value - 2 * slack_ns)
+    if not given or not offsets or any(amiss(offset) > 2 * slack_ns for offset in offsets):
+        return None
+    reason = "no frame seems to leave too early or too late by more than the slack"
+    return Proposal("--between", 0, reason)
 
 
 def drift(offsets: Sequence[Offset]) -> Proposal | None:
@@ -148,7 +179,8 @@ def inner(offsets: Sequence[Offset]) -> Proposal | None:
         return None
     reason = f"{worst.over} of {worst.frames} frames are inside for longer than their latency, "
     reason += f"{way(worst)}, by up to {worst.most_over} ns: the switch takes so long, or the "
-    reason += f"clock of what left is ahead. Then set that right: {shift(-worst.spread[0])}"
+    reason += f"clock of what left is ahead. Then set that right: {shift(-worst.spread[0])}; or "
+    reason += f"say --between {worst.most_over} instead"
     return Proposal("--inner", worst.most_over, reason)
 
 
@@ -186,8 +218,10 @@ class Proposals:
         self.lines = lines_of(measured, resolution)
         self.offsets = offsets_of(measured)
         is_of_last_bits = not self.options.recorders.are_starts(True)
+        off = slack(self.lines, self.offsets)
         found = (
-            slack(self.lines, self.offsets, is_of_last_bits),
+            off,
+            between(self.offsets, is_of_last_bits, off.value if off else 0, self.options.between),
             drift(self.offsets),
             inner(self.offsets),
             reorder(back, self.options.reorder),
