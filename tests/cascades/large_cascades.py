@@ -33,14 +33,14 @@ def cable(switch: int, port: int, rate: int = 100) -> dict:
     return {"name": f"w{switch}", "port": port, "rate": rate}
 
 
-def in_a_row(count: int) -> dict:
-    """So many switches in a row; one link goes from the first to the last."""
+def in_a_row(count: int, **values: object) -> dict:
+    """So many switches in a row; one link goes from the first to the last, with these values."""
     switches = []
     for k in range(count):
         cables = [cable(n, 20 + n - k) for n in (k - 1, k + 1) if 0 <= n < count]
         systems = [made.system_of(k // (count - 1) + 1)] if k in (0, count - 1) else []
         to = [f"w{k + 1}" if k < count - 1 else "s2"]
-        row = link_with(**{"from": f"w{k - 1}" if k else "s1", "to": to})
+        row = link_with(**{"from": f"w{k - 1}" if k else "s1", "to": to}, **values)
         switches.append(switch_with(f"w{k}", systems, cables, [row]))
     return solved({"switch": switches})
 

@@ -7,7 +7,8 @@ tests/lib/cascade_run.py says what `replay` and `send` must write of several swi
 the program; it must say what tests/cascades/cascade_run_rows.py spells out, and of one switch what
 stands in examples/. So must the program, of these and of generated lists over cascades of 1 to 5
 switches, admitted or not, with faults or without; of 24 switches in a row, in a ring, around one
-and each joined to each; of lines that are overloaded to the end of the clock. What systems send
+and each joined to each; of frames of each length; of lines that are overloaded to the end of the
+clock. What systems send
 must be delivered once and in order. What the program writes of each switch must be what it writes
 of a file of that switch alone, on what came to it; a cascade of one switch is answered as such a
 file, its places apart. Where no PROGRAM is given only what is computed here is tried. Prints `ok
@@ -32,6 +33,7 @@ from cascade import loaded  # noqa: E402
 from cascade_run import Ran, refused, replayed, replayed_one, sent_text  # noqa: E402
 from cascade_run_rows import REPLAYS, SENDS, RunRow, spelled  # noqa: E402
 from compared_runs import ALL, DROPS, FREE, SUMMARY, replay_by, run_alike  # noqa: E402
+from frames import frame_of, number_of  # noqa: E402
 from large_cascades import around_one, in_a_mesh, in_a_ring, in_a_row  # noqa: E402
 from large_cascades import overload, overloaded  # noqa: E402
 from made_cascades import three_of  # noqa: E402
@@ -222,6 +224,24 @@ def large_alike(program: Program, make: Callable[[], dict], is_admitted: bool) -
         run_alike(program, cascade, made_list(chance, cascade, count))
 
 
+def each_length(program: Program, count: int) -> None:
+    """A frame of each length, 64 to 1,518 bytes, over so many switches, on both sides: none wants
+    memory, and each leaves each switch."""
+    cascade, program = in_a_row(count, lmax=1518), program.apart()
+    first = cascade["switch"][0]
+    system, link = first["system"][0], first["link"][0]
+    lines = []
+    for place, length in enumerate(range(64, 1519)):
+        time, payload = place * link["bag_ms"] * 1_000_000, bytes([place % 251]) * (length - 47)
+        for side in "AB":
+            frame = frame_of(system, link["vl"], 1000, payload, number_of(place), side)
+            must(len(frame) == length, f"the frame has {len(frame)} bytes")
+            lines.append(f"F {time} {side} w0 {system['port']} {frame[:-4].hex()}\n")
+    ran = run_alike(program, cascade, "".join(lines).encode())
+    left = Counter(line.split(" ")[4] for line in ran.lines if line.startswith("D "))
+    must(all(left[f"w{k}"] == len(lines) for k in range(count)), f"so many left: {left}")
+
+
 def to_the_end_of_the_clock(program: Program, count: int, links: int) -> None:
     """Full buffers at the latest time of a list, in so many switches: a cable's last frames leave
     when the clock has ended, and arrive nowhere."""
@@ -263,6 +283,7 @@ def program_cases(program: Program) -> list[tuple]:
         *((row.name, row_is_told, program, row) for row in (*REPLAYS, *SENDS)),
         ("beginnings of a list", all_beginnings, program, two, spelled(f"# a / {lines}")),
         ("a list of the other kind", other_kind_of_list, program.apart(), two),
+        ("each length over three switches", each_length, program, 3),
         ("24 switches in a row", large_alike, program, lambda: in_a_row(24), True),
         ("23 switches around one", large_alike, program, lambda: around_one(23), True),
         ("24 switches in a ring", large_alike, program, lambda: in_a_ring(24), True),
