@@ -133,10 +133,9 @@ class RecordedSwitch:
     def stamp(self, is_left: bool, side: str, port: int, moment: int) -> int:
         """The stamp of a moment; those of a line don't go back."""
         line, off = (is_left, side, port), self.off_by(self.options.slack)
-        if is_left and self.ahead is None:
-            off += self.off_by(self.options.between)
-        elif is_left:
-            off += self.ahead
+        if is_left:
+            apart = self.options.between
+            off += self.off_by(apart) if self.ahead is None else self.ahead
         self.stamps[line] = max(self.stamps[line], moment + off)
         return self.stamps[line]
 
