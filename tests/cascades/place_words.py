@@ -162,14 +162,21 @@ def fault_order(program: Program) -> None:
 
 
 def explained(program: Program) -> None:
-    """What such a fault means is what `explain` says of its line."""
+    """What such a fault means is what `explain` says of its line; then comes why the configuration
+    hasn't the place."""
     program = with_files(program)
     meant = program.run("explain", "words", "BadInterface")
     answers(meant, 0, None, b"")
-    for place, config in (("A mid", "two.toml"), ("A:1", "two.toml"), ("A fwd", "base.toml")):
+    tries = (
+        ("A mid", "two.toml", "CONFIG has no switch of this name"),
+        ("A:1", "two.toml", "a port needs the name of its switch"),
+        ("A fwd", "base.toml", "CONFIG describes one switch a side"),
+    )
+    for place, config, why in tries:
         found = program.run("list", "--explain", f"--interface=0={place}", config, "a")
         must(found.status == 2, f"status {found.status}")
-        same_text("standard error", BAD[2] + meant.out, found.err)
+        cause = f"--interface '0={place}': {why}.\n".encode()
+        same_text("standard error", BAD[2] + meant.out + cause, found.err)
 
 
 def any_words(program: Program, seed: int) -> None:

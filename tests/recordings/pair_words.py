@@ -163,7 +163,7 @@ def not_admitted(program: Program, paths: list[str]) -> None:
 
 def explained(program: Program, row: PairRow) -> None:
     """A fault with what it means, which is what `explain` says of its line, and of the same of one
-    recording."""
+    recording; and which of the two has it."""
     program, case = with_base(program.apart()), pair_case(row)
     paths = [program.write(name, data) for name, data in zip("AB", case.pair)]
     found = program.run(*case.command.words, *case.options.words(), "--explain", *paths)
@@ -171,7 +171,8 @@ def explained(program: Program, row: PairRow) -> None:
     answers(meant, 0, None, b"")
     must(found.status == 3, f"status {found.status}")
     line = f"recording {row.fault}\n".encode()
-    same_text("standard error", line + meant.out, found.err)
+    path = paths["AB".index(row.fault[-1])]
+    same_text("standard error", line + meant.out + f"{path}\n".encode(), found.err)
 
 
 def explained_devices(program: Program, paths: list[str]) -> None:
@@ -185,14 +186,17 @@ def explained_devices(program: Program, paths: list[str]) -> None:
 
 
 def explained_words(program: Program, paths: list[str]) -> None:
-    """What the faults of words mean is known."""
+    """What the faults of words mean is known, and which word is wrong."""
+    twice = b"--interface '0=-': the interface was named before.\n"
     tries = {"BadInterface": ["--interface=0=A", "--interface=0=-", *paths]}
     tries |= {"BadNumber": [LATE, *paths], "SameInput": ["-", "-"]}
     for name, words in tries.items():
         meant = program.run("explain", "words", name)
         answers(meant, 0, None, b"")
         found = program.run("replay", "--explain", "base.toml", *words)
-        same_text("standard error", b"words %s\n" % name.encode() + meant.out, found.err)
+        line = b"words %s\n" % name.encode()
+        cause = twice if name == "BadInterface" else b""
+        same_text("standard error", line + meant.out + cause, found.err)
 
 
 def faulty_rows() -> list[PairRow]:

@@ -223,14 +223,14 @@ def not_admitted(program: Program) -> None:
 
 
 def explained(program: Program, row: Row) -> None:
-    """A fault with what it means, as `explain` has it."""
+    """A fault with what it means, as `explain` has it, and the path of the recording."""
     path, words = path_of(program, row.bytes()), case_of(row).run_words()
     meant = program.run("explain", "recording", *row.fault.split())
     answers(meant, 0, None, b"")
     found = program.run(*words, "--explain", path)
     must(found.status == 3, f"status {found.status}")
     line = f"recording {row.fault}\n".encode()
-    same_text("standard error", line + meant.out, found.err)
+    same_text("standard error", line + meant.out + f"{path}\n".encode(), found.err)
 
 
 def explained_cases(program: Program) -> list[tuple]:
