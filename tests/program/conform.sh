@@ -180,11 +180,20 @@ tell 'conform without standard input' "$(
     differs 'standard output' '' "$work/out"
     differs 'standard error' $'device Read\n' "$work/err"
 )"
+its_end='To end this run stop what writes its input, not afdx: the last line is the verdict.'
+tell 'a person who waits for conform is told how it ends' "$(
+    python3 tests/lib/on_terminal.py "$program" conform --line-buffered "$rules" "${lists[0]}" - \
+        <"${lists[1]}" >"$work/person" || [[ $? -eq 5 ]]
+    differs 'the terminal' "$its_end"$'\n' "$work/person"
+    python3 tests/lib/on_terminal.py "$program" conform "$rules" "${lists[@]}" \
+        >"$work/person" || [[ $? -eq 5 ]]
+    differs 'the terminal, of files' '' "$work/person"
+)"
 tell 'a person who waits for conform is told how much was read' "$(
     { python3 tests/lib/on_terminal.py --slowly 120 "$program" conform --progress "$rules" \
         "${lists[0]}" - <"${lists[1]}" || [[ $? -eq 5 ]]; } | tr '\r\033' '<e' >"$work/person"
     told='<e[K0 MiB read' # once or, on a busy machine, more often
-    if [[ $(<"$work/person") != "$told"*'<e[K' ]]; then
+    if [[ $(<"$work/person") != "$its_end"*"$told"*'<e[K' ]]; then
         echo "told: $(<"$work/person")"
     fi
 )"

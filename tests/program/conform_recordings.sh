@@ -89,6 +89,45 @@ case_of 'conform: stamps of starts' 0 "$(seen conforms 1 0 0 0 3)"$'\n' '' \
 case_of 'conform: stamps of starts where frames came' 0 "$(seen conforms 1 0 0 0 3)"$'\n' '' \
     conform "${here[@]}" --stamps start-end "$rules" "$work/late"
 
+# ---- two without options -------------------------------------------------------------------------
+
+for bytes in a1b2c3d4 d4c3b2a1 a1b23c4d 4d3cb2a1 0a0d0d0a; do
+    printf '%b' "\\x${bytes:0:2}\\x${bytes:2:2}\\x${bytes:4:2}\\x${bytes:6:2}" >"$work/begins"
+    two_lists 'F 0 A 1 H1' 'F 6720 A 3 H1'
+    case_of "conform: what came begins with $bytes, without options" 2 '' \
+        $'words BadInterface\n' conform "$rules" "$work/begins" "${lists[1]}"
+    case_of "conform: what left begins with $bytes, without options" 2 '' \
+        $'words BadInterface\n' conform "$rules" "${lists[0]}" "$work/begins"
+    head -c 3 "$work/begins" >"$work/short"
+    case_of "conform: three bytes of $bytes are a list" 3 '' $'list came BadLine 1\n' \
+        conform "$rules" "$work/short" "${lists[1]}"
+done
+for bytes in 1f8b0800 28b52ffd 425a6839 fd377a58 504b0304; do
+    printf '%b' "\\x${bytes:0:2}\\x${bytes:2:2}\\x${bytes:4:2}\\x${bytes:6:2}" >"$work/begins"
+    case_of "conform: what came is packed as $bytes, without options" 3 '' \
+        $'recording Packed came\n' conform "$rules" "$work/begins" "$work/both"
+    case_of "conform: what left is packed as $bytes, without options" 3 '' \
+        $'recording Packed left\n' conform "$rules" "${lists[0]}" "$work/begins"
+done
+for option in interface left; do
+    tell "conform: the explanation names --$option, which recordings need" "$(
+        both=("$work/came" "${lists[1]}")
+        if [[ $option == left ]]; then both=("${lists[0]}" "$work/came"); fi
+        "$program" conform --explain "$rules" "${both[@]}" >"$work/out" 2>"$work/err" || true
+        grep -q -- "There is no --$option, and recordings" "$work/err" || cat "$work/err"
+    )"
+done
+input=$work/came
+case_of 'conform: a recording by standard input, without options' 2 '' $'words BadInterface\n' \
+    conform "$rules" "${lists[0]}" -
+input=/dev/null
+fault_case 'two recordings without options, before a wrong configuration' 2 'words BadInterface' \
+    "$wrong" "$work/came" "$work/left"
+fault_case 'a number, before two recordings without options' 2 'words BadNumber' \
+    --slack 1000001 "$rules" "$work/came" "$work/left"
+fault_case 'one that cannot be read, before a wrong configuration' 4 'device Read' \
+    "$wrong" / "$work/left"
+
 # ---- what was left out, and what was lost --------------------------------------------------------
 
 case_of 'conform --summary of one recording' 0 "$right$(skipped_line 0 0 0 0 0)"$'\n' '' \

@@ -123,14 +123,15 @@ impl<'a> Streams<'a> {
         if !is_heard(tables, taps, heading.side, link) {
             return Ok(());
         }
+        let bytes = CheckedBytes::of(&mut self.spare, frame)?;
         for rank in 0..tables.link(link).to.len() {
             let system = receiver(tables, link, rank);
             if !is_seen(tables, taps, heading.side, system) {
                 continue;
             }
-            let bytes = CheckedBytes::of(&mut self.spare, frame)?;
+            let share = bytes.share()?;
             let kept = &mut self.kept;
-            come_to(alloc, tables, leeway, kept, link, system, n, heading, bytes)?;
+            come_to(alloc, tables, leeway, kept, link, system, n, heading, share)?;
         }
         Ok(())
     }

@@ -1,21 +1,29 @@
 //! The command `conform`: its devices, and how it ends.
 
-use crate::running::{cause_in, open, output_room, refuse};
+use crate::beginnings::{NoList, look_at_both};
+use crate::running::{cause_in, failed_of, open, output_room, refuse};
 use afdx_acceptance::{ByRole, Choices, Judged, Leeway, conform};
 use afdx_commands::status::DONE;
 use afdx_console::{
     Cause, Cleared, Count, Counted, Heard, Input, Traced, error_lines, explain_if_asked, is_told,
-    memory, name_of_input,
+    memory,
 };
 use afdx_frame::BySide;
 use afdx_inputs::{AsLists, SeenCount};
-use afdx_replay::{Output, RunFault, Tally, Watched, finish};
+use afdx_lists::Role;
+use afdx_replay::{Output, Peeked, RunFault, Tally, Watched, finish};
 use afdx_text::{WholeLines, tell_fault};
-use afdx_words::{Refused, STANDARD_INPUT, conform_options, seen_options, seen_pair_options};
+use afdx_words::{
+    BadPlace, Refused, STANDARD_INPUT, conform_options, seen_options, seen_pair_options,
+};
 use clap::ArgMatches;
 use std::alloc::Global;
 use std::io;
-use std::io::Write;
+use std::io::{IsTerminal, Write};
+
+/// How a run ends whose input comes as it is recorded.
+const ITS_END: &str = "\
+To end this run stop what writes its input, not afdx: the last line is the verdict.";
 
 /// What the words ask for, if their numbers are in range.
 fn choices_in<'a>(alloc: Global, matches: &ArgMatches<'a>) -> Result<Choices, Refused<'a>> {
@@ -114,6 +122,7 @@ fn judge_one(
     let Ok(mut output) = Output::new(rt.alloc(), output_room(rt, matches), device) else {
         return Err(memory(rt));
     };
+    tell_its_end(rt, word);
     let told = is_told(rt, matches);
     let count = Count::new(rt, told);
     let mut input = Watched::new(Traced::new(Counted::new(&count, input)));
@@ -128,12 +137,32 @@ fn judge_one(
         &mut output,
         &mut errors,
     );
-    let read = Cause {
-        config,
-        path: name_of_input(word),
-        reason: input.into_inner().reason(),
-    };
+    let read = cause_in(config, word, input.into_inner());
     Ok(end_judged(rt, matches, judged, read, output, errors))
+}
+
+/// The recording of this role is given, and no option says where its interfaces were.
+fn unsaid<'a>(role: Role) -> Refused<'a> {
+    Refused::BadInterface(BadPlace::Absent(match role {
+        Role::Came => "interface",
+        Role::Left => "left",
+    }))
+}
+
+/// It ended by a fault before anything was judged, which is told.
+fn ended_by<E: Write>(fault: &RunFault, errors: &mut Watched<E>) -> Judged {
+    tell_fault(errors, fault);
+    Judged {
+        status: fault.status(),
+        count: None,
+    }
+}
+
+/// Says on a terminal how the run ends, if it reads standard input.
+fn tell_its_end(rt: &HostRuntime, word: &str) {
+    if word == STANDARD_INPUT && rt.stderr().is_terminal() {
+        let _ = eprintln!(rt; "{ITS_END}");
+    }
 }
 
 /// Judges a switch by two inputs, of what came and of what left: two lists or two recordings.
@@ -150,17 +179,23 @@ fn judge_two(
     let Ok(mut output) = Output::new(rt.alloc(), output_room(rt, matches), device) else {
         return Err(memory(rt));
     };
+    tell_its_end(rt, words.came);
+    tell_its_end(rt, words.left);
     let told = is_told(rt, matches);
     let count = Count::new(rt, told);
     let mut inputs = ByRole {
-        came: Watched::new(Traced::new(Counted::new(&count, inputs.came))),
-        left: Watched::new(Traced::new(Counted::new(&count, inputs.left))),
+        came: Watched::new(Peeked::new(Traced::new(Counted::new(&count, inputs.came)))),
+        left: Watched::new(Peeked::new(Traced::new(Counted::new(&count, inputs.left)))),
     };
     let mut errors = Watched::new(Heard::new(Cleared::new(rt, told, error_lines(rt))));
     let (alloc, switch) = (rt.alloc(), matches.get_str("switch"));
     let (ins, outs, faults) = (&mut inputs, &mut output, &mut errors);
     let judged = match options {
-        None => conform(alloc, &choices, switch, AsLists, config, ins, outs, faults),
+        None => match look_at_both(ins) {
+            Ok(()) => conform(alloc, &choices, switch, AsLists, config, ins, outs, faults),
+            Err(NoList::Recording(role)) => return Err(refuse(rt, matches, unsaid(role))),
+            Err(NoList::Fault(fault)) => ended_by(&fault, faults),
+        },
         Some(options) => conform(alloc, &choices, switch, options, config, ins, outs, faults),
     };
     let names = BySide {
@@ -168,7 +203,8 @@ fn judge_two(
         b: words.left,
     };
     let ByRole { came, left } = inputs;
-    let read = cause_in(config, names, BySide { a: came, b: left });
+    let (word, device) = failed_of(names, BySide { a: came, b: left });
+    let read = cause_in(config, word, device.into_inner());
     Ok(end_judged(rt, matches, judged, read, output, errors))
 }
 

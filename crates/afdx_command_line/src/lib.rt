@@ -1,6 +1,7 @@
 //! The commands of the program: their files and streams.
 #![tactic(auto)]
 
+mod beginnings;
 mod commands;
 mod configs;
 mod conforming;

@@ -224,6 +224,26 @@ fn run_over<P: Placing + Drop, A: Recordings<P>, O: Sink, E: Write>(
     }
 }
 
+/// Of two inputs that which failed, else the first, with the word that names it. Behind a failure
+/// neither is read, so at most one has failed.
+pub fn failed_of<'a, R: Drop>(lists: BySide<&'a str>, inputs: BySide<Watched<R>>) -> (&'a str, R) {
+    let BySide { a, b } = inputs;
+    if b.failed() {
+        (lists.b, b.into_inner())
+    } else {
+        (lists.a, a.into_inner())
+    }
+}
+
+/// Why reading the input failed that this word names, if it did.
+pub fn cause_in<'a, R: Drop>(config: &'a [u8], list: &'a str, device: Traced<R>) -> Cause<'a> {
+    Cause {
+        config,
+        path: name_of_input(list),
+        reason: device.reason(),
+    }
+}
+
 /// Makes the run over what an input gives, which the word `list` names, and hands all its lines to
 /// standard output.
 fn run_one(
@@ -247,32 +267,8 @@ fn run_one(
     let mut input = Watched::new(Peeked::new(device));
     let mut errors = Watched::new(Heard::new(Cleared::new(rt, told, error_lines(rt))));
     let ended = run_over(rt, run, options, &mut input, &mut output, &mut errors);
-    let read = Cause {
-        config: run.config(),
-        path: name_of_input(list),
-        reason: input.into_inner().into_inner().reason(),
-    };
+    let read = cause_in(run.config(), list, input.into_inner().into_inner());
     end_run(rt, matches, ended, read, output, errors)
-}
-
-/// Why reading failed, if it did, and of which input. Behind a failure neither is read, so at most
-/// one has failed.
-pub fn cause_in<'a, R: Drop>(
-    config: &'a [u8],
-    lists: BySide<&'a str>,
-    inputs: BySide<Watched<Traced<R>>>,
-) -> Cause<'a> {
-    let BySide { a, b } = inputs;
-    let (list, input) = if b.failed() {
-        (lists.b, b)
-    } else {
-        (lists.a, a)
-    };
-    Cause {
-        config,
-        path: name_of_input(list),
-        reason: input.into_inner().reason(),
-    }
 }
 
 /// Makes the run over what two inputs give, which these words name, and hands all its lines to
@@ -300,7 +296,8 @@ fn run_two(
     };
     let mut errors = Watched::new(Heard::new(Cleared::new(rt, told, error_lines(rt))));
     let ended = run_over(rt, run, options, &mut inputs, &mut output, &mut errors);
-    let read = cause_in(run.config(), lists, inputs);
+    let (list, device) = failed_of(lists, inputs);
+    let read = cause_in(run.config(), list, device);
     end_run(rt, matches, ended, read, output, errors)
 }
 

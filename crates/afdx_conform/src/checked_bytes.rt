@@ -10,6 +10,7 @@ use crate::spare::Spare;
 use afdx_frame::{Checked, Seal, fcs};
 use std::alloc::AllocError;
 use std::marker::Model;
+use std::rc::Rc;
 
 /// Whether the bytes are this message and the complement of its check sequence.
 #[cold]
@@ -52,10 +53,17 @@ fn is_sealed_alike(seal: Seal, other: Seal) -> bool
     seal == other
 }
 
-/// The bytes of a frame, kept as its message and its seal.
+/// The bytes of a message that may be shared.
+fn bytes_in(message: &Rc<Vec<u8>>) -> &[u8]
+    ensures { result.now ≡ message.now.value.items }
+{
+    message.as_ref().as_slice()
+}
+
+/// The bytes of a frame, kept as its message and its seal. All that share them have one copy.
 #[derive(Debug, Drop)]
 pub struct CheckedBytes {
-    message: Vec<u8>,
+    message: Rc<Vec<u8>>,
     seal: Seal,
 }
 
@@ -66,10 +74,10 @@ impl Model for CheckedBytes {
 
     ghost Value = { List ℕ };
 
-    ghost view = { λ kept. whole kept.seal kept.message.items };
+    ghost view = { λ kept. whole kept.seal kept.message.value.items };
 
     ghost invariant = { λ kept.
-        IsSealedAs kept.seal kept.message.items × AreBytes kept.message.items };
+        IsSealedAs kept.seal kept.message.value.items × AreBytes kept.message.value.items };
 }
 
 impl CheckedBytes {
@@ -85,6 +93,16 @@ impl CheckedBytes {
         })
     }
 
+    /// The same bytes, which are not copied. Fails only out of memory.
+    pub fn share(&self) -> Result<CheckedBytes, AllocError>
+        ensures { IfOk result (λ share. share ≡ self.now) }
+    {
+        Ok(CheckedBytes {
+            message: self.message.clone()?,
+            seal: self.seal,
+        })
+    }
+
     /// They are forgotten: their memory is for others.
     pub(crate) fn give_back(self, spare: &mut Spare) {
         let CheckedBytes { message, seal: _ } = self;
@@ -96,7 +114,7 @@ impl CheckedBytes {
         ensures { bytes_of result ≡ self.now }
     {
         Checked {
-            message: self.message.as_slice(),
+            message: bytes_in(&self.message),
             seal: self.seal,
         }
     }
@@ -112,7 +130,7 @@ impl CheckedBytes {
     pub(crate) fn key(&self) -> &[u8]
         ensures { result.now ≡ key_of self.now }
     {
-        let message = self.message.as_slice();
+        let message = bytes_in(&self.message);
         match self.seal {
             Seal::Right => message,
             Seal::Wrong => message,
@@ -132,7 +150,7 @@ impl CheckedBytes {
     pub fn is_same(&self, other: &CheckedBytes) -> bool
         ensures { result ≡ bytes_eq self.now other.now }
     {
-        let (message, others) = (self.message.as_slice(), other.message.as_slice());
+        let (message, others) = (bytes_in(&self.message), bytes_in(&other.message));
         if is_sealed_alike(self.seal, other.seal) {
             return message == others;
         }

@@ -17,7 +17,7 @@ mod packet;
 mod recorded;
 mod stamp;
 
-pub use beginning::is_recording;
+pub use beginning::{is_packed_file, is_recording};
 pub use frame_reader::FrameReader;
 pub use known::MOST_INTERFACES;
 pub use recorded::{CheckSequence, Recorded, RecordedFrame, Stamp};

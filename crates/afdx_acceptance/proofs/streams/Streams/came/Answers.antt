@@ -101,8 +101,8 @@ loop-rank-preserved c = record {
       (fresh-port t link row rank s c.link.ensures.lawful at is lt)) in
       let sees : c'.taps Left h.side (port_of t s) ≡ true =
       ap (λ (p : Taps). p Left h.side (port_of t s)) (sym taps) ∙ sym c.is_seen.ensures ∙ c.if-not-is_seen.false in
-      let from : arrival_with c.args.n h.time h.side h.port c.in_ok-bytes.bytes ≡ x =
-      ap (λ b. arrival_with c.args.n h.time h.side h.port b) c.in_ok-bytes.ensures in
+      let from : arrival_with c.args.n h.time h.side h.port c.in_ok-share.share ≡ x =
+      ap (λ b. arrival_with c.args.n h.time h.side h.port b) (c.in_ok-share.ensures ∙ c.in_ok-bytes.ensures) in
       come-next t c' until time h.side link row rank s x given lines c.come_to.new.kept c.link.ensures.lawful at is lt sees k.falling
       (subst (λ (y : Arrival). AreKept t c' until None time (with_came key y before) lines c.come_to.new.kept) from
       (c.in_ok-come_to.ensures c' until time before lines row at (any-in row.to rank s is lt) by le start
