@@ -11,7 +11,7 @@ from conform_claims import Judge, pair_of
 from first_fault import LATEST
 from frames import frame_of
 from one_switch import MS
-from program import Answer, Program, answers
+from program import Answer, Program, answers, least_room, must
 from rows import CONFIGS, ROWS, list_of
 from small_cases import Pair
 
@@ -191,6 +191,32 @@ def largest_tables(judge: Judge) -> None:
     answers(judge.answer(pair), 5, (told + last).encode(), b"")
 
 
+def held_room(program: Program, receivers: int, count: int) -> int:
+    """The least address space, in KiB, in which so many of the longest frames of a link are held
+    until the end, for so many receivers."""
+    systems = [made.system_of(port, 1000) for port in range(1, 2 + receivers)]
+    link = made.largest_tables()["link"][0] | {"lmax": 1518, "latency_us": 100_000}
+    link |= {"to": [system["name"] for system in systems[1:]], "skew_us": 100_000}
+    tables = {"profile": 2, "buffer": 524288, "system": systems, "link": [link], "port": []}
+    frame = frame_of(systems[0], link["vl"], 1000, b"x" * 1471, 0, "A").hex()
+    came = "".join(f"R {place} A 1 {frame}\n" for place in range(count))
+    files = [program.write(name, text) for name, text in (
+        ("held.toml", made.text_of(tables)), ("held.came", came.encode()), ("held.left", b""))]
+    words = "conform", "--until", str(count), *files
+    found = program.run(*words)
+    last = b" open %d uncertain 0 left-out 0 unseen 0 idle %d\n" % (receivers, 2 * receivers)
+    must(found.out.endswith(last), f"the answer is {found}")
+    return least_room(lambda room: program.run_limited(room, *words) == found)
+
+
+def held_once(program: Program, count: int) -> None:
+    """A frame that is held for 23 receivers takes the room of one, and a little for each."""
+    program = program.apart()
+    one, all_of_them = (held_room(program, receivers, count) for receivers in (1, 23))
+    beside = (all_of_them - one) * 1024 // count
+    must(beside < 23 * 400, f"beside one a frame takes {beside} bytes more for 22 others")
+
+
 def largest_numbers(judge: Judge, seed: int) -> None:
     """The greatest times and options."""
     chance = random.Random(seed)
@@ -234,5 +260,6 @@ def hostile_lists(program: Program) -> Iterator[tuple]:
     for seed in range(4):
         yield f"conform: out of order, {seed}", out_of_order, judge, seed
     yield "conform: the largest tables", largest_tables, judge
+    yield "conform: a frame is held once for all receivers", held_once, program, 4_000
     yield "conform: many have begun", many_begun, judge
     yield "conform: many states", many_states, judge
