@@ -19,6 +19,9 @@
   scripts have at most 100 columns, those of proofs at most 140; imports and what is to be unfolded
   may be wider, what bin/pages prints into a script, and the tables of numbers in
   afdx_frame/src/tables.rt.
+- A clause has at most 400 characters and eight lines, a function takes at most six values beside
+  `self` and has at most 40 lines, a line of a proof has at most 120 columns. Where there still are
+  others, there are just as many as is said here (LARGE); fewer are to be said, too.
 
 Prints a line for each fault, then `N passed, M failed`; ends with status 1 if there is one.
 """
@@ -32,6 +35,7 @@ sys.path.insert(0, str(TOP / "tests" / "lib"))
 
 import closed_lists as lists  # noqa: E402
 import links  # noqa: E402
+import sizes  # noqa: E402
 
 CRATES = TOP / "crates"
 DOCUMENTS = ["README.md", "docs/PROMISES.md", "docs/ARCHITECTURE.md", "docs/DEVELOPING.md"]
@@ -53,6 +57,8 @@ MEMORY = {
     "crates/afdx_end_systems/src/end_system.rt": {"pass_on"},
     "crates/afdx_text/src/line.rt": {"room_wanted"},
 }
+# how many are still larger than they may be
+LARGE = {"clauses": 49, "values": 26, "bodies": 5, "lines of proofs": 1526}
 OF_TWO_LISTS = ["list came n", "list left n"]  # n is the fault of that list
 SCRIPTS = ["tests/**/*.py", "tests/**/*.sh", "tests/**/*.c", "examples/*.py"]
 SCRIPTS += ["bench/*", "bin/*", "bin/printing/*.py", "bin/lib/*.sh"]
@@ -229,6 +235,36 @@ def headless() -> list[str]:
     ]
 
 
+def large() -> dict[str, list[str]]:
+    """What is larger than it may be, by its kind."""
+    found: dict[str, list[str]] = {kind: [] for kind in LARGE}
+    for path in sources("crates/*/src/**/*.rt"):
+        for function in sizes.functions_in(text_of(path)):
+            name = f"{path.relative_to(TOP)}: {function.name}"
+            found["clauses"] += [
+                f"{name}: {sizes.letters(clause)} characters"
+                for clause in function.clauses
+                if sizes.letters(clause) > 400 or sizes.lines_of(clause) > 8
+            ]
+            if function.values > 6:
+                found["values"].append(f"{name} takes {function.values} values")
+            if len(function.body) > 40:
+                found["bodies"].append(f"{name} has {len(function.body)} lines")
+    found["lines of proofs"] = wide_lines(120, "crates/*/proofs/**/*.antt")
+    return found
+
+
+def other_sizes() -> list[str]:
+    """The kinds of which there are more, or fewer, than is said."""
+    faults = []
+    for kind, names in large().items():
+        if len(names) != LARGE[kind]:
+            faults.append(f"{len(names)} {kind} are too large; LARGE says {LARGE[kind]}")
+        if len(names) > LARGE[kind]:
+            faults += names[:60]
+    return faults
+
+
 def main() -> int:
     checks = {
         "names in documents": wrong_names(),
@@ -244,6 +280,7 @@ def main() -> int:
         "columns of code": wide_lines(COLUMNS, "crates/*/src/**/*.rt"),
         "columns of proofs": wide_lines(PROOF_COLUMNS, "crates/*/proofs/**/*.antt"),
         "columns of scripts": wide_lines(COLUMNS, *SCRIPTS),
+        "sizes of clauses, functions and proofs": other_sizes(),
     }
     for name, faults in checks.items():
         print(f"{'FAILED' if faults else 'ok'} {name}")
