@@ -126,7 +126,7 @@ fault_case 'CAME before LEFT' 3 'list came BadLine 1' \
     "$rules" "$work/wrong.list" "$work/wrong.list"
 fault_case 'CAME that is a folder' 4 'device Read' "$rules" "$work" "$work/wrong.list"
 fault_case 'LEFT that is a folder' 4 'device Read' "$rules" /dev/null "$work"
-fault_case 'a recording' 3 'list came BadLine 1' "$rules" "$work/recorded" /dev/null
+fault_case 'a recording' 2 'words BadInterface' "$rules" "$work/recorded" /dev/null
 
 two=examples/two_switches.toml
 case_of 'conform of the switch fwd' 3 "$(judged undecided 0 0 0 0 4)"$'\n' '' \
@@ -191,9 +191,10 @@ tell 'a person who waits for conform is told how it ends' "$(
 )"
 tell 'a person who waits for conform is told how much was read' "$(
     { python3 tests/lib/on_terminal.py --slowly 120 "$program" conform --progress "$rules" \
-        "${lists[0]}" - <"${lists[1]}" || [[ $? -eq 5 ]]; } | tr '\r\033' '<e' >"$work/person"
+        "${lists[0]}" /dev/stdin <"${lists[1]}" || [[ $? -eq 5 ]]; } |
+        tr '\r\033' '<e' >"$work/person"
     told='<e[K0 MiB read' # once or, on a busy machine, more often
-    if [[ $(<"$work/person") != "$its_end"*"$told"*'<e[K' ]]; then
+    if [[ $(<"$work/person") != "$told"*'<e[K' ]]; then
         echo "told: $(<"$work/person")"
     fi
 )"

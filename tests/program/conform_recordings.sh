@@ -91,35 +91,42 @@ case_of 'conform: stamps of starts where frames came' 0 "$(seen conforms 1 0 0 0
 
 # ---- two without options -------------------------------------------------------------------------
 
+magic() { # HEX : a file of these bytes
+    local at
+    for ((at = 0; at < ${#1}; at += 2)); do printf '%b' "\\x${1:at:2}"; done >"$work/begins"
+}
+spelled 'F 0 A 1 H1' >"$work/came.list"
+spelled 'F 6720 A 3 H1' >"$work/left.list"
 for bytes in a1b2c3d4 d4c3b2a1 a1b23c4d 4d3cb2a1 0a0d0d0a; do
-    printf '%b' "\\x${bytes:0:2}\\x${bytes:2:2}\\x${bytes:4:2}\\x${bytes:6:2}" >"$work/begins"
-    two_lists 'F 0 A 1 H1' 'F 6720 A 3 H1'
+    magic "$bytes"
     case_of "conform: what came begins with $bytes, without options" 2 '' \
-        $'words BadInterface\n' conform "$rules" "$work/begins" "${lists[1]}"
+        $'words BadInterface\n' conform "$rules" "$work/begins" "$work/left.list"
     case_of "conform: what left begins with $bytes, without options" 2 '' \
-        $'words BadInterface\n' conform "$rules" "${lists[0]}" "$work/begins"
-    head -c 3 "$work/begins" >"$work/short"
-    case_of "conform: three bytes of $bytes are a list" 3 '' $'list came BadLine 1\n' \
-        conform "$rules" "$work/short" "${lists[1]}"
+        $'words BadInterface\n' conform "$rules" "$work/came.list" "$work/begins"
+    magic "${bytes:0:6}"
+    line=1
+    if [[ $bytes == 0a* ]]; then line=2; fi
+    case_of "conform: three bytes of $bytes are a list" 3 '' "list came BadLine $line"$'\n' \
+        conform "$rules" "$work/begins" "$work/left.list"
 done
 for bytes in 1f8b0800 28b52ffd 425a6839 fd377a58 504b0304; do
-    printf '%b' "\\x${bytes:0:2}\\x${bytes:2:2}\\x${bytes:4:2}\\x${bytes:6:2}" >"$work/begins"
+    magic "$bytes"
     case_of "conform: what came is packed as $bytes, without options" 3 '' \
         $'recording Packed came\n' conform "$rules" "$work/begins" "$work/both"
     case_of "conform: what left is packed as $bytes, without options" 3 '' \
-        $'recording Packed left\n' conform "$rules" "${lists[0]}" "$work/begins"
+        $'recording Packed left\n' conform "$rules" "$work/came.list" "$work/begins"
 done
 for option in interface left; do
     tell "conform: the explanation names --$option, which recordings need" "$(
-        both=("$work/came" "${lists[1]}")
-        if [[ $option == left ]]; then both=("${lists[0]}" "$work/came"); fi
+        both=("$work/came" "$work/left.list")
+        if [[ $option == left ]]; then both=("$work/came.list" "$work/left"); fi
         "$program" conform --explain "$rules" "${both[@]}" >"$work/out" 2>"$work/err" || true
         grep -q -- "There is no --$option, and recordings" "$work/err" || cat "$work/err"
     )"
 done
 input=$work/came
 case_of 'conform: a recording by standard input, without options' 2 '' $'words BadInterface\n' \
-    conform "$rules" "${lists[0]}" -
+    conform "$rules" "$work/came.list" -
 input=/dev/null
 fault_case 'two recordings without options, before a wrong configuration' 2 'words BadInterface' \
     "$wrong" "$work/came" "$work/left"
