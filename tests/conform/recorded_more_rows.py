@@ -44,7 +44,7 @@ WORD_ROWS = (
           (RIGHT, f"{K1} --interface 0=A --left 1=A:3"), (PAIR, f"{K1} {ALL_OF_A}"),
           (RIGHT, f"{K1} --interface '0=A k1:1' --left 1=A:3"),
           (RIGHT, f"{K1} --interface 0=A:1 --interface 2=B --left 1=A:3"))),
-    RecordedRow("recordings as lists", (PL + R(ZERO, H1), PL), "", "", "list came BadLine 1", ""),
+    RecordedRow("recordings as lists", (PL + R(ZERO, H1), PL), "", "", BAD, ""),
     RecordedRow("lists in recordings' place", (list_of("0", "came").hex(),
                                                list_of("6720", "left").hex()), "", "1/0/0/0", "",
                 "", 0),

@@ -10,6 +10,7 @@ from conform import BAD_NUMBER, NO_FRAME, Judging, Taken, conform, judged_tables
 from conform_terms import EXERCISED, Options, options_of
 from places import LEFT_OUT, interfaces, said
 from program import Answer
+from recorded import is_packed, is_recording
 from recorded_arrivals import BROKEN, SKIPS, Arrival, Look, Systems
 from recorded_arrivals import Options as Recorded
 from recorded_list import COUNTS, LATEST_TIME, MOST_LOST, Ends, Source, line_of
@@ -234,6 +235,16 @@ class Reads(NamedTuple):
 RIGHTLY = Reads()
 
 
+def refused_lists(data: tuple[bytes, ...]) -> Answer | None:
+    """What is answered where one of two lists begins as a recording or a packed file."""
+    for text, name in zip(data, NAMES):
+        if is_packed(text):
+            return Answer(3, b"", b"recording Packed %s\n" % name.encode())
+        if is_recording(text):
+            return Answer(2, b"", b"words BadInterface\n")
+    return None
+
+
 def conform_recordings(
     config: bytes,
     data: tuple[bytes, ...],
@@ -246,7 +257,9 @@ def conform_recordings(
     or of the one, the bytes are not all."""
     words, is_one = words_of(options), len(data) == 1
     if not is_one and not words.says_recorded():
-        return conform(config, data[0], data[1], words.of_lists())
+        if options_of(words.of_lists()) is None:
+            return BAD_NUMBER
+        return refused_lists(data) or conform(config, data[0], data[1], words.of_lists())
     if is_bad(words, is_one):
         return Answer(2, b"", b"words BadInterface\n")
     judged = words.options()
