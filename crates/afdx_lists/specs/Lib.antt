@@ -11,3 +11,4 @@ pub mod FrameLines
 pub mod SitedLines
 pub mod SubmissionLines
 pub mod FaultForms
+pub mod FaultTexts

@@ -1,6 +1,8 @@
 //! Laws over the definitions.
 
 ghost use Rattle.afdx_lists.specs.FaultForms.{TheRunForms, TheRecordingForms};
+ghost use Rattle.afdx_lists.specs.FaultTexts.{TheLinesOfOne, TheLinesOfTwo};
+ghost use Rattle.afdx_lists.specs.FaultTexts.{TheLinesOfRecordings, TheTextsOfLists};
 ghost use Rattle.afdx_lists.specs.Lines.{WholeLinesAreFirst};
 
 /// The whole lines of a beginning of some bytes are the first of all their lines.
@@ -18,4 +20,12 @@ pub fn run_forms_are()
 #[tactic(auto, unfolding(crate::specs::FaultForms::recording_forms))]
 pub fn recording_forms_are()
     ensures { TheRecordingForms }
+{}
+
+/// The lines of faults, word for word.
+pub fn fault_texts_are()
+    ensures of_one { TheLinesOfOne }
+    ensures of_two { TheLinesOfTwo }
+    ensures of_recordings { TheLinesOfRecordings }
+    ensures of_lists { TheTextsOfLists }
 {}

@@ -29,4 +29,4 @@ pub use role::{ByRole, Role};
 pub use sited_line::{ListedSwitch, read_sited_line};
 pub use splitting::first_field;
 pub use submission_line::{Handed, read_submission_line};
-pub use watched::Watched;
+pub use watched::{Told, Watched};

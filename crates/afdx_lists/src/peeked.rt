@@ -1,10 +1,10 @@
 //! A reader whose first bytes can be looked at before they are read.
 
-ghost use Rattle.std.specs.Prelude.{◌≤◌, ◌<◌, ◌≡◌, ◌+◌, take, length, IfSome, true, false};
+ghost use Rattle.std.specs.Prelude.{◌≤◌, ◌<◌, ◌≡◌, ◌+◌, ◌-◌, ◌⊎◌, take, length, IfSome, true, false};
 ghost use Rattle.std.specs.Io.KnownBytes.{Keeps, IsAtEnd};
 ghost use Rattle.afdx_lists.specs.Watching.{device_of, has_failed};
 
-use crate::watched::Watched;
+use crate::watched::{Asked, Watched};
 use std::io;
 use std::io::Read;
 
@@ -26,9 +26,7 @@ pub struct Peeked<R> {
 }
 
 impl<R: Read> Peeked<R> {
-    ghost use Rattle.afdx_lists.specs.Watching.{still_in};
-    ghost use Rattle.afdx_lists.specs.Peeking.{held, looked_at, is_untouched, left_in, has_broken};
-    ghost use Rattle.afdx_lists.specs.Peeking.{asked_of};
+    ghost use Rattle.afdx_lists.specs.Peeking.{held, is_untouched, left_in};
 
     /// A reader of which nothing was read.
     pub fn new(inner: R) -> Peeked<R>
@@ -48,30 +46,41 @@ impl<R: Read> Peeked<R> {
         self.inner.into_inner()
     }
 
-    /// How many reads its reader was asked for, up to the greatest `u64`.
-    fn calls(&self) -> u64
-        ensures { result ≡ asked_of self.now }
+    /// The bytes that are to be looked at, and that no read gave as yet.
+    pub fn seen(&self) -> &[u8]
+        ensures { result.now ≡ held self.now }
     {
-        self.inner.calls()
+        &self.first[self.start..self.end]
     }
+}
 
-    /// Reads its first four bytes, to be looked at, in at most four reads. Fewer: it has no more,
-    /// or failed after them, which is answered: true.
-    pub fn look(&mut self) -> bool
+impl<R: Asked> Peeked<R> {
+    ghost use Rattle.afdx_lists.specs.Watching.{still_in};
+    ghost use Rattle.afdx_lists.specs.Peeking.{held, looked_at, is_untouched, left_in, has_broken};
+    ghost use Rattle.afdx_lists.specs.Peeking.{IsAsked, is_at_end, reader_of};
+
+    /// Reads its first four bytes, to be looked at, and gives in how many reads. Fewer bytes: it has
+    /// no more, or failed after them.
+    fn look(&mut self) -> u64
         requires { is_untouched self.old }
         ensures left { Keeps (left_in R.remaining self.old) (left_in R.remaining self.new) }
-        ensures failed { result ≡ true → length (held self.new) < looked_at }
-        ensures broken { result ≡ has_broken self.new }
-        ensures asked { asked_of self.new ≤ asked_of self.old + looked_at }
-        ensures first { result ≡ false → IfSome (left_in R.remaining self.old)
+        ensures asked { IsAsked R.Once (reader_of self.old) result (reader_of self.new)
+            (has_broken self.new) }
+        ensures at_most { result ≤ looked_at }
+        ensures few { has_broken self.new ≡ true → length (held self.new) < looked_at }
+        ensures full { has_broken self.new ≡ false →
+            (length (held self.new) ≡ looked_at) ⊎ (is_at_end self.new ≡ true) }
+        ensures first { has_broken self.new ≡ false → IfSome (left_in R.remaining self.old)
             (λ bytes. held self.new ≡ take looked_at bytes) }
     {
+        let mut reads = 0_u64;
         while self.end < LOOKED_AT {
+            reads += 1;
             if !self.look_further() {
-                return self.inner.failed();
+                return reads;
             }
         }
-        false
+        reads
     }
 
     /// Reads once, behind what is held. False: there is no more, or it failed.
@@ -79,15 +88,18 @@ impl<R: Read> Peeked<R> {
         requires first { self.old.start ≡ 0 }
         requires few { self.old.end < looked_at }
         requires unbroken { has_broken self.old ≡ false }
+        requires unended { is_at_end self.old ≡ false }
         ensures first { self.new.start ≡ 0 }
         ensures seen { length (held self.new) ≡ self.new.end }
         ensures left { Keeps (left_in R.remaining self.old) (left_in R.remaining self.new) }
-        ensures asked { asked_of self.new ≤ asked_of self.old + 1 }
+        ensures once { R.Once (reader_of self.old) (reader_of self.new)
+            (looked_at - self.old.end) (has_broken self.new) }
         ensures more { result ≡ true → self.old.end < self.new.end }
         ensures whole { result ≡ true → has_broken self.new ≡ false }
+        ensures unended { result ≡ true → is_at_end self.new ≡ false }
         ensures none { result ≡ false → self.new.end ≡ self.old.end }
         ensures last { result ≡ false → has_broken self.new ≡ false →
-            IsAtEnd (still_in R.remaining self.new.inner) }
+            is_at_end self.new ≡ true × IsAtEnd (still_in R.remaining self.new.inner) }
     {
         let end = self.end;
         match self.inner.read(&mut self.first[end..]) {
@@ -98,29 +110,21 @@ impl<R: Read> Peeked<R> {
             Err(_) => false,
         }
     }
-
-    /// The bytes that are to be looked at, and that no read gave as yet.
-    pub fn seen(&self) -> &[u8]
-        ensures { result.now ≡ held self.now }
-    {
-        &self.first[self.start..self.end]
-    }
 }
 
-impl<R: Read> Watched<Peeked<R>> {
+impl<R: Asked> Watched<Peeked<R>> {
     ghost use Rattle.afdx_lists.specs.Peeking.{held, is_untouched, HasLooked};
 
-    /// Reads the first four bytes of its reader, to be looked at, as `Peeked::look` does. True: it
-    /// failed before the fourth, which is a read that failed: nothing is read any more.
+    /// Reads the first four bytes of its reader, to be looked at, in at most four reads. True: the
+    /// last of them failed, before the fourth byte, and nothing is read any more.
     pub fn look(&mut self) -> bool
         requires untouched { is_untouched (device_of self.old) }
         requires sound { has_failed self.old ≡ false }
-        ensures { HasLooked R.remaining self.old self.new result }
+        ensures { HasLooked R.remaining R.Once self.old self.new result }
     {
-        let asked = self.inner.calls();
-        self.failed = self.inner.look();
-        let reads = self.inner.calls().saturating_sub(asked);
+        let reads = self.inner.look();
         self.calls = self.calls.saturating_add(reads);
+        self.failed = self.inner.inner.failed();
         self.failed
     }
 

@@ -6,3 +6,4 @@ pub mod Sinks
 pub mod Telling
 pub mod Outputs
 pub mod WholeLines
+pub mod Flushing

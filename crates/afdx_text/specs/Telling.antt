@@ -2,6 +2,8 @@
 use Rattle.std.specs.Prelude.{ℕ, ◌≡◌, ◌++◌, false, true, List, Option, codes}
 use Rattle.std.specs.Io.KnownBytes.{Appends}
 use Rattle.afdx_lists.specs.Calls.{AppendsFront}
+use Rattle.afdx_lists.specs.FaultTexts.{fault_text}
+use Rattle.afdx_lists.specs.declared.fault.RunFault.{RunFault}
 use Rattle.afdx_lists.specs.declared.watched.Watched.{Watched}
 use Rattle.afdx_lists.specs.Watching.{device_of, has_failed}
 
@@ -14,6 +16,7 @@ pub record Tells {W : Type 0} (contents : W → Option (List ℕ))
   pub begun : AppendsFront (contents (device_of old)) (contents (device_of new)) text
   pub unasked : has_failed old ≡ true → new ≡ old
 
--- a text and a line feed were handed to it
-abbrev pub TellsLine : {W : Type 0} → (W → Option (List ℕ)) → Watched W → Watched W → Type 0
-TellsLine contents old new = (text : List ℕ) × Tells contents old new (text ++ codes "\n")
+-- the one line of this fault was handed to it
+abbrev pub TellsFault : {W : Type 0} → (W → Option (List ℕ)) → Watched W → Watched W → RunFault
+    → Type 0
+TellsFault contents old new fault = Tells contents old new (fault_text fault ++ codes "\n")

@@ -6,6 +6,7 @@
 mod check_lines;
 mod conform_line;
 mod digits;
+mod fault_line;
 mod kinds;
 pub mod laws;
 mod line;

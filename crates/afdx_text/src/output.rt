@@ -3,6 +3,8 @@
 ghost use Rattle.std.specs.Prelude.{◌≡◌, ◌≤◌, ◌+◌, [], Bool, OnOk, OnErr, IfOk, IfErr, false, true, is_err, nat_eq};
 ghost use Rattle.std.specs.Io.KnownBytes.{Appends, Keeps};
 ghost use Rattle.afdx_lists.specs.Calls.{AppendsFront, is_failed_write};
+ghost use Rattle.afdx_lists.specs.Watching.{has_failed};
+ghost use Rattle.afdx_text.specs.Flushing.{HandsOn};
 ghost use Rattle.afdx_text.specs.OutLines.{line_text};
 ghost use Rattle.afdx_text.specs.Outputs.{written, held_bytes, room_of, is_at_once};
 ghost use Rattle.afdx_text.specs.Outputs.{inner_device, device_has_failed};
@@ -12,7 +14,7 @@ use crate::line::OutLine;
 use crate::sink::Sink;
 use crate::text::Text;
 use crate::writing::hand_bytes;
-use afdx_lists::{RunFault, Watched};
+use afdx_lists::{RunFault, Told, Watched};
 use std::alloc::{AllocError, Global};
 use std::io::Write;
 
@@ -60,29 +62,11 @@ impl<W: Write + Drop> Output<W> {
         self.device.into_inner()
     }
 
-    /// Hands all that is held to the device, and flushes that. An error comes exactly where the
-    /// device has failed; one that failed before is not asked.
-    pub fn flush(&mut self) -> Result<(), RunFault>
-        ensures none_left { device_has_failed self.new ≡ false → held_bytes self.new ≡ [] }
-        ensures failed { device_has_failed self.new ≡ is_err result }
-        ensures fault { IfErr result (λ fault. fault ≡ RunFault.Write) }
-        ensures unasked { device_has_failed self.old ≡ true → self.new ≡ self.old }
-        ensures bytes { Keeps (written W.contents self.old) (written W.contents self.new) }
-    {
-        if self.failed() {
-            return Err(RunFault::Write);
-        }
-        self.hand_over()?;
-        match self.device.flush() {
-            Ok(()) => Ok(()),
-            Err(_) => Err(RunFault::Write),
-        }
-    }
-
     /// Hands all that is held to the device, which has not failed before.
     fn hand_over(&mut self) -> Result<(), RunFault>
         requires { device_has_failed self.old ≡ false }
         ensures none_left { OnOk result (held_bytes self.new ≡ []) }
+        ensures refused { OnErr result (has_failed self.new.device ≡ true) }
         ensures failed { device_has_failed self.new ≡ is_failed_write result }
         ensures fault { IfErr result (λ fault. fault ≡ RunFault.Write) }
         ensures bytes { Keeps (written W.contents self.old) (written W.contents self.new) }
@@ -130,6 +114,31 @@ impl<W: Write + Drop> Output<W> {
         }
         self.held.add(line);
         Ok(())
+    }
+}
+
+impl<W: Told + Drop> Output<W> {
+    /// Hands all that is held to the device, and then flushes that, and answers as it does. An
+    /// error comes exactly where the device has failed; one that failed before is not asked, and one
+    /// that fails to take what is held isn't flushed.
+    pub fn flush(&mut self) -> Result<(), RunFault>
+        ensures none_left { device_has_failed self.new ≡ false → held_bytes self.new ≡ [] }
+        ensures failed { device_has_failed self.new ≡ is_err result }
+        ensures fault { IfErr result (λ fault. fault ≡ RunFault.Write) }
+        ensures unasked { device_has_failed self.old ≡ true → self.new ≡ self.old }
+        ensures bytes { Keeps (written W.contents self.old) (written W.contents self.new) }
+        ensures handed_on { device_has_failed self.old ≡ false → has_failed self.new.device ≡ false →
+            HandsOn W.contents W.Flushed (written W.contents self.old) (inner_device self.new)
+            (is_err result) }
+    {
+        if self.failed() {
+            return Err(RunFault::Write);
+        }
+        self.hand_over()?;
+        match self.device.flush() {
+            Ok(()) => Ok(()),
+            Err(_) => Err(RunFault::Write),
+        }
     }
 }
 

@@ -1,20 +1,14 @@
 //! Faults are told, each in one line, without memory.
 
 ghost use Rattle.std.specs.Prelude.{decimal};
-ghost use Rattle.afdx_text.specs.Telling.{Tells, TellsLine};
+ghost use Rattle.afdx_text.specs.Telling.{Tells, TellsFault};
 
+use crate::fault_line::{LONGEST_LINE, put_fault};
 use crate::writing::write_text;
 use afdx_lists::{RunFault, Watched};
 use arrayvec::ArrayString;
 use itoa::Buffer;
-use std::fmt::InlineText;
 use std::io::Write;
-
-/// The most bytes of a fault's text: its longest word, and a number of 20 digits.
-const LONGEST_FAULT: usize = 48;
-
-/// The same with its line feed.
-const LONGEST_LINE: usize = 49;
 
 /// Hands a text to a device, or a beginning of it where that fails. A device that failed before is
 /// not asked.
@@ -37,11 +31,10 @@ pub fn tell_number<W: Write>(device: &mut Watched<W>, number: u64)
 /// Hands the one line of a fault to a device, in one write, or a beginning of it where that fails.
 /// A device that failed before is not asked.
 pub fn tell_fault<W: Write>(device: &mut Watched<W>, fault: &RunFault)
-    ensures { TellsLine W.contents device.old device.new }
+    ensures { TellsFault W.contents device.old device.new fault.now }
 {
-    let text = InlineText::<LONGEST_FAULT>::of(fault);
     let mut line = ArrayString::<LONGEST_LINE>::new();
-    line.push_str(text.as_str());
+    put_fault(&mut line, fault);
     line.push_str("\n");
     tell(device, line.as_str().as_bytes());
 }

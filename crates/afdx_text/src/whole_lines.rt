@@ -1,9 +1,10 @@
 //! Lines that go to a device whole, in however many pieces they come.
 
 ghost use Rattle.std.specs.Prelude.{◌≡◌, ◌≤◌, ◌+◌, ◌++◌, [], IfOk, OnErr, OnOk, Ok, false, true};
-ghost use Rattle.std.specs.Prelude.{length, take};
+ghost use Rattle.std.specs.Prelude.{is_err, length, take};
 ghost use Rattle.std.specs.Io.{WritesAtMost};
 ghost use Rattle.std.specs.Io.KnownBytes.{Appends, Keeps, WriteAppends, append_known};
+ghost use Rattle.afdx_text.specs.Flushing.{HandsOn};
 ghost use Rattle.afdx_text.specs.WholeLines.{Fits, OffersWhole, device_under, ends_line};
 ghost use Rattle.afdx_text.specs.WholeLines.{given, held_in};
 
@@ -63,6 +64,7 @@ impl<W: Offered> WholeLines<W> {
         ensures taken { IfOk result (λ n. Appends (W.contents (device_under self.old))
             (W.contents (device_under self.new)) (take (before + n) (held_in self.old))) }
         ensures none_left { IfOk result (λ n. held_in self.new ≡ []) }
+        ensures some_left { OnErr result (held_in self.new ≡ [] → ⊥) }
         ensures kept { OnErr result (Keeps (append_known (W.contents (device_under self.old))
             (take before (held_in self.old))) (given W.contents self.new)) }
         ensures whole { OffersWhole W.Took (device_under self.old) (device_under self.new)
@@ -83,6 +85,10 @@ impl<W: Offered> WholeLines<W> {
     fn empty(&mut self) -> io::Result<()>
         ensures bytes { Keeps (given W.contents self.old) (given W.contents self.new) }
         ensures none_left { OnOk result (held_in self.new ≡ []) }
+        ensures some_left { OnErr result (held_in self.new ≡ [] → ⊥) }
+        ensures whole { OnErr result
+            (OffersWhole W.Took (device_under self.old) (device_under self.new)
+            (held_in self.old)) }
     {
         if self.held.is_empty() {
             return Ok(());
@@ -121,8 +127,18 @@ impl<W: Offered> Write for WholeLines<W> {
         self.hand_over(before)
     }
 
-    fn flush(&mut self) -> io::Result<()> {
+    /// Hands over what is held, and then flushes the device, and answers as that does. Where some
+    /// of what is held isn't taken, that is an error, and the device isn't flushed.
+    fn flush(&mut self) -> io::Result<()>
+        ensures bytes { Keeps (given W.contents self.old) (given W.contents self.new) }
+        ensures handed_on { held_in self.new ≡ [] →
+            HandsOn W.contents W.Flushed (given W.contents self.old) (device_under self.new)
+            (is_err result) }
+        ensures refused { (held_in self.new ≡ [] → ⊥) → (is_err result ≡ true)
+            × OffersWhole W.Took (device_under self.old) (device_under self.new)
+            (held_in self.old) }
+    {
         self.empty()?;
-        self.device.flush()
+        self.device.hand_on()
     }
 }

@@ -1,13 +1,14 @@
 use Rattle.std.proofs.Common.{◌≡◌, List, ℕ, ◌++◌, ◌∙◌, ap, subst}
 use Rattle.std.specs.Prelude.{codes}
+use Rattle.afdx_lists.specs.FaultTexts.{fault_text}
 use Rattle.afdx_text.specs.Telling.{Tells}
 use Rattle.afdx_text.proofs.telling.tell_fault.Goals as goal
 
 pub returns : goal.returns
 returns g c =
-    let text : List ℕ = c.as_str.result.now in
+    let text : List ℕ = fault_text c.args.fault.now in
     let line : c.as_bytes.result.now ≡ text ++ codes "\n" =
-    c.as_bytes.ensures.value ∙ c.as_str-2.ensures.value ∙ c.push_str-2.ensures.bytes
-    ∙ ap (λ (l : List ℕ). l ++ codes "\n") (c.push_str.ensures.bytes
+    c.as_bytes.ensures.value ∙ c.as_str.ensures.value ∙ c.push_str.ensures.bytes
+    ∙ ap (λ (l : List ℕ). l ++ codes "\n") (c.put_fault.ensures.text
     ∙ ap (λ (l : List ℕ). l ++ text) c.new-line.ensures) in
-    (text, subst (Tells g.W.Write.contents c.args.device.now c.tell.new.device) line c.tell.ensures)
+    subst (Tells g.W.Write.contents c.args.device.now c.tell.new.device) line c.tell.ensures

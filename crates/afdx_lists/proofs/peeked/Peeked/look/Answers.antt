@@ -1,4 +1,4 @@
-use Rattle.std.proofs.Common.{arith, inr}
+use Rattle.std.proofs.Common.{arith, inr, refl}
 use Rattle.std.proofs.KnownBytes.{Keeps-refl}
 use Rattle.afdx_lists.specs.Peeking.{held}
 use Rattle.afdx_lists.proofs.PeekLemmas.{held-first, none-seen}
@@ -10,7 +10,9 @@ loop-self-init g c = record {
   first = omega (arith, c.requires.0, c.args.self.now.ordered);
   seen = none-seen _ _ _ c.requires.0;
   whole = c.requires.1;
-  asked = omega (arith, c.requires.0);
+  unended = c.requires.2;
+  at_most = omega arith;
+  asked = (refl, refl);
   left = Keeps-refl _;
 }
 

@@ -1,6 +1,6 @@
-use Rattle.std.proofs.Common.{◌-◌, ◌+◌, ◌≤◌, ◌≡◌, length, false}
+use Rattle.std.proofs.Common.{◌-◌, ◌≤◌, ◌≡◌, length, false}
 use Rattle.std.specs.Io.KnownBytes.{Keeps}
-use Rattle.afdx_lists.specs.Peeking.{held, left_in, has_broken, asked_of}
+use Rattle.afdx_lists.specs.Peeking.{held, left_in, has_broken, is_at_end, reader_of, IsAsked}
 use Rattle.afdx_lists.proofs.peeked.Peeked.look.Given as goal
 
 abbrev pub invariant-loop-self : goal.invariant-loop-self
@@ -8,7 +8,9 @@ invariant-loop-self g l = record {
   first : l.self.start ≡ 0;
   seen : length (held l.self) ≡ l.self.end;
   whole : has_broken l.self ≡ false;
-  asked : asked_of l.self ≤ asked_of l.initial.self + l.self.end;
+  unended : is_at_end l.self ≡ false;
+  at_most : l.reads ≤ l.self.end;
+  asked : IsAsked g.R.Asked.Once (reader_of l.initial.self) l.reads (reader_of l.self) false;
   left : Keeps (left_in g.R.Read.remaining l.initial.self) (left_in g.R.Read.remaining l.self);
 }
 
