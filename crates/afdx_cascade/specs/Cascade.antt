@@ -1,9 +1,10 @@
 -- What the switches of a cascade have to do with the events so far.
-use Rattle.std.specs.Prelude.{◌≡◌, ℕ, ◌≤◌, true, List, [], ◌∷◌, Some, length, slice_get}
+use Rattle.std.specs.Prelude.{◌≡◌, ℕ, ◌≤◌, true, List, [], ◌∷◌, Some, None, length, slice_get}
 use Rattle.std.specs.List.{AllByRecursion}
 use Rattle.afdx_police.specs.Arrival.{Arrival}
 use Rattle.afdx_port.specs.Times.{drain_end}
 use Rattle.afdx_switch.specs.Departures.{as_given}
+use Rattle.afdx_switch.specs.Verdicts.{shape_fault}
 use Rattle.afdx_switch.specs.declared.verdict.Verdict.{Verdict}
 use Rattle.afdx_network.specs.Events.{Departure, Left, admission_after}
 use Rattle.afdx_network.specs.Network as network
@@ -113,6 +114,15 @@ pub record GivesNone (c : Plan) (new : Cascade) (until : ℕ) (so_far : List Swi
   pub stands : StandsFor c new so_far
   pub clock : IsUntil new until
   pub quiet : IsQuiet new until
+
+-- memory is lacked for an event that is still to come, by then: a turn, or a frame that isn't
+-- dropped for its shape
+pub record IsToCome (c : Plan) (until : ℕ) (so_far : List SwitchEvent) : Type 0 where
+  pub event : SwitchEvent
+  pub next : (lines : List Line) → AreFrom until lines → IsFirstDue c so_far lines event
+  pub sound : (k : ℕ) (x : Arrival) →
+      event ≡ arriving c so_far k x →
+      shape_fault (c.tables k) x ≡ None
 
 -- ---- a frame of the list
 

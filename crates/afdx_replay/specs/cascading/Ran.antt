@@ -14,7 +14,7 @@ use Rattle.afdx_replay.specs.cascading.Sited.{sited_frames, sites_of}
 use Rattle.afdx_cascade.specs.Cables.{brought_by}
 use Rattle.afdx_cascade.specs.EndToEnd.{AreAllEvents}
 use Rattle.afdx_cascade.specs.Kept.{KeepsEndToEnd, KeepsEndToEndSoFar}
-use Rattle.afdx_cascade.specs.Parts.{AreOfList, frames_of}
+use Rattle.afdx_cascade.specs.Parts.{AreOfList, BringsFirst, frames_of}
 use Rattle.afdx_cascade.specs.Plans.{plan_of, tables_of}
 use Rattle.afdx_cascade.specs.Receivers.{HaveBegun, lines_of, lines_so_far}
 use Rattle.afdx_cascade.specs.Runs.{Line, Runs, AreAll}
@@ -79,6 +79,11 @@ pub record AreInPartsSoFar (switches : List NamedRows) (taken : List Line)
   -- told, is the first of what all events give
   pub end_to_end : AreSwitches switches → IsCascadeAdmitted switches →
       KeepsEndToEndSoFar switches events
+  -- a cable brought the first of what left the port at its other end: all but one frame at most,
+  -- which left last
+  pub cables : (k port : ℕ) (side : Side) (other : End) →
+      (plan_of switches).far_end k port ≡ Some other →
+      BringsFirst side k port other events
   -- a switch accepts on a side, of any frames, at most as many as these lines have there
   pub once : (side : Side) (k : ℕ) (test : FrameTest) →
       count_if (passes side test) (accepted_by (tables_of switches k) (came_to k events))
