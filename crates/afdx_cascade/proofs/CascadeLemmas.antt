@@ -325,6 +325,7 @@ line-next c so_far w new line st quiet by free ends transit ns is size keys leas
     record {
       next = next.next;
       tells = tells;
+      brought = next.keeps.stands.carried.carries;
       stands = record {
         count = ap length is ∙ size ∙ st.count;
         some = st.some;

@@ -9,11 +9,12 @@ use Rattle.afdx_frame.proofs.ListLemmas.{slice_get-within}
 use Rattle.afdx_port.proofs.TurnLemmas.{eqb-same}
 use Rattle.afdx_network.specs.Events.{Event, Came, Left}
 use Rattle.afdx_network.specs.Order.{IsAmong, is_below, key, phase_of, side_number}
+use Rattle.afdx_promises.specs.Sent.{arrivals_at}
 use Rattle.afdx_cascade.specs.Cables.{brought, brought_by}
 use Rattle.afdx_cascade.specs.Cascade.{StandsFor}
 use Rattle.afdx_cascade.specs.Due.{OnCable, AreAscending, from_end, has_left}
 use Rattle.afdx_cascade.specs.Parts.{BringsFirst, CablesBringFirst, time_of}
-use Rattle.afdx_cascade.specs.SwitchEvents.{Plan, End, SwitchEvent, IsInPlan, at_switch, in_clock}
+use Rattle.afdx_cascade.specs.SwitchEvents.{Plan, End, SwitchEvent, IsInPlan, at_switch, came_to, in_clock, turns_of}
 use Rattle.afdx_cascade.specs.declared.cascade.Cascade.{Cascade}
 use Rattle.afdx_cascade.proofs.AcceptedLemmas.{no-taken}
 use Rattle.afdx_cascade.proofs.RingLemmas.{filter-all, none-behind}
@@ -86,10 +87,14 @@ cables-bring-first c w so_far k port side other st joined = record {
 }
 
 -- before the first event
+pub nothing-brought : (side : Side) (k port : ℕ) (other : End)
+    → brought_by side port (in_clock (turns_of other.switch side other.port [])) ≡ arrivals_at side port (came_to k [])
+nothing-brought side k port other = ap (λ ts. brought_by side port (in_clock ts)) (no-taken other.port)
+
 pub none-brought : (side : Side) (k port : ℕ) (other : End) → BringsFirst side k port other []
 none-brought side k port other = record {
   waiting = [];
   few = omega arith;
   last = tt;
-  brings = ap (λ ts. brought_by side port (in_clock ts)) (no-taken other.port);
+  brings = nothing-brought side k port other;
 }

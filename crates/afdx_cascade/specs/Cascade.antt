@@ -15,7 +15,7 @@ use Rattle.afdx_cascade.specs.Keeping.{Keeps, IsNothingDue}
 use Rattle.afdx_cascade.specs.Keys.{AreKeys, IsLeast}
 use Rattle.afdx_cascade.specs.Runs.{Line, IsDue, IsFirstDue, IsNextLine, arriving, event_at}
 use Rattle.afdx_cascade.specs.Scan.{switches_most}
-use Rattle.afdx_cascade.specs.SwitchEvents.{Plan, SwitchEvent, IsInPlan, came_to}
+use Rattle.afdx_cascade.specs.SwitchEvents.{Plan, SwitchEvent, HaveBroughtAll, IsInPlan, came_to}
 use Rattle.afdx_cascade.specs.Turning.{AreEnds, AreInTransit, TellsTurn, WasEarlyBy}
 use Rattle.afdx_cascade.specs.declared.cascade.Cascade.{Cascade}
 use Rattle.afdx_cascade.specs.declared.told.Brought.{Brought}
@@ -129,12 +129,13 @@ pub record IsToCome (c : Plan) (until : ℕ) (so_far : List SwitchEvent) : Type 
 abbrev pub line_at : ℕ → Arrival → Line
 line_at k x = record { switch = k; arrival = x }
 
--- it is the next event, and this is its verdict
+-- it is the next event, this is its verdict, and no cable has a frame then
 pub record ArrivesNext (c : Plan) (new : Cascade) (so_far : List SwitchEvent) (line : Line)
     (verdict : Verdict) : Type 0 where
   pub next : (rest : List Line) →
       IsNextLine c so_far (line ∷ rest) (arriving c so_far line.switch line.arrival) rest
   pub tells : network.Tells verdict
       (admission_after (c.tables line.switch) (came_to line.switch so_far) line.arrival)
+  pub brought : HaveBroughtAll c (arriving c so_far line.switch line.arrival ∷ so_far)
   pub stands : StandsFor c new (arriving c so_far line.switch line.arrival ∷ so_far)
   pub clock : IsUntil new line.arrival.time
