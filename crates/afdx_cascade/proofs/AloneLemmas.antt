@@ -99,12 +99,12 @@ own-of-list ss so_far side r all is sent = own-free ss so_far side r all is sent
 
 -- ---- what becomes of own arrivals
 
-reasons : Rule → List Arrival → List (Option Reason)
+pub reasons : Rule → List Arrival → List (Option Reason)
 reasons rule [] = []
 reasons rule (x ∷ past) = reason_after rule past x ∷ reasons rule past
 
 -- no verdict depends on a tag
-reasons-untagged : (rule : Rule) (xs : List Arrival) → reasons rule (map untagged xs) ≡ reasons rule xs
+pub reasons-untagged : (rule : Rule) (xs : List Arrival) → reasons rule (map untagged xs) ≡ reasons rule xs
 unfolding reasons reason_after
 reasons-untagged rule [] = refl
 reasons-untagged rule (x ∷ past) =
@@ -132,7 +132,7 @@ module _ (t : Rows) (place : ℕ) (l : LinkRow) (side : Side) (lawful : IsLawful
   same-reason x past true is rs = ap (λ r. r ∷ rs) (sym (own-reason t place l side lawful at x past is))
 
   -- they come from its own arrivals
-  reasons-are : (arrivals : List Arrival) → reasons (rule_of t l) (own l.vl side arrivals)
+  pub reasons-are : (arrivals : List Arrival) → reasons (rule_of t l) (own l.vl side arrivals)
       ≡ reasons_on t l.vl side arrivals
   reasons-are [] = no-reasons (rule_of t l)
   reasons-are (x ∷ past) =
@@ -171,7 +171,7 @@ only-its-way ss so_far side r b all is before =
     ∙ (again side (hop_at ss so_far b) (hop_at ss so_far r) (hop-is ss so_far b all (before-row ss r b before))
     (hop-is ss so_far r all is) (hop-goes-on ss so_far side r b all is before)).accepted
 
-left-is : (ss : List NamedRows) (so_far : List SwitchEvent) (side : Side) (r : RowAt) (port : ℕ)
+pub left-is : (ss : List NamedRows) (so_far : List SwitchEvent) (side : Side) (r : RowAt) (port : ℕ)
     → AreAllEvents ss so_far → IsRow ss r → goes_to (tables_of ss r.switch) r.row port ≡ true
     → left_from so_far side r.switch port r.row.vl
     ≡ named r.row.vl (brought_by side port (all_turns (hop_at ss so_far r) side port))

@@ -4,22 +4,25 @@ use Rattle.std.proofs.Common.{sym, ap, ◌∙◌, subst, arith}
 use Rattle.std.specs.Prelude.{if◌then◌else◌, Option, Some, None, IfSome, IfNone, IfOk, OnOk, Result, Ok, Err, slice_get}
 use Rattle.std.specs.List.{AllByRecursion}
 use Rattle.afdx_config.specs.Switches.{NamedRows, AreSwitches}
+use Rattle.afdx_police.specs.Arrival.{Arrival}
 use Rattle.afdx_port.specs.Times.{drain_end}
 use Rattle.afdx_port.specs.declared.left.Left.{Left as LeftOver}
 use Rattle.afdx_switch.specs.Departures.{as_given}
 use Rattle.afdx_switch.specs.HeldFrames.{HeldFrame}
+use Rattle.afdx_switch.specs.Verdicts.{shape_fault}
 use Rattle.afdx_switch.specs.declared.verdict.Verdict.{Verdict}
-use Rattle.afdx_network.specs.Events.{Left, admission_after}
+use Rattle.afdx_network.specs.Events.{Event, Left, Came as CameHere, admission_after}
 use Rattle.afdx_network.specs.Network as network
 use Rattle.afdx_network.specs.Order.{side_number}
 use Rattle.afdx_network.specs.declared.network.Network.{Network}
 use Rattle.afdx_network.proofs.OrderLemmas.{below_first, below_next}
 use Rattle.afdx_cascade.specs.Cables.{brought}
 use Rattle.afdx_cascade.specs.Cascade.{StandsFor, IsUntil, IsQuiet, IsUnchanged, AreFrom}
-use Rattle.afdx_cascade.specs.Cascade.{GivesNext, GivesNone, ArrivesNext}
-use Rattle.afdx_cascade.specs.Due.{OnCable, IsRing}
+use Rattle.afdx_cascade.specs.Cascade.{GivesNext, GivesNone, ArrivesNext, IsToCome}
+use Rattle.afdx_cascade.specs.Due.{OnCable, IsRing, turn_event}
 use Rattle.afdx_cascade.specs.Found.{AllStand}
 use Rattle.afdx_cascade.specs.Keeping.{Keeps, BringsNext, TurnsNext, IsNothingDue}
+use Rattle.afdx_cascade.specs.Keeping.{LacksForFront, LacksForTurn}
 use Rattle.afdx_cascade.specs.Keys.{AreKeys, IsLeast}
 use Rattle.afdx_cascade.specs.Plans.{plan_of, tables_of}
 use Rattle.afdx_cascade.specs.Runs.{Line, IsBeforeLine, arriving, event_at, turn_phase}
@@ -249,6 +252,50 @@ none-next c so_far w new until st by same none quiet done =
       };
     }
 
+-- ---- memory is lacked
+
+-- what arrived, and whether it was an arrival
+arrival_in : Arrival → Event → Arrival
+arrival_in other (CameHere a) = a.arrival
+arrival_in other (Left d) = other
+
+is_arrival : Event → Bool
+is_arrival (CameHere a) = true
+is_arrival (Left d) = false
+
+-- for the frame at the front
+pub front-to-come : (c : Plan) (so_far : List SwitchEvent) (w : Cascade) (until : ℕ) (st : StandsFor c w so_far)
+    → IsUntil w until → LacksForFront c st.ring so_far → IsToCome c until so_far
+unfolding arrival_in
+front-to-come c so_far w until st by lacks =
+    let x = brought lacks.r.side lacks.to.port lacks.r.turn in
+    let soon = (subst (λ zs. AllByRecursion (λ r. r.turn.end ≤ until) zs) lacks.are
+    (ring-by c w.transit.items st.ring until st.in_transit by.transit)).0 in
+    record {
+      event = arriving c so_far lacks.to.switch x;
+      next = λ lines from. lacks.next lines
+          (frame-line lacks.r.turn.end until
+          (side_number lacks.r.side ∷ lacks.r.from.switch ∷ lacks.r.from.port ∷ []) lines soon from);
+      sound = λ k y same.
+          (let switch : lacks.to.switch ≡ k = ap (λ (h : SwitchEvent). h.switch) same in
+          let arrival : x ≡ y = ap (λ (h : SwitchEvent). arrival_in x h.event) same in
+          subst (λ j. shape_fault (c.tables j) y ≡ None) switch
+          (subst (λ z. shape_fault (c.tables lacks.to.switch) z ≡ None) arrival lacks.sound));
+    }
+
+-- for a turn
+pub turn-to-come : (c : Plan) (so_far : List SwitchEvent) (until k : ℕ) → LacksForTurn c until so_far k
+    → IsToCome c until so_far
+unfolding is_arrival
+turn-to-come c so_far until k lacks = record {
+  event = turn_event so_far k lacks.side lacks.gone;
+  next = λ lines from. lacks.next lines
+      (turn-line lacks.gone.turn.end until lacks.gone.turn.too_old
+      (side_number lacks.side ∷ k ∷ lacks.gone.port ∷ []) lines lacks.in_time from);
+  sound = λ j x same.
+      absurd (let no : false ≡ true = ap (λ (h : SwitchEvent). is_arrival h.event) same in cc no);
+}
+
 -- ---- a frame of the list
 
 pub ok-both : {V E : Type 0} (r : Result V E) (P : Type 0) (Q R : V → Type 0)
@@ -278,6 +325,7 @@ line-next c so_far w new line st quiet by free ends transit ns is size keys leas
     record {
       next = next.next;
       tells = tells;
+      brought = next.keeps.stands.carried.carries;
       stands = record {
         count = ap length is ∙ size ∙ st.count;
         some = st.some;

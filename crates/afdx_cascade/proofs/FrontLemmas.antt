@@ -22,11 +22,12 @@ use Rattle.afdx_network.specs.Order.{is_below, side_number}
 use Rattle.afdx_network.specs.declared.network.Network.{Network}
 use Rattle.afdx_network.proofs.OrderLemmas.{below_first, below_next}
 use Rattle.afdx_cascade.specs.Cables.{brought}
-use Rattle.afdx_cascade.specs.SwitchEvents.{Plan, SwitchEvent, at_switch, came_to, end_at}
-use Rattle.afdx_cascade.specs.Runs.{IsDue, event_at, turn_phase}
-use Rattle.afdx_cascade.specs.Due.{OnCable, IsRing}
+use Rattle.afdx_cascade.specs.SwitchEvents.{Plan, End, SwitchEvent, at_switch, came_to, end_at}
+use Rattle.afdx_cascade.specs.Runs.{Line, IsBeforeLine, IsDue, IsFirstDue, arriving, event_at, turn_phase}
+use Rattle.afdx_cascade.specs.Due.{OnCable, IsRing, frame_place}
 use Rattle.afdx_cascade.specs.Found.{AllStand, FindsLeast}
-use Rattle.afdx_cascade.specs.Keeping.{FrontCanArrive, FrontKeeps, LineKeeps, StartKeeps}
+use Rattle.afdx_cascade.specs.Keeping.{Keeps, FrontCanArrive, FrontKeeps, LineKeeps, StartKeeps}
+use Rattle.afdx_cascade.specs.Scan.{IsFirstFrom}
 use Rattle.afdx_cascade.specs.declared.scan.First.{First}
 use Rattle.afdx_cascade.proofs.BehindLemmas.{arrival-behind}
 use Rattle.afdx_cascade.proofs.ComesLemmas.{told-from, quiet-then}
@@ -116,17 +117,26 @@ later-then c so_far k a time later quiet j side port s low high next = elim (cas
       omega (arith, after))
 ]
 
+-- where no slot is still to end at its time the front frame comes next
+pub front-first : (c : Plan) (so_far : List SwitchEvent) (networks : List Network) (time : ℕ) (r : OnCable)
+    (rest : List OnCable) (f : First) (to : End) → Keeps c networks time (r ∷ rest) so_far
+    → IsFirstFrom 0 networks (Some f) → 2 * time < f.order → c.far_end r.from.switch r.from.port ≡ Some to
+    → (lines : List Line) → IsBeforeLine (frame_place r) lines
+    → IsFirstDue c so_far lines (arriving c so_far to.switch (brought r.side to.port r.turn))
+front-first c so_far networks time r rest f to keeps is late joined lines before =
+    let found = scan-least c so_far networks f keeps.stands.all is in
+    frame-next c so_far lines found.order time r rest to keeps.plan found.are (least-late c so_far f time found late)
+    keeps.stands.carried joined before
+
 pub front-keeps : FrontKeeps
 front-keeps c so_far old networks transit time r rest f value keeps is late arrives size clock quiet =
-    let found = scan-least c so_far old f keeps.stands.all is in
     let x = brought r.side value.port r.turn in
     let a = admission_after (c.tables value.switch) (came_to value.switch so_far) x in
     let after = quiet-at c networks
     (event_at value.switch (Came a) ∷ so_far) time value.switch arrives.stands.all quiet in
     record {
-      next = λ lines before. frame-next c so_far lines found.order time r rest
-          (end_at value.switch value.port)
-          keeps.plan found.are (least-late c so_far f time found late) keeps.stands.carried arrives.to before;
+      next = λ lines before.
+          front-first c so_far old time r rest f (end_at value.switch value.port) keeps is late arrives.to lines before;
       keeps = record {
         plan = keeps.plan;
         within = λ k port e joined. (let w = keeps.within k port e joined in

@@ -38,10 +38,12 @@ pub mod TwoHopsRunLemmas
 pub mod TwoHopsAllLemmas
 pub mod FedLemmas
 pub mod WayHopLemmas
+pub mod WaitLemmas
 pub mod WholeLemmas
 pub mod ReadLemmas
 pub mod EndToEndLemmas
 pub mod AloneLemmas
+pub mod BeginLemmas
 pub mod MessageLemmas
 pub mod KeptLemmas
 pub mod SamePlanLemmas

@@ -10,20 +10,24 @@ use Rattle.afdx_port.specs.declared.left.Due.{Due}
 use Rattle.afdx_port.specs.Ports.{order_at, order_without_turn}
 use Rattle.afdx_switch.specs.Departures.{as_given}
 use Rattle.afdx_switch.specs.HeldFrames.{HeldFrame}
+use Rattle.afdx_switch.specs.Verdicts.{shape_fault}
 use Rattle.afdx_network.specs.Network as network
 use Rattle.afdx_network.specs.declared.network.Network.{Network}
 use Rattle.afdx_cascade.specs.SwitchEvents.{Plan, End, SwitchEvent, end_at}
 use Rattle.afdx_cascade.specs.Due.{OnCable}
 use Rattle.afdx_cascade.specs.Scan.{IsFirstFrom}
-use Rattle.afdx_cascade.specs.Keeping.{Keeps, IsEarly, IsFrontNext, BringsNext}
+use Rattle.afdx_cascade.specs.Cables.{brought}
+use Rattle.afdx_cascade.specs.Keeping.{Keeps, IsEarly, IsFrontNext, BringsNext, LacksForFront, LacksForTurn}
 use Rattle.afdx_cascade.specs.Standing.{Stands}
 use Rattle.afdx_cascade.specs.Turning.{AreInTransit, IsInTransit, CanArrive, ArrivesAt}
 use Rattle.afdx_cascade.specs.declared.told.Brought.{Brought}
 use Rattle.afdx_cascade.specs.declared.cable.InTransit.{InTransit}
 use Rattle.afdx_cascade.specs.declared.scan.First.{First}
 use Rattle.afdx_cascade.proofs.ComesLemmas.{scan-comes, told-from, quiet-then}
-use Rattle.afdx_cascade.proofs.FrontLemmas.{quiet-at, front-can, front-keeps}
+use Rattle.afdx_cascade.proofs.FrontLemmas.{quiet-at, front-can, front-first, front-keeps}
 use Rattle.afdx_cascade.proofs.LaterLemmas.{given-is}
+use Rattle.afdx_cascade.proofs.RingLemmas.{turn-next}
+use Rattle.afdx_cascade.proofs.ScanLemmas.{scan-least}
 
 pub until-more : (n : Network) (time at : ℕ) → time ≤ at → network.IsUntil n time
     → network.IsUntil n at
@@ -57,6 +61,22 @@ module _ (c : Plan) (networks : List Network) (time : ℕ) (ring : List OnCable)
       let after = quiet-at c networks so_far at f.switch keeps.stands.all quiet f.side comes.gone.port comes.gone.turn
       comes.next.port_first comes.next.port_last comes.next.next in
       omega (arith, given, after)
+
+  -- and comes next, where no cable has a frame of an earlier time
+  pub turn-lacks : (until : ℕ) → at ≤ until → IsEarly f.order time ring → LacksForTurn c until so_far f.switch
+  turn-lacks until soon early =
+      let comes = scan-comes c so_far networks f keeps.stands.all is small in
+      let found = scan-least c so_far networks f keeps.stands.all is in
+      let given = given-is at comes.gone.turn.end f.order comes.gone.turn.too_old comes.order_is low high in
+      record {
+        side = f.side;
+        gone = comes.gone;
+        in_time = omega (arith, given, soon);
+        next = λ lines before.
+            turn-next c so_far lines found.order f.switch f.side comes.gone time ring found.are found.least comes.next
+            (sym found.is ∙ comes.order_is) keeps.stands.carried
+            (elim early [ inl e ↦ inl e | inr le ↦ inr (let o = found.is in omega (arith, le, o)) ]) before;
+      }
 
 -- ---- the front frame
 
@@ -143,6 +163,26 @@ module _ (c : Plan) (networks : List Network) (time : ℕ) (ring : List OnCable)
             (subst (λ zs. Keeps c networks time zs so_far) p.ring_is keeps) is p.late p.on,
         λ k n at. subst (λ t. network.IsUntil n t) (sym p.end_is) (keeps.clock k n at),
       )
+
+  -- it comes next, and has nothing wrong in its shape
+  pub front-lacks : ((v : InTransit) (r : OnCable) (rest : List OnCable) → Stands c networks time (r ∷ rest) so_far
+      → slice_get transit 0 ≡ Some v → IsInTransit c v r
+      → shape_fault (c.tables v.switch) (brought r.side v.port r.turn) ≡ None)
+      → LacksForFront c ring so_far
+  front-lacks sound =
+      let p = fronts-from c transit time f.order ring keeps.stands.carried.at_time are next in
+      let all : Keeps c networks time (p.r ∷ p.rest) so_far =
+      subst (λ zs. Keeps c networks time zs so_far) p.ring_is keeps in
+      record {
+        r = p.r;
+        rest = p.rest;
+        are = p.ring_is;
+        to = end_at p.v.switch p.v.port;
+        next = λ lines before.
+            front-first c so_far networks time p.r p.rest f (end_at p.v.switch p.v.port) all is p.late p.on.to lines
+            before;
+        sound = sound p.v p.r p.rest all.stands p.front_is p.on;
+      }
 
   pub front-brings : (new : List Network) (left : List InTransit) (value : Brought)
       → ((r : OnCable) (rest : List OnCable) → Stands c networks time (r ∷ rest) so_far

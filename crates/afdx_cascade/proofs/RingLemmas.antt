@@ -68,7 +68,7 @@ none-behind side other r (z ∷ rest) time h at all below =
           subst (λ p. is_below p (frame_place z) ≡ true) place lt in cc)
     ]
 
-filter-all : {X : Type 0} (P : X → Type 0) (keep : X → Bool) (xs : List X) → AllByRecursion P xs
+pub filter-all : {X : Type 0} (P : X → Type 0) (keep : X → Bool) (xs : List X) → AllByRecursion P xs
     → AllByRecursion P (filter keep xs)
 filter-all P keep [] all = tt
 filter-all P keep (x ∷ xs) all = by (keep x) (filter-all P keep xs all.1)

@@ -1,7 +1,7 @@
 -- A turn, after which its frame may be on a cable.
 use Rattle.std.proofs.Common.{◌≡◌, ℕ, false, List, [], ◌∷◌, ◌++◌, sym, subst, ap, ◌∙◌, inl, inr}
 use Rattle.std.proofs.Common.{arith, ◌≤◌}
-use Rattle.std.specs.Prelude.{Some, drop, slice_index_or}
+use Rattle.std.specs.Prelude.{Some, drop, slice_get, slice_index_or}
 use Rattle.afdx_switch.specs.Departures.{as_given}
 use Rattle.afdx_network.specs.declared.network.Departed.{Departed}
 use Rattle.afdx_network.specs.declared.network.Network.{Network}
@@ -80,6 +80,12 @@ module _ (c : Plan) (networks : List Network) (transit : List InTransit) (time :
   }
 
 -- ---- the frame at the front
+
+-- the one at the front
+pub front-one : (transit : List InTransit) (v front : InTransit) → slice_get transit 0 ≡ Some v
+    → front ≡ slice_index_or transit 0 front → v ≡ front
+front-one [] v front here is = absurd (cc here)
+front-one (w ∷ transit) v front here is = (let same : w ≡ v = cc here in sym same ∙ sym is)
 
 pub split-transit : (c : Plan) (transit : List InTransit) (v : InTransit) (r : OnCable)
     (rest : List OnCable)

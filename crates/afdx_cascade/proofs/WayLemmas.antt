@@ -93,7 +93,7 @@ way-leave-all side k before port to way whole goes =
 
 -- ---- alone
 
-same-bytes : (d : ℕ) (xs ys : List Arrival) → AreCopies d xs ys → bytes_of xs ≡ bytes_of ys
+pub same-bytes : (d : ℕ) (xs ys : List Arrival) → AreCopies d xs ys → bytes_of xs ≡ bytes_of ys
 same-bytes d [] [] are = refl
 same-bytes d [] (y ∷ ys) are = absurd are
 same-bytes d (x ∷ xs) [] are = absurd are
@@ -129,13 +129,16 @@ bytes-untagged : (xs : List Arrival) → bytes_of (map untagged xs) ≡ bytes_of
 bytes-untagged [] = refl
 bytes-untagged (x ∷ xs) = ap (λ bs. x.bytes ∷ bs) (bytes-untagged xs)
 
+pub untagged-bytes : (rule : Rule) (xs : List Arrival)
+    → bytes_of (accepted_arrivals rule (map untagged xs)) ≡ bytes_of (accepted_arrivals rule xs)
+untagged-bytes rule xs =
+    ap bytes_of (accepted-untagged rule xs) ∙ bytes-untagged (accepted_arrivals rule xs)
+
 -- arrivals that are equal but for their tags are accepted alike
 same-accepted : (rule : Rule) (xs ys : List Arrival) → map untagged xs ≡ map untagged ys
     → bytes_of (accepted_arrivals rule xs) ≡ bytes_of (accepted_arrivals rule ys)
 same-accepted rule xs ys same =
-    sym (bytes-untagged (accepted_arrivals rule xs)) ∙ ap bytes_of (sym (accepted-untagged rule xs))
-    ∙ ap (λ zs. bytes_of (accepted_arrivals rule zs)) same
-    ∙ ap bytes_of (accepted-untagged rule ys) ∙ bytes-untagged (accepted_arrivals rule ys)
+    sym (untagged-bytes rule xs) ∙ ap (λ zs. bytes_of (accepted_arrivals rule zs)) same ∙ untagged-bytes rule ys
 
 begin-alike : (side : Side) (j i : Hop) → rule_at j ≡ rule_at i
     → map untagged (own j.link.vl side j.arrivals) ≡ map untagged (own i.link.vl side i.arrivals)

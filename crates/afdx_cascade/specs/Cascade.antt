@@ -1,9 +1,10 @@
 -- What the switches of a cascade have to do with the events so far.
-use Rattle.std.specs.Prelude.{◌≡◌, ℕ, ◌≤◌, true, List, [], ◌∷◌, Some, length, slice_get}
+use Rattle.std.specs.Prelude.{◌≡◌, ℕ, ◌≤◌, true, List, [], ◌∷◌, Some, None, length, slice_get}
 use Rattle.std.specs.List.{AllByRecursion}
 use Rattle.afdx_police.specs.Arrival.{Arrival}
 use Rattle.afdx_port.specs.Times.{drain_end}
 use Rattle.afdx_switch.specs.Departures.{as_given}
+use Rattle.afdx_switch.specs.Verdicts.{shape_fault}
 use Rattle.afdx_switch.specs.declared.verdict.Verdict.{Verdict}
 use Rattle.afdx_network.specs.Events.{Departure, Left, admission_after}
 use Rattle.afdx_network.specs.Network as network
@@ -14,7 +15,7 @@ use Rattle.afdx_cascade.specs.Keeping.{Keeps, IsNothingDue}
 use Rattle.afdx_cascade.specs.Keys.{AreKeys, IsLeast}
 use Rattle.afdx_cascade.specs.Runs.{Line, IsDue, IsFirstDue, IsNextLine, arriving, event_at}
 use Rattle.afdx_cascade.specs.Scan.{switches_most}
-use Rattle.afdx_cascade.specs.SwitchEvents.{Plan, SwitchEvent, IsInPlan, came_to}
+use Rattle.afdx_cascade.specs.SwitchEvents.{Plan, SwitchEvent, HaveBroughtAll, IsInPlan, came_to}
 use Rattle.afdx_cascade.specs.Turning.{AreEnds, AreInTransit, TellsTurn, WasEarlyBy}
 use Rattle.afdx_cascade.specs.declared.cascade.Cascade.{Cascade}
 use Rattle.afdx_cascade.specs.declared.told.Brought.{Brought}
@@ -114,17 +115,27 @@ pub record GivesNone (c : Plan) (new : Cascade) (until : ℕ) (so_far : List Swi
   pub clock : IsUntil new until
   pub quiet : IsQuiet new until
 
+-- memory is lacked for an event that is still to come, by then: a turn, or a frame that isn't
+-- dropped for its shape
+pub record IsToCome (c : Plan) (until : ℕ) (so_far : List SwitchEvent) : Type 0 where
+  pub event : SwitchEvent
+  pub next : (lines : List Line) → AreFrom until lines → IsFirstDue c so_far lines event
+  pub sound : (k : ℕ) (x : Arrival) →
+      event ≡ arriving c so_far k x →
+      shape_fault (c.tables k) x ≡ None
+
 -- ---- a frame of the list
 
 abbrev pub line_at : ℕ → Arrival → Line
 line_at k x = record { switch = k; arrival = x }
 
--- it is the next event, and this is its verdict
+-- it is the next event, this is its verdict, and no cable has a frame then
 pub record ArrivesNext (c : Plan) (new : Cascade) (so_far : List SwitchEvent) (line : Line)
     (verdict : Verdict) : Type 0 where
   pub next : (rest : List Line) →
       IsNextLine c so_far (line ∷ rest) (arriving c so_far line.switch line.arrival) rest
   pub tells : network.Tells verdict
       (admission_after (c.tables line.switch) (came_to line.switch so_far) line.arrival)
+  pub brought : HaveBroughtAll c (arriving c so_far line.switch line.arrival ∷ so_far)
   pub stands : StandsFor c new (arriving c so_far line.switch line.arrival ∷ so_far)
   pub clock : IsUntil new line.arrival.time

@@ -184,6 +184,59 @@ LinksAreAlone =
     AreAlike switches so_far others side (begins_at r before) →
     IsSameLink switches so_far others side r
 
+-- ---- alone, so far
+
+module _ {X : Type 0} where
+  -- all of these begin with those: the others come later
+  abbrev pub BeginWith : List X → List X → Type 0
+  BeginWith all first = (later : List X) × (all ≡ later ++ first)
+
+-- the list has had at a link's first switch, but for their tags, the first of the own arrivals of
+-- the link that it has there in another run
+pub record BeginsAlike (switches : List NamedRows) (so_far others : List SwitchEvent) (side : Side)
+    (r : RowAt) : Type 0 where
+  pub row : IsRow switches r
+  pub sent : is_sent_here switches r ≡ true
+  pub begins : BeginWith (map untagged (own r.row.vl side (listed_at switches r.switch others)))
+      (map untagged (own r.row.vl side (listed_at switches r.switch so_far)))
+
+-- Then what became of them is what becomes of the first of those, whatever else arrives.
+abbrev pub FirstReasonsAreAlone : Type 0
+FirstReasonsAreAlone =
+    (switches : List NamedRows) (so_far others : List SwitchEvent) (side : Side) (r : RowAt) →
+    IsAdmittedCascade switches so_far →
+    IsAdmittedCascade switches others →
+    BeginsAlike switches so_far others side r →
+    BeginWith
+    (reasons_on (tables_of switches r.switch) r.row.vl side (came_to r.switch others))
+    (reasons_on (tables_of switches r.switch) r.row.vl side (came_to r.switch so_far))
+
+-- the link's frames at the row's switch, and at each port to which the row goes, are the first of
+-- those of another run; they may come at other times
+pub record IsFirstOfLink (switches : List NamedRows) (so_far others : List SwitchEvent)
+    (side : Side) (r : RowAt) : Type 0 where
+  pub accepted : BeginWith (bytes_of (accepted_of switches others side r))
+      (bytes_of (accepted_of switches so_far side r))
+  pub leave : (port : ℕ) →
+      goes_to (tables_of switches r.switch) r.row port ≡ true →
+      BeginWith (bytes_of (left_from others side r.switch port r.row.vl))
+      (bytes_of (left_from so_far side r.switch port r.row.vl))
+
+-- And each switch of its way has had the first of the frames of the link that it has by all events
+-- of the other run, whatever else arrives anywhere.
+abbrev pub FirstOfLinksAreAlone : Type 0
+FirstOfLinksAreAlone =
+    (switches : List NamedRows) (so_far others : List SwitchEvent) (side : Side) (r : RowAt)
+    (before : List RowAt) →
+    IsAdmittedCascade switches so_far →
+    AreAllEvents switches others →
+    IsRow switches r →
+    AreRowsBefore switches r before →
+    BeginsAlike switches so_far others side (begins_at r before) →
+    IsFirstOfLink switches so_far others side r
+
+-- ---- what a later switch accepts
+
 -- A later switch accepts of the link just what comes at the port of the cable from the switch
 -- before.
 abbrev pub OnlyItsWayIsAccepted : Type 0

@@ -9,11 +9,13 @@ use Rattle.afdx_port.specs.Schedule.{Turn}
 use Rattle.afdx_port.specs.Times.{latest_put}
 use Rattle.afdx_switch.specs.Departures.{as_given}
 use Rattle.afdx_switch.specs.HeldFrames.{HeldFrame}
+use Rattle.afdx_switch.specs.Switching.{PortTurn}
+use Rattle.afdx_switch.specs.Verdicts.{shape_fault}
 use Rattle.afdx_network.specs.Events.{Departure, Left}
 use Rattle.afdx_network.specs.Network as network
 use Rattle.afdx_network.specs.declared.network.Network.{Network}
 use Rattle.afdx_cascade.specs.Cables.{brought}
-use Rattle.afdx_cascade.specs.Due.{OnCable, frame_place, turn_place}
+use Rattle.afdx_cascade.specs.Due.{OnCable, frame_place, turn_place, turn_event}
 use Rattle.afdx_cascade.specs.SwitchEvents.{Plan, IsPlan, End, SwitchEvent, at_switch}
 use Rattle.afdx_cascade.specs.Runs.{Line, IsBeforeLine, IsFirstDue, IsNextLine, arriving, event_at, IsDue}
 use Rattle.afdx_cascade.specs.Scan.{IsFirstFrom}
@@ -160,6 +162,31 @@ pub record BringsNext (c : Plan) (networks : List Network) (transit : List InTra
   pub rest : List OnCable
   pub are : ring ≡ r ∷ rest
   pub is : FrontIsNext c networks transit time r rest so_far value
+
+-- ---- out of memory
+
+-- a frame arrives next, from the front of the ring, and isn't dropped for its shape
+pub record LacksForFront (c : Plan) (ring : List OnCable) (so_far : List SwitchEvent) :
+    Type 0 where
+  pub r : OnCable
+  pub rest : List OnCable
+  pub are : ring ≡ r ∷ rest
+  pub to : End
+  pub next : (lines : List Line) →
+      IsBeforeLine (frame_place r) lines →
+      IsFirstDue c so_far lines (arriving c so_far to.switch (brought r.side to.port r.turn))
+  pub sound : shape_fault (c.tables to.switch) (brought r.side to.port r.turn) ≡ None
+
+-- a turn comes next, and is given by then
+pub record LacksForTurn (c : Plan) (until : ℕ) (so_far : List SwitchEvent) (k : ℕ) : Type 0 where
+  pub side : Side
+  pub gone : PortTurn
+  pub in_time : given_at (due_at gone.turn) ≤ until
+  pub next : (lines : List Line) →
+      IsBeforeLine (turn_place k side gone) lines →
+      IsFirstDue c so_far lines (turn_event so_far k side gone)
+
+-- ---- nothing is due
 
 -- nothing is due: a list that has no line left has had all its events
 abbrev pub IsNothingDue : Plan → List SwitchEvent → Type 0

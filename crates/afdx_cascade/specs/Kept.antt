@@ -12,7 +12,7 @@ use Rattle.afdx_switch.specs.Verdicts.{reason_of}
 use Rattle.afdx_cascade.specs.Admitted.{IsRow, AreRowsBefore, IsAdmittedCascade}
 use Rattle.afdx_cascade.specs.EndToEnd.{AreAllEvents, IsWayTo, EachLeaves, FirstOfThemLeave}
 use Rattle.afdx_cascade.specs.EndToEnd.{AreAlike, IsSameLink, accepted_of, begins_at, left_from}
-use Rattle.afdx_cascade.specs.EndToEnd.{reasons_on}
+use Rattle.afdx_cascade.specs.EndToEnd.{BeginWith, BeginsAlike, IsFirstOfLink, reasons_on}
 use Rattle.afdx_cascade.specs.Plans.{plan_of, tables_of}
 use Rattle.afdx_cascade.specs.Receivers.{EachIsHeardOnce, EachIsHeardOnceSoFar, OneSideIsHeard}
 use Rattle.afdx_cascade.specs.Receivers.{FirstAreHeard, HaveBegun}
@@ -48,6 +48,16 @@ VerdictsAreAlone switches so_far =
     AreAlike switches so_far another side r →
     reasons_on (tables_of switches r.switch) r.row.vl side (came_to r.switch so_far)
     ≡ reasons_on (tables_of switches r.switch) r.row.vl side (came_to r.switch another)
+
+-- where they are the first of those of another run, so are its verdicts on them
+abbrev pub FirstVerdictsAreAlone : List NamedRows → List SwitchEvent → Type 0
+FirstVerdictsAreAlone switches so_far =
+    (another : List SwitchEvent) (side : Side) (r : RowAt) →
+    IsAdmittedCascade switches another →
+    BeginsAlike switches so_far another side r →
+    BeginWith
+    (reasons_on (tables_of switches r.switch) r.row.vl side (came_to r.switch another))
+    (reasons_on (tables_of switches r.switch) r.row.vl side (came_to r.switch so_far))
 
 -- ---- all events
 
@@ -96,6 +106,15 @@ pub record KeepsEndToEndSoFar (switches : List NamedRows) (so_far : List SwitchE
       (left_from so_far side r.switch port r.row.vl)
   pub others : NoneLeaveElsewhere switches so_far
   pub verdicts : VerdictsAreAlone switches so_far
+  pub first_verdicts : FirstVerdictsAreAlone switches so_far
+  -- own arrivals that are the first of those of another run have given the link the first of the
+  -- frames that it has by all events there, at each switch and port of its way
+  pub same : (another : List SwitchEvent) (side : Side) (r : RowAt) (before : List RowAt) →
+      AreAllEvents switches another →
+      IsRow switches r →
+      AreRowsBefore switches r before →
+      BeginsAlike switches so_far another side (begins_at r before) →
+      IsFirstOfLink switches so_far another side r
   -- what a receiver was told of a lawful stream are the first of its messages: as far as its frames
   -- left for the receiver on one of the sides
   pub first : FirstAreHeard switches so_far

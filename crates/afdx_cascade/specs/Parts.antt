@@ -2,8 +2,9 @@
 -- Lists have the latest first, the list of frames its first line.
 use Rattle.std.specs.Prelude.{◌≡◌, ℕ, ◌*◌, ◌<◌, ◌≤◌, ◌==◌, None, Some, List, ◌++◌, filter, length}
 use Rattle.std.specs.Prelude.{map, reverse}
+use Rattle.std.specs.List.{AllByRecursion}
 use Rattle.afdx_frame.specs.declared.link.Side.{Side}
-use Rattle.afdx_network.specs.Events.{Event}
+use Rattle.afdx_network.specs.Events.{Event, Came, Left}
 use Rattle.afdx_network.specs.Order.{events_of}
 use Rattle.afdx_police.specs.Arrival.{Arrival}
 use Rattle.afdx_promises.specs.Sent.{arrivals_at}
@@ -47,6 +48,30 @@ CablesBringAll =
     c.far_end k port ≡ Some other →
     brought_by side port (in_clock (turns_of other.switch side other.port so_far))
     ≡ arrivals_at side port (came_to k so_far)
+
+-- when an event happened
+abbrev pub time_of : Event → ℕ
+time_of (Came a) = a.arrival.time
+time_of (Left d) = d.turn.end
+
+-- what a cable brought so far is, in order, the first of what left the port at its other end: all
+-- but one frame at most, which left last, so that no event was later
+pub record BringsFirst (side : Side) (k port : ℕ) (other : End) (so_far : List SwitchEvent) :
+    Type 0 where
+  pub waiting : List Arrival
+  pub few : length waiting ≤ 1
+  pub last : AllByRecursion
+      (λ x. AllByRecursion (λ h. time_of h.event ≤ x.time) so_far) waiting
+  pub brings : brought_by side port (in_clock (turns_of other.switch side other.port so_far))
+      ≡ waiting ++ arrivals_at side port (came_to k so_far)
+
+-- So it is at each moment.
+abbrev pub CablesBringFirst : Type 0
+CablesBringFirst =
+    (c : Plan) (w : Cascade) (so_far : List SwitchEvent) (k port : ℕ) (side : Side) (other : End) →
+    StandsFor c w so_far →
+    c.far_end k port ≡ Some other →
+    BringsFirst side k port other so_far
 
 -- ---- the list
 

@@ -81,6 +81,14 @@ pub record Carries (side : Side) (k port : ℕ) (other : End) (so_far : List Swi
   pub brings : brought_by side port (in_clock (turns_of other.switch side other.port so_far))
       ≡ waiting ++ arrivals_at side port (came_to k so_far)
 
+-- no cable has a frame: each has brought all that left the port at its other end
+abbrev pub HaveBroughtAll : Plan → List SwitchEvent → Type 0
+HaveBroughtAll c so_far =
+    (k port : ℕ) (side : Side) (other : End) →
+    c.far_end k port ≡ Some other →
+    brought_by side port (in_clock (turns_of other.switch side other.port so_far))
+    ≡ arrivals_at side port (came_to k so_far)
+
 -- the turns are those of what came so far, and cables bring what left
 pub record KeepsRules (c : Plan) (so_far : List SwitchEvent) : Type 0 where
   pub turns : (k port : ℕ) (side : Side) →

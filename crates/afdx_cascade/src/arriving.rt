@@ -29,7 +29,7 @@ use afdx_switch::Verdict;
 use std::alloc::AllocError;
 
 /// A frame of the list arrives at a switch, at a port where no cable is. The error says that memory
-/// was refused: then nothing has changed.
+/// was refused: then nothing has changed. A frame that is dropped for its shape needs none.
 pub fn arrive_at(
     networks: &mut [Network],
     switch: usize,
@@ -60,6 +60,10 @@ pub fn arrive_at(
         let x = arrival_with tag time side port (bytes_of frame.entry) in
         IfOk result (λ verdict. network.Tells verdict
         (admission_after (c.tables switch) (came_to switch so_far) x)) }
+    ensures judged { (c : Plan) (at : ℕ) (ring : List OnCable) (so_far : List SwitchEvent) →
+        Stands c networks.old at ring so_far →
+        let x = arrival_with tag time side port (bytes_of frame.entry) in
+        OnErr result (shape_fault (c.tables switch) x ≡ None) }
     ensures refused { OnErr result (networks.new ≡ networks.old) }
 {
     networks[switch].arrive(side, time, port, tag, frame)
@@ -104,7 +108,8 @@ pub(crate) fn take_at(networks: &mut [Network], switch: usize, until: u64) -> Op
 }
 
 /// A frame that left another switch arrives at the end of its cable, at a port of this one, when it
-/// left. The error says that memory was refused: then nothing has changed.
+/// left. The error says that memory was refused: then nothing has changed. A frame that is dropped
+/// for its shape needs none.
 pub(crate) fn bring_at(
     networks: &mut [Network],
     switch: usize,
@@ -135,6 +140,10 @@ pub(crate) fn bring_at(
         departed.now.side ≡ r.side → as_given departed.now.departure ≡ left_of r.turn →
         IfOk result (λ verdict. network.Tells verdict
         (admission_after (c.tables switch) (came_to switch so_far) (brought r.side port r.turn))) }
+    ensures judged { (c : Plan) (at : ℕ) (r : OnCable) (rest : List OnCable)
+        (so_far : List SwitchEvent) → Stands c networks.old at (r ∷ rest) so_far →
+        departed.now.side ≡ r.side → as_given departed.now.departure ≡ left_of r.turn →
+        OnErr result (shape_fault (c.tables switch) (brought r.side port r.turn) ≡ None) }
     ensures refused { OnErr result (networks.new ≡ networks.old) }
 {
     let departure = &departed.departure;

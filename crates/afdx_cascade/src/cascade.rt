@@ -37,7 +37,7 @@ impl Cascade {
     ghost use Rattle.afdx_cascade.specs.Plans.{plan_of};
     ghost use Rattle.afdx_cascade.specs.SwitchEvents.{Plan, SwitchEvent, came_to};
     ghost use Rattle.afdx_cascade.specs.Cascade.{StandsFor, IsSound, IsUntil, IsQuiet, IsUnchanged};
-    ghost use Rattle.afdx_cascade.specs.Cascade.{GivesNext, GivesNone, ArrivesNext};
+    ghost use Rattle.afdx_cascade.specs.Cascade.{GivesNext, GivesNone, ArrivesNext, IsToCome};
     ghost use Rattle.afdx_cascade.specs.Cascade.{line_at, switch_count};
 
     /// The switches of a configuration at time 0, with empty cables. It looks up the ends of all
@@ -65,7 +65,8 @@ impl Cascade {
     ///
     /// `time` isn't before the last time used and is at most 1,000,032,768,000,000;
     /// `take(time)` would give nothing. `tag` is handed back with the frame's events. The error
-    /// says that memory was refused: then nothing has changed.
+    /// says that memory was refused: then nothing has changed. A frame that is dropped for its
+    /// shape needs none.
     pub fn arrive(
         &mut self,
         switch: usize,
@@ -83,6 +84,9 @@ impl Cascade {
             c.far_end switch port ≡ None →
             let line = line_at switch (arrival_with tag time side port (bytes_of frame.entry)) in
             IfOk result (ArrivesNext c self.new so_far line) }
+        ensures judged { (c : Plan) (so_far : List SwitchEvent) → StandsFor c self.old so_far →
+            let x = arrival_with tag time side port (bytes_of frame.entry) in
+            OnErr result (shape_fault (c.tables switch) x ≡ None) }
         ensures refused { OnErr result (IsUnchanged self.old self.new) }
     {
         let verdict = arrive_at(&mut self.networks, switch, side, time, port, tag, frame)?;
@@ -110,7 +114,8 @@ impl Cascade {
     /// later, None says that these were all events.
     ///
     /// `until` isn't before the last time used. The error says that memory was refused: then
-    /// nothing has changed, and the event is still to come.
+    /// nothing has changed, and the event is still to come. It is no frame that is dropped for its
+    /// shape.
     pub fn take(&mut self, until: u64) -> Result<Option<Happened>, AllocError>
         requires sound { IsSound self.old }
         requires clock { IsUntil self.old until }
@@ -118,6 +123,8 @@ impl Cascade {
             IfOk result (λ o. IfSome o (GivesNext c self.new until so_far)) }
         ensures none { (c : Plan) (so_far : List SwitchEvent) → StandsFor c self.old so_far →
             IfOk result (λ o. IfNone o (GivesNone c self.new until so_far)) }
+        ensures judged { (c : Plan) (so_far : List SwitchEvent) → StandsFor c self.old so_far →
+            OnErr result (IsToCome c until so_far) }
         ensures refused { OnErr result (IsUnchanged self.old self.new) }
     {
         let first = first_of(self.least);

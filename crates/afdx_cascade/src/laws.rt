@@ -8,7 +8,8 @@ ghost use Rattle.afdx_cascade.specs.Ways.{AllAreAccepted, AllLeave, FramesAreAlo
 ghost use Rattle.afdx_cascade.specs.Examples.{PremisesAreMet};
 ghost use Rattle.afdx_cascade.specs.Once.{AcceptsAtMostListed, AcceptsLineOnce, EventsAreFew};
 ghost use Rattle.afdx_cascade.specs.Once.{EventsAreCounted};
-ghost use Rattle.afdx_cascade.specs.Parts.{SwitchBeginsAlone, SwitchRunsAlone, CablesBringAll};
+ghost use Rattle.afdx_cascade.specs.Parts.{SwitchBeginsAlone, SwitchRunsAlone};
+ghost use Rattle.afdx_cascade.specs.Parts.{CablesBringAll, CablesBringFirst};
 ghost use Rattle.afdx_cascade.specs.Parts.{ListedIsListed, PortsGetTheirLines, EventsAreOfList};
 ghost use Rattle.afdx_cascade.specs.Runs.{EventsBegin, EventsAreOne};
 ghost use Rattle.afdx_cascade.specs.Again.{BroughtIsAccepted};
@@ -27,6 +28,7 @@ ghost use Rattle.afdx_cascade.specs.Admitted.{CablesAreRead};
 ghost use Rattle.afdx_cascade.specs.EndToEnd.{EachPortHasAWay, LinksLeave, FirstOfLinksLeave};
 ghost use Rattle.afdx_cascade.specs.EndToEnd.{NoOthersLeave};
 ghost use Rattle.afdx_cascade.specs.EndToEnd.{OwnAreOfList, ReasonsAreAlone, LinksAreAlone};
+ghost use Rattle.afdx_cascade.specs.EndToEnd.{FirstReasonsAreAlone, FirstOfLinksAreAlone};
 ghost use Rattle.afdx_cascade.specs.EndToEnd.{OnlyItsWayIsAccepted};
 ghost use Rattle.afdx_cascade.specs.Receivers.{MessagesComeOnce, OneSideIsEnough};
 ghost use Rattle.afdx_cascade.specs.Receivers.{MessagesComeSoFar, FirstMessagesCome};
@@ -102,9 +104,11 @@ pub fn switches_run_alone()
 {}
 
 /// Where nothing is due any more, all that left the port at a cable's other end has arrived, in
-/// order, but for what left too late to arrive anywhere.
+/// order, but for what left too late to arrive anywhere. Before that it is the first of it: all but
+/// one frame at most, which left last.
 pub fn cables_bring_all()
-    ensures { CablesBringAll }
+    ensures all { CablesBringAll }
+    ensures so_far { CablesBringFirst }
 {}
 
 /// The arrivals at ports where no cable is are those of the lines that were taken, and at each such
@@ -226,12 +230,15 @@ pub fn links_leave_end_to_end()
 
 /// Alone in an admitted cascade: two lists that have at a link's first switch on a side equal own
 /// arrivals of it, but for their tags, give equal verdicts there, and by all events equal frames in
-/// equal order at each port of the link's way. Whatever else comes under its name to a later switch
-/// is dropped.
+/// equal order at each port of the link's way. Where the one has so far the first of the other's
+/// own arrivals, it has given the first of these. Whatever else comes under its name to a later
+/// switch is dropped.
 pub fn links_are_alone()
     ensures listed { OwnAreOfList }
     ensures reasons { ReasonsAreAlone }
+    ensures first_reasons { FirstReasonsAreAlone }
     ensures frames { LinksAreAlone }
+    ensures first_frames { FirstOfLinksAreAlone }
     ensures way { OnlyItsWayIsAccepted }
 {}
 

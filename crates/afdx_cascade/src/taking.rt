@@ -8,6 +8,7 @@ ghost use Rattle.afdx_network.specs.Network as network;
 ghost use Rattle.afdx_cascade.specs.Due.{OnCable};
 ghost use Rattle.afdx_cascade.specs.SwitchEvents.{Plan, SwitchEvent};
 ghost use Rattle.afdx_cascade.specs.Keeping.{Keeps, TurnsNext, BringsNext, IsFrontNext, IsEarly, IsNothingDue};
+ghost use Rattle.afdx_cascade.specs.Keeping.{LacksForFront, LacksForTurn};
 ghost use Rattle.afdx_cascade.specs.Keys.{AreOthersSame};
 ghost use Rattle.afdx_cascade.specs.Scan.{IsFirstFrom, switches_most};
 ghost use Rattle.afdx_cascade.specs.Turning.{AreEnds, AreInTransit};
@@ -47,7 +48,8 @@ fn is_front_next(transit: &VecDeque<InTransit>, order: u64) -> bool
 }
 
 /// The frame at the front of the ring arrives, if no slot is still to end at its time. The error
-/// says that memory was refused: then nothing has changed.
+/// says that memory was refused: then nothing has changed, and the frame is still to arrive. One
+/// that is dropped for its shape needs none.
 pub fn bring_next(
     networks: &mut [Network],
     transit: &mut VecDeque<InTransit>,
@@ -69,6 +71,9 @@ pub fn bring_next(
     ensures within { IfOk result (λ o. IfSome o (λ b. b.switch < length networks.old)) }
     ensures others { IfOk result (λ o. IfSome o (λ b.
         AreOthersSame b.switch networks.old networks.new)) }
+    ensures judged { (c : Plan) (time : ℕ) (ring : List OnCable) (so_far : List SwitchEvent) →
+        Keeps c networks.old time ring so_far → AreInTransit c transit.old.items ring →
+        OnErr result (LacksForFront c ring so_far) }
     ensures refused { OnErr result ((networks.new ≡ networks.old)
         × (transit.new.items ≡ transit.old.items)) }
 {
@@ -80,7 +85,8 @@ pub fn bring_next(
 }
 
 /// The first turn of all switches, if it is given by `until`, where no cable has a frame of an
-/// earlier time. The error says that memory was refused: then nothing has changed.
+/// earlier time. The error says that memory was refused: then nothing has changed, and the turn is
+/// still to come.
 pub fn turn_next(
     networks: &mut [Network],
     ends: &[Option<FarEnd>],
@@ -109,6 +115,9 @@ pub fn turn_next(
         × (transit.new.items ≡ transit.old.items))) }
     ensures length { length networks.new ≡ length networks.old }
     ensures others { AreOthersSame first.switch networks.old networks.new }
+    ensures judged { (c : Plan) (time : ℕ) (ring : List OnCable) (so_far : List SwitchEvent) →
+        Keeps c networks.old time ring so_far → IsEarly first.order time ring →
+        OnErr result (LacksForTurn c until so_far first.switch) }
     ensures refused { OnErr result ((networks.new ≡ networks.old)
         × (transit.new.items ≡ transit.old.items)) }
 {

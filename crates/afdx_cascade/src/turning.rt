@@ -1,9 +1,10 @@
 //! A turn of one of several switches is over, or the frame at the front of the ring arrives. The
 //! ring holds the frames that cables carry now, in the order in which they arrive.
 
-ghost use Rattle.std.specs.Prelude.{◌≡◌, ℕ, ◌+◌, ◌*◌, ◌<◌, ◌≤◌, ◌∷◌, List, IfSome, IfNone, IfOk, OnErr, Some, length, slice_get};
+ghost use Rattle.std.specs.Prelude.{◌≡◌, ℕ, ◌+◌, ◌*◌, ◌<◌, ◌≤◌, ◌∷◌, List, IfSome, IfNone, IfOk, OnErr, Some, None, length, slice_get};
 ghost use Rattle.std.specs.VecDeque.{deque_len, deque_capacity};
 ghost use Rattle.afdx_switch.specs.Departures.{as_given};
+ghost use Rattle.afdx_switch.specs.Verdicts.{shape_fault};
 ghost use Rattle.afdx_network.specs.declared.network.Network.{Network as At};
 ghost use Rattle.afdx_network.specs.Network as network;
 ghost use Rattle.afdx_cascade.specs.Due.{OnCable};
@@ -11,7 +12,9 @@ ghost use Rattle.afdx_cascade.specs.SwitchEvents.{Plan, IsPlan, SwitchEvent};
 ghost use Rattle.afdx_cascade.specs.Keys.{AreOthersSame};
 ghost use Rattle.afdx_cascade.specs.Scan.{switches_most};
 ghost use Rattle.afdx_cascade.specs.Standing.{Stands};
-ghost use Rattle.afdx_cascade.specs.Turning.{AreEnds, AreInTransit, TurnsAt, ArrivesAt, CanArrive};
+ghost use Rattle.afdx_cascade.specs.Cables.{brought};
+ghost use Rattle.afdx_cascade.specs.Turning.{AreEnds, AreInTransit, IsInTransit, TurnsAt, ArrivesAt};
+ghost use Rattle.afdx_cascade.specs.Turning.{CanArrive};
 
 use crate::arriving::{bring_at, early_by, give_back_at, take_at};
 use crate::cable::{InTransit, far_end};
@@ -80,7 +83,7 @@ pub(crate) fn turn_at(
 }
 
 /// The frame at the front of the ring arrives at the other end of its cable. The error says that
-/// memory was refused: then nothing has changed.
+/// memory was refused: then nothing has changed. A frame that is dropped for its shape needs none.
 pub(crate) fn front_at(
     networks: &mut [Network],
     transit: &mut VecDeque<InTransit>,
@@ -103,6 +106,11 @@ pub(crate) fn front_at(
         Stands c networks.old at (r ∷ rest) so_far →
         AreInTransit c transit.old.items (r ∷ rest) →
         IfOk result (ArrivesAt c networks.new transit.new.items at r rest so_far) }
+    ensures judged { (c : Plan) (at : ℕ) (r : OnCable) (rest : List OnCable)
+        (so_far : List SwitchEvent) (v : InTransit) →
+        Stands c networks.old at (r ∷ rest) so_far →
+        slice_get transit.old.items 0 ≡ Some v → IsInTransit c v r →
+        OnErr result (shape_fault (c.tables v.switch) (brought r.side v.port r.turn) ≡ None) }
     ensures refused { OnErr result ((networks.new ≡ networks.old)
         × (transit.new.items ≡ transit.old.items)) }
 {

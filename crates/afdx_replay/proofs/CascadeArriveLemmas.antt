@@ -83,6 +83,7 @@ module _ {D : Type 0} (contents : D → Option (List ℕ)) (s : List NamedRows) 
     events = event ∷ k.events;
     first = arrival-first;
     at_line = (k.events, refl);
+    brought = next.brought;
     told = step-told contents s w t start old middle past x.arrival.time k.events k.told k.first after new out event
         next.stands fits (λ systems. told k.events event systems own) (heard k.events event start own);
   }

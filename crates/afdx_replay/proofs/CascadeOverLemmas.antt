@@ -11,6 +11,7 @@ use Rattle.afdx_config.specs.declared.describing.Described.TheVariants.{One, Sev
 use Rattle.afdx_config.specs.declared.switches.FarEnd.{FarEnd}
 use Rattle.afdx_cascade.specs.Cascade as cascade
 use Rattle.afdx_cascade.specs.Turning.{end_of}
+use Rattle.afdx_cascade.proofs.WaitLemmas.{nothing-brought}
 use Rattle.afdx_cascade.specs.declared.cascade.Cascade.{Cascade}
 use Rattle.afdx_commands.specs.Checking.{IsAdmittedFile}
 use Rattle.afdx_commands.specs.Counts.{with_lines}
@@ -143,7 +144,13 @@ pub none-told : {D : Type 0} (contents : D → Option (List ℕ)) (ss : List Nam
     → cascade.IsUntil m.cascade 0 → AreSteady m.teller.counts
     → TellsItems contents (ss, start) m output output []
 none-told contents ss start m output has until steady = record {
-  told = record { events = []; first = λ later from. refl; at_line = refl; told = has };
+  told = record {
+    events = [];
+    first = λ later from. refl;
+    at_line = refl;
+    brought = λ k port side other joined. nothing-brought side k port other;
+    told = has;
+  };
   early = omega arith;
   in_time = tt;
   clock = until;
@@ -262,7 +269,14 @@ module _ {D : Type 0} (contents : D → Option (List ℕ)) (ss : List NamedRows)
       → WritesSoFar ss [] output output × HearsSoFar contents ss [] early early
   unfolding cascade_text
   none-so-far early output = (
-    record { events = []; first = refl; parts = no-parts ss; at_line = refl; written = Appends-nil output },
+    record {
+      events = [];
+      first = refl;
+      parts = no-parts ss;
+      at_line = refl;
+      brought = λ k port side other joined. nothing-brought side k port other;
+      written = Appends-nil output;
+    },
     record { events = []; first = refl; at_line = refl; heard = hears-none early },
   )
 

@@ -16,6 +16,7 @@ use Rattle.afdx_cascade.proofs.CountedLemmas.{events-counted}
 use Rattle.afdx_cascade.proofs.KeptLemmas.{keeps-so-far}
 use Rattle.afdx_cascade.proofs.OnceLemmas.{at-most-listed}
 use Rattle.afdx_cascade.proofs.PartLemmas.{begins-alone}
+use Rattle.afdx_cascade.proofs.WaitLemmas.{cables-bring-first, none-brought}
 use Rattle.afdx_cascade.proofs.WayHopLemmas.{cascade-admitted}
 use Rattle.afdx_config.specs.Switches.{AreSwitches, NamedRows}
 use Rattle.afdx_network.specs.Events.{Event}
@@ -66,6 +67,7 @@ parts-so-far s past w events stands runs = record {
   end_to_end = λ are admitted.
       keeps-so-far built_is_computed s events (cascade-admitted s w events are admitted stands)
       (λ k within. begins-alone (plan_of s) w events k stands within);
+  cables = λ k port side other joined. cables-bring-first (plan_of s) w events k port side other stands joined;
   once = λ side k test.
       (let most = at-most-listed (plan_of s) events side k test stands.keeps.plan stands.keeps.stands.rules in
       let same = ap (count_if (passes side test)) frames in
@@ -91,6 +93,7 @@ no-parts s = record {
   begun = nothing;
   told = λ admitted k within. refl;
   end_to_end = λ are admitted. keeps-so-far built_is_computed s [] (nothing-came s are admitted) nothing;
+  cables = λ k port side other joined. none-brought side k port other;
   once = λ side k test. omega arith;
   few = omega arith;
 }

@@ -274,6 +274,7 @@ module _ {D : Type 0} (contents : D → Option (List ℕ)) (s : List NamedRows) 
       parts = parts-so-far s past w told.events told.told.switches_are
           (first-taken s past (latest_line past) told.events told.first);
       at_line = told.at_line;
+      brought = told.brought;
       written = told.told.written;
     },
     record {

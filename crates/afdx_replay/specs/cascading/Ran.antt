@@ -11,17 +11,15 @@ use Rattle.afdx_engine.specs.Lists.{Kind, items_of, HaveNoFault}
 use Rattle.afdx_engine.specs.Stops.{StopsIn}
 use Rattle.afdx_commands.specs.Counts.{with_lines}
 use Rattle.afdx_replay.specs.cascading.Sited.{sited_frames, sites_of}
-use Rattle.afdx_cascade.specs.Cables.{brought_by}
 use Rattle.afdx_cascade.specs.EndToEnd.{AreAllEvents}
 use Rattle.afdx_cascade.specs.Kept.{KeepsEndToEnd, KeepsEndToEndSoFar}
-use Rattle.afdx_cascade.specs.Parts.{AreOfList, frames_of}
+use Rattle.afdx_cascade.specs.Parts.{AreOfList, BringsFirst, frames_of}
 use Rattle.afdx_cascade.specs.Plans.{plan_of, tables_of}
 use Rattle.afdx_cascade.specs.Receivers.{HaveBegun, lines_of, lines_so_far}
 use Rattle.afdx_cascade.specs.Runs.{Line, Runs, AreAll}
 use Rattle.afdx_cascade.specs.SwitchEvents.{End, SwitchEvent, FrameTest, accepted_by, at_switch}
-use Rattle.afdx_cascade.specs.SwitchEvents.{came_to, count_if, in_clock, passes, turns_of}
+use Rattle.afdx_cascade.specs.SwitchEvents.{HaveBroughtAll, came_to, count_if, passes}
 use Rattle.afdx_network.specs.Order.{events_of}
-use Rattle.afdx_promises.specs.Sent.{arrivals_at}
 use Rattle.afdx_commands.specs.declared.summary.Summary.{Summary}
 use Rattle.afdx_config.specs.Switches.{AreSwitches, NamedRows}
 use Rattle.afdx_lists.specs.Calls.{AppendsFront}
@@ -59,10 +57,7 @@ pub record AreInParts (switches : List NamedRows) (lines : List Line) (events : 
   pub end_to_end : AreSwitches switches → IsCascadeAdmitted switches →
       KeepsEndToEnd switches events
   -- a cable brought what left the port at its other end, but for what left too late to arrive
-  pub cables : (k port : ℕ) (side : Side) (other : End) →
-      (plan_of switches).far_end k port ≡ Some other →
-      brought_by side port (in_clock (turns_of other.switch side other.port events))
-      ≡ arrivals_at side port (came_to k events)
+  pub cables : HaveBroughtAll (plan_of switches) events
   -- a switch accepts no frame more often than the list has it, there are few events, and one list
   pub listed : AreOfList (plan_of switches) lines events
 
@@ -79,6 +74,11 @@ pub record AreInPartsSoFar (switches : List NamedRows) (taken : List Line)
   -- told, is the first of what all events give
   pub end_to_end : AreSwitches switches → IsCascadeAdmitted switches →
       KeepsEndToEndSoFar switches events
+  -- a cable brought the first of what left the port at its other end: all but one frame at most,
+  -- which left last
+  pub cables : (k port : ℕ) (side : Side) (other : End) →
+      (plan_of switches).far_end k port ≡ Some other →
+      BringsFirst side k port other events
   -- a switch accepts on a side, of any frames, at most as many as these lines have there
   pub once : (side : Side) (k : ℕ) (test : FrameTest) →
       count_if (passes side test) (accepted_by (tables_of switches k) (came_to k events))
@@ -110,6 +110,8 @@ module _ (switches : List NamedRows) (past : List Line) where
     pub first : AreFirstOf events
     pub parts : AreInPartsSoFar switches past events
     pub at_line : EndsAtLine switches past events
+    -- no cable has a frame then
+    pub brought : HaveBroughtAll (plan_of switches) events
     pub written : Appends old new (cascade_text switches events)
 
   -- a beginning of the text of first events is written

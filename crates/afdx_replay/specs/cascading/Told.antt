@@ -10,7 +10,7 @@ use Rattle.afdx_cascade.specs.Cascade.{AreFrom}
 use Rattle.afdx_cascade.specs.Plans.{plan_of, tables_of}
 use Rattle.afdx_cascade.specs.Runs.{Line, Runs, arriving}
 use Rattle.afdx_cascade.specs.Scan.{switches_most}
-use Rattle.afdx_cascade.specs.SwitchEvents.{SwitchEvent, at_switch}
+use Rattle.afdx_cascade.specs.SwitchEvents.{SwitchEvent, HaveBroughtAll, at_switch}
 use Rattle.afdx_cascade.specs.declared.cascade.Cascade.{Cascade}
 use Rattle.afdx_cascade.specs.declared.told.Happened.{Happened}
 use Rattle.afdx_cascade.specs.declared.told.Happened.TheVariants.{Over, Came}
@@ -103,10 +103,11 @@ module _ {D : Type 0} (contents : D → Option (List ℕ)) (switches : List Name
     pub first : AreFirst switches past until events
     pub told : HasTold w t start old new events
 
-  -- these lines are told, and what happens before the last of them
+  -- these lines are told, and what happens before the last of them; no cable has a frame then
   pub record AreTold (w : Cascade) (t : Teller D) (start : Option (Watched D)) (old new : Known)
       (past : List Line) : Type 0 where
     pub events : List SwitchEvent
     pub first : AreFirst switches past (latest_line past) events
     pub at_line : EndsAtLine switches past events
+    pub brought : HaveBroughtAll (plan_of switches) events
     pub told : HasTold w t start old new events

@@ -37,6 +37,13 @@ returns-clause-verdict c p at ring so_far st =
     (st.all.each k _
     (slice_get-get_or c.args.networks.now k c.index-networks-switch.result c.requires.within))
 
+pub returns-clause-judged : goal.returns-clause-judged
+returns-clause-judged c p at ring so_far st =
+    let k = c.args.switch in
+    c.arrive.ensures.judged (p.tables k) (at_switch k so_far)
+    (st.all.each k _
+    (slice_get-get_or c.args.networks.now k c.index-networks-switch.result c.requires.within))
+
 pub returns-clause-length : goal.returns-clause-length
 returns-clause-length c = length-set c.args.networks.now c.args.switch c.arrive.new.self
 

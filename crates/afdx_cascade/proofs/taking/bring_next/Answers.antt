@@ -1,6 +1,6 @@
 use Rattle.std.proofs.Common.{refl}
 use Rattle.afdx_cascade.proofs.taking.bring_next.Goals as goal
-use Rattle.afdx_cascade.proofs.NextLemmas.{front-limit, front-asked, front-brings}
+use Rattle.afdx_cascade.proofs.NextLemmas.{front-limit, front-asked, front-brings, front-lacks}
 
 pub is_front_next-requires : goal.is_front_next-requires
 is_front_next-requires c v here =
@@ -21,3 +21,9 @@ returns-clause-brings c p time ring so_far keeps transit =
     (c.if-not-is_front_next.ensures.0 refl) c.front_at.new.networks c.front_at.new.transit.items c.in_ok-brought.brought
     (λ r rest st are. c.in_ok-brought.ensures.arrives p time r rest so_far keeps.plan st are)
     c.front_at.ensures.length c.front_at.ensures.clock c.front_at.ensures.still
+
+pub returns-in_err-brought-clause-judged : goal.returns-in_err-brought-clause-judged
+returns-in_err-brought-clause-judged c p time ring so_far keeps transit =
+    front-lacks p c.args.networks.now time ring so_far c.args.first c.args.transit.now.items keeps c.requires.first transit
+    (c.if-not-is_front_next.ensures.0 refl)
+    (λ v r rest st here on. c.in_err-brought.ensures.judged p time r rest so_far v st here on)

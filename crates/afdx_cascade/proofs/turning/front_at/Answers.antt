@@ -1,13 +1,15 @@
-use Rattle.std.proofs.Common.{◌∙◌, ap, sym, subst, List, ◌∷◌}
+use Rattle.std.proofs.Common.{◌≡◌, ◌∙◌, ap, sym, subst, List, ◌∷◌, None}
 use Rattle.afdx_network.specs.declared.network.Network.{Network}
 use Rattle.afdx_port.specs.declared.left.Left.{Left}
 use Rattle.afdx_switch.specs.HeldFrames.{HeldFrame}
+use Rattle.afdx_switch.specs.Verdicts.{shape_fault}
 use Rattle.afdx_cascade.specs.Cables.{brought}
 use Rattle.afdx_cascade.specs.Runs.{arriving}
 use Rattle.afdx_cascade.specs.Standing.{Stands}
-use Rattle.afdx_cascade.specs.Turning.{AreInTransit}
+use Rattle.afdx_cascade.specs.Turning.{AreInTransit, IsInTransit}
+use Rattle.afdx_cascade.specs.declared.cable.InTransit.{InTransit}
 use Rattle.afdx_cascade.proofs.turning.front_at.Goals as goal
-use Rattle.afdx_cascade.proofs.TurningLemmas.{split-transit}
+use Rattle.afdx_cascade.proofs.TurningLemmas.{front-one, split-transit}
 
 pub returns-clause-arrives : goal.returns-clause-arrives
 returns-clause-arrives c p at r rest so_far plan st are =
@@ -27,3 +29,10 @@ returns-clause-arrives c p at r rest so_far plan st are =
           parts.0.side parts.0.left
           (c.in_ok-verdict.ensures.verdict p at r rest so_far st parts.0.side parts.0.left);
     }
+
+pub returns-in_err-verdict-clause-judged : goal.returns-in_err-verdict-clause-judged
+returns-in_err-verdict-clause-judged c p at r rest so_far v st here on =
+    let same = front-one c.args.transit.now.items v c.in-Some.front.now here c.in-Some.ensures.lookup in
+    let it = subst (λ (z : InTransit). IsInTransit p z r) same on in
+    subst (λ (z : InTransit). shape_fault (p.tables z.switch) (brought r.side z.port r.turn) ≡ None) (sym same)
+    (c.in_err-verdict.ensures.judged p at r rest so_far st it.side it.left)

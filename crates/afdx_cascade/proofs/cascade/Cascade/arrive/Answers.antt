@@ -48,3 +48,8 @@ returns-clause-next c p so_far st free =
     c.arrive_at.ensures.clock c.arrive_at.ensures.still c.in_ok-verdict.verdict
     (c.in_ok-verdict.ensures.stands p st.time st.ring so_far stands free)
     (c.in_ok-verdict.ensures.verdict p st.time st.ring so_far stands)
+
+pub returns-in_err-verdict-clause-judged : goal.returns-in_err-verdict-clause-judged
+returns-in_err-verdict-clause-judged c p so_far st =
+    c.in_err-verdict.ensures.judged p st.time st.ring so_far
+    (subst (λ zs. Stands p zs st.time st.ring so_far) (sym c.deref_mut.ensures.value) st.keeps.stands)

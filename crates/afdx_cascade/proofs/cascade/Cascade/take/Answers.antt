@@ -11,6 +11,7 @@ use Rattle.afdx_cascade.specs.Scan.{IsFirstFrom}
 use Rattle.afdx_cascade.specs.Turning.{AreEnds, AreInTransit}
 use Rattle.afdx_cascade.specs.declared.cascade.Cascade.{Cascade}
 use Rattle.afdx_cascade.proofs.CascadeLemmas.{some-of, none-of, came-next, over-next, none-next}
+use Rattle.afdx_cascade.proofs.CascadeLemmas.{front-to-come, turn-to-come}
 use Rattle.afdx_cascade.proofs.cascade.Cascade.take.Goals as goal
 
 -- the first turn of the networks as they were
@@ -224,3 +225,28 @@ returns-in-None-clause-none c p so_far st =
     (λ k n at. quiet k n (subst (λ zs. slice_get zs k ≡ Some n) now_is at))
     (λ late. none-of c.in_ok-turned.field-0 (IsNothingDue p so_far) c.in-None.is
     (c.in_ok-turned.ensures.all_done p st.time st.ring so_far keeps early late))
+
+-- memory is lacked
+pub returns-in_err-brought-clause-judged : goal.returns-in_err-brought-clause-judged
+returns-in_err-brought-clause-judged c p so_far st =
+    front-to-come p so_far c.args.self.now c.args.until st c.requires.clock
+    (c.in_err-brought.ensures.judged p st.time st.ring so_far
+    (subst (λ zs. Keeps p zs st.time st.ring so_far) (sym c.deref_mut.ensures.value) st.keeps) st.in_transit)
+
+pub returns-in_err-turned-clause-judged : goal.returns-in_err-turned-clause-judged
+returns-in_err-turned-clause-judged c p so_far st =
+    let old = c.args.self.now in
+    let ns = c.bring_next.new.networks in
+    let f = c.first_of-first.result in
+    let lent = c.deref_mut.ensures.value in
+    let is = with_items_is old.networks ns (c.bring_next.ensures.length ∙ ap length lent ∙ sym old.networks.ok.0) in
+    let same = none-of c.in_ok-brought.field-0
+    ((ns ≡ c.deref_mut.result.now) × (c.bring_next.new.transit.items ≡ old.transit.items))
+    c.in_default.is c.in_ok-brought.ensures.same in
+    let early = none-of c.in_ok-brought.field-0 (IsEarly f.order st.time st.ring) c.in_default.is
+    (c.in_ok-brought.ensures.early p st.time st.ring so_far
+    (subst (λ zs. Keeps p zs st.time st.ring so_far) (sym lent) st.keeps) st.in_transit) in
+    let again = c.deref_mut-2.ensures.value ∙ is ∙ same.0 ∙ lent in
+    turn-to-come p so_far c.args.until f.switch
+    (c.in_err-turned.ensures.judged p st.time st.ring so_far
+    (subst (λ zs. Keeps p zs st.time st.ring so_far) (sym again) st.keeps) early)
