@@ -1,5 +1,5 @@
 -- What the command conform does, whatever its run answers.
-use Rattle.std.specs.Prelude.{ℕ, ◌≡◌, ◌⊎◌, Bool, List, Option, Some, None, Result, Ok, Err, OnOk, OnErr}
+use Rattle.std.specs.Prelude.{ℕ, ◌≡◌, ◌⊎◌, Bool, List, Option, Some, None, Result, Ok, Err, OnOk, IfErr}
 use Rattle.std.specs.Prelude.{codes, option_and_then, option_map, slice_get}
 use Rattle.afdx_commands.specs.Checking.{IsRead}
 use Rattle.afdx_commands.specs.Taking.{IsUnread}
@@ -12,7 +12,7 @@ use Rattle.afdx_lists.specs.Calls.{is_failed_read, is_failed_write}
 use Rattle.afdx_lists.specs.Faults as lists
 use Rattle.afdx_lists.specs.declared.fault.RunFault.{RunFault}
 use Rattle.afdx_lists.specs.declared.watched.Watched.{Watched}
-use Rattle.afdx_text.specs.Telling.{Tells, TellsLine}
+use Rattle.afdx_text.specs.Telling.{Tells, TellsFault}
 use Rattle.afdx_acceptance.specs.Totals.{status_of}
 use Rattle.afdx_acceptance.specs.declared.command.Judged.{Judged}
 use Rattle.afdx_acceptance.specs.declared.run.RunCounts.{RunCounts}
@@ -50,7 +50,7 @@ module _ {E : Type 0} (error_bytes : E → Option (List ℕ)) (old new : Watched
   pub record EndsAs (ended : Judged) (answer : Result RunCounts RunFault) : Type 0 where
     pub status_is : ended.status ≡ status_of_answer answer
     pub count_is : ended.count ≡ count_of_answer answer
-    pub told : OnErr answer (TellsLine error_bytes old new)
+    pub told : IfErr answer (TellsFault error_bytes old new)
     pub silent : OnOk answer (new ≡ old)
 
   -- there is no such switch

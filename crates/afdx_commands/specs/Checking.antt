@@ -7,7 +7,8 @@ use Rattle.afdx_config.specs.declared.describing.Described.{Described}
 use Rattle.afdx_config.specs.declared.describing.Described.TheVariants.{One, Several}
 use Rattle.afdx_admit.specs.Cascade.{IsCascadeAdmitted}
 use Rattle.afdx_lists.specs.Calls.{AppendsFront}
-use Rattle.afdx_text.specs.Telling.{TellsLine}
+use Rattle.afdx_lists.specs.declared.fault.RunFault.TheVariants as run
+use Rattle.afdx_text.specs.Telling.{TellsFault}
 use Rattle.afdx_lists.specs.declared.watched.Watched.{Watched}
 use Rattle.afdx_lists.specs.Watching.{device_of, has_failed}
 use Rattle.afdx_commands.specs.declared.check_tables.CheckOptions.{CheckOptions}
@@ -76,7 +77,7 @@ module _ {O E : Type 0} (text : Described → List ℕ) (bytes : O → Option (L
     pub described : Described
     pub begins : BeginsCheck text config (bytes (device_of old.0)) (bytes (device_of new.0))
         described
-    pub told : TellsLine error_bytes old.1 new.1
+    pub told : TellsFault error_bytes old.1 new.1 run.Write
 
   -- memory was refused, and nothing is written
   pub record IsUnchecked : Type 0 where

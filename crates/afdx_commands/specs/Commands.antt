@@ -1,5 +1,5 @@
 -- How a command ends that runs over a list or a recording.
-use Rattle.std.specs.Prelude.{ℕ, ◌≡◌, ◌||◌, Bool, List, ◌++◌, Option, Result, Ok, Err, OnOk, OnErr}
+use Rattle.std.specs.Prelude.{ℕ, ◌≡◌, ◌||◌, Bool, List, ◌++◌, Option, Result, Ok, Err, OnOk, IfErr}
 use Rattle.std.specs.Prelude.{◌⊎◌, true, false, codes, decimal}
 use Rattle.std.specs.Result.{result_ok}
 use Rattle.afdx_frame.specs.declared.by_side.BySide.{BySide}
@@ -8,7 +8,7 @@ use Rattle.afdx_lists.specs.declared.watched.Watched.{Watched}
 use Rattle.afdx_lists.specs.Watching.{has_ended, has_failed}
 use Rattle.afdx_lists.specs.Calls.{is_failed_read, is_failed_write}
 use Rattle.afdx_lists.specs.Faults.{status_of}
-use Rattle.afdx_text.specs.Telling.{TellsLine}
+use Rattle.afdx_text.specs.Telling.{TellsFault}
 use Rattle.afdx_commands.specs.declared.ending.Ended.{Ended}
 use Rattle.afdx_commands.specs.declared.summary.Summary.{Summary}
 
@@ -41,7 +41,7 @@ pub record EndsWith {E : Type 0} (error_bytes : E → Option (List ℕ)) (all_re
     (answer : Result Summary RunFault) : Type 0 where
   pub status_is : ended_with.status ≡ status_of_answer answer
   pub summary_is : ended_with.summary ≡ result_ok answer
-  pub told : OnErr answer (TellsLine error_bytes old_errors new_errors)
+  pub told : IfErr answer (TellsFault error_bytes old_errors new_errors)
   pub silent : OnOk answer (new_errors ≡ old_errors)
   pub ended : OnOk answer all_read
   pub read : input_failed ≡ is_failed_read answer

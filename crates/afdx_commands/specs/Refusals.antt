@@ -13,7 +13,8 @@ use Rattle.afdx_admit.specs.Known.{name_at, name_of}
 use Rattle.afdx_admit.specs.Lines.{first_false, lines}
 use Rattle.afdx_admit.specs.declared.cascade_fault.CascadeFault.{CascadeFault}
 use Rattle.afdx_admit.specs.declared.fault.AdmitFault.{AdmitFault}
-use Rattle.afdx_text.specs.Telling.{Tells, TellsLine}
+use Rattle.afdx_lists.specs.declared.fault.RunFault.TheVariants as run
+use Rattle.afdx_text.specs.Telling.{Tells, TellsFault}
 use Rattle.afdx_lists.specs.declared.watched.Watched.{Watched}
 
 -- the line of a fault of a configuration, of one switch or of several
@@ -47,7 +48,7 @@ module _ {E : Type 0} (error_bytes : E → Option (List ℕ)) (old new : Watched
   -- memory was refused: status 4, and its line
   pub record WantsMemory (status : ℕ) : Type 0 where
     pub status_is : status ≡ 4
-    pub told : TellsLine error_bytes old new
+    pub told : TellsFault error_bytes old new run.Memory
 
   -- this line with status 1
   pub record IsToldRefused (status : ℕ) (line : List ℕ) : Type 0 where

@@ -26,7 +26,8 @@ use Rattle.afdx_solve.specs.declared.options.SolveOptions.{SolveOptions}
 use Rattle.afdx_lists.specs.Calls.{AppendsFront}
 use Rattle.afdx_lists.specs.Watching.{device_of, has_failed}
 use Rattle.afdx_lists.specs.declared.watched.Watched.{Watched}
-use Rattle.afdx_text.specs.Telling.{Tells, TellsLine}
+use Rattle.afdx_lists.specs.declared.fault.RunFault.TheVariants as run
+use Rattle.afdx_text.specs.Telling.{Tells, TellsFault}
 use Rattle.afdx_commands.specs.CascadeText.{cascade_fault_line}
 use Rattle.afdx_commands.specs.CheckText.{fault_line}
 use Rattle.afdx_commands.specs.Refusals.{file_line, IsToldRefused, WantsMemory}
@@ -134,7 +135,7 @@ module _ {O E : Type 0} (o : SolveOptions) (bytes : O → Option (List ℕ))
     pub needs : List ℕ
     pub answer : IsSolution o config text needs ⊎ IsDenial o config text
     pub begun : AppendsFront (bytes (device_of old.0)) (bytes (device_of new.0)) text
-    pub told : TellsLine error_bytes old.1 new.1
+    pub told : TellsFault error_bytes old.1 new.1 run.Write
 
   -- memory was refused, and nothing is written
   pub record IsUnmade : Type 0 where

@@ -1,10 +1,10 @@
 //! How a command ends that ran over a list.
 
-ghost use Rattle.std.specs.Prelude.{◌≡◌, ◌==◌, ◌&&◌, ◌⊎◌, ◌↔◌, if◌then◌else◌, [], IsSome, OnOk, OnErr, false, true};
+ghost use Rattle.std.specs.Prelude.{◌≡◌, ◌==◌, ◌&&◌, ◌⊎◌, ◌↔◌, if◌then◌else◌, [], IsSome, OnOk, IfErr, false, true};
 ghost use Rattle.std.specs.Result.{result_ok};
 ghost use Rattle.std.specs.Io.KnownBytes.{Keeps};
 ghost use Rattle.afdx_text.specs.Outputs.{written, held_bytes, device_has_failed};
-ghost use Rattle.afdx_text.specs.Telling.{TellsLine};
+ghost use Rattle.afdx_text.specs.Telling.{TellsFault};
 ghost use Rattle.afdx_commands.specs.Commands.{status_of_answer};
 
 use crate::status::DONE;
@@ -38,7 +38,7 @@ pub fn end<E: Write>(answer: Result<Summary, RunFault>, errors: &mut Watched<E>)
     ensures status { result.status ≡ status_of_answer answer }
     ensures summary { result.summary ≡ result_ok answer }
     ensures counts { IsSome result.summary ↔ (result.status ≡ 0) }
-    ensures told { OnErr answer (TellsLine E.contents errors.old errors.new) }
+    ensures told { IfErr answer (TellsFault E.contents errors.old errors.new) }
     ensures silent { OnOk answer (errors.new ≡ errors.old) }
 {
     match answer {
@@ -69,7 +69,7 @@ pub fn finish<O: Write + Drop, E: Write>(
     ensures kept { Keeps (written O.contents output.old) (written O.contents output.new) }
     ensures status { ((result ≡ status) × (errors.new ≡ errors.old))
         ⊎ ((status ≡ 0) × (result ≡ 4)
-        × TellsLine E.contents errors.old errors.new) }
+        × TellsFault E.contents errors.old errors.new RunFault.Write) }
 {
     if output.failed() {
         return status;

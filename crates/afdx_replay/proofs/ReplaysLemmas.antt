@@ -2,7 +2,7 @@
 use Rattle.std.proofs.Common.{◌≡◌, ℕ, List, [], ◌∷◌, Option, Some, None, Result, Ok, Err, refl, ap, arith, Bool, ◌⊎◌, inl, inr}
 use Rattle.std.proofs.KnownBytes.{Appends-nil}
 use Rattle.std.specs.Io.KnownBytes.{Appends}
-use Rattle.std.specs.Prelude.{IfSome, OnErr, OnOk}
+use Rattle.std.specs.Prelude.{IfSome, IfErr, OnOk}
 use Rattle.std.specs.Result.{result_ok}
 use Rattle.afdx_config.proofs.AmongOthersLemmas.{admitted-serving}
 use Rattle.afdx_config.specs.Admission.{IsAdmitted}
@@ -15,7 +15,7 @@ use Rattle.afdx_lists.specs.Calls.{is_failed_read, is_failed_write}
 use Rattle.afdx_lists.specs.declared.fault.RunFault.{RunFault}
 use Rattle.afdx_lists.specs.declared.fault.RunFault.TheVariants as run
 use Rattle.afdx_lists.specs.declared.watched.Watched.{Watched}
-use Rattle.afdx_text.specs.Telling.{TellsLine}
+use Rattle.afdx_text.specs.Telling.{TellsFault}
 use Rattle.afdx_network.specs.Order.{events_of}
 use Rattle.afdx_switch.specs.Admitted.{IsAdmittedRun}
 use Rattle.afdx_inputs.specs.Arrivals.{By, DontGoBack}
@@ -178,7 +178,7 @@ pub ends-in : {E : Type 0} (error_bytes : E → Option (List ℕ)) (all_read : T
     (old new : Watched E) (ended : InputEnded) (r : Result InputSummary RunFault)
     → ended.ended.status ≡ status_of_answer (summary_in r) → ended.ended.summary ≡ result_ok (summary_in r)
     → ended.tally ≡ tally_in r
-    → OnErr (summary_in r) (TellsLine error_bytes old new) → OnOk (summary_in r) (new ≡ old)
+    → IfErr (summary_in r) (TellsFault error_bytes old new) → OnOk (summary_in r) (new ≡ old)
     → OnOk r all_read → input_failed ≡ is_failed_read r → failed ≡ is_failed_write r
     → EndsInputAs error_bytes all_read input_failed failed old new ended r
 ends-in error_bytes all_read input_failed failed old new ended (Ok all) a b t c d e f g = record {

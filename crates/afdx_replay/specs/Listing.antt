@@ -1,6 +1,6 @@
 -- What the command `list` does: it writes a recording, or two that are read at once, as the frame
 -- list that says the same.
-use Rattle.std.specs.Prelude.{ℕ, ◌≡◌, Bool, List, Option, Result, Ok, Err, OnErr, OnOk}
+use Rattle.std.specs.Prelude.{ℕ, ◌≡◌, Bool, List, Option, Result, Ok, Err, IfErr, OnOk}
 use Rattle.std.specs.Result.{result_ok}
 use Rattle.afdx_config.specs.declared.describing.Described.{Described}
 use Rattle.afdx_lists.specs.Calls.{is_failed_read, is_failed_write}
@@ -10,7 +10,7 @@ use Rattle.afdx_lists.specs.declared.fault.RunFault.{RunFault}
 use Rattle.afdx_lists.specs.declared.watched.Watched.{Watched}
 use Rattle.afdx_inputs.specs.RecordingRun.{IsAskedOnce}
 use Rattle.afdx_recorded.specs.declared.counts.Tally.{Tally}
-use Rattle.afdx_text.specs.Telling.{TellsLine}
+use Rattle.afdx_text.specs.Telling.{TellsFault}
 use Rattle.afdx_commands.specs.Checking.{IsRead}
 use Rattle.afdx_replay.specs.declared.listing.ListEnded.{ListEnded}
 
@@ -32,7 +32,7 @@ pub record EndsListed {E : Type 0} (error_bytes : E → Option (List ℕ)) (all_
     (ended_with : ListEnded) (answer : Result Tally RunFault) : Type 0 where
   pub status_is : ended_with.status ≡ status_of_listing answer
   pub tally_is : ended_with.tally ≡ result_ok answer
-  pub told : OnErr answer (TellsLine error_bytes old_errors new_errors)
+  pub told : IfErr answer (TellsFault error_bytes old_errors new_errors)
   pub silent : OnOk answer (new_errors ≡ old_errors)
   pub ended : OnOk answer all_read
   pub read : input_failed ≡ is_failed_read answer

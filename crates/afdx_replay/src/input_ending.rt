@@ -1,8 +1,8 @@
 //! How a command ends that ran over an input, and what it counted.
 
-ghost use Rattle.std.specs.Prelude.{◌≡◌, ◌↔◌, IsSome, OnOk, OnErr};
+ghost use Rattle.std.specs.Prelude.{◌≡◌, ◌↔◌, IsSome, OnOk, IfErr};
 ghost use Rattle.std.specs.Result.{result_ok};
-ghost use Rattle.afdx_text.specs.Telling.{TellsLine};
+ghost use Rattle.afdx_text.specs.Telling.{TellsFault};
 ghost use Rattle.afdx_commands.specs.Commands.{status_of_answer};
 ghost use Rattle.afdx_replay.specs.Inputs.{summary_in, summary_of, tally_in};
 
@@ -74,7 +74,7 @@ pub(crate) fn end_input<E: Write>(
     ensures summary { result.ended.summary ≡ result_ok (summary_in answer) }
     ensures tally { result.tally ≡ tally_in answer }
     ensures counts { IsSome result.ended.summary ↔ (result.ended.status ≡ 0) }
-    ensures told { OnErr (summary_in answer) (TellsLine E.contents errors.old errors.new) }
+    ensures told { IfErr (summary_in answer) (TellsFault E.contents errors.old errors.new) }
     ensures silent { OnOk (summary_in answer) (errors.new ≡ errors.old) }
 {
     match answer {

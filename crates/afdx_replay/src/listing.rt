@@ -1,6 +1,6 @@
 //! The command `list`.
 
-ghost use Rattle.std.specs.Prelude.{◌≡◌, ◌||◌, ◌⊎◌, ◌↔◌, Result, None, IsSome, IfSome, OnOk, OnErr, false, true};
+ghost use Rattle.std.specs.Prelude.{◌≡◌, ◌||◌, ◌⊎◌, ◌↔◌, Result, None, IsSome, IfSome, OnOk, IfErr, false, true};
 ghost use Rattle.std.specs.Result.{result_ok};
 ghost use Rattle.afdx_lists.specs.Calls.{is_failed_read, is_failed_write};
 ghost use Rattle.afdx_lists.specs.Watching.{device_of, has_ended, has_failed};
@@ -12,7 +12,7 @@ ghost use Rattle.afdx_inputs.specs.ListText.{ListingAnswers, ListsTaken};
 ghost use Rattle.afdx_inputs.specs.RecordingRun.{AreCutOffInPair, IfBothKnown, taken_of_pair};
 ghost use Rattle.afdx_lists.specs.declared.fault.RunFault.{RunFault as Fault};
 ghost use Rattle.afdx_recorded.specs.declared.counts.Tally.{Tally as Counted};
-ghost use Rattle.afdx_text.specs.Telling.{TellsLine};
+ghost use Rattle.afdx_text.specs.Telling.{TellsFault};
 ghost use Rattle.afdx_commands.specs.Commands.{IsFourIfFailed, IsWholeIfDone};
 ghost use Rattle.afdx_commands.specs.Commands.{have_ended, one_has_failed};
 ghost use Rattle.afdx_replay.specs.Listing.{EndsListed, IsAskedOnceFor, ListsIn, status_of_listing};
@@ -77,7 +77,7 @@ fn end_listing<E: Write>(answer: Result<Tally, RunFault>, errors: &mut Watched<E
     ensures status { result.status ≡ status_of_listing answer }
     ensures tally { result.tally ≡ result_ok answer }
     ensures counts { IsSome result.tally ↔ (result.status ≡ 0) }
-    ensures told { OnErr answer (TellsLine E.contents errors.old errors.new) }
+    ensures told { IfErr answer (TellsFault E.contents errors.old errors.new) }
     ensures silent { OnOk answer (errors.new ≡ errors.old) }
 {
     match answer {

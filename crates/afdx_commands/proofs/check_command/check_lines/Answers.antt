@@ -24,5 +24,5 @@ returns-clause-stopped g c =
         };
         written = rw text at c.in-Err-write_text.ensures.front;
       };
-      told = c.tell_fault.ensures;
+      told = rw c.in-Err-write_text.ensures.fault at c.tell_fault.ensures;
     })

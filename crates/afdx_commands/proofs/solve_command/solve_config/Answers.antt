@@ -31,5 +31,5 @@ returns-clause-stopped g c =
           (λ yes. c.in-Ok-answer_of.ensures.solution yes config c.in-Ok.ensures.ok)
           (λ no_. c.in-Ok-answer_of.ensures.denial no_ config c.in-Ok.ensures.ok);
       begun = rw c.as_bytes.ensures.value at c.in-Err-write_text.ensures.front;
-      told = c.tell_fault.ensures;
+      told = rw c.in-Err-write_text.ensures.fault at c.tell_fault.ensures;
     })
