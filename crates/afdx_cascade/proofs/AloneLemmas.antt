@@ -18,7 +18,7 @@ use Rattle.afdx_switch.specs.Tables.{rule_of, goes_to}
 use Rattle.afdx_switch.specs.Verdicts.{reason_of}
 use Rattle.afdx_cascade.specs.Admitted.{IsRow, IsAdmittedCascade, hop_at, hops_at}
 use Rattle.afdx_cascade.specs.Cables.{Hop, all_turns, brought_by, named, rule_at}
-use Rattle.afdx_cascade.specs.EndToEnd.{AreAllEvents, AreAlike, begins_at, left_from, reasons_on}
+use Rattle.afdx_cascade.specs.EndToEnd.{AreAllEvents, AreAlike, BeginWith, begins_at, left_from, reasons_on}
 use Rattle.afdx_cascade.specs.EndToEnd.{LinksAreAlone, OnlyItsWayIsAccepted, OwnAreOfList, ReasonsAreAlone}
 use Rattle.afdx_cascade.specs.Plans.{plan_of, tables_of}
 use Rattle.afdx_cascade.specs.SwitchEvents.{End, SwitchEvent, came_to}
@@ -110,6 +110,16 @@ reasons-untagged rule [] = refl
 reasons-untagged rule (x ∷ past) =
     ap (λ zs. drop_reason rule zs x ∷ reasons rule (map untagged past)) (own-untagged rule past)
     ∙ ap (λ rs. drop_reason rule (accepted_own rule past) x ∷ rs) (reasons-untagged rule past)
+
+-- they begin with those on the first
+pub reasons-more : (rule : Rule) (later xs : List Arrival) → BeginWith (reasons rule (later ++ xs)) (reasons rule xs)
+unfolding reasons
+reasons-more rule [] xs = ([], refl)
+reasons-more rule (x ∷ later) xs =
+    let rest = reasons-more rule later xs in (
+      reason_after rule (later ++ xs) x ∷ rest.0,
+      ap (λ rs. reason_after rule (later ++ xs) x ∷ rs) rest.1,
+    )
 
 reasons-step : (rule : Rule) (x : Arrival) (xs : List Arrival) (b : Bool)
     → reasons rule (if b then x ∷ xs else xs)

@@ -17,7 +17,8 @@ use Rattle.afdx_cascade.specs.EndToEnd.{accepted_of, begins_at, left_from, liste
 use Rattle.afdx_cascade.specs.Plans.{plan_of, tables_of}
 use Rattle.afdx_cascade.specs.SwitchEvents.{SwitchEvent, came_to, turns_of}
 use Rattle.afdx_cascade.specs.Ways.{bytes_of, first_of, latency_of, untagged}
-use Rattle.afdx_cascade.proofs.AloneLemmas.{left-is, own-of-list, reasons, reasons-are, reasons-untagged}
+use Rattle.afdx_cascade.proofs.AloneLemmas.{left-is, own-of-list, reasons, reasons-are, reasons-more}
+use Rattle.afdx_cascade.proofs.AloneLemmas.{reasons-untagged}
 use Rattle.afdx_cascade.proofs.EndToEndLemmas.{accepted-at, first-hop, row-port}
 use Rattle.afdx_cascade.proofs.OnceLemmas.{turns-there}
 use Rattle.afdx_cascade.proofs.WayHopLemmas.{hop-is, rows-ways}
@@ -63,15 +64,6 @@ accepted-begin rule xs ys begins =
     (untagged-bytes rule ys)
     (begin-map (λ (x : Arrival). x.bytes) (accepted_arrivals rule all) (accepted_arrivals rule (map untagged ys))
     (accepted-more rule begins.0 (map untagged ys)))
-
-reasons-more : (rule : Rule) (later xs : List Arrival) → BeginWith (reasons rule (later ++ xs)) (reasons rule xs)
-unfolding reasons
-reasons-more rule [] xs = ([], refl)
-reasons-more rule (x ∷ later) xs =
-    let rest = reasons-more rule later xs in (
-      reason_after rule (later ++ xs) x ∷ rest.0,
-      ap (λ rs. reason_after rule (later ++ xs) x ∷ rs) rest.1,
-    )
 
 reasons-begin : (rule : Rule) (xs ys : List Arrival) → BeginWith (map untagged xs) (map untagged ys)
     → BeginWith (reasons rule xs) (reasons rule ys)

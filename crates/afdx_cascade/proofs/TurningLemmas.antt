@@ -1,7 +1,7 @@
 -- A turn, after which its frame may be on a cable.
 use Rattle.std.proofs.Common.{◌≡◌, ℕ, false, List, [], ◌∷◌, ◌++◌, sym, subst, ap, ◌∙◌, inl, inr}
 use Rattle.std.proofs.Common.{arith, ◌≤◌}
-use Rattle.std.specs.Prelude.{Some, drop, slice_get, slice_index_or}
+use Rattle.std.specs.Prelude.{Some, Result, Ok, Err, OnErr, drop, slice_get, slice_index_or}
 use Rattle.afdx_switch.specs.Departures.{as_given}
 use Rattle.afdx_network.specs.declared.network.Departed.{Departed}
 use Rattle.afdx_network.specs.declared.network.Network.{Network}
@@ -80,6 +80,11 @@ module _ (c : Plan) (networks : List Network) (transit : List InTransit) (time :
   }
 
 -- ---- the frame at the front
+
+-- what holds, where memory is lacked too
+pub on-err : {V E : Type 0} (r : Result V E) (P : Type 0) → P → OnErr r P
+on-err (Ok v) P holds = tt
+on-err (Err e) P holds = holds
 
 -- the one at the front
 pub front-one : (transit : List InTransit) (v front : InTransit) → slice_get transit 0 ≡ Some v

@@ -70,7 +70,8 @@ module _ (c : Plan) (w : Cascade) (so_far : List SwitchEvent) (st : StandsFor c 
       let here = inside.0.0 in
       let n = slice_get-within w.networks.items h.switch (omega (arith, count, here)) in
       let stands = st.keeps.stands.all.each h.switch n.0 n.1 in (
-        by-time h.event st.time (1 ∷ length (arrivals_in (at_switch h.switch so_far)) ∷ []) (stands.past st.time (st.keeps.clock h.switch n.0 n.1) h.event
+        by-time h.event st.time (1 ∷ length (arrivals_in (at_switch h.switch so_far)) ∷ [])
+            (stands.past st.time (st.keeps.clock h.switch n.0 n.1) h.event
             (within h.switch h.event (it-is-there h rest))),
         none-later rest (λ k e among. within k e (among-more k e h rest among)) inside.1,
       )

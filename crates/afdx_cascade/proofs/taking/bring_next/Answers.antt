@@ -1,5 +1,6 @@
 use Rattle.std.proofs.Common.{refl}
 use Rattle.afdx_cascade.proofs.taking.bring_next.Goals as goal
+use Rattle.afdx_cascade.proofs.TurningLemmas.{on-err}
 use Rattle.afdx_cascade.proofs.NextLemmas.{front-limit, front-asked, front-brings, front-lacks}
 
 pub is_front_next-requires : goal.is_front_next-requires
@@ -24,6 +25,7 @@ returns-clause-brings c p time ring so_far keeps transit =
 
 pub returns-in_err-brought-clause-judged : goal.returns-in_err-brought-clause-judged
 returns-in_err-brought-clause-judged c p time ring so_far keeps transit =
-    front-lacks p c.args.networks.now time ring so_far c.args.first c.args.transit.now.items keeps c.requires.first transit
-    (c.if-not-is_front_next.ensures.0 refl)
-    (λ v r rest st here on. c.in_err-brought.ensures.judged p time r rest so_far v st here on)
+    on-err c.from_residual.result _
+    (front-lacks p c.args.networks.now time ring so_far c.args.first c.args.transit.now.items keeps c.requires.first
+    transit (c.if-not-is_front_next.ensures.0 refl)
+    (λ v r rest st here on. c.in_err-brought.ensures.judged p time r rest so_far v st here on))

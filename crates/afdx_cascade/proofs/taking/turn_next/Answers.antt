@@ -2,6 +2,7 @@ use Rattle.std.proofs.Common.{sym, subst}
 use Rattle.afdx_cascade.specs.Turning.{AreInTransit}
 use Rattle.afdx_cascade.proofs.taking.turn_next.Goals as goal
 use Rattle.afdx_cascade.proofs.KeepLemmas.{turn-keeps}
+use Rattle.afdx_cascade.proofs.TurningLemmas.{on-err}
 use Rattle.afdx_cascade.proofs.EndLemmas.{ring-end, ring-by, ring-late, all-done}
 use Rattle.afdx_cascade.proofs.NextLemmas.{first-within, time-by, turn-lacks, not-quiet, until-more, quiet-end, quiet-by}
 
@@ -40,9 +41,10 @@ returns-clause-turns c p time ring so_far keeps early ends transit = record {
 
 pub returns-in_err-try_reserve-clause-judged : goal.returns-in_err-try_reserve-clause-judged
 returns-in_err-try_reserve-clause-judged c p time ring so_far keeps early =
-    turn-lacks p c.args.networks.now time ring so_far c.args.first c.given_at-at.result keeps c.requires.first
+    on-err c.from_residual.result _
+    (turn-lacks p c.args.networks.now time ring so_far c.args.first c.given_at-at.result keeps c.requires.first
     c.if-first-ge-ORDER_WITHOUT_TURN.false c.given_at-at.ensures.low c.given_at-at.ensures.high c.args.until
-    c.if-at-until.false early
+    c.if-at-until.false early)
 
 pub returns-then-first-ge-ORDER_WITHOUT_TURN-clause-quiet : goal.returns-then-first-ge-ORDER_WITHOUT_TURN-clause-quiet
 returns-then-first-ge-ORDER_WITHOUT_TURN-clause-quiet c k n here =

@@ -9,7 +9,7 @@ use Rattle.afdx_cascade.specs.Standing.{Stands}
 use Rattle.afdx_cascade.specs.Turning.{AreInTransit, IsInTransit}
 use Rattle.afdx_cascade.specs.declared.cable.InTransit.{InTransit}
 use Rattle.afdx_cascade.proofs.turning.front_at.Goals as goal
-use Rattle.afdx_cascade.proofs.TurningLemmas.{front-one, split-transit}
+use Rattle.afdx_cascade.proofs.TurningLemmas.{front-one, on-err, split-transit}
 
 pub returns-clause-arrives : goal.returns-clause-arrives
 returns-clause-arrives c p at r rest so_far plan st are =
@@ -34,5 +34,6 @@ pub returns-in_err-verdict-clause-judged : goal.returns-in_err-verdict-clause-ju
 returns-in_err-verdict-clause-judged c p at r rest so_far v st here on =
     let same = front-one c.args.transit.now.items v c.in-Some.front.now here c.in-Some.ensures.lookup in
     let it = subst (λ (z : InTransit). IsInTransit p z r) same on in
-    subst (λ (z : InTransit). shape_fault (p.tables z.switch) (brought r.side z.port r.turn) ≡ None) (sym same)
-    (c.in_err-verdict.ensures.judged p at r rest so_far st it.side it.left)
+    on-err c.from_residual.result _
+    (subst (λ (z : InTransit). shape_fault (p.tables z.switch) (brought r.side z.port r.turn) ≡ None) (sym same)
+    (c.in_err-verdict.ensures.judged p at r rest so_far st it.side it.left))

@@ -8,6 +8,7 @@ use Rattle.afdx_cascade.specs.Keys.{AreKeys, AreOthersSame}
 use Rattle.afdx_cascade.specs.Standing.{Stands}
 use Rattle.afdx_cascade.specs.declared.cascade.Cascade.{Cascade}
 use Rattle.afdx_cascade.proofs.CascadeLemmas.{line-next}
+use Rattle.afdx_cascade.proofs.TurningLemmas.{on-err}
 use Rattle.afdx_cascade.proofs.cascade.Cascade.arrive.Goals as goal
 
 pub renew-self-requires : goal.renew-self-requires
@@ -51,5 +52,6 @@ returns-clause-next c p so_far st free =
 
 pub returns-in_err-verdict-clause-judged : goal.returns-in_err-verdict-clause-judged
 returns-in_err-verdict-clause-judged c p so_far st =
-    c.in_err-verdict.ensures.judged p st.time st.ring so_far
-    (subst (λ zs. Stands p zs st.time st.ring so_far) (sym c.deref_mut.ensures.value) st.keeps.stands)
+    on-err c.from_residual.result _
+    (c.in_err-verdict.ensures.judged p st.time st.ring so_far
+    (subst (λ zs. Stands p zs st.time st.ring so_far) (sym c.deref_mut.ensures.value) st.keeps.stands))

@@ -12,6 +12,7 @@ use Rattle.afdx_cascade.specs.Turning.{AreEnds, AreInTransit}
 use Rattle.afdx_cascade.specs.declared.cascade.Cascade.{Cascade}
 use Rattle.afdx_cascade.proofs.CascadeLemmas.{some-of, none-of, came-next, over-next, none-next}
 use Rattle.afdx_cascade.proofs.CascadeLemmas.{front-to-come, turn-to-come}
+use Rattle.afdx_cascade.proofs.TurningLemmas.{on-err}
 use Rattle.afdx_cascade.proofs.cascade.Cascade.take.Goals as goal
 
 -- the first turn of the networks as they were
@@ -229,9 +230,10 @@ returns-in-None-clause-none c p so_far st =
 -- memory is lacked
 pub returns-in_err-brought-clause-judged : goal.returns-in_err-brought-clause-judged
 returns-in_err-brought-clause-judged c p so_far st =
-    front-to-come p so_far c.args.self.now c.args.until st c.requires.clock
+    on-err c.from_residual.result _
+    (front-to-come p so_far c.args.self.now c.args.until st c.requires.clock
     (c.in_err-brought.ensures.judged p st.time st.ring so_far
-    (subst (λ zs. Keeps p zs st.time st.ring so_far) (sym c.deref_mut.ensures.value) st.keeps) st.in_transit)
+    (subst (λ zs. Keeps p zs st.time st.ring so_far) (sym c.deref_mut.ensures.value) st.keeps) st.in_transit))
 
 pub returns-in_err-turned-clause-judged : goal.returns-in_err-turned-clause-judged
 returns-in_err-turned-clause-judged c p so_far st =
@@ -247,6 +249,7 @@ returns-in_err-turned-clause-judged c p so_far st =
     (c.in_ok-brought.ensures.early p st.time st.ring so_far
     (subst (λ zs. Keeps p zs st.time st.ring so_far) (sym lent) st.keeps) st.in_transit) in
     let again = c.deref_mut-2.ensures.value ∙ is ∙ same.0 ∙ lent in
-    turn-to-come p so_far c.args.until f.switch
+    on-err c.from_residual-in_err-turned.result _
+    (turn-to-come p so_far c.args.until f.switch
     (c.in_err-turned.ensures.judged p st.time st.ring so_far
-    (subst (λ zs. Keeps p zs st.time st.ring so_far) (sym again) st.keeps) early)
+    (subst (λ zs. Keeps p zs st.time st.ring so_far) (sym again) st.keeps) early))
