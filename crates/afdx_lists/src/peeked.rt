@@ -59,8 +59,8 @@ impl<R: Asked> Peeked<R> {
     ghost use Rattle.afdx_lists.specs.Peeking.{held, looked_at, is_untouched, left_in, has_broken};
     ghost use Rattle.afdx_lists.specs.Peeking.{IsAsked, is_at_end, reader_of};
 
-    /// Reads its first four bytes, to be looked at, and gives in how many reads. Fewer bytes: it has
-    /// no more, or failed after them.
+    /// Reads its first four bytes, to be looked at, and gives in how many reads. Fewer bytes: it
+    /// has no more, or failed after them.
     fn look(&mut self) -> u64
         requires { is_untouched self.old }
         ensures left { Keeps (left_in R.remaining self.old) (left_in R.remaining self.new) }

@@ -119,15 +119,16 @@ impl<W: Write + Drop> Output<W> {
 
 impl<W: Told + Drop> Output<W> {
     /// Hands all that is held to the device, and then flushes that, and answers as it does. An
-    /// error comes exactly where the device has failed; one that failed before is not asked, and one
-    /// that fails to take what is held isn't flushed.
+    /// error comes exactly where the device has failed. One that failed before is not asked, and
+    /// one that fails to take what is held isn't flushed.
     pub fn flush(&mut self) -> Result<(), RunFault>
         ensures none_left { device_has_failed self.new ≡ false → held_bytes self.new ≡ [] }
         ensures failed { device_has_failed self.new ≡ is_err result }
         ensures fault { IfErr result (λ fault. fault ≡ RunFault.Write) }
         ensures unasked { device_has_failed self.old ≡ true → self.new ≡ self.old }
         ensures bytes { Keeps (written W.contents self.old) (written W.contents self.new) }
-        ensures handed_on { device_has_failed self.old ≡ false → has_failed self.new.device ≡ false →
+        ensures handed_on { device_has_failed self.old ≡ false →
+            has_failed self.new.device ≡ false →
             HandsOn W.contents W.Flushed (written W.contents self.old) (inner_device self.new)
             (is_err result) }
     {
