@@ -4,13 +4,14 @@ use Rattle.std.proofs.lemmas.List.{append_assoc, append-nil, reverse-append, tak
 use Rattle.std.specs.Prelude.{if◌then◌else◌, not, ◌||◌, IsTrue, is_some, Option, Some, None}
 use Rattle.std.proofs.lemmas.List.Elements.{recursion_from_All}
 use Rattle.std.specs.List.{list_any, AllByRecursion}
+use Rattle.std.specs.Option.{option_to_list}
 use Rattle.afdx_police.specs.declared.shape.Reason.{Reason}
 use Rattle.afdx_conform.specs.Findings.{Finding, Found, Marked, marked, Judged, judged_with, found_at, frames_of, frames_in, names_it, passed_or, named_or, first_named, once_named, finding_or, damaged_or, damage, is_of_right, strangeness, unexplained}
 use Rattle.afdx_conform.specs.declared.finding.Finding.TheVariants.{Strange, Passed}
 use Rattle.afdx_conform.specs.declared.finding.Strangeness.{Strangeness}
 use Rattle.afdx_conform.specs.declared.finding.Strangeness.TheVariants.{Damaged, OutOfTurn, NoArrival}
 use Rattle.afdx_conform.specs.Marks.{arrival_of, marked_of, marked_all, told}
-use Rattle.afdx_conform.specs.Naming.{AreSettled, IsNoneNamed, IsNamedAt, may_be_named, unexplained_all}
+use Rattle.afdx_conform.specs.Naming.{AreSettled, IsNoneNamed, IsNamedAt, may_be_named, unexplained_all, with_last}
 use Rattle.afdx_conform.specs.Streams.{Gone, Terms, fits}
 use Rattle.afdx_conform.specs.declared.arrived.Arrived.{Arrived}
 use Rattle.afdx_conform.specs.declared.finding.Mark.{Mark}
@@ -274,6 +275,12 @@ told-none time arrivals j e =
     let same : j.frames + 0 ≡ j.frames = omega arith in
     ap (λ (n : ℕ). judged_with j.states arrivals j.findings n j.uncertain j.is_unsure) same
     ∙ ap (λ (l : List Marked). judged_with j.states l j.findings j.frames j.uncertain j.is_unsure) (sym e)
+
+-- one finding more, if there is one
+pub told-last : (time : ℕ) (found : List Finding) (last : Option Finding) (arrivals : List Marked) (j : Judged)
+    → told time (found ++ option_to_list last) arrivals j ≡ with_last time last (told time found arrivals j)
+told-last time found None arrivals j = ap (λ (l : List Finding). told time l arrivals j) (append-nil found)
+told-last time found (Some f) arrivals j = told-more time found f arrivals arrivals j
 
 module _ (z : Terms) (time : ℕ) where
   frames-named : (y : Gone) (l : List Marked) (s : Finding) → frames_of s ≡ 1

@@ -74,12 +74,20 @@ fn skip(
     let held = judging.held.as_slice();
     let foremost = front_of(held, frames.len());
     let front = foremost.min(closed);
-    let mut marks = Vec::from_slice(alloc, judging.marks.as_slice())?;
     let passed = &frames[front..closed];
-    let found = unexplained_all(alloc, &bounds.limits, known, arrivals, &mut marks, passed)?;
     let lead = lead_past(alloc, judging.held.as_slice(), front, closed)?;
+    let each = known.each(arrivals)?;
+    let mut found = Vec::with_capacity(alloc, passed.len())?;
+    unexplained_all(
+        &bounds.limits,
+        known,
+        each.as_slice(),
+        arrivals,
+        &mut judging.marks,
+        passed,
+        &mut found,
+    );
     judging.held = lead;
-    judging.marks = marks;
     Ok(found)
 }
 

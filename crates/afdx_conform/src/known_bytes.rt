@@ -1,7 +1,7 @@
 //! Where arrivals of a stream stand that have the bytes of a frame.
 
-ghost use Rattle.std.specs.Prelude.{◌≡◌, ◌++◌, ◌∷◌, [], List, false, IfOk, OnErr, OnOk};
-ghost use Rattle.afdx_conform.specs.KnownBytes.{AreKept, AreKnown, StandAt};
+ghost use Rattle.std.specs.Prelude.{◌++◌, ◌∷◌, [], ℕ, List, IfOk, OnErr, OnOk};
+ghost use Rattle.afdx_conform.specs.KnownBytes.{AreEach, AreKept, AreKnown, StandAt};
 
 use crate::arrived::Arrived;
 use crate::checked_bytes::CheckedBytes;
@@ -31,17 +31,15 @@ fn places_of(alloc: Global, arrivals: &[Arrived]) -> Result<Places, AllocError>
     Ok(places)
 }
 
-/// Where arrivals stand that have these bytes, by a look at each of them. Fails only out of memory.
-fn seek(alloc: Global, arrivals: &[Arrived], bytes: &CheckedBytes) -> Result<Vec<usize>, AllocError>
-    ensures { IfOk result (λ found. StandAt bytes.now 0 arrivals.now found.items) }
+/// The place of each of these arrivals. Fails only out of memory.
+fn each_of(alloc: Global, arrivals: &[Arrived]) -> Result<Vec<usize>, AllocError>
+    ensures { IfOk result (λ each. (bytes : List ℕ) → StandAt bytes 0 arrivals.now each.items) }
 {
-    let mut found = Vec::new(alloc);
+    let mut each = Vec::with_capacity(alloc, arrivals.len())?;
     for place in 0..arrivals.len() {
-        if arrivals[place].bytes.is_same(bytes) {
-            found.push(place)?;
-        }
+        each.push(place)?;
     }
-    Ok(found)
+    Ok(each)
 }
 
 impl KnownBytes {
@@ -93,34 +91,28 @@ impl KnownBytes {
         }
     }
 
-    /// What `places` wants: where arrivals stand that have these bytes, unless it knows. Fails only
-    /// out of memory.
-    pub(crate) fn sought(
-        &self,
-        arrivals: &[Arrived],
-        bytes: &CheckedBytes,
-    ) -> Result<Vec<usize>, AllocError>
-        ensures { IfOk result (λ found. self.now.is_whole ≡ false →
-            StandAt bytes.now 0 arrivals.now found.items) }
+    /// What `places` wants: the place of each arrival, unless it knows those of some bytes. Fails
+    /// only out of memory.
+    pub(crate) fn each(&self, arrivals: &[Arrived]) -> Result<Vec<usize>, AllocError>
+        ensures { IfOk result (λ each. AreEach self.now arrivals.now each.items) }
     {
         if self.is_whole {
             Ok(Vec::new(self.alloc))
         } else {
-            seek(self.alloc, arrivals, bytes)
+            each_of(self.alloc, arrivals)
         }
     }
 
-    /// Where all arrivals stand that have these bytes, and with them at most others that have the
-    /// same message. `sought` is what the look-up gave.
-    pub(crate) fn places<'a>(&'a self, bytes: &CheckedBytes, sought: &'a [usize]) -> &'a [usize]
+    /// Where all arrivals stand that have these bytes, and with them others: at most those that
+    /// have the same message, or all where it knows no places, as `each` has them.
+    pub(crate) fn places<'a>(&'a self, bytes: &CheckedBytes, each: &'a [usize]) -> &'a [usize]
         ensures { (arrivals : List Arrived) → AreKnown self.now arrivals →
-            (self.now.is_whole ≡ false → StandAt bytes.now 0 arrivals sought.now) →
-            StandAt bytes.now 0 arrivals result.now }
+            AreEach self.now arrivals each.now → StandAt bytes.now 0 arrivals result.now }
     {
         if self.is_whole {
             self.places.at(bytes.key())
         } else {
-            sought
+            each
         }
     }
 }
