@@ -1,5 +1,5 @@
 -- The first arrival that the finding of a frame may name, by its place.
-use Rattle.std.specs.Prelude.{◌≡◌, ℕ, Bool, Option, true, not, ◌&&◌, is_some, All, IsTrue, Some, None, List, [], ◌∷◌, ◌++◌, take, drop}
+use Rattle.std.specs.Prelude.{◌≡◌, ◌≤◌, ℕ, Bool, Option, true, not, ◌&&◌, is_some, All, IsTrue, Some, None, List, [], ◌∷◌, ◌++◌, take, drop, length}
 use Rattle.afdx_police.specs.declared.shape.Reason.{Reason}
 use Rattle.afdx_conform.specs.Findings.{Marked, marked, first_named, once_named, Judged, unexplained}
 use Rattle.afdx_conform.specs.Findings.{Finding, with_finding, frames_of}
@@ -14,6 +14,11 @@ may_be_named m = is_some m.reason && not m.is_named
 -- none of the first so many is
 abbrev pub AreSettled : ℕ → List Mark → Type 0
 AreSettled count marks = All (λ m. IsTrue (not (may_be_named m))) (take count marks)
+
+-- so many of them are judged, and settled
+pub record IsSettledTo (count : ℕ) (marks : List Mark) : Type 0 where
+  pub within : count ≤ length marks
+  pub settled : AreSettled count marks
 
 -- none of these is
 pub record IsNoneNamed (z : Terms) (y : Gone) (l : List Marked) : Type 0 where

@@ -16,6 +16,7 @@ ghost use Rattle.afdx_conform.specs.HeldStates.{IsWithin, state_of};
 ghost use Rattle.afdx_conform.specs.Judging.{StandsFor, AreFound, IsUnchanged};
 ghost use Rattle.afdx_conform.specs.Limits.{gone_of};
 ghost use Rattle.afdx_conform.specs.Marks.{IsCharged, IsJudged, arrival_of};
+ghost use Rattle.afdx_conform.specs.Naming.{IsSettledTo};
 ghost use Rattle.afdx_conform.specs.Ranges.{most_held};
 ghost use Rattle.afdx_conform.specs.States.{led_by, states_at};
 ghost use Rattle.afdx_conform.specs.Streams.{Gone, Terms, is_open as is_open_by};
@@ -179,6 +180,7 @@ fn go_wrong(
     requires few { length frames.now < most_held }
     requires counted { judging.old.uncertain < most_held }
     requires known { AreKnown known.now arrivals.now }
+    requires settled { IsSettledTo known.now.settled judging.old.marks.items }
     requires within { (count : ℕ) × (count < most_held)
         × All (λ h. IsWithin bounds.now.rates (length frames.now) count h)
         judging.old.held.items }
@@ -208,6 +210,7 @@ fn go_wrong(
         judging.old.held.items →
         OnOk result (All (λ h. IsWithin bounds.now.rates (length frames.now) (count + 1) h)
         judging.new.held.items) }
+    ensures settled { OnOk result (IsSettledTo known.now.settled judging.new.marks.items) }
     ensures refused { OnErr result (IsUnchanged judging.old judging.new) }
 {
     let from = judging.marks.len() + 1;
@@ -256,6 +259,7 @@ pub(crate) fn judge_with(
     requires few { length frames.now < most_held }
     requires counted { judging.old.uncertain < most_held }
     requires known { AreKnown known.now arrivals.now }
+    requires settled { IsSettledTo known.now.settled judging.old.marks.items }
     requires within { (count : ℕ) × (count < most_held)
         × All (λ h. IsWithin bounds.now.rates (length frames.now) count h)
         judging.old.held.items }
@@ -279,6 +283,7 @@ pub(crate) fn judge_with(
         judging.old.held.items →
         OnOk result (All (λ h. IsWithin bounds.now.rates (length frames.now) (count + 1) h)
         judging.new.held.items) }
+    ensures settled { OnOk result (IsSettledTo known.now.settled judging.new.marks.items) }
     ensures refused { OnErr result (IsUnchanged judging.old judging.new) }
 {
     match arrived.fault {

@@ -9,7 +9,7 @@ ghost use Rattle.afdx_conform.specs.Findings.{first_named, once_named, finding_o
 ghost use Rattle.afdx_conform.specs.KnownBytes.{AreEach, AreKnown, StandAt};
 ghost use Rattle.afdx_conform.specs.declared.finding.Finding.TheVariants.{Strange};
 ghost use Rattle.afdx_conform.specs.Marks.{marked_of, marked_all, told};
-ghost use Rattle.afdx_conform.specs.Naming.{AreSettled, IsNoneNamed, IsNamedAt, may_be_named};
+ghost use Rattle.afdx_conform.specs.Naming.{AreSettled, IsSettledTo, IsNoneNamed, IsNamedAt, may_be_named};
 ghost use Rattle.afdx_conform.specs.Naming.{unexplained_all};
 ghost use Rattle.afdx_conform.specs.Limits.{AreLimits, gone_of};
 ghost use Rattle.afdx_conform.specs.Streams.{Terms};
@@ -35,9 +35,10 @@ fn is_to_name(mark: Mark) -> bool
 
 /// How many of the first arrivals are settled, so that no finding may name them, by their marks:
 /// up to the first that one may name, where so many are known to be.
-fn settled_from(marks: &[Mark], settled: usize) -> usize
+pub(crate) fn settled_from(marks: &[Mark], settled: usize) -> usize
     requires within { settled ≤ length marks.now }
     requires settled { AreSettled settled marks.now }
+    ensures more { settled ≤ result }
     ensures within { result ≤ length marks.now }
     ensures settled { AreSettled result marks.now }
     ensures next { IfSome (slice_get marks.now result) (λ m. IsTrue (may_be_named m)) }
@@ -53,6 +54,7 @@ fn settled_from(marks: &[Mark], settled: usize) -> usize
 fn settled_for(marks: &[Mark], settled: usize, places: usize) -> usize
     requires within { settled ≤ length marks.now }
     requires settled { AreSettled settled marks.now }
+    ensures more { settled ≤ result }
     ensures within { result ≤ length marks.now }
     ensures settled { AreSettled result marks.now }
 {
@@ -235,6 +237,7 @@ pub(crate) fn unexplained_all(
     requires marks { length marks.old.items ≤ length arrivals.now }
     requires known { AreKnown known.now arrivals.now }
     requires each { AreEach known.now arrivals.now each.now }
+    requires settled { IsSettledTo known.now.settled marks.old.items }
     requires none { found.old.items ≡ [] }
     requires room { length frames.now ≤ vec_capacity found.old }
     ensures found { (z : Terms) (time : ℕ) (j : Judged) → AreLimits z limits.now →
@@ -245,8 +248,9 @@ pub(crate) fn unexplained_all(
     ensures capacity { vec_capacity found.new ≡ vec_capacity found.old }
     ensures length { length marks.new.items ≡ length marks.old.items }
     ensures marks_capacity { vec_capacity marks.new ≡ vec_capacity marks.old }
+    ensures settled { IsSettledTo known.now.settled marks.new.items }
 {
-    let mut settled = 0;
+    let mut settled = known.settled;
     for frame in frames {
         let places = known.places(&frame.bytes, each);
         settled = settled_for(marks.as_slice(), settled, places.len());

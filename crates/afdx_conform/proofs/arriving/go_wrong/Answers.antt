@@ -1,4 +1,4 @@
-use Rattle.std.proofs.Common.{rules, ◌≡◌, ℕ, ◌+◌, List, [], map, drop, length, sym, ap, ◌∙◌, arith}
+use Rattle.std.proofs.Common.{rules, ◌≡◌, ℕ, ◌+◌, List, [], map, drop, length, sym, ap, ◌∙◌, subst, arith}
 use Rattle.std.proofs.lemmas.List.{length_push}
 use Rattle.std.proofs.lemmas.List.Elements.{All-same}
 use Rattle.std.specs.Prelude.{nat_lt}
@@ -7,13 +7,13 @@ use Rattle.afdx_conform.specs.Findings.{Finding, Judged, aged, deviates, front_r
 use Rattle.afdx_conform.specs.HeldStates.{IsWithin, state_of}
 use Rattle.afdx_conform.specs.Limits.{gone_of}
 use Rattle.afdx_conform.specs.Marks.{arrival_of, marked_all, told}
-use Rattle.afdx_conform.specs.Naming.{with_last}
+use Rattle.afdx_conform.specs.Naming.{IsSettledTo, with_last}
 use Rattle.afdx_conform.specs.States.{State, led_by, states_at}
 use Rattle.afdx_conform.specs.declared.finding.Mark.{Mark}
 use Rattle.afdx_conform.specs.declared.states.Held.{Held}
 use Rattle.afdx_conform.proofs.ArrivalSteps.{stands-arrival, answered-none, more-marks, one-less}
 use Rattle.afdx_conform.proofs.DeviateSteps.{within-frames}
-use Rattle.afdx_conform.proofs.NamingLemmas.{told-last}
+use Rattle.afdx_conform.proofs.NamingLemmas.{settled-push, told-last}
 use Rattle.afdx_conform.proofs.PlacesLemmas.{each-slice}
 use Rattle.afdx_conform.proofs.arriving.go_wrong.Goals as goal
 
@@ -103,3 +103,12 @@ pub unexplained_all-requires-clause-each : goal.unexplained_all-requires-clause-
 unexplained_all-requires-clause-each c =
     each-slice c.args.known.now c.args.arrivals.now c.in_ok-all.all.items c.as_slice-each.result.now c.as_slice-each.ensures.value
     c.in_ok-all.ensures
+
+pub unexplained_all-requires-clause-settled : goal.unexplained_all-requires-clause-settled
+unexplained_all-requires-clause-settled c =
+    subst (λ (l : List Mark). IsSettledTo c.args.known.now.settled l) (sym c.in_ok-reserve.ensures.items) c.requires.settled
+
+pub returns-clause-settled : goal.returns-clause-settled
+returns-clause-settled c =
+    settled-push c.args.known.now.settled c.unexplained_all.new.marks.items c.settle.new.judging.marks.items _
+    (c.settle.ensures.marks ∙ c.push_reserved.ensures.items) c.unexplained_all.ensures.settled

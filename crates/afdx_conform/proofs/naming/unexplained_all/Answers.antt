@@ -7,7 +7,7 @@ use Rattle.afdx_conform.specs.Naming.{AreSettled, may_be_named, unexplained_all}
 use Rattle.afdx_conform.specs.Streams.{Gone}
 use Rattle.afdx_conform.specs.declared.finding.Mark.{Mark}
 use Rattle.afdx_conform.specs.declared.limits.Frame.{Frame}
-use Rattle.afdx_conform.proofs.NamingLemmas.{told-none, told-unexplained, all-more, all-none}
+use Rattle.afdx_conform.proofs.NamingLemmas.{told-none, told-unexplained, all-more, all-none, settled-less}
 use Rattle.afdx_conform.proofs.naming.unexplained_all.Goals as goal
 
 pub loop-frame-init : goal.loop-frame-init
@@ -17,8 +17,9 @@ loop-frame-init c = record {
       ∙ told-none time (marked_all c.args.arrivals.now c.args.marks.now.items) j e
       ∙ sym (all-none z time j);
   size = refl;
-  low = omega arith;
-  settled = λ k d lt. absurd (omega (arith, lt));
+  low = c.requires.settled.within;
+  settled = c.requires.settled.settled;
+  far = omega arith;
   count =
       (let ok = c.args.found.now.ok in
       let none = ap (λ (l : List Finding). length l) c.requires.none in
@@ -56,6 +57,7 @@ loop-frame-preserved c =
       size = c.unexplained-finding.ensures.length ∙ inv.size;
       low = subst (λ (n : ℕ). c.settled_for-settled.result ≤ n) (sym c.unexplained-finding.ensures.length) within;
       settled = subst (λ (l : List Mark). All (λ m. IsTrue (not (may_be_named m))) l) (sym c.unexplained-finding.ensures.kept) settled;
+      far = (let f = inv.far in let m = c.settled_for-settled.ensures.more in omega (arith, f, m));
       count = c.push_reserved.ensures.len ∙ ap (λ (n : ℕ). n + 1) inv.count;
       room = c.push_reserved.ensures.capacity ∙ inv.room;
       kept = c.unexplained-finding.ensures.capacity ∙ inv.kept;
@@ -69,3 +71,8 @@ returns-clause-found c z time j a e =
 
 pub unexplained-finding-requires-clause-places : goal.unexplained-finding-requires-clause-places
 unexplained-finding-requires-clause-places c = c.places-places.ensures c.args.arrivals.now c.requires.known c.requires.each
+
+pub returns-clause-settled : goal.returns-clause-settled
+returns-clause-settled c =
+    settled-less c.args.known.now.settled c.loop-frame.settled c.loop-frame.marks.items c.loop-frame.invariant.far
+    c.loop-frame.invariant.low c.loop-frame.invariant.settled

@@ -14,6 +14,7 @@ invariant-loop-frame l = record {
   size : length l.marks.items ≡ length l.initial.marks.items;
   low : l.settled ≤ length l.marks.items;
   settled : AreSettled l.settled l.marks.items;
+  far : l.known.settled ≤ l.settled;
   count : vec_len l.found ≡ l.frame-index;
   room : vec_capacity l.found ≡ vec_capacity l.initial.found;
   kept : vec_capacity l.marks ≡ vec_capacity l.initial.marks;
