@@ -87,11 +87,14 @@ def most_lines(judge: Judge) -> None:
     answers(judge.answer(base._replace(left=full)), 5, told, b"")
 
 
-def equal_times(judge: Judge, count: int) -> None:
-    """So many equal frames come at one moment, and leave at one: one is right, and each other one
-    that came has passed."""
-    came, left = list_of("0", "came") * count, list_of("6720", "left") * count
-    found = judge.answer(Pair(CONFIGS["base"], came, left, ()))
+def equal_frames(judge: Judge, count: int, span: int) -> None:
+    """So many equal frames come at one moment, and leave within so many ns: one is right, and each
+    other one that came has passed."""
+    form, _, side, port, digits = list_of("6720", "left").decode().split()
+    lines = (f"{form} {6_720 + span * place // count} {side} {port} {digits}\n"
+             for place in range(count))
+    came = list_of("0", "came") * count
+    found = judge.answer(Pair(CONFIGS["base"], came, "".join(lines).encode(), ()))
     told = b"".join(b"passed %d A 3 over-rate\n" % n for n in range(2, count + 1))
     last = b"deviates %d explained 1 open 0 uncertain 0 left-out 0 unseen 0 idle 3\n" % (count - 1)
     answers(found, 5, told + last, b"")
@@ -250,13 +253,15 @@ def hostile_lists(program: Program) -> Iterator[tuple]:
         yield f"conform, cut: {name}", cut_lists, judge, pair_of(rows[name]), seed
         yield f"conform, the greatest numbers, {seed}", largest_numbers, judge, seed
     yield "conform: the most lines", most_lines, judge
-    yield "conform: equal times", equal_times, judge, 200_000
+    yield "conform: equal times", equal_frames, judge, 200_000, 0
     yield "conform: nothing came", nothing_came, judge
     for times in (1, 2, 4):  # what is quadratic takes too long
         yield f"conform: {20_000 * times} strangers", strangers, judge, 20_000 * times
         for span in (0, 10_000):
             name = f"conform: {20_000 * times} turned round within {span} ns"
             yield name, turned_round, judge, 20_000 * times, span
+        name = f"conform: {20_000 * times} equal frames within 10000 ns"
+        yield name, equal_frames, judge, 20_000 * times, 10_000
     for seed in range(4):
         yield f"conform: out of order, {seed}", out_of_order, judge, seed
     yield "conform: the largest tables", largest_tables, judge

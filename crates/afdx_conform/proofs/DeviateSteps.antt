@@ -1,8 +1,8 @@
 -- How the code goes through what is found where an arrival leads to no state.
-use Rattle.std.proofs.Common.{◌≡◌, ℕ, ◌+◌, ◌<◌, ◌≤◌, ◌⊎◌, Bool, true, false, ◌&&◌, List, [], ◌∷◌, ◌++◌, map, drop, get_or, length, refl, sym, ap, ◌∙◌, subst, arith}
-use Rattle.std.proofs.lemmas.List.Elements.{All-weaker, All-same, All-map, All-filter}
-use Rattle.std.specs.Prelude.{if◌then◌else◌, nat_eq, IsTrue, All, Contains, IfOk, Result, Ok, Err}
-use Rattle.std.proofs.lemmas.List.{length-map}
+use Rattle.std.proofs.Common.{◌≡◌, ℕ, zero, suc, ◌+◌, ◌-◌, ◌<◌, ◌≤◌, ◌⊎◌, inl, inr, Bool, true, false, ◌&&◌, List, [], ◌∷◌, ◌++◌, map, take, drop, get_or, length, refl, sym, ap, ◌∙◌, subst, arith}
+use Rattle.std.proofs.lemmas.List.Elements.{All-weaker, All-same, All-map, All-filter, All-contains}
+use Rattle.std.specs.Prelude.{if◌then◌else◌, nat_eq, IsTrue, All, Contains, IfOk, Result, Ok, Err, Option, Some}
+use Rattle.std.proofs.lemmas.List.{length-map, map-append, take_more}
 use Rattle.std.specs.List.{filter, list_any}
 use Rattle.std.specs.Str.{bytes_eq}
 use Rattle.afdx_police.specs.Arrival.{Arrival}
@@ -13,7 +13,7 @@ use Rattle.afdx_conform.specs.HeldStates.{state_of, past, IsWithin}
 use Rattle.afdx_conform.specs.Levels.{has_to_pass}
 use Rattle.afdx_conform.specs.Limits.{gone_of}
 use Rattle.afdx_conform.specs.Accounts.{AreLevels, AreNear}
-use Rattle.afdx_conform.specs.Marks.{told}
+use Rattle.afdx_conform.specs.Naming.{unexplained_all, with_last}
 use Rattle.afdx_conform.specs.declared.levels.Rates.{Rates}
 use Rattle.afdx_conform.specs.declared.limits.Frame.{Frame}
 use Rattle.afdx_conform.specs.States.{State, led_by, states_at}
@@ -24,7 +24,7 @@ use Rattle.afdx_conform.specs.declared.finding.Finding.TheVariants.{Stopped}
 use Rattle.afdx_conform.specs.declared.states.Held.{Held}
 use Rattle.afdx_conform.proofs.DeviateLemmas.{gone-at, on-stopped, on-took, on-led, on-other, on-none, lead-some, front-on, accepted-rest}
 use Rattle.afdx_conform.proofs.LeadLemmas.{front-drop, aged-lead, aged-rest, aged-led}
-use Rattle.afdx_conform.proofs.NamingLemmas.{told-more, told-none}
+use Rattle.afdx_conform.proofs.NamingLemmas.{all-more, all-none}
 
 -- a frame that is found early or late is one frame
 abbrev IsOneFrame : Deviation → Type 0
@@ -127,16 +127,6 @@ module _ (z : Terms) (last : ℕ) (behind : List Arrival) (x : Arrival) (ys : Li
             ∙ sym (accepted-rest z x rest (lead (When held))))
             ∙ at-took f e
 
--- one finding more, of an arrival
-pub told-finding : (time : ℕ) (found : List Finding) (f : Finding) (arrivals : List Marked) (states : List State) (n : ℕ) (j : Judged)
-    → frames_of f ≡ n
-    → with_states states (told time (found ++ (f ∷ [])) arrivals j)
-    ≡ with_states states (with_finding time f n (told time found arrivals j))
-told-finding time found f arrivals states n j e =
-    ap (λ (k : Judged). with_states states k) (told-more time found f arrivals arrivals j)
-    ∙ ap (λ (m : ℕ). with_states states (judged_with j.states arrivals (found_at time f ∷ (told time found arrivals j).findings)
-    ((told time found arrivals j).frames + m) j.uncertain j.is_unsure)) e
-
 -- the lead has to let pass what all do
 pub past-passes : (z : Terms) (last : ℕ) (x : Arrival) (front to : ℕ) (held out : List Held)
     → out ≡ map (λ h. past to h) (filter (λ h. nat_eq h.passed front) held)
@@ -159,45 +149,97 @@ if-ok-two (Ok x) f p q = f x p q
 if-ok-two (Err e) f p q = p
 
 module _ (z : Terms) (last : ℕ) (behind : List Arrival) (x : Arrival) (ys : List Gone) (all held : List Held) (front : ℕ)
-    (found : List Finding) (arrivals : List Marked) (j : Judged)
-    (at : AreAt z last behind x ys all held front j (told x.time found arrivals j)) where
+    (j so_far : Judged) (at : AreAt z last behind x ys all held front j so_far) where
   abbrev Everything : Judged
   Everything = deviates z behind x (aged z last x (map (state_of ys) all)) (front_rest (map (state_of ys) all)) j
 
   -- it was stopped: no frame is left in the front, or the next one isn't its own
-  pub stopped-whole : (out : List Held) (told_all : List Finding) → told_all ≡ found ++ (Stopped x.tag ∷ [])
-      → map (state_of ys) out ≡ as_accepted z x (aged z last x (map (state_of ys) held))
-      → stopped z x (aged z last x (map (state_of ys) held)) (told x.time found arrivals j) ≡ Everything
-      → with_states (map (state_of ys) out) (told x.time told_all arrivals j) ≡ Everything
-  stopped-whole out told_all f s whole =
-      ap (λ (l : List Finding). with_states (map (state_of ys) out) (told x.time l arrivals j)) f
-      ∙ told-finding x.time found (Stopped x.tag) arrivals (map (state_of ys) out) 0 j refl
-      ∙ ap (λ (l : List State). with_states l (with_finding x.time (Stopped x.tag) 0 (told x.time found arrivals j))) s
-      ∙ whole
+  pub stopped-whole : (out : List Held) → map (state_of ys) out ≡ as_accepted z x (aged z last x (map (state_of ys) held))
+      → stopped z x (aged z last x (map (state_of ys) held)) so_far ≡ Everything
+      → with_states (map (state_of ys) out) (with_finding x.time (Stopped x.tag) 0 so_far) ≡ Everything
+  stopped-whole out s whole =
+      ap (λ (l : List State). with_states l (with_finding x.time (Stopped x.tag) 0 so_far)) s ∙ whole
 
-  pub took-whole : (y : Gone) (rest : List Gone) (lead out : List Held) (f : Finding) (told_all : List Finding)
+  pub took-whole : (y : Gone) (rest : List Gone) (lead out : List Held) (f : Finding)
       → drop front ys ≡ y ∷ rest → deviation_of z behind x y ≡ deviation.Took f
       → map (state_of ys) lead ≡ with_rest rest (lead_of ys held)
-      → told_all ≡ found ++ (f ∷ [])
       → map (state_of ys) out ≡ as_accepted z x (aged z last x (map (state_of ys) lead))
-      → with_states (map (state_of ys) out) (told x.time told_all arrivals j) ≡ Everything
-  took-whole y rest lead out f told_all next e moved t s =
-      ap (λ (l : List Finding). with_states (map (state_of ys) out) (told x.time l arrivals j)) t
-      ∙ told-finding x.time found f arrivals (map (state_of ys) out) 1 j (one-frame z behind x y f e)
-      ∙ took-is z last behind x ys all held front j (told x.time found arrivals j) at y rest next lead moved f
-      (map (state_of ys) out) e s
+      → with_states (map (state_of ys) out) (with_finding x.time f (frames_of f) so_far) ≡ Everything
+  took-whole y rest lead out f next e moved s =
+      ap (λ (n : ℕ). with_states (map (state_of ys) out) (with_finding x.time f n so_far)) (one-frame z behind x y f e)
+      ∙ took-is z last behind x ys all held front j so_far at y rest next lead moved f (map (state_of ys) out) e s
+
+-- ---- the frames that are unexplained
+
+module _ (z : Terms) (time : ℕ) (fs : List Frame) (j : Judged) where
+  -- those from one on, before another
+  abbrev pub Passed : ℕ → ℕ → Judged
+  Passed first past = unexplained_all z time (map gone_of (take (past - first) (drop first fs))) j
+
+  pub passed-none : (first : ℕ) → Passed first first ≡ j
+  passed-none first =
+      let none : first - first ≡ 0 = omega arith in
+      ap (λ (n : ℕ). unexplained_all z time (map gone_of (take n (drop first fs))) j) none ∙ all-none z time j
+
+  -- what is found behind them
+  pub last-is : (first past u v : ℕ) (last : Option Finding) (f : Finding) → u ≡ first → v ≡ past → last ≡ Some f
+      → with_last time last (Passed u v) ≡ with_finding time f (frames_of f) (Passed first past)
+  last-is first past u v last f e k o =
+      ap (λ (l : Option Finding). with_last time l (Passed u v)) o
+      ∙ ap (λ (n : ℕ). with_finding time f (frames_of f) (Passed u n)) k
+      ∙ ap (λ (n : ℕ). with_finding time f (frames_of f) (Passed n past)) e
+
+range-more : (fs : List Frame) (first front : ℕ) (f : Frame) → first ≤ front → front < length fs → f ≡ get_or fs front f
+    → map gone_of (take (front + 1 - first) (drop first fs)) ≡ map gone_of (take (front - first) (drop first fs)) ++ (gone_of f ∷ [])
+range-more [] first front f le lt is = absurd (omega (arith, lt))
+range-more (g ∷ fs) zero front f le lt is =
+    let n : front + 1 - 0 ≡ front + 1 = omega arith in
+    let m : front - 0 ≡ front = omega arith in
+    ap (λ (k : ℕ). map gone_of (take k (g ∷ fs))) n
+    ∙ ap (λ (l : List Frame). map gone_of l) (take_more (g ∷ fs) front f lt)
+    ∙ map-append gone_of (take front (g ∷ fs)) (get_or (g ∷ fs) front f ∷ [])
+    ∙ ap (λ (v : Frame). map gone_of (take front (g ∷ fs)) ++ (gone_of v ∷ [])) (sym is)
+    ∙ ap (λ (k : ℕ). map gone_of (take k (g ∷ fs)) ++ (gone_of f ∷ [])) (sym m)
+range-more (g ∷ fs) (suc first) zero f le lt is = absurd (omega (arith, le))
+range-more (g ∷ fs) (suc first) (suc front) f le lt is =
+    let n : suc front + 1 - suc first ≡ front + 1 - first = omega arith in
+    let m : suc front - suc first ≡ front - first = omega arith in
+    ap (λ (k : ℕ). map gone_of (take k (drop first fs))) n
+    ∙ range-more fs first front f (omega (arith, le)) (omega (arith, lt)) is
+    ∙ ap (λ (k : ℕ). map gone_of (take k (drop first fs)) ++ (gone_of f ∷ [])) (sym m)
+
+pub passed-next : (z : Terms) (time : ℕ) (fs : List Frame) (j : Judged) (first front : ℕ) (f : Frame) → first ≤ front
+    → front < length fs → f ≡ get_or fs front f
+    → Passed z time fs j first (front + 1) ≡ unexplained z time (gone_of f) (Passed z time fs j first front)
+passed-next z time fs j first front f le lt is =
+    ap (λ (l : List Gone). unexplained_all z time l j) (range-more fs first front f le lt is)
+    ∙ all-more z time (map gone_of (take (front - first) (drop first fs))) (gone_of f) j
+
+pub inside-on : (first past u v n : ℕ) → u ≡ first → v ≡ past → first ≤ past → past ≤ n → (u ≤ v) × (v ≤ n)
+inside-on first past u v n e k le most = (omega (arith, e, k, le), omega (arith, k, most))
 
 -- ---- the code's steps
 
-pub at-start : (z : Terms) (last : ℕ) (behind : List Arrival) (x : Arrival) (ys : List Gone) (held : List Held) (front : ℕ)
-    (found : List Finding) (arrivals : List Marked) (j : Judged) → found ≡ [] → j.arrivals ≡ arrivals
-    → led_by (λ s. states_at z x (levels_then z s.levels last x) s) (map (state_of ys) held) ≡ []
-    → drop front ys ≡ front_rest (map (state_of ys) held)
-    → AreAt z last behind x ys held held front j (told x.time found arrivals j)
-at-start z last behind x ys held front found arrivals j f a none e =
-    subst (λ (k : Judged). AreAt z last behind x ys held held front j k)
-    (sym (ap (λ (l : List Finding). told x.time l arrivals j) f ∙ told-none x.time arrivals j a))
-    (at-first z last behind x ys held front j none e)
+pub at-start : (z : Terms) (last : ℕ) (behind : List Arrival) (x : Arrival) (fs : List Frame) (held : List Held) (front : ℕ)
+    (j : Judged)
+    → led_by (λ s. states_at z x (levels_then z s.levels last x) s) (map (state_of (map gone_of fs)) held) ≡ []
+    → drop front (map gone_of fs) ≡ front_rest (map (state_of (map gone_of fs)) held)
+    → AreAt z last behind x (map gone_of fs) held held front j (Passed z x.time fs j front front)
+at-start z last behind x fs held front j none e =
+    subst (λ (k : Judged). AreAt z last behind x (map gone_of fs) held held front j k)
+    (sym (passed-none z x.time fs j front))
+    (at-first z last behind x (map gone_of fs) held front j none e)
+
+pub front-within : (rates : Rates) (fs : List Frame) (count : ℕ) (held slice : List Held) (f : ℕ) → slice ≡ held
+    → All (λ h. IsWithin rates (length fs) count h) held
+    → ((slice ≡ []) × (f ≡ length fs)) ⊎ ((h : Held) × Contains slice h × (h.passed ≡ f)) → f ≤ length fs
+front-within rates fs count held slice f value all (inl m) = let e = m.1 in omega (arith, e)
+front-within rates fs count held slice f value all (inr m) =
+    let w = All-contains (λ (h : Held). IsWithin rates (length fs) count h) slice m.0
+    (All-same (λ (h : Held). IsWithin rates (length fs) count h) slice held value all) m.1 in
+    let p = w.passed in
+    let e = m.2 in
+    omega (arith, p, e)
 
 pub at-same : (z : Terms) (last : ℕ) (behind : List Arrival) (x : Arrival) (ys : List Gone) (all held : List Held) (front : ℕ)
     (whole so_far same : Judged) → same ≡ so_far → AreAt z last behind x ys all held front whole so_far

@@ -52,4 +52,5 @@ sound-end old frames' held' front kept size held items few low closed high whole
       frames = omega (arith, f, size', high, whole);
       left = omega (arith, f, l, high, whole);
       known = s.known;
+      settled = s.settled;
     }

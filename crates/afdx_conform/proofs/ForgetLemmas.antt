@@ -191,6 +191,7 @@ sound-frames old count frames' held' items states closed s =
       frames = omega (arith, size, f);
       left = s.left;
       known = s.known;
+      settled = s.settled;
     }
 
 -- ---- arrivals

@@ -1,16 +1,17 @@
 -- The first arrival that the finding of a frame may name.
-use Rattle.std.proofs.Common.{◌≡◌, ℕ, zero, suc, ◌+◌, ◌<◌, ◌≤◌, Bool, true, false, ◌&&◌, List, [], ◌∷◌, ◌++◌, map, reverse, take, drop, get_or, set, length, refl, sym, ap, ◌∙◌, arith}
-use Rattle.std.proofs.lemmas.List.{append_assoc, append-nil, reverse-append, take_all, drop_all}
+use Rattle.std.proofs.Common.{◌≡◌, ℕ, zero, suc, ◌+◌, ◌<◌, ◌≤◌, Bool, true, false, ◌&&◌, List, [], ◌∷◌, ◌++◌, map, reverse, take, drop, get_or, set, length, refl, sym, ap, ◌∙◌, subst, arith}
+use Rattle.std.proofs.lemmas.List.{append_assoc, append-nil, length_push, reverse-append, take_all, drop_all}
 use Rattle.std.specs.Prelude.{if◌then◌else◌, not, ◌||◌, IsTrue, is_some, Option, Some, None}
-use Rattle.std.proofs.lemmas.List.Elements.{recursion_from_All}
+use Rattle.std.proofs.lemmas.List.Elements.{recursion_from_All, All-from_recursion}
 use Rattle.std.specs.List.{list_any, AllByRecursion}
+use Rattle.std.specs.Option.{option_to_list}
 use Rattle.afdx_police.specs.declared.shape.Reason.{Reason}
 use Rattle.afdx_conform.specs.Findings.{Finding, Found, Marked, marked, Judged, judged_with, found_at, frames_of, frames_in, names_it, passed_or, named_or, first_named, once_named, finding_or, damaged_or, damage, is_of_right, strangeness, unexplained}
 use Rattle.afdx_conform.specs.declared.finding.Finding.TheVariants.{Strange, Passed}
 use Rattle.afdx_conform.specs.declared.finding.Strangeness.{Strangeness}
 use Rattle.afdx_conform.specs.declared.finding.Strangeness.TheVariants.{Damaged, OutOfTurn, NoArrival}
 use Rattle.afdx_conform.specs.Marks.{arrival_of, marked_of, marked_all, told}
-use Rattle.afdx_conform.specs.Naming.{AreSettled, IsNoneNamed, IsNamedAt, may_be_named, unexplained_all}
+use Rattle.afdx_conform.specs.Naming.{AreSettled, IsSettledTo, IsNoneNamed, IsNamedAt, may_be_named, unexplained_all, with_last}
 use Rattle.afdx_conform.specs.Streams.{Gone, Terms, fits}
 use Rattle.afdx_conform.specs.declared.arrived.Arrived.{Arrived}
 use Rattle.afdx_conform.specs.declared.finding.Mark.{Mark}
@@ -242,6 +243,41 @@ module _ (z : Terms) (l : List Marked) (y : Gone) where
   strange-none e k = sym (ap (λ (o : Option Reason). damaged_or o turn) e
       ∙ ap (λ (b : Bool). if b then OutOfTurn else NoArrival) k)
 
+-- ---- so many are settled
+
+each-less : (n m : ℕ) (ms : List Mark) → n ≤ m → AllByRecursion (λ k. IsTrue (not (may_be_named k))) (take m ms)
+    → AllByRecursion (λ k. IsTrue (not (may_be_named k))) (take n ms)
+each-less zero m ms le all = tt
+each-less (suc n) zero ms le all = absurd (omega (arith, le))
+each-less (suc n) (suc m) [] le all = tt
+each-less (suc n) (suc m) (k ∷ ms) le all = (all.0, each-less n m ms (omega (arith, le)) all.1)
+
+pub settled-less : (n m : ℕ) (ms : List Mark) → n ≤ m → m ≤ length ms → AreSettled m ms → IsSettledTo n ms
+settled-less n m ms le low all = record {
+  within = omega (arith, le, low);
+  settled = All-from_recursion (λ k. IsTrue (not (may_be_named k))) (take n ms)
+      (each-less n m ms le (recursion_from_All (λ k. IsTrue (not (may_be_named k))) (take m ms) all));
+}
+
+pub settled_none : (ms : List Mark) → IsSettledTo 0 ms
+settled_none ms = record { within = omega arith; settled = λ k d lt. absurd (omega (arith, lt)) }
+
+each-push : (n : ℕ) (ms : List Mark) (v : Mark) → n ≤ length ms → AllByRecursion (λ k. IsTrue (not (may_be_named k))) (take n ms)
+    → AllByRecursion (λ k. IsTrue (not (may_be_named k))) (take n (ms ++ (v ∷ [])))
+each-push zero ms v le all = tt
+each-push (suc n) [] v le all = absurd (omega (arith, le))
+each-push (suc n) (k ∷ ms) v le all = (all.0, each-push n ms v (omega (arith, le)) all.1)
+
+pub settled-push : (n : ℕ) (ms all : List Mark) (v : Mark) → all ≡ ms ++ (v ∷ []) → IsSettledTo n ms → IsSettledTo n all
+settled-push n ms all v e s =
+    let low = s.within in
+    let size = length_push ms v in
+    subst (λ (l : List Mark). IsSettledTo n l) (sym e) (record {
+      within = omega (arith, low, size);
+      settled = All-from_recursion (λ k. IsTrue (not (may_be_named k))) (take n (ms ++ (v ∷ [])))
+          (each-push n ms v low (recursion_from_All (λ k. IsTrue (not (may_be_named k))) (take n ms) s.settled));
+    })
+
 -- ---- several
 
 frames-more : (found : List Finding) (f : Finding) → frames_in (found ++ (f ∷ [])) ≡ frames_in found + frames_of f
@@ -274,6 +310,12 @@ told-none time arrivals j e =
     let same : j.frames + 0 ≡ j.frames = omega arith in
     ap (λ (n : ℕ). judged_with j.states arrivals j.findings n j.uncertain j.is_unsure) same
     ∙ ap (λ (l : List Marked). judged_with j.states l j.findings j.frames j.uncertain j.is_unsure) (sym e)
+
+-- one finding more, if there is one
+pub told-last : (time : ℕ) (found : List Finding) (last : Option Finding) (arrivals : List Marked) (j : Judged)
+    → told time (found ++ option_to_list last) arrivals j ≡ with_last time last (told time found arrivals j)
+told-last time found None arrivals j = ap (λ (l : List Finding). told time l arrivals j) (append-nil found)
+told-last time found (Some f) arrivals j = told-more time found f arrivals arrivals j
 
 module _ (z : Terms) (time : ℕ) where
   frames-named : (y : Gone) (l : List Marked) (s : Finding) → frames_of s ≡ 1

@@ -13,8 +13,9 @@ use Rattle.std.specs.Map.{KeepsOthers, lookup}
 use Rattle.std.specs.Ordering.{eq_by_cmp, is_eq, nat_cmp}
 use Rattle.std.specs.Prelude.{if◌then◌else◌, Option, Some, None}
 use Rattle.std.specs.Str.{bytes_eq}
-use Rattle.afdx_conform.specs.KnownBytes.{AreKept, AreOthers, StandAt, all_of, kept_at, key_of, places_from}
+use Rattle.afdx_conform.specs.KnownBytes.{AreEach, AreKept, AreOthers, StandAt, all_of, kept_at, key_of, places_from}
 use Rattle.afdx_conform.specs.declared.arrived.Arrived.{Arrived}
+use Rattle.afdx_conform.specs.declared.known_bytes.KnownBytes.{KnownBytes}
 use Rattle.afdx_conform.specs.declared.places.Places.{Places}
 use Rattle.afdx_conform.proofs.BytesLemmas.{other-by-key}
 
@@ -94,36 +95,34 @@ pub stand-none : (bytes : List ℕ) (at : ℕ) (ps : List ℕ) → ps ≡ [] →
 unfolding StandAt
 stand-none bytes at ps e = e
 
-pub stand-more : (bytes : List ℕ) (at : ℕ) (xs : List Arrived) (ps : List ℕ) (a : Arrived) (n : ℕ) → n ≡ at + length xs
-    → StandAt bytes at xs ps → StandAt bytes at (xs ++ (a ∷ [])) (ps ++ (n ∷ []))
+-- one place more, where each is looked at
+taken-one : (bytes : List ℕ) (at : ℕ) (xs : List Arrived) (ps : List ℕ) (i n : ℕ) → i < length xs → n ≡ at + i
+    → StandAt bytes at (take i xs) ps → StandAt bytes at (take (suc i) xs) (ps ++ (n ∷ []))
 unfolding StandAt
-stand-more bytes at [] ps a n is e =
+taken-one bytes at [] ps i n lt is h = absurd (omega (arith, lt))
+taken-one bytes at (x ∷ xs) ps zero n lt is e =
     let same : n ≡ at = omega (arith, is) in
     inl ([], ap (λ (l : List ℕ). l ++ (n ∷ [])) e ∙ ap (λ (m : ℕ). m ∷ []) same, refl)
-stand-more bytes at (x ∷ xs) ps a n is (inl h) = inl (
+taken-one bytes at (x ∷ xs) ps (suc i) n lt is (inl h) = inl (
   h.0 ++ (n ∷ []),
   ap (λ (l : List ℕ). l ++ (n ∷ [])) h.1,
-  stand-more bytes (at + 1) xs h.0 a n (omega (arith, is)) h.2,
+  taken-one bytes (at + 1) xs h.0 i n (omega (arith, lt)) (omega (arith, is)) h.2,
 )
-stand-more bytes at (x ∷ xs) ps a n is (inr h) = inr (h.0, stand-more bytes (at + 1) xs ps a n (omega (arith, is)) h.1)
+taken-one bytes at (x ∷ xs) ps (suc i) n lt is (inr h) = inr (
+  h.0,
+  taken-one bytes (at + 1) xs ps i n (omega (arith, lt)) (omega (arith, is)) h.1,
+)
 
-pub stand-other : (bytes : List ℕ) (at : ℕ) (xs : List Arrived) (ps : List ℕ) (a : Arrived) → bytes_eq a.bytes bytes ≡ false
-    → StandAt bytes at xs ps → StandAt bytes at (xs ++ (a ∷ [])) ps
-unfolding StandAt
-stand-other bytes at [] ps a none e = inr (none, e)
-stand-other bytes at (x ∷ xs) ps a none (inl h) = inl (h.0, h.1, stand-other bytes (at + 1) xs h.0 a none h.2)
-stand-other bytes at (x ∷ xs) ps a none (inr h) = inr (h.0, stand-other bytes (at + 1) xs ps a none h.1)
+pub stand-taken : (bytes : List ℕ) (at i : ℕ) (xs : List Arrived) (ps : List ℕ) (n : ℕ) → i < length xs → n ≡ at + i
+    → StandAt bytes at (take i xs) ps → StandAt bytes at (take (i + 1) xs) (ps ++ (n ∷ []))
+stand-taken bytes at i xs ps n lt is h =
+    let next : suc i ≡ i + 1 = omega arith in
+    subst (λ (k : ℕ). StandAt bytes at (take k xs) (ps ++ (n ∷ []))) next (taken-one bytes at xs ps i n lt is h)
 
-pub stand-next : (bytes : List ℕ) (xs : List Arrived) (i : ℕ) (a : Arrived) (ps : List ℕ) → i < length xs → a ≡ get_or xs i a
-    → StandAt bytes 0 (take i xs ++ (a ∷ [])) ps → StandAt bytes 0 (take (i + 1) xs) ps
-stand-next bytes xs i a ps lt is h = subst (λ (l : List Arrived). StandAt bytes 0 l ps)
-    (ap (λ (b : Arrived). take i xs ++ (b ∷ [])) is ∙ sym (take_more xs i a lt)) h
-
--- those that were sought, where they had to be
-pub stand-sought : (bytes : List ℕ) (xs : List Arrived) (whole : Bool) (sought slice places : List ℕ) → slice ≡ sought
-    → (whole ≡ false → StandAt bytes 0 xs sought)
-    → ((whole ≡ false → StandAt bytes 0 xs slice) → StandAt bytes 0 xs places) → StandAt bytes 0 xs places
-stand-sought bytes xs whole sought slice places e h k = k (λ w. subst (λ (l : List ℕ). StandAt bytes 0 xs l) (sym e) (h w))
+-- each place, read as a slice
+pub each-slice : (known : KnownBytes) (xs : List Arrived) (each slice : List ℕ) → slice ≡ each → AreEach known xs each
+    → AreEach known xs slice
+each-slice known xs each slice e h bytes none = subst (λ (l : List ℕ). StandAt bytes 0 xs l) (sym e) (h bytes none)
 
 -- ---- the next of these places
 

@@ -54,6 +54,11 @@ StandAt bytes at (a ∷ more) places =
     ((rest : List ℕ) × (places ≡ at ∷ rest) × StandAt bytes (at + 1) more rest)
     ⊎ ((bytes_eq a.bytes bytes ≡ false) × StandAt bytes (at + 1) more places)
 
+-- each place may be looked at, where it doesn't know the places of some bytes
+abbrev pub AreEach : KnownBytes → List Arrived → List ℕ → Type 0
+AreEach known arrivals each =
+    (bytes : List ℕ) → known.is_whole ≡ false → StandAt bytes 0 arrivals each
+
 -- none of these arrivals has these bytes
 abbrev pub AreOthers : List ℕ → List Arrived → Type 0
 AreOthers bytes arrivals = AllByRecursion (λ a. bytes_eq a.bytes bytes ≡ false) arrivals

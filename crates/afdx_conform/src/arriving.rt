@@ -2,6 +2,8 @@
 
 ghost use Rattle.std.specs.Prelude.{◌≡◌, ◌≤◌, ◌<◌, ◌-◌, ◌+◌, ◌++◌, ◌∷◌, [], ℕ, List, false, nat_lt};
 ghost use Rattle.std.specs.Prelude.{if◌then◌else◌, length, map, drop, get_or, All, IfOk, OnOk, OnErr};
+ghost use Rattle.std.specs.Prelude.{vec_len, vec_capacity};
+ghost use Rattle.std.specs.Option.{option_to_list};
 ghost use Rattle.afdx_frame.specs.Regulation.{Regulation};
 ghost use Rattle.afdx_conform.specs.Accounts.{AreLevels, AreRates};
 ghost use Rattle.afdx_conform.specs.KnownBytes.{AreKnown};
@@ -14,6 +16,7 @@ ghost use Rattle.afdx_conform.specs.HeldStates.{IsWithin, state_of};
 ghost use Rattle.afdx_conform.specs.Judging.{StandsFor, AreFound, IsUnchanged};
 ghost use Rattle.afdx_conform.specs.Limits.{gone_of};
 ghost use Rattle.afdx_conform.specs.Marks.{IsCharged, IsJudged, arrival_of};
+ghost use Rattle.afdx_conform.specs.Naming.{IsSettledTo};
 ghost use Rattle.afdx_conform.specs.Ranges.{most_held};
 ghost use Rattle.afdx_conform.specs.States.{led_by, states_at};
 ghost use Rattle.afdx_conform.specs.Streams.{Gone, Terms, is_open as is_open_by};
@@ -27,6 +30,7 @@ use crate::known_bytes::KnownBytes;
 use crate::leading::{Moment, led_alone, led_from};
 use crate::levels::Rates;
 use crate::limits::Frame;
+use crate::naming::unexplained_all;
 use crate::states::{Held, thinned};
 use crate::testing::{is_uncertain, may_go_once};
 use afdx_police::Reason;
@@ -148,7 +152,17 @@ fn go_on_alone(judging: &mut Judging, state: Held, tested: Tested) -> Result<(),
     Ok(())
 }
 
-/// The arrival led to no state: what is found, in its order.
+/// One finding more, if there is one, for which there is room.
+fn add_last(found: &mut Vec<Finding>, last: Option<Finding>)
+    requires { vec_len found.old < vec_capacity found.old }
+    ensures { found.new.items ≡ found.old.items ++ option_to_list last }
+{
+    if let Some(finding) = last {
+        found.push_reserved(finding);
+    }
+}
+
+/// The arrival led to no state: what is found, in its order. Once a mark has changed nothing fails.
 #[cold]
 #[inline(never)]
 fn go_wrong(
@@ -166,6 +180,7 @@ fn go_wrong(
     requires few { length frames.now < most_held }
     requires counted { judging.old.uncertain < most_held }
     requires known { AreKnown known.now arrivals.now }
+    requires settled { IsSettledTo known.now.settled judging.old.marks.items }
     requires within { (count : ℕ) × (count < most_held)
         × All (λ h. IsWithin bounds.now.rates (length frames.now) count h)
         judging.old.held.items }
@@ -195,21 +210,37 @@ fn go_wrong(
         judging.old.held.items →
         OnOk result (All (λ h. IsWithin bounds.now.rates (length frames.now) (count + 1) h)
         judging.new.held.items) }
+    ensures settled { OnOk result (IsSettledTo known.now.settled judging.new.marks.items) }
     ensures refused { OnErr result (IsUnchanged judging.old judging.new) }
 {
-    let mut marks = Vec::from_slice(alloc, judging.marks.as_slice())?;
+    let from = judging.marks.len() + 1;
     let held = Vec::from_slice(alloc, judging.held.as_slice())?;
+    let all = known.each(arrivals)?;
+    let each = all.as_slice();
     let outcome = deviate(
-        alloc, bounds, held, frames, known, arrivals, &mut marks, arrived, moment,
+        alloc, bounds, held, frames, known, each, arrivals, from, arrived, moment,
     )?;
     let few = thinned(alloc, outcome.held.as_slice())?;
-    marks.push(Mark {
+    let passed = &frames[outcome.first..outcome.past];
+    let mut found = Vec::with_capacity(alloc, passed.len() + 1)?;
+    judging.marks.reserve(1)?;
+    let marks = &mut judging.marks;
+    unexplained_all(
+        &bounds.limits,
+        known,
+        each,
+        arrivals,
+        marks,
+        passed,
+        &mut found,
+    );
+    add_last(&mut found, outcome.last);
+    judging.marks.push_reserved(Mark {
         reason: tested.reason,
         is_named: false,
-    })?;
-    judging.marks = marks;
+    });
     settle(judging, few, tested.is_uncertain);
-    Ok(outcome.found)
+    Ok(found)
 }
 
 /// Judges an arrival, the first without a mark: gives what is found, in its order. Fails only out
@@ -228,6 +259,7 @@ pub(crate) fn judge_with(
     requires few { length frames.now < most_held }
     requires counted { judging.old.uncertain < most_held }
     requires known { AreKnown known.now arrivals.now }
+    requires settled { IsSettledTo known.now.settled judging.old.marks.items }
     requires within { (count : ℕ) × (count < most_held)
         × All (λ h. IsWithin bounds.now.rates (length frames.now) count h)
         judging.old.held.items }
@@ -251,6 +283,7 @@ pub(crate) fn judge_with(
         judging.old.held.items →
         OnOk result (All (λ h. IsWithin bounds.now.rates (length frames.now) (count + 1) h)
         judging.new.held.items) }
+    ensures settled { OnOk result (IsSettledTo known.now.settled judging.new.marks.items) }
     ensures refused { OnErr result (IsUnchanged judging.old judging.new) }
 {
     match arrived.fault {

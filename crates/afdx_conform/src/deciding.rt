@@ -109,6 +109,7 @@ impl Growth {
         ensures same { IsSame self.old self.new }
     {
         self.known.gather(self.arrivals.as_slice())?;
+        self.known.settle(self.judging.marks.as_slice());
         if self.is_started {
             return Ok(());
         }

@@ -9,6 +9,7 @@ ghost use Rattle.afdx_conform.specs.Judging.{StandsFor, AreFound};
 ghost use Rattle.afdx_conform.specs.KnownBytes.{AreKnown};
 ghost use Rattle.afdx_conform.specs.Leeway.{reach};
 ghost use Rattle.afdx_conform.specs.Limits.{gone_of};
+ghost use Rattle.afdx_conform.specs.Naming.{IsSettledTo};
 ghost use Rattle.afdx_conform.specs.Streams.{Terms};
 
 use crate::arrived::Arrived;
@@ -54,6 +55,7 @@ fn skip(
     requires marks { length judging.old.marks.items ≤ length arrivals.now }
     requires closed { closed ≤ length frames.now }
     requires known { AreKnown known.now arrivals.now }
+    requires settled { IsSettledTo known.now.settled judging.old.marks.items }
     ensures defined { (z : Terms) (time : ℕ) (j : Judged) → AreBounds z bounds.now →
         AreClosed time closed (map gone_of frames.now) →
         list_any (λ h. nat_le closed h.passed) judging.old.held.items ≡ false →
@@ -69,17 +71,26 @@ fn skip(
         judging.old.held.items →
         All (λ h. IsWithin bounds.now.rates (length frames.now) count h)
         judging.new.held.items }
+    ensures settled { IsSettledTo known.now.settled judging.new.marks.items }
     ensures refused { OnErr result (judging.new ≡ judging.old) }
 {
     let held = judging.held.as_slice();
     let foremost = front_of(held, frames.len());
     let front = foremost.min(closed);
-    let mut marks = Vec::from_slice(alloc, judging.marks.as_slice())?;
     let passed = &frames[front..closed];
-    let found = unexplained_all(alloc, &bounds.limits, known, arrivals, &mut marks, passed)?;
     let lead = lead_past(alloc, judging.held.as_slice(), front, closed)?;
+    let each = known.each(arrivals)?;
+    let mut found = Vec::with_capacity(alloc, passed.len())?;
+    unexplained_all(
+        &bounds.limits,
+        known,
+        each.as_slice(),
+        arrivals,
+        &mut judging.marks,
+        passed,
+        &mut found,
+    );
     judging.held = lead;
-    judging.marks = marks;
     Ok(found)
 }
 
@@ -97,6 +108,7 @@ pub(crate) fn close_with(
     requires marks { length judging.old.marks.items ≤ length arrivals.now }
     requires closed { closed ≤ length frames.now }
     requires known { AreKnown known.now arrivals.now }
+    requires settled { IsSettledTo known.now.settled judging.old.marks.items }
     ensures defined { (z : Terms) (time : ℕ) (j : Judged) → AreBounds z bounds.now →
         AreClosed time closed (map gone_of frames.now) → j.is_unsure ≡ false →
         StandsFor bounds.now.rates frames.now arrivals.now j judging.old →
@@ -110,6 +122,7 @@ pub(crate) fn close_with(
         judging.old.held.items →
         All (λ h. IsWithin bounds.now.rates (length frames.now) count h)
         judging.new.held.items }
+    ensures settled { IsSettledTo known.now.settled judging.new.marks.items }
     ensures refused { OnErr result (judging.new ≡ judging.old) }
 {
     if is_one_passed(judging.held.as_slice(), closed) {

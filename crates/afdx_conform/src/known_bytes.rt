@@ -1,10 +1,13 @@
 //! Where arrivals of a stream stand that have the bytes of a frame.
 
-ghost use Rattle.std.specs.Prelude.{◌≡◌, ◌++◌, ◌∷◌, [], List, false, IfOk, OnErr, OnOk};
-ghost use Rattle.afdx_conform.specs.KnownBytes.{AreKept, AreKnown, StandAt};
+ghost use Rattle.std.specs.Prelude.{◌++◌, ◌∷◌, [], ℕ, List, IfOk, OnErr, OnOk};
+ghost use Rattle.afdx_conform.specs.KnownBytes.{AreEach, AreKept, AreKnown, StandAt};
+ghost use Rattle.afdx_conform.specs.Naming.{IsSettledTo};
 
 use crate::arrived::Arrived;
 use crate::checked_bytes::CheckedBytes;
+use crate::finding::Mark;
+use crate::naming::settled_from;
 use crate::places::Places;
 use std::alloc::{AllocError, Global};
 
@@ -12,12 +15,13 @@ use std::alloc::{AllocError, Global};
 const FEW_ARRIVALS: usize = 256;
 
 /// Where the arrivals stand that are held, by their bytes, if `is_whole`. Else they are few, or
-/// weren't gathered yet.
+/// weren't gathered yet. The first `settled` of them no finding may name any more.
 #[derive(Drop)]
 pub(crate) struct KnownBytes {
     alloc: Global,
     places: Places,
     is_whole: bool,
+    pub(crate) settled: usize,
 }
 
 /// Where each of these arrivals stands, by its bytes. Fails only out of memory.
@@ -31,35 +35,49 @@ fn places_of(alloc: Global, arrivals: &[Arrived]) -> Result<Places, AllocError>
     Ok(places)
 }
 
-/// Where arrivals stand that have these bytes, by a look at each of them. Fails only out of memory.
-fn seek(alloc: Global, arrivals: &[Arrived], bytes: &CheckedBytes) -> Result<Vec<usize>, AllocError>
-    ensures { IfOk result (λ found. StandAt bytes.now 0 arrivals.now found.items) }
+/// The place of each of these arrivals. Fails only out of memory.
+fn each_of(alloc: Global, arrivals: &[Arrived]) -> Result<Vec<usize>, AllocError>
+    ensures { IfOk result (λ each. (bytes : List ℕ) → StandAt bytes 0 arrivals.now each.items) }
 {
-    let mut found = Vec::new(alloc);
+    let mut each = Vec::with_capacity(alloc, arrivals.len())?;
     for place in 0..arrivals.len() {
-        if arrivals[place].bytes.is_same(bytes) {
-            found.push(place)?;
-        }
+        each.push(place)?;
     }
-    Ok(found)
+    Ok(each)
 }
 
 impl KnownBytes {
     /// It was told of none yet.
+    #[tactic(auto, using(crate::proofs::NamingLemmas::settled_none))]
     pub(crate) fn new(alloc: Global) -> KnownBytes
-        ensures { (arrivals : List Arrived) → AreKnown result arrivals }
+        ensures known { (arrivals : List Arrived) → AreKnown result arrivals }
+        ensures settled { (marks : List Mark) → IsSettledTo result.settled marks }
     {
         KnownBytes {
             alloc,
             places: Places::new(alloc),
             is_whole: false,
+            settled: 0,
         }
+    }
+
+    /// No finding may name the first arrivals any more, by their marks, up to the first that one
+    /// may name.
+    pub(crate) fn settle(&mut self, marks: &[Mark])
+        requires { IsSettledTo self.old.settled marks.now }
+        ensures known { (arrivals : List Arrived) → AreKnown self.old arrivals →
+            AreKnown self.new arrivals }
+        ensures settled { IsSettledTo self.new.settled marks.now }
+    {
+        self.settled = settled_from(marks, self.settled);
     }
 
     /// It knows where each of these arrivals stands, if they are many. Fails only out of memory.
     pub(crate) fn gather(&mut self, arrivals: &[Arrived]) -> Result<(), AllocError>
         requires { AreKnown self.old arrivals.now }
-        ensures { AreKnown self.new arrivals.now }
+        ensures known { AreKnown self.new arrivals.now }
+        ensures settled { (marks : List Mark) → IsSettledTo self.old.settled marks →
+            IsSettledTo self.new.settled marks }
     {
         if self.is_whole || arrivals.len() < FEW_ARRIVALS {
             return Ok(());
@@ -74,6 +92,8 @@ impl KnownBytes {
         requires { AreKnown self.old arrivals.now }
         ensures told { OnOk result (AreKnown self.new (arrivals.now ++ arrived.now ∷ [])) }
         ensures refused { OnErr result (AreKnown self.new arrivals.now) }
+        ensures settled { (marks : List Mark) → IsSettledTo self.old.settled marks →
+            IsSettledTo self.new.settled marks }
     {
         if !self.is_whole {
             return Ok(());
@@ -85,42 +105,40 @@ impl KnownBytes {
     }
 
     /// The first arrivals are forgotten: those that are left stand at other places.
+    #[tactic(auto, using(crate::proofs::NamingLemmas::settled_none))]
     pub(crate) fn forget(&mut self)
-        ensures { (arrivals : List Arrived) → AreKnown self.new arrivals }
+        ensures known { (arrivals : List Arrived) → AreKnown self.new arrivals }
+        ensures settled { (marks : List Mark) → IsSettledTo self.new.settled marks }
     {
-        if self.is_whole {
-            *self = KnownBytes::new(self.alloc);
+        if !self.is_whole {
+            self.settled = 0;
+            return;
         }
+        *self = KnownBytes::new(self.alloc);
     }
 
-    /// What `places` wants: where arrivals stand that have these bytes, unless it knows. Fails only
-    /// out of memory.
-    pub(crate) fn sought(
-        &self,
-        arrivals: &[Arrived],
-        bytes: &CheckedBytes,
-    ) -> Result<Vec<usize>, AllocError>
-        ensures { IfOk result (λ found. self.now.is_whole ≡ false →
-            StandAt bytes.now 0 arrivals.now found.items) }
+    /// What `places` wants: the place of each arrival, unless it knows those of some bytes. Fails
+    /// only out of memory.
+    pub(crate) fn each(&self, arrivals: &[Arrived]) -> Result<Vec<usize>, AllocError>
+        ensures { IfOk result (λ each. AreEach self.now arrivals.now each.items) }
     {
         if self.is_whole {
             Ok(Vec::new(self.alloc))
         } else {
-            seek(self.alloc, arrivals, bytes)
+            each_of(self.alloc, arrivals)
         }
     }
 
-    /// Where all arrivals stand that have these bytes, and with them at most others that have the
-    /// same message. `sought` is what the look-up gave.
-    pub(crate) fn places<'a>(&'a self, bytes: &CheckedBytes, sought: &'a [usize]) -> &'a [usize]
+    /// Where all arrivals stand that have these bytes, and with them others: at most those that
+    /// have the same message, or all where it knows no places, as `each` has them.
+    pub(crate) fn places<'a>(&'a self, bytes: &CheckedBytes, each: &'a [usize]) -> &'a [usize]
         ensures { (arrivals : List Arrived) → AreKnown self.now arrivals →
-            (self.now.is_whole ≡ false → StandAt bytes.now 0 arrivals sought.now) →
-            StandAt bytes.now 0 arrivals result.now }
+            AreEach self.now arrivals each.now → StandAt bytes.now 0 arrivals result.now }
     {
         if self.is_whole {
             self.places.at(bytes.key())
         } else {
-            sought
+            each
         }
     }
 }

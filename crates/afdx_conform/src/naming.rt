@@ -1,15 +1,15 @@
 //! What is found of a frame that no arrival explains.
 
-ghost use Rattle.std.specs.Prelude.{◌≡◌, ◌≤◌, ◌<◌, ℕ, IfOk, IfSome, IsTrue, MatchOption};
-ghost use Rattle.std.specs.Prelude.{drop, length, map, slice_get, take};
+ghost use Rattle.std.specs.Prelude.{◌≡◌, ◌≤◌, ◌<◌, [], ℕ, IfSome, IsTrue, MatchOption};
+ghost use Rattle.std.specs.Prelude.{drop, length, map, slice_get, take, vec_capacity, vec_len};
 ghost use Rattle.std.specs.List.{list_any};
 ghost use Rattle.afdx_conform.specs.Findings.{names_it as may_name, is_of_right};
 ghost use Rattle.afdx_conform.specs.Findings.{damage as damage_of, strangeness as strangeness_of};
 ghost use Rattle.afdx_conform.specs.Findings.{first_named, once_named, finding_or, Judged};
-ghost use Rattle.afdx_conform.specs.KnownBytes.{AreKnown, StandAt};
+ghost use Rattle.afdx_conform.specs.KnownBytes.{AreEach, AreKnown, StandAt};
 ghost use Rattle.afdx_conform.specs.declared.finding.Finding.TheVariants.{Strange};
 ghost use Rattle.afdx_conform.specs.Marks.{marked_of, marked_all, told};
-ghost use Rattle.afdx_conform.specs.Naming.{AreSettled, IsNoneNamed, IsNamedAt, may_be_named};
+ghost use Rattle.afdx_conform.specs.Naming.{AreSettled, IsSettledTo, IsNoneNamed, IsNamedAt, may_be_named};
 ghost use Rattle.afdx_conform.specs.Naming.{unexplained_all};
 ghost use Rattle.afdx_conform.specs.Limits.{AreLimits, gone_of};
 ghost use Rattle.afdx_conform.specs.Streams.{Terms};
@@ -22,7 +22,6 @@ use crate::limits::{Frame, Limits};
 use crate::places::no_less;
 use afdx_frame::{GREATEST_FRAME, LEAST_FRAME};
 use afdx_police::Reason;
-use std::alloc::{AllocError, Global};
 
 /// Of fewer places each is looked at.
 const FEW_PLACES: usize = 16;
@@ -36,9 +35,10 @@ fn is_to_name(mark: Mark) -> bool
 
 /// How many of the first arrivals are settled, so that no finding may name them, by their marks:
 /// up to the first that one may name, where so many are known to be.
-fn settled_from(marks: &[Mark], settled: usize) -> usize
+pub(crate) fn settled_from(marks: &[Mark], settled: usize) -> usize
     requires within { settled ≤ length marks.now }
     requires settled { AreSettled settled marks.now }
+    ensures more { settled ≤ result }
     ensures within { result ≤ length marks.now }
     ensures settled { AreSettled result marks.now }
     ensures next { IfSome (slice_get marks.now result) (λ m. IsTrue (may_be_named m)) }
@@ -54,6 +54,7 @@ fn settled_from(marks: &[Mark], settled: usize) -> usize
 fn settled_for(marks: &[Mark], settled: usize, places: usize) -> usize
     requires within { settled ≤ length marks.now }
     requires settled { AreSettled settled marks.now }
+    ensures more { settled ≤ result }
     ensures within { result ≤ length marks.now }
     ensures settled { AreSettled result marks.now }
 {
@@ -202,6 +203,7 @@ pub(crate) fn unexplained(
     ensures named { (z : Terms) → AreLimits z limits.now → marked_all arrivals.now marks.new.items
         ≡ once_named z (gone_of frame.now) (marked_all arrivals.now marks.old.items) }
     ensures length { length marks.new.items ≡ length marks.old.items }
+    ensures capacity { vec_capacity marks.new ≡ vec_capacity marks.old }
     ensures kept { take settled marks.new.items ≡ take settled marks.old.items }
 {
     let later = no_less(places, settled);
@@ -221,31 +223,38 @@ pub(crate) fn unexplained(
 }
 
 /// What is found of frames that no arrival explains, in their order, as `unexplained` finds it of
-/// each. Fails only out of memory.
+/// each. There is room for it, so that nothing fails once a mark has changed. `each` are the places
+/// that `known` gave.
 pub(crate) fn unexplained_all(
-    alloc: Global,
     limits: &Limits,
     known: &KnownBytes,
+    each: &[usize],
     arrivals: &[Arrived],
     marks: &mut Vec<Mark>,
     frames: &[Frame],
-) -> Result<Vec<Finding>, AllocError>
+    found: &mut Vec<Finding>,
+)
     requires marks { length marks.old.items ≤ length arrivals.now }
     requires known { AreKnown known.now arrivals.now }
+    requires each { AreEach known.now arrivals.now each.now }
+    requires settled { IsSettledTo known.now.settled marks.old.items }
+    requires none { found.old.items ≡ [] }
+    requires room { length frames.now ≤ vec_capacity found.old }
     ensures found { (z : Terms) (time : ℕ) (j : Judged) → AreLimits z limits.now →
         j.arrivals ≡ marked_all arrivals.now marks.old.items →
-        IfOk result (λ found. told time found.items (marked_all arrivals.now marks.new.items) j
-        ≡ unexplained_all z time (map gone_of frames.now) j) }
+        told time found.new.items (marked_all arrivals.now marks.new.items) j
+        ≡ unexplained_all z time (map gone_of frames.now) j }
+    ensures count { vec_len found.new ≡ length frames.now }
+    ensures capacity { vec_capacity found.new ≡ vec_capacity found.old }
     ensures length { length marks.new.items ≡ length marks.old.items }
+    ensures marks_capacity { vec_capacity marks.new ≡ vec_capacity marks.old }
+    ensures settled { IsSettledTo known.now.settled marks.new.items }
 {
-    let mut found = Vec::new(alloc);
-    let mut settled = 0;
+    let mut settled = known.settled;
     for frame in frames {
-        let sought = known.sought(arrivals, &frame.bytes)?;
-        let places = known.places(&frame.bytes, sought.as_slice());
+        let places = known.places(&frame.bytes, each);
         settled = settled_for(marks.as_slice(), settled, places.len());
         let finding = unexplained(limits, arrivals, marks, settled, places, frame);
-        found.push(finding)?;
+        found.push_reserved(finding);
     }
-    Ok(found)
 }

@@ -5,37 +5,35 @@ use Rattle.std.specs.Prelude.{IsTrue, nat_eq}
 use Rattle.std.specs.List.{filter}
 use Rattle.afdx_conform.specs.Accounts.{AreLevels, AreNear}
 use Rattle.afdx_conform.specs.Explanations.{link, charge, levels_then}
-use Rattle.afdx_conform.specs.Findings.{Finding, Judged, aged, as_accepted, deviates, front_rest, with_states}
+use Rattle.afdx_conform.specs.Findings.{Judged, aged, as_accepted, with_states}
 use Rattle.afdx_conform.specs.HeldStates.{IsWithin, IsSmall, past, state_of}
 use Rattle.afdx_conform.specs.Levels.{has_to_pass}
 use Rattle.afdx_conform.specs.Limits.{gone_of}
-use Rattle.afdx_conform.specs.Marks.{arrival_of, marked_all, told}
+use Rattle.afdx_conform.specs.Marks.{arrival_of}
 use Rattle.afdx_conform.specs.States.{led_by, states_at}
-use Rattle.afdx_conform.specs.declared.arrived.Arrived.{Arrived}
+use Rattle.afdx_conform.specs.declared.finding.Finding.TheVariants.{Stopped}
 use Rattle.afdx_conform.specs.declared.states.Held.{Held}
 use Rattle.afdx_conform.proofs.DeviateLemmas.{have-to-pass, past-within, small-all, gone-past}
-use Rattle.afdx_conform.proofs.DeviateSteps.{at-start, at-same, at-end, at-stop, at-led, at-next, stopped-whole, took-whole, if-ok-two, within-frames, near-all, levels-all, within-more, front-start, gone-here, some-held, past-passes}
+use Rattle.afdx_conform.proofs.DeviateSteps.{at-start, at-same, at-end, at-stop, at-led, at-next, front-within, inside-on, last-is, passed-next, stopped-whole, took-whole, if-ok-two, within-frames, near-all, levels-all, within-more, front-start, gone-here, some-held, past-passes}
 use Rattle.afdx_conform.proofs.LeadLemmas.{lead-past}
-use Rattle.afdx_conform.proofs.NamingLemmas.{told-unexplained}
 use Rattle.afdx_conform.proofs.KeepLemmas.{if-ok-on}
-use Rattle.afdx_conform.proofs.PlacesLemmas.{stand-sought}
 use Rattle.afdx_conform.proofs.deviate.deviate.Goals as goal
 
 pub loop-front-init : goal.loop-front-init
 loop-front-init c = record {
   bounds = c.requires.within;
-  marks = refl;
-  behind =
-      let len : c.len-from.result ≡ length c.args.marks.now.items = search rules in
-      ap (λ (n : ℕ). drop (n + 1) c.args.arrivals.now) len;
+  inside = (
+    omega arith,
+    front-within c.args.bounds.now.rates c.args.frames.now c.requires.within.0 c.args.held.items c.as_slice-at_first.result.now
+        c.front_of-first.result c.as_slice-at_first.ensures.value c.requires.within.2 c.front_of-first.ensures.among,
+  );
   within = λ link by count r all. all;
-  defined = λ z last j b k ns opens marks none.
-      at-start z last _ (arrival_of c.args.arrived.now) (map gone_of c.args.frames.now) c.args.held.items c.front_of-front.result
-      c.new-found.result.items (marked_all c.args.arrivals.now c.args.marks.now.items) j c.new-found.ensures.items marks none
-      (front-start c.args.frames.now c.args.held.items c.as_slice-at_first.result.now c.front_of-front.result (length c.args.frames.now)
+  defined = λ z last j b k ns opens none.
+      at-start z last _ (arrival_of c.args.arrived.now) c.args.frames.now c.args.held.items c.front_of-first.result j none
+      (front-start c.args.frames.now c.args.held.items c.as_slice-at_first.result.now c.front_of-first.result (length c.args.frames.now)
       c.as_slice-at_first.ensures.value
       (within-frames c.args.bounds.now.rates c.args.frames.now c.requires.within.0 c.args.held.items c.requires.within.2)
-      c.front_of-front.ensures.greatest c.front_of-front.ensures.among refl);
+      c.front_of-first.ensures.greatest c.front_of-first.ensures.among refl);
 }
 
 pub loop-front-preserved : goal.loop-front-preserved
@@ -49,16 +47,18 @@ loop-front-preserved c = record {
         (filter (λ h. nat_eq h.passed c.loop-front.front) l)) c.as_slice-before.ensures.value)
         c.loop-front.invariant.bounds.2,
   );
-  marks = c.unexplained-finding.ensures.length ∙ c.loop-front.invariant.marks;
-  behind = c.loop-front.invariant.behind;
+  inside = (
+    (let le = c.loop-front.invariant.inside.0 in omega (arith, le)),
+    (let lt = c.loop-front-test.true in omega (arith, lt)),
+  );
   within = λ link by count r all.
       past-within c.args.bounds.now.rates (length c.args.frames.now) count c.loop-front.front
       (c.loop-front.front + 1) c.loop-front.held.items c.in_ok-lead.lead.items (let lt = c.loop-front-test.true in omega (arith, lt))
       (c.in_ok-lead.ensures ∙ ap (λ (l : List Held). map (λ h. past (c.loop-front.front + 1) h)
       (filter (λ h. nat_eq h.passed c.loop-front.front) l)) c.as_slice-before.ensures.value)
       (c.loop-front.invariant.within link by count r all);
-  defined = λ z last j b k ns opens marks none.
-      let at = c.loop-front.invariant.defined z last j b k ns opens marks none in
+  defined = λ z last j b k ns opens none.
+      let at = c.loop-front.invariant.defined z last j b k ns opens none in
       let is : c.index-frames-front.result ≡ get_or c.args.frames.now c.loop-front.front c.index-frames-front.result = search rules in
       let next = gone-here c.args.frames.now c.loop-front.front c.index-frames-front.result c.loop-front-test.true is in
       let size = length-map c.args.frames.now gone_of in
@@ -71,7 +71,7 @@ loop-front-preserved c = record {
       (c.in_ok-lead.ensures ∙ ap (λ (l : List Held). map (λ h. past (c.loop-front.front + 1) h)
       (filter (λ h. nat_eq h.passed c.loop-front.front) l)) c.as_slice-before.ensures.value) in
       let gone : c.in_ok-led.led.items ≡ [] =
-      sym c.as_slice-in-loop-front.ensures.value ∙ c.has_any.ensures.none c.if-has_any.false in
+      sym c.as_slice.ensures.value ∙ c.has_any.ensures.none c.if-has_any.false in
       let led = sym (ap (λ (l : List Held). map (state_of (map gone_of c.args.frames.now)) l) (sym gone)
       ∙ c.in_ok-led.ensures.defined z last b k ns opens
       ∙ ap (λ (l : List Held). led_by (λ s. states_at z (arrival_of c.args.arrived.now)
@@ -79,12 +79,8 @@ loop-front-preserved c = record {
       c.as_slice-asked.ensures.value) in
       at-same z last _ (arrival_of c.args.arrived.now) (map gone_of c.args.frames.now) c.args.held.items
       c.in_ok-lead.lead.items (c.loop-front.front + 1) j _ _
-      (ap (λ (l : List Finding). told c.args.arrived.now.time l (marked_all c.args.arrivals.now c.unexplained-finding.new.marks.items) j)
-      c.in_ok-push.ensures.items
-      ∙ told-unexplained z c.args.arrived.now.time c.loop-front.found.items c.unexplained-finding.result
-      (marked_all c.args.arrivals.now c.loop-front.marks.items) (marked_all c.args.arrivals.now c.unexplained-finding.new.marks.items)
-      (gone_of c.index-frames-front.result) j
-      (c.unexplained-finding.ensures.finding z b.limits) (c.unexplained-finding.ensures.named z b.limits))
+      (passed-next z c.args.arrived.now.time c.args.frames.now j c.front_of-first.result c.loop-front.front c.index-frames-front.result
+      c.loop-front.invariant.inside.0 c.loop-front-test.true is)
       (at-next z last _ (arrival_of c.args.arrived.now) (map gone_of c.args.frames.now) c.args.held.items c.loop-front.held.items
       c.loop-front.front j _ at (gone_of c.index-frames-front.result) (drop (c.loop-front.front + 1) (map gone_of c.args.frames.now)) next
       c.in_ok-lead.lead.items moved (c.loop-front.front + 1)
@@ -92,8 +88,8 @@ loop-front-preserved c = record {
 }
 
 pub returns-then-has_any-clause-defined : goal.returns-then-has_any-clause-defined
-returns-then-has_any-clause-defined c z last j b k ns opens marks none =
-    let at = c.loop-front.invariant.defined z last j b k ns opens marks none in
+returns-then-has_any-clause-defined c z last j b k ns opens none =
+    let at = c.loop-front.invariant.defined z last j b k ns opens none in
     let is : c.index-frames-front.result ≡ get_or c.args.frames.now c.loop-front.front c.index-frames-front.result = search rules in
     let next = gone-here c.args.frames.now c.loop-front.front c.index-frames-front.result c.loop-front-test.true is in
     let size = length-map c.args.frames.now gone_of in
@@ -110,39 +106,31 @@ returns-then-has_any-clause-defined c z last j b k ns opens marks none =
     (levels_then z s.levels last (arrival_of c.args.arrived.now)) s) (map (state_of (map gone_of c.args.frames.now)) l))
     c.as_slice-asked.ensures.value) in
     let some = some-held (map gone_of c.args.frames.now) c.in_ok-led.led.items
-    (λ e. c.has_any.ensures.left c.if-has_any.true (c.as_slice-in-loop-front.ensures.value ∙ e)) in
+    (λ e. c.has_any.ensures.left c.if-has_any.true (c.as_slice.ensures.value ∙ e)) in
     ap (λ (s : Judged). with_states (map (state_of (map gone_of c.args.frames.now)) c.in_ok-led.led.items) s)
-    (ap (λ (l : List Finding). told c.args.arrived.now.time l (marked_all c.args.arrivals.now c.unexplained-finding.new.marks.items) j)
-    c.in_ok-push.ensures.items
-    ∙ told-unexplained z c.args.arrived.now.time c.loop-front.found.items c.unexplained-finding.result
-    (marked_all c.args.arrivals.now c.loop-front.marks.items) (marked_all c.args.arrivals.now c.unexplained-finding.new.marks.items)
-    (gone_of c.index-frames-front.result) j
-    (c.unexplained-finding.ensures.finding z b.limits) (c.unexplained-finding.ensures.named z b.limits))
+    (passed-next z c.args.arrived.now.time c.args.frames.now j c.front_of-first.result c.loop-front.front c.index-frames-front.result
+    c.loop-front.invariant.inside.0 c.loop-front-test.true is)
     ∙ at-led z last _ (arrival_of c.args.arrived.now) (map gone_of c.args.frames.now) c.args.held.items c.loop-front.held.items
     c.loop-front.front j _ at (gone_of c.index-frames-front.result) (drop (c.loop-front.front + 1) (map gone_of c.args.frames.now)) next
     c.in_ok-lead.lead.items moved (map (state_of (map gone_of c.args.frames.now)) c.in_ok-led.led.items)
     (sym (c.deviation.ensures z b.limits) ∙ c.in-Other.is) led some
-    ∙ ap (λ (l : List Arrived). deviates z (map arrival_of l) (arrival_of c.args.arrived.now)
-    (aged z last (arrival_of c.args.arrived.now) (map (state_of (map gone_of c.args.frames.now)) c.args.held.items))
-    (front_rest (map (state_of (map gone_of c.args.frames.now)) c.args.held.items)) j) c.loop-front.invariant.behind
 
 pub returns-in-Stopped-clause-defined : goal.returns-in-Stopped-clause-defined
-returns-in-Stopped-clause-defined c z last j b k ns opens marks none =
-    let at = c.loop-front.invariant.defined z last j b k ns opens marks none in
+returns-in-Stopped-clause-defined c z last j b k ns opens none =
+    let at = c.loop-front.invariant.defined z last j b k ns opens none in
     let is : c.index-frames-front.result ≡ get_or c.args.frames.now c.loop-front.front c.index-frames-front.result = search rules in
     let next = gone-here c.args.frames.now c.loop-front.front c.index-frames-front.result c.loop-front-test.true is in
     if-ok-two c.accept_with.result (λ out s f.
-    stopped-whole z last _ (arrival_of c.args.arrived.now) (map gone_of c.args.frames.now) c.args.held.items c.loop-front.held.items
-    c.loop-front.front c.loop-front.found.items (marked_all c.args.arrivals.now c.loop-front.marks.items) j at out.held.items
-    out.found.items f
+    ap (λ (q : Judged). with_states (map (state_of (map gone_of c.args.frames.now)) out.held.items) q)
+    (last-is z c.args.arrived.now.time c.args.frames.now j c.front_of-first.result c.loop-front.front out.first out.past out.last
+    (Stopped c.args.arrived.now.number) f.0 f.1 f.2)
+    ∙ stopped-whole z last _ (arrival_of c.args.arrived.now) (map gone_of c.args.frames.now) c.args.held.items c.loop-front.held.items
+    c.loop-front.front j _ at out.held.items
     (s ∙ ap (λ (l : List Held). as_accepted z (arrival_of c.args.arrived.now) (aged z last (arrival_of c.args.arrived.now)
     (map (state_of (map gone_of c.args.frames.now)) l))) c.as_slice-states.ensures.value)
     (at-stop z last _ (arrival_of c.args.arrived.now) (map gone_of c.args.frames.now) c.args.held.items c.loop-front.held.items
     c.loop-front.front j _ at (gone_of c.index-frames-front.result) (drop (c.loop-front.front + 1) (map gone_of c.args.frames.now)) next
-    (sym (c.deviation.ensures z b.limits) ∙ c.in-Stopped.is))
-    ∙ ap (λ (l : List Arrived). deviates z (map arrival_of l) (arrival_of c.args.arrived.now)
-    (aged z last (arrival_of c.args.arrived.now) (map (state_of (map gone_of c.args.frames.now)) c.args.held.items))
-    (front_rest (map (state_of (map gone_of c.args.frames.now)) c.args.held.items)) j) c.loop-front.invariant.behind)
+    (sym (c.deviation.ensures z b.limits) ∙ c.in-Stopped.is)))
     (c.accept_with.ensures.defined z (map gone_of c.args.frames.now) last b.rates k ns
     (All-same (λ (h : Held). AreNear c.args.bounds.now.rates h.levels) _ _ c.as_slice-states.ensures.value
     (near-all c.args.bounds.now.rates (length c.args.frames.now) c.loop-front.invariant.bounds.0 c.loop-front.held.items
@@ -160,8 +148,8 @@ returns-in-Stopped-clause-within c link by count r all =
     (c.loop-front.invariant.within link by count r all)))
 
 pub returns-in-Took-clause-defined : goal.returns-in-Took-clause-defined
-returns-in-Took-clause-defined c z last j b k ns opens marks none =
-    let at = c.loop-front.invariant.defined z last j b k ns opens marks none in
+returns-in-Took-clause-defined c z last j b k ns opens none =
+    let at = c.loop-front.invariant.defined z last j b k ns opens none in
     let is : c.index-frames-front.result ≡ get_or c.args.frames.now c.loop-front.front c.index-frames-front.result = search rules in
     let next = gone-here c.args.frames.now c.loop-front.front c.index-frames-front.result c.loop-front-test.true is in
     let size = length-map c.args.frames.now gone_of in
@@ -174,16 +162,15 @@ returns-in-Took-clause-defined c z last j b k ns opens marks none =
     (let lt = c.loop-front-test.true in omega (arith, lt, size))
     at.at_front lead_is in
     if-ok-two c.accept_with-in-Took.result (λ out s f.
-    took-whole z last _ (arrival_of c.args.arrived.now) (map gone_of c.args.frames.now) c.args.held.items c.loop-front.held.items
-    c.loop-front.front c.loop-front.found.items (marked_all c.args.arrivals.now c.loop-front.marks.items) j at
-    (gone_of c.index-frames-front.result) (drop (c.loop-front.front + 1) (map gone_of c.args.frames.now))
+    ap (λ (q : Judged). with_states (map (state_of (map gone_of c.args.frames.now)) out.held.items) q)
+    (last-is z c.args.arrived.now.time c.args.frames.now j c.front_of-first.result c.loop-front.front out.first out.past out.last
+    c.in-Took.finding f.0 f.1 f.2)
+    ∙ took-whole z last _ (arrival_of c.args.arrived.now) (map gone_of c.args.frames.now) c.args.held.items c.loop-front.held.items
+    c.loop-front.front j _ at (gone_of c.index-frames-front.result) (drop (c.loop-front.front + 1) (map gone_of c.args.frames.now))
     c.in_ok-ahead-in-Took.ahead.items
-    out.held.items c.in-Took.finding out.found.items next (sym (c.deviation.ensures z b.limits) ∙ c.in-Took.is) moved f
+    out.held.items c.in-Took.finding next (sym (c.deviation.ensures z b.limits) ∙ c.in-Took.is) moved
     (s ∙ ap (λ (l : List Held). as_accepted z (arrival_of c.args.arrived.now) (aged z last (arrival_of c.args.arrived.now)
-    (map (state_of (map gone_of c.args.frames.now)) l))) c.as_slice-taken.ensures.value)
-    ∙ ap (λ (l : List Arrived). deviates z (map arrival_of l) (arrival_of c.args.arrived.now)
-    (aged z last (arrival_of c.args.arrived.now) (map (state_of (map gone_of c.args.frames.now)) c.args.held.items))
-    (front_rest (map (state_of (map gone_of c.args.frames.now)) c.args.held.items)) j) c.loop-front.invariant.behind)
+    (map (state_of (map gone_of c.args.frames.now)) l))) c.as_slice-taken.ensures.value))
     (c.accept_with-in-Took.ensures.defined z (map gone_of c.args.frames.now) last b.rates k ns
     (All-same (λ (h : Held). AreNear c.args.bounds.now.rates h.levels) _ _ c.as_slice-taken.ensures.value
     (near-all c.args.bounds.now.rates (length c.args.frames.now) c.loop-front.invariant.bounds.0 c.in_ok-ahead-in-Took.ahead.items
@@ -211,20 +198,19 @@ returns-in-Took-clause-within c link by count r all =
     (c.loop-front.invariant.within link by count r all))))
 
 pub returns-clause-defined : goal.returns-clause-defined
-returns-clause-defined c z last j b k ns opens marks none =
-    let at = c.loop-front.invariant.defined z last j b k ns opens marks none in
+returns-clause-defined c z last j b k ns opens none =
+    let at = c.loop-front.invariant.defined z last j b k ns opens none in
     let past_all = gone-past c.args.frames.now c.loop-front.front (let h = c.loop-front-test.false in omega (arith, h)) in
     if-ok-two c.accept_with-2.result (λ out s f.
-    stopped-whole z last _ (arrival_of c.args.arrived.now) (map gone_of c.args.frames.now) c.args.held.items c.loop-front.held.items
-    c.loop-front.front c.loop-front.found.items (marked_all c.args.arrivals.now c.loop-front.marks.items) j at out.held.items
-    out.found.items f
+    ap (λ (q : Judged). with_states (map (state_of (map gone_of c.args.frames.now)) out.held.items) q)
+    (last-is z c.args.arrived.now.time c.args.frames.now j c.front_of-first.result c.loop-front.front out.first out.past out.last
+    (Stopped c.args.arrived.now.number) f.0 f.1 f.2)
+    ∙ stopped-whole z last _ (arrival_of c.args.arrived.now) (map gone_of c.args.frames.now) c.args.held.items c.loop-front.held.items
+    c.loop-front.front j _ at out.held.items
     (s ∙ ap (λ (l : List Held). as_accepted z (arrival_of c.args.arrived.now) (aged z last (arrival_of c.args.arrived.now)
     (map (state_of (map gone_of c.args.frames.now)) l))) c.as_slice-at_last.ensures.value)
     (at-end z last _ (arrival_of c.args.arrived.now) (map gone_of c.args.frames.now) c.args.held.items c.loop-front.held.items
-    c.loop-front.front j _ at past_all)
-    ∙ ap (λ (l : List Arrived). deviates z (map arrival_of l) (arrival_of c.args.arrived.now)
-    (aged z last (arrival_of c.args.arrived.now) (map (state_of (map gone_of c.args.frames.now)) c.args.held.items))
-    (front_rest (map (state_of (map gone_of c.args.frames.now)) c.args.held.items)) j) c.loop-front.invariant.behind)
+    c.loop-front.front j _ at past_all))
     (c.accept_with-2.ensures.defined z (map gone_of c.args.frames.now) last b.rates k ns
     (All-same (λ (h : Held). AreNear c.args.bounds.now.rates h.levels) _ _ c.as_slice-at_last.ensures.value
     (near-all c.args.bounds.now.rates (length c.args.frames.now) c.loop-front.invariant.bounds.0 c.loop-front.held.items
@@ -274,11 +260,20 @@ returns-then-has_any-clause-within c link by count r all =
     (c.loop-front.invariant.within link by count r all)))
 
 pub deviation-requires : goal.deviation-requires
-deviation-requires c = stand-sought c.index-frames-front.result.bytes c.args.arrivals.now c.args.known.now.is_whole
-    c.in_ok-sought.sought.items c.as_slice.result.now c.places-places.result.now c.as_slice.ensures.value c.in_ok-sought.ensures
-    (c.places-places.ensures c.args.arrivals.now c.requires.known)
+deviation-requires c = c.places-places.ensures c.args.arrivals.now c.requires.known c.requires.each
 
-pub unexplained-finding-requires-clause-places : goal.unexplained-finding-requires-clause-places
-unexplained-finding-requires-clause-places c = stand-sought c.index-frames-front.result.bytes c.args.arrivals.now c.args.known.now.is_whole
-    c.in_ok-sought.sought.items c.as_slice.result.now c.places-places.result.now c.as_slice.ensures.value c.in_ok-sought.ensures
-    (c.places-places.ensures c.args.arrivals.now c.requires.known)
+pub returns-in-Stopped-clause-frames : goal.returns-in-Stopped-clause-frames
+returns-in-Stopped-clause-frames c =
+    if-ok-on c.accept_with.result (λ out f. inside-on c.front_of-first.result c.loop-front.front out.first out.past
+    (length c.args.frames.now) f.0 f.1 c.loop-front.invariant.inside.0 c.loop-front.invariant.inside.1) c.accept_with.ensures.found
+
+pub returns-in-Took-clause-frames : goal.returns-in-Took-clause-frames
+returns-in-Took-clause-frames c =
+    if-ok-on c.accept_with-in-Took.result (λ out f. inside-on c.front_of-first.result c.loop-front.front out.first out.past
+    (length c.args.frames.now) f.0 f.1 c.loop-front.invariant.inside.0 c.loop-front.invariant.inside.1)
+    c.accept_with-in-Took.ensures.found
+
+pub returns-clause-frames : goal.returns-clause-frames
+returns-clause-frames c =
+    if-ok-on c.accept_with-2.result (λ out f. inside-on c.front_of-first.result c.loop-front.front out.first out.past
+    (length c.args.frames.now) f.0 f.1 c.loop-front.invariant.inside.0 c.loop-front.invariant.inside.1) c.accept_with-2.ensures.found

@@ -1,4 +1,4 @@
-use Rattle.std.proofs.Common.{◌≡◌, ℕ, ◌+◌, ◌-◌, ◌<◌, [], map, drop, length}
+use Rattle.std.proofs.Common.{◌≡◌, ℕ, ◌-◌, ◌<◌, ◌≤◌, [], map, drop, length}
 use Rattle.std.specs.Prelude.{All}
 use Rattle.afdx_frame.specs.Regulation.{Regulation}
 use Rattle.afdx_conform.specs.Accounts.{AreRates}
@@ -8,29 +8,26 @@ use Rattle.afdx_conform.specs.Findings.{Judged}
 use Rattle.afdx_conform.specs.HeldStates.{IsWithin, state_of}
 use Rattle.afdx_conform.specs.Leeway.{Leeway}
 use Rattle.afdx_conform.specs.Limits.{gone_of}
-use Rattle.afdx_conform.specs.Marks.{IsCharged, arrival_of, marked_all, told}
+use Rattle.afdx_conform.specs.Marks.{IsCharged, arrival_of}
 use Rattle.afdx_conform.specs.Ranges.{most_held}
 use Rattle.afdx_conform.specs.States.{led_by, states_at}
 use Rattle.afdx_conform.specs.Streams.{Terms, is_open}
-use Rattle.afdx_conform.proofs.DeviateSteps.{AreAt}
+use Rattle.afdx_conform.proofs.DeviateSteps.{AreAt, Passed}
 use Rattle.afdx_conform.proofs.deviate.deviate.Given as goal
 
 abbrev pub invariant-loop-front : goal.invariant-loop-front
 invariant-loop-front l = record {
   bounds : (count : ℕ) × (count < most_held) × All (λ h. IsWithin l.bounds.rates (length l.frames) count h) l.held.items;
-  marks : length l.marks.items ≡ length l.fn.marks.items;
-  behind : drop l.from l.arrivals ≡ drop (length l.fn.marks.items + 1) l.arrivals;
+  inside : (l.first ≤ l.front) × (l.front ≤ length l.frames);
   within : (link : Regulation) (by : Leeway) (count : ℕ) → AreRates link by l.bounds.rates
       → All (λ h. IsWithin l.bounds.rates (length l.frames) count h) l.fn.held.items
       → All (λ h. IsWithin l.bounds.rates (length l.frames) count h) l.held.items;
   defined : (z : Terms) (last : ℕ) (j : Judged) → AreBounds z l.bounds → IsCharged z l.arrived
       → l.moment.ns ≡ l.arrived.time - last → l.moment.is_open ≡ is_open z (arrival_of l.arrived)
-      → j.arrivals ≡ marked_all l.arrivals l.fn.marks.items
       → led_by (λ s. states_at z (arrival_of l.arrived) (levels_then z s.levels last (arrival_of l.arrived)) s)
       (map (state_of (map gone_of l.frames)) l.fn.held.items) ≡ []
       → AreAt z last (map arrival_of (drop l.from l.arrivals)) (arrival_of l.arrived) (map gone_of l.frames)
-      l.fn.held.items l.held.items l.front
-      j (told l.arrived.time l.found.items (marked_all l.arrivals l.marks.items) j);
+      l.fn.held.items l.held.items l.front j (Passed z l.arrived.time l.frames j l.first l.front);
 }
 
 abbrev pub decreases-loop-front : goal.decreases-loop-front

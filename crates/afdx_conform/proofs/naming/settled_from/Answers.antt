@@ -10,4 +10,5 @@ loop-count-preserved c = (
   omega (arith, c.loop-count-test.true),
   All-more (λ m. IsTrue (not (may_be_named m))) c.args.marks.now c.loop-count.count no-mark c.loop-count-test.true
       c.loop-count.invariant.1 (ap (λ (b : Bool). not b) (sym c.is_to_name.ensures ∙ c.if-not-is_to_name.true)),
+  (let le = c.loop-count.invariant.2 in omega (arith, le)),
 )

@@ -1,4 +1,4 @@
-use Rattle.std.proofs.Common.{◌≡◌, ◌≤◌, ℕ, map, take, length}
+use Rattle.std.proofs.Common.{◌≡◌, ◌≤◌, ℕ, map, take, length, vec_len, vec_capacity}
 use Rattle.afdx_conform.specs.Findings.{Judged}
 use Rattle.afdx_conform.specs.Limits.{AreLimits, gone_of}
 use Rattle.afdx_conform.specs.Marks.{marked_all, told}
@@ -7,10 +7,15 @@ use Rattle.afdx_conform.specs.Streams.{Terms}
 use Rattle.afdx_conform.proofs.naming.unexplained_all.Given as goal
 
 abbrev pub invariant-loop-frame : goal.invariant-loop-frame
-invariant-loop-frame l =
-    ((z : Terms) (time : ℕ) (j : Judged) → AreLimits z l.limits →
-    j.arrivals ≡ marked_all l.arrivals l.initial.marks.items →
-    told time l.found.items (marked_all l.arrivals l.marks.items) j
-    ≡ unexplained_all z time (map gone_of (take l.frame-index l.frames)) j)
-    × (length l.marks.items ≡ length l.initial.marks.items)
-    × (l.settled ≤ length l.marks.items) × AreSettled l.settled l.marks.items
+invariant-loop-frame l = record {
+  same : (z : Terms) (time : ℕ) (j : Judged) → AreLimits z l.limits → j.arrivals ≡ marked_all l.arrivals l.initial.marks.items
+      → told time l.found.items (marked_all l.arrivals l.marks.items) j
+      ≡ unexplained_all z time (map gone_of (take l.frame-index l.frames)) j;
+  size : length l.marks.items ≡ length l.initial.marks.items;
+  low : l.settled ≤ length l.marks.items;
+  settled : AreSettled l.settled l.marks.items;
+  far : l.known.settled ≤ l.settled;
+  count : vec_len l.found ≡ l.frame-index;
+  room : vec_capacity l.found ≡ vec_capacity l.initial.found;
+  kept : vec_capacity l.marks ≡ vec_capacity l.initial.marks;
+}

@@ -38,6 +38,7 @@ forget-requires c =
       frames = s.frames;
       left = s.left;
       known = s.known;
+      settled = c.in_ok-found.ensures.settled;
     })
 
 pub returns-clause-decides : goal.returns-clause-decides

@@ -53,6 +53,7 @@ close_explained-requires-clause-sound c =
       frames = s.frames;
       left = s.left;
       known = s.known;
+      settled = c.in_ok-found.ensures.settled;
     })
 
 pub returns-clause-decides : goal.returns-clause-decides
