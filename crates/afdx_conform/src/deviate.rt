@@ -84,8 +84,8 @@ fn accept_with(
 }
 
 /// What the switch did with an arrival that leads to no state, and how the states go on. The
-/// arrivals from `from` on came after it; `each` are the places that `known` gave. Fails only out of
-/// memory.
+/// arrivals from `from` on came after it; `each` are the places that `known` gave. Fails only out
+/// of memory.
 pub(crate) fn deviate(
     alloc: Global,
     bounds: &Bounds,
