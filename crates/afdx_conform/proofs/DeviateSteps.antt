@@ -8,7 +8,7 @@ use Rattle.std.specs.Str.{bytes_eq}
 use Rattle.afdx_police.specs.Arrival.{Arrival}
 use Rattle.afdx_conform.specs.Bounds.{HaveToPass}
 use Rattle.afdx_conform.specs.Explanations.{link, charge, levels_then}
-use Rattle.afdx_conform.specs.Findings.{Finding, Marked, Judged, judged_with, with_states, with_finding, found_at, frames_of, front_rest, lead, with_rest, has_some, aged, as_accepted, asked, stopped, took, unexplained, is_far, is_early, is_late, deviation_of, deviates}
+use Rattle.afdx_conform.specs.Findings.{Finding, Judged, with_states, with_finding, frames_of, front_rest, lead, with_rest, has_some, aged, as_accepted, asked, stopped, took, unexplained, is_far, is_early, is_late, deviation_of, deviates}
 use Rattle.afdx_conform.specs.HeldStates.{state_of, past, IsWithin}
 use Rattle.afdx_conform.specs.Levels.{has_to_pass}
 use Rattle.afdx_conform.specs.Limits.{gone_of}
