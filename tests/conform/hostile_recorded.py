@@ -7,7 +7,7 @@ from collections.abc import Iterator
 
 from conform_claims import Judge, pair_of
 from conform_recorded import conform_recordings
-from hostile_lists import equal_times, largest_numbers, largest_tables, many_begun, many_states
+from hostile_lists import equal_frames, largest_numbers, largest_tables, many_begun, many_states
 from hostile_lists import nothing_came
 from hostile_recordings import large_blocks, large_frames, odd_bytes
 from program import Program, answers
@@ -81,7 +81,7 @@ def hostile_recorded(program: Program) -> Iterator[tuple]:
         judge, name = RecordingJudge(asked, bool(is_one)), f"conform, recorded by {how_many}"
         for seed in range(4):
             yield f"{name}: the greatest numbers, {seed}", largest_numbers, judge, seed
-        yield f"{name}: equal times", equal_times, judge, 5_000
+        yield f"{name}: equal times", equal_frames, judge, 5_000, 0
         yield f"{name}: nothing came", nothing_came, judge
         yield f"{name}: many have begun", many_begun, judge
         yield f"{name}: many states", many_states, judge
