@@ -118,14 +118,22 @@ spot-made spot side switch port a b c =
 pub spot-alone : (text : List ℕ) (side : Side) (switch : Option (List ℕ)) → IsSite text side switch
     → IsSpot text (record { side = side; switch = switch; port = None })
 spot-alone text side switch is = record {
-  site = text; port_part = []; written = sym (append-nil text); at_site = is; at_port = refl;
+  site = text;
+  port_part = [];
+  written = sym (append-nil text);
+  at_site = is;
+  at_port = refl;
 }
 
 pub spot-ported : (text front digits : List ℕ) (side : Side) (switch : Option (List ℕ)) (port : ℕ)
     → text ≡ front ++ 58 ∷ digits → IsSite front side switch → IsPort digits port
     → IsSpot text (record { side = side; switch = switch; port = Some port })
 spot-ported text front digits side switch port e is p = record {
-  site = front; port_part = 58 ∷ digits; written = e; at_site = is; at_port = (digits, refl, p);
+  site = front;
+  port_part = 58 ∷ digits;
+  written = e;
+  at_site = is;
+  at_port = (digits, refl, p);
 }
 
 pub spot-whole : (text : List ℕ) → Lacks 58 text → (spot : Spot) → IsSpot text spot
@@ -198,7 +206,12 @@ word-parts word front back e h interface spot is =
 pub word-made : (word front back : List ℕ) (interface : ℕ) (spot : Option Spot) → word ≡ front ++ 61 ∷ back
     → HasPlace front back interface spot → IsWord word interface spot
 word-made word front back interface spot e has = record {
-  digits = front; place = back; written = e; number = has.number; range = has.range; is = has.place;
+  digits = front;
+  place = back;
+  written = e;
+  number = has.number;
+  range = has.range;
+  is = has.place;
 }
 
 -- ---- what is read

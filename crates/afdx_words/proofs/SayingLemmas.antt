@@ -28,14 +28,22 @@ spot : (side : Side) (name_part port_part : List ℕ) (switch : Option (List ℕ
     → IsNamePart name_part switch → IsPortPart port_part port
     → IsPlace ((letter side ++ name_part) ++ port_part) (spot_with side switch port)
 spot side name_part port_part switch port named at = record {
-  site = letter side ++ name_part; port_part = port_part; written = refl;
-  at_site = site side name_part switch named; at_port = at;
+  site = letter side ++ name_part;
+  port_part = port_part;
+  written = refl;
+  at_site = site side name_part switch named;
+  at_port = at;
 }
 
 word : (digits place : List ℕ) (k : ℕ) (spot : Option Spot) → IsWritten 4 digits k → k < most_interfaces
     → IsPlace place spot → IsWord (digits ++ 61 ∷ place) k spot
 word digits place k spot number range is = record {
-  digits = digits; place = place; written = refl; number = number; range = range; is = is;
+  digits = digits;
+  place = place;
+  written = refl;
+  number = number;
+  range = range;
+  is = is;
 }
 
 zero_is : IsWritten 4 (codes "0") 0
@@ -58,13 +66,20 @@ some_words = record {
       (written 4 (codes "12") 12 (omega arith) (omega arith, (omega arith, tt)) (omega arith) refl)
       (omega arith) (spot A (codes " fwd") [] (Some (codes "fwd")) None (refl, fwd) refl);
   switch_port = word (codes "0") (codes "B fwd:24") 0 (spot_with B (Some (codes "fwd")) (Some 24)) zero_is (omega arith)
-      (spot B (codes " fwd") (codes ":24") (Some (codes "fwd")) (Some 24) (refl, fwd)
-      (codes "24", refl, port (codes "24") 24
-      (written 2 (codes "24") 24 (omega arith) (omega arith, (omega arith, tt)) (omega arith) refl) (omega arith) (omega arith)));
+      (spot B (codes " fwd") (codes ":24") (Some (codes "fwd")) (Some 24) (refl, fwd) (
+        codes "24",
+        refl,
+        port (codes "24") 24
+            (written 2 (codes "24") 24 (omega arith) (omega arith, (omega arith, tt)) (omega arith) refl) (omega arith) (omega arith),
+      ));
   zeros = word (codes "0007") (codes "A:01") 7 (spot_with A None (Some 1))
       (written 4 (codes "0007") 7 (omega arith) (omega arith, (omega arith, (omega arith, (omega arith, tt)))) (omega arith) refl)
-      (omega arith) (spot A [] (codes ":01") None (Some 1) refl (codes "01", refl, port (codes "01") 1
-      (written 2 (codes "01") 1 (omega arith) (omega arith, (omega arith, tt)) (omega arith) refl) (omega arith) (omega arith)));
+      (omega arith) (spot A [] (codes ":01") None (Some 1) refl (
+        codes "01",
+        refl,
+        port (codes "01") 1
+            (written 2 (codes "01") 1 (omega arith) (omega arith, (omega arith, tt)) (omega arith) refl) (omega arith) (omega arith),
+      ));
   left_out = word (codes "3") (codes "-") 3 None
       (written 4 (codes "3") 3 (omega arith) (omega arith, tt) (omega arith) refl) (omega arith) refl;
 }
@@ -135,7 +150,7 @@ other_words = record {
       omega (arith, value, range);
   long = λ k spot is.
       let low = lacks-more 61 48 (codes "0001") (omega arith)
-          (lacks-four 48 48 48 49 (omega arith) (omega arith) (omega arith) (omega arith)) in
+      (lacks-four 48 48 48 49 (omega arith) (omega arith) (omega arith) (omega arith)) in
       let has = word-parts (codes "00001=A") (codes "00001") (codes "A") refl low k spot is in
       let short : 5 ≤ 4 = has.number.short in
       omega (arith, short);

@@ -35,7 +35,7 @@ pub links-more : (words : List (Bor (List ℕ))) (i : ℕ) (d : Bor (List ℕ)) 
     → AllZip NamesLink (map (λ word. word.now) (take (i + 1) words)) new
 links-more words i d old new link lt all one e =
     let more : map (λ (word : Bor (List ℕ)). word.now) (take (i + 1) words)
-        ≡ map (λ (word : Bor (List ℕ)). word.now) (take i words) ++ (get_or words i d).now ∷ [] =
+    ≡ map (λ (word : Bor (List ℕ)). word.now) (take i words) ++ (get_or words i d).now ∷ [] =
     map_more (λ (word : Bor (List ℕ)). word.now) words i d lt in
     rw (more, e) (zip-push NamesLink (map (λ (word : Bor (List ℕ)). word.now) (take i words)) old
     (get_or words i d).now link all one)

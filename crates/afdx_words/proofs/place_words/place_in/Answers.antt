@@ -8,7 +8,7 @@ use Rattle.afdx_words.proofs.place_words.place_in.Goals as goal
 pub returns-in_err-port_in-in-Some : goal.returns-in_err-port_in-in-Some
 returns-in_err-port_in-in-Some c =
     let parts = split_parts 58 c.args.word.now (Some (c.in-Some.site, c.in-Some.port)) c.in-Some.ensures.cases
-        (omega arith) in
+    (omega arith) in
     let none : c.from_residual.result ≡ None = search rules in
     rw none (no-port-read c.args.word.now c.in-Some.site.now c.in-Some.port.now parts.0 parts.1
     c.in_err-port_in-in-Some.ensures)
@@ -20,7 +20,7 @@ returns-in_err-side c =
     elim c.match-split_once.branch [
       | in-Some+in_ok-port_in-in-Some w ↦
           let parts = split_parts 58 c.args.word.now (Some (w.in-Some.site, w.in-Some.port)) w.in-Some.ensures.cases
-              (omega arith) in
+          (omega arith) in
           cut-ported c.args.word.now w.in-Some.site.now w.in-Some.port.now _ _ w.in_ok-port_in-in-Some.field-0
           parts.0 parts.1 (ap (λ (t : Bor (List ℕ) × Option ℕ). t.0.now) w.port-is)
           (ap (λ (t : Bor (List ℕ) × Option ℕ). t.1) w.port-is) w.in_ok-port_in-in-Some.ensures
@@ -40,7 +40,7 @@ returns c =
     elim c.match-split_once.branch [
       | in-Some+in_ok-port_in-in-Some w ↦
           let parts = split_parts 58 c.args.word.now (Some (w.in-Some.site, w.in-Some.port)) w.in-Some.ensures.cases
-              (omega arith) in
+          (omega arith) in
           cut-ported c.args.word.now w.in-Some.site.now w.in-Some.port.now _ _ w.in_ok-port_in-in-Some.field-0
           parts.0 parts.1 (ap (λ (t : Bor (List ℕ) × Option ℕ). t.0.now) w.port-is)
           (ap (λ (t : Bor (List ℕ) × Option ℕ). t.1) w.port-is) w.in_ok-port_in-in-Some.ensures

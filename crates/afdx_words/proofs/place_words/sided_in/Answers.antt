@@ -6,7 +6,7 @@ pub returns-in-Some-default-At-default-None-default-clause-said :
     goal.returns-in-Some-default-At-default-None-default-clause-said
 returns-in-Some-default-At-default-None-default-clause-said c =
     let read : IsWord c.args.given.word.now c.in-Some-default-At-default-None-default.interface
-        (spot_of c.in-Some-default-At-default-None-default.field-0-1) =
+    (spot_of c.in-Some-default-At-default-None-default.field-0-1) =
     c.in-Some-default-At-default-None-default.ensures.read.given
     (c.in-Some-default-At-default-None-default.interface, spot_of c.in-Some-default-At-default-None-default.field-0-1)
     refl in
