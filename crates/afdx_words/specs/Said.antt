@@ -1,7 +1,8 @@
 -- What the words of a command line say, by what their parser found of them.
-use Rattle.std.specs.Prelude.{ℕ, ◌≡◌, ◌<◌, ◌^◌, Bool, true, false, List, Option, Some, None, codes, unwrap_or}
+use Rattle.std.specs.Prelude.{ℕ, ◌≡◌, ◌<◌, ◌^◌, Bool, true, false, List, [], Option, Some, None, codes, unwrap_or}
 use Rattle.std.specs.Str.Parse.{IsNumeral, digits_value, without_leading_plus}
-use Rattle.clap.specs.Words.{one_text}
+use Rattle.std.specs.Option.{option_map_or}
+use Rattle.clap.specs.Words.{matched_of, one_text, raw_values}
 use Rattle.clap.specs.declared.parser.matches.Found.{Found}
 
 -- the number that a text writes in decimal digits
@@ -16,6 +17,10 @@ IsNumber text = IsNumeral 10 (without_leading_plus text) × (number_in text < 2 
 abbrev pub Writes : List ℕ → Option ℕ → Type 0
 Writes text (Some number) = IsNumber text × (number ≡ number_in text)
 Writes text None = IsNumber text → ⊥
+
+-- the words of the option of this name, in their order: none, if it isn't given
+abbrev pub words_of : Found → (name : List ℕ) → List (List ℕ)
+words_of found name = option_map_or raw_values (matched_of found name) []
 
 -- of the option of this name
 module _ (found : Found) (name : List ℕ) where

@@ -1,8 +1,10 @@
 //! The words of `conform`, and what they say.
 
-ghost use Rattle.std.specs.Prelude.{IfOk};
+ghost use Rattle.std.specs.List.{AllZip};
+ghost use Rattle.std.specs.Prelude.{IfOk, codes, map};
 ghost use Rattle.clap.specs.Words.{found_of};
-ghost use Rattle.afdx_words.specs.ConformSaid.{SaysConform};
+ghost use Rattle.afdx_words.specs.ConformSaid.{NamesLink, SaysConform};
+ghost use Rattle.afdx_words.specs.Said.{words_of};
 
 use crate::recording_words::Refused;
 use crate::said::{is_given, number_of};
@@ -217,7 +219,9 @@ pub struct ConformOptions {
 }
 
 /// The link that a word of `--leave-out` names.
-fn link_in(word: &str) -> Result<Option<VlId>, Refused<'_>> {
+fn link_in(word: &str) -> Result<Option<VlId>, Refused<'_>>
+    ensures { IfOk result (NamesLink word.now) }
+{
     if word == OTHER {
         return Ok(None);
     }
@@ -228,14 +232,31 @@ fn link_in(word: &str) -> Result<Option<VlId>, Refused<'_>> {
 }
 
 /// The links that the words of `--leave-out` name.
-fn links_in<'a>(alloc: Global, words: &[&'a str]) -> Result<Vec<Option<VlId>>, Refused<'a>> {
+fn links_in<'a>(alloc: Global, words: &[&'a str]) -> Result<Vec<Option<VlId>>, Refused<'a>>
+    ensures { IfOk result (λ links.
+        AllZip NamesLink (map (λ word. word.now) words.now) links.items) }
+{
     let mut links = Vec::new(alloc);
     for word in words {
-        if links.push(link_in(word)?).is_err() {
-            return Err(Refused::Memory);
+        let link = link_in(word)?;
+        match links.push(link) {
+            Ok(()) => {}
+            Err(_) => return Err(Refused::Memory),
         }
     }
     Ok(links)
+}
+
+/// The links that are passed over.
+fn left_out_in<'a>(
+    alloc: Global,
+    matches: &ArgMatches<'a>,
+) -> Result<Vec<Option<VlId>>, Refused<'a>>
+    ensures { IfOk result (λ links.
+        AllZip NamesLink (words_of (found_of matches.now) (codes "leave-out")) links.items) }
+{
+    let words = matches.get_strs("leave-out").unwrap_or(&[]);
+    links_in(alloc, words)
 }
 
 /// What the words of `conform` ask for, if those of `--leave-out` are taken.
@@ -245,7 +266,6 @@ pub fn conform_options<'a>(
 ) -> Result<ConformOptions, Refused<'a>>
     ensures { IfOk result (SaysConform (found_of matches.now)) }
 {
-    let words = matches.get_strs("leave-out").unwrap_or(&[]);
     Ok(ConformOptions {
         slack: number_of(matches, "slack").unwrap_or(0),
         between: number_of(matches, "between").unwrap_or(0),
@@ -254,7 +274,7 @@ pub fn conform_options<'a>(
         asked: number_of(matches, "asked").unwrap_or(0),
         from: number_of(matches, "from"),
         until: number_of(matches, "until"),
-        left_out: links_in(alloc, words)?,
+        left_out: left_out_in(alloc, matches)?,
         is_lossy: is_given(matches, "lossy"),
         is_exercised: is_given(matches, "exercised"),
     })

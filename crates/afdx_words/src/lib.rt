@@ -2,6 +2,7 @@
 #![tactic(auto)]
 
 mod conform_words;
+pub mod laws;
 mod list_words;
 mod misplaced;
 mod place_words;

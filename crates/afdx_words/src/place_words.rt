@@ -1,7 +1,13 @@
 //! Where the frames of each interface of a recording came in, by the words of `--interface`.
 
-ghost use Rattle.std.specs.Prelude.{◌<◌, IfOk, IfSome};
+ghost use Rattle.std.specs.Prelude.{◌<◌, ◌≡◌, ◌↔◌, ◌^◌, ℕ, IfOk, IfSome, IsTrue, List, None, Option};
+ghost use Rattle.std.specs.Prelude.{Some, option_map};
+ghost use Rattle.std.specs.List.{list_all};
+ghost use Rattle.std.specs.Char.{is_ascii_alphanumeric};
+ghost use Rattle.afdx_frame.specs.declared.link.Side.{Side};
 ghost use Rattle.afdx_recorded.specs.Places.{most_interfaces};
+ghost use Rattle.afdx_words.specs.PlaceSaid.{IsName, IsPlace, IsPort, IsSite, IsWord, IsWritten};
+ghost use Rattle.afdx_words.specs.PlaceSaid.{Reads, Spot, letter, spot_of};
 
 use crate::misplaced::{Given, Misplaced};
 use crate::recording_words::Refused;
@@ -13,34 +19,33 @@ use std::alloc::Global;
 const LAST_INTERFACE: u16 = 4_095;
 
 /// The number that at most so many digits write, with nothing beside them.
-fn number_in(digits: &str, most: usize) -> Option<u16> {
-    let digits = digits.as_bytes();
-    if digits.is_empty() || digits.len() > most {
+fn number_in(digits: &str, most: usize) -> Option<u16>
+    ensures { Reads (λ n. IsWritten most digits.now n × (n < 2 ^ 16)) result }
+{
+    if digits.len() > most || digits.starts_with('+') {
         return None;
     }
-    let mut number: u16 = 0;
-    for digit in digits {
-        if !digit.is_ascii_digit() {
-            return None;
-        }
-        number = number
-            .checked_mul(10)?
-            .checked_add(u16::from(*digit - b'0'))?;
+    match digits.parse::<u16>() {
+        Ok(number) => Some(number),
+        Err(_) => None,
     }
-    Some(number)
 }
 
 /// The side that a word names.
-fn side_in(word: &str) -> Option<Side> {
-    match word {
-        "A" => Some(Side::A),
-        "B" => Some(Side::B),
+fn side_in(word: &str) -> Option<Side>
+    ensures { Reads (λ side. word.now ≡ letter side) result }
+{
+    match word.as_bytes() {
+        b"A" => Some(Side::A),
+        b"B" => Some(Side::B),
         _ => None,
     }
 }
 
 /// The port that a word names: 1 to 24, in one or two digits.
-fn port_in(word: &str) -> Option<u8> {
+fn port_in(word: &str) -> Option<u8>
+    ensures { Reads (IsPort word.now) result }
+{
     let port = number_in(word, 2)?;
     if port == 0 || port > u16::from(LAST_PORT) {
         return None;
@@ -60,22 +65,25 @@ enum Said<'a> {
 /// The most bytes of a switch's name.
 const LONGEST_NAME: usize = 16;
 
+/// Whether all bytes are letters and digits of ASCII.
+fn is_alphanumeric(word: &str) -> bool
+    ensures { result ≡ list_all is_ascii_alphanumeric word.now }
+{
+    word.as_bytes().iter().all(|b| b.is_ascii_alphanumeric())
+}
+
 /// Whether a switch can have this name: 1 to 16 letters and digits of ASCII.
-fn is_name(word: &str) -> bool {
-    let bytes = word.as_bytes();
-    if bytes.is_empty() || bytes.len() > LONGEST_NAME {
-        return false;
-    }
-    for byte in bytes {
-        if !byte.is_ascii_alphanumeric() {
-            return false;
-        }
-    }
-    true
+fn is_name(word: &str) -> bool
+    ensures { IsTrue result ↔ IsName word.now }
+{
+    !word.is_empty() && word.len() <= LONGEST_NAME && is_alphanumeric(word)
 }
 
 /// The side that a word names and, behind one space, the name of a switch.
-fn side_and_name_in(word: &str) -> Option<(Side, Option<&str>)> {
+fn side_and_name_in(word: &str) -> Option<(Side, Option<&str>)>
+    ensures { Reads (λ (at : Side × Option (List ℕ)). IsSite word.now at.0 at.1)
+        (option_map (λ at. (at.0, option_map (λ name. name.now) at.1)) result) }
+{
     let Some((side, name)) = word.split_once(' ') else {
         return Some((side_in(word)?, None));
     };
@@ -87,7 +95,9 @@ fn side_and_name_in(word: &str) -> Option<(Side, Option<&str>)> {
 }
 
 /// The place that a word names: `-`, or a side, which the name of a switch and a port may follow.
-fn place_in(word: &str) -> Option<Said<'_>> {
+fn place_in(word: &str) -> Option<Said<'_>>
+    ensures { Reads (IsPlace word.now) (option_map spot_of result) }
+{
     if word == "-" {
         return Some(Said::LeftOut);
     }
@@ -101,10 +111,12 @@ fn place_in(word: &str) -> Option<Said<'_>> {
 
 /// The interface and the place that a word `K=PLACE` names.
 fn interface_in(word: &str) -> Option<(u16, Said<'_>)>
-    ensures { IfSome result (λ at. at.0 < most_interfaces) }
+    ensures range { IfSome result (λ at. at.0 < most_interfaces) }
+    ensures read { Reads (λ (at : ℕ × Option Spot). IsWord word.now at.0 at.1)
+        (option_map (λ at. (at.0, spot_of at.1)) result) }
 {
-    let (interface, place) = word.split_once('=')?;
-    let interface = number_in(interface, 4)?;
+    let (digits, place) = word.split_once('=')?;
+    let interface = number_in(digits, 4)?;
     if interface > LAST_INTERFACE {
         return None;
     }
@@ -164,7 +176,9 @@ fn put_once<'a>(
 
 /// An interface, and the side and the port that a word `K=SIDE` or `K=SIDE:PORT` names.
 pub(crate) fn sided_in<'a>(given: Given<'a>) -> Result<(u16, Side, Option<u8>), Refused<'a>>
-    ensures { IfOk result (λ at. at.0 < most_interfaces) }
+    ensures range { IfOk result (λ at. at.0 < most_interfaces) }
+    ensures said { IfOk result (λ at. IsWord given.entry.word.now at.0
+        (Some (record { side = at.1; switch = None; port = at.2 }))) }
 {
     match interface_in(given.word) {
         Some((interface, Said::At(side, None, port))) => Ok((interface, side, port)),

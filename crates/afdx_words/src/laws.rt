@@ -1,0 +1,18 @@
+//! Laws over the definitions.
+
+ghost use Rattle.afdx_words.specs.WordLaws.{OtherWords, SaysOneThing, SomeWords};
+
+/// A word of `--interface` says one thing at most.
+pub fn says_one_thing()
+    ensures { SaysOneThing }
+{}
+
+/// What some words say.
+pub fn words_say()
+    ensures { SomeWords }
+{}
+
+/// Some words that say nothing.
+pub fn others_say_nothing()
+    ensures { OtherWords }
+{}
