@@ -47,7 +47,8 @@ lacks-digits c digits all high i lt e = let d = digit_at digits i all lt in omeg
 pub lacks-alphanumeric : (c : ℕ) (name : List ℕ) → list_all is_ascii_alphanumeric name ≡ true
     → is_ascii_alphanumeric c ≡ false → Lacks c name
 lacks-alphanumeric c name all other i lt e =
-    let one : is_ascii_alphanumeric (get_or name i 0) ≡ true = AllPass-from_list_all is_ascii_alphanumeric name all i 0 lt in
+    let one : is_ascii_alphanumeric (get_or name i 0) ≡ true =
+    AllPass-from_list_all is_ascii_alphanumeric name all i 0 lt in
     let same : is_ascii_alphanumeric (get_or name i 0) ≡ is_ascii_alphanumeric c = ap is_ascii_alphanumeric e in
     let wrong : true ≡ false = sym one ∙ same ∙ other in
     cc

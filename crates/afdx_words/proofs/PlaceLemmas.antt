@@ -321,7 +321,8 @@ module _ (word front back : List ℕ) (e : word ≡ front ++ 61 ∷ back) (h : L
       reads-no r at.0 (has.number, small))
 
   module _ (n : ℕ) (r : Reads (λ n. IsWritten 4 front n × (n < 2 ^ 16)) (Some n)) where
-    number-read : (k : ℕ) (spot : Option Spot) → IsWord word k spot → (k ≡ n) × (k < most_interfaces) × IsPlace back spot
+    number-read : (k : ℕ) (spot : Option Spot) → IsWord word k spot
+        → (k ≡ n) × (k < most_interfaces) × IsPlace back spot
     number-read k spot is =
         let has = word-parts word front back e h k spot is in
         let small : k < 2 ^ 16 = omega (arith, has.range) in

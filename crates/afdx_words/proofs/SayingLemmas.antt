@@ -58,9 +58,11 @@ fwd = record { first = omega arith; last = omega arith; letters = refl }
 pub some_words : SomeWords
 some_words = record {
   port = word (codes "0") (codes "A:1") 0 (spot_with A None (Some 1)) zero_is (omega arith)
-      (spot A [] (codes ":1") None (Some 1) refl (codes "1", refl, port (codes "1") 1 one_is (omega arith) (omega arith)));
+      (spot A [] (codes ":1") None (Some 1) refl
+      (codes "1", refl, port (codes "1") 1 one_is (omega arith) (omega arith)));
   side = word (codes "4095") (codes "B") 4095 (spot_with B None None)
-      (written 4 (codes "4095") 4095 (omega arith) (omega arith, (omega arith, (omega arith, (omega arith, tt)))) (omega arith) refl)
+      (written 4 (codes "4095") 4095 (omega arith)
+      (omega arith, (omega arith, (omega arith, (omega arith, tt)))) (omega arith) refl)
       (omega arith) (spot B [] [] None None refl refl);
   switch = word (codes "12") (codes "A fwd") 12 (spot_with A (Some (codes "fwd")) None)
       (written 4 (codes "12") 12 (omega arith) (omega arith, (omega arith, tt)) (omega arith) refl)
@@ -70,15 +72,18 @@ some_words = record {
         codes "24",
         refl,
         port (codes "24") 24
-            (written 2 (codes "24") 24 (omega arith) (omega arith, (omega arith, tt)) (omega arith) refl) (omega arith) (omega arith),
+            (written 2 (codes "24") 24 (omega arith) (omega arith, (omega arith, tt)) (omega arith) refl)
+            (omega arith) (omega arith),
       ));
   zeros = word (codes "0007") (codes "A:01") 7 (spot_with A None (Some 1))
-      (written 4 (codes "0007") 7 (omega arith) (omega arith, (omega arith, (omega arith, (omega arith, tt)))) (omega arith) refl)
+      (written 4 (codes "0007") 7 (omega arith)
+      (omega arith, (omega arith, (omega arith, (omega arith, tt)))) (omega arith) refl)
       (omega arith) (spot A [] (codes ":01") None (Some 1) refl (
         codes "01",
         refl,
         port (codes "01") 1
-            (written 2 (codes "01") 1 (omega arith) (omega arith, (omega arith, tt)) (omega arith) refl) (omega arith) (omega arith),
+            (written 2 (codes "01") 1 (omega arith) (omega arith, (omega arith, tt)) (omega arith) refl)
+            (omega arith) (omega arith),
       ));
   left_out = word (codes "3") (codes "-") 3 None
       (written 4 (codes "3") 3 (omega arith) (omega arith, tt) (omega arith) refl) (omega arith) refl;
@@ -114,7 +119,8 @@ no-letter (Some spot) is = by spot.side (spot-whole (67 ∷ []) (lacks-one 58 67
 no-high-port : (spot : Option Spot) → IsPlace (65 ∷ 58 ∷ 50 ∷ 53 ∷ []) spot → ⊥
 no-high-port None is = apart 65 45 (58 ∷ 50 ∷ 53 ∷ []) [] (omega arith) is
 no-high-port (Some spot) is =
-    let has = spot-parts (65 ∷ 58 ∷ 50 ∷ 53 ∷ []) (65 ∷ []) (50 ∷ 53 ∷ []) refl (lacks-one 58 65 (omega arith)) spot is in
+    let has = spot-parts (65 ∷ 58 ∷ 50 ∷ 53 ∷ []) (65 ∷ []) (50 ∷ 53 ∷ []) refl
+    (lacks-one 58 65 (omega arith)) spot is in
     let value : 25 ≡ has.port = has.digits.number.value in
     let last : has.port ≤ 24 = has.digits.last in
     omega (arith, value, last)
