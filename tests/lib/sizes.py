@@ -57,7 +57,7 @@ def values_in(text: str) -> int:
 
 def clauses_behind(text: str, place: int) -> tuple[list[str], int | None]:
     """The clauses from a place on, and where the body stands, if there is one."""
-    clauses = []
+    clauses: list[str] = []
     while True:
         found = re.compile(r"[{;]|\b(?:requires|ensures)\*?(?=\s)").search(text, place)
         if found is None or found.group() == ";":
