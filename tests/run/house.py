@@ -58,7 +58,6 @@ MEMORY = {
     "crates/afdx_send/src/fault.rt": {""},  # the row of a table
     "crates/afdx_sending/src/run.rt": {"refusal_of"},
     "crates/afdx_send/src/sender_state.rt": {"accept"},
-    "crates/afdx_end_systems/src/end_system.rt": {"pass_on"},
     "crates/afdx_text/src/line.rt": {"room_wanted"},
 }
 # how many are still larger than they may be

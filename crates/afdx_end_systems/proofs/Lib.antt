@@ -3,6 +3,7 @@ mod FoundLemmas
 mod NewestLemmas
 mod EndLemmas
 mod SystemsLemmas
+mod PortsLemmas
 mod LawLemmas
 mod Examples
 pub mod ReceptionLemmas

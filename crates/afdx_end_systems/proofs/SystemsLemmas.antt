@@ -1,7 +1,7 @@
 -- The systems at the ports of the switch.
 use Rattle.std.proofs.Common.{◌≡◌, ℕ, zero, suc, ◌+◌, ◌<◌, ◌≤◌, ◌==◌, ◌++◌, true, false, cond, List, []}
 use Rattle.std.proofs.Common.{◌∷◌}
-use Rattle.std.proofs.Common.{length, Option, Some, None, IfOk, Result, Ok, Err, Vec, Global}
+use Rattle.std.proofs.Common.{length, Option, Some, None, Vec, Global}
 use Rattle.std.proofs.Common.{vec_len, get_or, refl, sym, ap, ◌∙◌, subst, arith, ◌⊎◌, inl, inr}
 use Rattle.std.specs.Prelude.{slice_get, slice_set, nat_lt, option_and_then, option_map}
 use Rattle.std.specs.Option.{option_map_or}
@@ -18,11 +18,10 @@ use Rattle.afdx_receive.specs.Arrivals.{Arrived}
 use Rattle.afdx_end_systems.specs.declared.end_system.EndSystem.{EndSystem}
 use Rattle.afdx_end_systems.specs.declared.systems.Systems.{Systems}
 use Rattle.afdx_end_systems.specs.Handovers.{HandedOver, arrival_of, came_to}
-use Rattle.afdx_receive.specs.Answers.{Answer, answer_of}
-use Rattle.afdx_end_systems.specs.ReadPorts.{ReadsBack, HoldNewest}
+use Rattle.afdx_receive.specs.Answers.{answer_of}
 use Rattle.afdx_receive.specs.declared.reception.Reception.{Reception}
 use Rattle.afdx_end_systems.specs.Receptions.{answered, answered_at, name_at, name_of}
-use Rattle.afdx_end_systems.specs.StandsFor.{IsAfter, IsAt, StandsFor, HasNewest, HaveNewest, ReadsBackAt}
+use Rattle.afdx_end_systems.specs.StandsFor.{IsAfter, IsAt, StandsFor}
 use Rattle.afdx_end_systems.specs.StandsFor.{system_in}
 use Rattle.afdx_end_systems.proofs.PassLemmas.{slice_get-set_here, slice_get-set_there}
 
@@ -34,8 +33,6 @@ pub record HasBuilt (rows : Rows) (count : ℕ) (systems : List (Option EndSyste
   pub lawful : 0 < count → IsLawfulSwitch rows
   pub each : (port : ℕ) (at : Option EndSystem) → slice_get systems port ≡ Some at
       → IsAt rows [] (listener_at rows port) at
-  pub newest : (port : ℕ) (at : Option EndSystem) → slice_get systems port ≡ Some at
-      → HasNewest rows [] (listener_at rows port) at
 
 some_same : {X : Type 0} {x y : X} → Some x ≡ Some y → x ≡ y
 some_same e = cc
@@ -53,14 +50,12 @@ with_one P (z ∷ zs) x each last (suc i) y e = with_one (λ n. P (suc n)) zs x 
 
 pub built_more : (rows : Rows) (count : ℕ) (systems : List (Option EndSystem)) (at : Option EndSystem)
     → HasBuilt rows count systems → IsLawfulSwitch rows → IsAt rows [] (listener_at rows count) at
-    → HasNewest rows [] (listener_at rows count) at → HasBuilt rows (count + 1) (systems ++ at ∷ [])
-built_more rows count systems at has lawful is newest = record {
+    → HasBuilt rows (count + 1) (systems ++ at ∷ [])
+built_more rows count systems at has lawful is = record {
   long = omega (arith, length_push systems at, has.long);
   lawful = λ _. lawful;
   each = with_one (λ port e. IsAt rows [] (listener_at rows port) e) systems at has.each
       (subst (λ n. IsAt rows [] (listener_at rows n) at) (sym has.long) is);
-  newest = with_one (λ port e. HasNewest rows [] (listener_at rows port) e) systems at has.newest
-      (subst (λ n. HasNewest rows [] (listener_at rows n) at) (sym has.long) newest);
 }
 
 none_from : (n port : ℕ) (systems : List SystemRow) (profile : ℕ)
@@ -98,24 +93,6 @@ built rows at_ports count all has = record { each = λ port. at port (slice_get_
           (omega (arith, past.0, has.long, all)),
     ) tt
 
--- where no system is, no port has anything to hold
-none_newest : (rows : Rows) (past : List Arrived) (place : Option ℕ) → HasNewest rows past place None
-none_newest rows past None = tt
-none_newest rows past (Some system) = tt
-
-pub built_newest : (rows : Rows) (at_ports : Vec (Option EndSystem) Global) (count : ℕ)
-    → HasBuilt rows count at_ports.items → HaveNewest rows (record { at_ports = at_ports }) []
-unfolding came_to
-built_newest rows at_ports count has = record { each = λ port. at port (slice_get_cases at_ports.items port).1 }
-  where
-    at : (port : ℕ) → ((e : Option EndSystem) × (port < length at_ports.items)
-        × (slice_get at_ports.items port ≡ Some e) × (get_or at_ports.items port e ≡ e))
-        ⊎ ((length at_ports.items ≤ port) × (slice_get at_ports.items port ≡ None)) →
-        HasNewest rows [] (listener_at rows port)
-        (option_and_then (λ (e : Option EndSystem). e) (slice_get at_ports.items port))
-    at port (inl found) = rw found.2 (has.newest port found.0 found.2)
-    at port (inr past) = rw past.1 (none_newest rows [] (listener_at rows port))
-
 -- ---- a frame at a port
 
 -- a system takes in what arrives, if one is there
@@ -126,28 +103,6 @@ pub goes_on : (rows : Rows) (past : List Arrived) (x : Arrived) (place : Option 
 goes_on rows past x None old e new is takes at = absurd (subst (λ o. IsAt rows past None o) is at)
 goes_on rows past x (Some system) old e new is takes at =
     takes system (subst (λ o. IsAt rows past (Some system) o) is at)
-
--- what it reads back
-pub passes_on : (rows : Rows) (past : List Arrived) (place : Option ℕ) (old : Option EndSystem)
-    (e new : EndSystem) (time : ℕ) (answer : Answer) → old ≡ Some e →
-    ((system : ℕ) → IsAfter rows system e past → ReadsBack e.ports new.ports time answer) →
-    IsAt rows past place old → ReadsBackAt old (Some new) time (Some answer)
-passes_on rows past None old e new time answer is reads at =
-    absurd (subst (λ o. IsAt rows past None o) is at)
-passes_on rows past (Some system) old e new time answer is reads at =
-    subst (λ o. ReadsBackAt o (Some new) time (Some answer)) (sym is)
-    (reads system (subst (λ o. IsAt rows past (Some system) o) is at))
-
--- and what its ports hold
-pub newest_on : (rows : Rows) (past after : List Arrived) (place : Option ℕ) (old : Option EndSystem)
-    (e new : EndSystem) → old ≡ Some e →
-    ((system : ℕ) → IsAfter rows system e past → HoldNewest rows system past e.ports
-    → HoldNewest rows system after new.ports) →
-    IsAt rows past place old → HasNewest rows past place old → HasNewest rows after place (Some new)
-newest_on rows past after None old e new is holds at have = absurd (subst (λ o. IsAt rows past None o) is at)
-newest_on rows past after (Some system) old e new is holds at have =
-    holds system (subst (λ o. IsAt rows past (Some system) o) is at)
-    (subst (λ o. HasNewest rows past (Some system) o) is have)
 
 pub same : (a b : ℕ) → a ≡ b → (a == b) ≡ true
 same a b e = grind (arith, nat_tests)
@@ -222,14 +177,6 @@ module _ (rows : Rows) (systems : Systems) (before : List HandedOver) (d : Hande
       (ap (λ (n : ℕ). system_in systems n) (sym are.port) ∙ ap (option_and_then (λ (e : Option EndSystem). e)) are.here)
       (are.stands.each d.port)
 
-  -- its ports hold the newest
-  pub newest_is : HaveNewest rows systems before
-      → HasNewest rows (came_to d.port before) (listener_at rows d.port) at
-  newest_is have =
-      subst (λ (o : Option EndSystem). HasNewest rows (came_to d.port before) (listener_at rows d.port) o)
-      (ap (λ (n : ℕ). system_in systems n) (sym are.port) ∙ ap (option_and_then (λ (e : Option EndSystem). e)) are.here)
-      (have.each d.port)
-
   module _ (new : Systems) (now : Option EndSystem)
       (set : new.at_ports.items ≡ slice_set systems.at_ports.items place now) where
     in_place : system_in new d.port ≡ now
@@ -258,37 +205,6 @@ module _ (rows : Rows) (systems : Systems) (before : List HandedOver) (d : Hande
       one port (inr other) = rw (elsewhere new now set port other, came_there d before port other)
           (are.stands.each port)
 
-  -- what was read back there
-  pub read_back_here : (now : Option EndSystem) (time : ℕ) {E : Type 0} (r : Result (Option Reception) E) →
-      IfOk r (λ told. ReadsBackAt at now time (option_map answer_of told)) →
-      IfOk r (λ told. ReadsBackAt (system_in systems d.port)
-      (option_and_then (λ (e : Option EndSystem). e)
-      (slice_get (slice_set systems.at_ports.items place now) d.port)) time (option_map answer_of told))
-  read_back_here now time (Ok told) h =
-      subst (λ (o : Option EndSystem). ReadsBackAt o (option_and_then (λ (e : Option EndSystem). e)
-      (slice_get (slice_set systems.at_ports.items place now) d.port)) time (option_map answer_of told))
-      (sym (ap (λ (n : ℕ). system_in systems n) (sym are.port)
-      ∙ ap (option_and_then (λ (e : Option EndSystem). e)) are.here))
-      (subst (λ (o : Option EndSystem). ReadsBackAt at o time (option_map answer_of told))
-      (sym (ap (λ (n : ℕ). option_and_then (λ (e : Option EndSystem). e)
-      (slice_get (slice_set systems.at_ports.items place now) n)) (sym are.port)
-      ∙ ap (option_and_then (λ (e : Option EndSystem). e))
-      (slice_get-set_here systems.at_ports.items place now
-      (slice_get_within systems.at_ports.items place at are.here)))) h)
-  read_back_here now time (Err e) h = tt
-
-  -- and hold the newest
-  pub newest_after : (new : Systems) (now : Option EndSystem)
-      → new.at_ports.items ≡ slice_set systems.at_ports.items place now → HaveNewest rows systems before →
-      HasNewest rows (arrival_of d ∷ came_to d.port before) (listener_at rows d.port) now
-      → HaveNewest rows new (d ∷ before)
-  newest_after new now set have is = record { each = λ port. one port (cases_eq port d.port) }
-    where
-      one : (port : ℕ) → (port ≡ d.port) ⊎ (port ≡ d.port → ⊥)
-          → HasNewest rows (came_to port (d ∷ before)) (listener_at rows port) (system_in new port)
-      one port (inl e) = rw (e, in_place new now set, came_here d before d.port refl) is
-      one port (inr other) = rw (elsewhere new now set port other, came_there d before port other) (have.each port)
-
 -- a frame at a port beyond those that are kept
 module _ (rows : Rows) (systems : Systems) (before : List HandedOver) (d : HandedOver) (place : ℕ)
     (stands : StandsFor rows systems before) (port : place ≡ d.port)
@@ -306,9 +222,6 @@ module _ (rows : Rows) (systems : Systems) (before : List HandedOver) (d : Hande
   none_answered = ap (answered_at rows (came_to d.port before) d)
       (none_is_at rows (came_to d.port before) (listener_at rows d.port) no_system)
 
-  pub read_back_nowhere : (time : ℕ) → ReadsBackAt (system_in systems d.port) (system_in systems d.port) time None
-  read_back_nowhere time = subst (λ (o : Option EndSystem). ReadsBackAt o o time None) (sym none_in) tt
-
   pub stand_still : StandsFor rows systems (d ∷ before)
   stand_still = record { each = λ q. one q (cases_eq q d.port) }
     where
@@ -319,22 +232,13 @@ module _ (rows : Rows) (systems : Systems) (before : List HandedOver) (d : Hande
           (listener_at rows d.port) no_system)
       one q (inr other) = rw (came_there d before q other) (stands.each q)
 
-  pub newest_still : HaveNewest rows systems before → HaveNewest rows systems (d ∷ before)
-  newest_still have = record { each = λ q. one q (cases_eq q d.port) }
-    where
-      one : (q : ℕ) → (q ≡ d.port) ⊎ (q ≡ d.port → ⊥)
-          → HasNewest rows (came_to q (d ∷ before)) (listener_at rows q) (system_in systems q)
-      one q (inl e) = rw (e, none_in) (none_newest rows (came_to d.port (d ∷ before))
-          (listener_at rows d.port))
-      one q (inr other) = rw (came_there d before q other) (have.each q)
-
 -- the answer and the name, as the definitions have them
-pub answered_is : {E : Type 0} (rows : Rows) (before : List HandedOver) (d : HandedOver)
-    (r : Result (Option Reception) E) →
-    IfOk r (λ told. option_map answer_of told ≡ answered_at rows (came_to d.port before) d
-    (listener_at rows d.port)) → IfOk r (λ told. option_map answer_of told ≡ answered rows before d)
+pub answered_is : (rows : Rows) (before : List HandedOver) (d : HandedOver)
+    (told : Option Reception) →
+    option_map answer_of told ≡ answered_at rows (came_to d.port before) d (listener_at rows d.port)
+    → option_map answer_of told ≡ answered rows before d
 unfolding answered
-answered_is rows before d r h = h
+answered_is rows before d told h = h
 
 pub name_is : (rows : Rows) (port : ℕ) (name : List ℕ)
     → name ≡ option_map_or (name_of rows) (listener_at rows port) [] → name ≡ name_at rows port

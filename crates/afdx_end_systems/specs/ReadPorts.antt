@@ -1,6 +1,7 @@
--- The communication ports of a system that reads each message at once.
-use Rattle.std.specs.Prelude.{◌≡◌, ℕ, ◌&&◌, nat_eq, Option, Some, None, List, [], ◌∷◌, is_some, position, slice_get, if◌then◌else◌}
+-- The communication ports of a system that would put each message to its port and read it at once.
+use Rattle.std.specs.Prelude.{◌≡◌, ℕ, ◌&&◌, nat_eq, Option, Some, None, List, [], ◌∷◌, is_some, position, slice_get, slice_set, if◌then◌else◌}
 use Rattle.afdx_config.specs.Rows.{Rows}
+use Rattle.afdx_config.specs.Lawful.{IsLawfulSwitch}
 use Rattle.afdx_config.specs.Reading.{has_port}
 use Rattle.afdx_receive.specs.Arrivals.{Arrived}
 use Rattle.afdx_receive.specs.Answers.{Answer, Message, Dropped, answer_to}
@@ -10,7 +11,7 @@ use Rattle.afdx_comport.specs.declared.held.Held.{Held}
 use Rattle.afdx_comport.specs.declared.held.Held.TheVariants.{Sampling, Queuing}
 use Rattle.afdx_comport.specs.Calls.{Put, Take, GiveBack, held_after}
 use Rattle.afdx_comport.specs.Held.{IsRead, read_of}
-use Rattle.afdx_comport.specs.Ports.{is_for}
+use Rattle.afdx_comport.specs.Ports.{is_for, ports_at_first}
 
 -- all that came to these ports was read
 abbrev pub AreRead : List ComPort → Type 0
@@ -75,3 +76,48 @@ abbrev pub HoldNewest : Rows → ℕ → List Arrived → List ComPort → Type 
 HoldNewest rows system past ports = (vl udp place : ℕ) (port : ComPort) →
     position (is_for vl udp) ports ≡ Some place → slice_get ports place ≡ Some port →
     HoldsNewest (newest_to rows system vl udp past) port.held
+
+-- a port that a message is put to, which is taken out again, where it is a queue, and whose memory
+-- is given back
+abbrev pub port_passed : TimedMessage → ComPort → ComPort
+port_passed message port =
+    record port {
+      held = held_after port.held (GiveBack 0 ∷ Take ∷ Put message ∷ []);
+    }
+
+-- so at this place, where a port is
+abbrev pub passed_to : TimedMessage → ℕ → List ComPort → Option ComPort → List ComPort
+passed_to message place ports None = ports
+passed_to message place ports (Some port) = slice_set ports place (port_passed message port)
+
+abbrev pub passed_at : TimedMessage → List ComPort → Option ℕ → List ComPort
+passed_at message ports None = ports
+passed_at message ports (Some place) = passed_to message place ports (slice_get ports place)
+
+-- the ports of a system that puts each message that it is answered to its port, and reads it there
+-- at once
+abbrev pub passed_on : ℕ → Answer → List ComPort → List ComPort
+passed_on time (Message vl udp payload) ports =
+    passed_at (record { time = time; bytes = payload }) ports (position (is_for vl udp) ports)
+passed_on time (Dropped why) ports = ports
+
+-- what they hold after what arrived
+unfoldable pub ports_after : Rows → ℕ → List Arrived → List ComPort
+ports_after rows system [] = ports_at_first system rows.ports
+ports_after rows system (x ∷ past) =
+    passed_on x.time (answer_to rows system past x) (ports_after rows system past)
+
+-- Ports that every message is put to and read from at once: all of them were read, and are found
+-- where the tables have them; each answer that is a message is what its port gives; and each
+-- sampling port holds the newest, a queuing port none.
+pub record ArePassedOn (rows : Rows) (system : ℕ) (past : List Arrived) : Type 0 where
+  pub read : AreRead (ports_after rows system past)
+  pub found : AreFound rows system (ports_after rows system past)
+  pub back : (x : Arrived) →
+      ReadsBack (ports_after rows system past) (ports_after rows system (x ∷ past)) x.time
+      (answer_to rows system past x)
+  pub newest : HoldNewest rows system past (ports_after rows system past)
+
+abbrev pub MessagesArePassedOn : Type 0
+MessagesArePassedOn = (rows : Rows) (system : ℕ) (past : List Arrived) → IsLawfulSwitch rows →
+    ArePassedOn rows system past

@@ -3,19 +3,17 @@ use Rattle.std.specs.Prelude.{◌≡◌, ℕ, Option, Some, None, List, option_a
 use Rattle.afdx_config.specs.Rows.{Rows}
 use Rattle.afdx_config.specs.Reading.{listener_at}
 use Rattle.afdx_receive.specs.Arrivals.{Arrived}
-use Rattle.afdx_receive.specs.Answers.{Answer}
 use Rattle.afdx_receive.specs.StandsFor.{HasReceived}
 use Rattle.afdx_end_systems.specs.declared.end_system.EndSystem.{EndSystem}
 use Rattle.afdx_end_systems.specs.declared.systems.Systems.{Systems}
 use Rattle.afdx_end_systems.specs.Handovers.{HandedOver, came_to}
-use Rattle.afdx_end_systems.specs.ReadPorts.{AreRead, AreFound, HoldNewest, ReadsBack}
+use Rattle.afdx_end_systems.specs.ReadPorts.{AreFound}
 use Rattle.afdx_end_systems.specs.Receptions.{name_of}
 
 -- the system at this place of the tables, after what arrived at it
 pub record IsAfter (rows : Rows) (system : ℕ) (e : EndSystem) (past : List Arrived) : Type 0 where
   pub name : string_bytes e.name ≡ name_of rows system
   pub receives : HasReceived rows system past e.receiver
-  pub read : AreRead e.ports
   pub found : AreFound rows system e.ports
 
 -- no system hears at a port, or this one does
@@ -33,21 +31,3 @@ system_in systems port = option_and_then (λ system. system) (slice_get systems.
 pub record StandsFor (rows : Rows) (systems : Systems) (all : List HandedOver) : Type 0 where
   pub each : (port : ℕ) →
       IsAt rows (came_to port all) (listener_at rows port) (system_in systems port)
-
--- the ports of the system at a port of the switch hold the newest of its messages
-abbrev pub HasNewest : Rows → List Arrived → Option ℕ → Option EndSystem → Type 0
-HasNewest rows past (Some system) (Some e) = HoldNewest rows system past e.ports
-HasNewest rows past place at = Unit {0}
-
--- so do those of each system
-pub record HaveNewest (rows : Rows) (systems : Systems) (all : List HandedOver) : Type 0 where
-  pub each : (port : ℕ) →
-      HasNewest rows (came_to port all) (listener_at rows port) (system_in systems port)
-
--- what the answer at a port does to the system there: its communication ports read a message back.
--- Where no system is nothing is answered
-abbrev pub ReadsBackAt : Option EndSystem → Option EndSystem → ℕ → Option Answer → Type 0
-ReadsBackAt (Some e) (Some after) time (Some answer) =
-    ReadsBack e.ports after.ports time answer
-ReadsBackAt None None time None = Unit {0}
-ReadsBackAt old new time answer = ⊥

@@ -2,6 +2,7 @@
 
 ghost use Rattle.afdx_end_systems.specs.Laws.{MessagesAreDelivered, StreamIsToldOnce, ReceptionIsOwn};
 ghost use Rattle.afdx_end_systems.specs.Laws.{ReceptionIsByTheRules, DropsHaveLinkReasons};
+ghost use Rattle.afdx_end_systems.specs.ReadPorts.{MessagesArePassedOn};
 ghost use Rattle.afdx_end_systems.specs.Worked.{WorkedRows};
 
 use afdx_receive::laws::stream_is_delivered_once;
@@ -33,6 +34,13 @@ pub fn stream_is_told_once()
     // (the same of the rules alone: a law of `afdx_receive`)
     stream_is_delivered_once();
 }
+
+/// A system that puts each message to its communication port and reads it there at once reads just
+/// the bytes that are answered; then each sampling port holds the newest message that was delivered
+/// to it, and each queue none, in which there is room for the next.
+pub fn messages_are_passed_on()
+    ensures { MessagesArePassedOn }
+{}
 
 /// A frame of a link that its system receives is delivered, or dropped as out of sequence,
 /// redundant, for its datagram or for want of a port.

@@ -1,6 +1,6 @@
 //! The end systems of a network, by their ports of the switch.
 
-ghost use Rattle.std.specs.Prelude.{◌≡◌, ℕ, ◌∷◌, [], IfOk, OnOk, List, Option, option_map};
+ghost use Rattle.std.specs.Prelude.{◌≡◌, ℕ, ◌∷◌, [], IfOk, List, Option, option_map};
 ghost use Rattle.std.specs.Option.{option_map_or};
 ghost use Rattle.afdx_config.specs.Rows.{Rows};
 ghost use Rattle.afdx_config.specs.Lawful.{IsLawfulSwitch};
@@ -9,7 +9,7 @@ ghost use Rattle.afdx_receive.specs.Answers.{answer_of};
 ghost use Rattle.afdx_receive.specs.Arrivals.{Arrived};
 ghost use Rattle.afdx_end_systems.specs.Handovers.{HandedOver, handed_over, arrival_of};
 ghost use Rattle.afdx_end_systems.specs.Receptions.{answered, answered_at, name_at, name_of as name_in};
-ghost use Rattle.afdx_end_systems.specs.StandsFor.{IsAt, HasNewest, ReadsBackAt, system_in};
+ghost use Rattle.afdx_end_systems.specs.StandsFor.{IsAt};
 
 use crate::end_system::EndSystem;
 use crate::handover::Handover;
@@ -29,8 +29,6 @@ pub struct Systems {
 /// The system that hears at a port of the switch, if there is one, at which nothing arrived.
 fn system_at(alloc: Global, tables: &Tables, port: u8) -> Result<Option<EndSystem>, AllocError>
     ensures built { IfOk result (IsAt tables.now [] (listener_at tables.now port)) }
-    ensures newest { IfOk result
-        (HasNewest tables.now [] (listener_at tables.now port)) }
     ensures lawful { IsLawfulSwitch tables.now }
 {
     match tables.listener_at(port) {
@@ -41,32 +39,17 @@ fn system_at(alloc: Global, tables: &Tables, port: u8) -> Result<Option<EndSyste
 
 /// Takes in a frame at the system of a port, if one is there.
 #[inline(always)]
-fn receive_at<'a>(
-    at: &mut Option<EndSystem>,
-    handover: Handover<'a>,
-) -> Result<Option<Reception<'a>>, AllocError>
+fn receive_at<'a>(at: &mut Option<EndSystem>, handover: Handover<'a>) -> Option<Reception<'a>>
     ensures stands { (rows : Rows) (past : List Arrived) (place : Option ℕ) →
         IsAt rows past place at.old →
         IsAt rows (arrival_of (handed_over handover.entry) ∷ past) place at.new }
     ensures answer { (rows : Rows) (past : List Arrived) (place : Option ℕ) →
         IsAt rows past place at.old →
-        IfOk result (λ told. option_map answer_of told
-        ≡ answered_at rows past (handed_over handover.entry) place) }
-    ensures passed { (rows : Rows) (past : List Arrived) (place : Option ℕ) →
-        IsAt rows past place at.old →
-        IfOk result (λ told.
-        ReadsBackAt at.old at.new handover.entry.time (option_map answer_of told)) }
-    ensures newest { (rows : Rows) (past : List Arrived) (place : Option ℕ) →
-        IsAt rows past place at.old → HasNewest rows past place at.old →
-        OnOk result
-        (HasNewest rows (arrival_of (handed_over handover.entry) ∷ past) place at.new) }
+        option_map answer_of result ≡ answered_at rows past (handed_over handover.entry) place }
 {
     match at {
-        Some(system) => {
-            let told = system.receive(handover)?;
-            Ok(Some(told))
-        }
-        None => Ok(None),
+        Some(system) => Some(system.receive(handover)),
+        None => None,
     }
 }
 
@@ -82,13 +65,12 @@ fn name_of(at: &Option<EndSystem>) -> &str
 }
 
 impl Systems {
-    ghost use Rattle.afdx_end_systems.specs.StandsFor.{StandsFor, HaveNewest};
+    ghost use Rattle.afdx_end_systems.specs.StandsFor.{StandsFor};
 
     /// The systems of the tables, at which nothing arrived. Room is taken for all that receivers
     /// and queues will keep, but for the messages. The error is want of memory alone.
     pub fn new(alloc: Global, tables: &Tables) -> Result<Systems, AllocError>
         ensures stands { IfOk result (λ systems. StandsFor tables.now systems []) }
-        ensures newest { IfOk result (λ systems. HaveNewest tables.now systems []) }
     {
         let mut at_ports = Vec::with_capacity(alloc, usize::from(LAST_PORT) + 1)?;
         for port in 0..=LAST_PORT {
@@ -101,41 +83,26 @@ impl Systems {
     /// message, or why it was dropped. `None`: no system hears at
     /// the port.
     ///
-    /// A message was put to its communication port and read there at once: a sample stays, what is
-    /// taken out of a queue is given back. Its bytes, lent by the frame, are what was read (clause
-    /// `passed`).
+    /// A message's bytes, lent by the frame, are what its communication port would give that it is
+    /// put to and read from at once: a law, `messages_are_passed_on`, so it is neither put there
+    /// nor read back.
     ///
     /// The answer comes from the frames of the same link that were handed over at the same port
-    /// before, and from nothing else. The error is want of memory for the message, the only memory
-    /// that it takes: whether the port has the message is then open. The frame counts as handed
-    /// over all the same: don't hand it over again.
+    /// before, and from nothing else. It takes no memory.
     #[inline(always)]
-    pub fn receive<'a>(
-        &mut self,
-        handover: Handover<'a>,
-    ) -> Result<Option<Reception<'a>>, AllocError>
+    pub fn receive<'a>(&mut self, handover: Handover<'a>) -> Option<Reception<'a>>
         ensures answer { (rows : Rows) (before : List HandedOver) →
             StandsFor rows self.old before →
-            IfOk result (λ told. option_map answer_of told
-            ≡ answered rows before (handed_over handover.entry)) }
-        ensures passed { (rows : Rows) (before : List HandedOver) →
-            StandsFor rows self.old before →
-            IfOk result (λ told.
-            ReadsBackAt (system_in self.old handover.entry.port)
-            (system_in self.new handover.entry.port) handover.entry.time
-            (option_map answer_of told)) }
+            option_map answer_of result ≡ answered rows before (handed_over handover.entry) }
         ensures stands { (rows : Rows) (before : List HandedOver) →
             StandsFor rows self.old before →
             StandsFor rows self.new (handed_over handover.entry ∷ before) }
-        ensures newest { (rows : Rows) (before : List HandedOver) →
-            StandsFor rows self.old before → HaveNewest rows self.old before →
-            OnOk result (HaveNewest rows self.new (handed_over handover.entry ∷ before)) }
     {
         let place = usize::from(handover.port);
         if place < self.at_ports.len() {
             receive_at(&mut self.at_ports[place], handover)
         } else {
-            Ok(None)
+            None
         }
     }
 

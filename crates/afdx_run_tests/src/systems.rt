@@ -44,10 +44,8 @@ fn receive(
     text: &mut Text,
 ) -> Result<bool, AllocError> {
     let (time, n, port) = (handover.time, handover.line, handover.port);
-    let reception = match systems.receive(handover) {
-        Ok(Some(reception)) => reception,
-        Ok(None) => return Ok(false),
-        Err(error) => return Err(error),
+    let Some(reception) = systems.receive(handover) else {
+        return Ok(false);
     };
     let system = systems.name_at(port);
     match reception {

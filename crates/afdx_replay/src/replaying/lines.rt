@@ -164,7 +164,7 @@ pub(crate) fn hear<O: Sink>(
 {
     let (time, n, port) = (handover.time, handover.line, handover.port);
     match systems.receive(handover) {
-        Ok(Some(Reception::Message { vl, bytes, .. })) => {
+        Some(Reception::Message { vl, bytes, .. }) => {
             let line = OutLine::Message {
                 time,
                 system: systems.name_at(port),
@@ -174,7 +174,7 @@ pub(crate) fn hear<O: Sink>(
             output.put(&line)?;
             Ok(Heard::Message)
         }
-        Ok(Some(Reception::Dropped(why))) => {
+        Some(Reception::Dropped(why)) => {
             let line = OutLine::Unread {
                 time,
                 system: systems.name_at(port),
@@ -184,7 +184,6 @@ pub(crate) fn hear<O: Sink>(
             output.put(&line)?;
             Ok(Heard::Nothing)
         }
-        Ok(None) => Ok(Heard::Nothing),
-        Err(error) => Err(RunFault::from(error)),
+        None => Ok(Heard::Nothing),
     }
 }

@@ -2,9 +2,7 @@ use Rattle.std.proofs.Common.{sym, refl, arith}
 use Rattle.afdx_config.specs.Reading.{listener_at}
 use Rattle.afdx_end_systems.specs.Handovers.{handed_over, came_to}
 use Rattle.afdx_end_systems.proofs.SystemsLemmas.{before_at, is_at, stand_after, answered_is, none_answered}
-use Rattle.afdx_end_systems.proofs.SystemsLemmas.{stand_still, newest_is, newest_after, newest_still}
-use Rattle.afdx_end_systems.proofs.SystemsLemmas.{read_back_here, read_back_nowhere}
-use Rattle.std.proofs.lemmas.Result.{on_ok_weaker}
+use Rattle.afdx_end_systems.proofs.SystemsLemmas.{stand_still}
 use Rattle.afdx_end_systems.proofs.systems.Systems.receive.Goals as goal
 
 pub returns-then-place-len-clause-answer : goal.returns-then-place-len-clause-answer
@@ -14,15 +12,6 @@ returns-then-place-len-clause-answer c = λ rows before stands.
     stands c.from-place.ensures (omega arith) c.index_mut.ensures.value in
     answered_is rows before d _
     (c.receive_at.ensures.answer rows (came_to d.port before) (listener_at rows d.port)
-    (is_at _ _ _ _ _ _ are))
-
-pub returns-then-place-len-clause-passed : goal.returns-then-place-len-clause-passed
-returns-then-place-len-clause-passed c = λ rows before stands.
-    let d = handed_over c.args.handover in
-    let are = before_at rows c.args.self.now before d c.from-place.result c.index_mut.result.now
-    stands c.from-place.ensures (omega arith) c.index_mut.ensures.value in
-    read_back_here _ _ _ _ _ _ are c.receive_at.new.at d.time c.receive_at.result
-    (c.receive_at.ensures.passed rows (came_to d.port before) (listener_at rows d.port)
     (is_at _ _ _ _ _ _ are))
 
 pub returns-then-place-len-clause-stands : goal.returns-then-place-len-clause-stands
@@ -39,26 +28,7 @@ returns-else-place-len-clause-answer c = λ rows before stands.
     sym (none_answered rows c.args.self.now before (handed_over c.args.handover) c.from-place.result
     stands c.from-place.ensures (omega arith))
 
-pub returns-else-place-len-clause-passed : goal.returns-else-place-len-clause-passed
-returns-else-place-len-clause-passed c = λ rows before stands.
-    read_back_nowhere rows c.args.self.now before (handed_over c.args.handover) c.from-place.result
-    stands c.from-place.ensures (omega arith) c.args.handover.time
-
 pub returns-else-place-len-clause-stands : goal.returns-else-place-len-clause-stands
 returns-else-place-len-clause-stands c =
     λ rows before stands. stand_still rows c.args.self.now before (handed_over c.args.handover)
     c.from-place.result stands c.from-place.ensures (omega arith)
-
-pub returns-then-place-len-clause-newest : goal.returns-then-place-len-clause-newest
-returns-then-place-len-clause-newest c = λ rows before stands have.
-    let d = handed_over c.args.handover in
-    let are = before_at rows c.args.self.now before d c.from-place.result c.index_mut.result.now
-    stands c.from-place.ensures (omega arith) c.index_mut.ensures.value in
-    on_ok_weaker c.receive_at.result (newest_after _ _ _ _ _ _ are _ c.receive_at.new.at refl have)
-    (c.receive_at.ensures.newest rows (came_to d.port before)
-    (listener_at rows d.port) (is_at _ _ _ _ _ _ are) (newest_is _ _ _ _ _ _ are have))
-
-pub returns-else-place-len-clause-newest : goal.returns-else-place-len-clause-newest
-returns-else-place-len-clause-newest c =
-    λ rows before stands have. newest_still rows c.args.self.now before (handed_over c.args.handover)
-    c.from-place.result stands c.from-place.ensures (omega arith) have
