@@ -1,7 +1,7 @@
 -- What comes next of a cascade is told, and it stands for it too.
 use Rattle.std.proofs.Common.{◌≡◌, ℕ, ◌+◌, ◌≤◌, Bool, true, false, List, [], ◌∷◌, length, refl}
 use Rattle.std.proofs.Common.{sym, ap, ◌∙◌, subst, arith}
-use Rattle.std.specs.Prelude.{if◌then◌else◌, Option, Some, None, IfSome, IfNone, IfOk, OnOk, Result, Ok, Err, slice_get}
+use Rattle.std.specs.Prelude.{if◌then◌else◌, Option, Some, None, IfSome, IfNone, slice_get}
 use Rattle.std.specs.List.{AllByRecursion}
 use Rattle.afdx_config.specs.Switches.{NamedRows, AreSwitches}
 use Rattle.afdx_police.specs.Arrival.{Arrival}
@@ -297,11 +297,6 @@ turn-to-come c so_far until k lacks = record {
 }
 
 -- ---- a frame of the list
-
-pub ok-both : {V E : Type 0} (r : Result V E) (P : Type 0) (Q R : V → Type 0)
-    → ((v : V) → P → Q v → R v) → OnOk r P → IfOk r Q → IfOk r R
-ok-both (Ok v) P Q R f p q = f v p q
-ok-both (Err e) P Q R f p q = tt
 
 pub line-next : (c : Plan) (so_far : List SwitchEvent) (w new : Cascade) (line : Line)
     (st : StandsFor c w so_far) → IsQuiet w line.arrival.time → IsUntil w line.arrival.time

@@ -1,6 +1,6 @@
 -- How many of a list pass a test.
 use Rattle.std.proofs.Common.{◌≡◌, ℕ, zero, suc, ◌+◌, ◌<◌, ◌≤◌, ◌&&◌, Bool, true, false, List, [], ◌∷◌, ◌++◌}
-use Rattle.std.proofs.Common.{length, map, filter, refl, ap, ◌∙◌, subst, arith, inl, inr}
+use Rattle.std.proofs.Common.{map, filter, refl, ap, ◌∙◌, subst, arith, inl, inr}
 use Rattle.std.specs.Prelude.{if◌then◌else◌, Some, slice_get}
 use Rattle.std.proofs.lemmas.Bool.{cases_Bool, and_parts}
 use Rattle.std.specs.List.{AllByRecursion}
@@ -31,17 +31,6 @@ module _ {X : Type 0} (test : X → Bool) where
       let here = count-more x xs in
       let rest = count-append xs ys in
       omega (arith, more, here, rest)
-
-  pub count-length : (xs : List X) → count_if test xs ≤ length xs
-  count-length [] = omega arith
-  count-length (x ∷ xs) =
-      let more = count-more x xs in let rest = count-length xs in by (test x) more rest
-    where
-      by : (b : Bool) → count_if test (x ∷ xs) ≡ one_if b + count_if test xs
-          → count_if test xs ≤ length xs
-          → count_if test (x ∷ xs) ≤ length (x ∷ xs)
-      by true more rest = omega (arith, more, rest)
-      by false more rest = omega (arith, more, rest)
 
   pub count-filter : (keep : X → Bool) (xs : List X)
       → count_if test (filter keep xs) ≤ count_if test xs

@@ -243,7 +243,8 @@ is-hop = record {
   skew = λ goes. omega arith;
 }
 
-is-read : (place : ℕ) → Contains (1 ∷ []) place → reads switches (named_rows (codes "fwd") tables_before) link_before place
+is-read : (place : ℕ) → Contains (1 ∷ []) place → reads switches (named_rows (codes "fwd") tables_before) link_before
+    place
     ≡ true
 unfolding switch_named neighbour_named system_named link_of
 is-read place (zero, within, at) =

@@ -11,7 +11,7 @@ use Rattle.afdx_port.specs.Ports.{order_without_turn}
 use Rattle.afdx_port.specs.Schedule.{Turn}
 use Rattle.afdx_switch.specs.HeldFrames.{HeldFrame}
 use Rattle.afdx_switch.specs.Switching.{PortTurn, IsNextOf}
-use Rattle.afdx_network.specs.Events.{Departure, Left, calls_on, departure_with}
+use Rattle.afdx_network.specs.Events.{Left, calls_on, departure_with}
 use Rattle.afdx_network.specs.Network as network
 use Rattle.afdx_network.specs.Network.{IsNextOn, departure_after}
 use Rattle.afdx_network.specs.Order.{is_below, side_number}
@@ -48,9 +48,6 @@ module _ (c : Plan) (so_far : List SwitchEvent) (old networks : List Network)
     (clock : (k : ℕ) (n : Network) → slice_get networks k ≡ Some n → network.IsUntil n until) where
   k : ℕ
   k = f.switch
-
-  d : Departure
-  d = g.departure
 
   gone : PortTurn
   gone = record { port = g.departure.port; turn = g.departure.turn }

@@ -1,5 +1,5 @@
 -- The least key is that of the first turn.
-use Rattle.std.proofs.Common.{◌≡◌, ◌≢◌, ℕ, zero, suc, ◌+◌, ◌*◌, ◌/◌, ◌%◌, ◌<◌, ◌≤◌, List, [], ◌∷◌, length, slice_get}
+use Rattle.std.proofs.Common.{◌≡◌, ◌≢◌, ℕ, zero, suc, ◌+◌, ◌/◌, ◌%◌, ◌<◌, ◌≤◌, List, [], ◌∷◌, length, slice_get}
 use Rattle.std.proofs.Common.{refl, sym, ap, ◌∙◌, subst, arith, inl, inr, set}
 use Rattle.std.specs.Prelude.{Some, None}
 use Rattle.std.proofs.lemmas.Bool.{cases_lt}
@@ -16,7 +16,6 @@ use Rattle.afdx_network.specs.declared.network.Network.{Network}
 use Rattle.afdx_cascade.specs.Keys.{AreKeys, AreOthersSame, IsKey, IsLeast, key_of}
 use Rattle.afdx_cascade.specs.Scan.{IsFirstFrom, by_side, earlier_of, first_with}
 use Rattle.afdx_cascade.specs.declared.scan.First.{First}
-use Rattle.afdx_cascade.proofs.NumberLemmas.{number-small}
 
 -- ---- a key
 
@@ -207,18 +206,6 @@ first-is ns least number side l is side_is =
 
 -- ---- the keys of networks
 
-pub is-key : (n : Network) (order number switch : ℕ) (side : Side) → TellsOrder n order side
-    → number ≡ side_number side → IsKey switch n (2 * 32 * order + 32 * number + switch)
-is-key n order number switch side tells is = (order, side, tells, omega (arith, is))
-
--- it fits a number of 64 bits
-pub order-small : (n : Network) (order : ℕ) (side : Side) → TellsOrder n order side
-    → order < 4503599627370497
-order-small n order side tells =
-    let small = number-small n.switches.a tells.a tells.tells_a in
-    let le = tells.first.least_a in
-    omega (arith, small, le)
-
 pub keys-renewed : (old new : List Network) (keys : List ℕ) (switch key : ℕ) → AreKeys old keys
     → AreOthersSame switch old new → length new ≡ length old → switch < length keys
     → ((n : Network) → slice_get new switch ≡ Some n → IsKey switch n key)
@@ -274,6 +261,3 @@ others-set ns switch new within k n apart at = elim (set-cases ns switch new k n
   | inl same ↦ absurd (apart same.0)
   | inr other ↦ other.1
 ]
-
-pub others-none : (ns : List Network) (switch : ℕ) → AreOthersSame switch ns ns
-others-none ns switch k n apart at = at

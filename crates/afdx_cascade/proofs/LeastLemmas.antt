@@ -129,9 +129,6 @@ head-before at order side f_order place f_side before j other number place_numbe
       )))
     ]
 
-not-less : (m n : ℕ) → (n ≤ m) → nat_lt m n ≡ false
-not-less m n le = nat_lt-false m n le
-
 -- the first of the head and of the first behind
 picked : (at : ℕ) (n : Network) (ns : List Network) (order : ℕ) (side : Side)
     (tells : TellsOrder n order side)

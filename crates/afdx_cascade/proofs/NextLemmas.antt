@@ -3,7 +3,6 @@ use Rattle.std.proofs.Common.{◌≡◌, ℕ, Bool, true, false, ◌+◌, ◌*�
 use Rattle.std.proofs.Common.{◌∷◌, length, refl, sym, ap, ◌∙◌, subst, arith}
 use Rattle.std.specs.Prelude.{Some, None, IfSome, Option, slice_get, if◌then◌else◌}
 use Rattle.std.specs.List.{AllByRecursion}
-use Rattle.std.proofs.lemmas.Bool.{cases_lt}
 use Rattle.afdx_port.specs.declared.left.Left.{Left}
 use Rattle.afdx_port.specs.Due.{given_at, IsAfter}
 use Rattle.afdx_port.specs.declared.left.Due.{Due}
@@ -115,20 +114,6 @@ fronts-from c (v ∷ behind) time order (r ∷ rest) ends are late =
       end_is = end;
       late = omega (arith, late, end);
     }
-
-pub front-early : (c : Plan) (transit : List InTransit) (time order : ℕ) (ring : List OnCable)
-    → AllByRecursion (λ z. z.turn.end ≡ time) ring → AreInTransit c transit ring
-    → (IsFrontNext transit order → ⊥)
-    → IsEarly order time ring
-front-early c transit time order [] ends are not-late = inl refl
-front-early c [] time order (r ∷ rest) ends are not-late = absurd are
-front-early c (v ∷ behind) time order (r ∷ rest) ends are not-late =
-    let end : (as_given v.departed.departure).end ≡ time =
-    ap (λ (l : Left HeldFrame). l.end) are.0.left ∙ ends.0 in
-    elim (cases_lt (2 * time) order) [
-      | inr le ↦ inr le
-      | inl lt ↦ absurd (not-late (omega (arith, lt, end)))
-    ]
 
 -- what is asked of the front
 pub front-limit : (c : Plan) (networks : List Network) (time : ℕ) (ring : List OnCable)

@@ -92,10 +92,6 @@ named-before : (bytes : List ℕ) → names 1 bytes ≡ true
 unfolding row_named rows_of rule_of
 named-before bytes is = rw is refl
 
-pub byte-time : byte_ns_at tables_after 2 ≡ 80
-unfolding byte_ns_at system_at_port
-byte-time = refl
-
 pub before-byte-time : byte_ns_at tables_before 2 ≡ 80
 unfolding byte_ns_at system_at_port
 before-byte-time = refl

@@ -30,7 +30,7 @@ use std::alloc::AllocError;
 
 /// A frame of the list arrives at a switch, at a port where no cable is. The error says that memory
 /// was refused: then nothing has changed. A frame that is dropped for its shape needs none.
-pub fn arrive_at(
+pub(crate) fn arrive_at(
     networks: &mut [Network],
     switch: usize,
     side: Side,

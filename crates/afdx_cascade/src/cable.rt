@@ -14,7 +14,7 @@ pub(crate) const ENTRIES: usize = 25;
 /// A frame on a cable, which ends at a port of the switch of this number, with the number of the
 /// switch that it left.
 #[derive(Drop)]
-pub struct InTransit {
+pub(crate) struct InTransit {
     pub switch: usize,
     pub port: u8,
     pub from: usize,

@@ -12,9 +12,5 @@ mod taking;
 mod told;
 mod turning;
 
-pub use arriving::arrive_at;
-pub use cable::InTransit;
 pub use cascade::Cascade;
-pub use scan::{First, first_of, key_of, renew};
-pub use taking::{bring_next, turn_next};
 pub use told::{Brought, Happened, Sent, Turned};

@@ -19,7 +19,7 @@ const GROUP: usize = 4;
 /// The first turn of several switches of both sides: where it stands in the order of turns, and the
 /// number and side of its switch.
 #[derive(Clone, Copy, Debug)]
-pub struct First {
+pub(crate) struct First {
     pub order: u64,
     pub switch: usize,
     pub side: Side,
@@ -46,7 +46,7 @@ fn side_of(number: u64) -> Side
 /// The key of the switch of this number: where its first turn stands in the order of turns, below
 /// that the turn's side, and below that the number. So the least key of several switches is that of
 /// the turn that goes first: at one place by side, then by switch.
-pub fn key_of(networks: &[Network], switch: usize) -> u64
+pub(crate) fn key_of(networks: &[Network], switch: usize) -> u64
     requires { switch < length networks.now }
     ensures { (n : At) → slice_get networks.now switch ≡ Some n → IsKey switch n result }
 {
@@ -78,7 +78,7 @@ pub(crate) fn least_of(numbers: &[u64]) -> u64
 /// Finds the key of the switch of this number anew, which had an event; the others had none.
 /// `least` was the least of all keys, and the result is the least of them now. All are compared
 /// only if that was this switch's key, and it has grown.
-pub fn renew(keys: &mut Vec<u64>, least: u64, networks: &[Network], switch: usize) -> u64
+pub(crate) fn renew(keys: &mut Vec<u64>, least: u64, networks: &[Network], switch: usize) -> u64
     requires { switch < length networks.now }
     ensures keys { (old : List At) → AreKeys old keys.old.items →
         AreOthersSame switch old networks.now → length networks.now ≡ length old →
@@ -102,7 +102,7 @@ pub fn renew(keys: &mut Vec<u64>, least: u64, networks: &[Network], switch: usiz
 
 /// The first turn of the switches of whose keys this is the least. If no switch has a turn to come,
 /// its order is 2^52.
-pub fn first_of(least: u64) -> First
+pub(crate) fn first_of(least: u64) -> First
     ensures first { (networks : List At) (keys : List ℕ) → length networks ≤ switches_most →
         AreKeys networks keys → IsLeast keys least → IsFirstFrom 0 networks (Some result) }
     ensures within { (networks : List At) (keys : List ℕ) → length networks ≤ switches_most →

@@ -50,7 +50,7 @@ fn is_front_next(transit: &VecDeque<InTransit>, order: u64) -> bool
 /// The frame at the front of the ring arrives, if no slot is still to end at its time. The error
 /// says that memory was refused: then nothing has changed, and the frame is still to arrive. One
 /// that is dropped for its shape needs none.
-pub fn bring_next(
+pub(crate) fn bring_next(
     networks: &mut [Network],
     transit: &mut VecDeque<InTransit>,
     first: First,
@@ -87,7 +87,7 @@ pub fn bring_next(
 /// The first turn of all switches, if it is given by `until`, where no cable has a frame of an
 /// earlier time. The error says that memory was refused: then nothing has changed, and the turn is
 /// still to come.
-pub fn turn_next(
+pub(crate) fn turn_next(
     networks: &mut [Network],
     ends: &[Option<FarEnd>],
     transit: &mut VecDeque<InTransit>,

@@ -56,12 +56,6 @@ pub used : (margins : Bool) (t : Rows) (port : ℕ) → true ≡ is_some (system
 used margins t port some =
     ap (λ (b : Bool). (if b then port_line t port else []) ++ margin_lines_if margins t port) some
 
--- the bounds were added, then these
-pub behind_bounds : (t : Rows) (port : ℕ) (old bounds more all : List ℕ) → bounds ≡ old ++ port_line t port
-    → all ≡ bounds ++ more → all ≡ old ++ (port_line t port ++ more)
-behind_bounds t port old bounds more all e f =
-    f ∙ ap (λ (text : List ℕ). text ++ more) e ∙ append_assoc old (port_line t port) more
-
 -- ---- the margins there
 
 pub margins-at : (t : Rows) (port place : ℕ) → Some place ≡ system_at_port t.systems port

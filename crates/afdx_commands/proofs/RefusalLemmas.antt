@@ -1,20 +1,15 @@
 -- How a command refuses a configuration or its tables.
-use Rattle.std.proofs.Common.{◌≡◌, ◌≢◌, ℕ, List, Option, Some, ◌⊎◌, inl, inr, subst, refl, arith}
-use Rattle.afdx_config.specs.Admission.{IsAdmitted}
-use Rattle.afdx_config.specs.Reading.{Spells}
-use Rattle.afdx_config.specs.Rows.{Rows}
+use Rattle.std.proofs.Common.{◌≡◌, ◌≢◌, ℕ, List, Option, ◌⊎◌, inl, inr, subst, refl, arith}
 use Rattle.afdx_config.specs.declared.fault.ConfigFault.{ConfigFault}
 use Rattle.afdx_config.specs.declared.fault.ConfigFault.TheVariants.{NotToml, BadProfile, Missing}
 use Rattle.afdx_config.specs.declared.fault.ConfigFault.TheVariants.{WrongKind, UnknownKey}
 use Rattle.afdx_config.specs.declared.fault.ConfigFault.TheVariants.{OutOfRange, Twice}
 use Rattle.afdx_config.specs.declared.fault.ConfigFault.TheVariants.{NoSuchSystem, Memory}
-use Rattle.afdx_admit.specs.Lines.{first_false, lines}
-use Rattle.afdx_admit.specs.declared.fault.AdmitFault.{AdmitFault}
 use Rattle.afdx_lists.specs.declared.watched.Watched.{Watched}
 use Rattle.afdx_config.specs.Files.{IsFileFault}
 use Rattle.afdx_config.specs.declared.file_fault.FileFault.{FileFault}
-use Rattle.afdx_commands.specs.Refusals.{admit_line, file_line, RefusesFile}
-use Rattle.afdx_commands.specs.Refusals.{RefusesTables, IsToldRefused, WantsMemory}
+use Rattle.afdx_commands.specs.Refusals.{file_line, RefusesFile}
+use Rattle.afdx_commands.specs.Refusals.{IsToldRefused, WantsMemory}
 
 -- memory was refused, or there is another fault
 memory_or : (fault : ConfigFault) → (fault ≡ Memory) ⊎ (fault ≡ Memory → ⊥)
@@ -49,20 +44,3 @@ file-faulty bytes old new config status (inl refuses) is = subst (RefusesFile by
 file-faulty bytes old new config status (inr wants) is =
     let four = wants.status_is in
     absurd (omega (arith, four, is))
-
--- tables were refused: they are not admitted, for the reason that is told
-pub tables-refused : {E : Type 0} (bytes : E → Option (List ℕ)) (old new : Watched E)
-    (config : List ℕ) (status : ℕ) (t back : Rows) (fault : AdmitFault) →
-    back ≡ t → Spells config t → (IsAdmitted t → ⊥) → first_false (lines t) ≡ Some fault
-    → IsToldRefused bytes old new status (admit_line back fault) →
-    RefusesTables bytes old new config status
-tables-refused bytes old new config status t back fault same spelled denied first refused = (
-  t,
-  spelled,
-  denied,
-  (
-    fault,
-    first,
-    subst (λ (x : Rows). IsToldRefused bytes old new status (admit_line x fault)) same refused,
-  ),
-)

@@ -1,8 +1,8 @@
 -- What `solve` tells, line by line.
-use Rattle.std.proofs.Common.{◌≡◌, ℕ, ◌+◌, ◌*◌, ◌<◌, List, [], ◌++◌, length, Bool, false, is_some, refl, sym, ap, ◌∙◌}
+use Rattle.std.proofs.Common.{◌≡◌, ℕ, ◌+◌, List, [], ◌++◌, length, Bool, false, is_some, refl, sym, ap, ◌∙◌}
 use Rattle.std.proofs.Common.{append_assoc, add-one, Option, Some, None, slice_get, true, ◌⊎◌, inl, inr}
 use Rattle.std.proofs.Common.{Vec, subst}
-use Rattle.std.specs.Prelude.{if◌then◌else◌, codes}
+use Rattle.std.specs.Prelude.{codes}
 use Rattle.std.specs.Option.{option_map_or}
 use Rattle.std.specs.declared.alloc.Global.{Global}
 use Rattle.std.proofs.lemmas.List.{append-nil}
@@ -14,11 +14,10 @@ use Rattle.afdx_config.specs.declared.reading_to_solve.ToSolve.{ToSolve}
 use Rattle.afdx_config.specs.declared.reading_to_solve.ToSolve.TheVariants.{One, Several}
 use Rattle.afdx_config.specs.Rows.{LinkRow, Rows}
 use Rattle.afdx_config.specs.Reading.{system_at_port}
-use Rattle.afdx_frame.proofs.FirstFalseLemmas.{le-false}
 use Rattle.afdx_admit.proofs.PortLemmas.{not-some}
 use Rattle.afdx_solve.specs.declared.options.SolveOptions.{SolveOptions}
 use Rattle.afdx_solve.specs.Solved.{solved, with_jitters, with_least_buffer, with_delays}
-use Rattle.afdx_commands.specs.SolveText.{told_need, need_over, need_at, asked_by}
+use Rattle.afdx_commands.specs.SolveText.{need_at, asked_by}
 use Rattle.afdx_commands.specs.SolveText.{needs_of_first, needs_at, needs_at_first}
 use Rattle.afdx_commands.specs.Solving.{IsSolution, IsSolutionOfOne, IsSolutionOfSeveral}
 use Rattle.afdx_commands.specs.Solving.{IsDenial, IsDenialOfOne, IsDenialOfSeveral}
@@ -38,13 +37,6 @@ pieces old digits port rest before after e f =
     ∙ append_assoc (old ++ (codes "vl " ++ (digits ++ codes " at "))) port rest
     ∙ append_assoc old (codes "vl " ++ (digits ++ codes " at ")) (port ++ rest)
     ∙ ap (λ (text : List ℕ). old ++ (codes "vl " ++ text)) (append_assoc digits (codes " at ") (port ++ rest))
-
--- the bound is more than what was asked for
-pub over : (switch : List ℕ) (port vl bound asked : ℕ) → 1000 * asked < bound
-    → told_need switch port vl bound asked ≡ need_over switch port vl bound asked
-over switch port vl bound asked more =
-    ap (λ (b : Bool). if b then [] else told_need switch port vl bound asked)
-    (sym (le-false bound (1000 * asked) more))
 
 module _ (switch : List ℕ) (t : Rows) (asked : List (Option ℕ)) where
   -- ---- the links at one port
@@ -67,7 +59,8 @@ module _ (switch : List ℕ) (t : Rows) (asked : List (Option ℕ)) where
       after ≡ before ++ need_at switch t port place l (asked_by asked i)
       → after ≡ old ++ needs_of_first switch t asked port place (i + 1)
   link-next port place i l at old before after e f =
-      more old (needs_of_first switch t asked port place i) (need_at switch t port place l (asked_by asked i)) before after e f
+      more old (needs_of_first switch t asked port place i) (need_at switch t port place l (asked_by asked i)) before
+          after e f
       ∙ ap (λ (text : List ℕ). old ++ text) (sym (with_link port place i l at))
 
   pub at_system : (port place : ℕ) → Some place ≡ system_at_port t.systems port →
@@ -81,7 +74,8 @@ module _ (switch : List ℕ) (t : Rows) (asked : List (Option ℕ)) where
   unfolding needs_at
   at_no_system port text at =
       sym (append-nil text)
-      ∙ ap (λ (o : Option ℕ). text ++ option_map_or (λ p. needs_of_first switch t asked port p (length t.links)) o []) at
+      ∙ ap (λ (o : Option ℕ). text ++ option_map_or (λ p. needs_of_first switch t asked port p (length t.links)) o [])
+          at
 
   pub at_unused : (port : ℕ) (text : List ℕ) → false ≡ is_some (system_at_port t.systems port) →
       text ≡ text ++ needs_at switch t asked port
@@ -94,7 +88,8 @@ module _ (switch : List ℕ) (t : Rows) (asked : List (Option ℕ)) where
   no_port text = sym (append-nil text)
 
   with_port : (count : ℕ) →
-      needs_at_first switch t asked (count + 1) ≡ needs_at_first switch t asked count ++ needs_at switch t asked (count + 1)
+      needs_at_first switch t asked (count + 1) ≡ needs_at_first switch t asked count ++ needs_at switch t asked
+          (count + 1)
   unfolding needs_at_first
   with_port count = rw add-one refl
 

@@ -77,6 +77,3 @@ answer true t = answer_lines t (false_lines (lines t))
 -- with what is asked for besides
 abbrev pub check_text_of : CheckOptions → Rows → List ℕ
 check_text_of options t = used_port_lines options.margins t last_port ++ answer options.all t
-
-abbrev pub check_text : Rows → List ℕ
-check_text t = check_text_of (record { all = false; margins = false }) t

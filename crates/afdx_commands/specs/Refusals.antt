@@ -1,16 +1,13 @@
 -- What a command tells that refuses a configuration or its tables.
-use Rattle.std.specs.Prelude.{ℕ, ◌≡◌, List, [], ◌++◌, Option, Some, codes, slice_get}
+use Rattle.std.specs.Prelude.{ℕ, ◌≡◌, List, [], ◌++◌, Option, codes, slice_get}
 use Rattle.std.specs.Option.{option_map_or}
-use Rattle.afdx_config.specs.Admission.{IsAdmitted}
 use Rattle.afdx_config.specs.FaultText as config_fault
-use Rattle.afdx_config.specs.Reading.{Spells}
 use Rattle.afdx_config.specs.Rows.{Rows}
 use Rattle.afdx_config.specs.Switches.{NamedRows}
 use Rattle.afdx_config.specs.Files.{IsFileFault}
 use Rattle.afdx_config.specs.declared.file_fault.FileFault.{FileFault}
 use Rattle.afdx_admit.specs.FaultText as admit_fault
 use Rattle.afdx_admit.specs.Known.{name_at, name_of}
-use Rattle.afdx_admit.specs.Lines.{first_false, lines}
 use Rattle.afdx_admit.specs.declared.cascade_fault.CascadeFault.{CascadeFault}
 use Rattle.afdx_admit.specs.declared.fault.AdmitFault.{AdmitFault}
 use Rattle.afdx_lists.specs.declared.fault.RunFault.TheVariants as run
@@ -59,9 +56,3 @@ module _ {E : Type 0} (error_bytes : E → Option (List ℕ)) (old new : Watched
   abbrev pub RefusesFile : List ℕ → ℕ → Type 0
   RefusesFile config status = (fault : FileFault) × IsFileFault config fault
       × IsToldRefused status (file_line fault)
-
-  -- its tables are not admitted, and this line of admission is the first that is false
-  abbrev pub RefusesTables : List ℕ → ℕ → Type 0
-  RefusesTables config status = (t : Rows) × Spells config t × (IsAdmitted t → ⊥)
-      × ((fault : AdmitFault) × (first_false (lines t) ≡ Some fault)
-      × IsToldRefused status (admit_line t fault))

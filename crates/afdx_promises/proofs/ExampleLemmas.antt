@@ -419,7 +419,8 @@ premises-met computed = record {
       (heard ∷ unheard ∷ []) stream came run refl refl refl between (is-stream computed 11)
       (is-fed computed) are ∙ heard-only;
   told_once = told-once computed tables arrivals run 1 0
-      receiver link (heard ∷ unheard ∷ []) stream refl refl refl between (is-stream computed 11) (is-fed computed) ∙ heard-only;
+      receiver link (heard ∷ unheard ∷ []) stream refl refl refl between (is-stream computed 11) (is-fed computed)
+          ∙ heard-only;
 }
   where
     between : IsBetweenSystems tables 1 link

@@ -25,7 +25,8 @@ all_released : (w : SenderState) (h : SenderHistory) (st : StandsFor w h) (t : �
     → 1000032768000000 < t → (i place : ℕ) (l : LinkRow) → slice_get h.links i ≡ Some l
     → place < length (own_submissions h.taken i) → has_release (own i st.released) place ≡ true
 all_released w h st t none late i place l row lt =
-    let r = slice_get-within w.lines.items i (let k = slice_get_within h.links i l row in let c = st.count in omega arith) in
+    let r = slice_get-within w.lines.items i (let k = slice_get_within h.links i l row in let c = st.count in
+        omega arith) in
     let d = slice_get-within (own_submissions h.taken i) place lt in
     by r.0 r.1 d.0 d.1 (has_release (own i st.released) place) refl
   where

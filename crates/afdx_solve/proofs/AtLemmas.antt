@@ -23,12 +23,14 @@ pub at-link : (ss : List NamedRows) (k i : ℕ) (l : LinkRow) → link_at ss k i
     → (t : Rows) × (tables_at ss k ≡ Some t) × (slice_get t.links i ≡ Some l)
 at-link ss k i l = by (slice_get ss k) refl
   where
-    by : (o : Option NamedRows) → slice_get ss k ≡ o → option_and_then (λ (s : NamedRows). slice_get s.rows.links i) o ≡ Some l
+    by : (o : Option NamedRows) → slice_get ss k ≡ o → option_and_then (λ (s : NamedRows). slice_get s.rows.links i) o
+        ≡ Some l
         → (t : Rows) × (tables_at ss k ≡ Some t) × (slice_get t.links i ≡ Some l)
     by None at e = absurd (cc e)
     by (Some s) at e = (s.rows, ap (option_map (λ (r : NamedRows). r.rows)) at, e)
 
-pub link-one : (ss : List NamedRows) (k i : ℕ) (l m : LinkRow) → link_at ss k i ≡ Some l → link_at ss k i ≡ Some m → l ≡ m
+pub link-one : (ss : List NamedRows) (k i : ℕ) (l m : LinkRow) → link_at ss k i ≡ Some l → link_at ss k i ≡ Some m
+    → l ≡ m
 link-one ss k i l m d e = same_Some l m (sym d ∙ e)
 
 pub tables-one : (ss : List NamedRows) (k : ℕ) (t u : Rows) → tables_at ss k ≡ Some t → tables_at ss k ≡ Some u → t ≡ u
@@ -67,7 +69,8 @@ module _ (a b : List NamedRows) (alike : AreAlike a b) where
 abbrev pub IsRowOf : (times : Times) (here : Type 0) (l m : LinkRow) → Type 0
 IsRowOf times here l m = (m ≡ l) ⊎ (here × (m ≡ with_times times l))
 
-pub links-cases : (times : Times) (ls : List LinkRow) (i j : ℕ) (m : LinkRow) → slice_get (changed_at i times ls) j ≡ Some m
+pub links-cases : (times : Times) (ls : List LinkRow) (i j : ℕ) (m : LinkRow) → slice_get (changed_at i times ls) j
+    ≡ Some m
     → (l : LinkRow) × (slice_get ls j ≡ Some l) × IsRowOf times (j ≡ i) l m
 unfolding changed_at
 links-cases times [] i j m at = absurd (cc at)
@@ -93,7 +96,8 @@ times-cases times (s ∷ ss) (suc k) i (suc j) n m at =
     (x.0, x.1, elim x.2 [ inl same ↦ inl same | inr here ↦ inr ((ap suc here.0.0, here.0.1), here.1) ])
 
 -- the buffers stay
-pub times-buffer : (times : Times) (ss : List NamedRows) (k i j : ℕ) (u : Rows) → tables_at (with_times_at k i times ss) j ≡ Some u
+pub times-buffer : (times : Times) (ss : List NamedRows) (k i j : ℕ) (u : Rows)
+    → tables_at (with_times_at k i times ss) j ≡ Some u
     → (t : Rows) × (tables_at ss j ≡ Some t) × (u.buffer ≡ t.buffer)
 unfolding changed_switch
 times-buffer times [] k i j u at = absurd (cc at)
@@ -103,7 +107,8 @@ times-buffer times (s ∷ ss) (suc k) i zero u at = (u, at, refl)
 times-buffer times (s ∷ ss) (suc k) i (suc j) u at = times-buffer times ss k i j u at
 
 -- and where a buffer is another, the links
-pub buffer-cases : (buffer : ℕ) (ss : List NamedRows) (k j : ℕ) (u : Rows) → tables_at (with_buffer_at k buffer ss) j ≡ Some u
+pub buffer-cases : (buffer : ℕ) (ss : List NamedRows) (k j : ℕ) (u : Rows) → tables_at (with_buffer_at k buffer ss) j
+    ≡ Some u
     → (t : Rows) × (tables_at ss j ≡ Some t) × ((u ≡ t) ⊎ ((j ≡ k) × (u ≡ with_buffer buffer t)))
 unfolding changed_switch
 buffer-cases buffer [] k j u at = absurd (cc at)
@@ -114,7 +119,8 @@ buffer-cases buffer (s ∷ ss) (suc k) (suc j) u at =
     let x = buffer-cases buffer ss k j u at in
     (x.0, x.1, elim x.2 [ inl same ↦ inl same | inr here ↦ inr (ap suc here.0, here.1) ])
 
-pub buffer-links : (buffer : ℕ) (ss : List NamedRows) (k j i : ℕ) → link_at (with_buffer_at k buffer ss) j i ≡ link_at ss j i
+pub buffer-links : (buffer : ℕ) (ss : List NamedRows) (k j i : ℕ) → link_at (with_buffer_at k buffer ss) j i
+    ≡ link_at ss j i
 unfolding changed_switch
 buffer-links buffer [] k j i = refl
 buffer-links buffer (s ∷ ss) zero zero i = refl

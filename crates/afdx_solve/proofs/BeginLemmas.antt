@@ -41,7 +41,8 @@ lawful-link ss h k i l row =
     let lawful = lawful-at ss h k t.0 t.1 in (
       t.0,
       record {
-        link = AllByRecursion-slice_get (IsLinkUpTo jitter_from_any (length t.0.systems)) t.0.links i l lawful.links.each t.2;
+        link = AllByRecursion-slice_get (IsLinkUpTo jitter_from_any (length t.0.systems)) t.0.links i l
+            lawful.links.each t.2;
         sent = lawful.sent i l t.2;
       },
     )
@@ -84,7 +85,8 @@ module _ (o : SolveOptions) where
   pub alike-begun : (ss : List NamedRows) → AreAlike ss (map (begun_switch o) ss)
   alike-begun [] = refl
   alike-begun (s ∷ ss) =
-      ap (λ ls. named_rows s.name (record s.rows { buffer = 0; links = ls }) ∷ map bare_switch ss) (bare-begun s.rows.links)
+      ap (λ ls. named_rows s.name (record s.rows { buffer = 0; links = ls }) ∷ map bare_switch ss)
+          (bare-begun s.rows.links)
       ∙ ap (λ rest. bare_switch (begun_switch o s) ∷ rest) (alike-begun ss)
 
   begun-link : (ss : List NamedRows) (k i : ℕ) (m : LinkRow) → link_at (map (begun_switch o) ss) k i ≡ Some m
@@ -103,7 +105,8 @@ module _ (o : SolveOptions) where
     abbrev start : List NamedRows
     start = map (begun_switch o) file
 
-    buffer-is : (k : ℕ) (f t : Rows) → tables_at file k ≡ Some f → tables_at start k ≡ Some t → t.buffer ≡ begun_buffer o f.buffer
+    buffer-is : (k : ℕ) (f t : Rows) → tables_at file k ≡ Some f → tables_at start k ≡ Some t
+        → t.buffer ≡ begun_buffer o f.buffer
     buffer-is k f t at at' =
         let x = begun-tables file k t at' in
         x.2 ∙ ap (λ (r : Rows). begun_buffer o r.buffer) (tables-one file k x.0 f x.1 at)
@@ -122,7 +125,8 @@ module _ (o : SolveOptions) where
 
     latency-below : (f : LinkRow) (t : Rows) (n : LinkRow)
         → (begun o f).latency_us ≤ chosen o.kept.latency o.raise_only f.latency_us (latency_needed t n)
-    latency-below f t n = chosen-rises o.kept.latency o.raise_only f.latency_us 1 (latency_needed t n) (latency-some t n).0
+    latency-below f t n = chosen-rises o.kept.latency o.raise_only f.latency_us 1 (latency_needed t n)
+        (latency-some t n).0
 
     skew-below : (ss : List NamedRows) (f : LinkRow) (t : Rows) (k : ℕ) (n : LinkRow) → 1 ≤ n.latency_us
         → (begun o f).skew_us ≤ chosen o.kept.skew o.raise_only f.skew_us (skew_needed ss t (row_at k n))
@@ -150,7 +154,8 @@ module _ (o : SolveOptions) where
             let some : 1 ≤ l.latency_us = subst (λ (r : LinkRow). 1 ≤ r.latency_us) same
             (chosen-some o.kept.latency o.raise_only f.latency_us 1 (latency-one k i f row) (omega arith)) in
             record {
-              jitter = omega (arith, ap (λ (r : LinkRow). r.jitter_us) same, jitter-below f (jitter_needed start t (row_at k l)));
+              jitter = omega (arith, ap (λ (r : LinkRow). r.jitter_us) same, jitter-below f
+                  (jitter_needed start t (row_at k l)));
               latency = omega (arith, ap (λ (r : LinkRow). r.latency_us) same, latency-below f t l);
               skew = omega (arith, ap (λ (r : LinkRow). r.skew_us) same, skew-below start f t k l some);
             };
@@ -201,11 +206,13 @@ module _ (o : SolveOptions) where
 
   pub rows-next : (ss : List NamedRows) (k i : ℕ) (times : Times) (l : LinkRow) → link_at ss k i ≡ Some l
       → with_times times l ≡ begun o l
-      → changed_switch k (with_link_at i times) (changed_switch k (first_rows i) ss) ≡ changed_switch k (first_rows (i + 1)) ss
+      → changed_switch k (with_link_at i times) (changed_switch k (first_rows i) ss) ≡ changed_switch k
+          (first_rows (i + 1)) ss
   unfolding changed_switch
   rows-next [] k i times l at same = absurd (cc at)
   rows-next (s ∷ ss) zero i times l at same = ap (λ r. named_rows s.name r ∷ ss)
-      (stage-next (begun o) s.rows (first_rows i s.rows) (with_link_at i times (first_rows i s.rows)) i times l refl at same refl)
+      (stage-next (begun o) s.rows (first_rows i s.rows) (with_link_at i times (first_rows i s.rows)) i times l refl
+          at same refl)
   rows-next (s ∷ ss) (suc k) i times l at same = ap (λ rest. s ∷ rest) (rows-next ss k i times l at same)
 
   pub rows-done : (ss : List NamedRows) (k i : ℕ) (t : Rows) → tables_at ss k ≡ Some t → length t.links ≤ i
@@ -242,7 +249,8 @@ change-same f g (s ∷ ss) zero t at same =
     ap (λ r. named_rows s.name r ∷ ss) (ap f here ∙ same ∙ ap g (sym here))
 change-same f g (s ∷ ss) (suc k) t at same = ap (λ rest. s ∷ rest) (change-same f g ss k t at same)
 
-pub length-changed : (change : Rows → Rows) (ss : List NamedRows) (k : ℕ) → length (changed_switch k change ss) ≡ length ss
+pub length-changed : (change : Rows → Rows) (ss : List NamedRows) (k : ℕ) → length (changed_switch k change ss)
+    ≡ length ss
 unfolding changed_switch
 length-changed change [] k = refl
 length-changed change (s ∷ ss) zero = refl

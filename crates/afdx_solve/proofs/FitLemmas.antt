@@ -25,7 +25,8 @@ use Rattle.afdx_solve.proofs.RiseLemmas.{RowsRise, flows-rise, burst-rises, load
 -- ---- a key
 
 -- it is as in the others, or it has what it needs
-pub kept-or : (keep raise : Bool) (file n value other : ℕ) → value ≡ chosen keep raise file n → MayBecome keep raise file other
+pub kept-or : (keep raise : Bool) (file n value other : ℕ) → value ≡ chosen keep raise file n
+    → MayBecome keep raise file other
     → (value ≡ other) ⊎ (n ≤ value)
 kept-or true raise file n value other is may = inl (is ∙ sym may)
 kept-or false true file n value other is may = inr (omega (arith, is))
@@ -52,7 +53,8 @@ over-member f place [] h = absurd (cc h)
 over-member f place (p ∷ ps) h = by (nat_eq p place) refl h (over-member f place ps)
   where
     by : (b : Bool) → nat_eq p place ≡ b → b || list_any (λ q. nat_eq q place) ps ≡ true
-        → (list_any (λ q. nat_eq q place) ps ≡ true → f place ≤ latency_over f ps) → f place ≤ max (f p) (latency_over f ps)
+        → (list_any (λ q. nat_eq q place) ps ≡ true → f place ≤ latency_over f ps)
+            → f place ≤ max (f p) (latency_over f ps)
     by true e g later = omega (arith, ap f (eqb-true p place e))
     by false e g later = omega (arith, later g)
 
@@ -93,7 +95,8 @@ module _ (t u : Rows) (rise : RowsRise t u) (place : ℕ) (s : SystemRow) (at : 
   pub load-fits : load ns us ≤ byte_units → load ns ts ≤ byte_units
   load-fits h = omega (arith, h, load-same ns ts us (flows-rise t.links u.links rise.links place))
 
-  pub buffer-fits : (t.buffer ≡ u.buffer) ⊎ (greatest_need t (length t.systems) ≤ t.buffer) → burst us ≤ u.buffer * byte_units
+  pub buffer-fits : (t.buffer ≡ u.buffer) ⊎ (greatest_need t (length t.systems) ≤ t.buffer)
+      → burst us ≤ u.buffer * byte_units
       → burst ts ≤ t.buffer * byte_units
   unfolding buffer_need_of
   buffer-fits (inl same) h =
@@ -144,7 +147,8 @@ module _ (t u : Rows) (rise : RowsRise t u) (place : ℕ) (s : SystemRow) (at : 
       low-enough l.latency_us (subst (λ n. 0 < byte_units - n) (sym load_same) left) enough
 
   -- with what a row needs at all its ports, or with the latency of the other
-  pub latency-or : (l m : LinkRow) → is_to place l ≡ true → (l.latency_us ≡ m.latency_us) ⊎ (latency_needed t l ≤ l.latency_us)
+  pub latency-or : (l m : LinkRow) → is_to place l ≡ true → (l.latency_us ≡ m.latency_us)
+      ⊎ (latency_needed t l ≤ l.latency_us)
       → l.latency_us ≤ m.latency_us → m.latency_us ≤ 100000
       → (l.latency_us ≡ m.latency_us) ⊎ (delay_to t l.priority place ≤ l.latency_us)
   unfolding latency_needed

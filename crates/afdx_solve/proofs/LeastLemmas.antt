@@ -125,7 +125,8 @@ low_bound-some ns flows left =
     ap (λ b. if b then Some (div_ceil (low_wait ns flows) (byte_units - h)) else None) below
 
 -- what an output port needs is no more than a latency with which it is in time
-pub delay-least : (t : Rows) (class : Priority) (place : ℕ) (s : SystemRow) (us : ℕ) → slice_get t.systems place ≡ Some s
+pub delay-least : (t : Rows) (class : Priority) (place : ℕ) (s : SystemRow) (us : ℕ) → slice_get t.systems place
+    ≡ Some s
     → IsInTime (byte_ns s) (flows_to t.links place) class (1000 * us)
     → (class ≡ Low → 0 < byte_units - high_load (byte_ns s) (flows_to t.links place)) → delay_to t class place ≤ us
 unfolding high_bound_of
@@ -145,7 +146,8 @@ delay-least t Low place s us at soon left =
     let is = low_bound-some ns flows (left refl) in
     subst (λ n. n ≤ us) (sym (delay-stands t Low place s at ∙ ap in_us is)) least
 
-pub latency_over-least : (f : ℕ → ℕ) (us count : ℕ) → 1 ≤ us → (places : List ℕ) → AllByRecursion (λ p. p < count) places
+pub latency_over-least : (f : ℕ → ℕ) (us count : ℕ) → 1 ≤ us → (places : List ℕ)
+    → AllByRecursion (λ p. p < count) places
     → ((p : ℕ) → p < count → list_any (λ q. nat_eq q p) places ≡ true → f p ≤ us) → latency_over f places ≤ us
 unfolding latency_over
 latency_over-least f us count some [] within h = some

@@ -11,7 +11,6 @@ pub mod CascadeLeastLemmas
 pub mod FitLemmas
 pub mod SolvableLemmas
 pub mod LeastLemmas
-pub mod RowLemmas
 pub mod SameLemmas
 pub mod StageLemmas
 pub mod TextLemmas

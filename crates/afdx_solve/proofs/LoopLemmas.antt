@@ -14,17 +14,16 @@ use Rattle.afdx_solve.specs.declared.options.SolveOptions.{SolveOptions}
 use Rattle.afdx_solve.specs.Raising.{Raises, AreTimesSettled, AreDelaysBy}
 use Rattle.afdx_solve.proofs.AtLemmas.{link-at, tables-one, alike-link}
 use Rattle.afdx_solve.proofs.RiseLemmas.{RowsRise, jitter_at-same, delay-rises}
-use Rattle.afdx_solve.proofs.RaisingLemmas.{raises-none, raises-then, rows-rise}
+use Rattle.afdx_solve.proofs.RaisingLemmas.{raises-then, rows-rise}
 
 -- the first ones of a kind, as many as this, were raised, or have what they need
-pub record AreRaised (o : SolveOptions) (Settled : List NamedRows → ℕ → Type 0) (old new : List NamedRows) (raised : Bool)
+pub record AreRaised (o : SolveOptions) (Settled : List NamedRows → ℕ → Type 0) (old new : List NamedRows)
+    (raised : Bool)
     (count : ℕ) : Type 0 where
   pub raises : Raises o old new raised
   pub settled : raised ≡ false → (i : ℕ) → i < count → Settled old i
 
 module _ (o : SolveOptions) (Settled : List NamedRows → ℕ → Type 0) (old : List NamedRows) where
-  pub raised-first : AreRaised o Settled old old false 0
-  raised-first = record { raises = raises-none o old; settled = λ e i less. absurd (omega (arith, less)) }
 
   pub raised-next : (now new : List NamedRows) (raised one both : Bool) (count : ℕ) → both ≡ raised || one
       → AreRaised o Settled old now raised count → Raises o now new one
@@ -62,7 +61,8 @@ pub rows-settled : (o : SolveOptions) (k : ℕ) (old now : List NamedRows) (rais
 rows-settled o k old now raised count u h at all e i =
     subst (λ ss. RowSettled o k ss i) (sym (h.raises.same e))
     (λ t l at' row. let same = tables-one old k t u at' at in
-    h.settled e i (omega (arith, slice_get_within t.links i l row, ap (λ (r : Rows). length r.links) same, all)) t l at' row)
+    h.settled e i (omega (arith, slice_get_within t.links i l row, ap (λ (r : Rows). length r.links) same, all)) t l
+        at' row)
 
 -- ---- what is known of a switch, of one that is alike
 

@@ -94,7 +94,8 @@ raised-lawful o ss t k l needed h n =
           (omega arith, h.sent from) (omega arith, omega (arith, n.jitter, jitter-system ss t (row_at k l) from))).1;
     }
 
-raised-is-more : (o : SolveOptions) (needed : Times) (l : LinkRow) → AreTimesAtMost l (with_times (raised_times o needed l) l)
+raised-is-more : (o : SolveOptions) (needed : Times) (l : LinkRow)
+    → AreTimesAtMost l (with_times (raised_times o needed l) l)
 raised-is-more o needed l = record {
   jitter = raised-more o.kept.jitter l.jitter_us needed.jitter_us;
   latency = raised-more o.kept.latency l.latency_us needed.latency_us;
@@ -347,7 +348,8 @@ module _ (ss : List NamedRows) (t : Rows) (k : ℕ) (l : LinkRow) (needed : Time
   unfolding latency_needed
   row-settled o h exact =
       times-settled o ss t k l needed h jitter
-      (latency ∙ ap (min greatest_delay) (latency_over-same (slice_index (of_class l.priority d)) (delay_to t l.priority)
+      (latency ∙ ap (min greatest_delay) (latency_over-same (slice_index (of_class l.priority d))
+          (delay_to t l.priority)
       (length t.systems) (exact.each l.priority) l.to lawful.to)) skew
 
 pub among : (t : Rows) (i : ℕ) (l : LinkRow) → IsLawfulSwitch t → slice_get t.links i ≡ Some l

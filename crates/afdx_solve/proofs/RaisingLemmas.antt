@@ -19,7 +19,7 @@ use Rattle.afdx_solve.specs.Raising.{begun, IsNoLessThanBegun, IsRising, left_of
 use Rattle.afdx_solve.proofs.ZipLemmas.{zip-at}
 use Rattle.afdx_solve.proofs.RiseLemmas.{LinkRises, RowsRise, latency-rises, buffer-rises}
 use Rattle.afdx_solve.proofs.WayRiseLemmas.{SwitchRises, RowAtRises, all-rise, jitter-rises, skew-rises}
-use Rattle.afdx_solve.proofs.AtLemmas.{link-at, at-link, link-one, tables-one, alike-tables, alike-link}
+use Rattle.afdx_solve.proofs.AtLemmas.{link-at, at-link, alike-tables, alike-link}
 
 -- ---- what a key takes
 
@@ -85,7 +85,8 @@ module _ (a b : List NamedRows) (alike : AreAlike a b) (more : AreAtMost a b) (k
 
 -- ---- a step
 
-pub record TimesTaken (o : SolveOptions) (old : List NamedRows) (s : Rows) (f : LinkRow) (k : ℕ) (l m : LinkRow) : Type 0 where
+pub record TimesTaken (o : SolveOptions) (old : List NamedRows) (s : Rows) (f : LinkRow) (k : ℕ)
+    (l m : LinkRow) : Type 0 where
   pub jitter : m.jitter_us ≤ chosen o.kept.jitter o.raise_only f.jitter_us (jitter_needed old s (row_at k l))
   pub latency : m.latency_us ≤ chosen o.kept.latency o.raise_only f.latency_us (latency_needed s l)
   pub skew : m.skew_us ≤ chosen o.kept.skew o.raise_only f.skew_us (skew_needed old s (row_at k l))
@@ -112,7 +113,8 @@ module _ (o : SolveOptions) (file old new : List NamedRows) (h : IsRising o file
 
   -- what is at most taken by the old ones, by others that are no less
   module _ (others : List NamedRows) (like : AreAlike old others) (above : AreAtMost old others) where
-    buffer-by : (k : ℕ) (f u v : Rows) → tables_at file k ≡ Some f → tables_at new k ≡ Some u → tables_at others k ≡ Some v
+    buffer-by : (k : ℕ) (f u v : Rows) → tables_at file k ≡ Some f → tables_at new k ≡ Some u
+        → tables_at others k ≡ Some v
         → u.buffer ≤ chosen o.kept.buffer o.raise_only f.buffer (least_buffer v)
     buffer-by k f u v at at' at'' =
         let s = alike-tables new old (sym alike) k u at' in
@@ -184,25 +186,6 @@ module _ (o : SolveOptions) (file old new : List NamedRows) (h : IsRising o file
   }
 
 -- ---- none raised, and several steps
-
-pub most-itself : (ss : List NamedRows) → AreAtMost ss ss
-most-itself ss = record {
-  buffers = λ k s t at at'. omega (arith, ap (λ (r : Rows). r.buffer) (tables-one ss k s t at at'));
-  times = λ k i l m row row'. let same = link-one ss k i l m row row' in record {
-    jitter = omega (arith, ap (λ (r : LinkRow). r.jitter_us) same);
-    latency = omega (arith, ap (λ (r : LinkRow). r.latency_us) same);
-    skew = omega (arith, ap (λ (r : LinkRow). r.skew_us) same);
-  };
-}
-
-pub raises-none : (o : SolveOptions) (ss : List NamedRows) → Raises o ss ss false
-raises-none o ss = record {
-  alike = refl;
-  more = most-itself ss;
-  rising = λ file h. h;
-  less = λ e. absurd (cc e);
-  same = λ e. refl;
-}
 
 most-trans : (a b c : List NamedRows) → AreAlike a b → AreAtMost a b → AreAtMost b c → AreAtMost a c
 most-trans a b c alike d e = record {

@@ -238,7 +238,8 @@ module _ (own : ℕ) (systems : List SystemRow) (i : ℕ) (l : LinkRow) (among :
         whole-reads (keys.link_at i 5) t l.lmin refl is.lmin,
         whole-reads (at_least l.lmin (keys.link_at i 6)) t l.lmax refl is.lmax,
         choice-kept (at_most greatest (keys.link_at i 7)) t,
-        whole-reads (at_most greatest (keys.link_at i 7)) t l.jitter_us refl (jitter-least own (length systems) l among),
+        whole-reads (at_most greatest (keys.link_at i 7)) t l.jitter_us refl
+            (jitter-least own (length systems) l among),
       )
 
   treatment-read : treatment_at all_kept i (link_tree systems l)

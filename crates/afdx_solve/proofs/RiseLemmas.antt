@@ -148,7 +148,8 @@ module _ (t u : Rows) (h : RowsRise t u) where
       by : (o : Option SystemRow) → option_map_or (λ s. buffer_need_of (loaded_output_to t place s)) o 0
           ≤ option_map_or (λ s. buffer_need_of (loaded_output_to u place s)) o 0
       by None = omega arith
-      by (Some s) = div_ceil-rises (burst (flows_to t.links place)) (burst (flows_to u.links place)) byte_units (omega arith)
+      by (Some s) = div_ceil-rises (burst (flows_to t.links place)) (burst (flows_to u.links place)) byte_units
+          (omega arith)
           (burst-rises (flows_to t.links place) (flows_to u.links place) (flows-rise t.links u.links h.links place))
 
   needs-rise : (count : ℕ) → greatest_need t count ≤ greatest_need u count

@@ -33,7 +33,8 @@ module _ {A B : Type 0} (R : A → B → Type 0) where
   zip-at xs ys h i x y d e = zip-some (slice_get xs i) (slice_get ys i) x y (zip-get xs ys h i) d e
 
   -- one is there, so the other is
-  pub zip-there : (o : Option A) (p : Option B) (x : A) → OptionZip R o p → o ≡ Some x → (y : B) × (p ≡ Some y) × (R x y)
+  pub zip-there : (o : Option A) (p : Option B) (x : A) → OptionZip R o p → o ≡ Some x → (y : B) × (p ≡ Some y)
+      × (R x y)
   zip-there None p x h e = absurd (cc e)
   zip-there (Some a) None x h e = absurd h
   zip-there (Some a) (Some b) x h e = (b, refl, subst (λ z. R z b) (same_Some a x e) h)

@@ -36,7 +36,8 @@ returns c = record {
       (c.take.new.self ≡ get_or c.args.networks.now c.args.switch c.index-networks-switch.result)
       (λ quiet same. subst (λ m. network.IsQuiet m c.args.until)
       (same ∙ some-is (get_or c.args.networks.now c.args.switch c.index-networks-switch.result) n
-      (sym (slice_get-get_or c.args.networks.now c.args.switch c.index-networks-switch.result c.requires.within) ∙ at)) quiet)
+      (sym (slice_get-get_or c.args.networks.now c.args.switch c.index-networks-switch.result c.requires.within)
+          ∙ at)) quiet)
       c.take.ensures.quiet c.take.ensures.none;
   gives = λ p at ring so_far plan st.
       let k = c.args.switch in
@@ -52,9 +53,11 @@ returns c = record {
         stands = g.stands;
         next = g.next;
         first = g.first;
-        ended = λ silent. turn-ends p n at ring so_far k g.departure c.take.new.self plan st c.requires.within silent g.stands;
+        ended = λ silent. turn-ends p n at ring so_far k g.departure c.take.new.self plan st c.requires.within silent
+            g.stands;
         carried = λ to young soon joined early below.
-            frame-is-carried p n at ring so_far k g.departure c.take.new.self to plan st c.requires.within young soon joined
+            frame-is-carried p n at ring so_far k g.departure c.take.new.self to plan st c.requires.within young soon
+                joined
             early below g.stands;
       })
       (c.take.ensures.given (p.tables k) (at_switch k so_far)

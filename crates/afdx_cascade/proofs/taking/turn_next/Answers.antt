@@ -66,7 +66,8 @@ returns-then-at-until-clause-empty c p time ring so_far keeps early by =
     ring-by p c.args.networks.now time ring so_far keeps c.args.first.order c.given_at-at.result
     c.args.until c.if-at-until.true c.given_at-at.ensures.high by early
 
-pub returns-then-first-ge-ORDER_WITHOUT_TURN-clause-all_done : goal.returns-then-first-ge-ORDER_WITHOUT_TURN-clause-all_done
+pub returns-then-first-ge-ORDER_WITHOUT_TURN-clause-all_done
+    : goal.returns-then-first-ge-ORDER_WITHOUT_TURN-clause-all_done
 returns-then-first-ge-ORDER_WITHOUT_TURN-clause-all_done c p time ring so_far keeps early late =
     all-done p c.args.networks.now time c.args.until ring so_far c.args.first keeps c.requires.first
     (ring-end p c.args.networks.now time ring so_far keeps c.args.first.order

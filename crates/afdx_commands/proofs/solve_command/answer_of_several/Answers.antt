@@ -16,6 +16,7 @@ returns-in_ok-needs-in-Ok-clause-solution c = λ _.
       layout = c.in_ok-text-in-Ok.ensures.text;
       spells = c.in_ok-text-in-Ok.ensures.spells;
       admitted = subst IsCascadeAdmitted same c.in-Ok.ensures.admitted;
-      least = λ others are admitted stand. c.cascade_is_least.ensures o file switches others solution are admitted stand;
+      least = λ others are admitted stand. c.cascade_is_least.ensures o file switches others solution are admitted
+          stand;
       told = c.in_ok-needs-in-Ok.ensures;
     }
