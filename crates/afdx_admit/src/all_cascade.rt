@@ -1,7 +1,7 @@
 //! All lines of admission of a cascade that are false.
 
-ghost use Rattle.std.specs.Prelude.{◌≡◌, ◌<◌, ◌++◌, ◌↔◌, [], length, Some, All, OnOk, IfOk};
-ghost use Rattle.afdx_frame.specs.Lines.{false_lines, each_from};
+ghost use Rattle.std.specs.Prelude.{◌≡◌, ◌<◌, ◌++◌, ◌∷◌, ◌↔◌, [], length, Some, All, OnOk, IfOk};
+ghost use Rattle.afdx_frame.specs.Lines.{false_lines, each_from, line};
 ghost use Rattle.afdx_config.specs.Rows.{Rows, link_row};
 ghost use Rattle.afdx_config.specs.Lawful.{IsLinkUpTo, jitter_from_any};
 ghost use Rattle.afdx_config.specs.Switches.{AreSwitches, named_rows};
@@ -9,12 +9,23 @@ ghost use Rattle.afdx_admit.specs.Cascade as spec;
 ghost use Rattle.afdx_admit.specs.AtSwitch.{IsRowAt, IsKnownAt, tables_at};
 ghost use Rattle.afdx_admit.specs.Sums.{CanSend};
 
-use crate::all::{add_if_false, all_faults};
+use crate::all::all_faults;
 use crate::cascade_fault::{CascadeFault, SwitchFault};
 use crate::cascade_lines::{allows_way, is_unread, late_behind, same_contract, unfed};
 use crate::way::{latency_of, row_before};
 use afdx_config::{Link, SwitchId, Switches, Tables};
 use std::alloc::{AllocError, Global};
+
+/// Adds the fault of a line, if it is false.
+fn add_if_false<F: Copy>(found: &mut Vec<F>, holds: bool, fault: F) -> Result<(), AllocError>
+    ensures { OnOk result
+        (found.new.items ≡ found.old.items ++ false_lines (line holds fault ∷ [])) }
+{
+    if !holds {
+        found.push(fault)?;
+    }
+    Ok(())
+}
 
 /// Adds the faults of a switch by its own tables.
 fn add_own(

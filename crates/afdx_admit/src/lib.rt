@@ -11,6 +11,7 @@ mod cascade;
 mod cascade_fault;
 mod cascade_lines;
 mod fault;
+mod found;
 pub mod laws;
 mod lines;
 mod sums;
