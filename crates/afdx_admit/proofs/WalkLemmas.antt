@@ -3,7 +3,8 @@ use Rattle.std.proofs.Common.{◌≡◌, ℕ, zero, suc, ◌+◌, ◌-◌, ◌<�
 use Rattle.std.proofs.Common.{sym, ap, subst, ◌∙◌, refl, append_assoc, arith, false, Some, None, slice_get}
 use Rattle.std.proofs.lemmas.List.{append-nil}
 use Rattle.afdx_frame.specs.Lines.{Line, line, false_lines, first_false, each_from}
-use Rattle.afdx_frame.proofs.FalseLinesLemmas.{false_lines-append, false_lines-fails, false_lines-nil, added, first-of_all}
+use Rattle.afdx_frame.proofs.FalseLinesLemmas.{false_lines-append, false_lines-fails, false_lines-nil, added}
+use Rattle.afdx_frame.proofs.FalseLinesLemmas.{first-of_all, empty-none}
 use Rattle.afdx_admit.specs.Walk.{Walks}
 
 module _ {F : Type 0} where
@@ -77,6 +78,18 @@ module _ {F E : Type 0} (Stops : List F → E → Type 0) where
       subst (λ a. Walks Stops old after (xs ++ (ys ++ zs)) a) (sym is)
       (stopped_later old before xs (ys ++ zs) stop e (stopped_before before ys zs stop h))
 
+  -- also one that has no further lines
+  pub walks_end : {A : Type 0} (old after : List F) (ls : List (Line F)) (stop : E) (r : Result A E) → r ≡ Err stop
+      → Stopped old ls stop → Walks Stops old after ls r
+  walks_end old after ls stop r is h = subst (λ a. Walks Stops old after ls a) (sym is) h
+
+  -- of lines only those that are false count
+  pub walks_same : {A : Type 0} (old after : List F) (xs ys : List (Line F)) (r : Result A E)
+      → false_lines xs ≡ false_lines ys → Walks Stops old after xs r → Walks Stops old after ys r
+  walks_same old after xs ys (Ok _) e h = h ∙ ap (λ fs. old ++ fs) e
+  walks_same old after xs ys (Err stop) e h =
+      λ behind. subst (λ fs. Stops (old ++ (fs ++ behind)) stop) e (h behind)
+
   pub walks_stop_at : {A : Type 0} (f : ℕ → List (Line F)) (from count place end : ℕ) (old before after : List F)
       (stop : E) (r : Result A E) → r ≡ Err stop →
       place ≡ from + count → count < end → before ≡ old ++ false_lines (each_from f from count) →
@@ -108,6 +121,11 @@ module _ {F E : Type 0} (Stops : List F → E → Type 0) where
 
 -- ---- a walk that takes no fault: its lines hold, or it stopped with the first that is false
 
+head-stays : {F : Type 0} (xs behind : List F) (x : F) → slice_get xs 0 ≡ Some x
+    → slice_get (xs ++ behind) 0 ≡ Some x
+head-stays [] behind x h = absurd (cc h)
+head-stays (y ∷ ys) behind x h = h
+
 module _ {F : Type 0} (ls : List (Line F)) where
   pub first-none : [] ≡ false_lines ls → None ≡ first_false ls
   first-none e = ap (λ fs. slice_get fs 0) e ∙ sym (first-of_all ls)
@@ -116,3 +134,10 @@ module _ {F : Type 0} (ls : List (Line F)) where
       → first_false ls ≡ Some fault
   first-stop fault h =
       first-of_all ls ∙ ap (λ fs. slice_get fs 0) (sym (append-nil (false_lines ls))) ∙ h []
+
+  pub none-first : first_false ls ≡ None → [] ≡ false_lines ls
+  none-first e = sym (empty-none (false_lines ls) (sym (first-of_all ls) ∙ e))
+
+  pub stop-first : (fault : F) → first_false ls ≡ Some fault
+      → (behind : List F) → slice_get (false_lines ls ++ behind) 0 ≡ Some fault
+  stop-first fault e behind = head-stays (false_lines ls) behind fault (sym (first-of_all ls) ∙ e)

@@ -9,6 +9,7 @@ mod all_cascade;
 mod bounds;
 mod cascade;
 mod cascade_fault;
+mod cascade_found;
 mod cascade_lines;
 mod fault;
 mod found;
