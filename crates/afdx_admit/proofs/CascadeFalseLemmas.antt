@@ -1,28 +1,22 @@
 -- The faults of the false lines of a cascade.
-use Rattle.std.proofs.Common.{◌≡◌, ℕ, ◌+◌, ◌<◌, ◌++◌, nat_lt, Bool, true, false, not, List, [], ◌∷◌, map, filter, cond}
-use Rattle.std.proofs.Common.{take, Some, None, slice_get, slice_index_or, length, if◌then◌else◌, refl, sym, ap, ◌∙◌}
-use Rattle.std.proofs.Common.{append_assoc}
-use Rattle.std.proofs.lemmas.List.{map-append}
-use Rattle.std.proofs.lemmas.Option.{slice_get-get_or}
+use Rattle.std.proofs.Common.{◌≡◌, ℕ, nat_lt, Bool, true, false, not, List, [], ◌∷◌, map, filter, cond}
+use Rattle.std.proofs.Common.{Some, if◌then◌else◌, refl, ap, ◌∙◌}
 use Rattle.afdx_config.specs.Rows.{LinkRow, Rows}
-use Rattle.afdx_config.specs.Switches.{NamedRows, named_rows}
+use Rattle.afdx_config.specs.Switches.{NamedRows}
 use Rattle.afdx_frame.specs.Lines.{Line, false_lines}
-use Rattle.afdx_frame.proofs.ListLemmas.{take-one_more}
 use Rattle.afdx_frame.proofs.FalseLinesLemmas.{false_lines-holds}
 use Rattle.afdx_admit.specs.declared.fault.AdmitFault.{AdmitFault}
 use Rattle.afdx_admit.specs.declared.cascade_fault.CascadeFault.{CascadeFault}
 use Rattle.afdx_admit.specs.declared.cascade_fault.SwitchFault.TheVariants.{Own}
-use Rattle.afdx_admit.specs.Lines.{lines}
-use Rattle.afdx_admit.specs.Cascade.{RowAt, row_at, row_before, way_latency, fault_at, own_line, own_lines}
+use Rattle.afdx_admit.specs.Cascade.{RowAt, row_at, row_before, way_latency, fault_at, own_line}
 use Rattle.afdx_admit.specs.Cascade.{fed_line, lines_of_hop, lines_if_fed, lines_of_row}
-use Rattle.afdx_admit.specs.AtSwitch.{tables_at}
-use Rattle.afdx_admit.proofs.CascadeLemmas.{with_tables, owns-at}
 
 -- the faults of a switch by its own tables, at their place in the cascade
 abbrev pub own_fault : ℕ → AdmitFault → CascadeFault
 own_fault k fault = fault_at k (Own fault)
 
-own-false : (k : ℕ) (ls : List (Line AdmitFault)) → false_lines (map (own_line k) ls) ≡ map (own_fault k) (false_lines ls)
+pub own-false : (k : ℕ) (ls : List (Line AdmitFault))
+    → false_lines (map (own_line k) ls) ≡ map (own_fault k) (false_lines ls)
 unfolding false_lines
 own-false k [] = refl
 own-false k (l ∷ ls) = by l.holds (own-false k ls)
@@ -34,24 +28,6 @@ own-false k (l ∷ ls) = by l.holds (own-false k ls)
         (filter (λ m. not m.holds) ls)))
     by true e = e
     by false e = ap (λ fs. own_fault k l.fault ∷ fs) e
-
-pub own_false_at : (ss : List NamedRows) (k : ℕ) (t : Rows) → tables_at ss k ≡ Some t
-    → false_lines (own_lines ss k) ≡ map (own_fault k) (false_lines (lines t))
-own_false_at ss k t at =
-    let s = with_tables (slice_get ss k) t at in
-    ap false_lines (owns-at ss k (named_rows s.0 t) s.1) ∙ own-false k (lines t)
-
--- one of them more
-pub own-more : (k : ℕ) (faults : List AdmitFault) (i : ℕ) (d : AdmitFault) (old found : List CascadeFault) → i < length faults
-    → found ≡ old ++ map (own_fault k) (take i faults)
-    → found ++ own_fault k (slice_index_or faults i d) ∷ [] ≡ old ++ map (own_fault k) (take (i + 1) faults)
-own-more k faults i d old found within e =
-    let one : CascadeFault = own_fault k (slice_index_or faults i d) in
-    ap (λ fs. fs ++ one ∷ []) e
-    ∙ append_assoc old (map (own_fault k) (take i faults)) (one ∷ [])
-    ∙ ap (λ fs. old ++ fs)
-    (sym (map-append (own_fault k) (take i faults) (slice_index_or faults i d ∷ []))
-    ∙ ap (map (own_fault k)) (sym (take-one_more faults i (slice_index_or faults i d) (slice_get-get_or faults i d within))))
 
 -- the lines of a row
 module _ (ss : List NamedRows) (k : ℕ) (t : Rows) (l : LinkRow) where
@@ -65,13 +41,7 @@ module _ (ss : List NamedRows) (k : ℕ) (t : Rows) (l : LinkRow) where
     asked : lines_of_row ss k t l ≡ lines_if_fed k t l (row_before ss here) (way_latency ss here)
     asked = ap (λ b. if b then [] else lines_if_fed k t l (row_before ss here) (way_latency ss here)) past
 
-    pub row-alone : row_before ss here ≡ None → lines_of_row ss k t l ≡ fed_line false k l ∷ []
-    row-alone none = asked ∙ ap (λ before. lines_if_fed k t l before (way_latency ss here)) none
-
     module _ (before : RowAt) (stands : row_before ss here ≡ Some before) where
-      pub row-unfed : way_latency ss here ≡ None → lines_of_row ss k t l ≡ fed_line false k l ∷ []
-      row-unfed none = asked ∙ ap (λ o. lines_if_fed k t l o (way_latency ss here)) stands
-          ∙ ap (λ sum. lines_if_fed k t l (Some before) sum) none
 
       pub row-fed : (sum : ℕ) → way_latency ss here ≡ Some sum
           → false_lines (lines_of_row ss k t l) ≡ false_lines (lines_of_hop k t before.row l sum)

@@ -75,8 +75,7 @@ module _ (ss : List NamedRows) (k : ℕ) (s : NamedRows) (at : slice_get ss k �
         ∙ ap (λ o. option_map_or (lines_of_readers ss k s) o []) row
 
 -- by the tables alone
-pub own_first_at : (ss : List NamedRows) (k : ℕ) (t : Rows) → tables_at ss k ≡ Some t
-    → first_false (own_lines ss k) ≡ option_map (λ fault. fault_at k (Own fault)) (first_false (lines t))
-own_first_at ss k t at =
-    let s = with_tables (slice_get ss k) t at in
-    ap first_false (owns-at ss k (named_rows s.0 t) s.1) ∙ own_first k (lines t)
+pub owns-of : (ss : List NamedRows) (k : ℕ) (t : Rows) → tables_at ss k ≡ Some t
+    → own_lines ss k ≡ map (own_line k) (lines t)
+owns-of ss k t at =
+    let s = with_tables (slice_get ss k) t at in owns-at ss k (named_rows s.0 t) s.1

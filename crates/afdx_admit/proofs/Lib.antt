@@ -16,4 +16,5 @@ pub mod ReadersLemmas
 pub mod ScaledLemmas
 pub mod SmallLemmas
 pub mod TakenLemmas
+pub mod WalkLemmas
 pub mod WayLemmas

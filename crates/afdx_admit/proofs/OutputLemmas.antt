@@ -1,9 +1,8 @@
--- The first false line of an output port.
+-- Where a low flow stands at an output port, the high ones leave some of its line.
 use Rattle.std.proofs.Common.{length, ◌≡◌, ℕ, ◌+◌, ◌-◌, ◌*◌, ◌<◌, ◌≤◌, ◌⊎◌, inl, inr, Bool, true}
-use Rattle.std.proofs.Common.{false, nat_le, List, [], ◌∷◌, ◌++◌, map, cond, Option, Some}
-use Rattle.std.proofs.Common.{None, if◌then◌else◌, refl, ap, ◌∙◌, arith}
+use Rattle.std.proofs.Common.{false, List, [], ◌∷◌, map, cond}
+use Rattle.std.proofs.Common.{refl, ap, arith}
 use Rattle.std.specs.List.{AllByRecursion, Contains}
-use Rattle.std.specs.Option.{option_map}
 use Rattle.std.proofs.Math.Nat.{mul-le-mul_left}
 use Rattle.std.proofs.lemmas.List.Sums.{sum_by-cons}
 use Rattle.afdx_frame.specs.declared.link.Priority.{Priority}
@@ -11,98 +10,10 @@ use Rattle.afdx_frame.specs.declared.link.Priority.TheVariants.{High, Low}
 use Rattle.afdx_frame.specs.Regulation.{byte_units, fill_rate}
 use Rattle.afdx_config.specs.Rows.{LinkRow, is_to}
 use Rattle.afdx_config.specs.Lawful.{IsLinkUpTo}
-use Rattle.afdx_frame.specs.Flows.{Flow, is_class, of_class, burst, load, high_wait, low_wait, high_load}
+use Rattle.afdx_frame.specs.Flows.{Flow, is_class, of_class, load}
 use Rattle.afdx_config.specs.Flows.{flow_of_link}
 use Rattle.afdx_config.specs.Admission.{flows_to, links_to}
-use Rattle.afdx_admit.specs.declared.fault.AdmitFault.{AdmitFault}
-use Rattle.afdx_admit.specs.declared.fault.AdmitFault.TheVariants.{Overload, Buffer, HighLatency, LowLatency}
-use Rattle.afdx_admit.specs.Lines.{Line, line, first_false, LoadedOutput, output_lines, high_line}
-use Rattle.afdx_admit.specs.Lines.{low_line, buffer_need_of, high_bound_of, told_low_bound_of}
-use Rattle.afdx_admit.specs.Late.{first_late, class_line}
-use Rattle.afdx_frame.proofs.FirstFalseLemmas.{first_false-skip, first_false-stop, first_false-append}
-use Rattle.afdx_frame.proofs.FirstFalseLemmas.{first_false-before, le-true, le-false}
 use Rattle.afdx_admit.proofs.SmallLemmas.{rate_some}
-
--- the lines of flows that may be late
-module _ (wait left : ℕ) (fault : ℕ → AdmitFault) where
-  late_by : (b : Bool) (v : ℕ) (rest : Option ℕ) (lines : Option AdmitFault) → lines ≡ option_map fault rest →
-      (if b then lines else Some (fault v)) ≡ option_map fault (if b then rest else Some v)
-  late_by true v rest lines h = h
-  late_by false v rest lines h = refl
-
-  late_lines : (fs : List Flow) → first_false
-      (map (class_line wait left fault) fs) ≡ option_map fault (first_late wait left fs)
-  unfolding first_false first_late
-  late_lines [] = refl
-  late_lines (f ∷ fs) = late_by (nat_le wait (f.latency * left)) f.vl (first_late wait left fs)
-      (first_false (map (class_line wait left fault) fs)) (late_lines fs)
-
-module _ (buffer port : ℕ) (o : LoadedOutput) where
-  abbrev high_fault : ℕ → AdmitFault
-  high_fault v = HighLatency port (record { 0 = v }) (high_bound_of o)
-
-  abbrev left : ℕ
-  left = byte_units - high_load o.byte_ns o.flows
-
-  abbrev low_fault : ℕ → AdmitFault
-  low_fault v = LowLatency port (record { 0 = v }) (told_low_bound_of o)
-
-  abbrev late_high : Option ℕ
-  late_high = first_late (high_wait o.byte_ns o.flows) byte_units (of_class High o.flows)
-
-  abbrev late_low : Option ℕ
-  late_low = first_late (low_wait o.byte_ns o.flows) left (of_class Low o.flows)
-
-  abbrev highs : List Line
-  highs = map (high_line port o) (of_class High o.flows)
-
-  abbrev lows : List Line
-  lows = map (low_line port o) (of_class Low o.flows)
-
-  abbrev load_line : Line
-  load_line = line (nat_le (load o.byte_ns o.flows) byte_units) (Overload port)
-
-  abbrev buffer_line : Line
-  buffer_line = line (nat_le (burst o.flows) (buffer * byte_units)) (Buffer port (buffer_need_of o))
-
-  pub highs_first : first_false highs ≡ option_map high_fault late_high
-  highs_first = late_lines (high_wait o.byte_ns o.flows) byte_units high_fault (of_class High o.flows)
-
-  pub lows_first : first_false lows ≡ option_map low_fault late_low
-  lows_first = late_lines (low_wait o.byte_ns o.flows) left low_fault (of_class Low o.flows)
-
-  pub overload : byte_units < load o.byte_ns o.flows → first_false (output_lines buffer port o) ≡ Some (Overload port)
-  unfolding output_lines
-  overload over = first_false-stop load_line (buffer_line ∷ (highs ++ lows))
-      (le-false (load o.byte_ns o.flows) byte_units over)
-
-  module _ (fits : load o.byte_ns o.flows ≤ byte_units) where
-    after_load : first_false (output_lines buffer port o) ≡ first_false (buffer_line ∷ (highs ++ lows))
-    unfolding output_lines
-    after_load = first_false-skip load_line (buffer_line ∷ (highs ++ lows))
-        (le-true (load o.byte_ns o.flows) byte_units fits)
-
-    pub short_buffer : buffer * byte_units < burst o.flows
-        → first_false (output_lines buffer port o) ≡ Some (Buffer port (buffer_need_of o))
-    short_buffer over = after_load
-        ∙ first_false-stop buffer_line (highs ++ lows)
-        (le-false (burst o.flows) (buffer * byte_units) over)
-
-    module _ (room : burst o.flows ≤ buffer * byte_units) where
-      pub after_buffer : first_false (output_lines buffer port o) ≡ first_false (highs ++ lows)
-      after_buffer = after_load
-          ∙ first_false-skip buffer_line (highs ++ lows)
-          (le-true (burst o.flows) (buffer * byte_units) room)
-
-      pub high_late : (v : ℕ) → late_high ≡ Some v → first_false (output_lines buffer port o) ≡ Some (high_fault v)
-      high_late v late = after_buffer
-          ∙ first_false-before highs lows (high_fault v) (highs_first ∙ ap (option_map high_fault) late)
-
-      pub highs_soon : late_high ≡ None → first_false (output_lines buffer port o) ≡ option_map low_fault late_low
-      highs_soon soon = after_buffer
-          ∙ first_false-append highs lows (highs_first ∙ ap (option_map high_fault) soon) ∙ lows_first
-
--- ---- where a low flow stands, the high ones leave some of the line
 
 one_at_least : (a b : ℕ) → 1 ≤ a → 1 ≤ b → 1 ≤ a * b
 one_at_least a b h g =

@@ -6,6 +6,7 @@ use Rattle.std.proofs.lemmas.List.Quantifiers.{position-Some}
 use Rattle.afdx_config.specs.Rows.{SystemRow, Rows}
 use Rattle.afdx_config.specs.Reading.{system_at_port}
 use Rattle.afdx_admit.specs.Bounds.{IsBounds}
+use Rattle.afdx_admit.specs.Lines.{output_lines, port_lines}
 use Rattle.afdx_admit.specs.Lines.{loaded_output_at, loaded_output_to, high_bound_of, low_bound_of, buffer_need_of}
 use Rattle.afdx_admit.specs.declared.bounds.PortBounds.{PortBounds}
 
@@ -22,6 +23,18 @@ pub loaded_output_at-none : (t : Rows) (port : ℕ) → system_at_port t.systems
 unfolding loaded_output_at
 loaded_output_at-none t port none =
     ap (λ o. option_and_then (λ p. option_map (loaded_output_to t p) (slice_get t.systems p)) o) none
+
+pub port_lines-some : (t : Rows) (port place : ℕ) (s : SystemRow) →
+    system_at_port t.systems port ≡ Some place → slice_get t.systems place ≡ Some s →
+    port_lines t port ≡ output_lines t.buffer port (loaded_output_to t place s)
+unfolding port_lines
+port_lines-some t port place s found at =
+    ap (λ o. option_map_or (output_lines t.buffer port) o []) (loaded_output_at-some t port place s found at)
+
+pub port_lines-none : (t : Rows) (port : ℕ) → system_at_port t.systems port ≡ None → port_lines t port ≡ []
+unfolding port_lines
+port_lines-none t port none =
+    ap (λ o. option_map_or (output_lines t.buffer port) o []) (loaded_output_at-none t port none)
 
 pub found_within : (t : Rows) (port place : ℕ) → system_at_port t.systems port ≡ Some place → place < length t.systems
 unfolding system_at_port

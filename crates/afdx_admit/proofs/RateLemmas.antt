@@ -1,29 +1,18 @@
 -- What is told of an output port by the sums of its links, whose rates are per nanosecond.
-use Rattle.std.proofs.Common.{◌≡◌, ℕ, ◌-◌, ◌*◌, ◌<◌, ◌≤◌, nat_le, nat_lt, map, Some, None}
-use Rattle.std.proofs.Common.{if◌then◌else◌, sym, ap, ◌∙◌, arith}
+use Rattle.std.proofs.Common.{◌≡◌, ℕ, ◌-◌, ◌*◌, nat_le, nat_lt, map, Some, None}
+use Rattle.std.proofs.Common.{if◌then◌else◌, sym, ap, ◌∙◌}
 use Rattle.std.specs.Int.{div_ceil}
-use Rattle.std.proofs.Math.Nat.{mul-le-mul_right, mul-lt-mul_of_pos_right}
 use Rattle.afdx_frame.specs.declared.link.Priority.TheVariants.{High, Low}
 use Rattle.afdx_frame.specs.Regulation.{byte_units}
 use Rattle.afdx_frame.specs.Flows.{of_class, load, high_wait, low_wait, high_load}
 use Rattle.afdx_admit.specs.declared.fault.AdmitFault.{AdmitFault}
 use Rattle.afdx_admit.specs.declared.sums.Sums.{Sums}
 use Rattle.afdx_admit.specs.Lines.{LoadedOutput, high_bound_of, low_bound_of}
-use Rattle.afdx_admit.specs.Late.{first_late, class_line}
+use Rattle.afdx_admit.specs.Late.{class_line}
 use Rattle.afdx_admit.specs.Sums.{IsSums}
-use Rattle.afdx_admit.proofs.ScaledLemmas.{scaled-le, scaled-lt, scaled-sub, scaled-ceil, scaled-late, scaled-lines}
+use Rattle.afdx_admit.proofs.ScaledLemmas.{scaled-le, scaled-lt, scaled-sub, scaled-ceil, scaled-lines}
 
 module _ (o : LoadedOutput) (r : Sums) (s : IsSums o r) where
-  pub overloaded : r.line < r.rate → byte_units < load o.byte_ns o.flows
-  overloaded over =
-      let more : r.line * o.byte_ns < r.rate * o.byte_ns = mul-lt-mul_of_pos_right over s.some in
-      omega (arith, more, s.line, s.rate)
-
-  pub carried : r.rate ≤ r.line → load o.byte_ns o.flows ≤ byte_units
-  carried fits =
-      let most : r.rate * o.byte_ns ≤ r.line * o.byte_ns = mul-le-mul_right o.byte_ns fits in
-      omega (arith, most, s.line, s.rate)
-
   pub carries : nat_le r.rate r.line ≡ nat_le (load o.byte_ns o.flows) byte_units
   carries = sym (scaled-le o.byte_ns s.some r.rate r.line) ∙ ap (λ n. nat_le n (r.line * o.byte_ns)) s.rate
       ∙ ap (λ n. nat_le (load o.byte_ns o.flows) n) s.line
@@ -34,13 +23,6 @@ module _ (o : LoadedOutput) (r : Sums) (s : IsSums o r) where
       ∙ ap (λ n. byte_units - n) s.high_rate
 
   module _ (wait : ℕ) (is : wait * o.byte_ns ≡ high_wait o.byte_ns o.flows) where
-    pub high-late : first_late (high_wait o.byte_ns o.flows) byte_units (of_class High o.flows)
-        ≡ first_late wait r.line (of_class High o.flows)
-    high-late =
-        ap (λ w. first_late w byte_units (of_class High o.flows)) (sym is)
-        ∙ ap (λ n. first_late (wait * o.byte_ns) n (of_class High o.flows)) (sym s.line)
-        ∙ scaled-late o.byte_ns s.some wait r.line (of_class High o.flows)
-
     pub high-lines : (fault : ℕ → AdmitFault)
         → map (class_line wait r.line fault) (of_class High o.flows)
         ≡ map (class_line (high_wait o.byte_ns o.flows) byte_units fault) (of_class High o.flows)
@@ -57,14 +39,6 @@ module _ (o : LoadedOutput) (r : Sums) (s : IsSums o r) where
         ∙ ap (λ n. div_ceil (high_wait o.byte_ns o.flows) n) s.line
 
   module _ (wait : ℕ) (is : wait * o.byte_ns ≡ low_wait o.byte_ns o.flows) where
-    pub low-late : first_late (low_wait o.byte_ns o.flows) (byte_units - high_load o.byte_ns o.flows)
-        (of_class Low o.flows)
-        ≡ first_late wait (r.line - r.high_rate) (of_class Low o.flows)
-    low-late =
-        ap (λ w. first_late w (byte_units - high_load o.byte_ns o.flows) (of_class Low o.flows)) (sym is)
-        ∙ ap (λ n. first_late (wait * o.byte_ns) n (of_class Low o.flows)) (sym left-is)
-        ∙ scaled-late o.byte_ns s.some wait (r.line - r.high_rate) (of_class Low o.flows)
-
     pub low-lines : (fault : ℕ → AdmitFault)
         → map (class_line wait (r.line - r.high_rate) fault) (of_class Low o.flows)
         ≡ map (class_line (low_wait o.byte_ns o.flows) (byte_units - high_load o.byte_ns o.flows) fault)

@@ -8,8 +8,7 @@ use Rattle.std.proofs.lemmas.Option.{slice_get-map, slice_get-get_or}
 use Rattle.afdx_config.specs.declared.rows.SystemId.{SystemId}
 use Rattle.afdx_config.specs.Rows.{LinkRow, system_places}
 use Rattle.afdx_config.specs.Switches.{NamedRows}
-use Rattle.afdx_frame.specs.Lines.{Line, first_false, false_lines}
-use Rattle.afdx_frame.proofs.FirstFalseLemmas.{first_false-skip, first_false-stop}
+use Rattle.afdx_frame.specs.Lines.{Line, false_lines}
 use Rattle.afdx_frame.proofs.FalseLinesLemmas.{false_lines-holds, false_lines-fails}
 use Rattle.afdx_admit.specs.declared.cascade_fault.CascadeFault.{CascadeFault}
 use Rattle.afdx_admit.specs.Cascade.{reads, read_line}
@@ -24,7 +23,8 @@ place-at items ids i d same within =
     (slice_get-map (λ (id : SystemId). id.0) items i
     ∙ ap (option_map (λ (id : SystemId). id.0)) (slice_get-get_or items i d within))
 
-pub no-place-past : (items ids : List SystemId) (i : ℕ) → items ≡ ids → length items ≤ i → drop i (system_places ids) ≡ []
+pub no-place-past : (items ids : List SystemId) (i : ℕ) → items ≡ ids → length items ≤ i → drop i (system_places ids)
+    ≡ []
 no-place-past items ids i same past =
     drop_of_length-le (system_places ids)
     (omega (arith, past, ap (length {A = SystemId}) same, length-map ids (λ (id : SystemId). id.0)))
@@ -37,30 +37,11 @@ module _ (ss : List NamedRows) (k : ℕ) (s : NamedRows) (l : LinkRow) where
   abbrev fault_of : ℕ → CascadeFault
   fault_of place = (read_line ss k s l place).fault
 
-  read-first : (place : ℕ) (rest : List ℕ) (b : Bool) → b && not (reads ss s l place) ≡ false
-      → first_false (map (read_line ss k s l) (cond b (place ∷ filter (λ place. nat_le s.rows.own place) rest)
-      (filter (λ place. nat_le s.rows.own place) rest))) ≡ first_false (lines_to rest)
-  read-first place rest true h = first_false-skip (read_line ss k s l place) (lines_to rest) (double (reads ss s l place) h)
-    where
-      double : (b : Bool) → not b ≡ false → b ≡ true
-      double true h = refl
-      double false h = absurd cc
-  read-first place rest false h = refl
-
-  unread-first : (place : ℕ) (rest : List ℕ) (b : Bool) → b && not (reads ss s l place) ≡ true
-      → first_false (map (read_line ss k s l) (cond b (place ∷ filter (λ place. nat_le s.rows.own place) rest)
-      (filter (λ place. nat_le s.rows.own place) rest))) ≡ Some (fault_of place)
-  unread-first place rest true h = first_false-stop (read_line ss k s l place) (lines_to rest) (single (reads ss s l place) h)
-    where
-      single : (b : Bool) → not b ≡ true → b ≡ false
-      single true h = absurd cc
-      single false h = refl
-  unread-first place rest false h = absurd cc
-
   read-false : (place : ℕ) (rest : List ℕ) (b : Bool) → b && not (reads ss s l place) ≡ false
       → false_lines (map (read_line ss k s l) (cond b (place ∷ filter (λ place. nat_le s.rows.own place) rest)
       (filter (λ place. nat_le s.rows.own place) rest))) ≡ false_lines (lines_to rest)
-  read-false place rest true h = false_lines-holds (read_line ss k s l place) (lines_to rest) (double (reads ss s l place) h)
+  read-false place rest true h = false_lines-holds (read_line ss k s l place) (lines_to rest)
+      (double (reads ss s l place) h)
     where
       double : (b : Bool) → not b ≡ false → b ≡ true
       double true h = refl
@@ -70,7 +51,8 @@ module _ (ss : List NamedRows) (k : ℕ) (s : NamedRows) (l : LinkRow) where
   unread-false : (place : ℕ) (rest : List ℕ) (b : Bool) → b && not (reads ss s l place) ≡ true
       → false_lines (map (read_line ss k s l) (cond b (place ∷ filter (λ place. nat_le s.rows.own place) rest)
       (filter (λ place. nat_le s.rows.own place) rest))) ≡ fault_of place ∷ false_lines (lines_to rest)
-  unread-false place rest true h = false_lines-fails (read_line ss k s l place) (lines_to rest) (single (reads ss s l place) h)
+  unread-false place rest true h = false_lines-fails (read_line ss k s l place) (lines_to rest)
+      (single (reads ss s l place) h)
     where
       single : (b : Bool) → not b ≡ true → b ≡ false
       single true h = absurd cc
@@ -79,15 +61,6 @@ module _ (ss : List NamedRows) (k : ℕ) (s : NamedRows) (l : LinkRow) where
 
   -- the places from one on are still to be looked at
   module _ (places : List ℕ) (i place : ℕ) (at : slice_get places i ≡ Some place) where
-    pub first-read : is_unread ss s l place ≡ false
-        → first_false (lines_to (drop i places)) ≡ first_false (lines_to (drop (i + 1) places))
-    first-read read = ap (λ ps. first_false (lines_to ps)) (drop_next places i place at)
-        ∙ read-first place (drop (i + 1) places) (nat_le s.rows.own place) read
-
-    pub first-unread : is_unread ss s l place ≡ true → first_false (lines_to (drop i places)) ≡ Some (fault_of place)
-    first-unread unread = ap (λ ps. first_false (lines_to ps)) (drop_next places i place at)
-        ∙ unread-first place (drop (i + 1) places) (nat_le s.rows.own place) unread
-
     pub false-read : is_unread ss s l place ≡ false
         → false_lines (lines_to (drop i places)) ≡ false_lines (lines_to (drop (i + 1) places))
     false-read read = ap (λ ps. false_lines (lines_to ps)) (drop_next places i place at)

@@ -1,6 +1,6 @@
 -- What is compared and divided is the same if both sides are taken times the time of a byte.
 use Rattle.std.proofs.Common.{◌≡◌, ℕ, zero, suc, ◌+◌, ◌-◌, ◌*◌, ◌/◌, ◌%◌, ◌≤◌, min}
-use Rattle.std.proofs.Common.{nat_le, nat_lt, List, [], ◌∷◌, map, Some, if◌then◌else◌, inl, inr}
+use Rattle.std.proofs.Common.{nat_le, nat_lt, List, [], ◌∷◌, map, inl, inr}
 use Rattle.std.proofs.Common.{refl, sym, ap, ◌∙◌, arith}
 use Rattle.std.specs.Int.{div_ceil}
 use Rattle.std.proofs.Math.Nat.{mul-div-mul_right, mod-eq-sub-div-mul, mul_assoc, mul-sub, mul_comm}
@@ -9,7 +9,7 @@ use Rattle.std.proofs.lemmas.Bool.{cases_lt, lt-ltb, le-ltb}
 use Rattle.afdx_frame.specs.Flows.{Flow}
 use Rattle.afdx_admit.specs.declared.fault.AdmitFault.{AdmitFault}
 use Rattle.afdx_admit.specs.Lines.{line}
-use Rattle.afdx_admit.specs.Late.{first_late, class_line}
+use Rattle.afdx_admit.specs.Late.{class_line}
 use Rattle.afdx_frame.proofs.FirstFalseLemmas.{le-true, le-false}
 
 module _ (b : ℕ) (some : 1 ≤ b) where
@@ -51,21 +51,9 @@ module _ (b : ℕ) (some : 1 ≤ b) where
     soon : (latency : ℕ) → nat_le (wait * b) (latency * (left * b)) ≡ nat_le wait (latency * left)
     soon latency = ap (λ n. nat_le (wait * b) n) (sym (mul_assoc latency left b)) ∙ scaled-le wait (latency * left)
 
-    pub scaled-late : (fs : List Flow) → first_late (wait * b) (left * b) fs ≡ first_late wait left fs
-    unfolding first_late
-    scaled-late [] = refl
-    scaled-late (f ∷ fs) =
-        ap (λ c. if c then first_late (wait * b) (left * b) fs else Some f.vl) (soon f.latency)
-        ∙ ap (λ rest. if nat_le wait (f.latency * left) then rest else Some f.vl) (scaled-late fs)
-
     pub scaled-lines : (fault : ℕ → AdmitFault) (fs : List Flow)
         → map (class_line (wait * b) (left * b) fault) fs ≡ map (class_line wait left fault) fs
     scaled-lines fault [] = refl
     scaled-lines fault (f ∷ fs) =
         ap (λ c. line c (fault f.vl) ∷ map (class_line (wait * b) (left * b) fault) fs) (soon f.latency)
         ∙ ap (λ rest. class_line wait left fault f ∷ rest) (scaled-lines fault fs)
-
--- a rate whose product with the time of a byte is one over 1 is itself over 0
-pub some-factor : (m b : ℕ) → 1 ≤ m * b → 1 ≤ m
-some-factor zero b h = absurd (omega (arith, h))
-some-factor (suc m) b h = omega arith

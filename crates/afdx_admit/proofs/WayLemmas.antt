@@ -24,7 +24,8 @@ and-then : {A B : Type 0} (f : A → Option B) (o : Option A) (y : B) → option
 and-then f None y h = absurd (cc h)
 and-then f (Some x) y h = (x, refl, h)
 
-mapped : {A B : Type 0} (f : A → B) (o : Option A) (y : B) → option_map f o ≡ Some y → (x : A) × (o ≡ Some x) × (f x ≡ y)
+mapped : {A B : Type 0} (f : A → B) (o : Option A) (y : B) → option_map f o ≡ Some y → (x : A) × (o ≡ Some x)
+    × (f x ≡ y)
 mapped f None y h = absurd (cc h)
 mapped f (Some x) y h = (x, refl, same_Some (f x) y h)
 
@@ -33,7 +34,8 @@ if-some true x y h = same_Some x y h
 if-some false x y h = absurd (cc h)
 
 -- a row that a look-up finds has the identifier
-vl-of : (links : List LinkRow) (vl i : ℕ) (l : LinkRow) → link_of links vl ≡ Some i → slice_get links i ≡ Some l → l.vl ≡ vl
+vl-of : (links : List LinkRow) (vl i : ℕ) (l : LinkRow) → link_of links vl ≡ Some i → slice_get links i ≡ Some l
+    → l.vl ≡ vl
 unfolding link_of
 vl-of links vl i l found at =
     let is = position-Some (λ (r : LinkRow). nat_eq vl r.vl) links i l found in
@@ -89,7 +91,8 @@ module _ (ss : List NamedRows) where
       let here = and-then (λ (s : NamedRows). option_and_then (row_from ss s.name vl) (neighbour_of s.rows r.row.from))
       (slice_get ss r.switch) b h in
       let from = and-then (row_from ss here.0.name vl) (neighbour_of here.0.rows r.row.from) b here.2 in
-      let far = and-then (λ j. option_and_then (λ (s : NamedRows). option_map (row_at j) (row_towards s.rows here.0.name vl))
+      let far =
+          and-then (λ j. option_and_then (λ (s : NamedRows). option_map (row_at j) (row_towards s.rows here.0.name vl))
       (slice_get ss j)) (switch_named ss from.0.name) b from.2 in
       let there = and-then (λ (s : NamedRows). option_map (row_at far.0) (row_towards s.rows here.0.name vl))
       (slice_get ss far.0) b far.2 in
@@ -219,7 +222,8 @@ module _ (ss : List NamedRows) where
     whole (suc n) = λ r seen of passed is left sum. by r seen of passed is left sum (whole n) (enough n r) refl
       where
         by : (r : RowAt) (seen : List ℕ) → IsOf vl r → ArePassed (suc n) seen → enough (suc n) r ≡ true
-            → (left : ℕ) → length seen + left ≡ length ss → IsWhole n → (b : Bool) → enough n r ≡ b → enough left r ≡ true
+            → (left : ℕ) → length seen + left ≡ length ss → IsWhole n → (b : Bool) → enough n r ≡ b
+                → enough left r ≡ true
         by r seen of passed is left sum later true e = later r seen of (fewer n seen passed) e left sum
         by r seen of passed is zero sum later false e =
             let all = pass n seen r passed of is e in

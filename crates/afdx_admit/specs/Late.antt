@@ -1,6 +1,5 @@
 -- The links of a class at a port that may be late.
-use Rattle.std.specs.Prelude.{ℕ, ◌*◌, Bool, ◌&&◌, nat_le, nat_lt, List, [], ◌∷◌, Option, Some, None}
-use Rattle.std.specs.Prelude.{if◌then◌else◌}
+use Rattle.std.specs.Prelude.{ℕ, ◌*◌, Bool, ◌&&◌, nat_le, nat_lt}
 use Rattle.afdx_frame.specs.declared.link.Priority.{Priority}
 use Rattle.afdx_frame.specs.declared.link.Priority.TheVariants.{High, Low}
 use Rattle.afdx_config.specs.Rows.{LinkRow, is_to}
@@ -9,13 +8,8 @@ use Rattle.afdx_admit.specs.declared.fault.AdmitFault.{AdmitFault}
 use Rattle.afdx_admit.specs.declared.fault.AdmitFault.TheVariants.{HighLatency, LowLatency}
 use Rattle.afdx_admit.specs.Lines.{Line, line}
 
--- the identifier of the first flow whose latency times `left` is less than `wait`
-unfoldable pub first_late : ℕ → ℕ → List Flow → Option ℕ
-first_late wait left [] = None
-first_late wait left (f ∷ fs) =
-    if nat_le wait (f.latency * left) then first_late wait left fs else Some f.vl
-
--- the same of a row of the tables, that goes to a system and has a class
+-- a row of the tables goes to a system, has a class, and its latency times `left` is less than
+-- `wait`
 abbrev pub is_late : ℕ → Priority → ℕ → ℕ → LinkRow → Bool
 is_late system class wait left l =
     (is_to system l && is_class class l.priority) && nat_lt (1000 * l.latency_us * left) wait

@@ -1,5 +1,6 @@
 pub mod Lines
 pub mod Sums
+pub mod Walk
 pub mod Late
 pub mod FaultText
 pub mod Known

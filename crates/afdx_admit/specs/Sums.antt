@@ -2,7 +2,7 @@
 -- are per nanosecond, so that no sum is multiplied by the time of a byte: with the greatest jitters
 -- the products would not fit in 64 bits.
 use Rattle.std.specs.Prelude.{◌≡◌, ℕ, ◌+◌, ◌*◌, ◌/◌, ◌≤◌, ◌<◌, max, List, length, slice_index, slice_get}
-use Rattle.std.specs.Prelude.{Option, Some, ◌++◌, if◌then◌else◌}
+use Rattle.std.specs.Prelude.{Some, if◌then◌else◌}
 use Rattle.afdx_frame.specs.declared.link.Priority.TheVariants.{High, Low}
 use Rattle.afdx_frame.specs.Lengths.{greatest_frame}
 use Rattle.afdx_frame.specs.Ports.{last_port}
@@ -11,9 +11,8 @@ use Rattle.afdx_config.specs.Rows.{SystemRow, LinkRow, Rows}
 use Rattle.afdx_config.specs.Lawful.{IsLinkUpTo, jitter_from_any}
 use Rattle.afdx_frame.specs.Flows.{Flow, is_class}
 use Rattle.afdx_frame.specs.Flows as port
-use Rattle.afdx_admit.specs.declared.fault.AdmitFault.{AdmitFault}
 use Rattle.afdx_admit.specs.declared.sums.Sums.{Sums}
-use Rattle.afdx_admit.specs.Lines.{LoadedOutput, loaded_output_to, output_lines, first_false, false_lines}
+use Rattle.afdx_admit.specs.Lines.{LoadedOutput, loaded_output_to}
 use Rattle.afdx_admit.specs.Lines.{jitter_at}
 
 -- the line carries a byte in `byte_ns`
@@ -76,15 +75,3 @@ CanSend l = (systems : ℕ) × IsLinkUpTo jitter_from_any systems l
 pub record AreJitters (t : Rows) (jitters : List ℕ) : Type 0 where
   pub count : length jitters ≡ last_port
   pub each : (place : ℕ) → place < length t.systems → slice_index jitters place ≡ jitter_at t place
-
--- the first false line of the output port to the system at a place, at a port of the switch
-pub record IsFaultAt (t : Rows) (port place : ℕ) (result : Option AdmitFault) : Type 0 where
-  pub row : SystemRow
-  pub stands : slice_get t.systems place ≡ Some row
-  pub first : result ≡ first_false (output_lines t.buffer port (loaded_output_to t place row))
-
--- the faults of all its false lines are added to those of before
-pub record AreFaultsAt (t : Rows) (port place : ℕ) (old new : List AdmitFault) : Type 0 where
-  pub row : SystemRow
-  pub stands : slice_get t.systems place ≡ Some row
-  pub added : new ≡ old ++ false_lines (output_lines t.buffer port (loaded_output_to t place row))

@@ -1,4 +1,4 @@
-//! The lines of admission of a cascade: the first that is false of a row, a switch, and of all.
+//! The lines of admission of a cascade: a walk over those of a row, a switch, and over all.
 
 ghost use Rattle.std.specs.Prelude.{◌≡◌, ◌<◌, length, Some, false};
 ghost use Rattle.afdx_frame.specs.Lines.{first_false, each_from};
@@ -8,44 +8,31 @@ ghost use Rattle.afdx_config.specs.Switches.{AreSwitches, named_rows};
 ghost use Rattle.afdx_admit.specs.Cascade as spec;
 ghost use Rattle.afdx_admit.specs.AtSwitch.{IsRowAt, tables_at, is_unread};
 ghost use Rattle.afdx_admit.specs.Sums.{CanSend};
+ghost use Rattle.afdx_admit.specs.Walk.{Walks};
 
 use crate::cascade_fault::{CascadeFault, SwitchFault};
-use crate::lines::first_fault as first_own_fault;
+use crate::cascade_found::CascadeFound;
+use crate::found::{First, Found, add_if_false};
 use crate::way::{latency_of, row_before, row_of};
 use afdx_config::{Link, SwitchId, Switches, System, SystemId, Tables};
 use afdx_frame::VlId;
 
-/// The first false line of a switch by its own tables.
-fn own_fault(switches: &Switches, switch: SwitchId) -> Option<CascadeFault>
-    requires { switch.0 < length switches.now }
-    ensures { result ≡ first_false (spec.own_lines switches.now switch.0) }
-{
-    match first_own_fault(switches.tables(switch)) {
-        Some(fault) => Some(CascadeFault {
-            switch,
-            fault: SwitchFault::Own(fault),
-        }),
-        None => None,
-    }
-}
-
-/// The first false line of all switches by their own tables.
-fn owns_fault(switches: &Switches) -> Option<CascadeFault>
-    ensures fault { result
-        ≡ first_false (each_from (spec.own_lines switches.now) 0 (length switches.now)) }
+/// Adds the faults of all switches by their own tables.
+fn add_owns<E, C: CascadeFound<E>>(found: &mut C, switches: &Switches) -> Result<(), E>
+    ensures walks { Walks C.Stops (C.items found.old) (C.items found.new)
+        (each_from (spec.own_lines switches.now) 0 (length switches.now)) result }
     ensures switches { AreSwitches switches.now }
 {
     let count = switches.count();
     for k in 0..count {
-        if let Some(fault) = own_fault(switches, SwitchId(k as u8)) {
-            return Some(fault);
-        }
+        let switch = SwitchId(k as u8);
+        found.add_own(switch, switches.tables(switch))?;
     }
-    None
+    Ok(())
 }
 
 /// Whether two rows of a link promise the same of what it may send.
-pub(crate) fn same_contract(before: &Link, link: &Link) -> bool
+fn same_contract(before: &Link, link: &Link) -> bool
     ensures { result ≡ spec.same_contract (link_row before.now) (link_row link.now) }
 {
     before.bag_ms == link.bag_ms
@@ -71,40 +58,43 @@ pub fn goes_to_system(tables: &Tables, link: &Link) -> bool
 
 /// Whether a row's skew allows for a way of so many us, which is asked where the link goes to a
 /// system of the switch.
-pub(crate) fn allows_way(tables: &Tables, link: &Link, sum: u64) -> bool
+fn allows_way(tables: &Tables, link: &Link, sum: u64) -> bool
     ensures { result ≡ spec.allows_way tables.now (link_row link.now) sum }
 {
     !goes_to_system(tables, link) || sum <= link.skew_us
 }
 
-/// The first false line of a row with the one before it and the sum of its way, in us.
-#[tactic(auto, unfolding(afdx_frame::specs::Lines::first_false))]
-fn hop_fault(
+/// Adds the faults of a row with the one before it and the sum of its way, in us.
+fn add_hop<E, C: Found<CascadeFault, E>>(
+    found: &mut C,
     switch: SwitchId,
     tables: &Tables,
     before: &Link,
     link: &Link,
     sum: u64,
-) -> Option<CascadeFault>
+) -> Result<(), E>
     requires { CanSend (link_row before.now) }
-    ensures { result ≡ first_false
-        (spec.lines_of_hop switch.0 tables.now (link_row before.now) (link_row link.now) sum) }
+    ensures { Walks C.Stops (C.items found.old) (C.items found.new)
+        (spec.lines_of_hop switch.0 tables.now (link_row before.now) (link_row link.now) sum)
+        result }
 {
+    let same = same_contract(before, link);
+    let fault = SwitchFault::Contract(link.vl);
+    add_if_false(found, same, CascadeFault { switch, fault })?;
     let needed = late_behind(before);
-    let fault = if !same_contract(before, link) {
-        SwitchFault::Contract(link.vl)
-    } else if link.jitter_us < needed {
-        SwitchFault::HopJitter(link.vl, needed)
-    } else if !allows_way(tables, link, sum) {
-        SwitchFault::PathSkew(link.vl, sum)
-    } else {
-        return None;
-    };
-    Some(CascadeFault { switch, fault })
+    let fault = SwitchFault::HopJitter(link.vl, needed);
+    add_if_false(
+        found,
+        needed <= link.jitter_us,
+        CascadeFault { switch, fault },
+    )?;
+    let allows = allows_way(tables, link, sum);
+    let fault = SwitchFault::PathSkew(link.vl, sum);
+    add_if_false(found, allows, CascadeFault { switch, fault })
 }
 
 /// The fault of a row to which there is no way.
-pub(crate) fn unfed(switch: SwitchId, link: &Link) -> CascadeFault
+fn unfed(switch: SwitchId, link: &Link) -> CascadeFault
     ensures { result ≡ (spec.fed_line false switch.0 (link_row link.now)).fault }
 {
     CascadeFault {
@@ -113,55 +103,60 @@ pub(crate) fn unfed(switch: SwitchId, link: &Link) -> CascadeFault
     }
 }
 
-/// The first false line of a row of a switch by the rows on its way. There is none where a system
-/// sends the link.
-#[tactic(auto, unfolding(afdx_frame::specs::Lines::first_false))]
-fn row_fault(switches: &Switches, switch: SwitchId, link: &Link) -> Option<CascadeFault>
+/// Adds the faults of a row of a switch by the rows on its way. There is none where a system sends
+/// the link.
+fn add_row<E, C: Found<CascadeFault, E>>(
+    found: &mut C,
+    switches: &Switches,
+    switch: SwitchId,
+    link: &Link,
+) -> Result<(), E>
     requires { IsRowAt switches.now (spec.row_at switch.0 (link_row link.now)) }
     ensures { (t : Rows) → tables_at switches.now switch.0 ≡ Some t →
-        result ≡ first_false (spec.lines_of_row switches.now switch.0 t (link_row link.now)) }
+        Walks C.Stops (C.items found.old) (C.items found.new)
+        (spec.lines_of_row switches.now switch.0 t (link_row link.now)) result }
 {
     let tables = switches.tables(switch);
     if tables.is_own(link.from) {
-        return None;
+        return Ok(());
     }
     let Some((_, before)) = row_before(switches, switch, link) else {
-        return Some(unfed(switch, link));
+        return add_if_false(found, false, unfed(switch, link));
     };
     let Some(sum) = latency_of(switches, switch, link) else {
-        return Some(unfed(switch, link));
+        return add_if_false(found, false, unfed(switch, link));
     };
-    hop_fault(switch, tables, before, link, sum)
+    add_hop(found, switch, tables, before, link, sum)
 }
 
-/// The first false line of the rows of a switch that come from neighbours.
-fn hops_fault_at(switches: &Switches, switch: SwitchId) -> Option<CascadeFault>
+/// Adds the faults of the rows of a switch that come from neighbours.
+fn add_hops_at<E, C: Found<CascadeFault, E>>(
+    found: &mut C,
+    switches: &Switches,
+    switch: SwitchId,
+) -> Result<(), E>
     requires { switch.0 < length switches.now }
-    ensures { result ≡ first_false (spec.hops_lines switches.now switch.0) }
+    ensures { Walks C.Stops (C.items found.old) (C.items found.new)
+        (spec.hops_lines switches.now switch.0) result }
 {
     let tables = switches.tables(switch);
     let count = tables.link_count();
     for i in 0..count {
-        let link = tables.link(i);
-        if let Some(fault) = row_fault(switches, switch, link) {
-            return Some(fault);
-        }
+        add_row(found, switches, switch, tables.link(i))?;
     }
-    None
+    Ok(())
 }
 
-/// The first false line of all rows that come from neighbours.
-fn hops_fault(switches: &Switches) -> Option<CascadeFault>
-    ensures { result
-        ≡ first_false (each_from (spec.hops_lines switches.now) 0 (length switches.now)) }
+/// Adds the faults of all rows that come from neighbours.
+fn add_hops<E, C: Found<CascadeFault, E>>(found: &mut C, switches: &Switches) -> Result<(), E>
+    ensures { Walks C.Stops (C.items found.old) (C.items found.new)
+        (each_from (spec.hops_lines switches.now) 0 (length switches.now)) result }
 {
     let count = switches.count();
     for k in 0..count {
-        if let Some(fault) = hops_fault_at(switches, SwitchId(k as u8)) {
-            return Some(fault);
-        }
+        add_hops_at(found, switches, SwitchId(k as u8))?;
     }
-    None
+    Ok(())
 }
 
 /// Whether a place is that of the neighbour of this name.
@@ -196,7 +191,7 @@ fn reads(switches: &Switches, name: &str, vl: VlId, neighbour: &System) -> bool
 
 /// Whether what stands at a place of the switch called `name`, to which the link goes, is a
 /// neighbour that doesn't read it.
-pub(crate) fn is_unread(
+fn is_unread(
     switches: &Switches,
     name: &str,
     tables: &Tables,
@@ -210,72 +205,83 @@ pub(crate) fn is_unread(
     !tables.is_own(place) && !reads(switches, name, link.vl, tables.system(place))
 }
 
-/// The first false line of the neighbours to which a row of a switch goes. The switch has this
-/// name and these tables.
-fn readers_fault_of(
+/// Adds the faults of the neighbours to which a row of a switch goes. The switch has this name and
+/// these tables.
+fn add_readers_of<E, C: Found<CascadeFault, E>>(
+    found: &mut C,
     switches: &Switches,
     switch: SwitchId,
     name: &str,
     tables: &Tables,
     link: &Link,
-) -> Option<CascadeFault>
+) -> Result<(), E>
     requires { IsLinkUpTo jitter_from_any (length tables.now.systems) (link_row link.now) }
-    ensures { result ≡ first_false (spec.lines_of_readers switches.now switch.0
-        (named_rows name.now tables.now) (link_row link.now)) }
+    ensures { Walks C.Stops (C.items found.old) (C.items found.new)
+        (spec.lines_of_readers switches.now switch.0 (named_rows name.now tables.now)
+        (link_row link.now)) result }
 {
     for place in &link.to {
         if is_unread(switches, name, tables, link, *place) {
-            return Some(CascadeFault {
-                switch,
-                fault: SwitchFault::Unread(link.vl, *place),
-            });
+            let fault = SwitchFault::Unread(link.vl, *place);
+            found.add(CascadeFault { switch, fault })?;
         }
     }
-    None
+    Ok(())
 }
 
-/// The first false line of the neighbours to which the rows of a switch go.
-fn readers_fault_at(switches: &Switches, switch: SwitchId) -> Option<CascadeFault>
+/// Adds the faults of the neighbours to which the rows of a switch go.
+fn add_readers_at<E, C: Found<CascadeFault, E>>(
+    found: &mut C,
+    switches: &Switches,
+    switch: SwitchId,
+) -> Result<(), E>
     requires { switch.0 < length switches.now }
-    ensures { result ≡ first_false (spec.readers_lines switches.now switch.0) }
+    ensures { Walks C.Stops (C.items found.old) (C.items found.new)
+        (spec.readers_lines switches.now switch.0) result }
 {
     let name = switches.name(switch);
     let tables = switches.tables(switch);
     let count = tables.link_count();
     for i in 0..count {
-        let link = tables.link(i);
-        if let Some(fault) = readers_fault_of(switches, switch, name, tables, link) {
-            return Some(fault);
-        }
+        add_readers_of(found, switches, switch, name, tables, tables.link(i))?;
     }
-    None
+    Ok(())
 }
 
-/// The first false line of the neighbours to which rows go.
-fn readers_fault(switches: &Switches) -> Option<CascadeFault>
-    ensures { result
-        ≡ first_false (each_from (spec.readers_lines switches.now) 0 (length switches.now)) }
+/// Adds the faults of the neighbours to which rows go.
+fn add_readers<E, C: Found<CascadeFault, E>>(found: &mut C, switches: &Switches) -> Result<(), E>
+    ensures { Walks C.Stops (C.items found.old) (C.items found.new)
+        (each_from (spec.readers_lines switches.now) 0 (length switches.now)) result }
 {
     let count = switches.count();
     for k in 0..count {
-        if let Some(fault) = readers_fault_at(switches, SwitchId(k as u8)) {
-            return Some(fault);
-        }
+        add_readers_at(found, switches, SwitchId(k as u8))?;
     }
-    None
+    Ok(())
 }
 
-/// The first false line of all: of the switches by their own tables, of the rows that come from
+/// Adds the faults of all lines: of the switches by their own tables, of the rows that come from
 /// neighbours, of those that go to neighbours, each in file order.
+pub(crate) fn add_cascade_lines<E, C: CascadeFound<E>>(
+    found: &mut C,
+    switches: &Switches,
+) -> Result<(), E>
+    ensures walks { Walks C.Stops (C.items found.old) (C.items found.new)
+        (spec.cascade_lines switches.now) result }
+    ensures switches { AreSwitches switches.now }
+{
+    add_owns(found, switches)?;
+    add_hops(found, switches)?;
+    add_readers(found, switches)
+}
+
+/// The first false line of all.
 pub(crate) fn first_fault(switches: &Switches) -> Option<CascadeFault>
     ensures fault { result ≡ first_false (spec.cascade_lines switches.now) }
     ensures switches { AreSwitches switches.now }
 {
-    if let Some(fault) = owns_fault(switches) {
-        return Some(fault);
+    match add_cascade_lines(&mut First, switches) {
+        Ok(()) => None,
+        Err(fault) => Some(fault),
     }
-    if let Some(fault) = hops_fault(switches) {
-        return Some(fault);
-    }
-    readers_fault(switches)
 }

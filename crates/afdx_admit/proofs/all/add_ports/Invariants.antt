@@ -1,6 +1,0 @@
-use Rattle.std.proofs.Common.{◌≡◌, ◌++◌}
-use Rattle.afdx_admit.specs.Lines.{false_lines, each_from, port_lines}
-use Rattle.afdx_admit.proofs.all.add_ports.Given as goal
-
-abbrev pub invariant-loop-place : goal.invariant-loop-place
-invariant-loop-place l = l.found.items ≡ l.fn.found.items ++ false_lines (each_from (port_lines l.tables) 1 l.place)

@@ -1,8 +1,0 @@
-use Rattle.std.proofs.Common.{◌≡◌, ◌++◌}
-use Rattle.afdx_frame.specs.Lines.{false_lines, each_from}
-use Rattle.afdx_admit.specs.Cascade.{reader_lines}
-use Rattle.afdx_admit.proofs.all_cascade.add_readers_at.Given as goal
-
-abbrev pub invariant-loop-i : goal.invariant-loop-i
-invariant-loop-i l =
-    l.found.items ≡ l.fn.found.items ++ false_lines (each_from (reader_lines l.switches l.switch.0) 0 l.i)
