@@ -1,1 +1,0 @@
--- Lists that agree at each place.
