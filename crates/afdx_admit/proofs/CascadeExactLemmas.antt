@@ -59,7 +59,7 @@ module _ (ss : List NamedRows) (k : ℕ) (t : Rows) (l : LinkRow) where
   is-hop (Some before) (Some sum) stands way h =
       let rest = cons_holds (fed_line true k l) (lines_of_hop k t before.row l sum) h in
       let first = cons_holds (contract_line before sum) (jitter_line before sum ∷ skew_line before sum ∷ []) rest.rest
-          in
+      in
       let second = cons_holds (jitter_line before sum) (skew_line before sum ∷ []) first.rest in
       let third = cons_holds (skew_line before sum) [] second.rest in
       record {
@@ -79,7 +79,7 @@ module _ (ss : List NamedRows) (k : ℕ) (t : Rows) (l : LinkRow) where
       let after : nat_lt l.from t.own ≡ false = grind (arith, nat_tests) in
       is-hop (row_before ss here) (way_latency ss here) refl refl
       (sym (ap (λ b. first_false (if b then [] else lines_if_fed k t l (row_before ss here) (way_latency ss here)))
-          after)
+      after)
       ∙ h)
 
   pub from-hop : (t.own ≤ l.from → IsHop ss t here) → first_false (lines_of_row ss k t l) ≡ None
@@ -96,7 +96,7 @@ module _ (ss : List NamedRows) (k : ℕ) (t : Rows) (l : LinkRow) where
         ∙ ap (λ sum. first_false (lines_if_fed k t l (Some h.before) sum)) h.way
         ∙ holds_cons (fed_line true k l) (lines_of_hop k t h.before.row l h.sum) refl
         (holds_cons (contract_line h.before h.sum) (jitter_line h.before h.sum ∷ skew_line h.before h.sum ∷ [])
-            h.contract
+        h.contract
         (holds_cons (jitter_line h.before h.sum) (skew_line h.before h.sum ∷ [])
         (le-true (late_behind h.before.row) l.jitter_us h.jitter)
         (holds_cons (skew_line h.before h.sum) [] (allowed t l h.sum h.skew) first_false-nil)))
@@ -168,7 +168,7 @@ module _ (ss : List NamedRows) (are : AreSwitches ss) where
         → (i : ℕ) (l : LinkRow) → slice_get s.rows.links i ≡ Some l → first_false (g i) ≡ None
     at-row g same i l row = let within = slice_get_within s.rows.links i l row in
         each_holds g 0 (length s.rows.links) (sym (ap first_false same) ∙ at-switch) i (omega arith)
-            (omega (arith, within))
+        (omega (arith, within))
 
   pub admitted-from : first_false (cascade_lines ss) ≡ None → IsCascadeAdmitted ss
   unfolding cascade_lines
@@ -210,7 +210,7 @@ module _ (ss : List NamedRows) (are : AreSwitches ss) where
       (all-switches (own_lines ss) (λ k s at.
       ap first_false (owns-at ss k s at) ∙ own_first k (lines s.rows)
       ∙ ap (option_map (λ fault. fault_at k (Own fault))) (from_admitted s.rows (lawful k s at)
-          (admitted.each k s at))))
+      (admitted.each k s at))))
       (holds_append hops readers
       (all-switches (hops_lines ss) (λ k s at.
       ap first_false (hops-at ss k s at)

@@ -42,7 +42,6 @@ module _ (ss : List NamedRows) (k : ℕ) (t : Rows) (l : LinkRow) where
     asked = ap (λ b. if b then [] else lines_if_fed k t l (row_before ss here) (way_latency ss here)) past
 
     module _ (before : RowAt) (stands : row_before ss here ≡ Some before) where
-
       pub row-fed : (sum : ℕ) → way_latency ss here ≡ Some sum
           → false_lines (lines_of_row ss k t l) ≡ false_lines (lines_of_hop k t before.row l sum)
       row-fed sum way =

@@ -246,7 +246,7 @@ module _ (t : Rows) (lawful : IsLawfulSwitch t) where
       (holds_each (link_lines t) 0 (length t.links) (λ k low high.
       let l = slice_get-within t.links k (omega (arith, high)) in
       let row = AllByRecursion-slice_get (IsLinkUpTo jitter_from_any (length t.systems)) t.links k l.0
-          lawful.links.each l.1 in
+      lawful.links.each l.1 in
       let s = slice_get-within t.systems l.0.from row.from in
       holds_link k l.0 l.1 (λ below. subst (λ n. n ≤ 1000 * l.0.jitter_us) (sym (jitter_is l.0.from s.0 s.1))
       (admitted.jitters k l.0 s.0 l.1 s.1 below))

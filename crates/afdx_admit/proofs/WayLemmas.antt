@@ -92,7 +92,7 @@ module _ (ss : List NamedRows) where
       (slice_get ss r.switch) b h in
       let from = and-then (row_from ss here.0.name vl) (neighbour_of here.0.rows r.row.from) b here.2 in
       let far =
-          and-then (λ j. option_and_then (λ (s : NamedRows). option_map (row_at j) (row_towards s.rows here.0.name vl))
+      and-then (λ j. option_and_then (λ (s : NamedRows). option_map (row_at j) (row_towards s.rows here.0.name vl))
       (slice_get ss j)) (switch_named ss from.0.name) b from.2 in
       let there = and-then (λ (s : NamedRows). option_map (row_at far.0) (row_towards s.rows here.0.name vl))
       (slice_get ss far.0) b far.2 in
@@ -223,7 +223,7 @@ module _ (ss : List NamedRows) where
       where
         by : (r : RowAt) (seen : List ℕ) → IsOf vl r → ArePassed (suc n) seen → enough (suc n) r ≡ true
             → (left : ℕ) → length seen + left ≡ length ss → IsWhole n → (b : Bool) → enough n r ≡ b
-                → enough left r ≡ true
+            → enough left r ≡ true
         by r seen of passed is left sum later true e = later r seen of (fewer n seen passed) e left sum
         by r seen of passed is zero sum later false e =
             let all = pass n seen r passed of is e in

@@ -191,13 +191,7 @@ fn reads(switches: &Switches, name: &str, vl: VlId, neighbour: &System) -> bool
 
 /// Whether what stands at a place of the switch called `name`, to which the link goes, is a
 /// neighbour that doesn't read it.
-fn is_unread(
-    switches: &Switches,
-    name: &str,
-    tables: &Tables,
-    link: &Link,
-    place: SystemId,
-) -> bool
+fn is_unread(switches: &Switches, name: &str, tables: &Tables, link: &Link, place: SystemId) -> bool
     requires { place.0 < length tables.now.systems }
     ensures { result ≡ is_unread switches.now (named_rows name.now tables.now)
         (link_row link.now) place.0 }

@@ -60,7 +60,7 @@ module _ (switch : List ℕ) (t : Rows) (asked : List (Option ℕ)) where
       → after ≡ old ++ needs_of_first switch t asked port place (i + 1)
   link-next port place i l at old before after e f =
       more old (needs_of_first switch t asked port place i) (need_at switch t port place l (asked_by asked i)) before
-          after e f
+      after e f
       ∙ ap (λ (text : List ℕ). old ++ text) (sym (with_link port place i l at))
 
   pub at_system : (port place : ℕ) → Some place ≡ system_at_port t.systems port →
@@ -75,7 +75,7 @@ module _ (switch : List ℕ) (t : Rows) (asked : List (Option ℕ)) where
   at_no_system port text at =
       sym (append-nil text)
       ∙ ap (λ (o : Option ℕ). text ++ option_map_or (λ p. needs_of_first switch t asked port p (length t.links)) o [])
-          at
+      at
 
   pub at_unused : (port : ℕ) (text : List ℕ) → false ≡ is_some (system_at_port t.systems port) →
       text ≡ text ++ needs_at switch t asked port
@@ -89,7 +89,7 @@ module _ (switch : List ℕ) (t : Rows) (asked : List (Option ℕ)) where
 
   with_port : (count : ℕ) →
       needs_at_first switch t asked (count + 1) ≡ needs_at_first switch t asked count ++ needs_at switch t asked
-          (count + 1)
+      (count + 1)
   unfolding needs_at_first
   with_port count = rw add-one refl
 

@@ -420,7 +420,7 @@ premises-met computed = record {
       (is-fed computed) are ∙ heard-only;
   told_once = told-once computed tables arrivals run 1 0
       receiver link (heard ∷ unheard ∷ []) stream refl refl refl between (is-stream computed 11) (is-fed computed)
-          ∙ heard-only;
+      ∙ heard-only;
 }
   where
     between : IsBetweenSystems tables 1 link

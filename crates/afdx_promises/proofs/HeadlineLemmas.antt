@@ -315,7 +315,7 @@ module _ (t : Rows) (arrivals : List Arrival) (events : List Event) (run : IsAdm
         within = (let late = is.in_time.within in omega (arith, late, time));
         no_sooner = subst (λ (p : Passing). p.time + wire_of (length p.bytes) * byte_ns_at t e.0.port ≤ e.0.turn.end)
             is.accepted.frame (departs-no-sooner t arrivals e.0 run.timed (own_events (Left e.0) among)
-                is.in_time.not_old);
+            is.in_time.not_old);
       })
 
 -- ---- alone

@@ -260,7 +260,7 @@ module _ (computed : BuiltIsComputed) (t : Rows) (arrivals : List Arrival) (syst
   accepted : (side : Side) → accepted_on t l side arrivals ≡ at_own_port t l side arrivals
   accepted side =
       (accepted-stream t is.sender l messages stream is.lawful computed side (own l.vl side arrivals)
-          (sent side)).arrivals
+      (sent side)).arrivals
 
   later-on : (side : Side)
       → AreLater (1000 * l.latency_us) (at_own_port t l side arrivals) (slots_of l.vl (turns_at t side s.port arrivals))

@@ -100,9 +100,9 @@ module _ (t : Rows) (arrivals : List Arrival) (run : IsAdmittedRun t arrivals) w
 pub told-once : BuiltIsComputed → MessagesAreToldOnce
 told-once computed t arrivals run system place s l messages stream stands at goes between is fed =
     let row : IsSystem t.profile s = AllByRecursion-slice_get (IsSystem t.profile) t.systems system s
-        run.lawful.systems.each stands in
+    run.lawful.systems.each stands in
     ap reverse (messages-by-events t system s l.vl run.lawful stands between.to (events_of t arrivals)
-        (slots t arrivals run))
+    (slots t arrivals run))
     ∙ messages-once computed t arrivals system place s l messages stream _ run stands at goes between is fed
     (events-bring t arrivals (events_of t arrivals) s.port run.lawful run.timed row.port.0
     row.port.1 (are-events t arrivals))
@@ -110,9 +110,9 @@ told-once computed t arrivals run system place s l messages stream stands at goe
 pub told-once-so-far : BuiltIsComputed → MessagesAreToldOnceSoFar
 told-once-so-far computed t arrivals run system place s l messages stream stands at goes between is sent =
     let row : IsSystem t.profile s = AllByRecursion-slice_get (IsSystem t.profile) t.systems system s
-        run.lawful.systems.each stands in
+    run.lawful.systems.each stands in
     ap reverse (messages-by-events t system s l.vl run.lawful stands between.to (events_of t arrivals)
-        (slots t arrivals run))
+    (slots t arrivals run))
     ∙ messages-so-far computed t arrivals system place s l messages stream _ run stands at goes between is sent
     (events-bring t arrivals (events_of t arrivals) s.port run.lawful run.timed row.port.0
     row.port.1 (are-events t arrivals))
@@ -144,7 +144,7 @@ module _ (computed : BuiltIsComputed) (t : Rows) (arrivals : List Arrival) (run 
       ∙ from-slots computed t system place l messages stream run.lawful at goes to (brought_by s.port events) xs
       (λ side. taken_at s.port (turns_on side events))
       (brought-in-order s.port events
-          (order-after later events (subst AreInOrder are (are-events t arrivals).in_order)))
+      (order-after later events (subst AreInOrder are (are-events t arrivals).in_order)))
       (λ side. brought-by-side side s.port events
       ∙ ap (λ ts. map (brought side) (slots_in ts)) (sym (taken-in side s.port events)))
       sent brings

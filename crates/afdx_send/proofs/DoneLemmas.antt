@@ -26,7 +26,7 @@ all_released : (w : SenderState) (h : SenderHistory) (st : StandsFor w h) (t : �
     → place < length (own_submissions h.taken i) → has_release (own i st.released) place ≡ true
 all_released w h st t none late i place l row lt =
     let r = slice_get-within w.lines.items i (let k = slice_get_within h.links i l row in let c = st.count in
-        omega arith) in
+    omega arith) in
     let d = slice_get-within (own_submissions h.taken i) place lt in
     by r.0 r.1 d.0 d.1 (has_release (own i st.released) place) refl
   where

@@ -86,7 +86,7 @@ module _ (o : SolveOptions) where
   alike-begun [] = refl
   alike-begun (s ∷ ss) =
       ap (λ ls. named_rows s.name (record s.rows { buffer = 0; links = ls }) ∷ map bare_switch ss)
-          (bare-begun s.rows.links)
+      (bare-begun s.rows.links)
       ∙ ap (λ rest. bare_switch (begun_switch o s) ∷ rest) (alike-begun ss)
 
   begun-link : (ss : List NamedRows) (k i : ℕ) (m : LinkRow) → link_at (map (begun_switch o) ss) k i ≡ Some m
@@ -154,8 +154,12 @@ module _ (o : SolveOptions) where
             let some : 1 ≤ l.latency_us = subst (λ (r : LinkRow). 1 ≤ r.latency_us) same
             (chosen-some o.kept.latency o.raise_only f.latency_us 1 (latency-one k i f row) (omega arith)) in
             record {
-              jitter = omega (arith, ap (λ (r : LinkRow). r.jitter_us) same, jitter-below f
-                  (jitter_needed start t (row_at k l)));
+              jitter = omega (
+                arith,
+                ap (λ (r : LinkRow). r.jitter_us) same,
+                jitter-below f
+                    (jitter_needed start t (row_at k l)),
+              );
               latency = omega (arith, ap (λ (r : LinkRow). r.latency_us) same, latency-below f t l);
               skew = omega (arith, ap (λ (r : LinkRow). r.skew_us) same, skew-below start f t k l some);
             };
@@ -207,12 +211,12 @@ module _ (o : SolveOptions) where
   pub rows-next : (ss : List NamedRows) (k i : ℕ) (times : Times) (l : LinkRow) → link_at ss k i ≡ Some l
       → with_times times l ≡ begun o l
       → changed_switch k (with_link_at i times) (changed_switch k (first_rows i) ss) ≡ changed_switch k
-          (first_rows (i + 1)) ss
+      (first_rows (i + 1)) ss
   unfolding changed_switch
   rows-next [] k i times l at same = absurd (cc at)
   rows-next (s ∷ ss) zero i times l at same = ap (λ r. named_rows s.name r ∷ ss)
       (stage-next (begun o) s.rows (first_rows i s.rows) (with_link_at i times (first_rows i s.rows)) i times l refl
-          at same refl)
+      at same refl)
   rows-next (s ∷ ss) (suc k) i times l at same = ap (λ rest. s ∷ rest) (rows-next ss k i times l at same)
 
   pub rows-done : (ss : List NamedRows) (k i : ℕ) (t : Rows) → tables_at ss k ≡ Some t → length t.links ≤ i

@@ -86,7 +86,7 @@ flow_stands place (x ∷ ls) zero l at goes =
     subst (λ b. Contains (map flow_of_link (cond b (x ∷ links_to ls place) (links_to ls place))) (flow_of_link l))
     (sym (ap (is_to place) same ∙ goes))
     (subst (λ (r : LinkRow). Contains (flow_of_link x ∷ flows_to ls place) (flow_of_link r)) same
-        (0, omega arith, refl))
+    (0, omega arith, refl))
 flow_stands place (x ∷ ls) (suc i) l at goes = by (is_to place x) (flow_stands place ls i l at goes)
   where
     by : (b : Bool) → Contains (flows_to ls place) (flow_of_link l)
@@ -103,7 +103,7 @@ way-sent ss r some sent = by (length ss) some
     by zero h = absurd (omega (arith, h))
     by (suc n) h = ap (λ b. if b then Some r.row.latency_us else
         option_and_then (λ before. option_map (λ sum. sum + r.row.latency_us) (latency_within n ss before))
-            (row_before ss r))
+        (row_before ss r))
         sent
 
 module _ (ss : List NamedRows) (are : AreSwitches ss) (h : IsCascadeAdmitted ss) (k : ℕ) (t : Rows)
@@ -157,7 +157,7 @@ module _ (ss : List NamedRows) (are : AreSwitches ss) (h : IsCascadeAdmitted ss)
         subst (λ b. (if b then least_jitter (jitter_at t l.from) l
         else min (jitter_from_any l.bag_ms) (late_before ss (row_at k l))) ≤ l.jitter_us)
         (sym (let after : nat_lt l.from t.own ≡ false = grind (arith, nat_tests) in after))
-            (omega (arith, late, x.jitter))
+        (omega (arith, late, x.jitter))
 
     jitter-enough : jitter_needed ss t (row_at k l) ≤ l.jitter_us
     jitter-enough = elim (cases_lt l.from t.own) [ inl from ↦ jitter-sent from | inr past ↦ jitter-late past ]
@@ -170,7 +170,7 @@ module _ (ss : List NamedRows) (are : AreSwitches ss) (h : IsCascadeAdmitted ss)
         let port = admitted.ports place e.0 e.1 in
         let flow = flow_stands place t.links i l row goes in
         let high = All-contains (λ f. f.priority ≡ High → high_wait (byte_ns e.0) (flows_to t.links place)
-            ≤ f.latency * byte_units)
+        ≤ f.latency * byte_units)
         (flows_to t.links place) (flow_of_link l) port.high_in_time flow in
         let low = All-contains (λ f. f.priority ≡ Low → low_wait (byte_ns e.0) (flows_to t.links place)
         ≤ f.latency * (byte_units - high_load (byte_ns e.0) (flows_to t.links place)))
@@ -195,7 +195,7 @@ module _ (ss : List NamedRows) (are : AreSwitches ss) (h : IsCascadeAdmitted ss)
     unfolding latency_needed
     latency-enough =
         let over = latency_over-least (delay_to t l.priority) l.latency_us (length t.systems) link.latency_us.0 l.to
-            link.to
+        link.to
         port-enough in
         omega (arith, over)
 
@@ -262,7 +262,7 @@ link-same l m same d e =
     let latency : m.latency_us ≡ l.latency_us = omega (arith, d.latency, e.latency) in
     let skew : m.skew_us ≡ l.skew_us = omega (arith, d.skew, e.skew) in
     ap (λ (b : LinkRow). record b { jitter_us = m.jitter_us; latency_us = m.latency_us; skew_us = m.skew_us })
-        (sym same)
+    (sym same)
     ∙ ap (λ n. record l { jitter_us = n; latency_us = m.latency_us; skew_us = m.skew_us }) jitter
     ∙ ap (λ n. record l { latency_us = n; skew_us = m.skew_us }) latency
     ∙ ap (λ n. record l { skew_us = n }) skew
@@ -291,7 +291,7 @@ one-solution a b alike d e = same_from_all_zip Same a b (zip-from bare_switch Sa
         let row_b = link-at b k i v.rows m at_b row' in
         link-same l m is (d.times k i l m row_a row_b) (e.times k i m l row_b row_a))) (λ l m h. h) in
         ap (λ (r : NamedRows). named_rows r.name (record r.rows { buffer = v.rows.buffer; links = v.rows.links }))
-            (sym same)
+        (sym same)
         ∙ ap (λ n. named_rows s.name (record s.rows { buffer = n; links = v.rows.links })) buffer
         ∙ ap (λ ls. named_rows s.name (record s.rows { links = ls })) links
 

@@ -116,7 +116,7 @@ module _ (own systems : ℕ) (link : LinkRow) (h : IsLinkAmong own systems link)
 
   pub times-lawful : (o : SolveOptions) (times : Times) (needed : ℕ) (l : LinkRow) → Some link ≡ Some l
       → with_times times link ≡ with_delays_for o needed link → 1 ≤ needed
-          → IsLinkAmong own systems (with_times times l)
+      → IsLinkAmong own systems (with_times times l)
   times-lawful o times needed l same e some =
       times-are l (with_delays_for o needed link) times same e (delays-lawful o needed some)
 

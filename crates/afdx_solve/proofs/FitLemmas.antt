@@ -54,7 +54,7 @@ over-member f place (p ∷ ps) h = by (nat_eq p place) refl h (over-member f pla
   where
     by : (b : Bool) → nat_eq p place ≡ b → b || list_any (λ q. nat_eq q place) ps ≡ true
         → (list_any (λ q. nat_eq q place) ps ≡ true → f place ≤ latency_over f ps)
-            → f place ≤ max (f p) (latency_over f ps)
+        → f place ≤ max (f p) (latency_over f ps)
     by true e g later = omega (arith, ap f (eqb-true p place e))
     by false e g later = omega (arith, later g)
 

@@ -24,7 +24,6 @@ pub record AreRaised (o : SolveOptions) (Settled : List NamedRows → ℕ → Ty
   pub settled : raised ≡ false → (i : ℕ) → i < count → Settled old i
 
 module _ (o : SolveOptions) (Settled : List NamedRows → ℕ → Type 0) (old : List NamedRows) where
-
   pub raised-next : (now new : List NamedRows) (raised one both : Bool) (count : ℕ) → both ≡ raised || one
       → AreRaised o Settled old now raised count → Raises o now new one
       → (raised ≡ false → one ≡ false → Settled new count) → AreRaised o Settled old new both (count + 1)
@@ -62,7 +61,7 @@ rows-settled o k old now raised count u h at all e i =
     subst (λ ss. RowSettled o k ss i) (sym (h.raises.same e))
     (λ t l at' row. let same = tables-one old k t u at' at in
     h.settled e i (omega (arith, slice_get_within t.links i l row, ap (λ (r : Rows). length r.links) same, all)) t l
-        at' row)
+    at' row)
 
 -- ---- what is known of a switch, of one that is alike
 

@@ -349,7 +349,7 @@ module _ (ss : List NamedRows) (t : Rows) (k : ℕ) (l : LinkRow) (needed : Time
   row-settled o h exact =
       times-settled o ss t k l needed h jitter
       (latency ∙ ap (min greatest_delay) (latency_over-same (slice_index (of_class l.priority d))
-          (delay_to t l.priority)
+      (delay_to t l.priority)
       (length t.systems) (exact.each l.priority) l.to lawful.to)) skew
 
 pub among : (t : Rows) (i : ℕ) (l : LinkRow) → IsLawfulSwitch t → slice_get t.links i ≡ Some l

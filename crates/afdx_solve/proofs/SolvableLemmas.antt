@@ -56,7 +56,7 @@ module _ (a b : List NamedRows) (alike : AreAlike a b) (rise : AllZip SwitchRise
   unfolding neighbour_named
   comes-same t u h name vl = zip-test LinkRises (λ l. is_neighbour t name l.from) (λ l. is_neighbour u name l.from)
       (λ l m r. ap (λ (x : Rows). is_neighbour x name l.from) h.bare
-          ∙ ap (λ (x : LinkRow). is_neighbour u name x.from) r.bare)
+      ∙ ap (λ (x : LinkRow). is_neighbour u name x.from) r.bare)
       (row_of t vl) (row_of u vl) (row_of-rises t u h vl)
 
   reads_at-same : (name : List ℕ) (vl : ℕ) (e : SystemRow) → reads_at a name vl e ≡ reads_at b name vl e
@@ -65,7 +65,7 @@ module _ (a b : List NamedRows) (alike : AreAlike a b) (rise : AllZip SwitchRise
       (λ s v h. comes-same s.rows v.rows h.rows name vl) (option_and_then (slice_get a) (switch_named a e.name))
       (option_and_then (slice_get b) (switch_named b e.name))
       (subst (λ o. OptionZip SwitchRises (option_and_then (slice_get a) (switch_named a e.name))
-          (option_and_then (slice_get b) o))
+      (option_and_then (slice_get b) o))
       (switch_named-same a b alike rise e.name) (by (switch_named a e.name)))
     where
       by : (o : Option ℕ) → OptionZip SwitchRises (option_and_then (slice_get a) o) (option_and_then (slice_get b) o)
@@ -76,7 +76,7 @@ module _ (a b : List NamedRows) (alike : AreAlike a b) (rise : AllZip SwitchRise
       → reads a s l place ≡ reads b v m place
   reads-same s v h l m r place =
       or-tests (reads_at a s.name l.vl) (reads_at b s.name l.vl) (reads_at-same s.name l.vl)
-          (slice_get s.rows.systems place)
+      (slice_get s.rows.systems place)
       ∙ ap (λ n. option_map_or (reads_at b n l.vl) (slice_get s.rows.systems place) false) h.name
       ∙ ap (λ (x : LinkRow). option_map_or (reads_at b v.name x.vl) (slice_get s.rows.systems place) false) r.bare
       ∙ ap (λ (x : Rows). option_map_or (reads_at b v.name m.vl) (slice_get x.systems place) false) h.rows.bare
@@ -90,7 +90,7 @@ module _ (a b : List NamedRows) (alike : AreAlike a b) (rise : AllZip SwitchRise
 
 module _ (o : SolveOptions) (file solved others : List NamedRows) (least : IsLeastSolution o file solved)
     (fine : AreSwitches solved) (are : AreSwitches others) (h : IsCascadeAdmitted others)
-        (may : MayStandFor o file others) where
+    (may : MayStandFor o file others) where
   more : AreAtMost solved others
   more = cascade-least o file solved others least are h may
 
@@ -207,28 +207,28 @@ module _ (o : SolveOptions) (file solved others : List NamedRows) (least : IsLea
               let soon = All-contains (λ y. y.priority ≡ High → high_wait ns us ≤ y.latency * byte_units) us
               (flow_of_link x.m) p.high_in_time (flow_stands place u.links i x.m x.row_u goes_u) is_u in
               let either = latency-or t u rise place e there_e l x.m goes x.latency x.rises.times.latency
-                  x.link_u.latency_us.1 in
+              x.link_u.latency_us.1 in
               high-fits t u rise place e there_e l x.m
               (subst (λ c. (l.latency_us ≡ x.m.latency_us) ⊎ (delay_to t c place ≤ l.latency_us)) is either) soon));
           low_in_time = All-from_recursion (λ x. x.priority ≡ Low
               → low_wait ns ts ≤ x.latency * (byte_units - high_load ns ts)) ts
               (all-flows (λ x. x.priority ≡ Low → low_wait ns ts ≤ x.latency * (byte_units - high_load ns ts)) place
-                  t.links
+              t.links
               (λ i l row goes is.
               let x = row-of i l row in
               let goes_u : is_to place x.m ≡ true = ap (is_to place) (sym x.rises.bare) ∙ goes in
               let is_u : x.m.priority ≡ Low = ap (λ (r : LinkRow). r.priority) (sym x.rises.bare) ∙ is in
               let soon = All-contains (λ y. y.priority ≡ Low
-                  → low_wait ns us ≤ y.latency * (byte_units - high_load ns us)) us
+              → low_wait ns us ≤ y.latency * (byte_units - high_load ns us)) us
               (flow_of_link x.m) p.low_in_time (flow_stands place u.links i x.m x.row_u goes_u) is_u in
               let left = left_some_at ns (is_rate u.profile e.rate system.rate).fast us (flow_of_link x.m)
               (rates_some jitter_from_any (length u.systems) place u.links lawful_u.links.each) p.no_overload
               (low_stands place u.links i x.m x.row_u goes_u is_u) in
               let either = latency-or t u rise place e there_e l x.m goes x.latency x.rises.times.latency
-                  x.link_u.latency_us.1 in
+              x.link_u.latency_us.1 in
               low-fits t u rise place e there_e l x.m
               (subst (λ c. (l.latency_us ≡ x.m.latency_us) ⊎ (delay_to t c place ≤ l.latency_us)) is either) left
-                  soon));
+              soon));
         }
 
     sender-same : (place : ℕ) (e : SystemRow) → slice_get t.systems place ≡ Some e
@@ -250,7 +250,7 @@ module _ (o : SolveOptions) (file solved others : List NamedRows) (least : IsLea
         let from_u : x.m.from < u.own = omega (arith, from, same_from, own) in
         let other = admitted.jitters i x.m e x.row_u there_u from_u in
         let same : sender_jitter (byte_ns e) (links_from t.links l.from) ≡ sender_jitter (byte_ns e)
-            (links_from u.links x.m.from) =
+        (links_from u.links x.m.from) =
         sender-same l.from e there_e ∙ ap (λ n. sender_jitter (byte_ns e) (links_from u.links n)) same_from in
         elim x.jitter [
           | inl is ↦ omega (arith, same, other, is)
@@ -258,7 +258,7 @@ module _ (o : SolveOptions) (file solved others : List NamedRows) (least : IsLea
               let needed = jitter_at t l.from in
               let cut : min (1000 * l.bag_ms) (div_ceil needed 1000) ≤ l.jitter_us =
               subst (λ b. (if b then least_jitter needed l else min (jitter_from_any l.bag_ms)
-                  (late_before solved (row_at k l)))
+              (late_before solved (row_at k l)))
               ≤ l.jitter_us) (lt-ltb l.from t.own from) enough in
               let sent_u = lawful_u.sent i x.m x.row_u from_u in
               elim (cut-or (1000 * l.bag_ms) (div_ceil needed 1000) l.jitter_us x.m.jitter_us cut x.rises.times.jitter

@@ -51,7 +51,7 @@ row_of-rises t u h vl =
     let same : link_of t.links vl ≡ link_of u.links vl =
     sym (link_of-bare t.links vl) ∙ ap (λ (r : Rows). link_of r.links vl) h.bare ∙ link_of-bare u.links vl in
     subst (λ o. OptionZip LinkRises (row_of t vl) (option_and_then (slice_get u.links) o)) same
-        (by (link_of t.links vl))
+    (by (link_of t.links vl))
   where
     by : (o : Option ℕ) → OptionZip LinkRises (option_and_then (slice_get t.links) o)
         (option_and_then (slice_get u.links) o)
@@ -71,7 +71,7 @@ towards-rises t u h name vl =
     zip-then LinkRises LinkRises (λ l. if goes_towards t name l then Some l else None)
     (λ m. if goes_towards u name m then Some m else None)
     (λ l m r. subst (λ b. OptionZip LinkRises (if goes_towards t name l then Some l else None)
-        (if b then Some m else None))
+    (if b then Some m else None))
     (goes_towards-same t u h name l m r) (by (goes_towards t name l) l m r))
     (row_of t vl) (row_of u vl) (row_of-rises t u h vl)
   where
@@ -98,7 +98,7 @@ module _ (a b : List NamedRows) (alike : AreAlike a b) (rise : AllZip SwitchRise
       by None = tt
       by (Some j) = zip-then SwitchRises RowAtRises
           (λ s. option_map (row_at j) (row_towards s.rows name vl))
-              (λ s. option_map (row_at j) (row_towards s.rows name vl))
+          (λ s. option_map (row_at j) (row_towards s.rows name vl))
           (λ s v h. zip-map LinkRises RowAtRises (row_at j) (row_at j)
           (λ l m r. let it : RowAtRises (row_at j l) (row_at j m) = record { switch = refl; row = r } in it)
           (row_towards s.rows name vl) (row_towards v.rows name vl) (towards-rises s.rows v.rows h.rows name vl))
@@ -127,11 +127,11 @@ module _ (a b : List NamedRows) (alike : AreAlike a b) (rise : AllZip SwitchRise
       let vl : r.row.vl ≡ q.row.vl = ap (λ (l : LinkRow). l.vl) h.row.bare in
       let from : r.row.from ≡ q.row.from = ap (λ (l : LinkRow). l.from) h.row.bare in
       subst (λ k. OptionZip RowAtRises (row_before a r) (option_and_then (of b q.row.vl q.row.from) (slice_get b k)))
-          h.switch
+      h.switch
       (subst (λ n. OptionZip RowAtRises (row_before a r) (option_and_then (of b n q.row.from) (slice_get b r.switch)))
-          vl
+      vl
       (subst (λ n. OptionZip RowAtRises (row_before a r) (option_and_then (of b r.row.vl n) (slice_get b r.switch)))
-          from
+      from
       (zip-then SwitchRises RowAtRises (of a r.row.vl r.row.from) (of b r.row.vl r.row.from)
       (of-rises r.row.vl r.row.from) (slice_get a r.switch) (slice_get b r.switch)
       (zip-get SwitchRises a b rise r.switch))))
@@ -162,7 +162,7 @@ module _ (a b : List NamedRows) (alike : AreAlike a b) (rise : AllZip SwitchRise
   within-rises (suc n) r q h =
       subst (λ sent. OptionZip AtMost (latency_within (suc n) a r) (if sent then Some q.row.latency_us else
       option_and_then (λ before. option_map (λ sum. sum + q.row.latency_us) (latency_within n b before))
-          (row_before b q)))
+      (row_before b q)))
       (sent-same r q h) (by (is_sent_here a r) (λ x y g. within-rises n x y g))
     where
       sums : (x y : RowAt) → OptionZip AtMost (latency_within n a x) (latency_within n b y)
@@ -176,10 +176,10 @@ module _ (a b : List NamedRows) (alike : AreAlike a b) (rise : AllZip SwitchRise
           → OptionZip AtMost
           (if sent then Some r.row.latency_us else
           option_and_then (λ before. option_map (λ sum. sum + r.row.latency_us) (latency_within n a before))
-              (row_before a r))
+          (row_before a r))
           (if sent then Some q.row.latency_us else
           option_and_then (λ before. option_map (λ sum. sum + q.row.latency_us) (latency_within n b before))
-              (row_before b q))
+          (row_before b q))
       by true later = h.row.times.latency
       by false later = zip-then RowAtRises AtMost
           (λ before. option_map (λ sum. sum + r.row.latency_us) (latency_within n a before))
@@ -216,7 +216,7 @@ module _ (a b : List NamedRows) (alike : AreAlike a b) (rise : AllZip SwitchRise
         ap (jitter_at t) from ∙ jitter_at-same t u rows q.row.from in
         let least : least_jitter (jitter_at t r.row.from) r.row ≡ least_jitter (jitter_at u q.row.from) q.row =
         ap (λ n. least_jitter n r.row) sender ∙ ap (λ (l : LinkRow). least_jitter (jitter_at u q.row.from) l)
-            h.row.bare in
+        h.row.bare in
         subst (λ c. jitter_needed a t r ≤ (if c then least_jitter (jitter_at u q.row.from) q.row
         else min (jitter_from_any q.row.bag_ms) (late_before b q))) test
         (by (nat_lt r.row.from t.own) (omega (arith, least)) (omega (arith, bag, late-rises r q h)))

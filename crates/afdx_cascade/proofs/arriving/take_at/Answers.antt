@@ -37,7 +37,7 @@ returns c = record {
       (λ quiet same. subst (λ m. network.IsQuiet m c.args.until)
       (same ∙ some-is (get_or c.args.networks.now c.args.switch c.index-networks-switch.result) n
       (sym (slice_get-get_or c.args.networks.now c.args.switch c.index-networks-switch.result c.requires.within)
-          ∙ at)) quiet)
+      ∙ at)) quiet)
       c.take.ensures.quiet c.take.ensures.none;
   gives = λ p at ring so_far plan st.
       let k = c.args.switch in
@@ -57,7 +57,7 @@ returns c = record {
             g.stands;
         carried = λ to young soon joined early below.
             frame-is-carried p n at ring so_far k g.departure c.take.new.self to plan st c.requires.within young soon
-                joined
+            joined
             early below g.stands;
       })
       (c.take.ensures.given (p.tables k) (at_switch k so_far)

@@ -19,7 +19,7 @@ front_at-requires c = record {
 pub returns-clause-brings : goal.returns-clause-brings
 returns-clause-brings c p time ring so_far keeps transit =
     front-brings p c.args.networks.now time ring so_far c.args.first c.args.transit.now.items keeps c.requires.first
-        transit
+    transit
     (c.if-not-is_front_next.ensures.0 refl) c.front_at.new.networks c.front_at.new.transit.items c.in_ok-brought.brought
     (λ r rest st are. c.in_ok-brought.ensures.arrives p time r rest so_far keeps.plan st are)
     c.front_at.ensures.length c.front_at.ensures.clock c.front_at.ensures.still

@@ -9,5 +9,5 @@ loop-k-init c = below-none (ends_at c.args.switches.now c.args.vl.0) (text_bytes
 pub loop-k-preserved : goal.loop-k-preserved
 loop-k-preserved c =
     below-next (ends_at c.args.switches.now c.args.vl.0) c.loop-k.k (text_bytes c.args.text.now)
-        (text_bytes c.loop-k.text) _
+    (text_bytes c.loop-k.text) _
     c.loop-k.invariant c.in_ok-put_ends_at.ensures

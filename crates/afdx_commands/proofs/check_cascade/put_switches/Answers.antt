@@ -9,5 +9,5 @@ loop-k-init c = below-none (switch_lines c.args.margins c.args.switches.now) (te
 pub loop-k-preserved : goal.loop-k-preserved
 loop-k-preserved c =
     below-next (switch_lines c.args.margins c.args.switches.now) c.loop-k.k (text_bytes c.args.text.now)
-        (text_bytes c.loop-k.text) _
+    (text_bytes c.loop-k.text) _
     c.loop-k.invariant c.in_ok-put_switch.ensures

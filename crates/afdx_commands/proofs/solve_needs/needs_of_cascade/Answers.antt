@@ -12,5 +12,5 @@ loop-k-init c =
 pub loop-k-preserved : goal.loop-k-preserved
 loop-k-preserved c =
     below-next (needs_of_switch c.args.switches.now (lists c.args.asked.now)) c.loop-k.k []
-        (string_bytes c.loop-k.text) _
+    (string_bytes c.loop-k.text) _
     c.loop-k.invariant c.in_ok-put_needs_of_switch.ensures

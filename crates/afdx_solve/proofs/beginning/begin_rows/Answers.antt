@@ -66,7 +66,7 @@ loop-i-preserved c =
     let there : link_at old k i ≡ Some m =
     sym (link-first o old k i) ∙ ap (λ ss. link_at ss k i) (sym c.loop-i.invariant)
     ∙ link-at c.loop-i.switches k i c.tables-in-loop-i.result.now m c.tables-in-loop-i.ensures.tables
-        c.link.ensures.row in
+    c.link.ensures.row in
     c.set_times.ensures.changed ∙ ap (with_times_at k i times) c.loop-i.invariant
     ∙ rows-next o old k i times m there (ap (λ x. with_times x m) c.begun_times-times.ensures)
 
@@ -74,5 +74,5 @@ pub returns : goal.returns
 returns c =
     c.loop-i.invariant
     ∙ rows-done c.args.options c.args.switches.now c.args.switch.0 c.loop-i.i c.tables.result.now
-        c.tables.ensures.tables
+    c.tables.ensures.tables
     (omega (arith, c.link_count-count.ensures.count))

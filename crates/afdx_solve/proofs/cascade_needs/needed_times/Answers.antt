@@ -21,7 +21,7 @@ returns-clause-skew c = λ t at.
     let same : u ≡ t = tables-one c.args.switches.now c.args.switch.0 u t c.tables-tables.ensures.tables at in
     c.skew_needed.ensures
     ∙ ap (λ (r : Rows). min 100000 (max l.latency_us (if goes_to_system r l then unwrap_or c.latency_of-way.result 0
-        else 0)))
+    else 0)))
     same
     ∙ ap (λ way. min 100000 (max l.latency_us (if goes_to_system t l then unwrap_or way 0 else 0)))
-        c.latency_of-way.ensures.sum
+    c.latency_of-way.ensures.sum

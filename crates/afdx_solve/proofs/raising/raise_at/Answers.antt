@@ -24,20 +24,20 @@ pub returns-then-rows-clause-raises : goal.returns-then-rows-clause-raises
 returns-then-rows-clause-raises c =
     subst (Raises c.args.options c.args.switches.now c.raise_buffer-buffer.new.switches) (sym c.if-rows.true)
     (subst (λ r. Raises c.args.options c.args.switches.now c.raise_buffer-buffer.new.switches
-        (r || c.raise_buffer-buffer.result))
+    (r || c.raise_buffer-buffer.result))
     c.if-rows.true
     (raises-then c.args.options c.args.switches.now c.raise_rows-rows.new.switches c.raise_buffer-buffer.new.switches
     c.raise_rows-rows.result c.raise_buffer-buffer.result c.raise_rows-rows.ensures.raises
-        c.raise_buffer-buffer.ensures.raises))
+    c.raise_buffer-buffer.ensures.raises))
 
 pub returns-else-rows-clause-raises : goal.returns-else-rows-clause-raises
 returns-else-rows-clause-raises c =
     subst (λ r. Raises c.args.options c.args.switches.now c.raise_buffer-buffer.new.switches
-        (r || c.raise_buffer-buffer.result))
+    (r || c.raise_buffer-buffer.result))
     c.if-rows.false
     (raises-then c.args.options c.args.switches.now c.raise_rows-rows.new.switches c.raise_buffer-buffer.new.switches
     c.raise_rows-rows.result c.raise_buffer-buffer.result c.raise_rows-rows.ensures.raises
-        c.raise_buffer-buffer.ensures.raises)
+    c.raise_buffer-buffer.ensures.raises)
 
 pub returns-else-rows-clause-settled : goal.returns-else-rows-clause-settled
 returns-else-rows-clause-settled c = λ none. record {

@@ -18,6 +18,6 @@ returns-then-raised-clause-raises c =
     let raises = buffer-raises o ss k t c.tables-tables.ensures.tables c.tables-tables.ensures.lawful.buffer
     (λ same. c.if-raised.true (taken ∙ sym same ∙ sym c.buffer-old.ensures.buffer)) in
     subst (Raises o ss c.set_buffer.new.self)
-        (sym (ap not (ne_eqb c.chosen-buffer.result c.buffer-old.result c.if-raised.true)))
+    (sym (ap not (ne_eqb c.chosen-buffer.result c.buffer-old.result c.if-raised.true)))
     (subst (λ x. Raises o ss x true) (sym (c.set_buffer.ensures.changed ∙ ap (λ n. with_buffer_at k n ss) taken))
-        raises)
+    raises)

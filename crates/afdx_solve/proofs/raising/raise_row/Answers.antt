@@ -48,7 +48,7 @@ returns-then-raised-clause-raises c =
     subst (Raises c.args.options ss c.set_times.new.self) (sym c.if-raised.true)
     (subst (λ x. Raises c.args.options ss x true)
     (sym (c.set_times.ensures.changed ∙ ap (λ x. with_times_at k c.args.index x ss) c.raised_times-times.ensures))
-        raises)
+    raises)
 
 pub returns-else-raised-clause-settled : goal.returns-else-raised-clause-settled
 returns-else-raised-clause-settled c = λ not_raised t l at exact row.
@@ -65,7 +65,7 @@ returns-else-raised-clause-settled c = λ not_raised t l at exact row.
     subst (λ x. AreTimesAtMost (with_times x m) m) c.raised_times-times.ensures
     (c.is_more-raised.ensures.none c.if-raised.false) in
     let exact_u = subst (λ (r : Rows). AreDelaysBy (λ kept needs. kept ≡ needs) r c.args.delays.now) (sym tables_are)
-        exact in
+    exact in
     let settled = row-settled ss u k m needed c.args.delays.now c.link-link.ensures.lawful_row
     (c.needed_times-needed.ensures.jitter u at_u) c.needed_times-needed.ensures.latency
     (c.needed_times-needed.ensures.skew u at_u) c.args.options none exact_u in

@@ -36,7 +36,7 @@ loop-i-preserved c =
       | else-raised w ↦ w.raised-is ∙ ap (λ b. b || one) (sym w.if-raised.false)
     ] in
     raised-next o (RowSettled o k) c.args.switches.now c.loop-i.switches c.raise_row-one.new.switches c.loop-i.raised
-        one
+    one
     c.if-raised.raised c.loop-i.i both c.loop-i.invariant c.raise_row-one.ensures.raises
     (λ no none t l at row.
     let same = c.raise_row-one.ensures.raises.same none ∙ c.loop-i.invariant.raises.same no in

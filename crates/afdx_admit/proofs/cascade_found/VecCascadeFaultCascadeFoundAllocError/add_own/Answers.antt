@@ -9,13 +9,13 @@ use Rattle.afdx_admit.proofs.cascade_found.VecCascadeFaultCascadeFoundAllocError
 pub returns-in_err-faults : goal.returns-in_err-faults
 returns-in_err-faults c =
     walks_end (λ faults stop. Unit {0}) c.args.self.now.items _
-        (map (own_line c.args.switch.0) (lines c.args.tables.now))
+    (map (own_line c.args.switch.0) (lines c.args.tables.now))
     c.in_err-faults.field-0.0 _ (search rules) (λ behind. tt)
 
 pub returns-in_err-push : goal.returns-in_err-push
 returns-in_err-push c =
     walks_end (λ faults stop. Unit {0}) c.args.self.now.items _
-        (map (own_line c.args.switch.0) (lines c.args.tables.now))
+    (map (own_line c.args.switch.0) (lines c.args.tables.now))
     c.in_err-push.field-0.0 _ (search rules) (λ behind. tt)
 
 pub returns : goal.returns

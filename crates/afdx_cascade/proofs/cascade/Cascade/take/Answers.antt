@@ -68,7 +68,7 @@ returns-in-Some-clause-given c p so_far st =
     (subst (λ zs. AreOthersSame b.switch zs ns) lent others))
     (ap length (there ∙ is) ∙ size)) in
     came-next p so_far old new c.args.until st c.requires.clock refl (ap length is ∙ size) keys
-        (c.renew-self.ensures.least st.least) b
+    (c.renew-self.ensures.least st.least) b
     (subst (λ zs. BringsNext p zs c.bring_next.new.transit.items st.time st.ring so_far b) (sym is) brings)
 
 -- no cable brought a frame: nothing has changed, and the first turn comes before all that they carry
