@@ -7,6 +7,12 @@ import re
 from collections.abc import Iterator
 
 GIVEN = re.compile(r"^pub use ([^;]+);", re.M)
+SIGNED = [  # what a caller sees of what is public: signatures, fields, traits of a type
+    re.compile(r"^\s*pub fn (.*?)(?=^\s*(?:requires|ensures|\{)|\{$)", re.M | re.S),
+    re.compile(r"^\s*pub \w+: ([^\n]*)", re.M),
+    re.compile(r"^impl([^\n]*) for ", re.M),
+    re.compile(r"^    \w+\(([^\n]*)\),$", re.M),
+]
 
 
 def names_of(text: str) -> Iterator[str]:
@@ -30,13 +36,22 @@ def words_of(crate: pathlib.Path) -> set[str]:
     return {word for text in texts for word in re.findall(r"\w+", text)}
 
 
+def signed(crate: pathlib.Path) -> set[str]:
+    """The words of what a caller sees of the crate's public items."""
+    texts = (path.read_text(encoding="utf-8") for path in crate.glob("src/**/*.rt"))
+    seen = (said for text in texts for form in SIGNED for said in form.findall(text))
+    return {word for said in seen for word in re.findall(r"\w+", said)}
+
+
 def unnamed(top: pathlib.Path) -> list[str]:
-    """What no other crate names of what a crate gives, as `afdx_port::Left`."""
+    """What no other crate names of what a crate gives, as `afdx_port::Left`. A type that a caller
+    is handed, or hands over, needs no name there."""
     crates = sorted((top / "crates").glob("afdx*"))
     words = {crate: words_of(crate) for crate in crates}
     return [
         f"{crate.name}::{name}"
         for crate in crates
         for name in sorted(given(crate))
+        if name[0].islower() or name not in signed(crate)
         if not any(name in words[other] for other in crates if other != crate)
     ]
