@@ -37,14 +37,12 @@ module _ (ss : List NamedRows) (k : ℕ) (t : Rows) (l : LinkRow) where
   pub row-sent : nat_lt l.from t.own ≡ true → lines_of_row ss k t l ≡ []
   row-sent own = ap (λ b. if b then [] else lines_if_fed k t l (row_before ss here) (way_latency ss here)) own
 
-  module _ (past : nat_lt l.from t.own ≡ false) where
-    asked : lines_of_row ss k t l ≡ lines_if_fed k t l (row_before ss here) (way_latency ss here)
-    asked = ap (λ b. if b then [] else lines_if_fed k t l (row_before ss here) (way_latency ss here)) past
-
-    module _ (before : RowAt) (stands : row_before ss here ≡ Some before) where
-      pub row-fed : (sum : ℕ) → way_latency ss here ≡ Some sum
-          → false_lines (lines_of_row ss k t l) ≡ false_lines (lines_of_hop k t before.row l sum)
-      row-fed sum way =
-          ap false_lines (asked ∙ ap (λ o. lines_if_fed k t l o (way_latency ss here)) stands
-          ∙ ap (λ o. lines_if_fed k t l (Some before) o) way)
-          ∙ false_lines-holds (fed_line true k l) (lines_of_hop k t before.row l sum) refl
+  pub row-fed : nat_lt l.from t.own ≡ false → (before : RowAt) → row_before ss here ≡ Some before
+      → (sum : ℕ) → way_latency ss here ≡ Some sum
+      → false_lines (lines_of_row ss k t l) ≡ false_lines (lines_of_hop k t before.row l sum)
+  row-fed past before stands sum way =
+      ap false_lines
+      (ap (λ b. if b then [] else lines_if_fed k t l (row_before ss here) (way_latency ss here)) past
+      ∙ ap (λ o. lines_if_fed k t l o (way_latency ss here)) stands
+      ∙ ap (λ o. lines_if_fed k t l (Some before) o) way)
+      ∙ false_lines-holds (fed_line true k l) (lines_of_hop k t before.row l sum) refl

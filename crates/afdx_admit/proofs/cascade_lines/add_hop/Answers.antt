@@ -1,5 +1,5 @@
-use Rattle.std.proofs.Common.{rules, ◌≡◌, ◌++◌, ◌∷◌, [], ℕ, Bool, ap, subst, ◌∙◌, nat_le}
-use Rattle.afdx_config.specs.Rows.{Rows, LinkRow, link_row}
+use Rattle.std.proofs.Common.{rules, ◌++◌, ◌∷◌, [], ℕ, Bool, ap, subst, ◌∙◌, nat_le}
+use Rattle.afdx_config.specs.Rows.{LinkRow, link_row}
 use Rattle.afdx_frame.specs.Lines.{Line, line, false_lines}
 use Rattle.afdx_frame.proofs.FalseLinesLemmas.{added, none_added}
 use Rattle.afdx_admit.specs.declared.cascade_fault.CascadeFault.{CascadeFault}

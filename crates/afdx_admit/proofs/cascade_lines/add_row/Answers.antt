@@ -1,7 +1,7 @@
-use Rattle.std.proofs.Common.{◌≡◌, ◌++◌, ◌∷◌, [], sym, ap, subst, ◌∙◌, nat_lt, true, false}
+use Rattle.std.proofs.Common.{◌≡◌, ◌++◌, sym, ap, subst, ◌∙◌, nat_lt, true, false}
 use Rattle.std.proofs.lemmas.Option.{same_Some}
 use Rattle.afdx_config.specs.Rows.{Rows, link_row}
-use Rattle.afdx_frame.specs.Lines.{line, false_lines}
+use Rattle.afdx_frame.specs.Lines.{false_lines}
 use Rattle.afdx_frame.proofs.FalseLinesLemmas.{none_added}
 use Rattle.afdx_admit.specs.Cascade.{row_at, lines_of_row, lines_of_hop}
 use Rattle.afdx_admit.specs.Walk.{Walks}

@@ -1,5 +1,7 @@
 use Rattle.std.proofs.Common.{rules, ◌++◌, map, sym, ap, ◌∙◌, arith}
 use Rattle.std.proofs.lemmas.List.{take_all}
+use Rattle.std.specs.declared.alloc.AllocError.{AllocError}
+use Rattle.afdx_admit.specs.declared.cascade_fault.CascadeFault.{CascadeFault}
 use Rattle.afdx_admit.specs.Lines.{lines}
 use Rattle.afdx_admit.specs.Cascade.{own_line}
 use Rattle.afdx_admit.proofs.CascadeFalseLemmas.{own_fault, own-false}
@@ -14,9 +16,9 @@ returns-in_err-faults c =
 
 pub returns-in_err-push : goal.returns-in_err-push
 returns-in_err-push c =
-    walks_end (λ faults stop. Unit {0}) c.args.self.now.items _
-    (map (own_line c.args.switch.0) (lines c.args.tables.now))
-    c.in_err-push.field-0.0 _ (search rules) (λ behind. tt)
+    walks_end {F = CascadeFault} {E = AllocError} (λ faults stop. Unit {0}) c.args.self.now.items c.push.new.self.items
+    (map (own_line c.args.switch.0) (lines c.args.tables.now)) (record {})
+    c.from_residual-in_err-push.result (search rules) (λ behind. tt)
 
 pub returns : goal.returns
 returns c =
