@@ -3,7 +3,7 @@ tests/run/hostile.py."""
 from __future__ import annotations
 
 import random
-from collections.abc import Iterator
+from collections.abc import Iterable, Iterator
 
 import tables as made
 from conform import conform
@@ -13,6 +13,7 @@ from frames import frame_of
 from one_switch import MS
 from program import Answer, Program, answers, least_room, must
 from rows import CONFIGS, ROWS, list_of
+from rows import digits as digits_of
 from small_cases import Pair
 
 LISTS = ("CAME", "LEFT")
@@ -152,6 +153,58 @@ def turned_round(judge: Judge, count: int, span: int) -> None:
     answers(found, 5, told + last, b"")
 
 
+def spread(count: int, first: int, span: int, port: int, form: str = "F", frame: str = "H1") -> str:
+    """So many equal frames from this time on, within so many ns, through this port."""
+    words = f"A {port} {digits_of(frame)}\n"
+    return "".join(f"{form} {first + span * n // count} {words}" for n in range(count))
+
+
+def many_equal(
+    judge: Judge, came: str, left: str, told: Iterable[str], end: str, until: int = 0
+) -> None:
+    """These lists are told so, with this last line but for its last numbers."""
+    words = ("--until", str(until)) if until else ()
+    found = judge.answer(Pair(CONFIGS["base"], came.encode(), left.encode(), words))
+    last = f"deviates {end} uncertain 0 left-out 0 unseen 0 idle 3\n"
+    answers(found, 5, ("".join(f"{line}\n" for line in told) + last).encode(), b"")
+
+
+def passed(first: int, count: int) -> list[str]:
+    """So many have passed, from this one on."""
+    return [f"passed {n} A 3 over-rate" for n in range(first, first + count)]
+
+
+def strange(first: int, count: int) -> list[str]:
+    """Of so many frames, from this one on, nothing came."""
+    return [f"strange {n} A 3 no-arrival" for n in range(first, first + count)]
+
+
+def sealed_otherwise(judge: Judge, count: int) -> None:
+    """So many frames that are sealed wrongly never leave; as many of the same message do."""
+    came = spread(count, 0, 0, 1, "B") + spread(count, 0, 0, 1)
+    left = spread(count, 6_720, 10_000, 3)
+    told = passed(count + 2, count - 1)
+    many_equal(judge, came, left, told, f"{count - 1} explained 1 open 0")
+
+
+def all_too_late(judge: Judge, count: int) -> None:
+    """Of so many frames that come one leaves, and as many leave that are too late."""
+    left = spread(1, 6_720, 0, 3) + spread(count, 17_500, 0, 3)
+    told = strange(2, count)
+    many_equal(judge, spread(count, 0, 0, 1), left, told, f"{count} explained 1 open 0")
+
+
+def all_too_early(judge: Judge, count: int, until: int) -> None:
+    """So many frames leave before as many come, behind one that doesn't leave."""
+    came = spread(1, 0, 0, 1) + spread(count, 15_000, 0, 1, frame="H1(01)")
+    left = spread(count, 7_000, 0, 3, frame="H1(01)")
+    told = strange(1, count)
+    if until:
+        told.append("stopped 1 A 3")
+    end = f"{len(told)} explained 0 open {0 if until else 1}"
+    many_equal(judge, came, left, told, end, until)
+
+
 def forms_of(place: int, chance: random.Random) -> list[bytes]:
     """Lines, without time and port, of a frame of link 1: sealed, sealed wrongly, and with other
     ends; of some the bytes are the same."""
@@ -262,6 +315,11 @@ def hostile_lists(program: Program) -> Iterator[tuple]:
             yield name, turned_round, judge, 20_000 * times, span
         name = f"conform: {20_000 * times} equal frames within 10000 ns"
         yield name, equal_frames, judge, 20_000 * times, 10_000
+        for case in (sealed_otherwise, all_too_late):
+            yield f"conform: {20_000 * times} equal, {case.__name__}", case, judge, 20_000 * times
+        for until in (0, 100_000):
+            name = f"conform: {20_000 * times} equal, all_too_early until {until}"
+            yield name, all_too_early, judge, 20_000 * times, until
     for seed in range(4):
         yield f"conform: out of order, {seed}", out_of_order, judge, seed
     yield "conform: the largest tables", largest_tables, judge

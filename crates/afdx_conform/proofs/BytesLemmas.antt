@@ -1,16 +1,16 @@
 -- What bytes are found by.
-use Rattle.std.proofs.Common.{◌≡◌, ℕ, ◌-◌, Bool, true, false, List, ◌++◌, take, length, refl, sym, ap, ◌∙◌, arith}
-use Rattle.std.proofs.lemmas.Bool.{false_from_ne_true}
-use Rattle.std.proofs.lemmas.List.{length-append, take_at}
+use Rattle.std.proofs.Common.{◌≡◌, ℕ, ◌-◌, Bool, true, false, List, ◌++◌, take, drop, length, refl, sym, ap, ◌∙◌, arith}
+use Rattle.std.proofs.lemmas.Bool.{and_parts}
+use Rattle.std.proofs.lemmas.List.{length-append, take-append-drop, take_at}
 use Rattle.std.proofs.lemmas.Slice.Eq.{bytes_eq-Decides}
 use Rattle.std.specs.Int.{w32, to_le_bytes}
-use Rattle.std.specs.Prelude.{if◌then◌else◌, ◌||◌}
+use Rattle.std.specs.Prelude.{if◌then◌else◌, ◌||◌, nat_le}
 use Rattle.std.specs.Str.{bytes_eq}
-use Rattle.afdx_frame.specs.Sealing.{is_sealed, sealed_wrongly, sequence_of}
+use Rattle.afdx_frame.specs.Sealing.{is_sealed, sealed, sealed_wrongly, sequence_of}
 use Rattle.afdx_frame.specs.Seals.{is_right, whole}
 use Rattle.afdx_frame.specs.declared.seals.Seal.{Seal}
 use Rattle.afdx_frame.specs.declared.seals.Seal.TheVariants.{Right, Wrong, Missing}
-use Rattle.afdx_conform.specs.KnownBytes.{are_wrong, front_of, key_of}
+use Rattle.afdx_conform.specs.KnownBytes.{are_wrong, front_of, key_of, seal_of}
 
 -- ---- all but the last four bytes
 
@@ -46,10 +46,10 @@ missing-is message = refl
 pub key-of-right : (s : Seal) (m a : List ℕ) → s ≡ Right → a ≡ m → is_sealed (whole s m) ≡ is_right s
     → a ≡ key_of (whole s m)
 unfolding key_of
-key-of-right s m a is same sealed =
+key-of-right s m a is same un =
     same ∙ front-right m ∙ ap (λ (t : Seal). front_of (whole t m)) (sym is)
     ∙ sym (ap (λ (b : Bool). if b || are_wrong (whole s m) then front_of (whole s m) else whole s m)
-    (sealed ∙ ap (λ (t : Seal). is_right t) is))
+    (un ∙ ap (λ (t : Seal). is_right t) is))
 
 pub key-of-wrong : (s : Seal) (m a : List ℕ) → s ≡ Wrong → a ≡ m → a ≡ key_of (whole s m)
 unfolding key_of
@@ -65,16 +65,60 @@ by-missing m un = sym (ap (λ (b : Bool). if b || are_wrong m then front_of m el
 
 pub key-of-missing : (s : Seal) (m a out : List ℕ) → s ≡ Missing → a ≡ m → is_sealed (whole s m) ≡ is_right s
     → out ≡ (if are_wrong a then front_of a else a) → out ≡ key_of (whole s m)
-key-of-missing s m a out is same sealed e =
+key-of-missing s m a out is same so e =
     let whole-is : whole s m ≡ m = ap (λ (t : Seal). whole t m) is ∙ missing-is m in
-    let un : is_sealed m ≡ false = sym (ap (λ (l : List ℕ). is_sealed l) whole-is) ∙ sealed ∙ ap (λ (t : Seal). is_right t) is in
+    let un : is_sealed m ≡ false = sym (ap (λ (l : List ℕ). is_sealed l) whole-is) ∙ so
+    ∙ ap (λ (t : Seal). is_right t) is in
     e ∙ ap (λ (l : List ℕ). if are_wrong l then front_of l else l) same
     ∙ by-missing m un ∙ ap (λ (l : List ℕ). key_of l) (sym whole-is)
 
--- ---- bytes that are found by others are others
+-- ---- how bytes are sealed
 
-pub other-by-key : (a b : List ℕ) → bytes_eq (key_of a) (key_of b) ≡ false → bytes_eq a b ≡ false
-other-by-key a b none = false_from_ne_true (bytes_eq a b) (λ yes.
-    let same = (bytes_eq-Decides a b).0 yes in
-    let both = sym ((bytes_eq-Decides (key_of a) (key_of b)).1 (ap (λ (l : List ℕ). key_of l) same)) ∙ none in
-    absurd cc)
+pub seal-of-right : (s : Seal) (m : List ℕ) → s ≡ Right → is_sealed (whole s m) ≡ is_right s
+    → Right ≡ seal_of (whole s m)
+unfolding seal_of
+seal-of-right s m is so =
+    sym (ap (λ (b : Bool). if b then Right else (if are_wrong (whole s m) then Wrong else Missing))
+    (so ∙ ap (λ (t : Seal). is_right t) is))
+
+pub seal-of-wrong : (s : Seal) (m : List ℕ) → s ≡ Wrong → is_sealed (whole s m) ≡ is_right s
+    → Wrong ≡ seal_of (whole s m)
+unfolding seal_of
+seal-of-wrong s m is so =
+    let wrong : are_wrong (whole s m) ≡ true = ap (λ (t : Seal). are_wrong (whole t m)) is ∙ wrong-is m in
+    sym (ap (λ (b : Bool). if b then Right else (if are_wrong (whole s m) then Wrong else Missing))
+    (so ∙ ap (λ (t : Seal). is_right t) is)
+    ∙ ap (λ (b : Bool). if b then Wrong else Missing) wrong)
+
+pub seal-of-missing : (s : Seal) (m a : List ℕ) (out : Seal) → s ≡ Missing → a ≡ m → is_sealed (whole s m) ≡ is_right s
+    → out ≡ (if are_wrong a then Wrong else Missing) → out ≡ seal_of (whole s m)
+unfolding seal_of
+seal-of-missing s m a out is same so e =
+    let whole-is : whole s m ≡ m = ap (λ (t : Seal). whole t m) is ∙ missing-is m in
+    e ∙ ap (λ (l : List ℕ). if are_wrong l then Wrong else Missing) (same ∙ sym whole-is)
+    ∙ sym (ap (λ (b : Bool). if b then Right else (if are_wrong (whole s m) then Wrong else Missing))
+    (so ∙ ap (λ (t : Seal). is_right t) is))
+
+-- ---- only the same bytes are found alike
+
+right-again : (b : List ℕ) → is_sealed b ≡ true → sealed (front_of b) ≡ b
+unfolding is_sealed
+right-again b e =
+    let last = (bytes_eq-Decides (drop (length b - 4) b) (to_le_bytes w32 (sequence_of (take (length b - 4) b)))).0
+    (and_parts (nat_le 4 (length b)) (bytes_eq (drop (length b - 4) b)
+    (to_le_bytes w32 (sequence_of (take (length b - 4) b)))) e).1 in
+    ap (λ (t : List ℕ). front_of b ++ t) (sym last) ∙ take-append-drop (length b - 4) b
+
+whole-of : (b : List ℕ) → whole (seal_of b) (key_of b) ≡ b
+unfolding seal_of key_of whole
+whole-of b = by (is_sealed b) (are_wrong b) refl refl
+  where
+    by : (s w : Bool) → is_sealed b ≡ s → are_wrong b ≡ w
+        → whole (if s then Right else (if w then Wrong else Missing)) (if s || w then front_of b else b) ≡ b
+    by true w e k = right-again b e
+    by false true e k = sym ((bytes_eq-Decides b (sealed_wrongly (front_of b))).0 k)
+    by false false e k = refl
+
+pub same-found : (a b : List ℕ) → seal_of a ≡ seal_of b → key_of a ≡ key_of b → a ≡ b
+same-found a b s k =
+    sym (whole-of a) ∙ ap (λ (t : Seal). whole t (key_of a)) s ∙ ap (λ (l : List ℕ). whole (seal_of b) l) k ∙ whole-of b

@@ -20,6 +20,7 @@ pub mod LimitLemmas
 pub mod RowLemmas
 pub mod FewLemmas
 pub mod NamingLemmas
+pub mod InTimeLemmas
 pub mod LeadLemmas
 pub mod DeviationLemmas
 pub mod DeviateLemmas
@@ -73,6 +74,7 @@ pub mod OpenLemmas
 pub mod AloneLemmas
 pub mod CheckedLemmas
 pub mod BytesLemmas
+pub mod ByBytesLemmas
 pub mod PlacesLemmas
 pub mod SearchLemmas
 pub mod GatherLemmas

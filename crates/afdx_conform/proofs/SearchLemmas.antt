@@ -1,17 +1,21 @@
 -- What is found of a frame by a look at the arrivals alone that have its bytes.
-use Rattle.std.proofs.Common.{◌≡◌, ℕ, zero, suc, ◌+◌, ◌≤◌, Bool, false, ◌&&◌, List, [], ◌∷◌, ◌++◌, map, take, drop, length, refl, sym, ap, ◌∙◌, subst, arith}
+use Rattle.std.proofs.Common.{◌≡◌, ℕ, zero, suc, ◌+◌, ◌*◌, ◌≤◌, Bool, false, ◌&&◌, List, [], ◌∷◌, ◌++◌, map, take, drop, length, refl, sym, ap, ◌∙◌, subst, arith}
 use Rattle.std.proofs.lemmas.List.{append_assoc, drop-drop, length-drop, take_all}
 use Rattle.std.specs.List.{list_any}
+use Rattle.std.specs.Int.{div_ceil}
 use Rattle.std.specs.Prelude.{if◌then◌else◌, ◌||◌, not, is_none, None}
-use Rattle.std.specs.Str.{bytes_eq}
-use Rattle.afdx_police.specs.Arrival.{Arrival}
 use Rattle.afdx_conform.specs.Findings.{Marked, first_named, is_of_right, named_or, once_named, passed_or}
-use Rattle.afdx_conform.specs.KnownBytes.{AreOthers, StandAt}
+use Rattle.afdx_conform.specs.KnownBytes.{AreOthers, StandAt, may_fit}
+use Rattle.afdx_conform.specs.Levels.{parts}
+use Rattle.afdx_conform.specs.Limits.{AreLimits, gone_of}
 use Rattle.afdx_conform.specs.Marks.{arrival_of, marked_all, marked_of}
 use Rattle.afdx_conform.specs.Naming.{IsNoneNamed}
-use Rattle.afdx_conform.specs.Streams.{Gone, Terms, fits, is_in_time, is_no_sooner}
+use Rattle.afdx_conform.specs.Streams.{Gone, Terms, fits}
 use Rattle.afdx_conform.specs.declared.arrived.Arrived.{Arrived}
 use Rattle.afdx_conform.specs.declared.finding.Mark.{Mark}
+use Rattle.afdx_conform.specs.declared.limits.Frame.{Frame}
+use Rattle.afdx_conform.specs.declared.limits.Limits.{Limits}
+use Rattle.afdx_conform.proofs.LimitLemmas.{fits-is}
 use Rattle.afdx_conform.proofs.NamingLemmas.{IsNamedFrom, any-end, from-end}
 use Rattle.afdx_conform.proofs.PlacesLemmas.{IsReached, none-left}
 
@@ -41,38 +45,48 @@ marked-drop (suc n) (a ∷ xs) [] = sym (marked-none (drop n xs))
 marked-drop (suc n) (a ∷ xs) (m ∷ ms) = marked-drop n xs ms
 
 -- all of several are all of so many of them
-others-all : (bytes : List ℕ) (xs : List Arrived) → AreOthers bytes xs → AreOthers bytes (take (length xs) xs)
-others-all bytes xs all = subst (λ (l : List Arrived). AreOthers bytes l) (sym (take_all (length xs) xs (omega arith))) all
+others-all : (test : Arrived → Bool) (xs : List Arrived) → AreOthers test xs → AreOthers test (take (length xs) xs)
+others-all test xs all = subst (λ (l : List Arrived). AreOthers test l) (sym (take_all (length xs) xs (omega arith)))
+    all
 
-module _ (z : Terms) (y : Gone) where
-  fits-none : (x : Arrival) → bytes_eq x.bytes y.bytes ≡ false → fits z x y ≡ false
-  unfolding fits
-  fits-none x e = ap (λ (t : Bool). t && is_no_sooner z x y && is_in_time z x y) e
+module _ (z : Terms) (limits : Limits) (f : Frame) (k' : AreLimits z limits) where
+  abbrev y : Gone
+  y = gone_of f
+
+  abbrev fit : Arrived → Bool
+  fit = may_fit limits f
+
+  fits-none : (a : Arrived) → fit a ≡ false → fits z (arrival_of a) y ≡ false
+  unfolding may_fit
+  fits-none a e =
+      fits-is z (arrival_of a) y limits a.time (div_ceil (parts * ((length a.bytes + 8) * limits.byte_ns))
+      (parts + limits.drift))
+      a.bytes k' refl refl refl ∙ e
 
   -- ---- arrivals that came later
 
-  fit-past : (n : ℕ) (xs : List Arrived) → AreOthers y.bytes (take n xs)
+  fit-past : (n : ℕ) (xs : List Arrived) → AreOthers fit (take n xs)
       → list_any (λ w. fits z w y) (map arrival_of xs) ≡ list_any (λ w. fits z w y) (map arrival_of (drop n xs))
   fit-past zero xs all = refl
   fit-past (suc n) [] all = refl
   fit-past (suc n) (a ∷ xs) all = ap (λ (t : Bool). t || list_any (λ w. fits z w y) (map arrival_of xs))
-      (fits-none (arrival_of a) all.0) ∙ fit-past n xs all.1
+      (fits-none a all.0) ∙ fit-past n xs all.1
 
-  pub fit-reached : (xs : List Arrived) (at p : ℕ) (rest : List ℕ) → IsReached y.bytes xs at p rest
+  pub fit-reached : (xs : List Arrived) (at p : ℕ) (rest : List ℕ) → IsReached fit xs at p rest
       → list_any (λ w. fits z w y) (map arrival_of (drop at xs)) ≡ list_any (λ w. fits z w y) (map arrival_of (drop p xs))
   fit-reached xs at p rest k =
       fit-past k.skipped (drop at xs) k.others
       ∙ ap (λ (l : List Arrived). list_any (λ w. fits z w y) (map arrival_of l))
       (drop-drop k.skipped at xs ∙ ap (λ (n : ℕ). drop n xs) (sym k.place))
 
-  pub fit-none : (xs : List Arrived) → AreOthers y.bytes xs → list_any (λ w. fits z w y) (map arrival_of xs) ≡ false
+  pub fit-none : (xs : List Arrived) → AreOthers fit xs → list_any (λ w. fits z w y) (map arrival_of xs) ≡ false
   fit-none [] all = refl
   fit-none (a ∷ xs) all = ap (λ (t : Bool). t || list_any (λ w. fits z w y) (map arrival_of xs))
-      (fits-none (arrival_of a) all.0) ∙ fit-none xs all.1
+      (fits-none a all.0) ∙ fit-none xs all.1
 
   -- ---- arrivals that aren't refused
 
-  right-past : (n : ℕ) (xs : List Arrived) (ms : List Mark) → AreOthers y.bytes (take n xs)
+  right-past : (n : ℕ) (xs : List Arrived) (ms : List Mark) → AreOthers fit (take n xs)
       → list_any (λ m. is_of_right z y m) (marked_all xs ms) ≡ list_any (λ m. is_of_right z y m) (drop n (marked_all xs ms))
   unfolding marked_all
   right-past zero xs ms all = refl
@@ -80,10 +94,10 @@ module _ (z : Terms) (y : Gone) where
   right-past (suc n) [] (m ∷ ms) all = refl
   right-past (suc n) (a ∷ xs) [] all = refl
   right-past (suc n) (a ∷ xs) (m ∷ ms) all = ap (λ (t : Bool). (t && is_none m.reason)
-      || list_any (λ n. is_of_right z y n) (marked_all xs ms)) (fits-none (arrival_of a) all.0)
+      || list_any (λ n. is_of_right z y n) (marked_all xs ms)) (fits-none a all.0)
       ∙ right-past n xs ms all.1
 
-  right-from : (n at : ℕ) (xs : List Arrived) (ms : List Mark) → AreOthers y.bytes (take n (drop at xs))
+  right-from : (n at : ℕ) (xs : List Arrived) (ms : List Mark) → AreOthers fit (take n (drop at xs))
       → list_any (λ m. is_of_right z y m) (drop at (marked_all xs ms))
       ≡ list_any (λ m. is_of_right z y m) (drop (at + n) (marked_all xs ms))
   right-from n at xs ms all =
@@ -92,7 +106,7 @@ module _ (z : Terms) (y : Gone) where
       ∙ ap (λ (l : List Marked). list_any (λ m. is_of_right z y m) (drop n l)) (sym (marked-drop at xs ms))
       ∙ ap (λ (l : List Marked). list_any (λ m. is_of_right z y m) l) (drop-drop n at (marked_all xs ms))
 
-  pub right-reached : (xs : List Arrived) (ms : List Mark) (at p : ℕ) (rest : List ℕ) → IsReached y.bytes xs at p rest
+  pub right-reached : (xs : List Arrived) (ms : List Mark) (at p : ℕ) (rest : List ℕ) → IsReached fit xs at p rest
       → list_any (λ m. is_of_right z y m) (drop at (marked_all xs ms))
       ≡ list_any (λ m. is_of_right z y m) (drop p (marked_all xs ms))
   right-reached xs ms at p rest k = right-from k.skipped at xs ms k.others
@@ -100,7 +114,7 @@ module _ (z : Terms) (y : Gone) where
 
   -- ---- the first that a finding may name
 
-  named-past : (n : ℕ) (xs : List Arrived) (ms : List Mark) → AreOthers y.bytes (take n xs)
+  named-past : (n : ℕ) (xs : List Arrived) (ms : List Mark) → AreOthers fit (take n xs)
       → IsNamedFrom z y (marked_all xs ms) n
   unfolding first_named once_named marked_all
   named-past zero xs ms all = record { first = refl; once = refl }
@@ -111,9 +125,9 @@ module _ (z : Terms) (y : Gone) where
       let more = named-past n xs ms all.1 in
       record {
         first = ap (λ (t : Bool). passed_or (if t && not m.is_named then m.reason else None)
-            (arrival_of a).tag (first_named z y (marked_all xs ms))) (fits-none (arrival_of a) all.0) ∙ more.first;
+            (arrival_of a).tag (first_named z y (marked_all xs ms))) (fits-none a all.0) ∙ more.first;
         once = ap (λ (t : Bool). named_or (if t && not m.is_named then m.reason else None)
-            (marked_of a m) (marked_all xs ms) (once_named z y (marked_all xs ms))) (fits-none (arrival_of a) all.0)
+            (marked_of a m) (marked_all xs ms) (once_named z y (marked_all xs ms))) (fits-none a all.0)
             ∙ ap (λ (l : List Marked). marked_of a m ∷ l) more.once;
       }
 
@@ -129,35 +143,35 @@ module _ (z : Terms) (y : Gone) where
             ∙ ap (λ (r : List Marked). take (at + n) l ++ once_named z y r) later;
       }
 
-  named-from : (n at : ℕ) (xs : List Arrived) (ms : List Mark) → AreOthers y.bytes (take n (drop at xs))
+  named-from : (n at : ℕ) (xs : List Arrived) (ms : List Mark) → AreOthers fit (take n (drop at xs))
       → IsNamedFrom z y (marked_all xs ms) at → IsNamedFrom z y (marked_all xs ms) (at + n)
   named-from n at xs ms all from = named-on (marked_all xs ms) at n from
       (subst (λ (l : List Marked). IsNamedFrom z y l n) (sym (marked-drop at xs ms))
       (named-past n (drop at xs) (drop at ms) all))
 
-  pub named-reached : (xs : List Arrived) (ms : List Mark) (at p : ℕ) (rest : List ℕ) → IsReached y.bytes xs at p rest
+  pub named-reached : (xs : List Arrived) (ms : List Mark) (at p : ℕ) (rest : List ℕ) → IsReached fit xs at p rest
       → IsNamedFrom z y (marked_all xs ms) at → IsNamedFrom z y (marked_all xs ms) p
   named-reached xs ms at p rest k from = subst (λ (n : ℕ). IsNamedFrom z y (marked_all xs ms) n) (sym k.place)
       (named-from k.skipped at xs ms k.others from)
 
   -- where none is left that has the bytes
   pub named-nowhere : (xs : List Arrived) (ms : List Mark) (at : ℕ) (ps : List ℕ) → ps ≡ [] → length ms ≤ length xs
-      → StandAt y.bytes at (drop at xs) ps → IsNamedFrom z y (marked_all xs ms) at → IsNoneNamed z y (marked_all xs ms)
+      → StandAt fit at (drop at xs) ps → IsNamedFrom z y (marked_all xs ms) at → IsNoneNamed z y (marked_all xs ms)
   named-nowhere xs ms at ps e le h from =
-      let none = none-left y.bytes at (drop at xs) (subst (λ (l : List ℕ). StandAt y.bytes at (drop at xs) l) e h) in
+      let none = none-left fit at (drop at xs) (subst (λ (l : List ℕ). StandAt fit at (drop at xs) l) e h) in
       let long = length-drop at xs in
       from-end z y xs ms (at + length (drop at xs)) (omega (arith, le, long)) le
-      (named-from (length (drop at xs)) at xs ms (others-all y.bytes (drop at xs) none) from)
+      (named-from (length (drop at xs)) at xs ms (others-all fit (drop at xs) none) from)
 
   pub right-nowhere : (xs : List Arrived) (ms : List Mark) (at : ℕ) (ps : List ℕ) → ps ≡ [] → length ms ≤ length xs
-      → StandAt y.bytes at (drop at xs) ps → list_any (λ m. is_of_right z y m) (drop at (marked_all xs ms)) ≡ false
+      → StandAt fit at (drop at xs) ps → list_any (λ m. is_of_right z y m) (drop at (marked_all xs ms)) ≡ false
   right-nowhere xs ms at ps e le h =
-      let none = none-left y.bytes at (drop at xs) (subst (λ (l : List ℕ). StandAt y.bytes at (drop at xs) l) e h) in
+      let none = none-left fit at (drop at xs) (subst (λ (l : List ℕ). StandAt fit at (drop at xs) l) e h) in
       let long = length-drop at xs in
-      right-from (length (drop at xs)) at xs ms (others-all y.bytes (drop at xs) none)
+      right-from (length (drop at xs)) at xs ms (others-all fit (drop at xs) none)
       ∙ any-end (λ m. is_of_right z y m) xs ms (at + length (drop at xs)) (omega (arith, le, long)) le
 
-  pub fit-nowhere : (xs : List Arrived) (at : ℕ) (ps : List ℕ) → ps ≡ [] → StandAt y.bytes at (drop at xs) ps
+  pub fit-nowhere : (xs : List Arrived) (at : ℕ) (ps : List ℕ) → ps ≡ [] → StandAt fit at (drop at xs) ps
       → list_any (λ w. fits z w y) (map arrival_of (drop at xs)) ≡ false
   fit-nowhere xs at ps e h = fit-none (drop at xs)
-      (none-left y.bytes at (drop at xs) (subst (λ (l : List ℕ). StandAt y.bytes at (drop at xs) l) e h))
+      (none-left fit at (drop at xs) (subst (λ (l : List ℕ). StandAt fit at (drop at xs) l) e h))

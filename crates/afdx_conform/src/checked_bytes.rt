@@ -4,7 +4,8 @@ ghost use Rattle.std.specs.Prelude.{◌≡◌, ◌↔◌, IfOk, IsTrue, if◌the
 ghost use Rattle.std.specs.Str.{bytes_eq};
 ghost use Rattle.afdx_frame.specs.Parts.{bytes_of};
 ghost use Rattle.afdx_frame.specs.Sealing.{is_sealed, sealed_wrongly};
-ghost use Rattle.afdx_conform.specs.KnownBytes.{are_wrong, front_of, key_of};
+ghost use Rattle.afdx_frame.specs.declared.seals.Seal.TheVariants.{Wrong, Missing};
+ghost use Rattle.afdx_conform.specs.KnownBytes.{are_wrong, front_of, key_of, seal_of};
 
 use crate::spare::Spare;
 use afdx_frame::{Checked, Seal, fcs};
@@ -32,17 +33,19 @@ fn without_four(bytes: &[u8]) -> &[u8]
     &bytes[..bytes.len().saturating_sub(4)]
 }
 
-/// These bytes, without the last four if those are the complement of the others' check sequence.
+/// Of bytes that aren't sealed whether they are sealed wrongly, and these bytes, without the last
+/// four if they are.
 #[cold]
 #[inline(never)]
-fn without_wrong(bytes: &[u8]) -> &[u8]
-    ensures { result.now ≡ (if are_wrong bytes.now then front_of bytes.now else bytes.now) }
+fn key_of_unsealed(bytes: &[u8]) -> (Seal, &[u8])
+    ensures seal { result.0 ≡ (if are_wrong bytes.now then Wrong else Missing) }
+    ensures key { result.1.now ≡ (if are_wrong bytes.now then front_of bytes.now else bytes.now) }
 {
     let front = without_four(bytes);
     if is_sealed_wrongly(bytes, front) {
-        front
+        (Seal::Wrong, front)
     } else {
-        bytes
+        (Seal::Missing, bytes)
     }
 }
 
@@ -126,15 +129,17 @@ impl CheckedBytes {
         self.frame().length()
     }
 
-    /// What they are found by: the message. Of bytes that are the same it is the same.
-    pub(crate) fn key(&self) -> &[u8]
-        ensures { result.now ≡ key_of self.now }
+    /// What they are found by: how they are sealed, and the message. Only of bytes that are the
+    /// same both are the same.
+    pub(crate) fn key(&self) -> (Seal, &[u8])
+        ensures seal { result.0 ≡ seal_of self.now }
+        ensures key { result.1.now ≡ key_of self.now }
     {
         let message = bytes_in(&self.message);
         match self.seal {
-            Seal::Right => message,
-            Seal::Wrong => message,
-            Seal::Missing => without_wrong(message),
+            Seal::Right => (Seal::Right, message),
+            Seal::Wrong => (Seal::Wrong, message),
+            Seal::Missing => key_of_unsealed(message),
         }
     }
 

@@ -130,7 +130,7 @@ pub(crate) fn deviate(
     let mut front = first;
     while front < frames.len() {
         let frame = &frames[front];
-        let places = known.places(&frame.bytes, each);
+        let places = known.places(&bounds.limits, arrivals, frame, each);
         match deviation(&bounds.limits, arrived, arrivals, from, places, frame) {
             Deviation::Stopped => {
                 let stopped = Finding::Stopped(arrived.number);

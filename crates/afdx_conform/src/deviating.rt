@@ -5,7 +5,7 @@ ghost use Rattle.std.specs.List.{list_any};
 ghost use Rattle.std.specs.Str.{bytes_eq};
 ghost use Rattle.afdx_conform.specs.Findings.{is_far as far, is_late as late, is_early as early};
 ghost use Rattle.afdx_conform.specs.Findings.{deviation_of};
-ghost use Rattle.afdx_conform.specs.KnownBytes.{StandAt};
+ghost use Rattle.afdx_conform.specs.KnownBytes.{StandAt, may_fit};
 ghost use Rattle.afdx_conform.specs.Limits.{AreLimits, gone_of};
 ghost use Rattle.afdx_conform.specs.Marks.{arrival_of};
 ghost use Rattle.afdx_conform.specs.Streams.{Terms, fits as fits_it, is_no_sooner as no_sooner};
@@ -62,8 +62,8 @@ fn is_early(limits: &Limits, arrived: &Arrived, frame: &Frame) -> bool
     !is_no_sooner(limits, arrived, frame)
 }
 
-/// Whether the frame fits one of the arrivals from `from` on. All of these that have its bytes
-/// stand at `places`.
+/// Whether the frame fits one of the arrivals from `from` on. All of these that it fits stand at
+/// `places`.
 fn fits_one(
     limits: &Limits,
     arrivals: &[Arrived],
@@ -71,7 +71,7 @@ fn fits_one(
     places: &[usize],
     frame: &Frame,
 ) -> bool
-    requires { StandAt frame.now.bytes from (drop from arrivals.now) places.now }
+    requires { StandAt (may_fit limits.now frame.now) from (drop from arrivals.now) places.now }
     ensures { (z : Terms) → AreLimits z limits.now → result
         ≡ list_any (λ w. fits_it z w (gone_of frame.now))
         (map arrival_of (drop from arrivals.now)) }
@@ -109,7 +109,7 @@ fn late_by(limits: &Limits, arrived: &Arrived, frame: &Frame) -> u64
 }
 
 /// What the switch did with an arrival, by the next frame; those from `from` on came after it. All
-/// arrivals that have the frame's bytes stand at `places`.
+/// arrivals that the frame fits stand at `places`.
 pub(crate) fn deviation(
     limits: &Limits,
     arrived: &Arrived,
@@ -118,7 +118,7 @@ pub(crate) fn deviation(
     places: &[usize],
     frame: &Frame,
 ) -> Deviation
-    requires { StandAt frame.now.bytes 0 arrivals.now places.now }
+    requires { StandAt (may_fit limits.now frame.now) 0 arrivals.now places.now }
     ensures { (z : Terms) → AreLimits z limits.now → result
         ≡ deviation_of z (map arrival_of (drop from arrivals.now)) (arrival_of arrived.now)
         (gone_of frame.now) }

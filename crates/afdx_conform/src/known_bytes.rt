@@ -1,43 +1,46 @@
 //! Where arrivals of a stream stand that have the bytes of a frame.
 
-ghost use Rattle.std.specs.Prelude.{◌++◌, ◌∷◌, [], ℕ, List, IfOk, OnErr, OnOk};
-ghost use Rattle.afdx_conform.specs.KnownBytes.{AreEach, AreKept, AreKnown, StandAt};
+ghost use Rattle.std.specs.Prelude.{◌++◌, ◌∷◌, [], Bool, List, IfOk, OnErr, OnOk};
+ghost use Rattle.afdx_conform.specs.KnownBytes.{AreEach, AreKept, AreKnown, StandAt, may_fit};
 ghost use Rattle.afdx_conform.specs.Naming.{IsSettledTo};
 
 use crate::arrived::Arrived;
-use crate::checked_bytes::CheckedBytes;
+use crate::by_bytes::ByBytes;
 use crate::finding::Mark;
+use crate::in_time::{comes_behind, go_by_time, in_time};
+use crate::limits::{Frame, Limits};
 use crate::naming::settled_from;
-use crate::places::Places;
 use std::alloc::{AllocError, Global};
 
 /// Of fewer arrivals each is looked at.
 const FEW_ARRIVALS: usize = 256;
 
-/// Where the arrivals stand that are held, by their bytes, if `is_whole`. Else they are few, or
-/// weren't gathered yet. The first `settled` of them no finding may name any more.
+/// Where the arrivals stand that are held, by their bytes, if `is_whole`: then they go by time.
+/// Else they are few, don't, or weren't gathered yet. The first `settled` of them no finding may
+/// name any more.
 #[derive(Drop)]
 pub(crate) struct KnownBytes {
     alloc: Global,
-    places: Places,
+    places: ByBytes,
     is_whole: bool,
     pub(crate) settled: usize,
 }
 
 /// Where each of these arrivals stands, by its bytes. Fails only out of memory.
-fn places_of(alloc: Global, arrivals: &[Arrived]) -> Result<Places, AllocError>
+fn places_of(alloc: Global, arrivals: &[Arrived]) -> Result<ByBytes, AllocError>
     ensures { IfOk result (λ places. AreKept places arrivals.now) }
 {
-    let mut places = Places::new(alloc);
+    let mut places = ByBytes::new(alloc);
     for place in 0..arrivals.len() {
-        places.add(arrivals[place].bytes.key(), place)?;
+        places.add(&arrivals[place].bytes, place)?;
     }
     Ok(places)
 }
 
 /// The place of each of these arrivals. Fails only out of memory.
 fn each_of(alloc: Global, arrivals: &[Arrived]) -> Result<Vec<usize>, AllocError>
-    ensures { IfOk result (λ each. (bytes : List ℕ) → StandAt bytes 0 arrivals.now each.items) }
+    ensures { IfOk result (λ each. (test : Arrived → Bool) →
+        StandAt test 0 arrivals.now each.items) }
 {
     let mut each = Vec::with_capacity(alloc, arrivals.len())?;
     for place in 0..arrivals.len() {
@@ -55,7 +58,7 @@ impl KnownBytes {
     {
         KnownBytes {
             alloc,
-            places: Places::new(alloc),
+            places: ByBytes::new(alloc),
             is_whole: false,
             settled: 0,
         }
@@ -72,17 +75,19 @@ impl KnownBytes {
         self.settled = settled_from(marks, self.settled);
     }
 
-    /// It knows where each of these arrivals stands, if they are many. Fails only out of memory.
+    /// It knows where each of these arrivals stands, if they are many and go by time. Fails only
+    /// out of memory.
     pub(crate) fn gather(&mut self, arrivals: &[Arrived]) -> Result<(), AllocError>
         requires { AreKnown self.old arrivals.now }
         ensures known { AreKnown self.new arrivals.now }
         ensures settled { (marks : List Mark) → IsSettledTo self.old.settled marks →
             IsSettledTo self.new.settled marks }
     {
-        if self.is_whole || arrivals.len() < FEW_ARRIVALS {
+        if self.is_whole || arrivals.len() < FEW_ARRIVALS || !go_by_time(arrivals) {
             return Ok(());
         }
-        self.places = places_of(self.alloc, arrivals)?;
+        let places = places_of(self.alloc, arrivals)?;
+        self.places = places;
         self.is_whole = true;
         Ok(())
     }
@@ -99,7 +104,10 @@ impl KnownBytes {
             return Ok(());
         }
         self.is_whole = false;
-        self.places.add(arrived.bytes.key(), arrivals.len())?;
+        if !comes_behind(arrivals, arrived) {
+            return Ok(());
+        }
+        self.places.add(&arrived.bytes, arrivals.len())?;
         self.is_whole = true;
         Ok(())
     }
@@ -129,14 +137,22 @@ impl KnownBytes {
         }
     }
 
-    /// Where all arrivals stand that have these bytes, and with them others: at most those that
-    /// have the same message, or all where it knows no places, as `each` has them.
-    pub(crate) fn places<'a>(&'a self, bytes: &CheckedBytes, each: &'a [usize]) -> &'a [usize]
-        ensures { (arrivals : List Arrived) → AreKnown self.now arrivals →
-            AreEach self.now arrivals each.now → StandAt bytes.now 0 arrivals result.now }
+    /// Where all arrivals stand that the frame may be of, by the bytes and times of both; others
+    /// only where it knows no places, as `each` has them.
+    pub(crate) fn places<'a>(
+        &'a self,
+        limits: &Limits,
+        arrivals: &[Arrived],
+        frame: &Frame,
+        each: &'a [usize],
+    ) -> &'a [usize]
+        requires known { AreKnown self.now arrivals.now }
+        requires each { AreEach self.now arrivals.now each.now }
+        ensures { StandAt (may_fit limits.now frame.now) 0 arrivals.now result.now }
     {
         if self.is_whole {
-            self.places.at(bytes.key())
+            let alike = self.places.at(&frame.bytes);
+            in_time(limits, arrivals, alike, frame)
         } else {
             each
         }

@@ -7,6 +7,7 @@
 mod arrived;
 mod arriving;
 mod bounds;
+mod by_bytes;
 mod cases;
 mod checked_bytes;
 mod closing;
@@ -20,6 +21,7 @@ mod first;
 mod forgetting;
 mod fronts;
 mod growth;
+mod in_time;
 mod judging;
 mod known_bytes;
 pub mod laws;

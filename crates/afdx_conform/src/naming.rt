@@ -6,7 +6,7 @@ ghost use Rattle.std.specs.List.{list_any};
 ghost use Rattle.afdx_conform.specs.Findings.{names_it as may_name, is_of_right};
 ghost use Rattle.afdx_conform.specs.Findings.{damage as damage_of, strangeness as strangeness_of};
 ghost use Rattle.afdx_conform.specs.Findings.{first_named, once_named, finding_or, Judged};
-ghost use Rattle.afdx_conform.specs.KnownBytes.{AreEach, AreKnown, StandAt};
+ghost use Rattle.afdx_conform.specs.KnownBytes.{AreEach, AreKnown, StandAt, may_fit};
 ghost use Rattle.afdx_conform.specs.declared.finding.Finding.TheVariants.{Strange};
 ghost use Rattle.afdx_conform.specs.Marks.{marked_of, marked_all, told};
 ghost use Rattle.afdx_conform.specs.Naming.{AreSettled, IsSettledTo, IsNoneNamed, IsNamedAt, may_be_named};
@@ -78,7 +78,7 @@ fn names_it(limits: &Limits, arrived: &Arrived, mark: Mark, frame: &Frame) -> Op
 }
 
 /// The first arrival that the finding of a frame may name, behind the first `settled`: its place,
-/// and the reason. Behind those all that have the frame's bytes stand at `places`.
+/// and the reason. Behind those all that the frame fits stand at `places`.
 fn first_place(
     limits: &Limits,
     arrivals: &[Arrived],
@@ -90,7 +90,8 @@ fn first_place(
     requires marks { length marks.now ≤ length arrivals.now }
     requires within { settled ≤ length marks.now }
     requires settled { AreSettled settled marks.now }
-    requires places { StandAt frame.now.bytes settled (drop settled arrivals.now) places.now }
+    requires places { StandAt (may_fit limits.now frame.now) settled (drop settled arrivals.now)
+        places.now }
     ensures within { IfSome result (λ at. (settled ≤ at.0) × (at.0 < length marks.now)) }
     ensures named { (z : Terms) → AreLimits z limits.now → MatchOption result
         (IsNoneNamed z (gone_of frame.now) (marked_all arrivals.now marks.now))
@@ -116,7 +117,7 @@ fn fits_without_mark(limits: &Limits, arrived: &Arrived, mark: Mark, frame: &Fra
     mark.reason.is_none() && limits.fits(arrived.time, &arrived.bytes, frame)
 }
 
-/// Whether the frame fits an arrival that isn't refused. All that have its bytes stand at `places`.
+/// Whether the frame fits an arrival that isn't refused. All that it fits stand at `places`.
 fn fits_unmarked(
     limits: &Limits,
     arrivals: &[Arrived],
@@ -125,7 +126,7 @@ fn fits_unmarked(
     frame: &Frame,
 ) -> bool
     requires marks { length marks.now ≤ length arrivals.now }
-    requires places { StandAt frame.now.bytes 0 arrivals.now places.now }
+    requires places { StandAt (may_fit limits.now frame.now) 0 arrivals.now places.now }
     ensures { (z : Terms) → AreLimits z limits.now → result
         ≡ list_any (λ m. is_of_right z (gone_of frame.now) m) (marked_all arrivals.now marks.now) }
 {
@@ -156,7 +157,7 @@ fn damage(bytes: &CheckedBytes) -> Option<Reason>
     None
 }
 
-/// What is wrong with a frame that no arrival explains. All that have its bytes stand at `places`.
+/// What is wrong with a frame that no arrival explains. All that it fits stand at `places`.
 fn strangeness(
     limits: &Limits,
     arrivals: &[Arrived],
@@ -165,7 +166,7 @@ fn strangeness(
     frame: &Frame,
 ) -> Strangeness
     requires marks { length marks.now ≤ length arrivals.now }
-    requires places { StandAt frame.now.bytes 0 arrivals.now places.now }
+    requires places { StandAt (may_fit limits.now frame.now) 0 arrivals.now places.now }
     ensures { (z : Terms) → AreLimits z limits.now →
         result ≡ strangeness_of z (marked_all arrivals.now marks.now) (gone_of frame.now) }
 {
@@ -182,8 +183,8 @@ fn strangeness(
 }
 
 /// What is found of a frame that no arrival explains. An arrival that the finding names, behind the
-/// first `settled`, is marked so. Marks are those of the first arrivals. All arrivals that have the
-/// frame's bytes stand at `places`.
+/// first `settled`, is marked so. Marks are those of the first arrivals. All arrivals that the
+/// frame fits stand at `places`.
 pub(crate) fn unexplained(
     limits: &Limits,
     arrivals: &[Arrived],
@@ -195,7 +196,7 @@ pub(crate) fn unexplained(
     requires marks { length marks.old.items ≤ length arrivals.now }
     requires within { settled ≤ length marks.old.items }
     requires settled { AreSettled settled marks.old.items }
-    requires places { StandAt frame.now.bytes 0 arrivals.now places.now }
+    requires places { StandAt (may_fit limits.now frame.now) 0 arrivals.now places.now }
     ensures finding { (z : Terms) → AreLimits z limits.now → result
         ≡ finding_or (first_named z (gone_of frame.now) (marked_all arrivals.now marks.old.items))
         (Strange frame.now.number
@@ -252,7 +253,7 @@ pub(crate) fn unexplained_all(
 {
     let mut settled = known.settled;
     for frame in frames {
-        let places = known.places(&frame.bytes, each);
+        let places = known.places(limits, arrivals, frame, each);
         settled = settled_for(marks.as_slice(), settled, places.len());
         let finding = unexplained(limits, arrivals, marks, settled, places, frame);
         found.push_reserved(finding);

@@ -1,6 +1,7 @@
 //! Places in a list, which are found by keys.
 
-ghost use Rattle.std.specs.Prelude.{◌≡◌, ◌≤◌, ◌++◌, ◌∷◌, [], ℕ, List, OnOk, if◌then◌else◌, drop};
+ghost use Rattle.std.specs.Prelude.{◌≡◌, ◌≤◌, ◌++◌, ◌∷◌, [], ℕ, Bool, List, OnOk};
+ghost use Rattle.std.specs.Prelude.{if◌then◌else◌, drop, take};
 ghost use Rattle.std.specs.Str.{bytes_eq};
 ghost use Rattle.afdx_conform.specs.KnownBytes.{StandAt, kept_at};
 ghost use Rattle.afdx_conform.specs.declared.arrived.Arrived.{Arrived};
@@ -55,9 +56,20 @@ impl Places {
 
 /// Of places that ascend those that are no less than `least`.
 pub(crate) fn no_less(places: &[usize], least: usize) -> &[usize]
-    ensures { (bytes : List ℕ) (arrivals : List Arrived) → StandAt bytes 0 arrivals places.now →
-        StandAt bytes least (drop least arrivals) result.now }
+    ensures { (test : Arrived → Bool) (arrivals : List Arrived) →
+        StandAt test 0 arrivals places.now →
+        StandAt test least (drop least arrivals) result.now }
 {
     let count = places.partition_point(|place| *place < least);
     &places[count..]
+}
+
+/// Of places that ascend those that are less than `most`.
+pub(crate) fn less(places: &[usize], most: usize) -> &[usize]
+    ensures { (test : Arrived → Bool) (arrivals : List Arrived) →
+        StandAt test 0 arrivals places.now →
+        StandAt test 0 (take most arrivals) result.now }
+{
+    let count = places.partition_point(|place| *place < most);
+    &places[..count]
 }

@@ -260,7 +260,7 @@ returns-then-has_any-clause-within c link by count r all =
     (c.loop-front.invariant.within link by count r all)))
 
 pub deviation-requires : goal.deviation-requires
-deviation-requires c = c.places-places.ensures c.args.arrivals.now c.requires.known c.requires.each
+deviation-requires c = c.places-places.ensures
 
 pub returns-in-Stopped-clause-frames : goal.returns-in-Stopped-clause-frames
 returns-in-Stopped-clause-frames c =

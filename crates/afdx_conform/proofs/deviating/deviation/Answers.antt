@@ -1,4 +1,5 @@
 use Rattle.std.proofs.Common.{map, drop, sym, ◌∙◌}
+use Rattle.afdx_conform.specs.KnownBytes.{may_fit}
 use Rattle.afdx_conform.specs.Limits.{gone_of}
 use Rattle.afdx_conform.specs.Marks.{arrival_of}
 use Rattle.afdx_conform.proofs.DeviationLemmas.{deviation-far, deviation-early, deviation-behind, deviation-other, deviation-stop, deviation-late}
@@ -42,4 +43,5 @@ returns-then-is_same c z a =
     (sym c.is_same.ensures ∙ c.if-is_same.true) (c.late_by-by.ensures z a)
 
 pub fits_one-requires : goal.fits_one-requires
-fits_one-requires c = c.no_less-behind.ensures c.args.frame.now.bytes c.args.arrivals.now c.requires
+fits_one-requires c = c.no_less-behind.ensures (may_fit c.args.limits.now c.args.frame.now) c.args.arrivals.now
+    c.requires

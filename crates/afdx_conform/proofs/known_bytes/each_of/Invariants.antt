@@ -1,6 +1,7 @@
-use Rattle.std.proofs.Common.{ℕ, List, take}
+use Rattle.std.proofs.Common.{Bool, take}
 use Rattle.afdx_conform.specs.KnownBytes.{StandAt}
+use Rattle.afdx_conform.specs.declared.arrived.Arrived.{Arrived}
 use Rattle.afdx_conform.proofs.known_bytes.each_of.Given as goal
 
 abbrev pub invariant-loop-place : goal.invariant-loop-place
-invariant-loop-place l = (bytes : List ℕ) → StandAt bytes 0 (take l.place l.arrivals) l.each.items
+invariant-loop-place l = (test : Arrived → Bool) → StandAt test 0 (take l.place l.arrivals) l.each.items

@@ -1,5 +1,6 @@
 use Rattle.std.proofs.Common.{rules, ◌≡◌, ◌+◌, ◌<◌, ◌≤◌, drop, get_or, length, sym, ◌∙◌, arith}
 use Rattle.std.proofs.lemmas.List.{drop_all}
+use Rattle.afdx_conform.specs.KnownBytes.{may_fit}
 use Rattle.afdx_conform.specs.Limits.{gone_of}
 use Rattle.afdx_conform.proofs.NamingLemmas.{no-mark, from-settled, from-next, from-here, from-end}
 use Rattle.afdx_conform.proofs.PlacesLemmas.{here}
@@ -18,32 +19,37 @@ loop-place-init c = (
 pub returns-then-place-marks-clause-named : goal.returns-then-place-marks-clause-named
 returns-then-place-marks-clause-named c z a =
     let inv = c.loop-place.invariant in
-    let k = here c.args.frame.now.bytes c.args.arrivals.now inv.0 c.args.places.now c.loop-place.place-index c.loop-place-test.true inv.2 in
+    let k = here (may_fit c.args.limits.now c.args.frame.now) c.args.arrivals.now inv.0 c.args.places.now
+    c.loop-place.place-index c.loop-place-test.true inv.2 in
     from-end z (gone_of c.args.frame.now) c.args.arrivals.now c.args.marks.now (get_or c.args.places.now
     c.loop-place.place-index 0) c.if-place-marks.true
     c.requires.marks
-    (named-reached z (gone_of c.args.frame.now) c.args.arrivals.now c.args.marks.now inv.0 (get_or c.args.places.now
+    (named-reached z c.args.limits.now c.args.frame.now a c.args.arrivals.now c.args.marks.now inv.0
+    (get_or c.args.places.now
     c.loop-place.place-index 0)
     (drop (c.loop-place.place-index + 1) c.args.places.now) k (inv.3 z a))
 
 pub returns-in-Some-clause-named : goal.returns-in-Some-clause-named
 returns-in-Some-clause-named c z a =
     let inv = c.loop-place.invariant in
-    let k = here c.args.frame.now.bytes c.args.arrivals.now inv.0 c.args.places.now c.loop-place.place-index c.loop-place-test.true inv.2 in
+    let k = here (may_fit c.args.limits.now c.args.frame.now) c.args.arrivals.now inv.0 c.args.places.now
+    c.loop-place.place-index c.loop-place-test.true inv.2 in
     let lt : (get_or c.args.places.now c.loop-place.place-index 0) < length c.args.marks.now = (let h = c.if-place-marks.false
     in omega (arith, h)) in
     let there = c.index-arrivals-place.is in
     from-here z (gone_of c.args.frame.now) c.args.arrivals.now c.args.marks.now (get_or c.args.places.now c.loop-place.place-index 0)
     c.index-arrivals-place.result no-mark c.in-Some.reason lt c.requires.marks there
     (sym (c.names_it.ensures z a) ∙ c.in-Some.is)
-    (named-reached z (gone_of c.args.frame.now) c.args.arrivals.now c.args.marks.now inv.0 (get_or c.args.places.now
+    (named-reached z c.args.limits.now c.args.frame.now a c.args.arrivals.now c.args.marks.now inv.0
+    (get_or c.args.places.now
     c.loop-place.place-index 0)
     (drop (c.loop-place.place-index + 1) c.args.places.now) k (inv.3 z a))
 
 pub returns-in-Some-clause-within : goal.returns-in-Some-clause-within
 returns-in-Some-clause-within c =
     let inv = c.loop-place.invariant in
-    let k = here c.args.frame.now.bytes c.args.arrivals.now inv.0 c.args.places.now c.loop-place.place-index c.loop-place-test.true inv.2 in
+    let k = here (may_fit c.args.limits.now c.args.frame.now) c.args.arrivals.now inv.0 c.args.places.now
+    c.loop-place.place-index c.loop-place-test.true inv.2 in
     let low = inv.1 in
     let place = k.place in
     (omega (arith, low, place), (let h = c.if-place-marks.false in omega (arith, h)))
@@ -51,7 +57,8 @@ returns-in-Some-clause-within c =
 pub loop-place-preserved : goal.loop-place-preserved
 loop-place-preserved c =
     let inv = c.loop-place.invariant in
-    let k = here c.args.frame.now.bytes c.args.arrivals.now inv.0 c.args.places.now c.loop-place.place-index c.loop-place-test.true inv.2 in
+    let k = here (may_fit c.args.limits.now c.args.frame.now) c.args.arrivals.now inv.0 c.args.places.now
+    c.loop-place.place-index c.loop-place-test.true inv.2 in
     let low = inv.1 in
     let place = k.place in
     let lt : (get_or c.args.places.now c.loop-place.place-index 0) < length c.args.marks.now = (let h = c.if-place-marks.false
@@ -65,7 +72,8 @@ loop-place-preserved c =
           c.loop-place.place-index 0)
           c.index-arrivals-place.result no-mark lt c.requires.marks there
           (sym (c.names_it.ensures z a) ∙ c.in-None.is)
-          (named-reached z (gone_of c.args.frame.now) c.args.arrivals.now c.args.marks.now inv.0 (get_or c.args.places.now
+          (named-reached z c.args.limits.now c.args.frame.now a c.args.arrivals.now c.args.marks.now inv.0
+          (get_or c.args.places.now
           c.loop-place.place-index 0)
           (drop (c.loop-place.place-index + 1) c.args.places.now) k (inv.3 z a)),
     )
@@ -74,6 +82,6 @@ pub returns-clause-named : goal.returns-clause-named
 returns-clause-named c z a =
     let inv = c.loop-place.invariant in
     let past : length c.args.places.now ≤ c.loop-place.place-index = (let h = c.loop-place-test.false in omega (arith, h)) in
-    named-nowhere z (gone_of c.args.frame.now) c.args.arrivals.now c.args.marks.now inv.0
+    named-nowhere z c.args.limits.now c.args.frame.now a c.args.arrivals.now c.args.marks.now inv.0
     (drop c.loop-place.place-index c.args.places.now) (drop_all c.loop-place.place-index c.args.places.now past) c.requires.marks
     inv.2 (inv.3 z a)

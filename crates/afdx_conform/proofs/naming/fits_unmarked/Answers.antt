@@ -1,6 +1,7 @@
 use Rattle.std.proofs.Common.{rules, ◌≡◌, ◌+◌, ◌<◌, ◌≤◌, drop, get_or, length, true, false, refl, sym, ◌∙◌, arith}
 use Rattle.std.proofs.lemmas.List.{drop_all}
 use Rattle.afdx_conform.specs.Findings.{is_of_right}
+use Rattle.afdx_conform.specs.KnownBytes.{may_fit}
 use Rattle.afdx_conform.specs.Limits.{gone_of}
 use Rattle.afdx_conform.proofs.NamingLemmas.{no-mark, any-from, any-end}
 use Rattle.afdx_conform.proofs.PlacesLemmas.{here}
@@ -13,9 +14,11 @@ loop-place-init c = (0, c.requires.places, λ z a. refl)
 pub returns-then-place-marks : goal.returns-then-place-marks
 returns-then-place-marks c z a =
     let inv = c.loop-place.invariant in
-    let k = here c.args.frame.now.bytes c.args.arrivals.now inv.0 c.args.places.now c.loop-place.place-index c.loop-place-test.true inv.1 in
+    let k = here (may_fit c.args.limits.now c.args.frame.now) c.args.arrivals.now inv.0 c.args.places.now
+    c.loop-place.place-index c.loop-place-test.true inv.1 in
     sym (inv.2 z a
-    ∙ right-reached z (gone_of c.args.frame.now) c.args.arrivals.now c.args.marks.now inv.0 (get_or c.args.places.now
+    ∙ right-reached z c.args.limits.now c.args.frame.now a c.args.arrivals.now c.args.marks.now inv.0
+    (get_or c.args.places.now
     c.loop-place.place-index 0)
     (drop (c.loop-place.place-index + 1) c.args.places.now) k
     ∙ any-end (λ m. is_of_right z (gone_of c.args.frame.now) m) c.args.arrivals.now c.args.marks.now (get_or c.args.places.now
@@ -25,12 +28,14 @@ returns-then-place-marks c z a =
 pub returns-then-fits_without_mark : goal.returns-then-fits_without_mark
 returns-then-fits_without_mark c z a =
     let inv = c.loop-place.invariant in
-    let k = here c.args.frame.now.bytes c.args.arrivals.now inv.0 c.args.places.now c.loop-place.place-index c.loop-place-test.true inv.1 in
+    let k = here (may_fit c.args.limits.now c.args.frame.now) c.args.arrivals.now inv.0 c.args.places.now
+    c.loop-place.place-index c.loop-place-test.true inv.1 in
     let lt : (get_or c.args.places.now c.loop-place.place-index 0) < length c.args.marks.now = (let h = c.if-place-marks.false
     in omega (arith, h)) in
     let there = c.index-arrivals-place.is in
     sym (inv.2 z a
-    ∙ right-reached z (gone_of c.args.frame.now) c.args.arrivals.now c.args.marks.now inv.0 (get_or c.args.places.now
+    ∙ right-reached z c.args.limits.now c.args.frame.now a c.args.arrivals.now c.args.marks.now inv.0
+    (get_or c.args.places.now
     c.loop-place.place-index 0)
     (drop (c.loop-place.place-index + 1) c.args.places.now) k
     ∙ any-from (λ m. is_of_right z (gone_of c.args.frame.now) m) c.args.arrivals.now c.args.marks.now (get_or c.args.places.now
@@ -41,7 +46,8 @@ returns-then-fits_without_mark c z a =
 pub loop-place-preserved : goal.loop-place-preserved
 loop-place-preserved c =
     let inv = c.loop-place.invariant in
-    let k = here c.args.frame.now.bytes c.args.arrivals.now inv.0 c.args.places.now c.loop-place.place-index c.loop-place-test.true inv.1 in
+    let k = here (may_fit c.args.limits.now c.args.frame.now) c.args.arrivals.now inv.0 c.args.places.now
+    c.loop-place.place-index c.loop-place-test.true inv.1 in
     let lt : (get_or c.args.places.now c.loop-place.place-index 0) < length c.args.marks.now = (let h = c.if-place-marks.false
     in omega (arith, h)) in
     let there : c.index-arrivals-place.result ≡ get_or c.args.arrivals.now (get_or c.args.places.now c.loop-place.place-index
@@ -49,7 +55,8 @@ loop-place-preserved c =
       (get_or c.args.places.now c.loop-place.place-index 0) + 1,
       k.behind,
       λ z a. inv.2 z a
-          ∙ right-reached z (gone_of c.args.frame.now) c.args.arrivals.now c.args.marks.now inv.0 (get_or c.args.places.now
+          ∙ right-reached z c.args.limits.now c.args.frame.now a c.args.arrivals.now c.args.marks.now inv.0
+          (get_or c.args.places.now
           c.loop-place.place-index 0)
           (drop (c.loop-place.place-index + 1) c.args.places.now) k
           ∙ any-from (λ m. is_of_right z (gone_of c.args.frame.now) m) c.args.arrivals.now c.args.marks.now (get_or
@@ -62,6 +69,6 @@ pub returns : goal.returns
 returns c z a =
     let inv = c.loop-place.invariant in
     let past : length c.args.places.now ≤ c.loop-place.place-index = (let h = c.loop-place-test.false in omega (arith, h)) in
-    sym (inv.2 z a ∙ right-nowhere z (gone_of c.args.frame.now) c.args.arrivals.now c.args.marks.now inv.0
+    sym (inv.2 z a ∙ right-nowhere z c.args.limits.now c.args.frame.now a c.args.arrivals.now c.args.marks.now inv.0
     (drop c.loop-place.place-index c.args.places.now) (drop_all c.loop-place.place-index c.args.places.now past) c.requires.marks
     inv.1)

@@ -2,6 +2,7 @@ use Rattle.std.proofs.Common.{rules, ◌<◌, List, length, subst}
 use Rattle.afdx_conform.specs.Findings.{strangeness}
 use Rattle.afdx_conform.specs.declared.finding.Finding.TheVariants.{Strange}
 use Rattle.afdx_conform.specs.declared.finding.Mark.{Mark}
+use Rattle.afdx_conform.specs.KnownBytes.{may_fit}
 use Rattle.afdx_conform.specs.Limits.{gone_of}
 use Rattle.afdx_conform.specs.Marks.{marked_all}
 use Rattle.afdx_conform.specs.Naming.{IsNamedAt}
@@ -27,4 +28,5 @@ returns-in-Some-clause-named c z a =
     c.as_slice.ensures.value (c.in-Some.ensures.named z a))
 
 pub first_place-requires-clause-places : goal.first_place-requires-clause-places
-first_place-requires-clause-places c = c.no_less-later.ensures c.args.frame.now.bytes c.args.arrivals.now c.requires.places
+first_place-requires-clause-places c = c.no_less-later.ensures (may_fit c.args.limits.now c.args.frame.now)
+    c.args.arrivals.now c.requires.places

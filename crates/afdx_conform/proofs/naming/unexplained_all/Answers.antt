@@ -70,7 +70,7 @@ returns-clause-found c z time j a e =
     (take_all c.loop-frame.frame-index c.args.frames.now (let h = c.loop-frame-test.false in omega (arith, h)))
 
 pub unexplained-finding-requires-clause-places : goal.unexplained-finding-requires-clause-places
-unexplained-finding-requires-clause-places c = c.places-places.ensures c.args.arrivals.now c.requires.known c.requires.each
+unexplained-finding-requires-clause-places c = c.places-places.ensures
 
 pub returns-clause-settled : goal.returns-clause-settled
 returns-clause-settled c =

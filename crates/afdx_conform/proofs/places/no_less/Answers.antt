@@ -6,10 +6,10 @@ use Rattle.afdx_conform.proofs.PlacesLemmas.{parted, stand-later}
 use Rattle.afdx_conform.proofs.places.no_less.Goals as goal
 
 pub returns : goal.returns
-returns c bytes arrivals h =
+returns c test arrivals h =
     let point = IsPartitionPoint-from_clause (λ (y : ℕ). ltb y c.args.least) _ _ c.partition_point-count.ensures.partitioned
-    (parted bytes arrivals c.args.places.now c.args.least h) (λ a r q k. search rules) in
-    subst (λ (l : List ℕ). StandAt bytes c.args.least (drop c.args.least arrivals) l)
+    (parted test arrivals c.args.places.now c.args.least h) (λ a r q k. search rules) in
+    subst (λ (l : List ℕ). StandAt test c.args.least (drop c.args.least arrivals) l)
     (sym (take_rest c.args.places.now c.partition_point-count.result))
-    (stand-later bytes arrivals c.args.places.now c.partition_point-count.result c.args.least
+    (stand-later test arrivals c.args.places.now c.partition_point-count.result c.args.least
     c.partition_point-count.ensures.bound point h)

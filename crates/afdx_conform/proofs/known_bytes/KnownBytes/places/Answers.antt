@@ -1,11 +1,13 @@
-use Rattle.std.proofs.Common.{List, ℕ, sym, ap, ◌∙◌, subst}
-use Rattle.afdx_conform.specs.KnownBytes.{StandAt, kept_at, key_of}
+use Rattle.std.proofs.Common.{List, ℕ, sym, ◌∙◌, subst}
+use Rattle.afdx_conform.specs.KnownBytes.{StandAt, has_bytes}
 use Rattle.afdx_conform.proofs.PlacesLemmas.{kept-stand}
 use Rattle.afdx_conform.proofs.known_bytes.KnownBytes.places.Goals as goal
 
-pub returns-then-self : goal.returns-then-self
-returns-then-self c arrivals known sought =
-    subst (λ (l : List ℕ). StandAt c.args.bytes.now 0 arrivals l)
-    (sym (c.at.ensures ∙ ap (λ (l : List ℕ). kept_at c.args.self.now.places l) c.key.ensures
-    ∙ known c.if-self.true (key_of c.args.bytes.now)))
-    (kept-stand c.args.bytes.now 0 arrivals)
+pub in_time-requires-clause-order : goal.in_time-requires-clause-order
+in_time-requires-clause-order c = c.requires.known.order c.if-self.true
+
+pub in_time-requires-clause-places : goal.in_time-requires-clause-places
+in_time-requires-clause-places c =
+    subst (λ (l : List ℕ). StandAt (has_bytes c.args.frame.now.bytes) 0 c.args.arrivals.now l)
+    (sym (c.at-alike.ensures ∙ c.requires.known.kept c.if-self.true c.args.frame.now.bytes))
+    (kept-stand c.args.frame.now.bytes 0 c.args.arrivals.now)
