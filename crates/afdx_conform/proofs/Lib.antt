@@ -76,3 +76,7 @@ pub mod BytesLemmas
 pub mod PlacesLemmas
 pub mod SearchLemmas
 pub mod GatherLemmas
+pub mod StillLemmas
+pub mod PassedLemmas
+pub mod LeanLemmas
+pub mod WindowLemmas
