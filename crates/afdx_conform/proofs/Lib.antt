@@ -78,3 +78,7 @@ pub mod ByBytesLemmas
 pub mod PlacesLemmas
 pub mod SearchLemmas
 pub mod GatherLemmas
+pub mod StillLemmas
+pub mod PassedLemmas
+pub mod LeanLemmas
+pub mod WindowLemmas

@@ -141,7 +141,7 @@ due-sure s moment h = by s.judging.is_unsure refl h
     by true e k = absurd (cc)
     by false e k = e
 
-due-unsure : (s : Growth) → s.judging.is_unsure ≡ true → due_by s ≡ None
+pub due-unsure : (s : Growth) → s.judging.is_unsure ≡ true → due_by s ≡ None
 unfolding due_by
 due-unsure s e = ap (λ (b : Bool). if b then None else due_in s.bounds.limits
     (drop (length s.judging.marks.items) s.arrivals.items) (drop s.closed s.frames.items)) e

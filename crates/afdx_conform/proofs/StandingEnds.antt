@@ -21,6 +21,7 @@ use Rattle.afdx_conform.proofs.EventLemmas.{came-all}
 use Rattle.afdx_conform.proofs.EveryLemmas.{reverse-first}
 use Rattle.afdx_conform.proofs.GrowthFrames.{shown-late}
 use Rattle.afdx_conform.proofs.HistoryLemmas.{events-so-far}
+use Rattle.afdx_conform.proofs.LeanLemmas.{lean-none}
 use Rattle.afdx_conform.proofs.StandingDecides.{due-is}
 
 -- ---- an unsure stream stays so
@@ -176,4 +177,5 @@ stands-new z time s f = record {
   before = tt;
   is_after = λ until le. f until;
   judged = λ until le. refl;
+  lean = lean-none (until_then time z) s.growth (f time) (f time).unsure;
 }

@@ -7,6 +7,7 @@ use Rattle.afdx_conform.specs.Events.{event_time}
 use Rattle.afdx_conform.specs.Findings.{Judged}
 use Rattle.afdx_conform.specs.Growing.{IsAfter, IsSame, MayCome, MayLeave}
 use Rattle.afdx_conform.specs.Histories.{AreOver, coming, judged_by, next_of, over_at, shown, uncut}
+use Rattle.afdx_conform.specs.Holding.{IsLean}
 use Rattle.afdx_conform.specs.Marks.{IsJudged, arrival_of}
 use Rattle.afdx_conform.specs.Standing.{IsEnding, StandsFor}
 use Rattle.afdx_conform.specs.States.{Event, Came, Closing}
@@ -17,6 +18,7 @@ use Rattle.afdx_conform.proofs.GrowthFrames.{shown-late}
 use Rattle.afdx_conform.proofs.GrowthLemmas.{judged-came}
 use Rattle.afdx_conform.proofs.GrowthStarts.{after-same}
 use Rattle.afdx_conform.proofs.LaterEnd.{end_later}
+use Rattle.afdx_conform.proofs.LeanLemmas.{lean-same}
 use Rattle.afdx_conform.proofs.OverLemmas.{not-open}
 
 -- ---- whatever the end is
@@ -81,30 +83,34 @@ leave-for z until ys time y m = record { behind = m.behind; by_time = m.by_time;
 module _ (z : Terms) (xs : List Arrival) (ys : List Gone) (j : Judged) (time : ℕ) (old new : Stream) (h : StandsFor z xs ys j time old)
   where
     pub stands-came : (a : Arrived) → IsJudged z a → MayCome z xs time (arrival_of a)
-        → ((until : ℕ) → time ≤ until → IsAfter (until_then until z) (xs ++ (arrival_of a ∷ [])) ys 0 h.over new.growth)
+        → ((until : ℕ) → time ≤ until → IsAfter (until_then until z) (xs ++ (arrival_of a ∷ [])) ys 0 h.over new.growth
+        × (IsLean old.growth → IsLean new.growth))
         → StandsFor z (xs ++ (arrival_of a ∷ [])) ys j time new
     stands-came a js m f = record {
       over = h.over;
       before = h.before;
-      is_after = f;
+      is_after = λ until le. (f until le).0;
       judged = λ until le.
           ap (λ (k : Judged). shown k) (judged-came (until_then until z) xs ys 0 time h.over a old.growth
           old.growth.arrivals 0 old.growth.known m.behind
           (over-until z until time h.over h.before) (h.is_after until le).events)
           ∙ h.judged until le;
+      lean = (f time (omega arith)).1 h.lean;
     }
 
     pub stands-left : (y : Gone) → MayLeave z ys time y
-        → ((until : ℕ) → time ≤ until → IsAfter (until_then until z) xs (ys ++ (y ∷ [])) 0 h.over new.growth)
+        → ((until : ℕ) → time ≤ until → IsAfter (until_then until z) xs (ys ++ (y ∷ [])) 0 h.over new.growth
+        × (IsLean old.growth → IsLean new.growth))
         → StandsFor z xs (ys ++ (y ∷ [])) j time new
     stands-left y m f = record {
       over = h.over;
       before = h.before;
-      is_after = f;
+      is_after = λ until le. (f until le).0;
       judged = λ until le.
           shown-late (until_then until z) xs ys (y ∷ []) time h.over (h.is_after until le).told (h.is_after until le).events le
           ((let b = m.behind in omega (arith, b)), tt) (over-until z until time h.over h.before)
           ∙ h.judged until le;
+      lean = (f time (omega arith)).1 h.lean;
     }
 
     pub stands-same : IsSame old.growth new.growth → StandsFor z xs ys j time new
@@ -113,6 +119,7 @@ module _ (z : Terms) (xs : List Arrival) (ys : List Gone) (j : Judged) (time : �
       before = h.before;
       is_after = λ until le. after-same (until_then until z) xs ys 0 h.over old.growth new.growth s (h.is_after until le);
       judged = h.judged;
+      lean = lean-same old.growth new.growth s h.lean;
     }
 
     over-later : (other : ℕ) (over : List Event) → time ≤ other → AreOver z time over → AreOver z other over
@@ -126,6 +133,7 @@ module _ (z : Terms) (xs : List Arrival) (ys : List Gone) (j : Judged) (time : �
       before = over-later other h.over le h.before;
       is_after = λ until more. h.is_after until (omega (arith, le, more));
       judged = λ until more. h.judged until (omega (arith, le, more));
+      lean = h.lean;
     }
 
 pub ending-same : (z : Terms) (xs : List Arrival) (ys : List Gone) (j : Judged) (old new : Stream) → IsEnding z xs ys j old

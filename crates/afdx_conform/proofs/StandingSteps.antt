@@ -13,7 +13,7 @@ use Rattle.afdx_conform.specs.Streams.{Gone, Terms}
 use Rattle.afdx_conform.specs.declared.streaming.Stream.{Stream}
 use Rattle.afdx_conform.proofs.HistoryLemmas.{over-moment}
 use Rattle.afdx_conform.proofs.StandingDecides.{due-sure, finds, next-due}
-use Rattle.afdx_conform.proofs.StandingLemmas.{judged-until, next-until, time-until}
+use Rattle.afdx_conform.proofs.StandingLemmas.{judged-until, next-until, none-open, time-until}
 
 module _ (z : Terms) (xs : List Arrival) (ys : List Gone) (j : Judged) (time moment : ℕ) (old : Stream)
     (h : StandsFor z xs ys j time old) (due : due_of old ≡ Some moment) (lt : moment < time) where
@@ -79,6 +79,7 @@ module _ (z : Terms) (xs : List Arrival) (ys : List Gone) (j : Judged) (time mom
           is_after = λ until le. (d until le).0;
           judged = λ until le. ap (λ (k : Judged). shown k)
               (judged-until z xs ys time until time (closed_too closed (event ∷ h.over)) le (omega arith) before);
+          lean = here-at.3 (none-open z time time (closed_too closed (event ∷ h.over)) (omega arith) before);
         },
         record {
           is_moment = two.is_moment;

@@ -5,6 +5,7 @@ use Rattle.afdx_police.specs.Arrival.{Arrival}
 use Rattle.afdx_police.specs.Rule.{regulation_of}
 use Rattle.afdx_police.specs.RuleOf.{rule_of}
 use Rattle.afdx_conform.specs.Accounts.{AreRates}
+use Rattle.afdx_conform.specs.Ahead.{NoneIsOpen}
 use Rattle.afdx_conform.specs.Bounds.{AreBounds}
 use Rattle.afdx_conform.specs.Events.{GoUp, arrival_times, closings_in, event_time, frame_times, moment_at}
 use Rattle.afdx_conform.specs.Explanations.{from_time, last_time}
@@ -12,6 +13,7 @@ use Rattle.afdx_conform.specs.Findings.{Finding, Judged, Marked, sound_events}
 use Rattle.afdx_conform.specs.Forgetting.{FitNone, with_gone}
 use Rattle.afdx_conform.specs.HeldStates.{IsWithin}
 use Rattle.afdx_conform.specs.Histories.{AreEvents, judged_by, unsure_in}
+use Rattle.afdx_conform.specs.Holding.{IsLean}
 use Rattle.afdx_conform.specs.Judging as judging
 use Rattle.afdx_conform.specs.KnownBytes.{AreKnown}
 use Rattle.afdx_conform.specs.Leeway.{reach}
@@ -182,13 +184,15 @@ pub record IsQuiet (z : Terms) (xs : List Arrival) (ys : List Gone) (over : List
   pub early : IsEarly z moment closed
   pub same : judged_by z xs ys (closed_too closed over) ≡ judged_by z xs ys over
 
--- the next event of a stream is over: these are found there; and behind it this closing
+-- the next event of a stream is over: these are found there; and behind it this closing; what is
+-- decided is let go of, while no arrival is open
 abbrev pub Decides : Terms → List Arrival → List Gone → ℕ → List Event → Growth → Event
     → Option ℕ → List Finding → Type 0
 Decides z xs ys cut over s e closed found = IsAfter z xs ys cut (closed_too closed (e ∷ over)) s
     × judging.AreFound (event_time z e) found (judged_by z xs ys over)
     (judged_by z xs ys (e ∷ over))
     × IsQuiet z xs ys (e ∷ over) (moment_at z (event_time z e)) closed
+    × (NoneIsOpen z (closed_too closed (e ∷ over)) → IsLean s)
 
 -- ---- what may come
 

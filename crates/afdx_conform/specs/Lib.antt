@@ -35,5 +35,6 @@ pub mod SomeKnown
 pub mod Histories
 pub mod RightCut
 pub mod Open
+pub mod Holding
 pub mod Growing
 pub mod Standing

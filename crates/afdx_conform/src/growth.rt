@@ -13,6 +13,7 @@ ghost use Rattle.afdx_conform.specs.Limits.{gone_of};
 ghost use Rattle.afdx_conform.specs.Marks.{IsJudged, arrival_of};
 ghost use Rattle.afdx_conform.specs.Growing.{IsAfter, IsSame, IsSameOrLater, IsSound};
 ghost use Rattle.afdx_conform.specs.Growing.{MayCome, MayLeave, due_by};
+ghost use Rattle.afdx_conform.specs.Holding.{IsLean};
 ghost use Rattle.afdx_conform.specs.States.{Event};
 ghost use Rattle.afdx_conform.specs.Streams.{Gone, Terms};
 
@@ -112,7 +113,8 @@ impl Growth {
         ensures after { (z : Terms) (xs : List Arrival) (ys : List Gone) (cut time : ℕ)
             (over : List Event) → IsJudged z arrived → MayCome z xs time (arrival_of arrived) →
             AreOver z time over → IsAfter z xs ys cut over self.old →
-            OnOk result (IsAfter z (xs ++ arrival_of arrived ∷ []) ys cut over self.new) }
+            OnOk result (IsAfter z (xs ++ arrival_of arrived ∷ []) ys cut over self.new
+            × (IsLean self.old → IsLean self.new)) }
         ensures due { OnOk result
             (IsSameOrLater (due_by self.old) arrived.time (due_by self.new)) }
         ensures refused { OnErr result (IsSame self.old self.new) }
@@ -144,7 +146,8 @@ impl Growth {
         ensures after { (z : Terms) (xs : List Arrival) (ys : List Gone) (time : ℕ)
             (over : List Event) → MayLeave z ys time (gone_of frame) → time ≤ z.until →
             AreOver z time over → IsAfter z xs ys 0 over self.old →
-            OnOk result (IsAfter z xs (ys ++ gone_of frame ∷ []) 0 over self.new) }
+            OnOk result (IsAfter z xs (ys ++ gone_of frame ∷ []) 0 over self.new
+            × (IsLean self.old → IsLean self.new)) }
         ensures due { OnOk result
             (IsSameOrLater (due_by self.old) frame.time (due_by self.new)) }
         ensures refused { OnErr result (IsSame self.old self.new) }

@@ -16,6 +16,7 @@ ghost use Rattle.afdx_conform.specs.Open.{OpenIsLeast};
 ghost use Rattle.afdx_conform.specs.Right.{RightIsExplained, SomeIsRight};
 ghost use Rattle.afdx_conform.specs.RightCut.{RightIsCut};
 ghost use Rattle.afdx_conform.specs.SomeKnown.{SomeIsKnown};
+ghost use Rattle.afdx_conform.specs.Standing.{HoldsOneWindow};
 ghost use Rattle.afdx_conform.specs.Sure.{ExactIsSure};
 ghost use Rattle.afdx_conform.specs.Thinned.{KeptAreEnough};
 ghost use Rattle.afdx_conform.specs.Worked.{WorkedRows};
@@ -133,4 +134,10 @@ pub fn right_is_cut()
 /// accepted arrivals that wait in what explains it.
 pub fn open_is_least()
     ensures { OpenIsLeast }
+{}
+
+/// While no event of an earlier moment is due a stream holds at most twice as many arrivals and
+/// frames as came and left in the last window before it.
+pub fn one_window_is_held()
+    ensures { HoldsOneWindow }
 {}

@@ -41,14 +41,15 @@ impl Stream {
     ghost use Rattle.afdx_police.specs.Arrival.{Arrival};
     ghost use Rattle.afdx_police.specs.RuleOf.{rule_of};
     ghost use Rattle.afdx_conform.specs.Findings.{Judged};
-    ghost use Rattle.afdx_conform.specs.Growing.{IsDueLater, IsSameOrLater, MayCome, MayLeave};
+    ghost use Rattle.afdx_conform.specs.Growing.{IsDueLater, IsNoSooner, IsSameOrLater};
+    ghost use Rattle.afdx_conform.specs.Growing.{MayCome, MayLeave};
     ghost use Rattle.afdx_conform.specs.Histories.{counts_of, judged_of, nothing_judged, shown};
     ghost use Rattle.afdx_conform.specs.Histories.{unsure_in};
     ghost use Rattle.afdx_conform.specs.LeewayOf.{leeway_of};
     ghost use Rattle.afdx_conform.specs.Limits.{gone_of};
     ghost use Rattle.afdx_conform.specs.Marks.{IsJudged, arrival_of};
     ghost use Rattle.afdx_conform.specs.Standing.{Finds, IsEnding, StandsFor, due_of, held_in};
-    ghost use Rattle.afdx_conform.specs.Standing.{undecided_in};
+    ghost use Rattle.afdx_conform.specs.Standing.{in_window, undecided_in};
     ghost use Rattle.afdx_conform.specs.Streams.{Gone, Terms};
 
     /// A stream of which nothing came, of a link of this rule and latency, at a port on whose line
@@ -186,9 +187,13 @@ impl Stream {
         self.growth.counts()
     }
 
-    /// How many arrivals and frames it holds.
+    /// How many arrivals and frames it holds: while no event of an earlier moment is due, at most
+    /// twice as many as came and left in the last window before it.
     pub fn held(&self) -> usize
-        ensures { result ≡ held_in self.now }
+        ensures held { result ≡ held_in self.now }
+        ensures window { (z : Terms) (xs : List Arrival) (ys : List Gone) (j : Judged)
+            (time moment : ℕ) → StandsFor z xs ys j time self.now →
+            IsNoSooner moment (due_of self.now) → result ≤ 2 * in_window z xs ys moment }
     {
         self.growth.arrivals.len() + self.growth.frames.len()
     }

@@ -1,16 +1,23 @@
 use Rattle.std.proofs.Common.{◌+◌, refl}
 use Rattle.afdx_conform.proofs.DueLemmas.{due-came, due-many}
 use Rattle.afdx_conform.proofs.GrowthLemmas.{after-came, after-unsure, not-many}
+use Rattle.afdx_conform.proofs.LeanLemmas.{lean-came}
 use Rattle.afdx_conform.proofs.growth.Growth.add_arrival.Goals as goal
 
 pub returns-then-self-clause-after : goal.returns-then-self-clause-after
-returns-then-self-clause-after c z xs ys cut time over j m o f =
-    after-unsure z xs ys cut time over c.args.arrived c.args.self.now c.args.self.now.arrivals 0 c.args.self.now.known c.if-self.true m o f
+returns-then-self-clause-after c z xs ys cut time over j m o f = (
+  after-unsure z xs ys cut time over c.args.arrived c.args.self.now c.args.self.now.arrivals 0 c.args.self.now.known
+      c.if-self.true m o f,
+  λ l. l,
+)
 
 pub returns-clause-after : goal.returns-clause-after
-returns-clause-after c z xs ys cut time over j m o f =
-    after-came z xs ys cut time over c.args.arrived c.args.self.now c.push.new.self (c.args.self.now.came + 1) c.tell.new.self
-    c.in-Ok.ensures.items refl j m o c.requires.sound.places f
+returns-clause-after c z xs ys cut time over j m o f = (
+  after-came z xs ys cut time over c.args.arrived c.args.self.now c.push.new.self (c.args.self.now.came + 1)
+      c.tell.new.self c.in-Ok.ensures.items refl j m o c.requires.sound.places f,
+  λ l. lean-came c.args.arrived c.args.self.now c.push.new.self (c.args.self.now.came + 1) c.tell.new.self
+      c.in-Ok.ensures.items c.requires.sound.places c.if-self.false l,
+)
 
 pub returns-clause-due : goal.returns-clause-due
 returns-clause-due c =

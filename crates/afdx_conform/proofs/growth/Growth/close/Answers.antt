@@ -75,6 +75,7 @@ returns-clause-decides c z xs ys cut over f sure at next r =
       c.forget.ensures.after z xs ys cut (Closing c.index.result.now.time ∷ over) one.0,
       one.1,
       record { early = tt; same = refl },
+      λ none. c.forget.ensures.lean z xs ys cut (Closing c.index.result.now.time ∷ over) refl none one.0,
     )
 
 pub returns-clause-less : goal.returns-clause-less

@@ -18,6 +18,7 @@ use Rattle.afdx_conform.specs.declared.growth.Growth.{Growth}
 use Rattle.afdx_conform.specs.declared.limits.Frame.{Frame}
 use Rattle.afdx_conform.proofs.ClosedLemmas.{same-arrived}
 use Rattle.afdx_conform.proofs.GrowthDecides.{Come, after-come, outcome-of}
+use Rattle.afdx_conform.proofs.LeanLemmas.{some-over}
 use Rattle.afdx_conform.proofs.UndecidedLemmas.{undecided-less}
 use Rattle.afdx_conform.proofs.growth.Growth.come.Goals as goal
 
@@ -98,6 +99,9 @@ returns-clause-decides c = (
         c.forget.ensures.after z xs ys cut (closed_too closed (Came (arrival_of c.index-arrived.result.now) ∷ over)) two.0,
         one.1,
         subst (λ (n : ℕ). IsQuiet z xs ys (Came (arrival_of c.index-arrived.result.now) ∷ over) n closed) told two.1,
+        λ none. c.forget.ensures.lean z xs ys cut
+            (closed_too closed (Came (arrival_of c.index-arrived.result.now) ∷ over))
+            (some-over closed (Came (arrival_of c.index-arrived.result.now)) over) none two.0,
       ),
 )
 
