@@ -1,5 +1,7 @@
 pub mod CutLemmas
 pub mod PlaceLemmas
 pub mod OnceLemmas
+pub mod PlacedLemmas
+pub mod PuttingLemmas
 pub mod SayingLemmas
 pub mod WordsLemmas

@@ -3,7 +3,7 @@ use Rattle.std.proofs.Common.{◌≡◌, ◌++◌, ℕ, List, [], ◌∷◌, ref
 use Rattle.std.proofs.lemmas.List.{append-nil}
 use Rattle.afdx_frame.specs.declared.link.Side.{Side}
 use Rattle.afdx_frame.specs.declared.link.Side.TheVariants.{A, B}
-use Rattle.afdx_words.specs.PlaceSaid.{IsWritten, IsPort, IsName, letter, IsNamePart, IsPortPart, Spot}
+use Rattle.afdx_words.specs.PlaceSaid.{letter, IsPortPart, Spot}
 use Rattle.afdx_words.specs.PlaceSaid.{IsSite, IsSpot, IsPlace, IsWord}
 use Rattle.afdx_words.proofs.CutLemmas.{Lacks, apart, lacks-digits}
 use Rattle.afdx_words.proofs.PlaceLemmas.{site-whole, site-parts, spot-begins, spot-whole, spot-parts, word-parts}

@@ -1,15 +1,15 @@
 -- What some words `K=PLACE` say.
-use Rattle.std.proofs.Common.{◌≡◌, ◌≢◌, ◌++◌, ◌<◌, ◌≤◌, ℕ, List, [], ◌∷◌, refl, sym, ap, arith, ◌∙◌, Option, Some, None}
-use Rattle.std.proofs.Common.{codes, length, rules}
+use Rattle.std.proofs.Common.{◌≡◌, ◌≢◌, ◌++◌, ◌<◌, ◌≤◌, ℕ, List, [], ◌∷◌, refl, arith, Option, Some, None}
+use Rattle.std.proofs.Common.{codes, length}
 use Rattle.std.specs.Str.Parse.{AllDigits, digits_value}
 use Rattle.afdx_frame.specs.declared.link.Side.{Side}
 use Rattle.afdx_frame.specs.declared.link.Side.TheVariants.{A, B}
 use Rattle.afdx_recorded.specs.Places.{most_interfaces}
-use Rattle.afdx_words.specs.PlaceSaid.{IsWritten, IsPort, IsName, IsNamePart, IsPortPart, IsPlace, IsSite, IsSpot}
+use Rattle.afdx_words.specs.PlaceSaid.{IsWritten, IsPort, IsName, IsNamePart, IsPortPart, IsPlace, IsSite}
 use Rattle.afdx_words.specs.PlaceSaid.{IsWord, Spot, letter}
 use Rattle.afdx_words.specs.WordLaws.{OtherWords, SomeWords, SaysNothing, spot_with}
 use Rattle.afdx_words.proofs.CutLemmas.{Lacks, apart, lacks-none, lacks-more}
-use Rattle.afdx_words.proofs.PlaceLemmas.{HasPlace, HasPort, word-parts, spot-parts, spot-whole, site-parts, site-whole}
+use Rattle.afdx_words.proofs.PlaceLemmas.{word-parts, spot-parts, spot-whole, site-parts}
 
 -- ---- words that say something
 

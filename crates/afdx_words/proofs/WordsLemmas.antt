@@ -1,5 +1,5 @@
 -- The words of an option, in their order.
-use Rattle.std.proofs.Common.{◌≡◌, ◌++◌, ℕ, List, [], ◌∷◌, map, refl, ap, sym, ◌∙◌, Option, Some, None, option_map, Bor}
+use Rattle.std.proofs.Common.{◌≡◌, ◌++◌, ℕ, List, [], ◌∷◌, map, refl, Option, Some, None, option_map, Bor}
 use Rattle.std.specs.Option.{option_map_or, unwrap_or}
 use Rattle.std.proofs.Common.{◌<◌, ◌+◌, length, take, get_or}
 use Rattle.std.proofs.lemmas.List.{map_more}

@@ -1,5 +1,7 @@
 //! Why a word of `--interface` or `--left` is refused.
 
+ghost use Rattle.std.specs.Prelude.{◌≡◌};
+
 use crate::recording_words::Refused;
 use std::fmt;
 use std::fmt::{Display, Formatter, Write};
@@ -41,7 +43,9 @@ pub(crate) struct Given<'a> {
 
 impl<'a> Given<'a> {
     /// A word of `--interface`.
-    pub(crate) fn interface(word: &'a str) -> Given<'a> {
+    pub(crate) fn interface(word: &'a str) -> Given<'a>
+        ensures { result.word.now ≡ word.now }
+    {
         Given {
             option: "interface",
             word,
@@ -49,7 +53,9 @@ impl<'a> Given<'a> {
     }
 
     /// A word of `--left`.
-    pub(crate) fn left(word: &'a str) -> Given<'a> {
+    pub(crate) fn left(word: &'a str) -> Given<'a>
+        ensures { result.word.now ≡ word.now }
+    {
         Given {
             option: "left",
             word,

@@ -1,13 +1,14 @@
 //! Where the frames of each interface of a recording came in, by the words of `--interface`.
 
-ghost use Rattle.std.specs.Prelude.{◌<◌, ◌≡◌, ◌↔◌, ◌^◌, ℕ, IfOk, IfSome, IsTrue, List, None, Option};
-ghost use Rattle.std.specs.Prelude.{Some, option_map};
+ghost use Rattle.std.specs.Prelude.{◌<◌, ◌≡◌, ◌↔◌, ◌^◌, ◌++◌, ◌∷◌, [], ℕ, IfOk, OnOk, IfSome, IsTrue};
+ghost use Rattle.std.specs.Prelude.{List, None, Option, Some, length, map, option_map};
 ghost use Rattle.std.specs.List.{list_all};
 ghost use Rattle.std.specs.Char.{is_ascii_alphanumeric};
 ghost use Rattle.afdx_frame.specs.declared.link.Side.{Side};
-ghost use Rattle.afdx_recorded.specs.Places.{most_interfaces};
+ghost use Rattle.afdx_recorded.specs.Places.{most_interfaces, names_of};
 ghost use Rattle.afdx_words.specs.PlaceSaid.{IsName, IsPlace, IsPort, IsSite, IsWord, IsWritten};
 ghost use Rattle.afdx_words.specs.PlaceSaid.{Reads, Spot, letter, spot_of};
+ghost use Rattle.afdx_words.specs.Placed.{AreCame, AreCameOn, IsMeant, IsNew, IsNewBy, IsNewOn, place_on};
 
 use crate::misplaced::{Given, Misplaced};
 use crate::recording_words::Refused;
@@ -123,24 +124,51 @@ fn interface_in(word: &str) -> Option<(u16, Said<'_>)>
     Some((interface, place_in(place)?))
 }
 
+/// The place on a side or, if a port is said, at that one.
+pub(crate) fn place_on(side: Side, port: Option<u8>) -> Place
+    ensures { result ≡ place_on side port }
+{
+    match port {
+        Some(port) => Place::AtPort(side, port),
+        None => Place::OnSide(side),
+    }
+}
+
+/// The number that the name of a switch gets.
+fn number_of_name<'a>(
+    alloc: Global,
+    interfaces: &mut Interfaces,
+    given: Given<'a>,
+    name: &str,
+) -> Result<u16, Refused<'a>>
+    ensures number { IfOk result (λ n. n ≡ length (names_of interfaces.old)) }
+    ensures names { OnOk result
+        (names_of interfaces.new ≡ names_of interfaces.old ++ name.now ∷ []) }
+    ensures places { OnOk result (interfaces.new.places ≡ interfaces.old.places) }
+{
+    let name = String::from_str(alloc, name)?;
+    match interfaces.name(name)? {
+        Some(number) => Ok(number),
+        None => Err(given.refused(Misplaced::Many)),
+    }
+}
+
 /// The place that is said, with the number that a name of a switch gets.
-fn place_of<'a>(
+fn place_meant<'a>(
     alloc: Global,
     interfaces: &mut Interfaces,
     given: Given<'a>,
     said: Said<'_>,
-) -> Result<Place, Refused<'a>> {
+) -> Result<Place, Refused<'a>>
+    ensures { IfOk result (IsMeant interfaces.old interfaces.new (spot_of said.entry)) }
+{
     match said {
         Said::LeftOut => Ok(Place::LeftOut),
         Said::At(side, Some(name), port) => {
-            let name = String::from_str(alloc, name)?;
-            let Some(number) = interfaces.name(name)? else {
-                return Err(given.refused(Misplaced::Many));
-            };
+            let number = number_of_name(alloc, interfaces, given, name)?;
             Ok(Place::AtNamed(side, number, port))
         }
-        Said::At(side, None, Some(port)) => Ok(Place::AtPort(side, port)),
-        Said::At(side, None, None) => Ok(Place::OnSide(side)),
+        Said::At(side, None, port) => Ok(place_on(side, port)),
     }
 }
 
@@ -152,6 +180,7 @@ pub(crate) fn put_new<'a>(
     place: Place,
 ) -> Result<(), Refused<'a>>
     requires { interface < most_interfaces }
+    ensures { OnOk result (IsNew interfaces.old interfaces.new interface place) }
 {
     if interfaces.place(interface).is_some() {
         return Err(given.refused(Misplaced::Twice));
@@ -169,8 +198,10 @@ fn put_once<'a>(
     said: Said<'_>,
 ) -> Result<(), Refused<'a>>
     requires { interface < most_interfaces }
+    ensures { OnOk result
+        (IsNewBy interfaces.old interfaces.new interface (spot_of said.entry)) }
 {
-    let place = place_of(alloc, interfaces, given, said)?;
+    let place = place_meant(alloc, interfaces, given, said)?;
     put_new(interfaces, given, interface, place)
 }
 
@@ -201,7 +232,9 @@ pub(crate) fn interfaces_in<'a>(
     alloc: Global,
     words: &[&'a str],
     several: bool,
-) -> Result<Interfaces, Refused<'a>> {
+) -> Result<Interfaces, Refused<'a>>
+    ensures { IfOk result (AreCame (map (λ word. word.now) words.now)) }
+{
     let mut interfaces = Interfaces::new(alloc)?;
     for word in words {
         let given = Given::interface(word);
@@ -226,6 +259,10 @@ fn put_in_pair<'a>(
     said: Said<'_>,
 ) -> Result<(), Refused<'a>>
     requires { interface < most_interfaces }
+    ensures a { OnOk result
+        (IsNewOn Side.A pair.old.a pair.new.a interface (spot_of said.entry)) }
+    ensures b { OnOk result
+        (IsNewOn Side.B pair.old.b pair.new.b interface (spot_of said.entry)) }
 {
     match said {
         Said::LeftOut => {
@@ -241,11 +278,13 @@ fn put_in_pair<'a>(
 pub(crate) fn pair_interfaces_in<'a>(
     alloc: Global,
     words: &[&'a str],
-) -> Result<BySide<Interfaces>, Refused<'a>> {
-    let mut pair = BySide {
-        a: Interfaces::new(alloc)?,
-        b: Interfaces::new(alloc)?,
-    };
+) -> Result<BySide<Interfaces>, Refused<'a>>
+    ensures a { IfOk result (λ pair. AreCameOn Side.A (map (λ word. word.now) words.now) pair.a) }
+    ensures b { IfOk result (λ pair. AreCameOn Side.B (map (λ word. word.now) words.now) pair.b) }
+{
+    let a = Interfaces::new(alloc)?;
+    let b = Interfaces::new(alloc)?;
+    let mut pair = BySide { a, b };
     for word in words {
         let given = Given::interface(word);
         let Some((interface, said)) = interface_in(word) else {

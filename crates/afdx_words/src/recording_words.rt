@@ -2,8 +2,10 @@
 
 ghost use Rattle.std.specs.Prelude.{◌≡◌, codes, unwrap_or, IfOk, false};
 ghost use Rattle.clap.specs.Words.{found_of};
+ghost use Rattle.afdx_frame.specs.declared.link.Side.TheVariants.{A, B};
+ghost use Rattle.afdx_words.specs.Placed.{AreCame, AreCameOn};
 ghost use Rattle.afdx_words.specs.RecordingSaid.{SaysRecording, SaysReorder, is_said};
-ghost use Rattle.afdx_words.specs.Said.{SaysNumber};
+ghost use Rattle.afdx_words.specs.Said.{SaysNumber, words_of};
 
 use crate::misplaced::BadPlace;
 use crate::place_words::{interfaces_in, pair_interfaces_in};
@@ -212,8 +214,10 @@ pub fn recording_options<'a>(
     matches: &ArgMatches<'a>,
     several: bool,
 ) -> Result<RecordingOptions, Refused<'a>>
-    ensures { IfOk result (λ said. SaysRecording (found_of matches.now)
+    ensures reading { IfOk result (λ said. SaysRecording (found_of matches.now)
         said.fcs said.origin said.reorder said.from_start) }
+    ensures places { IfOk result (λ said.
+        AreCame (words_of (found_of matches.now) (codes "interface")) said.interfaces) }
 {
     let words = matches.get_strs("interface").unwrap_or(&[]);
     let interfaces = interfaces_in(alloc, words, several)?;
@@ -238,8 +242,12 @@ pub fn pair_options<'a>(
     matches: &ArgMatches<'a>,
     lists: BySide<&str>,
 ) -> Result<PairOptions, Refused<'a>>
-    ensures { IfOk result (λ said. SaysRecording (found_of matches.now)
+    ensures reading { IfOk result (λ said. SaysRecording (found_of matches.now)
         said.fcs said.origin said.reorder said.from_start) }
+    ensures places_a { IfOk result (λ said. AreCameOn A
+        (words_of (found_of matches.now) (codes "interface")) said.interfaces.a) }
+    ensures places_b { IfOk result (λ said. AreCameOn B
+        (words_of (found_of matches.now) (codes "interface")) said.interfaces.b) }
 {
     let words = matches.get_strs("interface").unwrap_or(&[]);
     let interfaces = pair_interfaces_in(alloc, words)?;

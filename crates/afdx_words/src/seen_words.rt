@@ -1,11 +1,14 @@
 //! What the words of `conform` say of recordings: where each interface was, and how to read them.
 
-ghost use Rattle.std.specs.Prelude.{◌≡◌, IfOk, IfSome};
+ghost use Rattle.std.specs.Prelude.{◌≡◌, IfOk, IfSome, OnOk, codes};
 ghost use Rattle.clap.specs.Words.{found_of};
+ghost use Rattle.afdx_recorded.specs.Places.{names_of, place_of};
+ghost use Rattle.afdx_words.specs.Placed.{AreCame, AreGone, ArePutBeside, AreSeen, Came, Gone, OfAll};
 ghost use Rattle.afdx_words.specs.RecordingSaid.{SaysSeen, says_either};
+ghost use Rattle.afdx_words.specs.Said.{words_of};
 
 use crate::misplaced::{BadPlace, Given, Misplaced};
-use crate::place_words::{put_new, sided_in};
+use crate::place_words::{place_on, put_new, sided_in};
 use crate::recording_words::{
     Refused, fcs_in, fcs_option, interface_option, reorder_in, reorder_option,
 };
@@ -93,23 +96,31 @@ fn are_recordings(matches: &ArgMatches<'_>) -> bool {
 
 /// Takes what each word of `--interface` says, of which there is one at least. Where a switch of
 /// several is judged each says a port: what a frame claims is its first sender.
-fn put_came<'a>(interfaces: &mut Interfaces, matches: &ArgMatches<'a>) -> Result<(), Refused<'a>> {
+fn put_came<'a>(interfaces: &mut Interfaces, matches: &ArgMatches<'a>) -> Result<(), Refused<'a>>
+    ensures { OnOk result (ArePutBeside OfAll (Came (names_of interfaces.new))
+        (words_of (found_of matches.now) (codes "interface"))
+        (place_of interfaces.old) (place_of interfaces.new)) }
+{
     let needs_port = matches.contains_id("switch");
     let words = matches.get_strs("interface").unwrap_or(&[]);
     for word in words {
         let given = Given::interface(word);
         let (interface, side, port) = sided_in(given)?;
-        match port {
-            Some(port) => put_new(interfaces, given, interface, Place::AtPort(side, port))?,
-            None if needs_port => return Err(given.refused(Misplaced::Port)),
-            None => put_new(interfaces, given, interface, Place::OnSide(side))?,
+        if needs_port && port.is_none() {
+            return Err(given.refused(Misplaced::Port));
         }
+        put_new(interfaces, given, interface, place_on(side, port))?;
     }
     any_of("interface", words)
 }
 
 /// Takes what each word of `--left` says, of which there is one at least; each says a port.
-fn put_left<'a>(interfaces: &mut Interfaces, matches: &ArgMatches<'a>) -> Result<(), Refused<'a>> {
+fn put_left<'a>(interfaces: &mut Interfaces, matches: &ArgMatches<'a>) -> Result<(), Refused<'a>>
+    ensures put { OnOk result (ArePutBeside OfAll Gone
+        (words_of (found_of matches.now) (codes "left"))
+        (place_of interfaces.old) (place_of interfaces.new)) }
+    ensures names { OnOk result (names_of interfaces.new ≡ names_of interfaces.old) }
+{
     let words = matches.get_strs("left").unwrap_or(&[]);
     for word in words {
         let given = Given::left(word);
@@ -145,7 +156,8 @@ fn options_of<'a>(
     interfaces: Interfaces,
     matches: &ArgMatches<'a>,
 ) -> Result<RecordingOptions, Refused<'a>>
-    ensures { IfOk result (SaysSeen (found_of matches.now)) }
+    ensures reading { IfOk result (SaysSeen (found_of matches.now)) }
+    ensures places { IfOk result (λ said. said.interfaces ≡ interfaces) }
 {
     let reorder = reorder_in(matches)?;
     Ok(RecordingOptions {
@@ -167,7 +179,10 @@ pub fn seen_options<'a>(
     alloc: Global,
     matches: &ArgMatches<'a>,
 ) -> Result<RecordingOptions, Refused<'a>>
-    ensures { IfOk result (SaysSeen (found_of matches.now)) }
+    ensures reading { IfOk result (SaysSeen (found_of matches.now)) }
+    ensures places { IfOk result (λ said. AreSeen
+        (words_of (found_of matches.now) (codes "interface"))
+        (words_of (found_of matches.now) (codes "left")) said.interfaces) }
 {
     let mut interfaces = Interfaces::new(alloc)?;
     put_came(&mut interfaces, matches)?;
@@ -185,6 +200,10 @@ pub fn seen_pair_options<'a>(
         SaysSeen (found_of matches.now) both.came)) }
     ensures left { IfOk result (λ said. IfSome said (λ both.
         SaysSeen (found_of matches.now) both.left)) }
+    ensures places_came { IfOk result (λ said. IfSome said (λ both. AreCame
+        (words_of (found_of matches.now) (codes "interface")) both.came.interfaces)) }
+    ensures places_left { IfOk result (λ said. IfSome said (λ both. AreGone
+        (words_of (found_of matches.now) (codes "left")) both.left.interfaces)) }
 {
     if !are_recordings(matches) {
         return Ok(None);
@@ -193,8 +212,10 @@ pub fn seen_pair_options<'a>(
     let mut left = Interfaces::new(alloc)?;
     put_came(&mut came, matches)?;
     put_left(&mut left, matches)?;
+    let of_came = options_of(came, matches)?;
+    let of_left = options_of(left, matches)?;
     Ok(Some(ByRole {
-        came: options_of(came, matches)?,
-        left: options_of(left, matches)?,
+        came: of_came,
+        left: of_left,
     }))
 }

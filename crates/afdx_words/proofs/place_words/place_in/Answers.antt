@@ -1,4 +1,4 @@
-use Rattle.std.proofs.Common.{arith, rules, ap, sym, ◌≡◌, ◌∙◌, ℕ, List, Option, Some, None, Bor, [], ◌∷◌, false}
+use Rattle.std.proofs.Common.{arith, rules, ap, ◌≡◌, ℕ, List, Option, Some, None, Bor, [], ◌∷◌, false}
 use Rattle.std.specs.Str.{bytes_eq}
 use Rattle.std.proofs.lemmas.Str.Pattern.{split_parts}
 use Rattle.afdx_words.proofs.PlaceLemmas.{IsCut, cut-ported, cut-whole, no-port-read, no-site-read, not-dash, spot-read}
