@@ -51,6 +51,7 @@ stream-later z k xs ys lines time to (slot.Stream s told) le stands = (
     before = over-later z time to stands.1.over le stands.1.before;
     is_after = λ until h. stands.1.is_after until (omega (arith, h, le));
     judged = λ until h. stands.1.judged until (omega (arith, h, le));
+    lean = stands.1.lean;
   },
   stands.2,
   stands.3,
