@@ -89,3 +89,7 @@ module _ {E : Type 0} (error_bytes : E → Option (List ℕ)) (config : List ℕ
   abbrev pub IsUnjudged : Type 0
   IsUnjudged = (ended.count ≡ None)
       × (IsUnread error_bytes old new config ended.status ⊎ HasNoSwitch)
+
+  -- a run ended the command, or there are no tables, and this holds
+  abbrev pub IsJudgedOr : (Rows → Result RunCounts RunFault → Type 0) → Type 0 → Type 0
+  IsJudgedOr ran untouched = IsJudged ran ⊎ (IsUnjudged × untouched)

@@ -12,6 +12,7 @@ pub mod Lines
 pub mod Slots
 pub mod Keeping
 pub mod Standing
+pub mod Taking
 pub mod Judging
 pub mod Beginning
 pub mod Counting

@@ -1,6 +1,6 @@
 -- What a run answers and writes, whatever gives it its frames. A list of lines has the oldest
 -- first, one of frames the newest.
-use Rattle.std.specs.Prelude.{ℕ, ◌≡◌, ◌⊎◌, Bool, true, false, List, ◌++◌, Option, None, Some, Result, Ok, Err, nat_lt, if◌then◌else◌}
+use Rattle.std.specs.Prelude.{ℕ, ◌≡◌, ◌⊎◌, Bool, true, false, List, ◌++◌, Option, None, Some, IfSome, Result, Ok, Err, nat_lt, if◌then◌else◌}
 use Rattle.std.specs.Option.{option_or}
 use Rattle.std.specs.Io.KnownBytes.{Appends}
 use Rattle.afdx_config.specs.Rows.{Rows}
@@ -12,14 +12,18 @@ use Rattle.afdx_inputs.specs.declared.seen_frames.SeenCount.{SeenCount}
 use Rattle.afdx_lists.specs.declared.fault.RunFault.{RunFault}
 use Rattle.afdx_lists.specs.declared.fault.RunFault.TheVariants.{Recording}
 use Rattle.afdx_lists.specs.declared.recording_fault.RecordingFault.TheVariants.{Lossy}
+use Rattle.afdx_recorded.specs.Claims.{Ports, ports_of_one}
 use Rattle.afdx_text.specs.ConformLines.{conform_text}
 use Rattle.afdx_text.specs.Sinks.{IsOfOutput}
 use Rattle.afdx_acceptance.specs.Choices.{Choices, until_or}
+use Rattle.afdx_acceptance.specs.ChoicesOf.{choices_of}
 use Rattle.afdx_acceptance.specs.Counting.{totals_of}
 use Rattle.afdx_acceptance.specs.Lines.{AreLines, Due, lines_of}
+use Rattle.afdx_acceptance.specs.Tapped.{Taps}
 use Rattle.afdx_acceptance.specs.Telling.{lines_text}
 use Rattle.afdx_acceptance.specs.Totals.{last_line}
 use Rattle.afdx_acceptance.specs.Written.{BeginsLast, BeginsWritten, IsWrittenSoFar}
+use Rattle.afdx_acceptance.specs.declared.choices.Choices as asked
 use Rattle.afdx_acceptance.specs.declared.run.RunCounts.{RunCounts}
 use Rattle.afdx_acceptance.specs.declared.totals.Totals.{Totals}
 
@@ -75,3 +79,13 @@ module _ (Takes : List Frame → Result SeenCount RunFault → Type 0) (k : Rows
       × (fault_behind is_lossy counted.count ≡ None)
       × WritesAll k frames old new counted.totals
   ConformAnswers (Err fault) = StopsAmong fault ⊎ StopsBehind fault
+
+-- a run by these tables with these choices, of these ports that were recorded, answers so, where
+-- the bytes of its inputs are known; an input may say of whom what came is
+abbrev pub Answers : {B I : Type 0} → Option B →
+    (Ports → B → I → List Frame → Result SeenCount RunFault → Type 0) → I →
+    Rows → Taps → asked.Choices → (old new : Option (List ℕ)) → Result RunCounts RunFault →
+    Type 0
+Answers known Takes inputs t taps choices old new answer = IfSome known (λ bytes.
+    ConformAnswers (Takes (ports_of_one t) bytes inputs) (t, choices_of taps choices)
+    choices.is_lossy old new answer)

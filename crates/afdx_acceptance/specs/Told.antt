@@ -1,9 +1,10 @@
 -- What a run has told of the frames of both roles. A list of lines has the oldest first, one of
 -- frames the newest.
-use Rattle.std.specs.Prelude.{ℕ, ◌≡◌, ◌<◌, ◌≤◌, Bool, true, false, is_some, List, Option, Some, None, min}
+use Rattle.std.specs.Prelude.{ℕ, ◌≡◌, ◌+◌, ◌<◌, ◌≤◌, Bool, true, false, is_some, List, ◌∷◌, length, Option, Some, None, min}
 use Rattle.std.specs.Io.KnownBytes.{Appends}
 use Rattle.std.specs.List.{AllByRecursion}
 use Rattle.afdx_config.specs.Rows.{Rows}
+use Rattle.afdx_conform.specs.Ranges.{most_held}
 use Rattle.afdx_engine.specs.Engine.{Item}
 use Rattle.afdx_inputs.specs.Joining.{Frame, frames_of}
 use Rattle.afdx_inputs.specs.declared.seen.Seen.{Seen}
@@ -102,3 +103,30 @@ abbrev pub TellsToEnd : Rows × Choices → Judging → Option (List ℕ) → Op
     List (Item Seen) → Type 0
 TellsToEnd k j old new past = (time : ℕ) × TellsAll k true time j old new (frames_of past)
     × (is_some j.streams.ended ≡ true) × IsNothingDue k.0 None j.streams.kept
+
+-- ---- what the calls of a run do; `done` says what holds where one did its work, else a device
+-- failed or memory was refused
+
+-- the recordings end at `until`, as may be said, and no frame is of a later time: the same is told,
+-- up to no earlier time, and the end is known
+abbrev pub ClosesAt : (Type 0 → Type 0) → (until : ℕ) → Judging → Judging →
+    (before after : Option (List ℕ)) → Type 0
+ClosesAt done until old new before after =
+    (k : Rows × Choices) (last : Bool) (time to : ℕ) (start : Option (List ℕ))
+    (frames : List Frame) → time ≤ until → until ≤ to → latest_of frames ≤ until →
+    IsEndFor k.1.until frames until →
+    ((end : ℕ) → k.1.until ≡ Some end → until ≤ end) →
+    IsEnding last k.1.until frames to until → old.streams.ended ≡ None →
+    TellsAll k false time old start before frames →
+    done (TellsAll k last to new start after frames × (new.streams.ended ≡ Some until))
+
+-- a frame of this time, which isn't earlier than those before it, is the newest of those that the
+-- streams stand for
+abbrev pub TakesNext : (Type 0 → Type 0) → Judging → Judging → (time : ℕ) → Frame → Type 0
+TakesNext done old new time x =
+    (k : Rows × Choices) (frames : List Frame) (lines : List ConformLine) →
+    old.streams.tables.now ≡ k.0 →
+    choices_of (taps_in old.streams.taps.now) old.choices.now ≡ k.1 →
+    latest_of frames ≤ time → length frames + 1 < most_held →
+    Stands k false time old frames lines →
+    done (Stands k false time new (x ∷ frames) lines)

@@ -1,12 +1,9 @@
 //! The command `conform`.
 
-ghost use Rattle.std.specs.Prelude.{◌≡◌, ◌||◌, ◌⊎◌, IfSome, None, true, false, option_map};
+ghost use Rattle.std.specs.Prelude.{◌≡◌, ◌||◌, ◌⊎◌, true, false, option_map};
 ghost use Rattle.afdx_acceptance.specs.Commands as spec;
-ghost use Rattle.afdx_acceptance.specs.ChoicesOf.{choices_of};
-ghost use Rattle.afdx_acceptance.specs.Commands.{EndsAs, IsJudged, IsRun, IsToldNoSwitch};
-ghost use Rattle.afdx_acceptance.specs.Commands.{IsUnjudged};
-ghost use Rattle.afdx_acceptance.specs.Ran.{ConformAnswers};
-ghost use Rattle.afdx_recorded.specs.Claims.{ports_of_one};
+ghost use Rattle.afdx_acceptance.specs.Commands.{EndsAs, IsJudgedOr, IsRun, IsToldNoSwitch};
+ghost use Rattle.afdx_acceptance.specs.Ran.{Answers};
 
 use crate::choices::Choices;
 use crate::run::{RunCounts, run_conform};
@@ -107,16 +104,12 @@ pub fn conform<P: Drop, A: SeenFrames<P>, O: Sink, E: Write>(
 
     // The command ends as a run by the tables of the switch answered; or the configuration isn't
     // read, or has no such switch: then nothing is read and nothing is written.
-    ensures judges { IsJudged E.contents config.now
-        (option_map (λ name. name.now) switch.entry) errors.old errors.new result
+    ensures judges { IsJudgedOr E.contents config.now (option_map (λ name. name.now) switch.entry)
+        errors.old errors.new result
         (λ t answer. IsRun (A.ended inputs.new) (A.failed inputs.new) (O.failed output.new) answer
-        × IfSome (A.known inputs.old) (λ bytes. ConformAnswers
-        (A.Takes options (ports_of_one t) bytes inputs.new)
-        (t, choices_of (A.tapped options) choices.now) choices.now.is_lossy
-        (O.written output.old) (O.written output.new) answer))
-        ⊎ (IsUnjudged E.contents config.now
-        (option_map (λ name. name.now) switch.entry) errors.old errors.new result
-        × (inputs.new ≡ inputs.old) × (output.new ≡ output.old)) }
+        × Answers (A.known inputs.old) (A.Takes options) inputs.new t (A.tapped options)
+        choices.now (O.written output.old) (O.written output.new) answer)
+        ((inputs.new ≡ inputs.old) × (output.new ≡ output.old)) }
 {
     // (a law of the inputs: before they are asked for anything they haven't failed)
     A::starts();

@@ -1,23 +1,21 @@
 //! What comes in or leaves joins the stream that it is of.
 
-ghost use Rattle.std.specs.Prelude.{◌≡◌, ◌≤◌, ◌<◌, ◌∷◌, ◌+◌, ℕ, List, None, Some, IfOk, OnOk, length, slice_get, true};
-ghost use Rattle.std.specs.List.{AllByRecursion};
+ghost use Rattle.std.specs.Prelude.{◌≡◌, ◌≤◌, ◌<◌, ℕ, List, None, Some, IfOk, OnOk, length, slice_get, true};
 ghost use Rattle.afdx_bounds.specs.Tables.{port_of};
 ghost use Rattle.afdx_config.specs.Lawful.{IsLawfulSwitch};
 ghost use Rattle.afdx_config.specs.Rows.{LinkRow, Rows, is_to};
-ghost use Rattle.afdx_conform.specs.Explanations.{from_time};
-ghost use Rattle.afdx_conform.specs.Leeway.{reach};
 ghost use Rattle.afdx_conform.specs.LeewayOf.{leeway_of};
 ghost use Rattle.afdx_conform.specs.LimitRanges.{most_bytes};
 ghost use Rattle.afdx_conform.specs.Limits.{gone_of};
-ghost use Rattle.afdx_conform.specs.Ranges.{most_held};
 ghost use Rattle.afdx_frame.specs.Times.{latest_listed};
 ghost use Rattle.afdx_police.specs.Arrival.{arrival_with};
 ghost use Rattle.afdx_acceptance.specs.Choices.{Choices};
-ghost use Rattle.afdx_acceptance.specs.Keeping.{AreKept, Given, IsStreamOf, is_known, slot_at, with_came, with_left, with_strange};
+ghost use Rattle.afdx_acceptance.specs.Keeping.{AreKept, Given, is_known, slot_at};
 ghost use Rattle.afdx_acceptance.specs.Keys.{key_with};
 ghost use Rattle.afdx_acceptance.specs.Lines.{Due};
-ghost use Rattle.afdx_acceptance.specs.Slots.{AreFalling, IsStrange, IsStream, waiting_due};
+ghost use Rattle.afdx_acceptance.specs.Slots.{IsStrange, IsStream};
+ghost use Rattle.afdx_acceptance.specs.Taking.{MakesStream, TakesArrival, TakesFrame};
+ghost use Rattle.afdx_acceptance.specs.Taking.{TakesStranger};
 
 use crate::kept::Kept;
 use crate::key::Key;
@@ -44,13 +42,8 @@ fn make_stream(
 ) -> Result<(), AllocError>
     requires link { link < length tables.now.links }
     requires system { system.0 < length tables.now.systems }
-    ensures { (c : Choices) (until time : ℕ) (given : Key → Given) (lines : List Due)
-        (l : LinkRow) → IsLawfulSwitch tables.now → IsStreamOf tables.now key l →
-        slice_get tables.now.links link ≡ Some l → port_of tables.now system.0 ≡ key.port →
-        leeway_of leeway ≡ c.by → (IsStream (slot_at kept.old.slots.items key) → ⊥) →
-        AreKept tables.now c until None time given lines kept.old →
-        OnOk result (AreKept tables.now c until None time given lines kept.new
-        × IsStream (slot_at kept.new.slots.items key)) }
+    ensures { MakesStream (λ done. OnOk result done) kept.old kept.new tables.now leeway link
+        system.0 key }
 {
     let stream = new_stream(alloc, tables, link, system, leeway);
     kept.put_stream(alloc, key, stream)
@@ -104,19 +97,8 @@ pub(crate) fn come_to(
     requires system { system.0 < length tables.now.systems }
     requires time { heading.now.time ≤ latest_listed }
     requires short { length bytes ≤ most_bytes }
-    ensures { (c : Choices) (until time : ℕ) (given : Key → Given) (lines : List Due)
-        (l : LinkRow) → slice_get tables.now.links link ≡ Some l → is_to system.0 l ≡ true →
-        leeway_of leeway ≡ c.by → time ≤ heading.now.time →
-        from_time c.by.start ≤ heading.now.time →
-        AllByRecursion (λ x. x.time ≤ heading.now.time)
-        (given (key_with heading.now.side (port_of tables.now system.0) (Some link))).came →
-        length (given (key_with heading.now.side (port_of tables.now system.0) (Some link))).came
-        + 1 < most_held →
-        AreKept tables.now c until None time given lines kept.old →
-        OnOk result (AreKept tables.now c until None time
-        (with_came (key_with heading.now.side (port_of tables.now system.0) (Some link))
-        (arrival_with n heading.now.time heading.now.side heading.now.port bytes) given) lines
-        kept.new) }
+    ensures { TakesArrival (λ done. OnOk result done) kept.old kept.new tables.now leeway link
+        system.0 (arrival_with n heading.now.time heading.now.side heading.now.port bytes) }
 {
     let key = stream_to(alloc, tables, leeway, kept, link, system, heading.side)?;
     let rule = rule_at(tables, link);
@@ -137,18 +119,8 @@ pub(crate) fn leave_to(
 ) -> Result<(), AllocError>
     requires link { link < length tables.now.links }
     requires system { system.0 < length tables.now.systems }
-    ensures { (c : Choices) (until time : ℕ) (given : Key → Given) (lines : List Due)
-        (l : LinkRow) → slice_get tables.now.links link ≡ Some l → is_to system.0 l ≡ true →
-        leeway_of leeway ≡ c.by → time ≤ frame.time →
-        from_time c.by.start ≤ frame.time + reach c.by →
-        AllByRecursion (λ y. y.time ≤ frame.time)
-        (given (key_with side (port_of tables.now system.0) (Some link))).left →
-        length (given (key_with side (port_of tables.now system.0) (Some link))).left + 1
-        < most_held →
-        AreKept tables.now c until None time given lines kept.old →
-        OnOk result (AreKept tables.now c until None time
-        (with_left (key_with side (port_of tables.now system.0) (Some link))
-        (gone_of frame) given) lines kept.new) }
+    ensures { TakesFrame (λ done. OnOk result done) kept.old kept.new tables.now leeway link
+        system.0 side (gone_of frame) }
 {
     let key = stream_to(alloc, tables, leeway, kept, link, system, side)?;
     kept.add_frame(key, frame)
@@ -178,13 +150,8 @@ pub(crate) fn leave_strange(
     port: u8,
     stranger: Stranger,
 ) -> Result<(), AllocError>
-    ensures { (t : Rows) (c : Choices) (until time : ℕ) (given : Key → Given) (lines : List Due) →
-        IsLawfulSwitch t → time ≤ stranger.time →
-        AreFalling (waiting_due (key_with side port None) stranger
-        ∷ (given (key_with side port None)).strange) →
-        AreKept t c until None time given lines kept.old →
-        OnOk result (AreKept t c until None time (with_strange (key_with side port None)
-        (waiting_due (key_with side port None) stranger) given) lines kept.new) }
+    ensures { TakesStranger (λ done. OnOk result done) kept.old kept.new (key_with side port None)
+        stranger }
 {
     let key = Key {
         side,

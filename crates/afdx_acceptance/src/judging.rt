@@ -11,13 +11,11 @@ ghost use Rattle.afdx_acceptance.specs.Judging.{IsSameButFindings, IsSameButTake
 ghost use Rattle.afdx_acceptance.specs.Tapped.{place_named, taps_in};
 ghost use Rattle.afdx_acceptance.specs.Telling as spec;
 ghost use Rattle.afdx_acceptance.specs.Beginning.{BeginsFrom};
-ghost use Rattle.afdx_acceptance.specs.Told.{GoesOn, HasBegun, IsEndFor, IsEnding, Stands};
+ghost use Rattle.afdx_acceptance.specs.Told.{ClosesAt, GoesOn, HasBegun, TakesNext};
 ghost use Rattle.afdx_acceptance.specs.Told.{TellsAll, TellsItems, TellsToEnd};
 ghost use Rattle.afdx_acceptance.specs.Written.{BeginsAll, IsWritten};
 ghost use Rattle.afdx_acceptance.specs.Keeping.{IsNothingDue};
 ghost use Rattle.afdx_config.specs.Rows.{Rows};
-ghost use Rattle.afdx_conform.specs.Ranges.{most_held};
-ghost use Rattle.afdx_text.specs.declared.conform_line.ConformLine.{ConformLine as Line};
 ghost use Rattle.afdx_engine.specs.Engine.{Item, item_of};
 ghost use Rattle.afdx_frame.specs.Layout.{link_named_by};
 ghost use Rattle.afdx_frame.specs.Parts.{bytes_of};
@@ -152,14 +150,8 @@ impl<'a> Judging<'a> {
             ((end : ℕ) → k.1.until ≡ Some end → until ≤ end) → self.old.streams.ended ≡ None →
             TellsAll k false time self.old start (O.written output.old) frames →
             OnErr result (HasBegun k false until None start (O.written output.new) frames) }
-        ensures stands { (k : Rows × Chosen) (after : Bool) (time to : ℕ)
-            (start : Option (List ℕ)) (frames : List Frame) → time ≤ until → until ≤ to →
-            latest_of frames ≤ until → IsEndFor k.1.until frames until →
-            ((end : ℕ) → k.1.until ≡ Some end → until ≤ end) →
-            IsEnding after k.1.until frames to until → self.old.streams.ended ≡ None →
-            TellsAll k false time self.old start (O.written output.old) frames →
-            OnOk result (TellsAll k after to self.new start (O.written output.new) frames
-            × (self.new.streams.ended ≡ Some until)) }
+        ensures stands { ClosesAt (λ done. OnOk result done) until self.old self.new
+            (O.written output.old) (O.written output.new) }
     {
         self.tell_due(Some(until), output)?;
         self.streams.end(until);
@@ -274,14 +266,8 @@ impl<'a> Judging<'a> {
             self.old.left_out ≡ min (left_out_of t c frames) spec.most_counted →
             OnOk result
             (self.new.left_out ≡ min (left_out_of t c (x ∷ frames)) spec.most_counted) }
-        ensures stands { (k : Rows × Chosen) (frames : List Frame) (lines : List Line) →
-            let x = frame_of (item_of n seen.now message.now) in
-            self.old.streams.tables.now ≡ k.0 →
-            choices_of (taps_in self.old.streams.taps.now) self.old.choices.now ≡ k.1 →
-            latest_of frames ≤ seen.now.heading.time →
-            length frames + 1 < most_held →
-            Stands k false seen.now.heading.time self.old frames lines →
-            OnOk result (Stands k false seen.now.heading.time self.new (x ∷ frames) lines) }
+        ensures stands { TakesNext (λ done. OnOk result done) self.old self.new
+            seen.now.heading.time (frame_of (item_of n seen.now message.now)) }
     {
         if !is_in_time(self.choices, seen) {
             return Ok(());

@@ -1,27 +1,22 @@
 //! What is kept of all keys, and what is to be told of them.
 
-ghost use Rattle.std.specs.Prelude.{◌≡◌, ◌<◌, ◌≤◌, ◌*◌, ◌+◌, ◌∷◌, [], ℕ, List, length, get_or, Some, None, OnOk, IfOk, IfSome, IfNone, All};
+ghost use Rattle.std.specs.Prelude.{◌≡◌, ◌<◌, ◌≤◌, ◌*◌, ◌+◌, [], ℕ, List, length, Some, None, OnOk, IfOk, IfSome, IfNone};
 ghost use Rattle.std.specs.Prelude.{IsSome, IsTrue, ◌↔◌, true, false};
 ghost use Rattle.std.specs.List.{AllByRecursion};
-ghost use Rattle.std.specs.List.Sorted.{IsPermutation};
 ghost use Rattle.afdx_config.specs.Lawful.{IsLawfulSwitch};
-ghost use Rattle.afdx_config.specs.Rows.{LinkRow, Rows};
-ghost use Rattle.afdx_conform.specs.Limits.{gone_of};
-ghost use Rattle.afdx_conform.specs.Marks.{IsJudged, arrival_of};
-ghost use Rattle.afdx_conform.specs.Histories.{nothing_judged};
-ghost use Rattle.afdx_conform.specs.Growing.{MayCome, MayLeave};
-ghost use Rattle.afdx_conform.specs.Standing.{StandsFor, due_of};
+ghost use Rattle.afdx_config.specs.Rows.{Rows};
 ghost use Rattle.afdx_conform.specs.Streams.{Gone, Terms};
 ghost use Rattle.afdx_police.specs.Arrival.{Arrival};
-ghost use Rattle.afdx_acceptance.specs.Awaited.{Awaits, IsBefore, awaited, rank_of};
+ghost use Rattle.afdx_acceptance.specs.Awaited.{Awaits, IsBefore, awaited};
 ghost use Rattle.afdx_acceptance.specs.Choices.{Choices};
 ghost use Rattle.afdx_acceptance.specs.Counting.{Counted, HasCounted, both_counted, stream_counted};
-ghost use Rattle.afdx_acceptance.specs.Frames.{link_to, terms_at};
-ghost use Rattle.afdx_acceptance.specs.Keys.{IsKey, key_place};
+ghost use Rattle.afdx_acceptance.specs.Keys.{key_place};
 ghost use Rattle.afdx_acceptance.specs.declared.slot.Slot.TheVariants as Slot;
-ghost use Rattle.afdx_acceptance.specs.Keeping.{AreKept, Given, IsNothingDue, IsSomeUpTo, IsStreamOf, is_known, kept_with, nothing_given, slot_at, with_came, with_left, with_strange};
+ghost use Rattle.afdx_acceptance.specs.Keeping.{AreKept, Given, IsNothingDue, IsSomeUpTo, is_known, nothing_given, slot_at};
 ghost use Rattle.afdx_acceptance.specs.Lines.{Due};
-ghost use Rattle.afdx_acceptance.specs.Slots.{AreFalling, IsStrange, IsStream, StreamEnds, told_at, waiting_due};
+ghost use Rattle.afdx_acceptance.specs.Slots.{IsStrange, IsStream, StreamEnds, told_at};
+ghost use Rattle.afdx_acceptance.specs.Taking.{AddsArrival, AddsFrame, AddsStranger, PutsStream};
+ghost use Rattle.afdx_acceptance.specs.Taking.{TellsFirst};
 ghost use Rattle.afdx_acceptance.specs.Waiting.{left_in, slot_due};
 
 use crate::agenda::{Agenda, Entry};
@@ -123,14 +118,7 @@ impl Kept {
         key: Key,
         stream: Stream,
     ) -> Result<(), AllocError>
-        ensures { (t : Rows) (c : Choices) (until time : ℕ) (given : Key → Given)
-            (lines : List Due) (l : LinkRow) → IsLawfulSwitch t → IsStreamOf t key l →
-            StandsFor (terms_at t c until l key.port) [] [] nothing_judged time stream →
-            due_of stream ≡ None →
-            (IsStream (slot_at self.old.slots.items key) → ⊥) →
-            AreKept t c until None time given lines self.old →
-            OnOk result (AreKept t c until None time given lines self.new
-            × IsStream (slot_at self.new.slots.items key)) }
+        ensures { PutsStream (λ done. OnOk result done) self.old self.new key stream }
     {
         let place = key.place();
         if place < self.slots.len() {
@@ -141,15 +129,7 @@ impl Kept {
 
     /// An arrival comes to the stream of the key.
     pub(crate) fn add_arrival(&mut self, key: Key, arrived: Arrived) -> Result<(), AllocError>
-        ensures { (t : Rows) (c : Choices) (until time : ℕ) (given : Key → Given)
-            (lines : List Due) (l : LinkRow) → IsLawfulSwitch t → IsStreamOf t key l →
-            IsJudged (terms_at t c until l key.port) arrived →
-            MayCome (terms_at t c until l key.port) (given key).came time (arrival_of arrived) →
-            IsStream (slot_at self.old.slots.items key) →
-            AreKept t c until None time given lines self.old →
-            OnOk result
-            (AreKept t c until None time (with_came key (arrival_of arrived) given) lines
-            self.new) }
+        ensures { AddsArrival (λ done. OnOk result done) self.old self.new key arrived }
     {
         let place = key.place();
         if place >= self.slots.len() {
@@ -161,13 +141,7 @@ impl Kept {
 
     /// A frame of the stream of the key left.
     pub(crate) fn add_frame(&mut self, key: Key, frame: Frame) -> Result<(), AllocError>
-        ensures { (t : Rows) (c : Choices) (until time : ℕ) (given : Key → Given)
-            (lines : List Due) (l : LinkRow) → IsLawfulSwitch t → IsStreamOf t key l →
-            MayLeave (terms_at t c until l key.port) (given key).left time (gone_of frame) →
-            IsStream (slot_at self.old.slots.items key) →
-            AreKept t c until None time given lines self.old →
-            OnOk result
-            (AreKept t c until None time (with_left key (gone_of frame) given) lines self.new) }
+        ensures { AddsFrame (λ done. OnOk result done) self.old self.new key frame }
     {
         let place = key.place();
         if place >= self.slots.len() {
@@ -207,13 +181,7 @@ impl Kept {
 
     /// A frame of no stream left.
     pub(crate) fn add_stranger(&mut self, key: Key, stranger: Stranger) -> Result<(), AllocError>
-        ensures { (t : Rows) (c : Choices) (until time : ℕ) (given : Key → Given)
-            (lines : List Due) → IsLawfulSwitch t → key.link ≡ None → is_known t key ≡ true →
-            time ≤ stranger.time → AreFalling (waiting_due key stranger ∷ (given key).strange) →
-            IsStrange (slot_at self.old.slots.items key) →
-            AreKept t c until None time given lines self.old →
-            OnOk result (AreKept t c until None time
-            (with_strange key (waiting_due key stranger) given) lines self.new) }
+        ensures { AddsStranger (λ done. OnOk result done) self.old self.new key stranger }
     {
         let place = key.place();
         if place >= self.slots.len() {
@@ -234,14 +202,7 @@ impl Kept {
         requires within { key_place entry.now.key < length self.old.slots.items }
         requires due { slot_due (slot_at self.old.slots.items entry.now.key)
             ≡ Some entry.now.moment }
-        ensures told { (t : Rows) (c : Choices) (until time : ℕ) (given : Key → Given)
-            (lines : List Due) (whole : List Entry) → IsLawfulSwitch t → IsKey entry.now.key →
-            IsPermutation whole (entry.now ∷ self.old.agenda) →
-            All (λ y. rank_of entry.now ≤ rank_of y) self.old.agenda →
-            (ended ≡ None → entry.now.moment < time) →
-            AreKept t c until ended time given lines (kept_with self.old.slots whole) →
-            IfOk result (λ l. AreKept t c until ended time given
-            (told_at l.key l.moment l.lines.items lines) self.new) }
+        ensures told { TellsFirst (λ done. IfOk result done) self.old self.new entry.now ended }
         ensures less { OnOk result (left_in self.new.slots.items < left_in self.old.slots.items) }
         ensures of { IfOk result (λ l. awaited l.moment l.key ≡ entry.now) }
     {

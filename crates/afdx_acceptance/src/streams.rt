@@ -1,17 +1,16 @@
 //! All streams of the tables, and what is to be told of them.
 
-ghost use Rattle.std.specs.Prelude.{◌≡◌, ◌≤◌, ◌<◌, ◌∷◌, ◌+◌, [], ℕ, List, None, Some, IfNone, IfOk, IfSome, IsSome, OnOk, length, true};
+ghost use Rattle.std.specs.Prelude.{◌≡◌, ◌≤◌, ◌<◌, ◌+◌, [], ℕ, List, None, Some, IfNone, IfOk, IfSome, IsSome, OnOk, length};
 ghost use Rattle.afdx_config.specs.Rows.{Rows};
 ghost use Rattle.afdx_conform.specs.LeewayOf.{leeway_of};
 ghost use Rattle.afdx_conform.specs.LimitRanges.{most_bytes};
-ghost use Rattle.afdx_conform.specs.Ranges.{most_held};
 ghost use Rattle.afdx_frame.specs.Layout.{link_named_by};
 ghost use Rattle.afdx_frame.specs.Parts.{bytes_of};
 ghost use Rattle.afdx_frame.specs.Times.{latest_listed};
-ghost use Rattle.afdx_police.specs.Arrival.{Arrival, arrival_with};
+ghost use Rattle.afdx_police.specs.Arrival.{arrival_with};
 ghost use Rattle.afdx_lists.specs.declared.role.Role.TheVariants as role;
 ghost use Rattle.afdx_inputs.specs.Joining.{Frame as Seen};
-ghost use Rattle.afdx_acceptance.specs.Choices.{Choices, counted, counts};
+ghost use Rattle.afdx_acceptance.specs.Choices.{Choices, counted};
 ghost use Rattle.afdx_acceptance.specs.Frames.{frame_with};
 ghost use Rattle.afdx_acceptance.specs.Keeping.{IsNothingDue, IsSomeUpTo};
 ghost use Rattle.afdx_acceptance.specs.Lines.{Due};
@@ -54,6 +53,7 @@ pub(crate) struct Streams<'a> {
 
 impl<'a> Streams<'a> {
     ghost use Rattle.afdx_acceptance.specs.Standing.{IsBehindAll, IsSameButKept, StreamsStand};
+    ghost use Rattle.afdx_acceptance.specs.Taking.{StandsForMore};
 
     /// Those of the tables, of which nothing came.
     pub(crate) fn new(
@@ -103,16 +103,9 @@ impl<'a> Streams<'a> {
         requires known { IfSome named (λ link. link < length self.old.tables.now.links) }
         requires time { heading.now.time ≤ latest_listed }
         requires short { length (bytes_of frame) ≤ most_bytes }
-        ensures stands { (t : Rows) (c : Choices) (until time : ℕ) (frames : List Seen)
-            (lines : List Due) → let a : Arrival = arrival_with n heading.now.time
-            heading.now.side heading.now.port (bytes_of frame.entry) in
-            named ≡ spec.place_named self.old.tables.now a.bytes →
-            counts t c (frame_with role.Came a) ≡ true →
-            time ≤ heading.now.time → IsBehindAll heading.now.time frames →
-            length frames + 1 < most_held → self.old.ended ≡ None →
-            StreamsStand t c until frames lines time self.old →
-            OnOk result (StreamsStand t c until (frame_with role.Came a ∷ frames) lines time
-            self.new) }
+        ensures stands { StandsForMore (λ done. OnOk result done) self.old self.new named
+            (frame_with role.Came (arrival_with n heading.now.time heading.now.side
+            heading.now.port (bytes_of frame.entry))) }
         ensures ended { self.new.ended ≡ self.old.ended }
         ensures rules { IsSameButKept self.old self.new }
     {
@@ -179,16 +172,9 @@ impl<'a> Streams<'a> {
     ) -> Result<(), AllocError>
         requires known { IfSome named (λ link. link < length self.old.tables.now.links) }
         requires time { heading.now.time ≤ latest_listed }
-        ensures stands { (t : Rows) (c : Choices) (until time : ℕ) (frames : List Seen)
-            (lines : List Due) → let a : Arrival = arrival_with n heading.now.time
-            heading.now.side heading.now.port (bytes_of frame.entry) in
-            named ≡ spec.place_named self.old.tables.now a.bytes →
-            counts t c (frame_with role.Left a) ≡ true →
-            time ≤ heading.now.time → IsBehindAll heading.now.time frames →
-            length frames + 1 < most_held → self.old.ended ≡ None →
-            StreamsStand t c until frames lines time self.old →
-            OnOk result (StreamsStand t c until (frame_with role.Left a ∷ frames) lines time
-            self.new) }
+        ensures stands { StandsForMore (λ done. OnOk result done) self.old self.new named
+            (frame_with role.Left (arrival_with n heading.now.time heading.now.side
+            heading.now.port (bytes_of frame.entry))) }
         ensures ended { self.new.ended ≡ self.old.ended }
         ensures rules { IsSameButKept self.old self.new }
     {

@@ -38,3 +38,4 @@ pub mod Open
 pub mod Holding
 pub mod Growing
 pub mod Standing
+pub mod Arriving

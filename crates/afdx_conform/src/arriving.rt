@@ -1,25 +1,23 @@
 //! How far a stream is judged: what an arrival changes.
 
 ghost use Rattle.std.specs.Prelude.{◌≡◌, ◌≤◌, ◌<◌, ◌-◌, ◌+◌, ◌++◌, ◌∷◌, [], ℕ, List, false, nat_lt};
-ghost use Rattle.std.specs.Prelude.{if◌then◌else◌, length, map, drop, get_or, All, IfOk, OnOk, OnErr};
+ghost use Rattle.std.specs.Prelude.{if◌then◌else◌, length, map, All, IfOk, OnOk, OnErr};
 ghost use Rattle.std.specs.Prelude.{vec_len, vec_capacity};
 ghost use Rattle.std.specs.Option.{option_to_list};
 ghost use Rattle.afdx_frame.specs.Regulation.{Regulation};
 ghost use Rattle.afdx_conform.specs.Accounts.{AreLevels, AreRates};
+ghost use Rattle.afdx_conform.specs.Arriving.{JudgesArrival, JudgesDeviation};
 ghost use Rattle.afdx_conform.specs.KnownBytes.{AreKnown};
 ghost use Rattle.afdx_conform.specs.Leeway.{Leeway as By};
-ghost use Rattle.afdx_conform.specs.Bounds.{AreBounds};
-ghost use Rattle.afdx_conform.specs.Explanations.{link, levels_then};
-ghost use Rattle.afdx_conform.specs.Findings.{Judged, came_to, thinned_onto, most_states, rate_mark};
+ghost use Rattle.afdx_conform.specs.Explanations.{link};
+ghost use Rattle.afdx_conform.specs.Findings.{thinned_onto, most_states, rate_mark};
 ghost use Rattle.afdx_conform.specs.Findings.{is_uncertain as uncertain_of};
 ghost use Rattle.afdx_conform.specs.HeldStates.{IsWithin, state_of};
-ghost use Rattle.afdx_conform.specs.Judging.{StandsFor, AreFound, IsUnchanged};
-ghost use Rattle.afdx_conform.specs.Limits.{gone_of};
-ghost use Rattle.afdx_conform.specs.Marks.{IsCharged, IsJudged, arrival_of};
+ghost use Rattle.afdx_conform.specs.Judging.{IsUnchanged};
+ghost use Rattle.afdx_conform.specs.Marks.{IsCharged, arrival_of};
 ghost use Rattle.afdx_conform.specs.Naming.{IsSettledTo};
 ghost use Rattle.afdx_conform.specs.Ranges.{most_held};
-ghost use Rattle.afdx_conform.specs.States.{led_by, states_at};
-ghost use Rattle.afdx_conform.specs.Streams.{Gone, Terms, is_open as is_open_by};
+ghost use Rattle.afdx_conform.specs.Streams.{Gone, Terms};
 
 use crate::arrived::Arrived;
 use crate::bounds::Bounds;
@@ -184,24 +182,8 @@ fn go_wrong(
     requires within { (count : ℕ) × (count < most_held)
         × All (λ h. IsWithin bounds.now.rates (length frames.now) count h)
         judging.old.held.items }
-    ensures defined { (z : Terms) (last : ℕ) (j : Judged) →
-        AreBounds z bounds.now → IsJudged z arrived.now →
-        arrived.now ≡ get_or arrivals.now (length judging.old.marks.items) arrived.now →
-        moment.ns ≡ arrived.now.time - last →
-        moment.is_open ≡ is_open_by z (arrival_of arrived.now) →
-        tested.reason ≡ rate_mark z last (arrival_of arrived.now) j.states →
-        tested.is_uncertain ≡ uncertain_of z last (arrival_of arrived.now) j.states →
-        arrived.now.fault ≡ None → j.is_unsure ≡ false →
-        led_by (λ s. states_at z (arrival_of arrived.now)
-        (levels_then z s.levels last (arrival_of arrived.now)) s)
-        (map (state_of (map gone_of frames.now)) judging.old.held.items) ≡ [] →
-        StandsFor bounds.now.rates frames.now arrivals.now j judging.old →
-        IfOk result (λ found. StandsFor bounds.now.rates frames.now arrivals.now
-        (came_to z (map arrival_of (drop (length judging.old.marks.items + 1) arrivals.now)) last
-        (arrival_of arrived.now) j) judging.new
-        × AreFound arrived.now.time found.items j
-        (came_to z (map arrival_of (drop (length judging.old.marks.items + 1) arrivals.now)) last
-        (arrival_of arrived.now) j)) }
+    ensures defined { JudgesDeviation (λ done. IfOk result done) bounds.now frames.now
+        arrivals.now judging.old judging.new arrived.now moment tested }
     ensures marks { OnOk result
         (length judging.new.marks.items ≡ length judging.old.marks.items + 1) }
     ensures counted { OnOk result (judging.new.uncertain ≤ judging.old.uncertain + 1) }
@@ -263,18 +245,8 @@ pub(crate) fn judge_with(
     requires within { (count : ℕ) × (count < most_held)
         × All (λ h. IsWithin bounds.now.rates (length frames.now) count h)
         judging.old.held.items }
-    ensures defined { (z : Terms) (last : ℕ) (j : Judged) →
-        AreBounds z bounds.now → IsJudged z arrived.now →
-        arrived.now ≡ get_or arrivals.now (length judging.old.marks.items) arrived.now →
-        moment.ns ≡ arrived.now.time - last →
-        moment.is_open ≡ is_open_by z (arrival_of arrived.now) → j.is_unsure ≡ false →
-        StandsFor bounds.now.rates frames.now arrivals.now j judging.old →
-        IfOk result (λ found. StandsFor bounds.now.rates frames.now arrivals.now
-        (came_to z (map arrival_of (drop (length judging.old.marks.items + 1) arrivals.now)) last
-        (arrival_of arrived.now) j) judging.new
-        × AreFound arrived.now.time found.items j
-        (came_to z (map arrival_of (drop (length judging.old.marks.items + 1) arrivals.now)) last
-        (arrival_of arrived.now) j)) }
+    ensures defined { JudgesArrival (λ done. IfOk result done) bounds.now frames.now arrivals.now
+        judging.old judging.new arrived.now moment }
     ensures marks { OnOk result
         (length judging.new.marks.items ≡ length judging.old.marks.items + 1) }
     ensures counted { OnOk result (judging.new.uncertain ≤ judging.old.uncertain + 1) }
@@ -330,18 +302,8 @@ pub fn judge_arrival(
     requires within { (count : ℕ) × (count < most_held)
         × All (λ h. IsWithin bounds.now.rates (length frames.now) count h)
         judging.old.held.items }
-    ensures defined { (z : Terms) (last : ℕ) (j : Judged) →
-        AreBounds z bounds.now → IsJudged z arrived.now →
-        arrived.now ≡ get_or arrivals.now (length judging.old.marks.items) arrived.now →
-        moment.ns ≡ arrived.now.time - last →
-        moment.is_open ≡ is_open_by z (arrival_of arrived.now) → j.is_unsure ≡ false →
-        StandsFor bounds.now.rates frames.now arrivals.now j judging.old →
-        IfOk result (λ found. StandsFor bounds.now.rates frames.now arrivals.now
-        (came_to z (map arrival_of (drop (length judging.old.marks.items + 1) arrivals.now)) last
-        (arrival_of arrived.now) j) judging.new
-        × AreFound arrived.now.time found.items j
-        (came_to z (map arrival_of (drop (length judging.old.marks.items + 1) arrivals.now)) last
-        (arrival_of arrived.now) j)) }
+    ensures defined { JudgesArrival (λ done. IfOk result done) bounds.now frames.now arrivals.now
+        judging.old judging.new arrived.now moment }
     ensures marks { OnOk result
         (length judging.new.marks.items ≡ length judging.old.marks.items + 1) }
     ensures counted { OnOk result (judging.new.uncertain ≤ judging.old.uncertain + 1) }

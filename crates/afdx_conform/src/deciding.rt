@@ -4,6 +4,7 @@ ghost use Rattle.std.specs.Prelude.{◌≡◌, ◌≤◌, ◌<◌, ◌+◌, ℕ,
 ghost use Rattle.std.specs.Prelude.{IfOk, OnOk, OnErr, Option, Some, None, is_none, if◌then◌else◌};
 ghost use Rattle.std.specs.Prelude.{IsTrue, ◌↔◌};
 ghost use Rattle.afdx_police.specs.Arrival.{Arrival};
+ghost use Rattle.afdx_conform.specs.Arriving.{DecidesArrival};
 ghost use Rattle.afdx_conform.specs.Findings.{frames_in, frames_of};
 ghost use Rattle.afdx_conform.specs.Histories.{coming, next_of, unclosed};
 ghost use Rattle.afdx_conform.specs.Limits.{AreLimits};
@@ -167,13 +168,8 @@ impl Growth {
         requires sound { IsSound self.old }
         requires place { length self.old.judging.marks.items < length self.old.arrivals.items }
         ensures sound { IsSound self.new }
-        ensures decides { IfOk result (λ found. (closed : Option ℕ) × ((z : Terms)
-            (xs : List Arrival) (ys : List Gone) (cut : ℕ) (over : List Event) (a : Arrived) →
-            self.old.judging.is_unsure ≡ false →
-            a ≡ get_or self.old.arrivals.items (length self.old.judging.marks.items) a →
-            next_of z (coming xs over) (unclosed ys over) ≡ Some (Came (arrival_of a)) →
-            IsKnownBy z end (Came (arrival_of a)) → IsReady z xs ys cut over self.old →
-            Decides z xs ys cut over self.new (Came (arrival_of a)) closed found.items)) }
+        ensures decides { IfOk result (λ found.
+            DecidesArrival self.old self.new end found.items) }
         ensures less { self.old.judging.is_unsure ≡ false →
             OnOk result (undecided_by self.new < undecided_by self.old) }
         ensures refused { OnErr result (IsSame self.old self.new) }

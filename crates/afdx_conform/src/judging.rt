@@ -2,6 +2,7 @@
 
 ghost use Rattle.std.specs.Prelude.{◌≡◌, ◌≤◌, ◌+◌, ℕ, false, length, map, nat_le, All, IfOk, OnErr};
 ghost use Rattle.std.specs.List.{list_any};
+ghost use Rattle.afdx_conform.specs.Arriving.{JudgesSkipped};
 ghost use Rattle.afdx_conform.specs.Bounds.{AreBounds};
 ghost use Rattle.afdx_conform.specs.Findings.{Judged, closed_to};
 ghost use Rattle.afdx_conform.specs.HeldStates.{AreClosed, IsWithin};
@@ -56,14 +57,8 @@ fn skip(
     requires closed { closed ≤ length frames.now }
     requires known { AreKnown known.now arrivals.now }
     requires settled { IsSettledTo known.now.settled judging.old.marks.items }
-    ensures defined { (z : Terms) (time : ℕ) (j : Judged) → AreBounds z bounds.now →
-        AreClosed time closed (map gone_of frames.now) →
-        list_any (λ h. nat_le closed h.passed) judging.old.held.items ≡ false →
-        j.is_unsure ≡ false →
-        StandsFor bounds.now.rates frames.now arrivals.now j judging.old →
-        IfOk result (λ found.
-        StandsFor bounds.now.rates frames.now arrivals.now (closed_to z time j) judging.new
-        × AreFound (time + reach z.by) found.items j (closed_to z time j)) }
+    ensures defined { JudgesSkipped (λ done. IfOk result done) bounds.now frames.now arrivals.now
+        judging.old judging.new closed }
     ensures marks { length judging.new.marks.items ≡ length judging.old.marks.items }
     ensures uncertain { judging.new.uncertain ≡ judging.old.uncertain }
     ensures within { (count : ℕ) →

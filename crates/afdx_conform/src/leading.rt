@@ -5,6 +5,7 @@ ghost use Rattle.std.specs.Prelude.{IfOk, IfSome, IsTrue};
 ghost use Rattle.std.specs.Option.{option_to_list};
 ghost use Rattle.afdx_frame.specs.Regulation.{Regulation};
 ghost use Rattle.afdx_conform.specs.Accounts.{AreRates, AreLevels, AreNear};
+ghost use Rattle.afdx_conform.specs.Arriving.{all_led};
 ghost use Rattle.afdx_conform.specs.Bounds.{AreBounds, HaveToPass};
 ghost use Rattle.afdx_conform.specs.Explanations.{link, levels_then};
 ghost use Rattle.afdx_conform.specs.Levels.{has_to_pass, charged};
@@ -14,7 +15,7 @@ ghost use Rattle.afdx_conform.specs.Leeway.{Leeway as By};
 ghost use Rattle.afdx_conform.specs.Limits.{gone_of};
 ghost use Rattle.afdx_conform.specs.Marks.{IsCharged, arrival_of};
 ghost use Rattle.afdx_conform.specs.Ranges.{most_charge};
-ghost use Rattle.afdx_conform.specs.States.{led_by, states_at};
+ghost use Rattle.afdx_conform.specs.States.{states_at};
 ghost use Rattle.afdx_conform.specs.Streams.{Gone, Terms, is_open as is_open_by};
 
 use crate::arrived::Arrived;
@@ -88,10 +89,8 @@ pub(crate) fn led_alone(
     ensures defined { (z : Terms) (last : ℕ) →
         AreBounds z bounds.now → IsCharged z arrived.now → moment.ns ≡ arrived.now.time - last →
         moment.is_open ≡ is_open_by z (arrival_of arrived.now) →
-        IfSome result (λ h. map (state_of (map gone_of frames.now)) (h ∷ []) ≡ led_by
-        (λ s. states_at z (arrival_of arrived.now)
-        (levels_then z s.levels last (arrival_of arrived.now)) s)
-        (map (state_of (map gone_of frames.now)) held.now)) }
+        IfSome result (λ h. map (state_of (map gone_of frames.now)) (h ∷ []) ≡ all_led z last
+        (arrival_of arrived.now) (map (state_of (map gone_of frames.now)) held.now)) }
     ensures within { (link : Regulation) (by : By) (count : ℕ) →
         AreRates link by bounds.now.rates →
         All (λ h. IsWithin bounds.now.rates (length frames.now) count h) held.now →
@@ -117,10 +116,8 @@ pub(crate) fn led_from(
     ensures defined { (z : Terms) (last : ℕ) →
         AreBounds z bounds.now → IsCharged z arrived.now → moment.ns ≡ arrived.now.time - last →
         moment.is_open ≡ is_open_by z (arrival_of arrived.now) →
-        IfOk result (λ out. map (state_of (map gone_of frames.now)) out.items ≡ led_by
-        (λ s. states_at z (arrival_of arrived.now)
-        (levels_then z s.levels last (arrival_of arrived.now)) s)
-        (map (state_of (map gone_of frames.now)) held.now)) }
+        IfOk result (λ out. map (state_of (map gone_of frames.now)) out.items ≡ all_led z last
+        (arrival_of arrived.now) (map (state_of (map gone_of frames.now)) held.now)) }
     ensures within { (link : Regulation) (by : By) (count : ℕ) →
         AreRates link by bounds.now.rates →
         All (λ h. IsWithin bounds.now.rates (length frames.now) count h) held.now →
