@@ -38,3 +38,4 @@ pub mod VerdictLemmas
 pub mod ShownLemmas
 pub mod EarlyLawLemmas
 pub mod NamedLemmas
+pub mod HoldingLemmas

@@ -13,6 +13,7 @@ pub mod Slots
 pub mod Keeping
 pub mod Standing
 pub mod Taking
+pub mod Holding
 pub mod Judging
 pub mod Beginning
 pub mod Counting

@@ -11,7 +11,8 @@ ghost use Rattle.afdx_acceptance.specs.Judging.{IsSameButFindings, IsSameButTake
 ghost use Rattle.afdx_acceptance.specs.Tapped.{place_named, taps_in};
 ghost use Rattle.afdx_acceptance.specs.Telling as spec;
 ghost use Rattle.afdx_acceptance.specs.Beginning.{BeginsFrom};
-ghost use Rattle.afdx_acceptance.specs.Told.{ClosesAt, GoesOn, HasBegun, TakesNext};
+ghost use Rattle.afdx_acceptance.specs.Holding.{HoldsOneWindow};
+ghost use Rattle.afdx_acceptance.specs.Told.{ClosesAt, GoesOn, HasBegun, IsEndFor, TakesNext};
 ghost use Rattle.afdx_acceptance.specs.Told.{TellsAll, TellsItems, TellsToEnd};
 ghost use Rattle.afdx_acceptance.specs.Written.{BeginsAll, IsWritten};
 ghost use Rattle.afdx_acceptance.specs.Keeping.{IsNothingDue};
@@ -211,7 +212,8 @@ impl<'a> Judging<'a> {
         }
     }
 
-    /// Tells what is to be told before a line of this time, in ns.
+    /// Tells what is to be told before a line of this time, in ns. Then at most twice as much is
+    /// held of each stream as came and left in the last window, while the recordings go on.
     fn reach<O: Sink>(&mut self, time: u64, output: &mut O) -> Result<(), RunFault>
         requires sound { O.failed output.old ≡ false }
         ensures failed { O.failed output.new ≡ is_failed_write result }
@@ -226,6 +228,11 @@ impl<'a> Judging<'a> {
             TellsAll k false before self.old start (O.written output.old) frames →
             OnOk result (TellsAll k false time self.new start (O.written output.new) frames
             × IsNothingDue k.0 (Some time) self.new.streams.kept) }
+        ensures held { (k : Rows × Chosen) (before until : ℕ) (start : Option (List ℕ))
+            (frames : List Frame) → before ≤ time → latest_of frames ≤ before →
+            self.new.streams.ended ≡ None → IsEndFor k.1.until frames until →
+            TellsAll k false before self.old start (O.written output.old) frames →
+            OnOk result (HoldsOneWindow k.0 k.1 until frames time self.new.streams.kept) }
     {
         self.close_before(time, output)?;
         self.tell_due(Some(time), output)

@@ -1,6 +1,8 @@
 use Rattle.std.proofs.Common.{arith, false}
 use Rattle.afdx_text.proofs.OutputLemmas.{on-err}
+use Rattle.afdx_acceptance.proofs.AddedLemmas.{on-ok}
 use Rattle.afdx_acceptance.proofs.BegunLemmas.{begun-from, goes-past}
+use Rattle.afdx_acceptance.proofs.HoldingLemmas.{told-window}
 use Rattle.afdx_acceptance.proofs.judging.Judging.reach.Goals as goal
 
 pub returns-in_err-close_before-clause-begun : goal.returns-in_err-close_before-clause-begun
@@ -20,3 +22,10 @@ returns-clause-stands g c k before start frames le latest h =
     let mid = c.in_ok-close_before.ensures.stands k before start frames le latest h in
     c.tell_due.ensures.stands k false c.args.time c.args.time start frames
     (goes-past k c.args.time c.close_before.new.self mid.0 frames mid.2) mid
+
+pub returns-clause-held : goal.returns-clause-held
+returns-clause-held g c k before until start frames le latest running may h =
+    let mid = c.in_ok-close_before.ensures.stands k before start frames le latest h in
+    on-ok (told-window k false c.args.time until start _ frames c.tell_due.new.self running may) c.tell_due.result
+    (c.tell_due.ensures.stands k false c.args.time c.args.time start frames
+    (goes-past k c.args.time c.close_before.new.self mid.0 frames mid.2) mid)
