@@ -224,15 +224,6 @@ lean-both old mid new passed count s t sure is closed frames arrivals marks half
       unsure = λ u. absurd (true-false u (t.is_unsure ∙ s.is_unsure ∙ sure));
     }
 
--- all
-pub lean-all : (s : Growth) → length s.arrivals.items ≡ 0 → length s.frames.items ≡ 0 → length s.judging.marks.items ≡ 0
-    → s.closed ≡ 0 → IsLean s
-lean-all s arrivals frames marks closed = record {
-  frames = omega (arith, closed);
-  arrivals = λ place le k a low lt is. absurd (omega (arith, marks, lt));
-  unsure = λ u. (arrivals, frames);
-}
-
 -- ---- what is let go of is asked by no later event
 
 still-mapped : (count : ℕ) (held : List Held) → AllByRecursion (λ h. h.waiting ≡ 0) held

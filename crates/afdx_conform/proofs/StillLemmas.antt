@@ -177,16 +177,6 @@ module _ (z : Terms) where
 
 -- ---- as the code tests it
 
-all-still : (held : List Held) → list_all (λ h. nat_eq h.waiting 0) held ≡ true
-    → AllByRecursion (λ h. h.waiting ≡ 0) held
-all-still [] e = tt
-all-still (h ∷ held) e =
-    let both = and_parts (nat_eq h.waiting 0) (list_all (λ k. nat_eq k.waiting 0) held) e in
-    (eqb-true h.waiting 0 both.0, all-still held both.1)
-
-pub waits-none : (held : List Held) → list_all (λ h. nat_eq h.waiting 0) held ≡ true → All (λ h. h.waiting ≡ 0) held
-waits-none held e = All-from_recursion (λ h. h.waiting ≡ 0) held (all-still held e)
-
 pub none-waits : (held : List Held) → All (λ h. h.waiting ≡ 0) held → list_all (λ h. nat_eq h.waiting 0) held ≡ true
 none-waits [] all = refl
 none-waits (h ∷ held) all =
