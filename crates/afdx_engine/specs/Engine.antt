@@ -39,3 +39,40 @@ Runs {H} gave ended done told begins stopped (Ok _) =
 Runs {H} gave ended done told begins stopped (Err fault) =
     (past : List (Item H)) × ((stopped past fault × told past)
     ⊎ (IsOfOutput fault × (gave past ⊎ ended past) × (begins past ⊎ begins (without_newest past))))
+
+-- ---- a machine
+
+module _ {H Rules M : Type 0} (Can : Rules → Item H → Type 0)
+    (Told : Rules → M → (start written : Bytes) → List (Item H) → Type 0) where
+  -- by some rules it told nothing yet, behind what the output holds, and it can tell each item of
+  -- which `given` is true
+  abbrev pub IsReadyFor : M → (output : Bytes) → (given : Item H → Type 0) → Type 0
+  IsReadyFor machine output given =
+      (rules : Rules) × Told rules machine output output [] × CanTell given (Can rules)
+
+  -- or each item
+  abbrev pub IsReadyForAll : M → (output : Bytes) → Type 0
+  IsReadyForAll machine output =
+      (rules : Rules) × Told rules machine output output [] × CanAll (Can rules)
+
+-- what it can tell by its rules, and how much it told of items: with all that is told at the end,
+-- all of them, or a beginning of that
+module _ {H Rules M : Type 0} (Can : Rules → Item H → Type 0)
+    (Done Told Begins : Rules → M → (start written : Bytes) → List (Item H) → Type 0) where
+  -- The machine `old` becomes `new`, and the output, which held `start`, then holds `written`. By
+  -- whatever rules it told nothing yet, and can tell each item of which `given` is true: `holds` is
+  -- true of what it told by them, which is of items all to the end, all so far, or a beginning.
+  abbrev pub HoldsOfTold : (old new : M) → (start written : Bytes) → (given : Item H → Type 0) →
+      (holds : (done told begins : List (Item H) → Type 0) → Type 0) → Type 0
+  HoldsOfTold old new start written given holds =
+      (rules : Rules) → Told rules old start start [] → CanTell given (Can rules) →
+      holds (Done rules new start written) (Told rules new start written)
+      (Begins rules new start written)
+
+  -- the same by rules by which it can tell each item
+  abbrev pub HoldsOfAllTold : (old new : M) → (start written : Bytes) →
+      (holds : (done told begins : List (Item H) → Type 0) → Type 0) → Type 0
+  HoldsOfAllTold old new start written holds =
+      (rules : Rules) → Told rules old start start [] → CanAll (Can rules) →
+      holds (Done rules new start written) (Told rules new start written)
+      (Begins rules new start written)

@@ -10,13 +10,17 @@ use Rattle.afdx_lists.specs.declared.frame_line.Heading.{Heading}
 use Rattle.afdx_lists.specs.declared.submission_line.Handed.{Handed}
 use Rattle.afdx_engine.specs.Engine.{Item}
 use Rattle.afdx_engine.specs.Lists.{Kind, latest_in}
-use Rattle.afdx_engine.specs.Listed.{frames}
+use Rattle.afdx_engine.specs.Listed.{arrival_at, frames}
 use Rattle.afdx_engine.specs.Listed.{submissions}
 use Rattle.afdx_engine.specs.Listed as listed
 
 -- what an item says: its line says `says_of` its head and its bytes
 abbrev pub thing_of : {H Y X : Type 0} → Kind Y X → (H → List ℕ → Y) → Item H → X
 thing_of k says_of x = k.item x.number (says_of x.head x.bytes)
+
+-- the arrival of the frame of line n that has this heading and these bytes
+abbrev pub arrival_on : ℕ → Heading → List ℕ → Arrival
+arrival_on n heading bytes = arrival_at n (listed_frame heading bytes)
 
 -- the arrivals of the items of a list of frames
 abbrev pub arrivals : List (Item Heading) → List Arrival

@@ -1,9 +1,9 @@
 //! One run: what a source gives, one item after another, a machine tells.
 
-ghost use Rattle.std.specs.Prelude.{◌≡◌, ◌<◌, ◌⊎◌, ◌∷◌, [], ℕ, List, Ok, OnOk, OnErr, IfErr, true, false};
+ghost use Rattle.std.specs.Prelude.{◌≡◌, ◌<◌, ◌⊎◌, ◌∷◌, [], ℕ, List, Ok, OnOk, OnErr, IfErr, false};
 ghost use Rattle.afdx_lists.specs.Calls.{is_failed_write};
 ghost use Rattle.afdx_lists.specs.declared.fault.RunFault.{RunFault as Fault};
-ghost use Rattle.afdx_engine.specs.Engine.{Bytes, CanTell, Item, item_of, Runs};
+ghost use Rattle.afdx_engine.specs.Engine.{Bytes, HoldsOfTold, IsReadyFor, Item, item_of, Runs};
 ghost use Rattle.afdx_text.specs.Sinks.{IsOfOutput};
 
 use afdx_lists::{Next, RunFault};
@@ -143,22 +143,16 @@ pub fn drive<H: Head, I, S: Source<H, I>, M: Machine<H>, O: Sink>(
 ) -> Result<(), RunFault>
     requires sound { O.failed output.old ≡ false }
     requires gave { S.Gave input.old source.old input.old [] }
-    requires told { (rules : M.Rules) × M.Told rules machine.old
-        (O.written output.old) (O.written output.old) []
-        × CanTell (S.Gives (S.settings source.old)) (M.Can rules) }
+    requires told { IsReadyFor M.Can M.Told machine.old (O.written output.old)
+        (S.Gives (S.settings source.old)) }
     ensures write { O.failed output.new ≡ is_failed_write result }
     ensures settings { S.settings source.new ≡ S.settings source.old }
     ensures output { O.settings output.new ≡ O.settings output.old }
-    ensures answer { (rules : M.Rules) → M.Told rules machine.old
-        (O.written output.old) (O.written output.old) [] →
-        CanTell (S.Gives (S.settings source.old)) (M.Can rules) →
+    ensures answer { HoldsOfTold M.Can M.Done M.Told M.Begins machine.old machine.new
+        (O.written output.old) (O.written output.new) (S.Gives (S.settings source.old))
+        (λ done told begins.
         Runs (S.Gave input.old source.new input.new) (S.Ended input.old source.new input.new)
-        (M.Done rules machine.new (O.written output.old)
-        (O.written output.new))
-        (M.Told rules machine.new (O.written output.old)
-        (O.written output.new))
-        (M.Begins rules machine.new (O.written output.old) (O.written output.new))
-        (S.Stopped input.old source.new input.new) result }
+        done told begins (S.Stopped input.old source.new input.new) result) }
 {
     while let Next::Given = source.next(input)? {
         let head = source.head();

@@ -1,10 +1,10 @@
 //! A run over a list: its lines are read one by one, and a machine tells what they say.
 
-ghost use Rattle.std.specs.Prelude.{◌≡◌, ◌+◌, ◌≤◌, [], IfSome, OnOk, true, false};
+ghost use Rattle.std.specs.Prelude.{◌≡◌, ◌+◌, ◌≤◌, IfSome, OnOk, true, false};
 ghost use Rattle.afdx_lists.specs.Calls.{is_failed_read, is_failed_write};
 ghost use Rattle.afdx_lists.specs.Lines.{most_reads};
 ghost use Rattle.afdx_lists.specs.Watching.{calls_of, device_of, has_ended, has_failed};
-ghost use Rattle.afdx_engine.specs.Engine.{CanTell};
+ghost use Rattle.afdx_engine.specs.Engine.{HoldsOfTold, IsReadyFor};
 ghost use Rattle.afdx_engine.specs.Items.{thing_of};
 ghost use Rattle.afdx_engine.specs.ListRun.{ListAnswers};
 
@@ -34,9 +34,8 @@ pub fn run_list<F: LineForm<H>, H: Listed, R: Read, M: Machine<H>, O: Sink>(
     requires unended { has_ended input.old ≡ false }
     requires sound_output { O.failed output.old ≡ false }
     requires form { F.IsForm form }
-    requires told { (rules : M.Rules) × M.Told rules machine.old
-        (O.written output.old) (O.written output.old) []
-        × CanTell (F.Gives form) (M.Can rules) }
+    requires told { IsReadyFor M.Can M.Told machine.old (O.written output.old)
+        (F.Gives form) }
     ensures ended { OnOk result (has_ended input.new ≡ true) }
     ensures read { has_failed input.new ≡ is_failed_read result }
     ensures write { O.failed output.new ≡ is_failed_write result }
@@ -44,17 +43,11 @@ pub fn run_list<F: LineForm<H>, H: Listed, R: Read, M: Machine<H>, O: Sink>(
     ensures output { O.settings output.new ≡ O.settings output.old }
 
     // Where the input's bytes are known: what is answered and written for the list that they are.
-    ensures answer { (rules : M.Rules) → M.Told rules machine.old
-        (O.written output.old) (O.written output.old) [] →
-        CanTell (F.Gives form) (M.Can rules) →
+    ensures answer { HoldsOfTold M.Can M.Done M.Told M.Begins machine.old machine.new
+        (O.written output.old) (O.written output.new) (F.Gives form) (λ done told begins.
         IfSome (R.remaining (device_of input.old)) (λ bytes.
-        ListAnswers (F.kind form) (thing_of (F.kind form) F.says_of)
-        (M.Done rules machine.new (O.written output.old)
-        (O.written output.new))
-        (M.Told rules machine.new (O.written output.old)
-        (O.written output.new))
-        (M.Begins rules machine.new (O.written output.old) (O.written output.new))
-        bytes (R.remaining (device_of input.new)) result) }
+        ListAnswers (F.kind form) (thing_of (F.kind form) F.says_of) done told begins
+        bytes (R.remaining (device_of input.new)) result)) }
 {
     let mut list: ReadList<F, H> = ReadList::new(alloc, form)?;
     drive(&mut list, input, machine, output)?;

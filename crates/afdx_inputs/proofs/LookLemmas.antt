@@ -26,15 +26,13 @@ use Rattle.afdx_recorded.specs.Timing.{timed}
 -- ---- what was looked at still comes
 
 -- of an input that is read by the bytes that are held, by its true first bytes
-pub looked-kept : (options : RecordingOptions) (left looked : Option (List ℕ)) (seen : List ℕ)
-    (P : Bool → List ℕ → Type 0) → Keeps left looked → IfSome left (λ bytes. seen ≡ take looked_at bytes)
-    → IfSome looked (λ bytes. P (is_recorded options seen) bytes)
-    → IfSome left (λ bytes. P (is_read_recorded options left) bytes)
-looked-kept options None looked seen P k e h = tt
-looked-kept options (Some bytes) None seen P k e h = absurd k
-looked-kept options (Some bytes) (Some same) seen P k e h =
-    subst (λ (xs : List ℕ). P (is_recorded options xs) bytes) e
-    (subst (λ (xs : List ℕ). P (is_recorded options seen) xs) k h)
+pub looked-kept : (left looked : Option (List ℕ)) (seen : List ℕ)
+    (P : (seen bytes : List ℕ) → Type 0) → Keeps left looked → IfSome left (λ bytes. seen ≡ take looked_at bytes)
+    → IfSome looked (λ bytes. P seen bytes) → IfSome left (λ bytes. P (take looked_at bytes) bytes)
+looked-kept None looked seen P k e h = tt
+looked-kept (Some bytes) None seen P k e h = absurd k
+looked-kept (Some bytes) (Some same) seen P k e h =
+    subst (λ (xs : List ℕ). P xs bytes) e (subst (λ (xs : List ℕ). P seen xs) k h)
 
 -- so many calls more
 later-once : (left rest : Option (List ℕ)) (old between new : ℕ) → between ≤ old
@@ -122,10 +120,11 @@ module _ {Said Thing : Type 0} (kind : Kind Said Thing) (thing : Item Heading �
   unread-input false bytes = unread-list bytes
 
   -- what is answered then
-  pub unread-answers : (b : Bool) (left rest : Option (List ℕ)) → Keeps left rest
-      → IfSome left (λ bytes. InputAnswers kind thing (options, ports) done told begins b bytes rest (Err run.Read))
-  unread-answers b None rest k = tt
-  unread-answers b (Some bytes) None k = absurd k
-  unread-answers b (Some bytes) (Some same) k =
-      subst (λ (xs : List ℕ). InputAnswers kind thing (options, ports) done told begins b bytes (Some xs) (Err run.Read)) (sym k)
-      (unread-input b bytes)
+  pub unread-answers : (is : List ℕ → Bool) (left rest : Option (List ℕ)) → Keeps left rest
+      → IfSome left
+      (λ bytes. InputAnswers kind thing (options, ports) done told begins (is bytes) bytes rest (Err run.Read))
+  unread-answers is None rest k = tt
+  unread-answers is (Some bytes) None k = absurd k
+  unread-answers is (Some bytes) (Some same) k = subst
+      (λ (xs : List ℕ). InputAnswers kind thing (options, ports) done told begins (is bytes) bytes (Some xs)
+      (Err run.Read)) (sym k) (unread-input (is bytes) bytes)

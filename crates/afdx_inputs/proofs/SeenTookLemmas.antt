@@ -14,7 +14,7 @@ use Rattle.afdx_recorded.specs.NumberLines.{Lines}
 use Rattle.afdx_recorded.specs.Taking.{Taken, AreCutOff, taken_of_bytes}
 use Rattle.afdx_recorded.specs.declared.becoming.RecordingOptions.{RecordingOptions}
 use Rattle.afdx_recorded.specs.declared.counts.Tally.{Tally}
-use Rattle.afdx_inputs.specs.Arrivals.{By, ByCause}
+use Rattle.afdx_inputs.specs.Arrivals.{ByCause, TookAndTold}
 use Rattle.afdx_inputs.specs.Joining.{Frame, frames_of}
 use Rattle.afdx_inputs.specs.Over.{both}
 use Rattle.afdx_inputs.specs.RecordingRun.{IfBoth}
@@ -47,9 +47,7 @@ module _ (done told begins : List (Item Seen) → Type 0) where
   -- a run took the frames of some items, and told of them what its answer says
   abbrev pub Took : (takes : List Frame → Result SeenCount RunFault → Type 0) →
       Result SeenCount RunFault → Type 0
-  Took takes answer =
-      (items : List (Item Seen)) × takes (frames_of items) answer
-      × By answer (done items) (told items) (told items ⊎ begins items)
+  Took takes answer = TookAndTold frames_of takes answer done told begins
 
   -- ---- of recordings
 

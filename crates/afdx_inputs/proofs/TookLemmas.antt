@@ -1,5 +1,5 @@
 -- Of the items that a machine was handed: what a run took, and how much was told of it.
-use Rattle.std.proofs.Common.{◌≡◌, ℕ, List, refl}
+use Rattle.std.proofs.Common.{◌≡◌, ℕ, List, refl, sym, true≢false}
 use Rattle.std.proofs.Common.{Bool, true, false, Option, Some, None, Result, Ok, Err, IfSome, ◌⊎◌}
 use Rattle.afdx_lists.specs.FrameLines.{listed_frame}
 use Rattle.afdx_lists.specs.Lines.{lines_of}
@@ -11,7 +11,7 @@ use Rattle.afdx_engine.specs.Engine.{Item}
 use Rattle.afdx_engine.specs.Items.{arrivals, thing_of}
 use Rattle.afdx_engine.specs.Listed.{frames}
 use Rattle.afdx_engine.specs.ListRun.{Of, ListAnswers}
-use Rattle.afdx_engine.specs.Lists.{items_of}
+use Rattle.afdx_engine.specs.Lists.{Kind, items_of}
 use Rattle.afdx_engine.specs.Stops.{IsToldOf}
 use Rattle.afdx_engine.specs.Stops as listed
 use Rattle.afdx_recorded.specs.Becoming.{Options}
@@ -19,10 +19,10 @@ use Rattle.afdx_recorded.specs.Claims.{Ports}
 use Rattle.afdx_recorded.specs.NumberLines.{Lines, arrivals_listed}
 use Rattle.afdx_recorded.specs.Taking.{Taken, AreCutOff, taken_of_bytes}
 use Rattle.afdx_recorded.specs.declared.counts.Tally.{Tally}
-use Rattle.afdx_inputs.specs.Arrivals.{By, ByCause, TakesAs, TakesListed, TakesRecorded}
+use Rattle.afdx_inputs.specs.Arrivals.{ByCause, TookAndTold, TakesAs, TakesListed, TakesRecorded}
 use Rattle.afdx_inputs.specs.InputRun.{InputAnswers}
 use Rattle.afdx_inputs.specs.Over.{both}
-use Rattle.afdx_inputs.specs.RecordingRun.{IfBoth}
+use Rattle.afdx_inputs.specs.RecordingRun.{IfBoth, RecordingAnswers}
 use Rattle.afdx_inputs.specs.TakenRun.{FirstAreBegun, FirstAreTold, StopsAs, TakenAnswers, TakenStops}
 use Rattle.afdx_inputs.specs.declared.input_run.InputCount.{InputCount}
 use Rattle.afdx_inputs.specs.declared.input_run.InputCount.TheVariants as count
@@ -37,13 +37,33 @@ abbrev pub lines_counted : Result ℕ RunFault → Result InputCount RunFault
 lines_counted (Ok n) = Ok (count.Lines n)
 lines_counted (Err fault) = Err fault
 
+-- what is answered for an input that is read as a recording, or as a list
+module _ {Said Thing : Type 0} (kind : Kind Said Thing) (thing : Item Heading → Thing) (options : Options)
+    (ports : Ports) (done told begins : List (Item Heading) → Type 0) where
+  abbrev Answers-as : Bool → List ℕ → Option (List ℕ) → Result InputCount RunFault → Type 0
+  Answers-as is bytes rest r = InputAnswers kind thing (options, ports) done told begins is bytes rest r
+
+  pub as-recorded : (is : Bool) (left rest : Option (List ℕ)) (r : Result Tally RunFault) → is ≡ true
+      → IfSome left (λ bytes. RecordingAnswers options ports done told begins bytes rest r)
+      → IfSome left (λ bytes. Answers-as is bytes rest (counted r))
+  as-recorded true None rest r e h = tt
+  as-recorded true (Some bytes) rest (Ok tally) e h = h
+  as-recorded true (Some bytes) rest (Err fault) e h = h
+  as-recorded false left rest r e h = absurd (true≢false (sym e))
+
+  pub as-listed : (is : Bool) (left rest : Option (List ℕ)) (r : Result ℕ RunFault) → is ≡ false
+      → IfSome left (λ bytes. ListAnswers kind thing done told begins bytes rest r)
+      → IfSome left (λ bytes. Answers-as is bytes rest (lines_counted r))
+  as-listed false None rest r e h = tt
+  as-listed false (Some bytes) rest (Ok n) e h = h
+  as-listed false (Some bytes) rest (Err fault) e h = h
+  as-listed true left rest r e h = absurd (true≢false e)
+
 module _ (done told begins : List (Item Heading) → Type 0) where
   -- a run took the arrivals of some items, and told of them what its answer says
   abbrev pub Took : (takes : List Arrival → Result InputCount RunFault → Type 0) →
       Result InputCount RunFault → Type 0
-  Took takes answer =
-      (items : List (Item Heading)) × takes (arrivals items) answer
-      × By answer (done items) (told items) (told items ⊎ begins items)
+  Took takes answer = TookAndTold arrivals takes answer done told begins
 
   -- ---- of recordings
 
@@ -131,13 +151,13 @@ module _ (done told begins : List (Item Heading) → Type 0) where
   input-took options ports false bytes rest (Ok (count.Lines n)) h = listed-took bytes rest (Ok n) h
   input-took options ports false bytes rest (Err fault) h = listed-took bytes rest (Err fault) h
 
-  pub one-took : (options : Options) (ports : Ports) (is : Option (List ℕ) → Bool)
+  pub one-took : (options : Options) (ports : Ports) (is : List ℕ → Bool)
       (left rest : Option (List ℕ)) (r : Result InputCount RunFault)
-      → IfSome left (λ bytes. InputAnswers frames (thing_of frames listed_frame) (options, ports) done told begins (is left) bytes rest r)
-      → IfSome left (λ bytes. Took (TakesAs (is (Some bytes)) options ports bytes rest) r)
+      → IfSome left (λ bytes. InputAnswers frames (thing_of frames listed_frame) (options, ports) done told begins (is bytes) bytes rest r)
+      → IfSome left (λ bytes. Took (TakesAs (is bytes) options ports bytes rest) r)
   one-took options ports is None rest r h = tt
   one-took options ports is (Some bytes) rest r h =
-      input-took options ports (is (Some bytes)) bytes rest r h
+      input-took options ports (is bytes) bytes rest r h
 
   -- ---- of two
 

@@ -1,5 +1,5 @@
 -- What a run takes of its input, whatever that is, and how much is told of it.
-use Rattle.std.specs.Prelude.{ℕ, ◌≡◌, ◌≤◌, Bool, true, false, List, [], ◌∷◌, Option, Some}
+use Rattle.std.specs.Prelude.{ℕ, ◌≡◌, ◌≤◌, ◌⊎◌, Bool, true, false, List, [], ◌∷◌, Option, Some}
 use Rattle.std.specs.Prelude.{Result, Ok, Err}
 use Rattle.afdx_frame.specs.declared.by_side.BySide.{BySide}
 use Rattle.afdx_police.specs.Arrival.{Arrival}
@@ -10,6 +10,7 @@ use Rattle.afdx_lists.specs.declared.fault.RunFault.{RunFault}
 use Rattle.afdx_lists.specs.declared.peeked.Peeked.{Peeked}
 use Rattle.afdx_lists.specs.declared.watched.Watched.{Watched}
 use Rattle.afdx_engine.specs.Causes.{Cause, cause_of, FailedWrite, NoMemory}
+use Rattle.afdx_engine.specs.Engine.{Item}
 use Rattle.afdx_engine.specs.Listed.{frames}
 use Rattle.afdx_engine.specs.ListRun.{IsDone}
 use Rattle.afdx_engine.specs.Lists.{latest_in}
@@ -36,6 +37,15 @@ ByCause _ so_far some = so_far
 abbrev pub By : {X : Type 0} → Result X RunFault → (all so_far some : Type 0) → Type 0
 By (Ok x) all so_far some = all
 By (Err fault) all so_far some = ByCause (cause_of fault) so_far some
+
+-- A run with this answer has taken what some items say, and by the answer these were told: to the
+-- end, all of them, or all or a beginning.
+abbrev pub TookAndTold : {H T X : Type 0} → (say : List (Item H) → List T) →
+    (takes : List T → Result X RunFault → Type 0) → Result X RunFault →
+    (done told begins : List (Item H) → Type 0) → Type 0
+TookAndTold {H} say takes answer done told begins =
+    (items : List (Item H)) × takes (say items) answer
+    × By answer (done items) (told items) (told items ⊎ begins items)
 
 -- ---- with this answer a run has taken these arrivals
 

@@ -1,5 +1,5 @@
 -- What a run over an input answers that is a list of frames, or a recording.
-use Rattle.std.specs.Prelude.{ℕ, ◌≤◌, ◌+◌, ◌||◌, Bool, true, false, List, take, Option, Some, None}
+use Rattle.std.specs.Prelude.{ℕ, ◌≤◌, ◌+◌, ◌⊎◌, ◌||◌, Bool, true, false, List, take, Option, Some, None}
 use Rattle.std.specs.Prelude.{Result, Ok, Err}
 use Rattle.afdx_lists.specs.Peeking.{looked_at}
 use Rattle.afdx_lists.specs.Lines.{most_reads}
@@ -7,14 +7,17 @@ use Rattle.afdx_lists.specs.declared.frame_line.Heading.{Heading}
 use Rattle.afdx_lists.specs.declared.fault.RunFault.{RunFault}
 use Rattle.afdx_recordings.specs.Beginning.{is_recording}
 use Rattle.afdx_engine.specs.Engine.{Item}
+use Rattle.afdx_engine.specs.Items.{thing_of}
 use Rattle.afdx_engine.specs.ListRun.{ListAnswers}
 use Rattle.afdx_engine.specs.Lists.{Kind}
 use Rattle.afdx_recorded.specs.declared.becoming.RecordingOptions.{RecordingOptions}
 use Rattle.afdx_inputs.specs.declared.input_run.InputCount.{InputCount}
 use Rattle.afdx_inputs.specs.declared.input_run.InputCount.TheVariants.{Lines, Recorded}
-use Rattle.afdx_recorded.specs.Becoming.{Options}
-use Rattle.afdx_recorded.specs.Claims.{Ports}
+use Rattle.afdx_recorded.specs.Becoming.{Options, options_of}
+use Rattle.afdx_recorded.specs.Claims.{Ports, ports_unsaid}
+use Rattle.afdx_recorded.specs.Entering.{IsEntered}
 use Rattle.afdx_inputs.specs.RecordingRun.{IsAskedOnce, RecordingAnswers}
+use Rattle.afdx_inputs.specs.declared.reading.Reading.{Reading}
 
 -- an input whose first bytes are these is read as a recording: it has to be one, or begins as one
 abbrev pub is_recorded : RecordingOptions → List ℕ → Bool
@@ -49,3 +52,24 @@ module _ {Said Thing : Type 0} (kind : Kind Said Thing) (thing : Item Heading �
   InputAnswers false bytes rest (Err fault) =
       ListAnswers kind thing done told begins bytes rest (Err fault)
   InputAnswers _ bytes rest (Ok _) = ⊥
+
+-- ---- of an input that is read so
+
+-- an item can come of it: a line of its form says it, or it is a frame that came in as its options
+-- say, and else its ports
+abbrev pub CanCome : {F : Type 0} → Reading F → (says : F → Item Heading → Type 0) →
+    Item Heading → Type 0
+CanCome reading says item =
+    says reading.form item
+    ⊎ IsEntered (options_of reading.options) (ports_unsaid reading.unsaid) item
+
+-- What a run answers whose input has these bytes, and then has `rest`. Those that were seen first
+-- decide whether it is read as a recording, or as a list of the kind of its form.
+abbrev pub ReadingAnswers : {F Said Thing : Type 0} → Reading F → (F → Kind Said Thing) →
+    (says_of : Heading → List ℕ → Said) → (seen : List ℕ) →
+    (done told begins : List (Item Heading) → Type 0) → List ℕ → Option (List ℕ) →
+    Result InputCount RunFault → Type 0
+ReadingAnswers reading kind says_of seen done told begins bytes rest result =
+    InputAnswers (kind reading.form) (thing_of (kind reading.form) says_of)
+    (options_of reading.options, ports_unsaid reading.unsaid) done told begins
+    (is_recorded reading.options seen) bytes rest result

@@ -3,6 +3,7 @@ use Rattle.std.specs.Prelude.{ℕ, ◌≡◌, false, List, ◌++◌, Option, Som
 use Rattle.afdx_frame.specs.declared.by_side.BySide.{BySide}
 use Rattle.afdx_lists.specs.Watching.{calls_of, device_of, has_failed, is_over}
 use Rattle.afdx_lists.specs.declared.fault.RunFault.{RunFault}
+use Rattle.afdx_lists.specs.declared.role.ByRole.{ByRole}
 use Rattle.afdx_lists.specs.declared.watched.Watched.{Watched}
 use Rattle.afdx_engine.specs.Causes.{Cause, cause_of, FailedRead, FailedWrite, NoMemory, BadInput}
 use Rattle.afdx_engine.specs.Engine.{Item}
@@ -90,6 +91,12 @@ abbrev pub both : Option (List ℕ) → Option (List ℕ) → Option (List ℕ �
 both (Some a) (Some b) = Some (a, b)
 both (Some a) None = None
 both None b = None
+
+-- the bytes that two inputs still give, where both are known
+abbrev pub bytes_by_role : {R : Type 0} → (R → Option (List ℕ)) → (inputs : ByRole (Watched R)) →
+    Option (List ℕ × List ℕ)
+bytes_by_role remaining inputs =
+    both (remaining (device_of inputs.came)) (remaining (device_of inputs.left))
 
 abbrev pub way_of_two : TimedPair OrderedRecording → Set × Set × Option ℕ
 way_of_two source =

@@ -62,3 +62,11 @@ module _ (options : PairOptions) (ports : Ports) where
   AreCutOffInPair remaining a b rest lines =
       AreCutOffAtOne options.origin of_a of_b (has_failed rest.a) (has_failed rest.b) a b
       (remaining (device_of rest.a)) (remaining (device_of rest.b)) lines
+
+  -- what a run answers that is given recordings of these bytes, whose inputs then are `rest`
+  abbrev pub PairAnswers : {R : Type 0} → (R → Option (List ℕ)) → (rest : BySide (Watched R)) →
+      (done told begins : List (Item Heading) → Type 0) → (a b : List ℕ) →
+      Result Tally RunFault → Type 0
+  PairAnswers remaining rest done told begins a b result =
+      TakenAnswers (taken_of_pair a b) (AreCutOffInPair remaining a b rest) arrivals_listed
+      done told begins result

@@ -1,4 +1,5 @@
--- What a run takes of two recordings, of what came in at switches and of what left them.
+-- What a run takes of recordings of what came in at switches and of what left them: of one that has
+-- both, or of two.
 use Rattle.std.specs.Prelude.{ℕ, ◌≡◌, List, Option, option_map, true, false, Result, Ok, Err}
 use Rattle.afdx_lists.specs.Faults.{fault_by_role}
 use Rattle.afdx_lists.specs.Watching.{device_of, has_failed}
@@ -10,12 +11,22 @@ use Rattle.afdx_recorded.specs.Becoming.{Options, options_of}
 use Rattle.afdx_recorded.specs.Claims.{Ports}
 use Rattle.afdx_recorded.specs.NumberLines.{Lines}
 use Rattle.afdx_recorded.specs.Ordering.{Sequence}
-use Rattle.afdx_recorded.specs.Taking.{Taken, AreCutOffAtOne, sequence_of_bytes, taken_of_both}
+use Rattle.afdx_recorded.specs.Taking.{Taken, AreCutOff, AreCutOffAtOne, sequence_of_bytes, taken_of_both}
+use Rattle.afdx_recorded.specs.Taking.{taken_of_bytes}
 use Rattle.afdx_recorded.specs.declared.becoming.RecordingOptions.{RecordingOptions}
 use Rattle.afdx_recorded.specs.declared.counts.Tally.{Tally}
 use Rattle.afdx_inputs.specs.SeenLines.{seen_listed}
 use Rattle.afdx_inputs.specs.TakenRun.{TakenAnswers}
 use Rattle.afdx_inputs.specs.declared.seen.Seen.{Seen}
+
+-- what a run answers that is given one recording of these bytes, after which the input has `rest`
+abbrev pub SeenAnswers : Options → Ports → (done told begins : List (Item Seen) → Type 0) →
+    List ℕ → Option (List ℕ) → Result Tally RunFault → Type 0
+SeenAnswers options ports done told begins bytes rest result =
+    TakenAnswers (taken_of_bytes options ports bytes) (AreCutOff options ports bytes rest)
+    seen_listed done told begins result
+
+-- ---- of two
 
 -- what the options say of the recording of what came in, which is the first of both, and of that of
 -- what left

@@ -1,21 +1,21 @@
 //! What gives a run its arrivals, whatever that is.
 
-ghost use Rattle.std.specs.Prelude.{◌≡◌, ◌⊎◌, [], ℕ, List, Option, Result, Some, Err, IfSome, OnOk, false};
+ghost use Rattle.std.specs.Prelude.{◌≡◌, [], ℕ, List, Option, Result, Some, Err, IfSome, OnOk, false};
 ghost use Rattle.afdx_police.specs.Arrival.{Arrival};
 ghost use Rattle.afdx_lists.specs.Calls.{is_failed_read, is_failed_write};
 ghost use Rattle.afdx_lists.specs.Peeking.{left_in};
 ghost use Rattle.afdx_lists.specs.Watching.{device_of};
 ghost use Rattle.afdx_lists.specs.declared.fault.RunFault.{RunFault as Fault};
 ghost use Rattle.afdx_lists.specs.declared.fault.RunFault.TheVariants.{Memory};
-ghost use Rattle.afdx_lists.specs.declared.frame_line.Heading.{Heading as Head};
-ghost use Rattle.afdx_engine.specs.Engine.{CanAll, Item};
+ghost use Rattle.afdx_engine.specs.Engine.{HoldsOfAllTold, IsReadyForAll};
 ghost use Rattle.afdx_engine.specs.Items.{arrivals as arrivals_of};
 ghost use Rattle.afdx_recorded.specs.Claims.{Ports, ports_unsaid};
-ghost use Rattle.afdx_inputs.specs.Arrivals.{By, DontGoBack};
+ghost use Rattle.afdx_inputs.specs.Arrivals.{DontGoBack, TookAndTold};
 ghost use Rattle.afdx_inputs.specs.declared.input_run.InputCount.{InputCount as Counted};
 
 use crate::input_run::{InputCount, run_input};
 use crate::over::Input;
+use crate::reading::Reading;
 use crate::recording_run::run_pair;
 use afdx_engine::{FrameLines, Machine};
 use afdx_frame::BySide;
@@ -76,21 +76,16 @@ pub trait Arrivals<P>: Input {
     ) -> Result<InputCount, RunFault>
         requires new { IsNew self.old }
         requires sound_output { O.failed output.old ≡ false }
-        requires told { (rules : M.Rules) × M.Told rules machine.old
-            (O.written output.old) (O.written output.old) [] × CanAll (M.Can rules) }
+        requires told { IsReadyForAll M.Can M.Told machine.old (O.written output.old) }
         ensures ended { OnOk result (Self.ended self.new) }
         ensures read { Self.failed self.new ≡ is_failed_read result }
         ensures write { O.failed output.new ≡ is_failed_write result }
         ensures calls { IsAskedFew options self.old self.new }
-        ensures answer { (rules : M.Rules) → M.Told rules machine.old
-            (O.written output.old) (O.written output.old) [] → CanAll (M.Can rules) →
-            IfSome (known self.old) (λ bytes. (items : List (Item Head))
-            × Takes options (ports_unsaid unsaid.entry) bytes self.new (arrivals_of items) result
-            × By result
-            (M.Done rules machine.new (O.written output.old) (O.written output.new) items)
-            (M.Told rules machine.new (O.written output.old) (O.written output.new) items)
-            (M.Told rules machine.new (O.written output.old) (O.written output.new) items
-            ⊎ M.Begins rules machine.new (O.written output.old) (O.written output.new) items)) };
+        ensures answer { HoldsOfAllTold M.Can M.Done M.Told M.Begins machine.old machine.new
+            (O.written output.old) (O.written output.new) (λ done told begins.
+            IfSome (known self.old) (λ bytes. TookAndTold arrivals_of
+            (Takes options (ports_unsaid unsaid.entry) bytes self.new) result
+            done told begins)) };
 }
 
 impl<R: Read> Arrivals<RecordingOptions> for Watched<Peeked<R>> {
@@ -118,7 +113,12 @@ impl<R: Read> Arrivals<RecordingOptions> for Watched<Peeked<R>> {
         machine: &mut M,
         output: &mut O,
     ) -> Result<InputCount, RunFault> {
-        run_input(alloc, options, unsaid, FrameLines, machine, self, output)
+        let reading = Reading {
+            options,
+            unsaid,
+            form: FrameLines,
+        };
+        run_input(alloc, reading, machine, self, output)
     }
 }
 

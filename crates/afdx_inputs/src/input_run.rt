@@ -1,18 +1,18 @@
 //! A run over an input that is a list of frames, or a recording.
 
-ghost use Rattle.std.specs.Prelude.{◌≡◌, [], IfSome, OnOk, true, false};
+ghost use Rattle.std.specs.Prelude.{◌≡◌, IfSome, OnOk, take, true, false};
 ghost use Rattle.afdx_lists.specs.Calls.{is_failed_read, is_failed_write};
-ghost use Rattle.afdx_lists.specs.Peeking.{held, is_untouched, left_in};
+ghost use Rattle.afdx_lists.specs.Peeking.{held, is_untouched, left_in, looked_at};
 ghost use Rattle.afdx_lists.specs.Watching.{calls_of, device_of, has_ended, has_failed};
-ghost use Rattle.afdx_engine.specs.Engine.{CanTell};
-ghost use Rattle.afdx_engine.specs.Items.{thing_of};
+ghost use Rattle.afdx_engine.specs.Engine.{HoldsOfTold, IsReadyFor};
 ghost use Rattle.afdx_recorded.specs.Becoming.{options_of};
 ghost use Rattle.afdx_recorded.specs.Claims.{ports_unsaid};
 ghost use Rattle.afdx_recorded.specs.Entering.{IsEntered};
 ghost use Rattle.afdx_inputs.specs.InputRun as spec;
-ghost use Rattle.afdx_inputs.specs.InputRun.{InputAnswers, IsAskedBy, IsAskedFew};
+ghost use Rattle.afdx_inputs.specs.InputRun.{CanCome, IsAskedBy, IsAskedFew, ReadingAnswers};
 ghost use Rattle.afdx_inputs.specs.RecordingRun.{IsAskedOnce, RecordingAnswers};
 
+use crate::reading::Reading;
 use crate::recording_run::run_recording;
 use afdx_engine::{LineForm, Machine, run_list};
 use afdx_lists::{Heading, Peeked, RunFault, Watched};
@@ -51,23 +51,19 @@ fn run_recorded<R: Read, M: Machine<Heading>, O: Sink>(
     requires sound_input { has_failed input.old ≡ false }
     requires unended { has_ended input.old ≡ false }
     requires sound_output { O.failed output.old ≡ false }
-    requires told { (rules : M.Rules) × M.Told rules machine.old
-        (O.written output.old) (O.written output.old) []
-        × CanTell (IsEntered (options_of options) (ports_unsaid unsaid)) (M.Can rules) }
+    requires told { IsReadyFor M.Can M.Told machine.old (O.written output.old)
+        (IsEntered (options_of options) (ports_unsaid unsaid)) }
     ensures ended { OnOk result (has_ended input.new ≡ true) }
     ensures read { has_failed input.new ≡ is_failed_read result }
     ensures write { O.failed output.new ≡ is_failed_write result }
     ensures calls { IsAskedOnce (R.remaining (device_of input.old))
         (R.remaining (device_of input.new)) (calls_of input.old) (calls_of input.new) }
-    ensures answer { (rules : M.Rules) → M.Told rules machine.old
-        (O.written output.old) (O.written output.old) [] →
-        CanTell (IsEntered (options_of options) (ports_unsaid unsaid.entry)) (M.Can rules) →
+    ensures answer { HoldsOfTold M.Can M.Done M.Told M.Begins machine.old machine.new
+        (O.written output.old) (O.written output.new)
+        (IsEntered (options_of options) (ports_unsaid unsaid.entry)) (λ done told begins.
         IfSome (R.remaining (device_of input.old)) (λ bytes.
-        RecordingAnswers (options_of options) (ports_unsaid unsaid.entry)
-        (M.Done rules machine.new (O.written output.old) (O.written output.new))
-        (M.Told rules machine.new (O.written output.old) (O.written output.new))
-        (M.Begins rules machine.new (O.written output.old) (O.written output.new))
-        bytes (R.remaining (device_of input.new)) result) }
+        RecordingAnswers (options_of options) (ports_unsaid unsaid.entry) done told begins
+        bytes (R.remaining (device_of input.new)) result)) }
 {
     let ports = SystemPorts::unsaid(alloc, unsaid)?;
     run_recording(alloc, options, ports, machine, input, output)
@@ -77,9 +73,7 @@ fn run_recorded<R: Read, M: Machine<Heading>, O: Sink>(
 /// lines, or what is no arrival.
 fn run_looked<F: LineForm<Heading>, R: Read, M: Machine<Heading>, O: Sink>(
     alloc: Global,
-    options: RecordingOptions,
-    unsaid: UnsaidPort<'_>,
-    form: F,
+    reading: Reading<'_, F>,
     machine: &mut M,
     input: &mut Watched<Peeked<R>>,
     output: &mut O,
@@ -87,30 +81,26 @@ fn run_looked<F: LineForm<Heading>, R: Read, M: Machine<Heading>, O: Sink>(
     requires sound_input { has_failed input.old ≡ false }
     requires unended { has_ended input.old ≡ false }
     requires sound_output { O.failed output.old ≡ false }
-    requires form { F.IsForm form }
-    requires told { (rules : M.Rules) × M.Told rules machine.old
-        (O.written output.old) (O.written output.old) []
-        × CanTell (F.Gives form) (M.Can rules)
-        × CanTell (IsEntered (options_of options) (ports_unsaid unsaid)) (M.Can rules) }
+    requires form { F.IsForm reading.form }
+    requires told { IsReadyFor M.Can M.Told machine.old (O.written output.old)
+        (CanCome reading F.Gives) }
     ensures ended { OnOk result (has_ended input.new ≡ true) }
     ensures read { has_failed input.new ≡ is_failed_read result }
     ensures write { O.failed output.new ≡ is_failed_write result }
-    ensures calls { IsAskedBy (spec.is_recorded options (held (device_of input.old)))
+    ensures calls { IsAskedBy (spec.is_recorded reading.entry.options (held (device_of input.old)))
         (left_in R.remaining (device_of input.old)) (left_in R.remaining (device_of input.new))
         (calls_of input.old) (calls_of input.new) }
-    ensures answer { (rules : M.Rules) → M.Told rules machine.old
-        (O.written output.old) (O.written output.old) [] →
-        CanTell (F.Gives form) (M.Can rules) →
-        CanTell (IsEntered (options_of options) (ports_unsaid unsaid.entry)) (M.Can rules) →
-        IfSome (left_in R.remaining (device_of input.old)) (λ bytes.
-        InputAnswers (F.kind form) (thing_of (F.kind form) F.says_of)
-        (options_of options, ports_unsaid unsaid.entry)
-        (M.Done rules machine.new (O.written output.old) (O.written output.new))
-        (M.Told rules machine.new (O.written output.old) (O.written output.new))
-        (M.Begins rules machine.new (O.written output.old) (O.written output.new))
-        (spec.is_recorded options (held (device_of input.old)))
-        bytes (left_in R.remaining (device_of input.new)) result) }
+    ensures answer { HoldsOfTold M.Can M.Done M.Told M.Begins machine.old machine.new
+        (O.written output.old) (O.written output.new) (CanCome reading.entry F.Gives)
+        (λ done told begins. IfSome (left_in R.remaining (device_of input.old)) (λ bytes.
+        ReadingAnswers reading.entry F.kind F.says_of (held (device_of input.old))
+        done told begins bytes (left_in R.remaining (device_of input.new)) result)) }
 {
+    let Reading {
+        options,
+        unsaid,
+        form,
+    } = reading;
     if is_recorded(&options, input.seen()) {
         let tally = run_recorded(alloc, options, unsaid, machine, input, output)?;
         return Ok(InputCount::Recorded(tally));
@@ -124,15 +114,13 @@ fn run_looked<F: LineForm<Heading>, R: Read, M: Machine<Heading>, O: Sink>(
 /// Its first four bytes are looked at. It is read as a recording if it begins as one, or if an
 /// option of recordings is given; else as a list of frames, whose lines have this form. The machine
 /// can tell what such lines say, and arrivals that came in where the options say, or the bytes of a
-/// frame. The whole text of a line or an arrival
-/// is handed to `output` before the next byte is read. The first fault ends the run; what was told
-/// before it stands written. `RunFault::Read` and `RunFault::Write` come exactly where the input's
-/// or the output's device failed, the input's also while it is looked at; neither is tried again.
+/// frame. The whole text of a line or an arrival is handed to `output` before the next byte is
+/// read. The first fault ends the run; what was told before it stands written. `RunFault::Read` and
+/// `RunFault::Write` come exactly where the input's or the output's device failed, the input's also
+/// while it is looked at; neither is tried again.
 pub fn run_input<F: LineForm<Heading>, R: Read, M: Machine<Heading>, O: Sink>(
     alloc: Global,
-    options: RecordingOptions,
-    unsaid: UnsaidPort<'_>,
-    form: F,
+    reading: Reading<'_, F>,
     machine: &mut M,
     input: &mut Watched<Peeked<R>>,
     output: &mut O,
@@ -141,35 +129,26 @@ pub fn run_input<F: LineForm<Heading>, R: Read, M: Machine<Heading>, O: Sink>(
     requires sound_input { has_failed input.old ≡ false }
     requires unended { has_ended input.old ≡ false }
     requires sound_output { O.failed output.old ≡ false }
-    requires form { F.IsForm form }
-    requires told { (rules : M.Rules) × M.Told rules machine.old
-        (O.written output.old) (O.written output.old) []
-        × CanTell (F.Gives form) (M.Can rules)
-        × CanTell (IsEntered (options_of options) (ports_unsaid unsaid)) (M.Can rules) }
+    requires form { F.IsForm reading.form }
+    requires told { IsReadyFor M.Can M.Told machine.old (O.written output.old)
+        (CanCome reading F.Gives) }
     ensures ended { OnOk result (has_ended input.new ≡ true) }
     ensures read { has_failed input.new ≡ is_failed_read result }
     ensures write { O.failed output.new ≡ is_failed_write result }
-    ensures calls { IsAskedFew options
+    ensures calls { IsAskedFew reading.entry.options
         (left_in R.remaining (device_of input.old)) (left_in R.remaining (device_of input.new))
         (calls_of input.old) (calls_of input.new) }
 
     // Where all its bytes are known: what is answered and written for the list, or the recording,
-    // that they are.
-    ensures answer { (rules : M.Rules) → M.Told rules machine.old
-        (O.written output.old) (O.written output.old) [] →
-        CanTell (F.Gives form) (M.Can rules) →
-        CanTell (IsEntered (options_of options) (ports_unsaid unsaid.entry)) (M.Can rules) →
-        IfSome (left_in R.remaining (device_of input.old)) (λ bytes.
-        InputAnswers (F.kind form) (thing_of (F.kind form) F.says_of)
-        (options_of options, ports_unsaid unsaid.entry)
-        (M.Done rules machine.new (O.written output.old) (O.written output.new))
-        (M.Told rules machine.new (O.written output.old) (O.written output.new))
-        (M.Begins rules machine.new (O.written output.old) (O.written output.new))
-        (spec.is_read_recorded options (left_in R.remaining (device_of input.old)))
-        bytes (left_in R.remaining (device_of input.new)) result) }
+    // that they are by the first of them.
+    ensures answer { HoldsOfTold M.Can M.Done M.Told M.Begins machine.old machine.new
+        (O.written output.old) (O.written output.new) (CanCome reading.entry F.Gives)
+        (λ done told begins. IfSome (left_in R.remaining (device_of input.old)) (λ bytes.
+        ReadingAnswers reading.entry F.kind F.says_of (take looked_at bytes)
+        done told begins bytes (left_in R.remaining (device_of input.new)) result)) }
 {
     if input.look() {
         return Err(RunFault::Read);
     }
-    run_looked(alloc, options, unsaid, form, machine, input, output)
+    run_looked(alloc, reading, machine, input, output)
 }

@@ -5,7 +5,7 @@ ghost use Rattle.std.specs.Prelude.{◌≡◌, ◌||◌, ℕ, List, [], Bool, Op
 ghost use Rattle.afdx_lists.specs.Calls.{is_read, is_failed_read, is_failed_write};
 ghost use Rattle.afdx_lists.specs.Watching.{device_of, has_ended, has_failed};
 ghost use Rattle.afdx_lists.specs.declared.fault.RunFault.{RunFault as Fault};
-ghost use Rattle.afdx_engine.specs.Engine.{CanTell, Item};
+ghost use Rattle.afdx_engine.specs.Engine.{HoldsOfTold, IsReadyFor, Item};
 ghost use Rattle.afdx_inputs.specs.ListText.{lines_themselves};
 ghost use Rattle.afdx_recorded.specs.NumberLines.{CanBePeeled, Lines, arrivals_listed};
 ghost use Rattle.afdx_inputs.specs.Over.{IsAsked, Takes};
@@ -255,9 +255,8 @@ pub(crate) fn run_over<H: OfLines, I: Input, S: Reads<H, I>, M: Machine<H>, O: S
     requires gave { S.Gave input.old source.old input.old [] }
     requires set { S.IsSet (S.way source.old) }
     requires sound_output { O.failed output.old ≡ false }
-    requires told { (rules : M.Rules) × M.Told rules machine.old
-        (O.written output.old) (O.written output.old) []
-        × CanTell (S.Gives (S.settings source.old)) (M.Can rules) }
+    requires told { IsReadyFor M.Can M.Told machine.old (O.written output.old)
+        (S.Gives (S.settings source.old)) }
     ensures ended { OnOk result (I.ended input.new) }
     ensures read { I.failed input.new ≡ is_failed_read result }
     ensures write { O.failed output.new ≡ is_failed_write result }
@@ -265,15 +264,11 @@ pub(crate) fn run_over<H: OfLines, I: Input, S: Reads<H, I>, M: Machine<H>, O: S
     ensures settings { S.settings source.new ≡ S.settings source.old }
     ensures whole { OnOk result ((past : List (Item H))
         × S.Ended input.old source.new input.new past) }
-    ensures answer { (rules : M.Rules) → M.Told rules machine.old
-        (O.written output.old) (O.written output.old) [] →
-        CanTell (S.Gives (S.settings source.old)) (M.Can rules) →
-        IfSome (S.known input.old) (λ bytes.
+    ensures answer { HoldsOfTold M.Can M.Done M.Told M.Begins machine.old machine.new
+        (O.written output.old) (O.written output.new) (S.Gives (S.settings source.old))
+        (λ done told begins. IfSome (S.known input.old) (λ bytes.
         TakenAnswers (S.whole (S.way source.old) bytes)
-        (S.AreCut (S.way source.old) bytes input.new) H.items_of
-        (M.Done rules machine.new (O.written output.old) (O.written output.new))
-        (M.Told rules machine.new (O.written output.old) (O.written output.new))
-        (M.Begins rules machine.new (O.written output.old) (O.written output.new)) result) }
+        (S.AreCut (S.way source.old) bytes input.new) H.items_of done told begins result)) }
 {
     H::peels();
     S::stays();

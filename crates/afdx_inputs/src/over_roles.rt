@@ -4,7 +4,7 @@
 ghost use Rattle.std.specs.Prelude.{◌≡◌, ◌||◌, ℕ, List, true};
 ghost use Rattle.afdx_inputs.specs.Over.{IsAsked};
 ghost use Rattle.afdx_inputs.specs.SeenLines.{seen_listed};
-ghost use Rattle.afdx_lists.specs.Watching.{device_of, has_ended, has_failed};
+ghost use Rattle.afdx_lists.specs.Watching.{has_ended, has_failed};
 
 use crate::over::{Input, OfLines, Reads};
 use crate::seeing::Seeing;
@@ -34,12 +34,11 @@ impl<R: Read> Reads<NumberLine, ByRole<Watched<R>>> for TimedPair<Ordered<ReadRe
     ghost use Rattle.afdx_recorded.specs.Counting.{IsFew, plus_tally};
     ghost use Rattle.afdx_recorded.specs.OrderedRecording.{tally_of_source};
     ghost use Rattle.afdx_recorded.specs.PairSource.{inputs_by_role};
-    ghost use Rattle.afdx_inputs.specs.Over.{both, Set, IsSetTwo, way_of_two, whole_of_two, CutOfTwo};
+    ghost use Rattle.afdx_inputs.specs.Over.{bytes_by_role, Set, IsSetTwo, way_of_two, whole_of_two, CutOfTwo};
 
     ghost Bytes = { List ℕ × List ℕ };
 
-    ghost known = { λ inputs. both (R.remaining (device_of inputs.came))
-        (R.remaining (device_of inputs.left)) };
+    ghost known = { bytes_by_role R.remaining };
 
     ghost counted = { λ source. plus_tally (tally_of_source source.pair.a.source)
         (tally_of_source source.pair.b.source) };

@@ -1,16 +1,14 @@
 //! A run over a recording, or over two: a machine tells its arrivals, one by one.
 
-ghost use Rattle.std.specs.Prelude.{◌≡◌, ◌||◌, [], IfSome, OnOk, true, false};
+ghost use Rattle.std.specs.Prelude.{◌≡◌, ◌||◌, IfSome, OnOk, true, false};
 ghost use Rattle.afdx_lists.specs.Calls.{is_failed_read, is_failed_write};
 ghost use Rattle.afdx_lists.specs.Watching.{calls_of, device_of, has_ended, has_failed};
-ghost use Rattle.afdx_engine.specs.Engine.{CanTell};
+ghost use Rattle.afdx_engine.specs.Engine.{HoldsOfTold, IsReadyFor};
 ghost use Rattle.afdx_recorded.specs.Becoming.{options_of};
 ghost use Rattle.afdx_recorded.specs.Claims.{ports_of, ports_unsaid};
 ghost use Rattle.afdx_recorded.specs.Entering.{IsEntered};
-ghost use Rattle.afdx_inputs.specs.RecordingRun.{AreCutOffInPair, IfBothKnown, IsAskedOnce};
-ghost use Rattle.afdx_inputs.specs.RecordingRun.{IsEnteredBy, RecordingAnswers, taken_of_pair};
-ghost use Rattle.afdx_inputs.specs.TakenRun.{TakenAnswers};
-ghost use Rattle.afdx_recorded.specs.NumberLines.{arrivals_listed};
+ghost use Rattle.afdx_inputs.specs.RecordingRun.{IfBothKnown, IsAskedOnce};
+ghost use Rattle.afdx_inputs.specs.RecordingRun.{IsEnteredBy, PairAnswers, RecordingAnswers};
 
 use crate::over::run_over;
 use crate::read_pair::{read_one, read_pair};
@@ -43,9 +41,8 @@ pub fn run_recording<R: Read, M: Machine<Heading>, O: Sink>(
     requires sound_input { has_failed input.old ≡ false }
     requires unended { has_ended input.old ≡ false }
     requires sound_output { O.failed output.old ≡ false }
-    requires told { (rules : M.Rules) × M.Told rules machine.old
-        (O.written output.old) (O.written output.old) []
-        × CanTell (IsEntered (options_of options) (ports_of ports)) (M.Can rules) }
+    requires told { IsReadyFor M.Can M.Told machine.old (O.written output.old)
+        (IsEntered (options_of options) (ports_of ports)) }
     ensures ended { OnOk result (has_ended input.new ≡ true) }
     ensures read { has_failed input.new ≡ is_failed_read result }
     ensures write { O.failed output.new ≡ is_failed_write result }
@@ -54,15 +51,12 @@ pub fn run_recording<R: Read, M: Machine<Heading>, O: Sink>(
 
     // Where the input's bytes are known: what is answered and written for the recording that they
     // are.
-    ensures answer { (rules : M.Rules) → M.Told rules machine.old
-        (O.written output.old) (O.written output.old) [] →
-        CanTell (IsEntered (options_of options) (ports_of ports)) (M.Can rules) →
+    ensures answer { HoldsOfTold M.Can M.Done M.Told M.Begins machine.old machine.new
+        (O.written output.old) (O.written output.new)
+        (IsEntered (options_of options) (ports_of ports)) (λ done told begins.
         IfSome (R.remaining (device_of input.old)) (λ bytes.
-        RecordingAnswers (options_of options) (ports_of ports)
-        (M.Done rules machine.new (O.written output.old) (O.written output.new))
-        (M.Told rules machine.new (O.written output.old) (O.written output.new))
-        (M.Begins rules machine.new (O.written output.old) (O.written output.new))
-        bytes (R.remaining (device_of input.new)) result) }
+        RecordingAnswers (options_of options) (ports_of ports) done told begins
+        bytes (R.remaining (device_of input.new)) result)) }
 {
     let mut arrivals = Arriving::new(read_one(alloc, options, ports)?);
     run_over(&mut arrivals, machine, input, output)
@@ -92,9 +86,8 @@ pub fn run_pair<R: Read, M: Machine<Heading>, O: Sink>(
     requires unended_a { has_ended inputs.old.a ≡ false }
     requires unended_b { has_ended inputs.old.b ≡ false }
     requires sound_output { O.failed output.old ≡ false }
-    requires told { (rules : M.Rules) × M.Told rules machine.old
-        (O.written output.old) (O.written output.old) []
-        × CanTell (IsEnteredBy options (ports_unsaid unsaid)) (M.Can rules) }
+    requires told { IsReadyFor M.Can M.Told machine.old (O.written output.old)
+        (IsEnteredBy options (ports_unsaid unsaid)) }
     ensures ended { OnOk result (has_ended inputs.new.a ≡ true × has_ended inputs.new.b ≡ true) }
     ensures read { (has_failed inputs.new.a || has_failed inputs.new.b) ≡ is_failed_read result }
     ensures write { O.failed output.new ≡ is_failed_write result }
@@ -105,16 +98,12 @@ pub fn run_pair<R: Read, M: Machine<Heading>, O: Sink>(
 
     // Where the bytes of both are known: what is answered and written for the recordings that they
     // are.
-    ensures answer { (rules : M.Rules) → M.Told rules machine.old
-        (O.written output.old) (O.written output.old) [] →
-        CanTell (IsEnteredBy options (ports_unsaid unsaid.entry)) (M.Can rules) →
+    ensures answer { HoldsOfTold M.Can M.Done M.Told M.Begins machine.old machine.new
+        (O.written output.old) (O.written output.new)
+        (IsEnteredBy options (ports_unsaid unsaid.entry)) (λ done told begins.
         IfBothKnown R.remaining inputs.old (λ a b.
-        TakenAnswers (taken_of_pair options (ports_unsaid unsaid.entry) a b)
-        (AreCutOffInPair options (ports_unsaid unsaid.entry) R.remaining a b inputs.new)
-        arrivals_listed
-        (M.Done rules machine.new (O.written output.old) (O.written output.new))
-        (M.Told rules machine.new (O.written output.old) (O.written output.new))
-        (M.Begins rules machine.new (O.written output.old) (O.written output.new)) result) }
+        PairAnswers options (ports_unsaid unsaid.entry) R.remaining inputs.new
+        done told begins a b result)) }
 {
     let mut arrivals = Arriving::new(read_pair(alloc, options, unsaid)?);
     run_over(&mut arrivals, machine, inputs, output)

@@ -1,12 +1,11 @@
 //! What gives a run the frames that came in at switches and those that left them, whatever that is.
 
-ghost use Rattle.std.specs.Prelude.{◌≡◌, ◌⊎◌, [], ℕ, List, Option, Result, Some, Err, IfSome, OnOk, false};
-ghost use Rattle.afdx_engine.specs.Engine.{CanAll, Item};
-ghost use Rattle.afdx_inputs.specs.Arrivals.{By};
+ghost use Rattle.std.specs.Prelude.{◌≡◌, [], ℕ, List, Option, Result, Some, Err, IfSome, OnOk, false};
+ghost use Rattle.afdx_engine.specs.Engine.{HoldsOfAllTold, IsReadyForAll};
+ghost use Rattle.afdx_inputs.specs.Arrivals.{TookAndTold};
 ghost use Rattle.afdx_inputs.specs.Joining.{Frame, frames_of};
 ghost use Rattle.afdx_inputs.specs.SeenFrames as spec;
 ghost use Rattle.afdx_inputs.specs.SeenFrames.{GoOn, absent_of, lost_of};
-ghost use Rattle.afdx_inputs.specs.declared.seen.Seen.{Seen as Passed};
 ghost use Rattle.afdx_inputs.specs.declared.seen_frames.SeenCount.{SeenCount as Counted};
 ghost use Rattle.afdx_lists.specs.Calls.{is_failed_read, is_failed_write};
 ghost use Rattle.afdx_lists.specs.Watching.{device_of};
@@ -145,25 +144,20 @@ pub trait SeenFrames<P>: Input {
     ) -> Result<SeenCount, RunFault>
         requires new { IsNew self.old }
         requires sound_output { O.failed output.old ≡ false }
-        requires told { (rules : M.Rules) × M.Told rules machine.old
-            (O.written output.old) (O.written output.old) [] × CanAll (M.Can rules) }
+        requires told { IsReadyForAll M.Can M.Told machine.old (O.written output.old) }
         ensures ended { OnOk result (Self.ended self.new) }
         ensures read { Self.failed self.new ≡ is_failed_read result }
         ensures write { O.failed output.new ≡ is_failed_write result }
         ensures asked { IsAskedFew options self.old self.new }
-        ensures answer { (rules : M.Rules) → M.Told rules machine.old
-            (O.written output.old) (O.written output.old) [] → CanAll (M.Can rules) →
-            IfSome (known self.old) (λ bytes. (items : List (Item Passed))
-            × Takes options (ports_unsaid unsaid.entry) bytes self.new (frames_of items) result
-            × By result
-            (M.Done rules machine.new (O.written output.old) (O.written output.new) items)
-            (M.Told rules machine.new (O.written output.old) (O.written output.new) items)
-            (M.Told rules machine.new (O.written output.old) (O.written output.new) items
-            ⊎ M.Begins rules machine.new (O.written output.old) (O.written output.new) items)) };
+        ensures answer { HoldsOfAllTold M.Can M.Done M.Told M.Begins machine.old machine.new
+            (O.written output.old) (O.written output.new) (λ done told begins.
+            IfSome (known self.old) (λ bytes. TookAndTold frames_of
+            (Takes options (ports_unsaid unsaid.entry) bytes self.new) result
+            done told begins)) };
 }
 
 impl<R: Read> SeenFrames<AsLists> for ByRole<Watched<R>> {
-    ghost use Rattle.afdx_inputs.specs.Over.{both};
+    ghost use Rattle.afdx_inputs.specs.Over.{bytes_by_role};
     ghost use Rattle.afdx_inputs.specs.SeenFrames.{AreNewByRole, IsAskedForLines, TakesLists};
     ghost use Rattle.afdx_recorded.specs.Tapping.{all_taps};
 
@@ -171,8 +165,7 @@ impl<R: Read> SeenFrames<AsLists> for ByRole<Watched<R>> {
 
     ghost Bytes = { List ℕ × List ℕ };
 
-    ghost known = { λ inputs. both (R.remaining (device_of inputs.came))
-        (R.remaining (device_of inputs.left)) };
+    ghost known = { bytes_by_role R.remaining };
 
     ghost IsAskedFew = { λ options. IsAskedForLines R.remaining };
 
@@ -241,7 +234,7 @@ impl<R: Read> SeenFrames<RecordingOptions> for Watched<R> {
 }
 
 impl<R: Read> SeenFrames<ByRole<RecordingOptions>> for ByRole<Watched<R>> {
-    ghost use Rattle.afdx_inputs.specs.Over.{both};
+    ghost use Rattle.afdx_inputs.specs.Over.{bytes_by_role};
     ghost use Rattle.afdx_inputs.specs.SeenFrames.{AreNewByRole, IsAskedForRoles, TakesRecordings};
     ghost use Rattle.afdx_inputs.specs.SeenFrames.{taps_of_two};
 
@@ -249,8 +242,7 @@ impl<R: Read> SeenFrames<ByRole<RecordingOptions>> for ByRole<Watched<R>> {
 
     ghost Bytes = { List ℕ × List ℕ };
 
-    ghost known = { λ inputs. both (R.remaining (device_of inputs.came))
-        (R.remaining (device_of inputs.left)) };
+    ghost known = { bytes_by_role R.remaining };
 
     ghost IsAskedFew = { λ options. IsAskedForRoles R.remaining };
 

@@ -1,21 +1,18 @@
 //! Runs over recordings of what came in at switches and of what left them: a machine tells their
 //! frames, one by one.
 
-ghost use Rattle.std.specs.Prelude.{◌≡◌, ◌||◌, [], IfSome, OnOk, true, false};
-ghost use Rattle.afdx_engine.specs.Engine.{CanAll};
-ghost use Rattle.afdx_inputs.specs.Over.{both};
+ghost use Rattle.std.specs.Prelude.{◌≡◌, ◌||◌, IfSome, OnOk, true, false};
+ghost use Rattle.afdx_engine.specs.Engine.{HoldsOfAllTold, IsReadyForAll};
+ghost use Rattle.afdx_inputs.specs.Over.{bytes_by_role};
 ghost use Rattle.afdx_inputs.specs.ReadPair.{IsNewByRole};
 ghost use Rattle.afdx_inputs.specs.RecordingRun.{IsAskedOnce};
-ghost use Rattle.afdx_inputs.specs.SeenLines.{seen_listed};
-ghost use Rattle.afdx_inputs.specs.SeenRun.{RolesAnswer};
-ghost use Rattle.afdx_inputs.specs.TakenRun.{TakenAnswers};
+ghost use Rattle.afdx_inputs.specs.SeenRun.{RolesAnswer, SeenAnswers};
 ghost use Rattle.afdx_lists.specs.Calls.{is_failed_read, is_failed_write};
 ghost use Rattle.afdx_lists.specs.declared.role.ByRole.{ByRole as Two};
 ghost use Rattle.afdx_lists.specs.Watching.{calls_of, device_of, has_ended, has_failed};
 ghost use Rattle.afdx_recorded.specs.Becoming.{options_of};
 ghost use Rattle.afdx_recorded.specs.Claims.{Ports, ports_unsaid};
 ghost use Rattle.afdx_recorded.specs.declared.becoming.RecordingOptions.{RecordingOptions as Said};
-ghost use Rattle.afdx_recorded.specs.Taking.{AreCutOff, taken_of_bytes};
 
 use crate::over::run_over;
 use crate::read_pair::{read_by_role, read_one};
@@ -46,22 +43,17 @@ pub(crate) fn run_seen<R: Read, M: Machine<Seen>, O: Sink>(
     requires sound_input { has_failed input.old ≡ false }
     requires unended { has_ended input.old ≡ false }
     requires sound_output { O.failed output.old ≡ false }
-    requires told { (rules : M.Rules) × M.Told rules machine.old
-        (O.written output.old) (O.written output.old) [] × CanAll (M.Can rules) }
+    requires told { IsReadyForAll M.Can M.Told machine.old (O.written output.old) }
     ensures ended { OnOk result (has_ended input.new ≡ true) }
     ensures read { has_failed input.new ≡ is_failed_read result }
     ensures write { O.failed output.new ≡ is_failed_write result }
     ensures calls { IsAskedOnce (R.remaining (device_of input.old))
         (R.remaining (device_of input.new)) (calls_of input.old) (calls_of input.new) }
-    ensures answer { (rules : M.Rules) → M.Told rules machine.old
-        (O.written output.old) (O.written output.old) [] → CanAll (M.Can rules) →
+    ensures answer { HoldsOfAllTold M.Can M.Done M.Told M.Begins machine.old machine.new
+        (O.written output.old) (O.written output.new) (λ done told begins.
         IfSome (R.remaining (device_of input.old)) (λ bytes.
-        TakenAnswers (taken_of_bytes (options_of options) (ports_unsaid unsaid.entry) bytes)
-        (AreCutOff (options_of options) (ports_unsaid unsaid.entry) bytes
-        (R.remaining (device_of input.new))) seen_listed
-        (M.Done rules machine.new (O.written output.old) (O.written output.new))
-        (M.Told rules machine.new (O.written output.old) (O.written output.new))
-        (M.Begins rules machine.new (O.written output.old) (O.written output.new)) result) }
+        SeenAnswers (options_of options) (ports_unsaid unsaid.entry) done told begins
+        bytes (R.remaining (device_of input.new)) result)) }
 {
     let ports = SystemPorts::unsaid(alloc, unsaid)?;
     let mut frames = Seeing::new(read_one(alloc, options, ports)?);
@@ -83,8 +75,7 @@ fn tell_by_role<R: Read, M: Machine<Seen>, O: Sink>(
     requires unended_came { has_ended inputs.old.came ≡ false }
     requires unended_left { has_ended inputs.old.left ≡ false }
     requires sound_output { O.failed output.old ≡ false }
-    requires told { (rules : M.Rules) × M.Told rules machine.old
-        (O.written output.old) (O.written output.old) [] × CanAll (M.Can rules) }
+    requires told { IsReadyForAll M.Can M.Told machine.old (O.written output.old) }
     ensures ended { OnOk result
         ((has_ended inputs.new.came ≡ true) × (has_ended inputs.new.left ≡ true)) }
     ensures read { (has_failed inputs.new.came || has_failed inputs.new.left)
@@ -97,14 +88,11 @@ fn tell_by_role<R: Read, M: Machine<Seen>, O: Sink>(
         (R.remaining (device_of inputs.new.left))
         (calls_of inputs.old.left) (calls_of inputs.new.left) }
     ensures answer { (options : Two Said) (ports : Ports) →
-        IsNewByRole options ports frames.old.lines → (rules : M.Rules) → M.Told rules machine.old
-        (O.written output.old) (O.written output.old) [] → CanAll (M.Can rules) →
-        IfSome (both (R.remaining (device_of inputs.old.came))
-        (R.remaining (device_of inputs.old.left))) (λ bytes.
-        RolesAnswer options ports R.remaining bytes inputs.new
-        (M.Done rules machine.new (O.written output.old) (O.written output.new))
-        (M.Told rules machine.new (O.written output.old) (O.written output.new))
-        (M.Begins rules machine.new (O.written output.old) (O.written output.new)) result) }
+        IsNewByRole options ports frames.old.lines →
+        HoldsOfAllTold M.Can M.Done M.Told M.Begins machine.old machine.new
+        (O.written output.old) (O.written output.new) (λ done told begins.
+        IfSome (bytes_by_role R.remaining inputs.old) (λ bytes.
+        RolesAnswer options ports R.remaining bytes inputs.new done told begins result)) }
 {
     match run_over(frames, machine, inputs, output) {
         Ok(_) => {}
@@ -136,8 +124,7 @@ pub(crate) fn run_seen_by_role<R: Read, M: Machine<Seen>, O: Sink>(
     requires unended_came { has_ended inputs.old.came ≡ false }
     requires unended_left { has_ended inputs.old.left ≡ false }
     requires sound_output { O.failed output.old ≡ false }
-    requires told { (rules : M.Rules) × M.Told rules machine.old
-        (O.written output.old) (O.written output.old) [] × CanAll (M.Can rules) }
+    requires told { IsReadyForAll M.Can M.Told machine.old (O.written output.old) }
     ensures ended { OnOk result
         ((has_ended inputs.new.came ≡ true) × (has_ended inputs.new.left ≡ true)) }
     ensures read { (has_failed inputs.new.came || has_failed inputs.new.left)
@@ -149,14 +136,11 @@ pub(crate) fn run_seen_by_role<R: Read, M: Machine<Seen>, O: Sink>(
     ensures calls_left { IsAskedOnce (R.remaining (device_of inputs.old.left))
         (R.remaining (device_of inputs.new.left))
         (calls_of inputs.old.left) (calls_of inputs.new.left) }
-    ensures answer { (rules : M.Rules) → M.Told rules machine.old
-        (O.written output.old) (O.written output.old) [] → CanAll (M.Can rules) →
-        IfSome (both (R.remaining (device_of inputs.old.came))
-        (R.remaining (device_of inputs.old.left))) (λ bytes.
+    ensures answer { HoldsOfAllTold M.Can M.Done M.Told M.Begins machine.old machine.new
+        (O.written output.old) (O.written output.new) (λ done told begins.
+        IfSome (bytes_by_role R.remaining inputs.old) (λ bytes.
         RolesAnswer options (ports_unsaid unsaid.entry) R.remaining bytes inputs.new
-        (M.Done rules machine.new (O.written output.old) (O.written output.new))
-        (M.Told rules machine.new (O.written output.old) (O.written output.new))
-        (M.Begins rules machine.new (O.written output.old) (O.written output.new)) result) }
+        done told begins result)) }
 {
     let mut frames = Seeing::new(read_by_role(alloc, options, unsaid)?);
     tell_by_role(&mut frames, machine, inputs, output)

@@ -1,10 +1,10 @@
 //! A run over two lists: a machine tells their frames, one by one.
 
-ghost use Rattle.std.specs.Prelude.{◌≡◌, ◌≤◌, ◌+◌, ◌||◌, [], OnOk, true, false};
+ghost use Rattle.std.specs.Prelude.{◌≡◌, ◌≤◌, ◌+◌, ◌||◌, OnOk, true, false};
 ghost use Rattle.afdx_lists.specs.Calls.{is_failed_read, is_failed_write};
 ghost use Rattle.afdx_lists.specs.Lines.{most_reads};
 ghost use Rattle.afdx_lists.specs.Watching.{calls_of, device_of, has_ended, has_failed};
-ghost use Rattle.afdx_engine.specs.Engine.{CanAll};
+ghost use Rattle.afdx_engine.specs.Engine.{HoldsOfAllTold, IsReadyForAll};
 ghost use Rattle.afdx_inputs.specs.TwoListsRun.{IfBothGiven, TwoListsAnswer};
 
 use crate::seen::Seen;
@@ -35,8 +35,7 @@ pub fn run_two_lists<R: Read, M: Machine<Seen>, O: Sink>(
     requires unended_came { has_ended inputs.old.came ≡ false }
     requires unended_left { has_ended inputs.old.left ≡ false }
     requires sound_output { O.failed output.old ≡ false }
-    requires told { (rules : M.Rules) × M.Told rules machine.old
-        (O.written output.old) (O.written output.old) [] × CanAll (M.Can rules) }
+    requires told { IsReadyForAll M.Can M.Told machine.old (O.written output.old) }
     ensures ended { OnOk result
         ((has_ended inputs.new.came ≡ true) × (has_ended inputs.new.left ≡ true)) }
     ensures read { (has_failed inputs.new.came || has_failed inputs.new.left)
@@ -47,13 +46,10 @@ pub fn run_two_lists<R: Read, M: Machine<Seen>, O: Sink>(
     ensures output { O.settings output.new ≡ O.settings output.old }
 
     // Where the bytes of both are known: what is answered and written for the lists that they are.
-    ensures answer { (rules : M.Rules) → M.Told rules machine.old
-        (O.written output.old) (O.written output.old) [] → CanAll (M.Can rules) →
+    ensures answer { HoldsOfAllTold M.Can M.Done M.Told M.Begins machine.old machine.new
+        (O.written output.old) (O.written output.new) (λ done told begins.
         IfBothGiven R.remaining inputs.old (λ came left.
-        TwoListsAnswer R.remaining came left inputs.new
-        (M.Done rules machine.new (O.written output.old) (O.written output.new))
-        (M.Told rules machine.new (O.written output.old) (O.written output.new))
-        (M.Begins rules machine.new (O.written output.old) (O.written output.new)) result) }
+        TwoListsAnswer R.remaining came left inputs.new done told begins result)) }
 {
     let came: ReadList<FrameLines, Heading> = ReadList::new(alloc, FrameLines)?;
     let left: ReadList<FrameLines, Heading> = ReadList::new(alloc, FrameLines)?;

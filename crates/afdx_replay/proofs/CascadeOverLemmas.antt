@@ -231,12 +231,6 @@ file-promised (Several ss) (Some bytes) rest old new answer lawful admitted h = 
 
 -- ---- an input of which the first bytes decide
 
--- so they are known
-pub by-first : (P : Bool → List ℕ → Type 0) (is : Option (List ℕ) → Bool) (left : Known)
-    → IfSome left (λ bytes. P (is left) bytes) → IfSome left (λ bytes. P (is (Some bytes)) bytes)
-by-first P is None h = tt
-by-first P is (Some bytes) h = h
-
 module _ (ss : List NamedRows) (options : RecordingOptions) (done told begins : List (Item Heading) → Type 0)
   where
     abbrev pub OneAnswers : (is : Bool) → List ℕ → (rest : Known) → Result InputCount RunFault → Type 0

@@ -1,17 +1,24 @@
 -- What the command `list` does: it writes a recording, or two that are read at once, as the frame
 -- list that says the same.
-use Rattle.std.specs.Prelude.{ℕ, ◌≡◌, Bool, List, Option, Result, Ok, Err, IfErr, OnOk}
+use Rattle.std.specs.Prelude.{ℕ, ◌≡◌, ◌⊎◌, Bool, List, Option, None, IfSome, Result, Ok, Err, IfErr, OnOk}
 use Rattle.std.specs.Result.{result_ok}
 use Rattle.afdx_config.specs.declared.describing.Described.{Described}
+use Rattle.afdx_frame.specs.declared.by_side.BySide.{BySide}
 use Rattle.afdx_lists.specs.Calls.{is_failed_read, is_failed_write}
 use Rattle.afdx_lists.specs.Faults.{status_of}
 use Rattle.afdx_lists.specs.Watching.{calls_of, device_of}
 use Rattle.afdx_lists.specs.declared.fault.RunFault.{RunFault}
 use Rattle.afdx_lists.specs.declared.watched.Watched.{Watched}
-use Rattle.afdx_inputs.specs.RecordingRun.{IsAskedOnce}
+use Rattle.afdx_inputs.specs.ListText.{ListingAnswers, ListsTaken}
+use Rattle.afdx_inputs.specs.RecordingRun.{AreCutOffInPair, IfBothKnown, IsAskedOnce, taken_of_pair}
+use Rattle.afdx_recorded.specs.Becoming.{options_of}
+use Rattle.afdx_recorded.specs.Claims.{ports_in}
+use Rattle.afdx_recorded.specs.declared.becoming.RecordingOptions.{RecordingOptions}
 use Rattle.afdx_recorded.specs.declared.counts.Tally.{Tally}
+use Rattle.afdx_recorded.specs.declared.pair_options.PairOptions.{PairOptions}
 use Rattle.afdx_text.specs.Telling.{TellsFault}
 use Rattle.afdx_commands.specs.Checking.{IsRead}
+use Rattle.afdx_replay.specs.Placed.{ArePlacedIn, IsUnplaced}
 use Rattle.afdx_replay.specs.declared.listing.ListEnded.{ListEnded}
 
 -- an input that becomes `rest` is asked at most once for each byte that it gives, and once more
@@ -43,3 +50,38 @@ pub record ListsIn (config : List ℕ) (so : Described → Type 0) : Type 0 wher
   pub described : Described
   pub read : IsRead config described
   pub so_is : so described
+
+-- The command ends as its listing answered: `so` is true of the answer, by the options with their
+-- places in what the configuration describes. Or nothing is listed, the error output is told why,
+-- and what it was given is `untouched`.
+abbrev pub EndsListing : {P E : Type 0} → (Placed : Described → P → P → Type 0) →
+    (Misplaced : Described → P → Type 0) → (error_bytes : E → Option (List ℕ)) →
+    (config : List ℕ) → (options : P) → (old_errors new_errors : Watched E) → (all_read : Type 0) →
+    (input_failed output_failed : Bool) → ListEnded →
+    (so : P → Described → Result Tally RunFault → Type 0) → (untouched : Type 0) → Type 0
+EndsListing Placed Misplaced error_bytes config options old_errors new_errors all_read input_failed
+    output_failed ended so untouched =
+    ((answer : Result Tally RunFault)
+    × EndsListed error_bytes all_read input_failed output_failed old_errors new_errors ended answer
+    × ListsIn config (λ d. ArePlacedIn Placed options d (λ placed. so placed d answer)))
+    ⊎ (IsUnplaced Placed options Misplaced error_bytes old_errors new_errors config ended.status
+    × (ended.tally ≡ None) × untouched)
+
+-- What is answered and written, where the bytes of the input are known, which is then `rest`: the
+-- output held `old` and holds `new`.
+module _ {R : Type 0} (remaining : R → Option (List ℕ)) where
+  -- of one recording
+  abbrev pub ListsOne : (input rest : Watched R) → (old new : Option (List ℕ)) →
+      RecordingOptions → Described → Result Tally RunFault → Type 0
+  ListsOne input rest old new options described answer =
+      IfSome (remaining (device_of input)) (λ bytes.
+      ListingAnswers described (options_of options) (ports_in described) bytes
+      (remaining (device_of rest)) old new answer)
+
+  -- of two
+  abbrev pub ListsTwo : (inputs rest : BySide (Watched R)) → (old new : Option (List ℕ)) →
+      PairOptions → Described → Result Tally RunFault → Type 0
+  ListsTwo inputs rest old new options described answer =
+      IfBothKnown remaining inputs (λ a b.
+      ListsTaken described (taken_of_pair options (ports_in described) a b)
+      (AreCutOffInPair options (ports_in described) remaining a b rest) old new answer)

@@ -1,6 +1,6 @@
 //! The command `list`.
 
-ghost use Rattle.std.specs.Prelude.{◌≡◌, ◌||◌, ◌⊎◌, ◌↔◌, Result, None, IsSome, IfSome, OnOk, IfErr, false, true};
+ghost use Rattle.std.specs.Prelude.{◌≡◌, ◌||◌, ◌↔◌, None, IsSome, IfSome, OnOk, IfErr, false, true};
 ghost use Rattle.std.specs.Result.{result_ok};
 ghost use Rattle.afdx_lists.specs.Calls.{is_failed_read, is_failed_write};
 ghost use Rattle.afdx_lists.specs.Watching.{device_of, has_ended, has_failed};
@@ -8,15 +8,13 @@ ghost use Rattle.afdx_recorded.specs.Becoming.{options_of};
 ghost use Rattle.afdx_recorded.specs.Claims.{ports_in};
 ghost use Rattle.afdx_recorded.specs.Placing.{OptionsAreMisplaced, OptionsArePlaced};
 ghost use Rattle.afdx_recorded.specs.Placing.{PairIsMisplaced, PairIsPlaced};
-ghost use Rattle.afdx_inputs.specs.ListText.{ListingAnswers, ListsTaken};
-ghost use Rattle.afdx_inputs.specs.RecordingRun.{AreCutOffInPair, IfBothKnown, taken_of_pair};
-ghost use Rattle.afdx_lists.specs.declared.fault.RunFault.{RunFault as Fault};
-ghost use Rattle.afdx_recorded.specs.declared.counts.Tally.{Tally as Counted};
+ghost use Rattle.afdx_inputs.specs.ListText.{ListingAnswers};
 ghost use Rattle.afdx_text.specs.Telling.{TellsFault};
 ghost use Rattle.afdx_commands.specs.Commands.{IsFourIfFailed, IsWholeIfDone};
 ghost use Rattle.afdx_commands.specs.Commands.{have_ended, one_has_failed};
-ghost use Rattle.afdx_replay.specs.Listing.{EndsListed, IsAskedOnceFor, ListsIn, status_of_listing};
-ghost use Rattle.afdx_replay.specs.Placed.{ArePlacedIn, IsPlacedStatus, IsUnplaced};
+ghost use Rattle.afdx_replay.specs.Listing.{EndsListing, IsAskedOnceFor, ListsOne, ListsTwo};
+ghost use Rattle.afdx_replay.specs.Listing.{status_of_listing};
+ghost use Rattle.afdx_replay.specs.Placed.{IsPlacedStatus};
 
 use crate::placed::read_placed;
 use afdx_commands::status::DONE;
@@ -123,17 +121,11 @@ pub fn list_and_count<R: Read, O: Sink, E: Write>(
     ensures calls { IsAskedOnceFor R.remaining input.old input.new }
 
     // The command ends as the listing answered, or nothing is read and nothing is written.
-    ensures lists { ((answer : Result Counted Fault)
-        × EndsListed E.contents (has_ended input.new ≡ true) (has_failed input.new)
-        (O.failed output.new) errors.old errors.new result answer
-        × ListsIn config.now (λ d. ArePlacedIn OptionsArePlaced options d (λ placed.
-        IfSome (R.remaining (device_of input.old)) (λ bytes.
-        ListingAnswers d (options_of placed) (ports_in d) bytes
-        (R.remaining (device_of input.new)) (O.written output.old) (O.written output.new)
-        answer))))
-        ⊎ (IsUnplaced OptionsArePlaced options OptionsAreMisplaced E.contents errors.old errors.new
-        config.now result.status
-        × (result.tally ≡ None) × (input.new ≡ input.old) × (output.new ≡ output.old)) }
+    ensures lists { EndsListing OptionsArePlaced OptionsAreMisplaced E.contents config.now options
+        errors.old errors.new (has_ended input.new ≡ true) (has_failed input.new)
+        (O.failed output.new) result
+        (ListsOne R.remaining input.old input.new (O.written output.old) (O.written output.new))
+        ((input.new ≡ input.old) × (output.new ≡ output.old)) }
 {
     let described = match read_placed(alloc, config, &mut options, errors) {
         Ok(described) => described,
@@ -182,17 +174,11 @@ pub fn list_pair_and_count<R: Read, O: Sink, E: Write>(
     ensures calls_b { IsAskedOnceFor R.remaining inputs.old.b inputs.new.b }
 
     // The command ends as the listing answered, or nothing is read and nothing is written.
-    ensures lists { ((answer : Result Counted Fault)
-        × EndsListed E.contents (have_ended inputs.new) (one_has_failed inputs.new)
-        (O.failed output.new) errors.old errors.new result answer
-        × ListsIn config.now (λ d. ArePlacedIn PairIsPlaced options d (λ placed.
-        IfBothKnown R.remaining inputs.old (λ a b.
-        ListsTaken d (taken_of_pair placed (ports_in d) a b)
-        (AreCutOffInPair placed (ports_in d) R.remaining a b inputs.new)
-        (O.written output.old) (O.written output.new) answer))))
-        ⊎ (IsUnplaced PairIsPlaced options PairIsMisplaced E.contents errors.old errors.new
-        config.now result.status
-        × (result.tally ≡ None) × (inputs.new ≡ inputs.old) × (output.new ≡ output.old)) }
+    ensures lists { EndsListing PairIsPlaced PairIsMisplaced E.contents config.now options
+        errors.old errors.new (have_ended inputs.new) (one_has_failed inputs.new)
+        (O.failed output.new) result
+        (ListsTwo R.remaining inputs.old inputs.new (O.written output.old) (O.written output.new))
+        ((inputs.new ≡ inputs.old) × (output.new ≡ output.old)) }
 {
     let described = match read_placed(alloc, config, &mut options, errors) {
         Ok(described) => described,

@@ -1,13 +1,11 @@
 //! The command `send`.
 
-ghost use Rattle.std.specs.Prelude.{◌≡◌, ◌≤◌, ◌+◌, ◌⊎◌, ◌↔◌, Result, IsSome, false};
+ghost use Rattle.std.specs.Prelude.{◌≡◌, ◌≤◌, ◌+◌, ◌⊎◌, ◌↔◌, IsSome, false};
 ghost use Rattle.afdx_lists.specs.Lines.{most_reads};
 ghost use Rattle.afdx_lists.specs.Watching.{calls_of, device_of, has_ended, has_failed};
-ghost use Rattle.afdx_lists.specs.declared.fault.RunFault.{RunFault};
-ghost use Rattle.afdx_commands.specs.Commands.{EndsAs, IsFourIfFailed, IsWholeIfDone};
-ghost use Rattle.afdx_commands.specs.declared.summary.Summary.{Summary};
+ghost use Rattle.afdx_commands.specs.Commands.{IsFourIfFailed, IsWholeIfDone};
 ghost use Rattle.afdx_commands.specs.Senders.{IsNoSender};
-ghost use Rattle.afdx_sending.specs.Command.{Sends};
+ghost use Rattle.afdx_sending.specs.Command.{EndsSending};
 ghost use Rattle.afdx_commands.specs.declared.ending.Ended.{Ended as End};
 
 use crate::run::send_into;
@@ -48,10 +46,9 @@ pub fn send_and_count<R: Read, O: Sink, E: Write>(
     ensures settings { O.settings output.new ≡ O.settings output.old }
 
     // The command ends as a run over the list answered, or nothing is read and nothing is written.
-    ensures sends { ((answer : Result Summary RunFault)
-        × EndsAs E.contents input.new (O.failed output.new) errors.old errors.new result answer
-        × Sends config.now system.now (R.remaining (device_of input.old))
-        (R.remaining (device_of input.new)) (O.written output.old) (O.written output.new) answer)
+    ensures sends { EndsSending R.remaining E.contents config.now system.now input.old input.new
+        errors.old errors.new (O.failed output.new) (O.written output.old) (O.written output.new)
+        result
         ⊎ (IsNoSender E.contents errors.old errors.new config.now system.now result.status
         × (input.new ≡ input.old) × (output.new ≡ output.old)) }
 {
@@ -82,11 +79,9 @@ pub fn send<R: Read, O: Write, E: Write>(
     ensures device { IsFourIfFailed result input.new (has_failed output.new) }
     ensures calls { calls_of input.new ≤ calls_of input.old + most_reads }
     ensures sends { (ended : End) × (ended.status ≡ result)
-        × (((answer : Result Summary RunFault)
-        × EndsAs E.contents input.new (has_failed output.new) errors.old errors.new ended answer
-        × Sends config.now system.now (R.remaining (device_of input.old))
-        (R.remaining (device_of input.new)) (O.contents (device_of output.old))
-        (O.contents (device_of output.new)) answer)
+        × (EndsSending R.remaining E.contents config.now system.now input.old input.new
+        errors.old errors.new (has_failed output.new) (O.contents (device_of output.old))
+        (O.contents (device_of output.new)) ended
         ⊎ (IsNoSender E.contents errors.old errors.new config.now system.now ended.status
         × (input.new ≡ input.old) × (output.new ≡ output.old))) }
 {

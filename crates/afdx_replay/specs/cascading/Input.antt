@@ -24,8 +24,10 @@ use Rattle.afdx_recorded.specs.Taking.{Taken}
 use Rattle.afdx_recorded.specs.declared.becoming.RecordingOptions.{RecordingOptions}
 use Rattle.afdx_recorded.specs.declared.pair_options.PairOptions.{PairOptions}
 use Rattle.afdx_replay.specs.Inputs.{answer_of}
-use Rattle.afdx_replay.specs.cascading.Ran.{WritesAll, WritesSome, WritesSoFar, HearsAll, HearsSome, HearsSoFar}
+use Rattle.afdx_replay.specs.cascading.Items.{BeginsItems, TellsAll, TellsItems}
+use Rattle.afdx_replay.specs.cascading.Ran.{AllIsTold, AllSoFarIsTold, SomeIsTold}
 use Rattle.afdx_replay.specs.cascading.Sited.{lines_in, sited_frames, sites_of}
+use Rattle.afdx_replay.specs.declared.cascading.run.Cascading.{Cascading}
 use Rattle.afdx_replay.specs.declared.input_ending.InputSummary.{InputSummary}
 use Rattle.afdx_replay.specs.replaying.Replayed.{Known}
 
@@ -68,12 +70,9 @@ module _ {D : Type 0} (contents : D → Option (List ℕ)) (switches : List Name
   -- what it answers where a replay of these switches tells the items, and counts so
   abbrev pub TellsReplay : Summary → Result InputCount RunFault → Type 0
   TellsReplay counts count = input
-      (λ items. WritesAll switches (lines_in items) old new counts
-      × HearsAll contents switches (lines_in items) start early)
-      (λ items. WritesSoFar switches (lines_in items) old new
-      × HearsSoFar contents switches (lines_in items) start early)
-      (λ items. WritesSome switches (lines_in items) old new
-      × HearsSome contents switches (lines_in items) start early) count
+      (λ items. AllIsTold contents switches (lines_in items) start early old new counts)
+      (λ items. AllSoFarIsTold contents switches (lines_in items) start early old new)
+      (λ items. SomeIsTold contents switches (lines_in items) start early old new) count
 
   -- What a replay of these switches does that answers so: the text of all events of the frames that
   -- it was handed is written, and they are counted; after a fault of the input, up to the last
@@ -84,3 +83,14 @@ module _ {D : Type 0} (contents : D → Option (List ℕ)) (switches : List Name
     pub count : Result InputCount RunFault
     pub answered : answer ≡ answer_of counts count
     pub told : TellsReplay counts count
+
+-- where an input answers so of items that this machine tells, it answers so of what a replay tells,
+-- whose counts and device are the machine's
+abbrev pub IsToldAsReplay : {D : Type 0} → (D → Option (List ℕ)) → List NamedRows → Answering →
+    (start : Option (Watched D)) → Cascading D → (old new : Known) → Result InputCount RunFault →
+    Type 0
+IsToldAsReplay contents switches input start m old new count =
+    input (TellsAll contents (switches, start) m old new)
+    (TellsItems contents (switches, start) m old new)
+    (BeginsItems contents (switches, start) m old new) count →
+    TellsReplay contents switches input start m.teller.early old new m.teller.counts count

@@ -7,7 +7,7 @@ use Rattle.afdx_engine.specs.Engine.{Item}
 use Rattle.afdx_engine.specs.Items.{most_frames}
 use Rattle.afdx_lists.specs.declared.frame_line.Heading.{Heading}
 use Rattle.afdx_lists.specs.declared.watched.Watched.{Watched}
-use Rattle.afdx_replay.specs.cascading.Ran.{WritesAll, WritesSome, HearsAll, HearsSome}
+use Rattle.afdx_replay.specs.cascading.Ran.{AllIsTold, SomeIsTold}
 use Rattle.afdx_replay.specs.cascading.Sited.{lines_in}
 use Rattle.afdx_replay.specs.cascading.Told.{AreInTime, AreSteady, AreTold, latest_line}
 use Rattle.afdx_replay.specs.declared.cascading.run.Cascading.{Cascading}
@@ -28,11 +28,9 @@ module _ {D : Type 0} (contents : D → Option (List ℕ)) where
   abbrev pub BeginsItems : List NamedRows × Option (Watched D) → Cascading D → Known → Known →
       List (Item Heading) → Type 0
   BeginsItems rules m old new past =
-      WritesSome rules.0 (lines_in past) old new
-      × HearsSome contents rules.0 (lines_in past) rules.1 m.teller.early
+      SomeIsTold contents rules.0 (lines_in past) rules.1 m.teller.early old new
 
   abbrev pub TellsAll : List NamedRows × Option (Watched D) → Cascading D → Known → Known →
       List (Item Heading) → Type 0
   TellsAll rules m old new past =
-      WritesAll rules.0 (lines_in past) old new m.teller.counts
-      × HearsAll contents rules.0 (lines_in past) rules.1 m.teller.early
+      AllIsTold contents rules.0 (lines_in past) rules.1 m.teller.early old new m.teller.counts

@@ -27,6 +27,7 @@ use Rattle.afdx_lists.specs.declared.watched.Watched.{Watched}
 use Rattle.afdx_replay.specs.cascading.Early.{HearsEarly}
 use Rattle.afdx_replay.specs.cascading.Text.{cascade_text, cascade_counts, own_text}
 use Rattle.afdx_replay.specs.cascading.Told.{EndsAtLine}
+use Rattle.afdx_replay.specs.declared.cascading.teller.Teller.{Teller}
 use Rattle.afdx_admit.specs.Cascade.{IsCascadeAdmitted}
 use Rattle.afdx_replay.specs.replaying.Promises.{TellsPromises, text_of}
 use Rattle.afdx_replay.specs.replaying.Replayed.{Known}
@@ -142,6 +143,32 @@ module _ {D : Type 0} (contents : D → Option (List ℕ)) (switches : List Name
     pub few : length left ≤ 1
     pub first : Runs (plan_of switches) (reverse past) events left
     pub heard : HearsEarly contents switches old new events
+
+-- what is written of lines, and told a device, if there is one
+module _ {D : Type 0} (contents : D → Option (List ℕ)) (switches : List NamedRows)
+    (past : List Line) (first last : Option (Watched D)) (old new : Known) where
+  -- all to the end, which is counted
+  abbrev pub AllIsTold : Summary → Type 0
+  AllIsTold counts =
+      WritesAll switches past old new counts × HearsAll contents switches past first last
+
+  -- all up to the last line
+  abbrev pub AllSoFarIsTold : Type 0
+  AllSoFarIsTold =
+      WritesSoFar switches past old new × HearsSoFar contents switches past first last
+
+  -- or a beginning
+  abbrev pub SomeIsTold : Type 0
+  SomeIsTold = WritesSome switches past old new × HearsSome contents switches past first last
+
+-- so the counts and the device of a teller say, whose device was `first`
+module _ {D : Type 0} (contents : D → Option (List ℕ)) (switches : List NamedRows)
+    (past : List Line) (first : Option (Watched D)) (t : Teller D) (old new : Known) where
+  abbrev pub TellerToldAll : Type 0
+  TellerToldAll = AllIsTold contents switches past first t.early old new t.counts
+
+  abbrev pub TellerToldSome : Type 0
+  TellerToldSome = SomeIsTold contents switches past first t.early old new
 
 -- ---- a list of several switches
 

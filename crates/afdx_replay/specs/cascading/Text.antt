@@ -1,7 +1,6 @@
 -- The text of a replay of several switches a side: the lines of each event, in the order of the
 -- events. A list of events has the latest first.
-use Rattle.std.specs.Prelude.{ℕ, ◌==◌, if◌then◌else◌, List, [], ◌∷◌, ◌++◌, slice_get}
-use Rattle.std.specs.Option.{option_map_or}
+use Rattle.std.specs.Prelude.{ℕ, ◌==◌, if◌then◌else◌, List, [], ◌∷◌, ◌++◌}
 use Rattle.afdx_config.specs.Switches.{NamedRows}
 use Rattle.afdx_cascade.specs.Plans.{tables_of}
 use Rattle.afdx_cascade.specs.SwitchEvents.{SwitchEvent, at_switch}

@@ -6,12 +6,13 @@ use Rattle.std.specs.List.{AllByRecursion}
 use Rattle.afdx_frame.specs.Ports.{last_port}
 use Rattle.afdx_frame.specs.Times.{latest_listed}
 use Rattle.afdx_cascade.specs.Cascade as cascade
-use Rattle.afdx_cascade.specs.Cascade.{AreFrom}
+use Rattle.afdx_cascade.specs.Cascade.{AreFrom, TellsArrival}
 use Rattle.afdx_cascade.specs.Plans.{plan_of, tables_of}
 use Rattle.afdx_cascade.specs.Runs.{Line, Runs, arriving}
 use Rattle.afdx_cascade.specs.Scan.{switches_most}
 use Rattle.afdx_cascade.specs.SwitchEvents.{SwitchEvent, HaveBroughtAll, at_switch}
 use Rattle.afdx_cascade.specs.declared.cascade.Cascade.{Cascade}
+use Rattle.afdx_cascade.specs.declared.told.Brought.{Brought}
 use Rattle.afdx_cascade.specs.declared.told.Happened.{Happened}
 use Rattle.afdx_cascade.specs.declared.told.Happened.TheVariants.{Over, Came}
 use Rattle.afdx_commands.specs.declared.summary.Summary.{Summary}
@@ -74,6 +75,13 @@ module _ (switches : List NamedRows) where
   EndsAtLine (x ∷ past) events =
       (before : List SwitchEvent)
       × (events ≡ arriving (plan_of switches) before x.switch x.arrival ∷ before)
+
+  -- the frame of a line arrives next, after these events, and that is what is brought
+  abbrev pub BringsLine : Cascade → (before : List SwitchEvent) → Line → Brought → Type 0
+  BringsLine w before line b =
+      cascade.ArrivesNext (plan_of switches) w before line b.verdict
+      × TellsArrival (plan_of switches) before b
+      (arriving (plan_of switches) before line.switch line.arrival)
 
 -- the time of the newest line, or 0
 abbrev pub latest_line : List Line → ℕ

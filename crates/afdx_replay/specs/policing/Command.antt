@@ -1,9 +1,16 @@
--- What a command that polices one link is given.
-use Rattle.std.specs.Prelude.{ℕ, ◌≤◌}
+-- What a command that polices one link is given, and how it ends.
+use Rattle.std.specs.Prelude.{ℕ, ◌≤◌, Bool, List, Option, Result, IfSome}
+use Rattle.afdx_commands.specs.Commands.{EndsAs}
+use Rattle.afdx_commands.specs.declared.ending.Ended.{Ended}
+use Rattle.afdx_commands.specs.declared.summary.Summary.{Summary}
 use Rattle.afdx_frame.specs.Lengths.{least_frame}
 use Rattle.afdx_frame.specs.declared.link.Policing.TheVariants.{Byte}
+use Rattle.afdx_lists.specs.Watching.{device_of}
+use Rattle.afdx_lists.specs.declared.fault.RunFault.{RunFault}
+use Rattle.afdx_lists.specs.declared.watched.Watched.{Watched}
 use Rattle.afdx_police.specs.Rule.{IsRule, Rule, rule_with}
 use Rattle.afdx_replay.specs.declared.policing.command.CommandedRule.{CommandedRule}
+use Rattle.afdx_replay.specs.policing.Policed.{Answers}
 
 -- the rule that the command is given
 abbrev pub commanded_rule : CommandedRule → Rule
@@ -26,3 +33,17 @@ usual_rule bag_ms lmax jitter_us = record {
 pub record IsCommanded (given : CommandedRule) : Type 0 where
   pub rule : IsRule (commanded_rule given)
   pub link : given.vl ≤ 65535
+
+-- The command ends as its run by this rule over the list answered: of an input that is then `rest`,
+-- with error output `old_errors` that is then `new_errors`, and an output that held `old` and holds
+-- `new`.
+abbrev pub EndsPolicing : {R E : Type 0} → (remaining : R → Option (List ℕ)) →
+    (error_bytes : E → Option (List ℕ)) → Rule → (input rest : Watched R) →
+    (old_errors new_errors : Watched E) → (output_failed : Bool) → (old new : Option (List ℕ)) →
+    Ended → Type 0
+EndsPolicing remaining error_bytes rule input rest old_errors new_errors output_failed old new
+    ended =
+    (answer : Result Summary RunFault)
+    × EndsAs error_bytes rest output_failed old_errors new_errors ended answer
+    × IfSome (remaining (device_of input)) (λ bytes.
+    Answers rule bytes (remaining (device_of rest)) old new answer)

@@ -1,12 +1,16 @@
 -- What the command `replay` does, whatever its configuration describes.
 use Rattle.std.specs.Prelude.{ℕ, ◌≡◌, Bool, true, List, Option, Result, IfSome}
 use Rattle.afdx_commands.specs.Checking.{IsAdmittedFile, IsRead}
+use Rattle.afdx_commands.specs.Commands.{EndsAs}
+use Rattle.afdx_commands.specs.declared.ending.Ended.{Ended}
 use Rattle.afdx_commands.specs.declared.summary.Summary.{Summary}
 use Rattle.afdx_config.specs.Rows.{Rows}
 use Rattle.afdx_config.specs.Switches.{NamedRows}
 use Rattle.afdx_config.specs.declared.describing.Described.{Described}
 use Rattle.afdx_config.specs.declared.describing.Described.TheVariants.{One, Several}
+use Rattle.afdx_lists.specs.Watching.{device_of}
 use Rattle.afdx_lists.specs.declared.fault.RunFault.{RunFault}
+use Rattle.afdx_lists.specs.declared.watched.Watched.{Watched}
 use Rattle.afdx_replay.specs.cascading.Ran as cascade
 use Rattle.afdx_replay.specs.replaying.PromisedRun.{PromisedAnswers}
 use Rattle.afdx_replay.specs.replaying.Replayed.{Answers}
@@ -41,3 +45,16 @@ pub record Replays (config : List ℕ) (admission : Bool) (list rest old new : O
   pub answers : IfSome list (λ bytes. FileAnswers described bytes rest old new answer)
   pub promised : admission ≡ true →
       IfSome list (λ bytes. FilePromises described bytes rest old new answer)
+
+-- The command ends as its run over the list answered: of an input that is then `rest`, with error
+-- output `old_errors` that is then `new_errors`, and an output that held `old` and holds `new`.
+abbrev pub EndsReplaying : {R E : Type 0} → (remaining : R → Option (List ℕ)) →
+    (error_bytes : E → Option (List ℕ)) → (config : List ℕ) → (admission : Bool) →
+    (input rest : Watched R) → (old_errors new_errors : Watched E) → (output_failed : Bool) →
+    (old new : Option (List ℕ)) → Ended → Type 0
+EndsReplaying remaining error_bytes config admission input rest old_errors new_errors output_failed
+    old new ended =
+    (answer : Result Summary RunFault)
+    × EndsAs error_bytes rest output_failed old_errors new_errors ended answer
+    × Replays config admission (remaining (device_of input)) (remaining (device_of rest)) old new
+    answer

@@ -1,9 +1,10 @@
 -- What a replay answers, writes and tells, whatever gives it its arrivals.
-use Rattle.std.specs.Prelude.{ℕ, ◌≡◌, Bool, true, List, Option, Result}
+use Rattle.std.specs.Prelude.{ℕ, ◌≡◌, ◌⊎◌, Bool, true, List, Option, None, Result, IfSome}
 use Rattle.std.specs.Io.KnownBytes.{Appends}
 use Rattle.afdx_config.specs.Admission.{IsAdmitted}
 use Rattle.afdx_config.specs.Lawful.{IsLawfulSwitch}
 use Rattle.afdx_config.specs.Rows.{Rows}
+use Rattle.afdx_config.specs.Switches.{NamedRows}
 use Rattle.afdx_config.specs.declared.describing.Described.{Described}
 use Rattle.afdx_commands.specs.Checking.{IsAdmittedFile, IsRead}
 use Rattle.afdx_police.specs.Arrival.{Arrival}
@@ -13,11 +14,17 @@ use Rattle.afdx_network.specs.Order.{events_of}
 use Rattle.afdx_inputs.specs.Arrivals.{By}
 use Rattle.afdx_inputs.specs.declared.input_run.InputCount.{InputCount}
 use Rattle.afdx_commands.specs.declared.summary.Summary.{Summary}
-use Rattle.afdx_replay.specs.Inputs.{answer_of}
+use Rattle.afdx_recorded.specs.Claims.{Ports, ports_of_one}
+use Rattle.afdx_replay.specs.Inputs.{answer_of, EndsInputAs}
+use Rattle.afdx_replay.specs.Placed.{ArePlacedIn, IsNotRun}
+use Rattle.afdx_replay.specs.cascading.Input.{Answering}
+use Rattle.afdx_replay.specs.cascading.Input as cascade
+use Rattle.afdx_replay.specs.replaying.Command.{OfOneOr}
 use Rattle.afdx_replay.specs.replaying.Early.{HearsEarly, HearsMost}
 use Rattle.afdx_replay.specs.replaying.PromisedRun.{IsAsPromised, WritesPromisedSoFar, WritesPromisedSome}
 use Rattle.afdx_replay.specs.replaying.Replayed.{Known, WritesSoFar, WritesSome}
 use Rattle.afdx_replay.specs.replaying.Text.{replay_text, replay_counts}
+use Rattle.afdx_replay.specs.declared.input_ending.InputEnded.{InputEnded}
 use Rattle.afdx_replay.specs.declared.input_ending.InputSummary.{InputSummary}
 
 -- with this answer a run has taken these arrivals
@@ -63,9 +70,43 @@ pub record Replays (t : Rows) (takes hears : Taking) (old new : Known)
   pub promised : IsLawfulSwitch t → IsAdmitted t → WritesPromised t past count old new
   pub heard : hears past count
 
+-- what a replay does, by what a configuration describes, over an input of some kind: how its bytes
+-- are known, what of these a run over one switch a side takes, and what one over several is handed
+module _ {P I B D : Type 0} (known : I → Option B) (takes : P → Ports → B → I → Taking)
+    (answers : P → List NamedRows → (first last : I) → Answering)
+    (contents : D → Option (List ℕ)) where
+  -- so it is with this answer, by these options, over the input `first`, which is then `last`, with
+  -- an output that held `old` and holds `new`, and a device `start` that is handed back as `early`
+  abbrev pub ReplaysBy : P → (first last : I) → (start early : Option (Watched D)) →
+      (old new : Known) → Result InputSummary RunFault → Described → Type 0
+  ReplaysBy options first last start early old new answer described =
+      OfOneOr
+      (λ t. IfSome (known first) (λ bytes. Replays t (takes options (ports_of_one t) bytes last)
+      (λ past count. Hears t past count contents start early) old new answer))
+      (λ switches. cascade.Replays contents switches (answers options switches first last)
+      start early old new answer)
+      described
+
 -- a run by what the configuration describes, which is admitted if that is asked for
 pub record RunsIn (config : List ℕ) (admission : Bool) (so : Described → Type 0) : Type 0 where
   pub described : Described
   pub read : IsRead config described
   pub admitted : admission ≡ true → IsAdmittedFile described
   pub so_is : so described
+
+-- The command ends as its run answered: `so` is true of the answer, by the options with their places
+-- in what the configuration describes, which is admitted if that is asked for. Or it isn't run, the
+-- error output is told why, and what it was given is `untouched`.
+abbrev pub EndsInput : {P E : Type 0} → (Placed : Described → P → P → Type 0) →
+    (Misplaced : Described → P → Type 0) → (error_bytes : E → Option (List ℕ)) →
+    (config : List ℕ) → (admission : Bool) → (options : P) → (old_errors new_errors : Watched E) →
+    (all_read : Type 0) → (input_failed output_failed : Bool) → InputEnded →
+    (so : P → Result InputSummary RunFault → Described → Type 0) → (untouched : Type 0) → Type 0
+EndsInput Placed Misplaced error_bytes config admission options old_errors new_errors all_read
+    input_failed output_failed ended so untouched =
+    ((answer : Result InputSummary RunFault)
+    × EndsInputAs error_bytes all_read input_failed output_failed old_errors new_errors ended answer
+    × RunsIn config admission
+    (λ d. ArePlacedIn Placed options d (λ placed. so placed answer d)))
+    ⊎ (IsNotRun Placed options Misplaced error_bytes old_errors new_errors config admission
+    ended.ended.status × (ended.tally ≡ None) × untouched)

@@ -1,19 +1,17 @@
 //! A replay of several switches over whatever gives it its frames.
 
-ghost use Rattle.std.specs.Prelude.{◌≡◌, ◌≤◌, [], List, Option, Result, Err, OnOk, length, false};
+ghost use Rattle.std.specs.Prelude.{◌≡◌, ◌≤◌, List, Option, Result, Err, OnOk, length, false};
 ghost use Rattle.afdx_lists.specs.declared.fault.RunFault.TheVariants.{Memory};
-ghost use Rattle.afdx_engine.specs.Engine.{CanTell, Item};
+ghost use Rattle.afdx_engine.specs.Engine.{CanTell, HoldsOfTold, IsReadyFor};
 ghost use Rattle.afdx_lists.specs.Calls.{is_failed_read, is_failed_write};
 ghost use Rattle.afdx_lists.specs.declared.fault.RunFault.{RunFault as Fault};
-ghost use Rattle.afdx_lists.specs.declared.frame_line.Heading.{Heading as Head};
 ghost use Rattle.afdx_inputs.specs.declared.input_run.InputCount.{InputCount as Counted};
 ghost use Rattle.afdx_lists.specs.declared.watched.Watched.{Watched as Device};
 ghost use Rattle.afdx_commands.specs.declared.summary.Summary.{Summary};
 ghost use Rattle.afdx_config.specs.Switches.{AreSwitches, NamedRows};
 ghost use Rattle.afdx_config.specs.declared.describing.Described.{Described as Configuration};
 ghost use Rattle.afdx_config.specs.declared.describing.Described.TheVariants as described;
-ghost use Rattle.afdx_replay.specs.cascading.Input.{Replays, TellsReplay};
-ghost use Rattle.afdx_replay.specs.cascading.Items.{BeginsItems, TellsAll, TellsItems};
+ghost use Rattle.afdx_replay.specs.cascading.Input.{Answering, IsToldAsReplay, Replays, TellsReplay};
 ghost use Rattle.afdx_replay.specs.cascading.Sited.{IsAtPlace, sites_of};
 ghost use Rattle.afdx_replay.specs.declared.cascading.run.Cascading.{Cascading as Machinery};
 ghost use Rattle.afdx_replay.specs.replaying.Replayed.{Known};
@@ -24,7 +22,7 @@ use crate::input_ending::InputSummary;
 use afdx_config::Switches;
 use afdx_engine::Machine;
 use afdx_frame::BySide;
-use afdx_inputs::{Arrivals, InputCount, run_input, run_pair};
+use afdx_inputs::{Arrivals, InputCount, Reading, run_input, run_pair};
 use afdx_lists::{Heading, ListedSwitch, Peeked, RunFault, Watched};
 use afdx_recorded::{PairOptions, Placing, RecordingOptions, UnsaidPort};
 use afdx_text::Sink;
@@ -40,8 +38,7 @@ pub trait SitedInput<P: Placing>: Arrivals<P> {
 
     /// What a run answers over the first input, which is then the second, of frames that come to
     /// these switches: of some items all is done, all is told, or a beginning.
-    ghost Answers: { P → List NamedRows → (done told begins : List (Item Head) → Type 0) →
-        Self → Self → Result Counted Fault → Type 0 };
+    ghost Answers: { P → List NamedRows → Self → Self → Answering };
 
     /// Options whose places are some of a configuration: how often the input is asked stays the
     /// same; and of several switches each frame is there.
@@ -58,18 +55,12 @@ pub trait SitedInput<P: Placing>: Arrivals<P> {
         ensures none { (options : P) (switches : List NamedRows) (input : Self)
             (early : Option (Device D)) (output : Known) (counts : Summary) →
             Self.IsNew input → TellsReplay D.contents switches
-            (λ done told begins answer.
-            Answers options switches done told begins input input answer)
-            early early output output counts (Err Memory) }
+            (Answers options switches input input) early early output output counts (Err Memory) }
         ensures told { (options : P) (switches : List NamedRows) (first last : Self)
             (early : Option (Device D)) (m : Machinery D) (old new : Known)
             (count : Result Counted Fault) →
-            Answers options switches (TellsAll D.contents (switches, early) m old new)
-            (TellsItems D.contents (switches, early) m old new)
-            (BeginsItems D.contents (switches, early) m old new) first last count →
-            TellsReplay D.contents switches (λ done told begins answer.
-            Answers options switches done told begins first last answer)
-            early m.teller.early old new m.teller.counts count };
+            IsToldAsReplay D.contents switches (Answers options switches first last)
+            early m old new count };
 
     /// Lets a machine tell the frames of an input, and counts its lines, or what is no arrival. The
     /// lines of a list name these switches, as `sites` has them; where no option says it, a frame
@@ -88,21 +79,16 @@ pub trait SitedInput<P: Placing>: Arrivals<P> {
         requires few { length sites.now ≤ 24 }
         requires there { AreThere switches.now options }
         requires sound_output { O.failed output.old ≡ false }
-        requires told { (rules : M.Rules) × M.Told rules machine.old
-            (O.written output.old) (O.written output.old) []
-            × CanTell (IsAtPlace switches.now) (M.Can rules) }
+        requires told { IsReadyFor M.Can M.Told machine.old (O.written output.old)
+            (IsAtPlace switches.now) }
         ensures ended { OnOk result (Self.ended self.new) }
         ensures read { Self.failed self.new ≡ is_failed_read result }
         ensures write { O.failed output.new ≡ is_failed_write result }
         ensures calls { Self.IsAskedFew options self.old self.new }
-        ensures answer { (rules : M.Rules) → M.Told rules machine.old
-            (O.written output.old) (O.written output.old) [] →
-            CanTell (IsAtPlace switches.now) (M.Can rules) →
-            Answers options switches.now
-            (M.Done rules machine.new (O.written output.old) (O.written output.new))
-            (M.Told rules machine.new (O.written output.old) (O.written output.new))
-            (M.Begins rules machine.new (O.written output.old) (O.written output.new))
-            self.old self.new result };
+        ensures answer { HoldsOfTold M.Can M.Done M.Told M.Begins machine.old machine.new
+            (O.written output.old) (O.written output.new) (IsAtPlace switches.now)
+            (λ done told begins.
+            Answers options switches.now self.old self.new done told begins result) };
 }
 
 impl<R: Read> SitedInput<RecordingOptions> for Watched<Peeked<R>> {
@@ -114,8 +100,8 @@ impl<R: Read> SitedInput<RecordingOptions> for Watched<Peeked<R>> {
     ghost AreThere = { λ switches options.
         CanTell (IsEntered (options_of options) (ports_of_several switches)) (IsAtPlace switches) };
 
-    ghost Answers = { λ options switches done told begins.
-        OneIsTold switches done told begins R.remaining options };
+    ghost Answers = { λ options switches first last done told begins.
+        OneIsTold switches done told begins R.remaining options first last };
 
     fn places() {}
 
@@ -130,9 +116,12 @@ impl<R: Read> SitedInput<RecordingOptions> for Watched<Peeked<R>> {
         machine: &mut M,
         output: &mut O,
     ) -> Result<InputCount, RunFault> {
-        let form = SitedLines { switches: sites };
-        let unsaid = UnsaidPort::OfSenders(switches);
-        run_input(alloc, options, unsaid, form, machine, self, output)
+        let reading = Reading {
+            options,
+            unsaid: UnsaidPort::OfSenders(switches),
+            form: SitedLines { switches: sites },
+        };
+        run_input(alloc, reading, machine, self, output)
     }
 }
 
@@ -144,8 +133,8 @@ impl<R: Read> SitedInput<PairOptions> for BySide<Watched<R>> {
     ghost AreThere = { λ switches options.
         CanTell (IsEnteredBy options (ports_of_several switches)) (IsAtPlace switches) };
 
-    ghost Answers = { λ options switches done told begins.
-        TwoAreTold switches done told begins R.remaining options };
+    ghost Answers = { λ options switches first last done told begins.
+        TwoAreTold switches done told begins R.remaining options first last };
 
     fn places() {}
 
@@ -187,8 +176,8 @@ pub(crate) fn replay_sited<P: Placing + Drop, A: SitedInput<P>, O: Sink, D: Writ
 
     // What is answered, written and told for the frames that it gives.
     ensures replays { Replays D.contents switches.now
-        (λ done told begins answer. A.Answers options switches.now done told begins input.old
-        input.new answer) early result.1 (O.written output.old) (O.written output.new) result.0 }
+        (A.Answers options switches.now input.old input.new) early result.1
+        (O.written output.old) (O.written output.new) result.0 }
 {
     // (laws of the input: before it is asked for anything it hasn't failed; what it was handed)
     A::starts();

@@ -2,22 +2,19 @@
 
 ghost use Rattle.std.specs.Prelude.{◌≡◌, ◌<◌, ◌≤◌, ◌*◌, ◌⊎◌, ◌∷◌, [], ℕ, List, Option, Some, None, IfOk, IfErr, OnOk, OnErr, length, false};
 ghost use Rattle.afdx_cascade.specs.Cascade as cascade;
-ghost use Rattle.afdx_cascade.specs.Cascade.{TellsArrival};
 ghost use Rattle.afdx_cascade.specs.Plans.{plan_of};
-ghost use Rattle.afdx_cascade.specs.Runs.{Line, arriving};
+ghost use Rattle.afdx_cascade.specs.Runs.{Line};
 ghost use Rattle.afdx_cascade.specs.SwitchEvents.{SwitchEvent};
 ghost use Rattle.afdx_config.specs.Switches.{NamedRows};
-ghost use Rattle.afdx_engine.specs.Items.{most_frames};
-ghost use Rattle.afdx_engine.specs.Listed.{arrival_at};
+ghost use Rattle.afdx_engine.specs.Items.{arrival_on, most_frames};
 ghost use Rattle.afdx_frame.specs.Seals.{IsSealedAs};
 ghost use Rattle.afdx_frame.specs.Times.{latest_listed};
 ghost use Rattle.afdx_lists.specs.Calls.{is_failed_write};
-ghost use Rattle.afdx_lists.specs.FrameLines.{listed_frame};
 ghost use Rattle.afdx_lists.specs.declared.watched.Watched.{Watched as Device};
 ghost use Rattle.afdx_port.specs.Times.{drain_end};
 ghost use Rattle.afdx_text.specs.Sinks.{IsOfOutput};
-ghost use Rattle.afdx_replay.specs.cascading.Ran.{WritesAll, WritesSome, HearsAll, HearsSome};
-ghost use Rattle.afdx_replay.specs.cascading.Told.{AreFirst, AreInTime, AreSteady, HasTold, ToldUntil};
+ghost use Rattle.afdx_replay.specs.cascading.Ran.{TellerToldAll, TellerToldSome};
+ghost use Rattle.afdx_replay.specs.cascading.Told.{AreFirst, AreInTime, AreSteady, BringsLine, HasTold, ToldUntil};
 
 use crate::cascading::teller::Teller;
 use crate::replaying::explained::is_over_rate;
@@ -76,16 +73,14 @@ impl<'a, D: Write> Cascading<'a, D> {
             (first : Option (List ℕ)) (past : List Line) (events : List SwitchEvent) →
             HasTold D.contents s self.old.cascade self.old.teller start first
             (O.written output.old) events → AreFirst s past until events →
-            OnErr result (WritesSome s past first (O.written output.new)
-            × HearsSome D.contents s past start self.new.teller.early) }
+            OnErr result (TellerToldSome D.contents s past start self.new.teller first
+            (O.written output.new)) }
         ensures all_done { (s : List NamedRows) (start : Option (Device D))
             (first : Option (List ℕ)) (past : List Line) (events : List SwitchEvent) →
             HasTold D.contents s self.old.cascade self.old.teller start first
             (O.written output.old) events → AreFirst s past until events → AreInTime past →
-            drain_end ≤ until →
-            OnOk result
-            (WritesAll s past first (O.written output.new) self.new.teller.counts
-            × HearsAll D.contents s past start self.new.teller.early) }
+            drain_end ≤ until → OnOk result (TellerToldAll D.contents s past start
+            self.new.teller first (O.written output.new)) }
     {
         while let Some(happened) = self.cascade.take(until)? {
             self.teller.tell_event(happened, output)?;
@@ -108,11 +103,8 @@ impl<'a, D: Write> Cascading<'a, D> {
         ensures next { (s : List NamedRows) (so_far : List SwitchEvent) →
             cascade.StandsFor (plan_of s) self.old.cascade so_far →
             (plan_of s).far_end heading.now.switch heading.now.port ≡ None →
-            let line = cascade.line_at heading.now.switch
-            (arrival_at n (listed_frame heading.now message.now)) in
-            IfOk result (λ b. cascade.ArrivesNext (plan_of s) self.new.cascade so_far line b.verdict
-            × TellsArrival (plan_of s) so_far b
-            (arriving (plan_of s) so_far line.switch line.arrival)) }
+            IfOk result (BringsLine s self.new.cascade so_far
+            (cascade.line_at heading.now.switch (arrival_on n heading.now message.now))) }
         ensures clock { OnOk result (cascade.IsUntil self.new.cascade heading.now.time) }
     {
         let switch = usize::from(heading.switch);

@@ -1,14 +1,11 @@
 //! The command `police`.
 
-ghost use Rattle.std.specs.Prelude.{◌≡◌, ◌≤◌, ◌+◌, ◌||◌, ◌⊎◌, ◌↔◌, Result, IfSome, IsSome, codes, false};
+ghost use Rattle.std.specs.Prelude.{◌≡◌, ◌≤◌, ◌+◌, ◌⊎◌, ◌↔◌, IfSome, IsSome, codes, false};
 ghost use Rattle.afdx_lists.specs.Lines.{most_reads};
 ghost use Rattle.afdx_text.specs.Telling.{Tells};
-ghost use Rattle.afdx_commands.specs.Commands.{EndsAs, IsFourIfFailed, IsWholeIfDone};
-ghost use Rattle.afdx_replay.specs.policing.Command.{commanded_rule, usual_rule, IsCommanded};
-ghost use Rattle.afdx_replay.specs.policing.Policed.{Answers};
+ghost use Rattle.afdx_commands.specs.Commands.{IsFourIfFailed, IsWholeIfDone};
+ghost use Rattle.afdx_replay.specs.policing.Command.{commanded_rule, usual_rule, EndsPolicing, IsCommanded};
 ghost use Rattle.afdx_commands.specs.declared.ending.Ended.{Ended as End};
-ghost use Rattle.afdx_commands.specs.declared.summary.Summary.{Summary};
-ghost use Rattle.afdx_lists.specs.declared.fault.RunFault.{RunFault};
 ghost use Rattle.afdx_lists.specs.Watching.{calls_of, device_of, has_ended, has_failed};
 
 use crate::policing::run::run_police;
@@ -86,12 +83,10 @@ pub fn police<R: Read, O: Write, E: Write>(
         (result ≡ 2) × Tells E.contents errors.old errors.new (codes "words BadRule\n")
         × (input.new ≡ input.old) × (output.new ≡ output.old) }
     ensures polices { IsCommanded (usual_rule bag_ms lmax jitter_us) →
-        (ended : End) × (ended.status ≡ result) × ((answer : Result Summary RunFault)
-        × EndsAs E.contents input.new (has_failed output.new) errors.old errors.new ended answer
-        × IfSome (R.remaining (device_of input.old)) (λ bytes.
-        Answers (commanded_rule (usual_rule bag_ms lmax jitter_us)) bytes
-        (R.remaining (device_of input.new))
-        (O.contents (device_of output.old)) (O.contents (device_of output.new)) answer)) }
+        (ended : End) × (ended.status ≡ result) × EndsPolicing R.remaining E.contents
+        (commanded_rule (usual_rule bag_ms lmax jitter_us)) input.old input.new
+        errors.old errors.new (has_failed output.new) (O.contents (device_of output.old))
+        (O.contents (device_of output.new)) ended }
 {
     let given = CommandedRule {
         vl: 1,

@@ -1,14 +1,12 @@
 //! The command `replay`.
 
-ghost use Rattle.std.specs.Prelude.{◌≡◌, ◌≤◌, ◌+◌, ◌⊎◌, Result, IfSome, OnOk, true, false};
+ghost use Rattle.std.specs.Prelude.{◌≡◌, ◌≤◌, ◌+◌, ◌⊎◌, IfSome, OnOk, true, false};
 ghost use Rattle.afdx_lists.specs.Lines.{most_reads};
 ghost use Rattle.afdx_lists.specs.Watching.{calls_of, device_of, has_ended, has_failed};
-ghost use Rattle.afdx_lists.specs.declared.fault.RunFault.{RunFault};
-ghost use Rattle.afdx_commands.specs.Commands.{EndsAs, IsFourIfFailed, IsInputStatus, IsWholeIfDone};
-ghost use Rattle.afdx_commands.specs.declared.summary.Summary.{Summary};
+ghost use Rattle.afdx_commands.specs.Commands.{IsFourIfFailed, IsInputStatus, IsWholeIfDone};
 ghost use Rattle.afdx_commands.specs.Taking.{described_of, IsNotTaken};
 ghost use Rattle.afdx_lists.specs.Calls.{is_failed_read, is_failed_write};
-ghost use Rattle.afdx_replay.specs.replaying.Command.{FileAnswers, Replays};
+ghost use Rattle.afdx_replay.specs.replaying.Command.{EndsReplaying, FileAnswers};
 ghost use Rattle.afdx_commands.specs.declared.ending.Ended.{Ended as End};
 
 use crate::cascading::unadmitted::run_cascade_unadmitted;
@@ -70,11 +68,9 @@ pub fn replay<R: Read, O: Write, E: Write>(
     ensures calls { calls_of input.new ≤ calls_of input.old + most_reads }
     // The command ends as a run over the list answered, or nothing is read and nothing is written.
     ensures replays { (ended : End) × (ended.status ≡ result)
-        × (((answer : Result Summary RunFault)
-        × EndsAs E.contents input.new (has_failed output.new) errors.old errors.new ended answer
-        × Replays config.now admission (R.remaining (device_of input.old))
-        (R.remaining (device_of input.new)) (O.contents (device_of output.old))
-        (O.contents (device_of output.new)) answer)
+        × (EndsReplaying R.remaining E.contents config.now admission input.old input.new
+        errors.old errors.new (has_failed output.new) (O.contents (device_of output.old))
+        (O.contents (device_of output.new)) ended
         ⊎ (IsNotTaken E.contents config.now admission errors.old errors.new ended.status
         × (input.new ≡ input.old) × (output.new ≡ output.old))) }
 {

@@ -4,11 +4,10 @@ ghost use Rattle.std.specs.Prelude.{◌≡◌, ◌∷◌, List, Option};
 ghost use Rattle.afdx_config.specs.Rows.{Rows};
 ghost use Rattle.afdx_frame.specs.Seals.{IsSealedAs};
 ghost use Rattle.afdx_police.specs.Arrival.{Arrival};
-ghost use Rattle.afdx_lists.specs.FrameLines.{listed_frame};
 ghost use Rattle.afdx_switch.specs.Verdicts.{reason_of};
 ghost use Rattle.afdx_network.specs.Events.{Event, arrivals_in};
 ghost use Rattle.afdx_network.specs.Network as network_stands;
-ghost use Rattle.afdx_engine.specs.Listed.{arrival_at};
+ghost use Rattle.afdx_engine.specs.Items.{arrival_on};
 ghost use Rattle.afdx_lists.specs.declared.watched.Watched.{Watched as Device};
 ghost use Rattle.afdx_police.specs.Verdicts.{is_over_rate as over_rate};
 ghost use Rattle.afdx_replay.specs.replaying.Early.{HearsEarly, early_line};
@@ -61,13 +60,11 @@ fn explain<D: Write>(
 )
     requires clock { network_stands.IsUntil network.now heading.now.time }
     requires known { IsSealedAs heading.now.seal message.now }
-    ensures { (t : Rows) (events : List Event) (start : Option (Device D)) (past : List Arrival) →
-        network_stands.StandsFor t network.now events →
-        arrivals_in events ≡ arrival_at n (listed_frame heading.now message.now) ∷ past →
-        reason ≡ reason_of t past (arrival_at n (listed_frame heading.now message.now)) →
-        HearsEarly D.contents t start early.old past →
-        HearsEarly D.contents t start early.new
-        (arrival_at n (listed_frame heading.now message.now) ∷ past) }
+    ensures { let x = arrival_on n heading.now message.now in
+        (t : Rows) (events : List Event) (start : Option (Device D)) (past : List Arrival) →
+        network_stands.StandsFor t network.now events → arrivals_in events ≡ x ∷ past →
+        reason ≡ reason_of t past x → HearsEarly D.contents t start early.old past →
+        HearsEarly D.contents t start early.new (x ∷ past) }
 {
     match early {
         Some(drops) => {

@@ -1,16 +1,11 @@
 //! The command `replay`, whatever gives it its arrivals.
 
-ghost use Rattle.std.specs.Prelude.{◌≡◌, ◌||◌, ◌⊎◌, ◌↔◌, Result, IsSome, IfSome, OnOk, None, false, true};
-ghost use Rattle.afdx_lists.specs.declared.fault.RunFault.{RunFault};
-ghost use Rattle.afdx_recorded.specs.Claims.{ports_of_one};
-ghost use Rattle.afdx_replay.specs.Inputs.{EndsInputAs};
-ghost use Rattle.afdx_replay.specs.Placed.{ArePlacedIn, IsNotRun, IsPlacedStatus};
+ghost use Rattle.std.specs.Prelude.{◌≡◌, ◌||◌, ◌↔◌, IsSome, OnOk, false, true};
+ghost use Rattle.afdx_replay.specs.Placed.{IsPlacedStatus};
 ghost use Rattle.afdx_commands.specs.Taking.{described_of};
 ghost use Rattle.afdx_lists.specs.Calls.{is_failed_read, is_failed_write};
-ghost use Rattle.afdx_replay.specs.cascading.Input as cascade;
 ghost use Rattle.afdx_replay.specs.replaying.Command.{OfOneOr};
-ghost use Rattle.afdx_replay.specs.replaying.Input.{Hears, Replays, RunsIn};
-ghost use Rattle.afdx_replay.specs.declared.input_ending.InputSummary.{InputSummary};
+ghost use Rattle.afdx_replay.specs.replaying.Input.{EndsInput, ReplaysBy};
 
 use crate::cascading::over::{SitedInput, replay_sited};
 use crate::input_ending::{InputEnded, InputSummary, end_input};
@@ -40,13 +35,8 @@ fn replay_taken<P: Placing + Drop, A: SitedInput<P>, O: Sink, D: Write + Drop>(
     ensures read { A.failed input.new ≡ is_failed_read result.0 }
     ensures write { O.failed output.new ≡ is_failed_write result.0 }
     ensures calls { A.IsAskedFew options input.old input.new }
-    ensures replays { OfOneOr (λ t. IfSome (A.known input.old) (λ bytes.
-        Replays t (A.Takes options (ports_of_one t) bytes input.new)
-        (λ past count. Hears t past count D.contents early result.1)
-        (O.written output.old) (O.written output.new) result.0))
-        (λ switches. cascade.Replays D.contents switches
-        (λ done told begins count. A.Answers options switches done told begins input.old
-        input.new count) early result.1 (O.written output.old) (O.written output.new) result.0)
+    ensures replays { ReplaysBy A.known A.Takes A.Answers D.contents options input.old input.new
+        early result.1 (O.written output.old) (O.written output.new) result.0
         (described_of taken.now) }
 {
     match taken {
@@ -105,20 +95,11 @@ pub fn replay_input<P: Placing + Drop, A: SitedInput<P>, O: Sink, E: Write, D: W
 
     // The command ends as a run over the input answered, by the options with their places in the
     // configuration, or nothing is read, nothing is written and nothing is told `early`.
-    ensures replays { ((answer : Result InputSummary RunFault)
-        × EndsInputAs E.contents (A.ended input.new) (A.failed input.new) (O.failed output.new)
-        errors.old errors.new result.0 answer
-        × RunsIn config.now admission (λ d. ArePlacedIn P.ArePlaced options d (λ placed.
-        OfOneOr (λ t. IfSome (A.known input.old) (λ bytes.
-        Replays t (A.Takes placed (ports_of_one t) bytes input.new)
-        (λ past count. Hears t past count D.contents early result.1)
-        (O.written output.old) (O.written output.new) answer))
-        (λ switches. cascade.Replays D.contents switches
-        (λ done told begins count. A.Answers placed switches done told begins input.old
-        input.new count) early result.1 (O.written output.old) (O.written output.new) answer) d)))
-        ⊎ (IsNotRun P.ArePlaced options P.AreNotPlaced E.contents errors.old errors.new config.now
-        admission result.0.ended.status × (result.0.tally ≡ None) × (input.new ≡ input.old)
-        × (output.new ≡ output.old) × (result.1 ≡ early)) }
+    ensures replays { EndsInput P.ArePlaced P.AreNotPlaced E.contents config.now admission options
+        errors.old errors.new (A.ended input.new) (A.failed input.new) (O.failed output.new)
+        result.0 (λ placed. ReplaysBy A.known A.Takes A.Answers D.contents placed input.old
+        input.new early result.1 (O.written output.old) (O.written output.new))
+        ((input.new ≡ input.old) × (output.new ≡ output.old) × (result.1 ≡ early)) }
 {
     // (laws of the input: before it is asked for anything it hasn't failed; what its options place)
     A::starts();

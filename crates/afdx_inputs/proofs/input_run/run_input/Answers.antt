@@ -1,47 +1,48 @@
-use Rattle.std.proofs.Common.{Bool, List, ℕ}
-use Rattle.afdx_lists.specs.Peeking.{held, left_in}
+use Rattle.std.proofs.Common.{List, ℕ, take}
+use Rattle.afdx_lists.specs.Peeking.{held, left_in, looked_at}
 use Rattle.afdx_engine.specs.Items.{thing_of}
 use Rattle.afdx_recorded.specs.Becoming.{options_of}
 use Rattle.afdx_recorded.specs.Claims.{ports_unsaid}
-use Rattle.afdx_inputs.specs.InputRun.{InputAnswers, is_read_recorded}
+use Rattle.afdx_inputs.specs.InputRun.{ReadingAnswers, is_recorded}
 use Rattle.afdx_inputs.proofs.LookLemmas.{looked-asked, looked-kept, unread-answers, unread-few}
 use Rattle.afdx_inputs.proofs.input_run.run_input.Goals as goal
 
 -- the look failed
 pub returns-then-look-clause-calls : goal.returns-then-look-clause-calls
 returns-then-look-clause-calls g c =
-    unread-few c.args.options (left_in g.R.Read.remaining c.args.input.now.inner)
+    unread-few c.args.reading.options (left_in g.R.Read.remaining c.args.input.now.inner)
     (left_in g.R.Read.remaining c.look.new.self.inner) c.args.input.now.calls c.look.new.self.calls
     c.look.ensures.left c.look.ensures.calls
 
 pub returns-then-look-clause-answer : goal.returns-then-look-clause-answer
-returns-then-look-clause-answer g c law start can entered =
-    let left = left_in g.R.Read.remaining c.args.input.now.inner in
+returns-then-look-clause-answer g c law start can =
+    let reading = c.args.reading in
+    let kind = g.F.LineForm.kind reading.form in
     let old = g.O.Sink.written c.args.output.now in
-    unread-answers (g.F.LineForm.kind c.args.form)
-    (thing_of (g.F.LineForm.kind c.args.form) g.F.LineForm.says_of) (options_of c.args.options) (ports_unsaid c.args.unsaid)
+    unread-answers kind (thing_of kind g.F.LineForm.says_of) (options_of reading.options) (ports_unsaid reading.unsaid)
     (g.M.Machine.Done law c.args.machine.now old old) (g.M.Machine.Told law c.args.machine.now old old)
-    (g.M.Machine.Begins law c.args.machine.now old old) start (is_read_recorded c.args.options left) left
+    (g.M.Machine.Begins law c.args.machine.now old old) start
+    (λ bytes. is_recorded reading.options (take looked_at bytes))
+    (left_in g.R.Read.remaining c.args.input.now.inner)
     (left_in g.R.Read.remaining c.look.new.self.inner) c.look.ensures.left
 
 -- or nothing was lost by it
 pub returns-clause-calls : goal.returns-clause-calls
 returns-clause-calls g c =
-    looked-asked c.args.options (left_in g.R.Read.remaining c.args.input.now.inner)
+    looked-asked c.args.reading.options (left_in g.R.Read.remaining c.args.input.now.inner)
     (left_in g.R.Read.remaining c.look.new.self.inner) (left_in g.R.Read.remaining c.run_looked.new.input.inner)
     (held c.look.new.self.inner) c.args.input.now.calls c.look.new.self.calls c.run_looked.new.input.calls
     c.look.ensures.left (c.look.ensures.first c.if-look.false) c.look.ensures.calls c.run_looked.ensures.calls
 
 pub returns-clause-answer : goal.returns-clause-answer
-returns-clause-answer g c law start can entered =
+returns-clause-answer g c law start can =
     let old = g.O.Sink.written c.args.output.now in
     let new = g.O.Sink.written c.run_looked.new.output in
     let machine = c.run_looked.new.machine in
     let rest = left_in g.R.Read.remaining c.run_looked.new.input.inner in
-    looked-kept c.args.options (left_in g.R.Read.remaining c.args.input.now.inner)
+    looked-kept (left_in g.R.Read.remaining c.args.input.now.inner)
     (left_in g.R.Read.remaining c.look.new.self.inner) (held c.look.new.self.inner)
-    (λ (is : Bool) (bytes : List ℕ). InputAnswers (g.F.LineForm.kind c.args.form)
-    (thing_of (g.F.LineForm.kind c.args.form) g.F.LineForm.says_of) (options_of c.args.options, ports_unsaid c.args.unsaid)
+    (λ (seen : List ℕ) (bytes : List ℕ). ReadingAnswers c.args.reading g.F.LineForm.kind g.F.LineForm.says_of seen
     (g.M.Machine.Done law machine old new) (g.M.Machine.Told law machine old new)
-    (g.M.Machine.Begins law machine old new) is bytes rest c.run_looked.result)
-    c.look.ensures.left (c.look.ensures.first c.if-look.false) (c.run_looked.ensures.answer law start can entered)
+    (g.M.Machine.Begins law machine old new) bytes rest c.run_looked.result)
+    c.look.ensures.left (c.look.ensures.first c.if-look.false) (c.run_looked.ensures.answer law start can)

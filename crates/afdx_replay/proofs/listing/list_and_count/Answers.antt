@@ -6,8 +6,7 @@ pub returns-in-Err-clause-lists : goal.returns-in-Err-clause-lists
 returns-in-Err-clause-lists g c = inr (
   rw c.without_counts.ensures.status c.in-Err.ensures.refused,
   c.without_counts.ensures.tally,
-  refl,
-  refl,
+  (refl, refl),
 )
 
 pub returns-clause-lists : goal.returns-clause-lists

@@ -1,4 +1,4 @@
-use Rattle.std.proofs.Common.{rules, arith, ◌≡◌, ◌∙◌, sym, ap, Ok, Err, true, refl}
+use Rattle.std.proofs.Common.{rules, arith, ◌≡◌, ◌∙◌, sym, ap, Ok, Err, refl}
 use Rattle.afdx_lists.specs.declared.next.Next.TheVariants as next
 use Rattle.afdx_engine.specs.Engine.{item_of}
 use Rattle.afdx_engine.specs.Items.{thing_of}

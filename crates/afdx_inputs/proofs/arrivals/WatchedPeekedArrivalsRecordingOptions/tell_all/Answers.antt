@@ -1,7 +1,8 @@
-use Rattle.afdx_lists.specs.Peeking.{left_in}
+use Rattle.std.proofs.Common.{take}
+use Rattle.afdx_lists.specs.Peeking.{left_in, looked_at}
 use Rattle.afdx_recorded.specs.Becoming.{options_of}
 use Rattle.afdx_recorded.specs.Claims.{ports_unsaid}
-use Rattle.afdx_inputs.specs.InputRun.{is_read_recorded}
+use Rattle.afdx_inputs.specs.InputRun.{is_recorded}
 use Rattle.afdx_inputs.proofs.TookLemmas.{one-took}
 use Rattle.afdx_inputs.proofs.arrivals.WatchedPeekedArrivalsRecordingOptions.tell_all.Goals as goal
 
@@ -12,6 +13,6 @@ returns-clause-answer g c rules start can =
     let machine = c.run_input.new.machine in
     one-took (g.M.Machine.Done rules machine old new) (g.M.Machine.Told rules machine old new)
     (g.M.Machine.Begins rules machine old new) (options_of c.args.options) (ports_unsaid c.args.unsaid)
-    (is_read_recorded c.args.options) (left_in g.R.Read.remaining c.args.self.now.inner)
+    (λ bytes. is_recorded c.args.options (take looked_at bytes)) (left_in g.R.Read.remaining c.args.self.now.inner)
     (left_in g.R.Read.remaining c.run_input.new.input.inner) c.run_input.result
-    (c.run_input.ensures.answer rules start (λ item said. can item) (λ item entered. can item))
+    (c.run_input.ensures.answer rules start (λ item come. can item))

@@ -12,8 +12,8 @@ returns-in-Err-clause-replays g c =
     let early = c.args.early in
     let old = g.O.Sink.written c.args.output.now in
     rw c.from.ensures (replays-so g.D.Write.contents ss
-    (λ done told begins answer. g.A.SitedInput.Answers c.args.options ss done told begins
-    c.args.input.now c.args.input.now answer) early early old old no_counts (Err run.Memory)
+    (g.A.SitedInput.Answers c.args.options ss c.args.input.now c.args.input.now) early early old old no_counts
+    (Err run.Memory)
     (c.hands.ensures.none c.args.options ss c.args.input.now early old no_counts c.requires.new))
 
 pub returns-in-Err-new-clause-replays : goal.returns-in-Err-new-clause-replays
@@ -22,8 +22,8 @@ returns-in-Err-new-clause-replays g c =
     let early = c.args.early in
     let old = g.O.Sink.written c.args.output.now in
     rw c.from-in-Err-new.ensures (replays-so g.D.Write.contents ss
-    (λ done told begins answer. g.A.SitedInput.Answers c.args.options ss done told begins
-    c.args.input.now c.args.input.now answer) early early old old no_counts (Err run.Memory)
+    (g.A.SitedInput.Answers c.args.options ss c.args.input.now c.args.input.now) early early old old no_counts
+    (Err run.Memory)
     (c.hands.ensures.none c.args.options ss c.args.input.now early old no_counts c.requires.new))
 
 pub tell_sited-count-requires-clause-few : goal.tell_sited-count-requires-clause-few
@@ -62,8 +62,8 @@ returns-in-Ok-count-clause-replays g c =
     c.in-Ok-new.ensures.steady more.switches more.systems more.counts more.early in
     let answer = c.in-Ok-count.ensures.answer (ss, early) start (λ item is. is) in
     rw c.of.ensures (replays-so contents ss
-    (λ done told begins answer. g.A.SitedInput.Answers c.args.options ss done told begins first ended.self
-    answer) early m.teller.early old new m.teller.counts (Ok c.in-Ok-count.count)
+    (g.A.SitedInput.Answers c.args.options ss first ended.self) early m.teller.early old new m.teller.counts
+    (Ok c.in-Ok-count.count)
     (c.hands.ensures.told c.args.options ss first ended.self early m old new (Ok c.in-Ok-count.count)
     answer))
 
@@ -84,7 +84,7 @@ returns-clause-replays g c =
     c.in-Ok-new.ensures.steady more.switches more.systems more.counts more.early in
     let answer = c.in-Err-count.ensures.answer (ss, early) start (λ item is. is) in
     replays-so contents ss
-    (λ done told begins answer. g.A.SitedInput.Answers c.args.options ss done told begins first ended.self
-    answer) early m.teller.early old new m.teller.counts (Err c.in-Err-count.fault)
+    (g.A.SitedInput.Answers c.args.options ss first ended.self) early m.teller.early old new m.teller.counts
+    (Err c.in-Err-count.fault)
     (c.hands.ensures.told c.args.options ss first ended.self early m old new (Err c.in-Err-count.fault)
     answer)

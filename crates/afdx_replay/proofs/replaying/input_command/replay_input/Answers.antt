@@ -12,9 +12,7 @@ pub returns-in-Err-clause-replays : goal.returns-in-Err-clause-replays
 returns-in-Err-clause-replays g c = inr (
   inl (rw c.without_counts.ensures.status c.in-Err.ensures.refused),
   c.without_counts.ensures.tally,
-  refl,
-  refl,
-  refl,
+  (refl, refl, refl),
 )
 
 -- or what it describes is not admitted
@@ -36,9 +34,7 @@ returns-in-Err-take_described-clause-replays g c =
         },
       ),
       c.without_counts-in-Err-take_described.ensures.tally,
-      refl,
-      refl,
-      refl,
+      (refl, refl, refl),
     )
 
 pub replay_taken-answer-requires-clause-there : goal.replay_taken-answer-requires-clause-there
