@@ -26,8 +26,10 @@ import sys
 import tempfile
 
 sys.dont_write_bytecode = True
-from make_cascade import LINKS, config_text, ways_of  # noqa: E402
+from make_cascade import LINKS, compact, config_text, ways_of  # noqa: E402
 from measure import PROGRAM, counted, timed  # noqa: E402
+from tables import cable_of, link_of, port_of, switch_of, system_of, tables_of  # noqa: E402
+from tables import text_of, wide_tables  # noqa: E402
 
 SYSTEMS = 24
 SIZES = (400, 4096)
@@ -40,82 +42,43 @@ ROWS = (1000, 3000, 9000)
 LATENCY = 10_000  # us, of each row in a cascade, and of one switch beside it
 
 
-def systems_of(rate):
-    """The text of all systems."""
-    return "".join(
-        f'[[system]]\nname = "s{place}"\nport = {place}\nid = {place}\n'
-        f"partition = 1\nrate = {rate}\n"
-        for place in range(1, SYSTEMS + 1)
-    )
-
-
 def tables(links, is_solved):
     """The text of tables with so many links, of the first system alone or of all in turn."""
-    senders, profile, rate, bag = (SYSTEMS, 2, 1000, 128) if is_solved else (1, 1, 100, 1)
-    parts = [f"profile = {profile}\nbuffer = 252\n", systems_of(rate)]
-    for vl in range(links):
-        sender = vl % senders + 1
-        others = ", ".join(f'"s{place}"' for place in range(1, SYSTEMS + 1) if place != sender)
-        parts.append(
-            f'[[link]]\nvl = {vl}\nfrom = "s{sender}"\nto = [{others}]\nbag_ms = {bag}\n'
-            'lmin = 64\nlmax = 64\njitter_us = 500\npriority = "high"\npolicing = "frame"\n'
-            "latency_us = 17\nskew_us = 1000\nsubs = 2\n"
-        )
-    for vl in range(links):
-        receiver = (vl + 1) % SYSTEMS + 1 if is_solved else 2
-        parts.append(
-            f'[[port]]\nsystem = "s{receiver}"\nlink = {vl}\nudp = 1000\nkind = "sampling"\n'
-            "depth = 1\n"
-        )
-    return "".join(parts)
+    return text_of(wide_tables(links, SYSTEMS if is_solved else 1)).decode()
 
 
-def row_text(head, vl, sender, to, jitter, skew):
+def link_row(vl, sender, to, jitter, skew):
     """A link's row, which may send little."""
-    names = ", ".join(f'"{name}"' for name in to)
-    return (
-        f'[[{head}]]\nvl = {vl}\nfrom = "{sender}"\nto = [{names}]\nbag_ms = 128\nlmin = 64\n'
-        f'lmax = 64\njitter_us = {jitter}\npriority = "{"low" if vl % 3 else "high"}"\n'
-        f'policing = "byte"\nlatency_us = {LATENCY}\nskew_us = {skew}\nsubs = 1\n'
-    )
-
-
-def port_text(head, system, vl):
-    """A communication port."""
-    return (
-        f'[[{head}]]\nsystem = "{system}"\nlink = {vl}\nudp = 1000\nkind = "sampling"\n'
-        "depth = 1\n"
-    )
+    priority = "low" if vl % 3 else "high"
+    return link_of(vl, sender, to, jitter=jitter, priority=priority, latency=LATENCY, skew=skew)
 
 
 def one_switch(links):
     """The text of one switch with so many links, each to three systems."""
-    parts = ["profile = 2\nbuffer = 524288\n", systems_of(1000)]
+    rows = []
     for vl in range(links):
         sender = vl % SYSTEMS
         to = [f"s{(sender + step) % SYSTEMS + 1}" for step in (1, 2, 3)]
-        parts.append(row_text("link", vl, f"s{sender + 1}", to, 500, LATENCY))
-    parts += [port_text("port", f"s{(vl + 1) % SYSTEMS + 1}", vl) for vl in range(links)]
-    return "".join(parts)
+        rows.append(link_row(vl, f"s{sender + 1}", to, 500, LATENCY))
+    ports = [port_of(f"s{(vl + 1) % SYSTEMS + 1}", vl) for vl in range(links)]
+    systems = [system_of(place, 1000) for place in range(1, SYSTEMS + 1)]
+    return text_of(tables_of(systems, rows, ports, profile=2, buffer=524288)).decode()
 
 
-def switch_text(place):
-    """The text of a switch of a cascade, with its ends, without links."""
-    text = f'[[switch]]\nname = "w{place}"\nprofile = 2\nbuffer = 524288\n'
-    for port in range(1, OWN + 1):
-        number = place * OWN + port
-        text += f'[[switch.system]]\nname = "s{number}"\nport = {port}\nid = {number}\n'
-        text += "partition = 1\nrate = 1000\n"
-    for port, other in ((23, place - 1), (24, place + 1)):
-        text += f'[[switch.neighbour]]\nname = "w{other % SWITCHES}"\nport = {port}\n'
-        text += "rate = 1000\n"
-    return text
+def switch_row(place, links, ports):
+    """A switch of the cascade, with its ends."""
+    numbers = [(port, place * OWN + port) for port in range(1, OWN + 1)]
+    systems = [system_of(port, 1000, f"s{number}", number) for port, number in numbers]
+    cables = [cable_of(f"w{other % SWITCHES}", port, 1000)
+              for port, other in ((23, place - 1), (24, place + 1))]  # fmt: skip
+    name = f"w{place}"
+    return switch_of(name, systems, cables, links or None, ports or None, 2, 524288)
 
 
 def cascade(rows):
     """The text of the cascade with so many rows."""
-    links: list[list[str]] = [[] for _ in range(SWITCHES)]
-    ports: list[list[str]] = [[] for _ in range(SWITCHES)]
+    links: list[list[dict]] = [[] for _ in range(SWITCHES)]
+    ports: list[list[dict]] = [[] for _ in range(SWITCHES)]
     vl = count = 0
     while count < rows:
         hops = min(vl // SWITCHES % WAY + 1, rows - count)
@@ -124,15 +87,11 @@ def cascade(rows):
             own = [f"s{place * OWN + (vl + step) % OWN + 1}" for step in range(4)]
             sender = f"w{(place - 1) % SWITCHES}" if hop else own[3]
             to = [*own[:2], f"w{(place + 1) % SWITCHES}" if hop + 1 < hops else own[2]]
-            row = row_text(
-                "switch.link", vl, sender, to, 500 + hop * LATENCY, (hop + 1) * LATENCY
-            )
+            row = link_row(vl, sender, to, 500 + hop * LATENCY, (hop + 1) * LATENCY)
             links[place].append(row)
-            ports[place].append(port_text("switch.port", own[0], vl))
+            ports[place].append(port_of(own[0], vl))
         vl, count = vl + 1, count + hops
-    return "".join(
-        "".join([switch_text(place), *links[place], *ports[place]]) for place in range(SWITCHES)
-    )
+    return compact([switch_row(place, links[place], ports[place]) for place in range(SWITCHES)])
 
 
 def measured(program, command, path, folder, times, status):

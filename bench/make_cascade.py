@@ -15,7 +15,9 @@ import random
 import sys
 
 sys.dont_write_bytecode = True
-from make_network import MOST_LINES, Link, longest, sent  # noqa: E402
+from make_network import MOST_LINES, Link, longest, priority_of, sent  # noqa: E402
+from cascade import cascade_text  # noqa: E402
+from tables import cable_of, link_of, port_of, switch_of, system_of  # noqa: E402
 
 SWITCHES = 8
 OWN = 22  # systems of a switch
@@ -59,29 +61,28 @@ def ways_of(count):
     return ways
 
 
-def row_text(way, hop, to, sender):
+def link_row(way, hop, to, sender):
     """A link's row, where its frames have passed so many switches."""
     link = way.link
-    names = ", ".join(f'"{name}"' for name in to)
-    return (
-        f'[[switch.link]]\nvl = {link.vl}\nfrom = "{sender}"\nto = [{names}]\n'
-        f"bag_ms = {link.bag_ms}\nlmin = 64\nlmax = {link.lmax}\n"
-        f'jitter_us = {500 + hop * LATENCY}\npriority = "{"low" if link.vl % 3 else "high"}"\n'
-        f'policing = "byte"\nlatency_us = {LATENCY}\nskew_us = {(hop + 1) * LATENCY}\nsubs = 1\n'
-    )
+    return link_of(
+        link.vl, sender, to, bag=link.bag_ms, lmax=link.lmax, jitter=500 + hop * LATENCY,
+        priority=priority_of(link), latency=LATENCY, skew=(hop + 1) * LATENCY,
+    )  # fmt: skip
 
 
-def switch_text(switch):
-    """The text of a switch with its ends, without links."""
-    text = f'[[switch]]\nname = "w{switch}"\nprofile = 2\nbuffer = 65536\n'
-    for port in range(1, OWN + 1):
-        number = number_of(switch, port)
-        text += f'[[switch.system]]\nname = "s{number}"\nport = {port}\nid = {number}\n'
-        text += "partition = 1\nrate = 100\n"
-    for port, other in ((OWN + 1, switch - 1), (OWN + 2, switch + 1)):
-        text += f'[[switch.neighbour]]\nname = "w{other % SWITCHES}"\nport = {port}\n'
-        text += "rate = 1000\n"
-    return text
+def switch_row(switch, links, ports):
+    """A switch with its ends."""
+    systems = [system_of(port, 100, f"s{number}", number)
+               for port in range(1, OWN + 1) for number in [number_of(switch, port)]]  # fmt: skip
+    cables = [cable_of(f"w{other % SWITCHES}", port, 1000)
+              for port, other in ((OWN + 1, switch - 1), (OWN + 2, switch + 1))]  # fmt: skip
+    name = f"w{switch}"
+    return switch_of(name, systems, cables, links, ports, profile=2, buffer=65536)
+
+
+def compact(switches):
+    """The text of a cascade, without empty lines."""
+    return cascade_text({"switch": switches}).decode().replace("\n\n", "\n")
 
 
 def receivers(way, hop):
@@ -95,23 +96,17 @@ def receivers(way, hop):
 
 def config_text(ways):
     """The configuration."""
-    links: list[list[str]] = [[] for _ in range(SWITCHES)]
-    ports: list[list[str]] = [[] for _ in range(SWITCHES)]
+    links: list[list[dict]] = [[] for _ in range(SWITCHES)]
+    ports: list[list[dict]] = [[] for _ in range(SWITCHES)]
     for way in ways:
         sender = f"s{way.link.sender}"
         for hop, switch in enumerate(way.switches):
             own, after = receivers(way, hop), way.switches[hop + 1 : hop + 2]
             to = [*own, *(f"w{other}" for other in after)]
-            links[switch].append(row_text(way, hop, to, sender))
-            ports[switch].append(
-                f'[[switch.port]]\nsystem = "{own[0]}"\nlink = {way.link.vl}\nudp = 1000\n'
-                'kind = "sampling"\ndepth = 1\n'
-            )
+            links[switch].append(link_row(way, hop, to, sender))
+            ports[switch].append(port_of(own[0], way.link.vl))
             sender = f"w{switch}"
-    return "".join(
-        "".join([switch_text(switch), *links[switch], *ports[switch]])
-        for switch in range(SWITCHES)
-    )
+    return compact([switch_row(each, links[each], ports[each]) for each in range(SWITCHES)])
 
 
 def write_cascade(config, listing, count=MOST_LINES, links=LINKS):

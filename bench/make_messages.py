@@ -7,44 +7,26 @@ The system s1 of CONFIG sends 20 links of up to 200 bytes with a BAG of 1 ms to 
 admitted. SUBMISSIONS has N lines (1,000,000 where it isn't given): each ms a message of random
 bytes for each link, none of which is refused. The same words give the same files.
 """
+import os
 import random
 import sys
+
+sys.dont_write_bytecode = True
+sys.path.insert(0, os.path.join(os.path.dirname(os.path.abspath(__file__)), "..", "tests", "lib"))
+from tables import link_of, system_of, tables_of, text_of  # noqa: E402
 
 LINKS = 20
 MOST_LINES = 1_000_000
 MS = 1_000_000
 
-SYSTEM = """
-[[system]]
-name = "s{n}"
-port = {n}
-id = {n}
-partition = 1
-rate = 100
-"""
-
-LINK = """
-[[link]]
-vl = {vl}
-from = "s1"
-to = ["s2"]
-bag_ms = 1
-lmin = 64
-lmax = 200
-jitter_us = 500
-priority = "low"
-policing = "byte"
-latency_us = 1000
-skew_us = 1000
-subs = 1
-"""
-
 
 def write_config(path):
-    with open(path, "w", encoding="ascii") as text:
-        text.write("profile = 1\nbuffer = 65536\n")
-        text.writelines(SYSTEM.format(n=n) for n in (1, 2))
-        text.writelines(LINK.format(vl=vl) for vl in range(1, LINKS + 1))
+    links = [
+        link_of(vl, "s1", ["s2"], bag=1, lmax=200, priority="low", latency=1000, skew=1000)
+        for vl in range(1, LINKS + 1)
+    ]
+    with open(path, "wb") as text:
+        text.write(text_of(tables_of([system_of(port) for port in (1, 2)], links)))
 
 
 def write_messages(config, listing, count=MOST_LINES):

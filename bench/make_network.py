@@ -32,8 +32,9 @@ import sys
 
 HERE = os.path.dirname(os.path.abspath(__file__))
 sys.dont_write_bytecode = True
-sys.path.insert(0, os.path.join(HERE, "..", "examples"))
+sys.path[:0] = [os.path.join(HERE, "..", "examples"), os.path.join(HERE, "..", "tests", "lib")]
 from frame_builder import frame_of  # noqa: E402
+from tables import link_of, port_of, system_of, tables_of, text_of  # noqa: E402
 
 MOST_LINES = 1_000_000
 SYSTEMS = 24
@@ -91,34 +92,31 @@ def even_links(kind, count):
     return links
 
 
+def priority_of(link):
+    """A third of the links is high."""
+    return "low" if link.vl % 3 else "high"
+
+
 def write_config(path, kind, links):
     profile = 2 if kind in ("gigabit", "old", "wide") else 1
     buffer = 524288 if kind in ("gigabit", "wide") else 65536
     latency = 5000 if kind == "old" else 100000
-    parts = [f"profile = {profile}\nbuffer = {buffer}\n"]
+    systems = []
     for place in range(1, SYSTEMS + 1):
         is_overloaded = kind in ("lost", "old") and place == SYSTEMS
         rate = 1000 if kind in ("gigabit", "wide") else 10 if is_overloaded else 100
-        parts.append(
-            f'[[system]]\nname = "s{place}"\nport = {place}\nid = {place}\n'
-            f"partition = 1\nrate = {rate}\n"
+        systems.append(system_of(place, rate))
+    rows = [
+        link_of(
+            link.vl, f"s{link.sender}", [f"s{place}" for place in link.to], bag=link.bag_ms,
+            lmax=link.lmax, priority=priority_of(link), latency=latency,
         )
-    for link in links:
-        to = ", ".join(f'"s{place}"' for place in link.to)
-        parts.append(
-            f'[[link]]\nvl = {link.vl}\nfrom = "s{link.sender}"\nto = [{to}]\n'
-            f"bag_ms = {link.bag_ms}\nlmin = 64\nlmax = {link.lmax}\njitter_us = 500\n"
-            f'priority = "{"low" if link.vl % 3 else "high"}"\npolicing = "byte"\n'
-            f"latency_us = {latency}\nskew_us = 100000\nsubs = 1\n"
-        )
+        for link in links
+    ]  # fmt: skip
     places = [(place, link.vl) for link in links for place in link.to]
-    for place, vl in places[:4096]:
-        parts.append(
-            f'[[port]]\nsystem = "s{place}"\nlink = {vl}\nudp = 1000\n'
-            'kind = "sampling"\ndepth = 1\n'
-        )
-    with open(path, "w", encoding="ascii") as config:
-        config.write("".join(parts))
+    ports = [port_of(f"s{place}", vl) for place, vl in places[:4096]]
+    with open(path, "wb") as config:
+        config.write(text_of(tables_of(systems, rows, ports, profile, buffer)))
 
 
 def next_frames(link, chance):

@@ -24,10 +24,11 @@ import zlib
 
 HERE = os.path.dirname(os.path.abspath(__file__))
 sys.dont_write_bytecode = True
-sys.path.insert(0, os.path.join(HERE, "..", "examples"))
+sys.path[:0] = [os.path.join(HERE, "..", "examples"), os.path.join(HERE, "..", "tests", "lib")]
 sys.path.insert(0, HERE)
 from frame_builder import frame_of  # noqa: E402
 from make_recording import FCSLEN, NANOSECONDS, block, low  # noqa: E402
+from tables import link_of, system_of, tables_of, text_of  # noqa: E402
 
 MOST_LINES = 1_000_000
 SYSTEMS = 24
@@ -43,20 +44,14 @@ def ports_of(vl, count):
 
 
 def write_config(path, links, ports):
-    parts = ["profile = 1\nbuffer = 65536\n"]
-    parts += [
-        f'[[system]]\nname = "s{place}"\nport = {place}\nid = {place}\npartition = 1\nrate = 100\n'
-        for place in range(1, SYSTEMS + 1)
-    ]
-    for vl in range(links):
-        to = ", ".join(f'"s{port}"' for port in ports_of(vl, ports))
-        parts.append(
-            f'[[link]]\nvl = {vl}\nfrom = "s{vl % SYSTEMS + 1}"\nto = [{to}]\nbag_ms = {BAG_MS}\n'
-            'lmin = 64\nlmax = 64\njitter_us = 500\npriority = "high"\npolicing = "byte"\n'
-            "latency_us = 500\nskew_us = 1000\nsubs = 1\n"
-        )
-    with open(path, "w", encoding="ascii") as config:
-        config.write("".join(parts))
+    rows = [
+        link_of(vl, f"s{vl % SYSTEMS + 1}", [f"s{port}" for port in ports_of(vl, ports)],
+                bag=BAG_MS, latency=500, skew=1000)
+        for vl in range(links)
+    ]  # fmt: skip
+    systems = [system_of(place) for place in range(1, SYSTEMS + 1)]
+    with open(path, "wb") as config:
+        config.write(text_of(tables_of(systems, rows)))
 
 
 def came(links, count):

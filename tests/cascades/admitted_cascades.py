@@ -8,6 +8,7 @@ from cascade import own_names
 from cascade_least import solved_cascade
 from first_fault import LATE_US
 from made_cascades import Join, add_link, add_ports, switches_of
+from tables import row_of
 
 MOST_TRIES = 1000
 RARELY, MOSTLY = 0.15, 0.85
@@ -67,10 +68,12 @@ def give_values(chance: random.Random, switches: list[dict]) -> None:
         for link, is_first in rows:
             late = 0 if is_first else LATE_US // 2
             wide = chance.randint(0, 1000 * bag + late)
-            link |= {"bag_ms": bag, "lmin": lmin, "lmax": lmax}
-            link["jitter_us"] = wide if chance.random() < RARELY else 0
-            link["latency_us"] = chance.choice([1, 1, 1, 200, 3000])
-            link["skew_us"] = chance.choice([1, 1, 5000, 100_000])
+            jitter = wide if chance.random() < RARELY else 0
+            latency = chance.choice([1, 1, 1, 200, 3000])
+            skew = chance.choice([1, 1, 5000, 100_000])
+            link |= row_of(
+                bag=bag, lmin=lmin, lmax=lmax, jitter=jitter, latency=latency, skew=skew
+            )
     for switch in switches:
         switch["buffer"] = chance.choice([64, 64, 65_536])
 

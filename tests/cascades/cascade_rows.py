@@ -3,18 +3,42 @@ of examples/two_switches.toml, and three, each with changes."""
 from __future__ import annotations
 
 import copy
-import os
 import tomllib
 from typing import NamedTuple
 
 from cascade import cascade_text
-from tables import example
+from tables import KEYS, cable_of, example, port_of, switch_of, system_of, with_values
 
-HERE = os.path.dirname(os.path.abspath(__file__))
 TWO_TEXT = example("two_switches.toml")
-with open(os.path.join(HERE, "three_switches.toml"), "rb") as file:
-    THREE_TEXT = file.read()
-TWO, THREE = (tomllib.loads(text.decode()) for text in (TWO_TEXT, THREE_TEXT))
+TWO = tomllib.loads(TWO_TEXT.decode())
+PICTURE = b"""\
+# On each side three switches in a row; link 1 goes from the first to systems at both others.
+#
+#     s1 --1 [fwd] 24 -- 20 [mid] 24 -- 20 [aft] 3-- s3
+#                       s4 --4
+
+"""
+
+
+def three_switches() -> dict:
+    """These three."""
+    fwd, mid, aft = (
+        with_values(TWO["switch"][0]["link"][0], sender=sender, to=to, jitter=jitter, latency=11)
+        for sender, to, jitter in (
+            ("s1", ["mid"], 400), ("fwd", ["s4", "aft"], 411), ("mid", ["s3"], 422),
+        )
+    )  # fmt: skip
+    of_mid, of_aft = [port_of("s4", 1)], [port_of("s3", 1)]
+    cables = [cable_of("fwd", 20), cable_of("aft", 24)]
+    return {"switch": [
+        switch_of("fwd", [system_of(1)], [cable_of("mid", 24)], [fwd], None, buffer=252),
+        switch_of("mid", [system_of(4)], cables, [mid], of_mid, buffer=252),
+        switch_of("aft", [system_of(3)], [cable_of("mid", 20)], [aft], of_aft, buffer=252),
+    ]}  # fmt: skip
+
+
+THREE_TEXT = PICTURE + cascade_text(three_switches())
+THREE = tomllib.loads(THREE_TEXT.decode())
 
 Changes = dict[str, object]
 
@@ -37,13 +61,14 @@ class FaultRow(NamedTuple):
 
 
 def changed(cascade: dict, changes: Changes) -> dict:
-    """The cascade with changes: `aft link 1 jitter_us` is that key of the first link of the switch
-    aft, `aft link 1` the whole row, `aft buffer` a key of the switch; None takes it away."""
+    """The cascade with changes: `aft link 1 jitter` is that key, by the words of tables.py, of the
+    first link of the switch aft, `aft link 1` the whole row, `aft buffer` a key of the switch; None
+    takes it away."""
     cascade = copy.deepcopy(cascade)
     switches = {switch["name"]: switch for switch in cascade["switch"]}
     for path, value in changes.items():
         name, *way, last = path.split(" ")
-        row = switches[name]
+        row, last = switches[name], KEYS.get(last, last)
         if way:
             row = row[way[0]]
         if len(way) == 2:
@@ -135,27 +160,27 @@ E 2 s3 21000
 SLOW_CABLE: Changes = {
     "fwd neighbour 1 rate": 10,
     "fwd buffer": 2000,
-    "fwd link 1 bag_ms": 128,
+    "fwd link 1 bag": 128,
     "fwd link 1 lmax": 1518,
-    "fwd link 1 latency_us": 1235,
-    "fwd link 1 skew_us": 1235,
+    "fwd link 1 latency": 1235,
+    "fwd link 1 skew": 1235,
     "mid neighbour 1 rate": 10,
     "mid buffer": 2000,
     "mid link 1 to": ["aft"],
-    "mid link 1 bag_ms": 128,
+    "mid link 1 bag": 128,
     "mid link 1 lmax": 1518,
-    "mid link 1 jitter_us": 1635,
-    "mid link 1 latency_us": 125,
-    "mid link 1 skew_us": 125,
+    "mid link 1 jitter": 1635,
+    "mid link 1 latency": 125,
+    "mid link 1 skew": 125,
     "mid port 1": None,
     "aft buffer": 2000,
-    "aft link 1 bag_ms": 128,
+    "aft link 1 bag": 128,
     "aft link 1 lmax": 1518,
-    "aft link 1 jitter_us": 1760,
-    "aft link 1 latency_us": 125,
-    "aft link 1 skew_us": 1485,
+    "aft link 1 jitter": 1760,
+    "aft link 1 latency": 125,
+    "aft link 1 skew": 1485,
 }
-TWO_FALSE: Changes = {"fwd link 1 latency_us": 10, "aft link 1 jitter_us": 500}
+TWO_FALSE: Changes = {"fwd link 1 latency": 10, "aft link 1 jitter": 500}
 FALSE_LINES = "no A3 fwd 24 1 10080\nno B3 aft 1 510\n"
 FROM_NOWHERE = "E 2 s1 42000\nE 2 s3 21000\nE 1 s3 -\nno B1 aft 1"
 NO_LINK_1: Changes = {"fwd link 1": None}
@@ -166,13 +191,13 @@ def last_rows() -> list[Row]:
     """The two switches with changes that are false in one line, which comes last."""
     cases: list[tuple[Changes, str]] = [
         ({"aft buffer": 253}, "no A2 aft 3 254"),
-        ({"fwd link 1 latency_us": 10}, "no A3 fwd 24 1 10080"),
-        ({"aft link 2 jitter_us": 46}, "no A6 aft 2 46720"),
-        ({"fwd link 1 skew_us": 16}, "no A7 fwd 1"),
+        ({"fwd link 1 latency": 10}, "no A3 fwd 24 1 10080"),
+        ({"aft link 2 jitter": 46}, "no A6 aft 2 46720"),
+        ({"fwd link 1 skew": 16}, "no A7 fwd 1"),
         (NO_LINK_1, FROM_NOWHERE),
         ({"aft link 1 policing": "byte"}, "no B2 aft 1"),
-        ({"aft link 1 jitter_us": 516}, "no B3 aft 1 517"),
-        ({"aft link 1 skew_us": 34}, "no B4 aft 1 35"),
+        ({"aft link 1 jitter": 516}, "no B3 aft 1 517"),
+        ({"aft link 1 skew": 34}, "no B4 aft 1 35"),
         (NO_LINK_1_AFT, "no B5 fwd 1 aft"),
     ]
     return [
@@ -184,7 +209,7 @@ def last_rows() -> list[Row]:
 def limit_rows() -> list[Row]:
     """4,096 links from a cable to a line of 10 Mbit/s, with the greatest jitter that they may
     have."""
-    link = TWO["switch"][1]["link"][0] | {"lmax": 1518, "jitter_us": 101_000, "priority": "low"}
+    link = with_values(TWO["switch"][1]["link"][0], lmax=1518, jitter=101_000, priority="low")
     links = [link | {"vl": vl} for vl in range(4096)]
     slow: Changes = {"aft system 2 rate": 10, "fwd link 1": None, "fwd link 2": None}
     slow |= {"fwd port 1": None, "aft port 1": None, "aft port 2": None, "aft buffer": 4_194_304}
@@ -222,13 +247,13 @@ def with_key(path: str, value: object) -> bytes:
 
 def many(count: int) -> bytes:
     """So many switches without systems."""
-    empty = {"profile": 1, "buffer": 64, "system": [], "neighbour": [], "link": [], "port": []}
-    return cascade_text({"switch": [{"name": f"w{n}", **empty} for n in range(count)]})
+    switches = [switch_of(f"w{n}", [], [], [], [], buffer=64) for n in range(count)]
+    return cascade_text({"switch": switches})
 
 
 def neighbours(count: int) -> list[dict]:
     """So many neighbours."""
-    return [{"name": f"w{n}", "port": n, "rate": 100} for n in range(1, count + 1)]
+    return [cable_of(f"w{n}", n) for n in range(1, count + 1)]
 
 
 ALONE: Changes = {"aft neighbour 1": None, "aft link 1": None, "aft port 1": None}
@@ -283,9 +308,9 @@ FAULTS = [
              "Twice switch 2 link 1 key 3"),
     FaultRow("a port entry of a neighbour", with_key("aft port 1 system", "fwd"),
              "NoSuchSystem switch 2 port 1 key 1"),
-    FaultRow("jitter behind a cable", with_key("aft link 1 jitter_us", 101_001),
+    FaultRow("jitter behind a cable", with_key("aft link 1 jitter", 101_001),
              "OutOfRange switch 2 link 1 key 7"),
-    FaultRow("jitter before a cable", with_key("aft link 2 jitter_us", 1001),
+    FaultRow("jitter before a cable", with_key("aft link 2 jitter", 1001),
              "OutOfRange switch 2 link 2 key 7"),
     # over all switches
     FaultRow("two switches of a name", renamed("aft", "fwd", "x", name="fwd"),
@@ -311,10 +336,10 @@ FAULTS = [
 # ---- least values --------------------------------------------------------------------------------
 
 NOT_SOLVED: Changes = {f"{name} buffer": 64 for name in ("fwd", "aft")}
-NOT_SOLVED |= {f"{name} link {n} latency_us": 1 for name in ("fwd", "aft") for n in (1, 2)}
-NOT_SOLVED |= {"aft link 1 jitter_us": 0, "fwd link 2 jitter_us": 0}
+NOT_SOLVED |= {f"{name} link {n} latency": 1 for name in ("fwd", "aft") for n in (1, 2)}
+NOT_SOLVED |= {"aft link 1 jitter": 0, "fwd link 2 jitter": 0}
 SLOW: Changes = {"fwd neighbour 1 rate": 10, "aft neighbour 1 rate": 10}
-NO_JITTERS: Changes = {"mid link 1 jitter_us": 0, "aft link 1 jitter_us": 0}
+NO_JITTERS: Changes = {"mid link 1 jitter": 0, "aft link 1 jitter": 0}
 
 
 TOLD = """\

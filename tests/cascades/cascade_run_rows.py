@@ -152,7 +152,7 @@ ODDLY_NAMED = OVER_TWO.replace(" fwd ", " 1 ").replace(" aft ", " A ")
 
 REPLAYS = [
     row("over two switches", TWO_TEXT, FIRST, OVER_TWO),
-    row("with a jitter of more than a BAG", two_with({"aft link 1 jitter_us": 101_000}), FIRST,
+    row("with a jitter of more than a BAG", two_with({"aft link 1 jitter": 101_000}), FIRST,
         OVER_TWO, options=FREE),
     row("over three switches", THREE_TEXT, FIRST, OVER_THREE),
     row("once over two switches, then by one side", TWO_TEXT,
@@ -166,13 +166,13 @@ REPLAYS = [
     row("a list has another switch", TWO_TEXT, "F 0 A mid 1 H1", "", "list BadLine 1", 3),
     row("a list of one switch", TWO_TEXT, "F 0 A 1 H1", "", "list BadLine 1", 3),
     row("what s2 sends", TWO_TEXT, SENT_LINES, SENT_TOLD),
-    row("not admitted", two_with({"aft link 1 jitter_us": 516}), FIRST, "", "admit B3 aft 1 517",
+    row("not admitted", two_with({"aft link 1 jitter": 516}), FIRST, "", "admit B3 aft 1 517",
         1),
     row("a cable to a switch without the link", two_with(NO_LINK_1_AFT), FIRST,
         "V 1 A fwd accept / D 1 6720 A fwd 24 / V 1 A aft drop unknown-link", options=FREE),
     row("a copy is lost", two_with({"aft buffer": 64}), f"{FIRST} / F 6720 A aft 2 H2", LOST,
         options=FREE),
-    row("a copy is too old", two_with({"aft profile": 2, "aft link 2 latency_us": 6}),
+    row("a copy is too old", two_with({"aft profile": 2, "aft link 2 latency": 6}),
         f"{FIRST} / F 7439 A aft 2 H2 / F 13440 B fwd 1 H1", TOO_OLD, options=FREE),
     row("the latest time", TWO_TEXT, "F 1000000000000000 A fwd 1 H1", LATEST),
     row("one switch", cascade_text(of_one(base_tables(), "only")),
@@ -181,7 +181,7 @@ REPLAYS = [
     row("the same, with a field too many", ODD_NAMES, "F 0 A 1 1 H1 / F 0 A A 1 1 H1",
         "V 1 A 1 accept", "list BadLine 2", 3),
     row("names in other letters", TWO_TEXT, "F 0 A Fwd 1 H1", "", "list BadLine 1", 3),
-    row("too early behind a cable", two_with({"aft link 1 jitter_us": 0}),
+    row("too early behind a cable", two_with({"aft link 1 jitter": 0}),
         "F 500000 A fwd 1 H1 / F 1000000 A fwd 1 H1(01)", EARLY, "early 2 A aft 500000",
         options=(*FREE, "--explain-drops")),
 ]

@@ -12,25 +12,19 @@ LATEST = 10**15  # ns of a list
 
 def link_with(**values: object) -> dict:
     """A link of frames of 64 bytes, which may take any time."""
-    return made.base_tables()["link"][0] | {"skew_us": 100_000} | values
+    return made.with_values(made.base_tables()["link"][0], skew=100_000, **values)
 
 
 def switch_with(name: str, systems: list[dict], cables: list[dict], links: list[dict]) -> dict:
     """A switch with a communication port of its systems for each link."""
     own = [system["name"] for system in systems]
-    ports = [
-        {"system": one, "link": link["vl"], "udp": 1000, "kind": "sampling", "depth": 1}
-        for link in links
-        for one in own
-        if one in link["to"]
-    ]
-    return {"name": name, "profile": 1, "buffer": 4096, "system": systems, "neighbour": cables,
-            "link": links, "port": ports}
+    ports = [made.port_of(one, link["vl"]) for link in links for one in own if one in link["to"]]
+    return made.switch_of(name, systems, cables, links, ports)
 
 
 def cable(switch: int, port: int, rate: int = 100) -> dict:
     """A cable to the switch of this number."""
-    return {"name": f"w{switch}", "port": port, "rate": rate}
+    return made.cable_of(f"w{switch}", port, rate)
 
 
 def in_a_row(count: int, **values: object) -> dict:
@@ -40,7 +34,7 @@ def in_a_row(count: int, **values: object) -> dict:
         cables = [cable(n, 20 + n - k) for n in (k - 1, k + 1) if 0 <= n < count]
         systems = [made.system_of(k // (count - 1) + 1)] if k in (0, count - 1) else []
         to = [f"w{k + 1}" if k < count - 1 else "s2"]
-        row = link_with(**{"from": f"w{k - 1}" if k else "s1", "to": to}, **values)
+        row = link_with(sender=f"w{k - 1}" if k else "s1", to=to, **values)
         switches.append(switch_with(f"w{k}", systems, cables, [row]))
     return solved({"switch": switches})
 
@@ -49,15 +43,13 @@ def around_one(count: int) -> dict:
     """So many switches around one, each with a system whose link goes to all others."""
     names = range(1, count + 1)
     rows = [
-        link_with(vl=n, bag_ms=32, **{"from": f"w{n}", "to": [f"w{m}" for m in names if m != n]})
+        link_with(vl=n, bag=32, sender=f"w{n}", to=[f"w{m}" for m in names if m != n])
         for n in names
     ]
     switches = [switch_with("w0", [], [cable(n, n) for n in names], rows)]
     for n in names:
-        rows = [link_with(vl=n, bag_ms=32, **{"from": f"s{n}", "to": ["w0"]})]
-        rows += [
-            link_with(vl=m, bag_ms=32, **{"from": "w0", "to": [f"s{n}"]}) for m in names if m != n
-        ]
+        rows = [link_with(vl=n, bag=32, sender=f"s{n}", to=["w0"])]
+        rows += [link_with(vl=m, bag=32, sender="w0", to=[f"s{n}"]) for m in names if m != n]
         switches.append(switch_with(f"w{n}", [made.system_of(n)], [cable(0, MOST)], rows))
     return solved({"switch": switches})
 
@@ -78,7 +70,7 @@ def in_a_ring(count: int) -> dict:
             elif far:
                 row = {"from": f"w{after}", "to": [f"s{k + 1}"]}
                 row["to"] += [f"w{before}"] if far > count // 2 + 1 else []
-            rows.append(link_with(vl=n, bag_ms=128, **row))
+            rows.append(link_with(vl=n, bag=128, **row))
         cables = [cable(before, MOST - 1, 1000), cable(after, MOST, 1000)]
         system = made.system_of(k + 1) | {"port": 1}
         switches.append(switch_with(f"w{k}", [system], cables, rows) | {"profile": 2})
@@ -98,7 +90,7 @@ def in_a_mesh(count: int, is_flooded: bool) -> dict:
             to = [f"w{m}" for m in others if n == k or (is_flooded and m != n)]
             to += [] if n == k else [f"s{k + 1}"]
             row = {"from": f"s{k + 1}" if n == k else f"w{n}", "to": to}
-            rows.append(link_with(vl=n, bag_ms=128, **row))
+            rows.append(link_with(vl=n, bag=128, **row))
         cables = [cable(n, n + 1, 1000) for n in others]
         system = made.system_of(k + 1)  # at the port that stays
         switches.append(switch_with(f"w{k}", [system], cables, rows) | {"profile": 2})
@@ -120,7 +112,7 @@ def overloaded(count: int, links: int) -> dict:
         for n in range(k + 1):
             row: dict = {"from": f"s{k + 1}" if n == k else f"w{k - 1}"}
             row |= {"to": [f"w{k + 1}" if k + 1 < count else f"s{count + 1}"]}
-            row |= {"lmax": LONG, "jitter_us": 1_000 if n == k else 101_000}
+            row |= {"lmax": LONG, "jitter": 1_000 if n == k else 101_000}
             rows += [link_with(vl=n * links + each, **row) for each in range(links)]
         cables = [cable(n, 20 + n - k, 10) for n in (k - 1, k + 1) if 0 <= n < count]
         systems = [made.system_of(k + 1) | {"port": 1}]

@@ -5,11 +5,13 @@ import copy
 import random
 from collections.abc import Callable
 
+import tables as made
 from cascade import cascade_text, is_tables, own_names
 from cascade_least import solved_cascade
 from first_fault import BAGS, ROWS
+from least import SOLVED
 
-KEYS_OF_LINK = ("jitter_us", "latency_us", "skew_us")  # of which one less makes a line false
+KEYS_OF_LINK = [key for key in SOLVED.values() if key != "buffer"]  # one less: a line is false
 RATES = {1: (10, 100, 100, 100), 2: (10, 100, 100, 1000, 1000)}
 
 # the cables of so many switches, each by its two ends
@@ -39,17 +41,12 @@ def switch_of(chance: random.Random, name: str, systems: int, first: int) -> dic
     profile = chance.choice([1, 2])
     ports = chance.sample(range(1, 20), systems)
     rows = [
-        {
-            "name": f"s{first + place}",
-            "port": port,
-            "id": 257 * (first + place),
-            "partition": place,
-            "rate": chance.choice(RATES[profile]),
-        }
+        made.system_of(port, chance.choice(RATES[profile]), f"s{number}", 257 * number, place)
         for place, port in enumerate(ports)
+        for number in [first + place]
     ]
-    tables = {"profile": profile, "buffer": chance.choice([64, 300, 3000, 65536])}
-    return {"name": name, **tables, "system": rows, "neighbour": [], "link": [], "port": []}
+    buffer = chance.choice([64, 300, 3000, 65536])
+    return made.switch_of(name, rows, [], [], [], profile, buffer)
 
 
 def switches_of(chance: random.Random, count: int, join: Join = joined) -> list[dict]:
@@ -67,7 +64,7 @@ def switches_of(chance: random.Random, count: int, join: Join = joined) -> list[
         rate = chance.choice(RATES[profile])
         for here, there in ((one, other), (other, one)):
             ends = of_name[here]["neighbour"]
-            ends.append({"name": there, "port": 20 + len(ends), "rate": rate})
+            ends.append(made.cable_of(there, 20 + len(ends), rate))
     for switch in switches:
         chance.shuffle(switch["neighbour"])
     return switches
@@ -102,24 +99,23 @@ def add_link(chance: random.Random, switches: list[dict], vl: int, is_light: boo
                 to[home].append(behind)
     bag = chance.choice(BAGS[4:] if is_light else BAGS)
     lmin = chance.choice([64, 64, 70, 100])
-    contract = {"bag_ms": bag, "lmin": lmin, "policing": chance.choice(["byte", "frame"])}
+    contract = {"bag": bag, "lmin": lmin, "policing": chance.choice(["byte", "frame"])}
     contract["lmax"] = chance.randint(lmin, 200 if is_light else 1518)
     for switch in switches:
         name = switch["name"]
         if name in to:
             chance.shuffle(to[name])
             late = 0 if name == start else 100_000
-            switch["link"].append({
-                "vl": vl,
-                "from": before.get(name, sender),
-                "to": to[name],
-                **contract,
-                "jitter_us": chance.choice([0, 500, 1000 * bag, 1000 * bag + late]),
-                "priority": chance.choice(["high", "low"]),
-                "latency_us": chance.choice([1, 20, 200, 2000, 100_000]),
-                "skew_us": chance.choice([1, 200, 2000, 100_000]),
-                "subs": chance.randint(1, 4),
-            })
+            row: dict = {"vl": vl, "sender": before.get(name, sender), "to": to[name], **contract}
+            link = made.link_of(
+                **row,
+                jitter=chance.choice([0, 500, 1000 * bag, 1000 * bag + late]),
+                priority=chance.choice(["high", "low"]),
+                latency=chance.choice([1, 20, 200, 2000, 100_000]),
+                skew=chance.choice([1, 200, 2000, 100_000]),
+                subs=chance.randint(1, 4),
+            )
+            switch["link"].append(made.row_of(**row) | link)  # so are keys numbered, to be changed
 
 
 def add_ports(chance: random.Random, switch: dict) -> None:
@@ -129,8 +125,7 @@ def add_ports(chance: random.Random, switch: dict) -> None:
             if chance.random() < 0.8:
                 kind = chance.choice(["sampling", "queuing"])
                 depth = 1 if kind == "sampling" else chance.randint(1, 64)
-                row = {"system": name, "link": link["vl"], "udp": 1000, "kind": kind}
-                switch["port"].append(row | {"depth": depth})
+                switch["port"].append(made.port_of(name, link["vl"], kind=kind, depth=depth))
 
 
 def made_cascade(chance: random.Random, count: int, links: int, is_light: bool) -> dict:

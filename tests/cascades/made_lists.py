@@ -9,6 +9,7 @@ from cascade import own_names
 from first_fault import LATEST
 from frames import OVERHEAD
 from made import changed_list, random_frame, sealed
+from one_switch import skew_ns
 
 MS = 1_000_000
 STEPS = [*8 * [1], 0, 2, 3, 127, 128]  # from one sequence number to the next
@@ -92,7 +93,7 @@ class Lister:
 
     def late(self, link: dict) -> int:
         """How much later a copy comes; it may be just the skew of a row."""
-        skews = [1000 * row["skew_us"] for row in self.rows[link["vl"]]]
+        skews = [skew_ns(row) for row in self.rows[link["vl"]]]
         return self.chance.choice([*2 * COPY_LATE, *skews])
 
     def copies(self, link: dict) -> list[Line]:

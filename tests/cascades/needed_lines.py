@@ -17,6 +17,7 @@ from end_claims import Told, accepted_everywhere, exactly_once
 from frames import FIRST as S1
 from frames import frame_of
 from one_switch import datagram
+from tables import cable_of, port_of, with_values
 
 S2, S4 = S1 | {"port": 2, "id": 2}, S1 | {"port": 4, "id": 4}
 LONG = bytes(1471)
@@ -72,45 +73,44 @@ def needed(
 
 # the two switches, and a system s4 at fwd, which sends long frames to s2 on link 3; those of link 2
 # may be long too
-_LINK_3 = TWO["switch"][0]["link"][0] | {"vl": 3, "priority": "low", "lmax": 1518, "subs": 1}
-_LOW: Changes = {"latency_us": 300, "skew_us": 1000}
+_LOW: Changes = {"latency": 300, "skew": 1000}
+_LINK_3 = with_values(
+    TWO["switch"][0]["link"][0], vl=3, priority="low", lmax=1518, subs=1, **_LOW
+)  # fmt: skip
 BUSY = changed(loaded(TWO_TEXT), {
     "fwd buffer": 5000,
     "aft buffer": 5000,
     "fwd system": [S1 | {"name": "s1"}, S4 | {"name": "s4"}],
-    "fwd link 1 latency_us": 150,
-    "aft link 1 jitter_us": 650,
-    "aft link 1 latency_us": 150,
+    "fwd link 1 latency": 150,
+    "aft link 1 jitter": 650,
+    "aft link 1 latency": 150,
     **{f"{name} link 2 {key}": value for name in ("fwd", "aft") for key, value in _LOW.items()},
     "fwd link 2 lmax": 1518,
-    "fwd link 2 jitter_us": 800,
+    "fwd link 2 jitter": 800,
     "aft link 2 lmax": 1518,
 })
-for _place, _row in ((0, {"from": "s4"}), (1, {"from": "fwd", "to": ["s2"], "jitter_us": 800})):
-    BUSY["switch"][_place]["link"].append(_LINK_3 | _LOW | _row)
+BUSY["switch"][0]["link"].append(with_values(_LINK_3, sender="s4"))
+BUSY["switch"][1]["link"].append(with_values(_LINK_3, sender="fwd", to=["s2"], jitter=800))
 
 # three switches, each joined to each, over which link 1 goes one way round
 ROUND = changed(loaded(THREE_TEXT), {
-    "fwd neighbour": [{"name": "mid", "port": 24, "rate": 100},
-                      {"name": "aft", "port": 23, "rate": 100}],
-    "aft neighbour": [{"name": "mid", "port": 20, "rate": 100},
-                      {"name": "fwd", "port": 21, "rate": 100}],
+    "fwd neighbour": [cable_of("mid", 24), cable_of("aft", 23)],
+    "aft neighbour": [cable_of("mid", 20), cable_of("fwd", 21)],
 })
 PLAIN = loaded(TWO_TEXT)
 
 # link 1 has lengths of up to 70 bytes, or of up to 148
 WIDE: Changes = {
-    "aft buffer": 400, "fwd link 1 lmax": 70, "aft link 1 lmax": 70, "aft link 2 latency_us": 31,
-    "fwd link 2 jitter_us": 531,
+    "aft buffer": 400, "fwd link 1 lmax": 70, "aft link 1 lmax": 70, "aft link 2 latency": 31,
+    "fwd link 2 jitter": 531,
 }
 BY_BYTES: Changes = WIDE | {"fwd link 1 policing": "byte", "aft link 1 policing": "byte"}
 WIDER: Changes = BY_BYTES | {
-    "fwd link 1 lmax": 148, "aft link 1 lmax": 148, "fwd link 1 latency_us": 21,
-    "aft link 1 jitter_us": 521, "aft link 1 latency_us": 28,
+    "fwd link 1 lmax": 148, "aft link 1 lmax": 148, "fwd link 1 latency": 21,
+    "aft link 1 jitter": 521, "aft link 1 latency": 28,
 }
-OF_S4 = {"system": "s4", "link": 1, "udp": 1000, "kind": "sampling", "depth": 1}
 TO_S4: Changes = {
-    "fwd link 1 to": ["s4"], "fwd port": [*PLAIN["switch"][0]["port"], OF_S4],
+    "fwd link 1 to": ["s4"], "fwd port": [*PLAIN["switch"][0]["port"], port_of("s4", 1)],
 }
 
 # ---- rows ----------------------------------------------------------------------------------------
@@ -168,7 +168,7 @@ def dropped(length: int, word: str) -> str:
 NEEDED = [
     needed("no row before it", BUSY, (TO_S4, {"fwd link 1 to": ["s4", "aft"]}, "B1 aft 1"),
            f"{FIRST} / F 0 B fwd 1 H1", NOT_TO_S3, read_once),
-    needed("a longer BAG behind", PLAIN, (at_aft("bag_ms", 2), at_aft("bag_ms", 1), "B2 aft 1"),
+    needed("a longer BAG behind", PLAIN, (at_aft("bag", 2), at_aft("bag", 1), "B2 aft 1"),
            ONE_BAG_LATER, SECOND_DROPPED),
     needed("a smaller greatest length behind", PLAIN,
            (WIDE | at_aft("lmax", 64), at_aft("lmax", 70), "B2 aft 1"),
@@ -180,13 +180,13 @@ NEEDED = [
            (WIDER | at_aft("policing", "frame"), at_aft("policing", "byte"), "B2 aft 1"),
            TWO_AT_ONCE, AT_ONCE_DROPPED),
     needed("no jitter behind", PLAIN,
-           (at_aft("jitter_us", 0), at_aft("jitter_us", 517), "B3 aft 1 517"),
+           (at_aft("jitter", 0), at_aft("jitter", 517), "B3 aft 1 517"),
            "F 500000 A fwd 1 H1 / F 1000000 A fwd 1 H1(01)", EARLY_DROPPED),
     needed("less jitter behind than a long frame takes", BUSY,
-           (at_aft("jitter_us", 623), at_aft("jitter_us", 650), "B3 aft 1 650"),
+           (at_aft("jitter", 623), at_aft("jitter", 650), "B3 aft 1 650"),
            BEHIND_LONG, BEHIND_LONG_DROPPED),
     needed("the skew of the last switch alone", BUSY,
-           (at_aft("skew_us", 150), at_aft("skew_us", 300), "B4 aft 1 300"),
+           (at_aft("skew", 150), at_aft("skew", 300), "B4 aft 1 300"),
            LATE_ON_B, READ_TWICE, read_once),
     needed("no row behind", PLAIN, (NO_LINK_1_AFT, {}, "B5 fwd 1 aft"),
            FIRST, dropped(64, "unknown-link"))._replace(mended=PLAIN),

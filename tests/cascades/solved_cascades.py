@@ -18,9 +18,9 @@ import tables as made
 
 # the lines that a key's value less by one makes false, and where in them the link stands
 LINES_OF = {
-    "jitter_us": {"A6": 3, "B3": 3},
-    "latency_us": {"A3": 4, "A4": 4},
-    "skew_us": {"A7": 3, "B4": 3},
+    SOLVED["jitter"]: {"A6": 3, "B3": 3},
+    SOLVED["latency"]: {"A3": 4, "A4": 4},
+    SOLVED["skew"]: {"A7": 3, "B4": 3},
 }
 PICKED = 12  # rows whose values are made less one at a time
 KEEPS = [keep for count in range(5) for keep in itertools.combinations(SOLVED, count)]
@@ -143,7 +143,7 @@ def check_each_less(
     least = RANGES["link", key][0]
     places = [(sw["name"], link["vl"]) for sw, link in links_of(cascade) if link[key] > least]
     groups = [{place} for place in chance.sample(places, min(PICKED, len(places)))]
-    if places and key != "jitter_us":  # jitters less by one need less behind their cables
+    if places and key != SOLVED["jitter"]:  # jitters less by one need less behind their cables
         groups.append(set(places))
     for group in groups:
         named = rows_named(false_of(program, with_less(cascade, key, group)), key)
@@ -174,13 +174,15 @@ def busy_ring(count: int, links: int, bag_ms: int) -> dict:
         rows = []
         for n in range(count):
             far = (k - n) % count  # how far the links of w`n` have come
+            sender = f"w{(k - 1) % count}" if far else f"s{k + 1}"
             to = [f"w{(k + 1) % count}"] if far + 1 < count else [f"s{k + 1}"]
-            row: dict = {"from": f"w{(k - 1) % count}" if far else f"s{k + 1}", "to": to}
-            row |= {"bag_ms": bag_ms, "lmin": 64, "policing": "byte", "subs": 1}
-            for each in range(links):
-                kind = {"priority": ["high", "low"][each % 2], "lmax": 64 + 37 * each}
-                values = {"jitter_us": 0, "latency_us": 1, "skew_us": 1}
-                rows.append({"vl": n * links + each} | row | kind | values)
+            rows += [
+                made.link_of(
+                    n * links + each, sender, to, bag=bag_ms, lmax=64 + 37 * each, jitter=0,
+                    priority=["high", "low"][each % 2], latency=1, skew=1,
+                )
+                for each in range(links)
+            ]  # fmt: skip
         cables = [cable((k - 1) % count, 23), cable((k + 1) % count, 24)]
         system = made.system_of(k + 1) | {"port": 1}
         switches.append(switch_with(f"w{k}", [system], cables, rows) | {"buffer": 64})
@@ -189,7 +191,7 @@ def busy_ring(count: int, links: int, bag_ms: int) -> dict:
 
 # ---- no values are enough ------------------------------------------------------------------------
 
-LONG_WAY: Changes = {"fwd link 1 latency_us": 60_000, "aft link 1 latency_us": 60_000}
+LONG_WAY: Changes = {"fwd link 1 latency": 60_000, "aft link 1 latency": 60_000}
 SLOW_END: Changes = {"fwd link 1 lmax": 1518, "aft link 1 lmax": 1518}
 SLOW_END |= {"aft system 2 rate": 10}
 
@@ -213,14 +215,14 @@ def in_vain() -> list[Vain]:
         ("a link that isn't read", NO_LINK_1_AFT, "no B5 fwd 1 aft", (), False),
         ("an overloaded port", SLOW_END, "no A1 aft 3", (), False),
         ("a way that is too long", LONG_WAY, "no B4 aft 1 120000", (), True),
-        ("a kept jitter of a system's link", {"fwd link 1 jitter_us": 46}, "no A6 fwd 1 46720",
+        ("a kept jitter of a system's link", {"fwd link 1 jitter": 46}, "no A6 fwd 1 46720",
          ("jitter",), False),
-        ("a kept jitter behind a cable", {"aft link 1 jitter_us": 507}, "no B3 aft 1 511",
+        ("a kept jitter behind a cable", {"aft link 1 jitter": 507}, "no B3 aft 1 511",
          ("jitter",), False),
-        ("a kept latency", {"aft link 1 latency_us": 13}, "no A3 aft 3 1 13871", ("latency",),
+        ("a kept latency", {"aft link 1 latency": 13}, "no A3 aft 3 1 13871", ("latency",),
          False),
-        ("a kept skew", {"fwd link 1 skew_us": 7}, "no A7 fwd 1", ("skew",), False),
-        ("a kept skew of a way", {"aft link 1 skew_us": 21}, "no B4 aft 1 22", ("skew",), False),
+        ("a kept skew", {"fwd link 1 skew": 7}, "no A7 fwd 1", ("skew",), False),
+        ("a kept skew of a way", {"aft link 1 skew": 21}, "no B4 aft 1 22", ("skew",), False),
         ("a kept buffer", {"aft buffer": 176}, "no A2 aft 3 177", ("buffer",), False),
     ]
     found = [Vain(name, changed(TWO, changes), line, keep, raised)
@@ -240,13 +242,13 @@ def faulty() -> list[tuple[str, Changes, tuple[str, ...]]]:
     beyond = 1000 + LATE_US + 1
     return [
         ("a kept buffer that is absent", {"aft buffer": None}, ("buffer",)),
-        ("a kept jitter that is absent", {"aft link 1 jitter_us": None}, ("jitter", "skew")),
-        ("a kept jitter over a BAG", {"aft link 2 jitter_us": 1001}, ("jitter",)),
-        ("a kept jitter behind a cable", {"aft link 1 jitter_us": beyond}, ("jitter",)),
-        ("a kept latency", {"fwd link 2 latency_us": 0}, ("latency",)),
-        ("a kept skew", {"fwd link 2 skew_us": 100_001}, ("skew",)),
+        ("a kept jitter that is absent", {"aft link 1 jitter": None}, ("jitter", "skew")),
+        ("a kept jitter over a BAG", {"aft link 2 jitter": 1001}, ("jitter",)),
+        ("a kept jitter behind a cable", {"aft link 1 jitter": beyond}, ("jitter",)),
+        ("a kept latency", {"fwd link 2 latency": 0}, ("latency",)),
+        ("a kept skew", {"fwd link 2 skew": 100_001}, ("skew",)),
         ("a buffer below 0", {"fwd buffer": -1}, ()),
-        ("a latency that is a text", {"aft link 2 latency_us": "1"}, ()),
+        ("a latency that is a text", {"aft link 2 latency": "1"}, ()),
         ("no name", {"aft name": None}, ()),
         ("another rate", {"aft neighbour 1 rate": 10}, ()),
         ("a system of another switch", {"aft link 1 from": "s1"}, ()),

@@ -95,8 +95,8 @@ LISTED = "F 0 A fwd 1 H1 / F 1000000 A aft 2 H2"
 STARTS = Options(origin=FIRST_NS, stamps="start")
 # s1 has a slow line, and s2 the same port of the other switch
 SLOW: Changes = {"fwd system 1 rate": 10, "aft system 1 port": 1}
-NO_JITTER: Changes = {"aft link 1 jitter_us": 0}
-SHORT_JITTER: Changes = {"aft link 1 jitter_us": 516}
+NO_JITTER: Changes = {"aft link 1 jitter": 0}
+SHORT_JITTER: Changes = {"aft link 1 jitter": 516}
 
 
 def row(

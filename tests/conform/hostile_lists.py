@@ -251,9 +251,9 @@ def held_room(program: Program, receivers: int, count: int) -> int:
     """The least address space, in KiB, in which so many of the longest frames of a link are held
     until the end, for so many receivers."""
     systems = [made.system_of(port, 1000) for port in range(1, 2 + receivers)]
-    link = made.largest_tables()["link"][0] | {"lmax": 1518, "latency_us": 100_000}
-    link |= {"to": [system["name"] for system in systems[1:]], "skew_us": 100_000}
-    tables = {"profile": 2, "buffer": 524288, "system": systems, "link": [link], "port": []}
+    to = [system["name"] for system in systems[1:]]
+    link = made.link_of(0, "s1", to, lmax=1518, subs=4)
+    tables = made.tables_of(systems, [link], profile=2, buffer=524288)
     frame = frame_of(systems[0], link["vl"], 1000, b"x" * 1471, 0, "A").hex()
     came = "".join(f"R {place} A 1 {frame}\n" for place in range(count))
     files = [program.write(name, text) for name, text in (

@@ -7,6 +7,7 @@ from typing import Callable, NamedTuple
 
 from frames import frame_of
 from one_switch import MS, Policing
+from tables import link_of, system_of, tables_of
 
 SECOND = 1000 * MS
 CHECK_SEQUENCE = 4  # bytes, which no network card gives or takes
@@ -15,20 +16,12 @@ LATENCY = 100 * MS
 PORT = 3  # of link 1's receiver
 PERIOD = 50 * MS
 EACH = 5  # one frame in so many is amiss
-SYSTEMS: list[dict] = [
-    {"name": f"s{port}", "port": port, "id": port, "partition": 1, "rate": 100}
-    for port in (1, 2, 3)
+SYSTEMS = [system_of(port) for port in (1, 2, 3)]
+LINKS = [
+    link_of(vl, f"s{vl}", to, bag=32, jitter=2000, policing="frame", latency=LATENCY // 1000)
+    for vl, to in ((1, ["s3"]), (2, ["s1", "s3"]), (3, ["s1"]))
 ]
-ROW = {
-    "bag_ms": 32, "lmin": 64, "lmax": 64, "jitter_us": 2000, "priority": "high",
-    "policing": "frame", "latency_us": LATENCY // 1000, "skew_us": LATENCY // 1000, "subs": 1,
-}  # fmt: skip
-LINKS: list[dict] = [
-    {"vl": 1, "from": "s1", "to": ["s3"], **ROW},
-    {"vl": 2, "from": "s2", "to": ["s1", "s3"], **ROW},
-    {"vl": 3, "from": "s3", "to": ["s1"], **ROW},
-]
-TABLES = {"profile": 1, "buffer": 100_000, "system": SYSTEMS, "link": LINKS, "port": []}
+TABLES = tables_of(SYSTEMS, LINKS, buffer=100_000)
 
 
 class Sent(NamedTuple):

@@ -7,7 +7,7 @@ TOP = os.path.dirname(os.path.dirname(os.path.dirname(os.path.abspath(__file__))
 EXAMPLES = os.path.join(TOP, "examples")
 sys.path[:0] = [EXAMPLES, os.path.join(TOP, "tests", "lib")]
 from frame_builder import frame_of, sealed  # noqa: E402
-from tables import text_of  # noqa: E402
+from tables import link_of, port_of, system_of, tables_of, text_of  # noqa: E402
 
 BAGS = [1, 2, 4, 8, 16, 32, 64, 128]
 WORDS = [b"F", b"B", b"R", b"A", b"B", b"#", b"-", b"", b"0", b"1", b"24", b"25", b"07", b"+5"]
@@ -38,13 +38,7 @@ def random_systems(random, profile):
     count = random.randint(2, 6)
     ports = random.sample(range(1, 25), count)
     return [
-        {
-            "name": f"s{place}",
-            "port": ports[place],
-            "id": place * 257,
-            "partition": place,
-            "rate": random.choice(rates),
-        }
+        system_of(ports[place], random.choice(rates), f"s{place}", place * 257, place)
         for place in range(count)
     ]
 
@@ -57,20 +51,20 @@ def random_link(random, vl, names, ample):
     lmax = max(lmin, random.choice([64, 80, 100, 300] if ample else [64, 80, 100, 300, 1518]))
     bag = random.choice(BAGS[4:] if ample else BAGS)
     latency = random.choice([20000, 100000] if ample else [1, 6, 20, 100, 1000, 100000])
-    return {
-        "vl": vl,
-        "from": sender,
-        "to": random.sample(others, random.randint(1, len(others))),
-        "bag_ms": bag,
-        "lmin": lmin,
-        "lmax": lmax,
-        "jitter_us": min(1000 * bag, 4000) if ample else random.choice([0, 500, 1000 * bag]),
-        "priority": random.choice(["high", "low"]),
-        "policing": random.choice(["byte", "frame"]),
-        "latency_us": latency,
-        "skew_us": 100000 if ample else random.choice([1, 1000, 100000]),
-        "subs": random.randint(1, 4),
-    }
+    return link_of(
+        vl,
+        sender,
+        random.sample(others, random.randint(1, len(others))),
+        bag=bag,
+        lmin=lmin,
+        lmax=lmax,
+        jitter=min(1000 * bag, 4000) if ample else random.choice([0, 500, 1000 * bag]),
+        priority=random.choice(["high", "low"]),
+        policing=random.choice(["byte", "frame"]),
+        latency=latency,
+        skew=100000 if ample else random.choice([1, 1000, 100000]),
+        subs=random.randint(1, 4),
+    )
 
 
 def random_ports(random, links):
@@ -80,8 +74,8 @@ def random_ports(random, links):
         for name in link["to"]:
             if random.random() < 0.8:
                 kind = random.choice(["sampling", "queuing"])
-                row = {"system": name, "link": link["vl"], "udp": 1000, "kind": kind}
-                ports.append(row | {"depth": 1 if kind == "sampling" else random.randint(1, 64)})
+                depth = 1 if kind == "sampling" else random.randint(1, 64)
+                ports.append(port_of(name, link["vl"], kind=kind, depth=depth))
     return ports
 
 
@@ -96,7 +90,7 @@ def random_tables(random):
     links = [random_link(random, vl, names, ample) for vl in numbers]
     ports = random_ports(random, links)
     buffer = 65536 if ample else random.choice([64, 200, 700, 3000])
-    return {"profile": profile, "buffer": buffer, "system": systems, "link": links, "port": ports}
+    return tables_of(systems, links, ports, profile, buffer)
 
 
 def changed_config(random, text):

@@ -4,7 +4,7 @@ from __future__ import annotations
 import tomllib
 
 from first_fault import ROWS
-from tables import value_text
+from tables import key_lines
 
 TOP_ORDER = ("name", "profile", "buffer")  # of the keys of a switch
 
@@ -19,22 +19,21 @@ def is_tables(value: object) -> bool:
     return isinstance(value, list) and bool(value) and all(isinstance(row, dict) for row in value)
 
 
-def key_lines(row: dict, order: tuple[str, ...] = ()) -> list[str]:
+def plain_lines(row: dict, order: tuple[str, ...] = ()) -> list[str]:
     """The lines of its keys, those named first, that aren't tables of their own."""
     keys = [*(key for key in order if key in row), *(key for key in row if key not in order)]
-    plain = [key for key in keys if not is_tables(row[key])]
-    return [f"{key} = {value_text(row[key])}" for key in plain]
+    return key_lines({key: row[key] for key in keys if not is_tables(row[key])})
 
 
 def cascade_text(cascade: dict) -> bytes:
     """A configuration that spells the tables, an empty line before each but the first. A part of a
     switch that is no array of tables, as in a file with faults, stands among its keys."""
-    blocks = [key_lines(cascade)]
+    blocks = [plain_lines(cascade)]
     for switch in cascade["switch"] if is_tables(cascade.get("switch")) else ():
-        blocks.append(["[[switch]]", *key_lines(switch, TOP_ORDER)])
+        blocks.append(["[[switch]]", *plain_lines(switch, TOP_ORDER)])
         for part in ROWS:
             for row in switch[part] if is_tables(switch.get(part)) else ():
-                blocks.append([f"[[switch.{part}]]", *key_lines(row)])
+                blocks.append([f"[[switch.{part}]]", *plain_lines(row)])
     return "\n\n".join("\n".join(lines) for lines in blocks if lines).encode("ascii") + b"\n"
 
 

@@ -53,12 +53,12 @@ def with_way_jitters(switches: list[dict], choice: Choice) -> list[dict]:
             else:
                 before = ways.rows[row["from"], vl]
                 enough, late = jitter(row["from"], vl) + before["latency_us"], LATE_US
-            found[name, vl] = choice.written(row, "link", "jitter_us", enough, late)
+            found[name, vl] = choice.written(row, "link", SOLVED["jitter"], enough, late)
         return found[name, vl]
 
     for name, vl in ways.rows:
         jitter(name, vl)
-    return [with_link_keys(switch, "jitter_us", found) for switch in switches]
+    return [with_link_keys(switch, SOLVED["jitter"], found) for switch in switches]
 
 
 def with_way_skews(switches: list[dict], choice: Choice) -> list[dict]:
@@ -68,8 +68,8 @@ def with_way_skews(switches: list[dict], choice: Choice) -> list[dict]:
     for (name, vl), row in ways.rows.items():
         way = ways.way_to(name, vl) if ways.own[name].intersection(row["to"]) else None
         enough = max(row["latency_us"], latency_sum(way or []))
-        found[name, vl] = choice.written(row, "link", "skew_us", enough)
-    return [with_link_keys(switch, "skew_us", found) for switch in switches]
+        found[name, vl] = choice.written(row, "link", SOLVED["skew"], enough)
+    return [with_link_keys(switch, SOLVED["skew"], found) for switch in switches]
 
 
 def solved_cascade(

@@ -4,6 +4,14 @@
 passed=0
 failed=0
 skipped=0
+# the keys that `solve` finds, as sed -E and grep -E take them
+# shellcheck disable=SC2034  # who sources this uses it
+solved_keys='buffer|jitter_us|latency_us|skew_us'
+
+# A script of sed that gives all links another skew, or those in the lines that ADDRESS names.
+skew_is() { # US [ADDRESS]
+    printf '%ss/^skew_us = .*/skew_us = %s/' "${2-}" "$1"
+}
 
 # A case, its fault if it has one, and what is reported of it where it passes.
 tell() { # NAME FAULT [NOTE]

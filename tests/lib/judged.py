@@ -5,10 +5,13 @@ import random
 
 import tables as made
 from first_fault import RANGES
+from least import SOLVED
 from program import Answer, Program, must
 
 # the lines that a key's values less by one make false
-LINES_OF = {"jitter_us": ("A6",), "latency_us": ("A3", "A4"), "skew_us": ("A7",)}
+LINES_OF = {
+    SOLVED["jitter"]: ("A6",), SOLVED["latency"]: ("A3", "A4"), SOLVED["skew"]: ("A7",),
+}  # fmt: skip
 PICKED = 4  # links whose values are made less one at a time
 
 
@@ -29,7 +32,7 @@ def links_named(lines: list[list[str]], key: str) -> list[int]:
     """The links that the key's lines name; Wrong where another line is false."""
     others = [line for line in lines if line[1] not in LINES_OF[key]]
     must(not others, f"{key} less by one makes {others[:1]} false")
-    return sorted({int(line[3] if key == "latency_us" else line[2]) for line in lines})
+    return sorted({int(line[3] if key == SOLVED["latency"] else line[2]) for line in lines})
 
 
 def less(link: dict, key: str) -> dict:

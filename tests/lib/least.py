@@ -16,6 +16,11 @@ FIXED_JITTER, GREATEST_JITTER = 40_000, 500_000  # of a system's output, in ns
 SOLVED = {"jitter": "jitter_us", "buffer": "buffer", "latency": "latency_us", "skew": "skew_us"}
 
 
+def key_line(word: str, value: object) -> bytes:
+    """The line of a key that is solved."""
+    return f"{SOLVED[word]} = {value}".encode()
+
+
 def quotient_up(amount: int, divisor: int) -> int:
     """The quotient, rounded up."""
     return -(-amount // divisor)

@@ -5,7 +5,7 @@ import random
 
 from first_fault import BAGS
 from least import SOLVED
-from tables import base_tables, system_of
+from tables import base_tables, link_of, system_of, tables_of, with_values
 
 BEYOND = (0, 1, 100_001, 4_194_305, 2**63 - 1)  # numbers for keys that are solved
 
@@ -16,20 +16,19 @@ def link_between(chance: random.Random, vl: int, names: list[str], is_light: boo
     others = [name for name in names if name != sender]
     bag = chance.choice(BAGS[3:] if is_light else BAGS)
     lmin = chance.choice([64, 64, 70, 100])
-    return {
-        "vl": vl,
-        "from": sender,
-        "to": chance.sample(others, chance.randint(1, min(3, len(others)))),
-        "bag_ms": bag,
-        "lmin": lmin,
-        "lmax": chance.randint(lmin, 200 if is_light else 1518),
-        "jitter_us": chance.choice([0, 40, 100, 250, 500, 1000 * bag]),
-        "priority": chance.choice(["high", "low"]),
-        "policing": chance.choice(["byte", "frame"]),
-        "latency_us": chance.choice([1, 20, 200, 2000, 100_000]),
-        "skew_us": chance.choice([1, 20, 200, 2000, 100_000]),
-        "subs": 1,
-    }
+    return link_of(
+        vl,
+        sender,
+        chance.sample(others, chance.randint(1, min(3, len(others)))),
+        bag=bag,
+        lmin=lmin,
+        lmax=chance.randint(lmin, 200 if is_light else 1518),
+        jitter=chance.choice([0, 40, 100, 250, 500, 1000 * bag]),
+        priority=chance.choice(["high", "low"]),
+        policing=chance.choice(["byte", "frame"]),
+        latency=chance.choice([1, 20, 200, 2000, 100_000]),
+        skew=chance.choice([1, 20, 200, 2000, 100_000]),
+    )
 
 
 def network(chance: random.Random, links: int, is_light: bool) -> dict:
@@ -42,13 +41,9 @@ def network(chance: random.Random, links: int, is_light: bool) -> dict:
     ports = chance.sample(range(1, 25), count)
     systems = [system_of(port, chance.choice(rates)) for port in ports]
     names = [system["name"] for system in systems]
-    return {
-        "profile": profile,
-        "buffer": chance.choice([64, 300, 3000, 65536]),
-        "system": systems,
-        "link": [link_between(chance, vl, names, is_light) for vl in range(links)],
-        "port": [],
-    }
+    buffer = chance.choice([64, 300, 3000, 65536])
+    rows = [link_between(chance, vl, names, is_light) for vl in range(links)]
+    return tables_of(systems, rows, profile=profile, buffer=buffer)
 
 
 def with_any_keys(chance: random.Random, tables: dict) -> dict:
@@ -70,8 +65,8 @@ def one_port(profile: int, senders: int, links: int, lmax: int, rate: int) -> di
     fastest = 1000 if profile == 2 else 100
     systems = [system_of(port, fastest) for port in range(1, senders + 1)]
     tables = base_tables(profile)
-    row = tables["link"][0] | {"to": ["s24"], "bag_ms": 128, "lmax": lmax}
-    rows = [row | {"vl": vl, "from": f"s{vl % senders + 1}"} for vl in range(links)]
+    row = with_values(tables["link"][0], to=["s24"], bag=128, lmax=lmax)
+    rows = [with_values(row, vl=vl, sender=f"s{vl % senders + 1}") for vl in range(links)]
     return tables | {"system": [*systems, system_of(24, rate)], "link": rows, "port": []}
 
 

@@ -220,11 +220,16 @@ def is_ones(words: int) -> bool:
     return words == 0xFFFF
 
 
+def skew_ns(link: dict) -> int:
+    """How much later than the last winner a copy may come."""
+    return 1000 * link["skew_us"]
+
+
 class Receiver:
     """A system that gets frames from both sides."""
 
     def __init__(self, tables: dict, name: str) -> None:
-        self.skew = {link["vl"]: 1000 * link["skew_us"] for link in tables["link"]}
+        self.skew = {link["vl"]: skew_ns(link) for link in tables["link"]}
         rows = [row for row in tables["port"] if row["system"] == name]
         self.open = {(row["link"], row["udp"]) for row in rows}
         self.before: dict[tuple[int, str], int] = {}  # the number before, by link and side

@@ -33,7 +33,7 @@ case_of 'check refused.toml' 1 "$network"$'no A3 7 104 267995\n' '' check exampl
 check_with 'A2' 1 "$base"$'no A2 3 252\n' '' 's/^buffer = 252/buffer = 251/'
 check_with 'A3' 1 "$base"$'no A3 3 1 16800\n' '' 's/^latency_us = 17/latency_us = 16/'
 check_with 'A4' 1 "$base"$'no A4 3 2 20297\n' '' 's/^latency_us = 21/latency_us = 20/'
-check_with 'A7' 1 "$base"$'no A7 1\n' '' '0,/^skew_us = 1000/s//skew_us = 16/'
+check_with 'A7' 1 "$base"$'no A7 1\n' '' "$(skew_is 16 "$link_1")"
 
 ends_with() { # NAME STATUS LINES [OPTION] : `check` on the changed base.toml, which ends with them
     launch check ${4+"$4"} "$work/changed.toml"
@@ -51,8 +51,8 @@ all_with() { # NAME STATUS OUT SED_SCRIPT : all false lines of base.toml as the 
 all_with 'all lines: none is false' 0 "$base"$'ok\n' ''
 all_with 'all lines: four are false' 1 \
     "$base"$'no A2 3 252\nno A3 3 1 16800\nno A4 3 2 20297\nno A7 1\n' \
-    's/^buffer = 252/buffer = 251/; s/^latency_us = 17/latency_us = 16/
-    s/^latency_us = 21/latency_us = 20/; 0,/^skew_us = 1000/s//skew_us = 15/'
+    "s/^buffer = 252/buffer = 251/; s/^latency_us = 17/latency_us = 16/
+    s/^latency_us = 21/latency_us = 20/; $(skew_is 15 "$link_1")"
 all_with 'all lines: an overloaded port' 1 \
     "$idle"$'P 3 1912800 - 2433\nno A1 3\nno A2 3 2433\nno A3 3 1 1912800\nno A4 3 2 -\n' \
     '0,/^lmax = 64/s//lmax = 1518/; /^id = 3/,/^rate/s/^rate = 100/rate = 10/'
@@ -80,19 +80,11 @@ sed '/^vl = 2/Q; s/^lmax = 64/lmax = 1518/; /^id = 3/,/^rate/s/^rate = 100/rate 
     examples/base.toml | sed '$d' >"$work/changed.toml"
 ends_with 'A1, a port that its high links fill' 1 $'P 3 1845600 - 2307\nno A1 3\n'
 
-long_links() { # COUNT : so many links of s1 to s3, each of the longest frames and gap
-    sed '/^\[\[link/Q; s/^buffer = 252/buffer = 65536/' examples/base.toml
-    for ((vl = 0; vl < $1; vl++)); do
-        printf '%s\n' '[[link]]' "vl = $vl" 'from = "s1"' 'to = ["s3"]' 'bag_ms = 128' \
-            'lmin = 64' 'lmax = 1518' 'jitter_us = 500' 'priority = "high"' 'policing = "frame"' \
-            'latency_us = 100000' 'skew_us = 100000' 'subs = 1'
-    done
-}
-long_links 4 >"$work/changed.toml"
+python3 -B tests/lib/tables.py long-links 4 >"$work/changed.toml"
 ends_with 'A5' 1 $'\nno A5 s1 532160\n'
 ends_with 'A5 and A6, all of them' 1 \
     $'\nno A5 s1 532160\nno A6 0 532160\nno A6 1 532160\nno A6 2 532160\nno A6 3 532160\n' --all
-long_links 3 >"$work/changed.toml"
+python3 -B tests/lib/tables.py long-links 3 >"$work/changed.toml"
 ends_with 'the jitter of a sender' 0 $'\nP 3 370562 371634 4633\nok\n'
 
 check_with 'profile 2 at 1000 Mbit/s' 0 "$idle"$'P 3 1680 2018 252\nok\n' '' \

@@ -9,13 +9,16 @@ line for each row that isn't so, and nothing where all are; ends with status 1 i
 """
 import os
 import pathlib
-import re
 import socket
 import subprocess
 import sys
 import tempfile
 
 TOP = pathlib.Path(__file__).resolve().parent.parent.parent
+sys.dont_write_bytecode = True
+sys.path.insert(0, str(TOP / "tests" / "lib"))
+from tables import base_tables, changed, text_of  # noqa: E402
+
 EXAMPLES = TOP / "examples"
 NETWORK, REFUSED = EXAMPLES / "network.toml", EXAMPLES / "refused.toml"
 BENCH, MESSAGES = EXAMPLES / "bench.list", EXAMPLES / "messages.list"
@@ -28,13 +31,12 @@ NAME = "s234567890123456"
 
 def slow_network() -> str:
     """A network whose first system has a long name and a slow line, and so too much jitter."""
-    text = BASE.replace('"s1"', f'"{NAME}"').replace("rate = 100", "rate = 10", 1)
-    for key, value in (
-        ("buffer", 4_194_304), ("lmax", 1518), ("bag_ms", 128), ("latency_us", 100_000),
-        ("skew_us", 100_000),
-    ):
-        text = re.sub(rf"(?m)^{key} = \d+", f"{key} = {value}", text)
-    return text
+    tables = base_tables()
+    tables["buffer"] = 4_194_304
+    tables["link"] = changed(tables["link"], lmax=1518, bag=128, latency=100_000, skew=100_000)
+    tables["link"][0] |= {"from": NAME}
+    tables["system"][0] |= {"name": NAME, "rate": 10}
+    return text_of(tables).decode()
 
 
 def writes_of(program: str, words: list[str], given: bytes) -> list[bytes]:

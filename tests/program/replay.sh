@@ -304,7 +304,7 @@ fault_of 'the same tables are not admitted' 1 "$full_list" '' 'admit A2 3 252'
 tables '/^vl = 2/,/^skew/s/^latency_us = 21/latency_us = 13/'
 free_replay_of 'without A4 a frame is late' 'F 0 A 2 H2 / F 0 A 1 H1' \
     "V 1 A accept / V 2 A accept / $(hello_at 2 6720) / $(world_at 1 13440)"
-tables '0,/^skew_us = 1000/s//skew_us = 1/'
+tables "$(skew_is 1 "$link_1")"
 free_replay_of 'without A7 a message is delivered twice' 'F 0 B 2 H2 / F 1 A 1 H1 / F 1 B 1 H1' \
     "V 1 B accept / V 2 A accept / V 3 B accept / D 1 6720 B 3 / M 6720 s3 2 $world \
 / $(hello_at 2 6721) / D 3 13440 B 3 / M 13440 s3 1 $hello"
@@ -316,23 +316,7 @@ free_replay_of 'a frame below Lmin, policed by bytes' 'F 0 A 2 H2' 'V 1 A drop u
 
 # The largest tables: 24 systems, 4,096 links from the first to all others, 4,096 ports of the
 # second.
-awk 'BEGIN {
-    print "profile = 1\nbuffer = 252"
-    for (p = 1; p <= 24; p++) {
-        printf "[[system]]\nname = \"s%d\"\nport = %d\nid = %d\n", p, p, p
-        printf "partition = 1\nrate = 100\n"
-    }
-    for (p = 2; p <= 24; p++) to = to (p > 2 ? ", " : "") "\"s" p "\""
-    for (vl = 0; vl < 4096; vl++) {
-        printf "[[link]]\nvl = %d\nfrom = \"s1\"\nto = [%s]\nbag_ms = 1\n", vl, to
-        printf "lmin = 64\nlmax = 64\njitter_us = 500\npriority = \"high\"\n"
-        printf "policing = \"frame\"\nlatency_us = 17\nskew_us = 1000\nsubs = 2\n"
-    }
-    for (vl = 0; vl < 4096; vl++) {
-        printf "[[port]]\nsystem = \"s2\"\nlink = %d\nudp = 1000\n", vl
-        printf "kind = \"sampling\"\ndepth = 1\n"
-    }
-}' >"$work/tables.toml"
+python3 -B tests/lib/tables.py wide 4096 >"$work/tables.toml"
 largest="V 1 A accept / D 1 6720 A 2 / M 6720 s2 1 $hello"
 for ((p = 3; p <= 24; p++)); do largest+=" / D 1 6720 A $p / X 6720 s$p 1 no-port"; done
 free_replay_of 'the largest tables' 'F 0 A 1 H1' "$largest"

@@ -13,7 +13,7 @@ solve_with() { # NAME SED_SCRIPT WANTED ERR OPTION..
     tell "$name" "$(
         has_status 0
         differs 'standard error' "$err" "$work/err"
-        values=$(sed -nE 's/^(buffer|jitter_us|latency_us|skew_us) = //p' "$work/out" | tr '\n' ' ')
+        values=$(sed -nE "s/^($solved_keys) = //p" "$work/out" | tr '\n' ' ')
         if [[ $values != "$wanted " ]]; then echo "the keys are $values"; fi
         if ! "$program" check "$work/out" | tail -n 1 | grep -qx ok; then echo 'not admitted'; fi
     )"
@@ -27,14 +27,14 @@ unsolved() { # NAME STATUS OUT ERR SED_SCRIPT OPTION.. : `solve` of base.toml as
 }
 
 least='176 47 14 14 47 15 15'
-without='/^(buffer|jitter_us|latency_us|skew_us)/d'
+without="/^($solved_keys)/d"
 late='s/^(latency_us) = .*/\1 = 13/'
 need1='vl 1 at 3: 13756 ns needed, 13 us asked'
 need2='vl 2 at 3: 14167 ns needed, 13 us asked'
 solve_with 'the least values' '' "$least" ''
 solve_with 'four keys that are absent' "$without" "$least" ''
-solve_with 'keys out of range' 's/^(buffer|jitter_us|skew_us) = .*/\1 = 99999999999/' "$least" ''
-solve_with 'keys that are 0' 's/^(buffer|jitter_us|latency_us|skew_us) = .*/\1 = 0/' "$least" \
+solve_with 'keys out of range' "/^latency_us/!s/^($solved_keys) = .*/\\1 = 99999999999/" "$least" ''
+solve_with 'keys that are 0' "s/^($solved_keys) = .*/\\1 = 0/" "$least" \
     "${need1/13 us/0 us}"$'\n'"${need2/13 us/0 us}"$'\n'
 solve_with 'what is needed' "$late" "$least" "$need1"$'\n'"$need2"$'\n'
 solve_with 'of one link' "0,/^latency_us = 17/s//latency_us = 13/" "$least" "$need1"$'\n'
@@ -49,37 +49,18 @@ tell 'a solution is the solution of itself' "$(
     "$program" solve "$work/out" >"$work/again" || echo "status $?"
     cmp "$work/out" "$work/again"
 )"
-solution='profile = 1
-buffer = 176
-
-[[system]]
-name = "s1"
-port = 1
-id = 1
-partition = 1
-rate = 100
-'
+# An example as `solve` lays it out, without remarks, whose first link and buffer have these values.
+laid_out() { # FILE BUFFER JITTER LATENCY SKEW
+    sed -E "s/ *#.*//; s/^buffer = .*/buffer = $2/; s/^jitter_us = .*/jitter_us = $3/
+        s/^latency_us = .*/latency_us = $4/; $(skew_is "$5")" "$1" | sed '/^[^ ]/,$!d'
+}
+first_link() { sed -n '/^\[\[link/,/^$/p' "$1" | head -n 14; } # FILE
 tell 'the layout' "$(
     launch solve examples/base.toml
     has_status 0
-    head -n 10 "$work/out" >"$work/head"
-    differs 'the beginning' "${solution%$'\n'}"$'\n\n' "$work/head"
-    sed -n '/^\[\[link/,/^$/p' "$work/out" | head -n 14 >"$work/link"
-    differs 'a link' '[[link]]
-vl = 1
-from = "s1"
-to = ["s3"]
-bag_ms = 1
-lmin = 64
-lmax = 64
-jitter_us = 47
-priority = "high"
-policing = "frame"
-latency_us = 14
-skew_us = 14
-subs = 2
-
-' "$work/link"
+    laid_out examples/base.toml 176 47 14 14 >"$work/laid"
+    diff <(head -n 10 "$work/laid") <(head -n 10 "$work/out")
+    diff <(first_link "$work/laid") <(first_link "$work/out")
 )"
 
 unsolved 'an overloaded port' 1 $'no A1 3\n' '' \
@@ -92,14 +73,14 @@ cp "$work/changed.toml" "$work/late.toml"
 unsolved 'a kept jitter that is too small' 1 $'no A6 1 46720\n' '' \
     's/^jitter_us = .*/jitter_us = 46/' --keep jitter
 unsolved 'a kept skew that is too small' 1 $'no A7 1\n' '' \
-    's/^skew_us = .*/skew_us = 13/' --keep skew
+    "$(skew_is 13)" --keep skew
 unsolved 'a kept key that is absent' 1 '' $'config Missing top 0 key 2\n' '/^buffer/d' --keep buffer
 unsolved 'a kept key out of range' 1 '' $'config OutOfRange link 1 key 10\n' \
     's/^latency_us = .*/latency_us = 0/' --keep latency
 unsolved 'a value below 0' 1 '' $'config OutOfRange link 1 key 10\n' \
     's/^latency_us = .*/latency_us = -1/'
 unsolved 'a value that is no whole number' 1 '' $'config WrongKind link 1 key 11\n' \
-    's/^skew_us = .*/skew_us = 1.5/'
+    "$(skew_is 1.5)"
 unsolved 'another fault' 1 '' $'config OutOfRange link 1 key 4\n' 's/^bag_ms = .*/bag_ms = 3/'
 case_of 'a configuration that is not there' 4 '' $'device Config\n' solve "$work/none"
 full_case 'a solution to a full device' 4 $'device Write\n' solve examples/base.toml
@@ -131,44 +112,12 @@ vl 1 at aft 3: 13810 ns needed, 1 us asked
 vl 2 at aft 3: 14222 ns needed, 1 us asked
 vl 2 at aft 20: 7036 ns needed, 1 us asked
 '
-switch='[[switch]]
-name = "fwd"
-profile = 1
-buffer = 90
-
-[[switch.system]]
-name = "s1"
-port = 1
-id = 1
-partition = 1
-rate = 100
-
-[[switch.neighbour]]
-name = "aft"
-port = 24
-rate = 100
-
-[[switch.link]]
-vl = 1
-from = "s1"
-to = ["aft"]
-bag_ms = 1
-lmin = 64
-lmax = 64
-jitter_us = 47
-priority = "high"
-policing = "frame"
-latency_us = 8
-skew_us = 8
-subs = 2
-
-'
 tell 'two switches' "$(
     launch solve "$work/cables.toml"
     has_status 0
     differs 'standard error' "$told" "$work/err"
-    head -n 31 "$work/out" >"$work/head"
-    differs 'the beginning' "$switch" "$work/head"
+    laid_out examples/two_switches.toml 90 47 8 8 >"$work/laid"
+    diff <(head -n 31 "$work/laid") <(head -n 31 "$work/out")
     if ! "$program" check "$work/out" | tail -n 1 | grep -qx ok; then echo 'not admitted'; fi
 )"
 case_of 'two switches, kept latencies that are too small' 1 $'no A4 fwd 1 2 7043\n' '' \

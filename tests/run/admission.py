@@ -23,7 +23,7 @@ sys.path.insert(0, os.path.join(os.path.dirname(os.path.abspath(__file__)), ".."
 import tables as made  # noqa: E402
 from first_fault import RANGES  # noqa: E402
 from judged import LINES_OF, check_all_less, checked  # noqa: E402
-from least import SOLVED, Solved, check_text, needs, solve_fault, solved  # noqa: E402
+from least import SOLVED, Solved, check_text, key_line, needs, solve_fault, solved  # noqa: E402
 from networks import network, unsolvable  # noqa: E402
 from program import Cases, Program, answers, main_of, must  # noqa: E402
 
@@ -139,17 +139,19 @@ def check_faults() -> None:
     `check`."""
     text = made.example("base.toml")
     for old, new, keep, wanted in (
-        (b"buffer = 252", b"", (), ""),
-        (b"buffer = 252", b"buffer = 99999999999", (), ""),
-        (b"buffer = 252", b"", ("buffer",), "config Missing top 0 key 2"),
-        (b"buffer = 252", b"buffer = 5000000", ("buffer",), "config OutOfRange top 0 key 2"),
-        (b"buffer = 252", b"buffer = -1", (), "config OutOfRange top 0 key 2"),
-        (b"buffer = 252", b'buffer = "252"', (), "config WrongKind top 0 key 2"),
-        (b"jitter_us = 500", b"", (), ""),
-        (b"jitter_us = 500", b"jitter_us = 1001", ("jitter",), "config OutOfRange link 1 key 7"),
-        (b"latency_us = 17", b"latency_us = 0", ("skew",), ""),
-        (b"latency_us = 17", b"latency_us = 0.5", (), "config WrongKind link 1 key 10"),
-        (b"skew_us = 1000", b"", ("skew",), "config Missing link 1 key 11"),
+        (key_line("buffer", 252), b"", (), ""),
+        (key_line("buffer", 252), key_line("buffer", 99999999999), (), ""),
+        (key_line("buffer", 252), b"", ("buffer",), "config Missing top 0 key 2"),
+        (key_line("buffer", 252), key_line("buffer", 5000000), ("buffer",),
+         "config OutOfRange top 0 key 2"),
+        (key_line("buffer", 252), key_line("buffer", -1), (), "config OutOfRange top 0 key 2"),
+        (key_line("buffer", 252), key_line("buffer", '"252"'), (), "config WrongKind top 0 key 2"),
+        (key_line("jitter", 500), b"", (), ""),
+        (key_line("jitter", 500), key_line("jitter", 1001), ("jitter",),
+         "config OutOfRange link 1 key 7"),
+        (key_line("latency", 17), key_line("latency", 0), ("skew",), ""),
+        (key_line("latency", 17), key_line("latency", 0.5), (), "config WrongKind link 1 key 10"),
+        (key_line("skew", 1000), b"", ("skew",), "config Missing link 1 key 11"),
         (b"lmax = 64", b"lmax = 63", (), "config OutOfRange link 1 key 6"),
         (b"lmax = 64", b"=", (), "config NotToml"),
     ):

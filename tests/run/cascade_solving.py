@@ -40,8 +40,9 @@ from large_cascades import around_one, in_a_mesh, in_a_ring, in_a_row  # noqa: E
 from made_cascades import made_cascade, mutated, spoiled  # noqa: E402
 from networks import BEYOND, network  # noqa: E402
 from program import Program, Wrong, answers, main_of_both, must, same_text  # noqa: E402
-from solved_cascades import KEEPS, Vain, busy_ring, check_all_less, check_solve  # noqa: E402
-from solved_cascades import faulty, in_vain, must_be_below, run, with_any, with_keys  # noqa: E402
+from solved_cascades import KEEPS, LINES_OF, Vain, busy_ring, check_all_less  # noqa: E402
+from solved_cascades import check_solve, faulty, in_vain, must_be_below, run  # noqa: E402
+from solved_cascades import with_any, with_keys  # noqa: E402
 
 ONE = "only"  # the name of a switch that is alone
 
@@ -54,7 +55,7 @@ def least_is_computed(row: LeastRow) -> None:
     found = solved_cascade(row.cascade, row.keep)
     must(found.fault == row.fault, f"the first false line is {found.fault!r}")
     for switch in found.switches if not row.fault else ():
-        links = [(one["jitter_us"], one["latency_us"], one["skew_us"]) for one in switch["link"]]
+        links = [tuple(one[key] for key in LINES_OF) for one in switch["link"]]
         values = [switch["buffer"], *links]
         must(values == row.values[switch["name"]], f"{switch['name']} has {values}")
     if row.told is not None:

@@ -70,6 +70,9 @@ text_case() { # NAME STATUS STREAM WORDS_TO_FIND WORD..
     )"
 }
 
+# shellcheck disable=SC2034  # the parts use it
+link_1='/^vl = 1/,/^subs/' # its lines in base.toml
+
 zeros() { head -c "$1" /dev/zero | tr '\0' 0; }
 
 # The frame of link 1 without its check sequence, but for the last byte, which is the sequence

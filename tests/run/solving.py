@@ -24,11 +24,11 @@ sys.dont_write_bytecode = True
 sys.path.insert(0, os.path.join(os.path.dirname(os.path.abspath(__file__)), "..", "lib"))
 import tables as made  # noqa: E402
 from judged import check_all_less  # noqa: E402
-from least import SOLVED, solve_answer  # noqa: E402
+from least import SOLVED, key_line, solve_answer  # noqa: E402
 from networks import BEYOND, network, unsolvable, with_any_keys  # noqa: E402
 from program import Answer, Cases, Program, Wrong, answers, main_of, must  # noqa: E402
 from program import same_text  # noqa: E402
-from tables import system_of, text_of, tomllib  # noqa: E402
+from tables import link_of, system_of, tables_of, text_of, tomllib  # noqa: E402
 
 NO_TABLES: dict[str, list] = {"system": [], "link": [], "port": []}
 
@@ -125,21 +125,22 @@ def check_example(program: Program, name: str) -> None:
 def guide_tables() -> dict:
     """The network of docs/GUIDE.md, as it is asked for there: three systems, five messages."""
     names = {"adc": (1, 17, 1), "fcc": (2, 33, 1), "disp": (3, 49, 2)}
-    systems = []
-    for name, (port, number, partition) in names.items():
-        systems.append(system_of(port) | {"name": name, "id": number, "partition": partition})
-    links = []
-    for vl, sender, to, bag, lmax, priority, latency in (
-        (10, "adc", ["fcc", "disp"], 16, 111, "high", 150),
-        (20, "fcc", ["disp"], 8, 167, "high", 100),
-        (21, "fcc", ["disp"], 128, 1047, "low", 1000),
-        (22, "fcc", ["adc"], 32, 64, "low", 1000),
-        (30, "disp", ["fcc"], 32, 79, "low", 1000),
-    ):
-        link = {"vl": vl, "from": sender, "to": to, "bag_ms": bag, "lmin": 64, "lmax": lmax}
-        link |= {"priority": priority, "policing": "byte", "latency_us": latency, "subs": 1}
-        links.append(link)
-    return {"profile": 1, "buffer": 1000, "system": systems, "link": links, "port": []}
+    systems = [
+        system_of(port, name=name, ident=number, partition=partition)
+        for name, (port, number, partition) in names.items()
+    ]
+    links = [
+        link_of(vl, sender, to, bag=bag, lmax=lmax, jitter=None, priority=priority,
+                latency=latency, skew=None)
+        for vl, sender, to, bag, lmax, priority, latency in (
+            (10, "adc", ["fcc", "disp"], 16, 111, "high", 150),
+            (20, "fcc", ["disp"], 8, 167, "high", 100),
+            (21, "fcc", ["disp"], 128, 1047, "low", 1000),
+            (22, "fcc", ["adc"], 32, 64, "low", 1000),
+            (30, "disp", ["fcc"], 32, 79, "low", 1000),
+        )
+    ]  # fmt: skip
+    return tables_of(systems, links, buffer=1000)
 
 
 def check_guide(program: Program) -> None:
@@ -209,16 +210,16 @@ def check_none(program: Program, tables: dict, line: str) -> None:
 def check_kept(program: Program) -> None:
     """A kept value that makes a line false is that line; that of another key isn't looked at."""
     text = made.example("base.toml")
-    for old, new, keep, line in (
-        (b"buffer = 252", b"buffer = 64", ["buffer"], b"no A2 3 176\n"),
-        (b"jitter_us = 500", b"jitter_us = 46", ["jitter"], b"no A6 1 46720\n"),
-        (b"latency_us = 17", b"latency_us = 10", ["latency"], b"no A3 3 1 13756\n"),
-        (b"skew_us = 1000", b"skew_us = 9", ["skew"], b"no A7 1\n"),
+    for word, old, new, line in (
+        ("buffer", 252, 64, b"no A2 3 176\n"),
+        ("jitter", 500, 46, b"no A6 1 46720\n"),
+        ("latency", 17, 10, b"no A3 3 1 13756\n"),
+        ("skew", 1000, 9, b"no A7 1\n"),
     ):
-        changed = text.replace(old, new)
-        answers(run(program, changed, keep, False), 1, line, b"")
-        must(check_solve(program, changed, keep) is None, f"{new!r} kept is admitted")
-        must(check_solve(program, changed) is not None, f"{new!r} not kept isn't admitted")
+        changed = text.replace(key_line(word, old), key_line(word, new))
+        answers(run(program, changed, [word], False), 1, line, b"")
+        must(check_solve(program, changed, [word]) is None, f"{word} {new} kept is admitted")
+        must(check_solve(program, changed) is not None, f"{word} {new} not kept isn't admitted")
 
 
 def check_faults(program: Program) -> None:
@@ -226,18 +227,18 @@ def check_faults(program: Program) -> None:
     number from 0."""
     text = made.example("base.toml")
     changes: list[tuple[bytes, bytes, list[str]]] = [
-        (b"buffer = 252", b"", ["buffer"]),
-        (b"buffer = 252", b"buffer = 5000000", ["buffer"]),
-        (b"buffer = 252", b"buffer = -1", []),
-        (b"buffer = 252", b'buffer = "252"', []),
-        (b"jitter_us = 500", b"", ["jitter", "skew"]),
-        (b"jitter_us = 500", b"jitter_us = 1001", ["jitter"]),
-        (b"jitter_us = 500", b"jitter_us = -500", []),
-        (b"latency_us = 17", b"latency_us = 0", ["latency"]),
-        (b"latency_us = 17", b"latency_us = 0.5", []),
-        (b"latency_us = 17", b"latency_us = -9223372036854775808", []),
-        (b"skew_us = 1000", b"skew_us = 100001", ["skew"]),
-        (b"skew_us = 1000", b"skew_us = true", []),
+        (key_line("buffer", 252), b"", ["buffer"]),
+        (key_line("buffer", 252), key_line("buffer", 5000000), ["buffer"]),
+        (key_line("buffer", 252), key_line("buffer", -1), []),
+        (key_line("buffer", 252), key_line("buffer", '"252"'), []),
+        (key_line("jitter", 500), b"", ["jitter", "skew"]),
+        (key_line("jitter", 500), key_line("jitter", 1001), ["jitter"]),
+        (key_line("jitter", 500), key_line("jitter", -500), []),
+        (key_line("latency", 17), key_line("latency", 0), ["latency"]),
+        (key_line("latency", 17), key_line("latency", 0.5), []),
+        (key_line("latency", 17), key_line("latency", -9223372036854775808), []),
+        (key_line("skew", 1000), key_line("skew", 100001), ["skew"]),
+        (key_line("skew", 1000), key_line("skew", "true"), []),
         (b"lmax = 64", b"lmax = 63", []),
         (b"lmax = 64", b"lmax = 64\nlength = 64", []),
         (b"lmax = 64", b"=", []),

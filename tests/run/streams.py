@@ -167,22 +167,22 @@ def one_side(program: Program, profile: int) -> None:
             )
 
 
-def late_side(program: Program, profile: int, skew_us: int, gap: int) -> None:
-    """One side is late by up to the skew: each message is read once. A ns later each is read
+def late_side(program: Program, profile: int, skew: int, gap: int) -> None:
+    """One side is late by up to the skew, in us: each message is read once. A ns later each is read
     twice."""
     tables = made.base_tables(profile)
-    tables["link"][0]["skew_us"] = skew_us
+    tables["link"][0] |= made.row_of(skew=skew)
     messages, lines = stream_of(tables, gap, 300)
     wanted = [message.payload for message in messages]
     for side in (b"A", b"B"):
-        for delay in (1, 16_999, skew_us * 1000 - 1, skew_us * 1000):
+        for delay in (1, 16_999, skew * 1000 - 1, skew * 1000):
             found = payloads_read(replayed(program, tables, late(lines, side, delay)))
             must(
                 found == wanted,
                 f"side {side.decode()} is late by {delay} ns: {len(found)} messages are read",
             )
-    if gap > skew_us * 1000 + 1:
-        found = payloads_read(replayed(program, tables, late(lines, b"B", skew_us * 1000 + 1)))
+    if gap > skew * 1000 + 1:
+        found = payloads_read(replayed(program, tables, late(lines, b"B", skew * 1000 + 1)))
         must(
             found == [one for one in wanted for _ in "AB"],
             "copies beyond the skew are not read again",
@@ -194,8 +194,8 @@ def late_in_the_switch(program: Program) -> None:
     came."""
     tables = made.base_tables()
     tables["buffer"] = 4096
-    tables["link"][0] |= {"latency_us": 134, "skew_us": 134}
-    tables["link"][1] |= {"lmax": 1518, "latency_us": 1000}
+    tables["link"][0] |= made.row_of(latency=134, skew=134)
+    tables["link"][1] |= made.row_of(lmax=1518, latency=1000)
     _, lines = stream_of(tables, MS, 300)
     busy, wanted = [], []
     for k in range(300):

@@ -8,7 +8,7 @@ fill() { # WORD.. : both streams go to files, the configuration to filled.toml
 }
 
 without_values() { # FILE : without the numbers of the four keys
-    sed -E 's/\b(buffer|jitter_us|latency_us|skew_us)( *= *)[0-9_]+/\1\2/g' "$1"
+    sed -E "s/\b($solved_keys)( *= *)[0-9_]+/\1\2/g" "$1"
 }
 
 is_kept() { # FILE : filled.toml is the file with other numbers
@@ -40,7 +40,7 @@ is_filled() { # FILE [OPTION..] : all is well with it, and nothing is reported
 # ---- what is kept --------------------------------------------------------------------------
 
 kept_tests() {
-    local name layout file=$work/layout.toml keys='buffer|jitter_us|latency_us|skew_us'
+    local name layout file=$work/layout.toml
     for name in base network; do
         fill "examples/$name.toml"
         tell "$name.toml, filled, keeps its remarks and spaces" "$(
@@ -53,18 +53,18 @@ kept_tests() {
         fill "$file"
         tell "base.toml by '$layout', filled" "$(is_filled "$file"; is_kept "$file")"
     done
-    sed -E "/^($keys) = /d" examples/base.toml >"$file"
+    sed -E "/^($solved_keys) = /d" examples/base.toml >"$file"
     fill "$file"
     tell 'keys that are absent come behind the others' "$(
         is_filled "$file"
         grep -A 1 '^profile' "$work/filled.toml" | tail -n 1 | grep -vE '^buffer = [0-9]+$'
         grep -A 3 '^subs = 2' "$work/filled.toml" | tail -n 3 | cut -d ' ' -f 1 >"$work/got"
-        printf '%s\n' jitter_us latency_us skew_us >"$work/wanted"
+        tr '|' '\n' <<<"${solved_keys#buffer|}" >"$work/wanted"
         same "$work/wanted" "$work/got"
-        grep -vE "^($keys) = " "$work/filled.toml" >"$work/got"
+        grep -vE "^($solved_keys) = " "$work/filled.toml" >"$work/got"
         same "$file" "$work/got"
     )"
-    sed -E "s/\b($keys) = [0-9]+(, |\$)//" examples/network.toml >"$file"
+    sed -E "s/\b($solved_keys) = [0-9]+(, |\$)//" examples/network.toml >"$file"
     fill "$file"
     tell 'and so in rows of one line' "$(is_filled "$file")"
 }

@@ -264,7 +264,16 @@ table_tests() { # tables that would take hours
 }
 
 new_toml() { # FILE : base.toml's first tables in TOML 1.1
-    cat >"$1" <<'TOML'
+    local link
+    link=$("$python" -B - <<'CODE'
+import sys
+sys.path.insert(0, "tests/lib")
+from tables import key_lines, link_of
+row = link_of(1, "s1", ["s2"], bag=2, lmax=200, latency=1000, skew=5000)
+print(",\n    ".join(key_lines(row)))
+CODE
+    )
+    cat >"$1" <<TOML
 profile = 1
 buffer = 16384
 system = [
@@ -275,8 +284,7 @@ system = [
   { name = "s2", port = 2, id = 2, partition = 1, rate = 100 },
 ]
 link = [
-  { vl = 1, from = "s1", to = ["s2"], bag_ms = 2, lmin = 64, lmax = 200, jitter_us = 500,
-    priority = "high", policing = "byte", latency_us = 1000, skew_us = 5000, subs = 1,
+  { $link,
   },
 ]
 port = [{ system = "s2", link = 1, udp = 1000, kind = "queuing", depth = 4 }]

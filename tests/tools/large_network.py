@@ -13,31 +13,25 @@ import sys
 
 sys.dont_write_bytecode = True
 TOP = os.path.join(os.path.dirname(os.path.realpath(__file__)), "..", "..")
-sys.path[:0] = [os.path.join(TOP, "examples")]
+sys.path[:0] = [os.path.join(TOP, "examples"), os.path.join(TOP, "tests", "lib")]
 from frame_builder import frame_of  # noqa: E402
+from tables import link_of, system_of, tables_of, text_of  # noqa: E402
 
 SYSTEMS, LINKS = 16, 4096
-LINK = (
-    '[[link]]\nvl = {vl}\nfrom = "s{sender}"\nto = ["s{one}", "s{two}"]\nbag_ms = 128\nlmin = 64\n'
-    'lmax = 64\njitter_us = 500\npriority = "low"\npolicing = "byte"\nlatency_us = 100000\n'
-    "skew_us = 100000\nsubs = 1\n"
-)
 
 
-def config_text() -> str:
+def config_text() -> bytes:
     """The configuration."""
-    text = "profile = 1\nbuffer = 4194304\n"
-    for number in range(1, SYSTEMS + 1):
-        text += f'[[system]]\nname = "s{number}"\nport = {number}\nid = {number}\n'
-        text += "partition = 1\nrate = 100\n"
+    links = []
     for vl in range(LINKS):
         sender = vl % SYSTEMS + 1
         one, two = (vl // SYSTEMS + sender) % SYSTEMS + 1, 0
         one = one if one != sender else one % SYSTEMS + 1
         two = one % SYSTEMS + 1
         two = two if two != sender else two % SYSTEMS + 1
-        text += LINK.format(vl=vl, sender=sender, one=one, two=two)
-    return text
+        links.append(link_of(vl, f"s{sender}", [f"s{one}", f"s{two}"], priority="low"))
+    systems = [system_of(number) for number in range(1, SYSTEMS + 1)]
+    return text_of(tables_of(systems, links, buffer=4194304))
 
 
 def lines() -> list[tuple[int, str]]:
@@ -59,7 +53,7 @@ def lines() -> list[tuple[int, str]]:
 def main() -> None:
     """Writes both files."""
     config, listed = sys.argv[1:]
-    with open(config, "w", encoding="ascii") as file:
+    with open(config, "wb") as file:
         file.write(config_text())
     with open(listed, "w", encoding="ascii") as file:
         file.writelines(f"{text}\n" for _, text in lines())

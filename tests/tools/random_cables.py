@@ -28,6 +28,7 @@ sys.path[:0] = [os.path.join(HERE, "..", "lib")]
 from cascade import loaded  # noqa: E402
 from cascade_check import Ways, cascade_false_lines, latency_sum  # noqa: E402
 from cascade_least import solved_cascade  # noqa: E402
+from least import SOLVED  # noqa: E402
 
 TOOL = os.path.join(HERE, "..", "..", "tools", "afdx-icd")
 LATE = re.compile(r"afdx-icd: messages.csv line (\d+), [^:]+: within_us \d+: to (\w+) it can take "
@@ -321,7 +322,7 @@ def tried(folder: str, tables: Tables) -> bool:
     must(status == 0 and said[-1:] == ["ok"], f"{status} {said}")
     made = read(folder)
     bare = {"switch": [switch | {"link": [
-        {key: row[key] for key in row if key not in ("latency_us", "jitter_us", "skew_us")}
+        {key: row[key] for key in row if key not in SOLVED.values()}
         for row in switch["link"]]} for switch in made["switch"]]}
     found = solved_cascade(bare)
     must(not found.fault and not cascade_false_lines(made["switch"]), "it isn't admitted")

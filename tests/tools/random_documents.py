@@ -23,7 +23,6 @@ import tomllib
 TOOLS = os.path.join(os.path.dirname(os.path.abspath(__file__)), "..", "..", "tools")
 PERIODS = ["1", "2", "4.5", "8", "10", "12,5", "20.0", "33.3", "50", "100", "200", "1000"]
 MARKS = ["", "", "_", "-"]
-SOLVED = ("jitter_us", "latency_us", "skew_us")
 NAMED = re.compile(r"links? ([0-9, ]+?)(?:, [a-z].*)?: (\w+) .+ to .+ \(.+\)")
 
 

@@ -20,7 +20,7 @@ filled_tests() {
     )"
     fill --keep jitter "$low"
     tell 'what cannot be admitted' "$(is_status 1; says err 'no B3 fwd 2 517')"
-    sed -E '/^(latency_us|skew_us|jitter_us|buffer) =/d' "$two" >"$several/bare.toml"
+    sed -E "/^($solved_keys) =/d" "$two" >"$several/bare.toml"
     fill "$several/bare.toml"
     tell 'filled: absent keys' "$(is_status 0; is_solved "$several/bare.toml")"
     inline_of "$low" >"$several/inline.toml"

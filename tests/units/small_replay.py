@@ -2,15 +2,14 @@
 from __future__ import annotations
 
 import io
-from unittest import mock
 
+import known_words  # noqa: F401  (by which the tools ask no program)
 from afdx_tools.config import Config, Link, System
 from afdx_tools.replay.counting import Counting
 from afdx_tools.replay.events import Events
 from afdx_tools.replay.listing import Listing
 
 MS = 1_000_000  # ns
-DROPS = ("over-rate", "over-lmax", "under-lmin", "wrong-port")
 SIDES = {"A": "20", "B": "40"}  # the last byte of a source address
 
 
@@ -50,8 +49,7 @@ def arrival(time: int, side: str, vl: int, number: int, size: int = 64) -> str:
 def counted(listed: list[str], written: str, errors: str = "") -> Counting:
     """What is counted of a list, and of the lines that a replay of it wrote on both streams."""
     listing = Listing(io.BytesIO("".join(listed).encode()))
-    with mock.patch("afdx_tools.replay.events.verdicts", return_value=DROPS):
-        events = Events(listing)
+    events = Events(listing)
     events.read(io.BytesIO(written.encode()))
     events.read_errors(io.BytesIO(errors.encode()))
     return Counting(CONFIG, listing, events)

@@ -8,6 +8,7 @@ try:
 except ModuleNotFoundError:
     raise unittest.SkipTest("there is no package numpy") from None
 
+import known_words  # noqa: F401  (by which the tools ask no program)
 from afdx_tools.report.parts import MOST_ROWS, most_shown
 from afdx_tools.tables import Row
 

@@ -5,7 +5,6 @@ import io
 import os
 import tomllib
 import unittest
-from unittest import mock
 
 try:
     import numpy as np
@@ -23,7 +22,7 @@ from afdx_tools.replay.listing import Listing
 from afdx_tools.replay.sites import UNKNOWN, Sites
 from afdx_tools.report.layout import curve, halves, layout_of
 from afdx_tools.report.network import tree_of
-from small_replay import DROPS
+import known_words  # noqa: F401  (by which the tools ask no program)
 
 EXAMPLES = os.path.join(os.path.dirname(__file__), "..", "..", "examples")
 FWD_1, FWD_24 = port_at(0, 1), port_at(0, 24)
@@ -41,8 +40,7 @@ def counted(listed: str, written: str) -> Counting:
     """What is counted of a list for the example, and of the lines of its replay."""
     config = two_switches()
     listing = Listing(io.BytesIO(listed.encode()), sites=Sites(config.names))
-    with mock.patch("afdx_tools.replay.events.verdicts", return_value=DROPS):
-        events = Events(listing, config)
+    events = Events(listing, config)
     events.read(io.BytesIO(written.encode()))
     events.read_errors(io.BytesIO(b""))
     return Counting(config, listing, events)

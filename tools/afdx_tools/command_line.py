@@ -5,6 +5,7 @@ import argparse
 from typing import Any, Callable, NoReturn
 
 from afdx_tools.faults import leave, shown
+from afdx_tools.version import NUMBER
 
 
 class Parser(argparse.ArgumentParser):
@@ -21,6 +22,18 @@ class Parser(argparse.ArgumentParser):
     def error(self, message: str) -> NoReturn:
         """Ends the tool with status 2."""
         leave(self.prog, shown(message))
+
+
+def parser_of(tool: str, text: str | None) -> Parser:
+    """The parser of a tool, with what it says of itself; it takes the word --version."""
+    parser = Parser(
+        prog=tool, description=text, formatter_class=argparse.RawDescriptionHelpFormatter
+    )
+    version = f"{tool} {NUMBER}"
+    parser.add_argument(
+        "--version", action="version", version=version, help="print the version and leave"
+    )
+    return parser
 
 
 def whole(least: int, most: int) -> Callable[[str], int]:

@@ -1,7 +1,6 @@
 """Which release the tools belong to. Its number stands in one place, the program's source."""
 from __future__ import annotations
 
-import argparse
 import os
 import re
 
@@ -31,13 +30,3 @@ def number() -> str:
 
 
 NUMBER = number()
-
-
-def add_version(parser: argparse.ArgumentParser, tool: str) -> None:
-    """Lets a tool take the word --version."""
-    parser.add_argument(
-        "--version",
-        action="version",
-        version=f"{tool} {NUMBER}",
-        help="print the version and leave",
-    )

@@ -24,7 +24,7 @@ from typing import Iterator, NoReturn, Sequence
 from afdx_tools.campaign.machines import MOST_FAILED, PATIENCE, THIS, Machines
 from afdx_tools.campaign.outcomes import SPEAKER, Outcome, not_run, outcome_of, sum_row, worst
 from afdx_tools.campaign.rounds import Attempt, JobLog, next_round, play
-from afdx_tools.command_line import Parser
+from afdx_tools.command_line import parser_of
 from afdx_tools.explaining import explain_all
 from afdx_tools.faults import Refused, shown
 from afdx_tools.guard import guarded
@@ -36,7 +36,6 @@ from afdx_tools.program import HERE, program, version
 from afdx_tools.recordings.options import add_recording_words, files_of, handed_on
 from afdx_tools.report.criteria import add_words, suite_of, write_junit
 from afdx_tools.tables import as_text, csv_text
-from afdx_tools.version import add_version
 
 TOOL = "afdx-campaign"
 
@@ -272,10 +271,7 @@ def run(args: argparse.Namespace) -> int:
 
 def words() -> argparse.ArgumentParser:
     """The words that the tool takes."""
-    parser = Parser(
-        prog=TOOL, description=__doc__, formatter_class=argparse.RawDescriptionHelpFormatter
-    )
-    add_version(parser, TOOL)
+    parser = parser_of(TOOL, __doc__)
     add = parser.add_argument
     add("config", metavar="CONFIG", help="the configuration of the network")
     add("lists", nargs="+", metavar="LIST", help="a frame list, a recording, or A.pcapng,B.pcapng")

@@ -19,7 +19,7 @@ import subprocess
 import sys
 from typing import BinaryIO, Callable, Iterator, NoReturn
 
-from afdx_tools.command_line import Parser
+from afdx_tools.command_line import parser_of
 from afdx_tools.explaining import is_asked
 from afdx_tools.faults import Refused, leave, let_go, shown
 from afdx_tools.guard import guarded
@@ -37,7 +37,6 @@ from afdx_tools.recordings.options import (
 )
 from afdx_tools.recordings.said import Beside, beside
 from afdx_tools.recordings.tapped import found_by
-from afdx_tools.version import add_version
 
 TOOL = "afdx-capture"
 TOO_MANY = 3
@@ -335,10 +334,7 @@ def annotate_words(parser: argparse.ArgumentParser) -> None:
 
 def words() -> argparse.ArgumentParser:
     """The words that the tool takes."""
-    parser = Parser(
-        prog=TOOL, description=__doc__, formatter_class=argparse.RawDescriptionHelpFormatter
-    )
-    add_version(parser, TOOL)
+    parser = parser_of(TOOL, __doc__)
     commands = parser.add_subparsers(required=True, metavar="list|pcap|annotate")
     for name, short, text, add_words, run in (
         (

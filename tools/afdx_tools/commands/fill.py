@@ -13,7 +13,7 @@ import argparse
 import sys
 from typing import NoReturn
 
-from afdx_tools.command_line import Parser
+from afdx_tools.command_line import parser_of
 from afdx_tools.explaining import explain
 from afdx_tools.faults import Failed
 from afdx_tools.filling import filled
@@ -22,7 +22,6 @@ from afdx_tools.inputs import as_file
 from afdx_tools.naming import copied_table
 from afdx_tools.outputs import finished
 from afdx_tools.solving import check, solve
-from afdx_tools.version import add_version
 
 TOOL = "afdx-fill"
 
@@ -57,10 +56,7 @@ def run() -> int:
 
 def words() -> argparse.ArgumentParser:
     """The words that the tool takes."""
-    parser = Parser(
-        prog=TOOL, description=__doc__, formatter_class=argparse.RawDescriptionHelpFormatter
-    )
-    add_version(parser, TOOL)
+    parser = parser_of(TOOL, __doc__)
     add = parser.add_argument
     add("config", metavar="CONFIG", help="the configuration; the four keys may be absent")
     add("filled", metavar="FILLED", help="where it goes: also CONFIG, or - for standard output")

@@ -27,7 +27,7 @@ import sys
 import tomllib
 from typing import NoReturn
 
-from afdx_tools.command_line import Parser, whole
+from afdx_tools.command_line import parser_of, whole
 from afdx_tools.faults import Failed, Refused, shown
 from afdx_tools.guard import guarded
 from afdx_tools.icd.aircraft import left_out, made_of
@@ -43,7 +43,6 @@ from afdx_tools.icd.untimely import late_lines, refusal
 from afdx_tools.naming import with_table
 from afdx_tools.outputs import finished
 from afdx_tools.solving import bounds, check, overloads, read_admitted, solve
-from afdx_tools.version import add_version
 
 TOOL = "afdx-icd"
 MOST_REPORTED = 20  # lines of what is wrong
@@ -136,10 +135,7 @@ def write(args: argparse.Namespace, document: Document, config: bytes, lines: li
 
 def words() -> argparse.ArgumentParser:
     """The words that the tool takes."""
-    parser = Parser(
-        prog=TOOL, description=__doc__, formatter_class=argparse.RawDescriptionHelpFormatter
-    )
-    add_version(parser, TOOL)
+    parser = parser_of(TOOL, __doc__)
     add_document_words(parser)
     add = parser.add_argument
     add("config", metavar="CONFIG", help="the configuration, or - for standard output")

@@ -19,7 +19,7 @@ import argparse
 import importlib
 from typing import NoReturn
 
-from afdx_tools.command_line import Parser, whole
+from afdx_tools.command_line import parser_of, whole
 from afdx_tools.conformance.options import (
     BY_ROLE,
     add_conform_words,
@@ -30,17 +30,13 @@ from afdx_tools.faults import leave
 from afdx_tools.guard import guarded
 from afdx_tools.recordings.options import add_recording_words
 from afdx_tools.report.criteria import add_words
-from afdx_tools.version import add_version
 
 TOOL = "afdx-report"
 
 
 def words() -> argparse.ArgumentParser:
     """The words that the tool takes."""
-    parser = Parser(
-        prog=TOOL, description=__doc__, formatter_class=argparse.RawDescriptionHelpFormatter
-    )
-    add_version(parser, TOOL)
+    parser = parser_of(TOOL, __doc__)
     add = parser.add_argument
     add("config", metavar="CONFIG", help="the configuration of the network")
     add("list", metavar="LIST", help="a frame list, a recording, or - for standard input")

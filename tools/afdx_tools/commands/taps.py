@@ -23,14 +23,13 @@ import os
 import sys
 from typing import Iterable, NoReturn
 
-from afdx_tools.command_line import Parser
+from afdx_tools.command_line import parser_of
 from afdx_tools.config import read_config
 from afdx_tools.faults import Refused, shown
 from afdx_tools.guard import guarded
 from afdx_tools.progress import Progress
 from afdx_tools.recordings.tapped import DISAGREE, checked, word_for, word_of
 from afdx_tools.recordings.taps import WrongTaps, read_taps
-from afdx_tools.version import add_version
 
 TOOL = "afdx-taps"
 # what the program refuses: so no run goes on without places where `$(afdx-taps ..)` failed
@@ -80,10 +79,7 @@ def run() -> int:
 
 def parser() -> argparse.ArgumentParser:
     """The words that the tool takes."""
-    words = Parser(
-        prog=TOOL, description=__doc__, formatter_class=argparse.RawDescriptionHelpFormatter
-    )
-    add_version(words, TOOL)
+    words = parser_of(TOOL, __doc__)
     add = words.add_argument
     add("config", metavar="CONFIG", help="the configuration, which has the systems' ports")
     add("taps", metavar="TAPS", help="the table of the taps")

@@ -21,7 +21,7 @@ import sys
 from fractions import Fraction
 from typing import BinaryIO, NoReturn
 
-from afdx_tools.command_line import Parser, whole
+from afdx_tools.command_line import parser_of, whole
 from afdx_tools.faults import Failed, Refused, shown
 from afdx_tools.guard import guarded
 from afdx_tools.icd.reading import add_document_words, read_document
@@ -30,7 +30,6 @@ from afdx_tools.inputs import as_file
 from afdx_tools.lists import MOST_LINES
 from afdx_tools.placing import together
 from afdx_tools.program import program, version
-from afdx_tools.version import add_version
 
 TOOL = "afdx-traffic"
 ALL = "all-systems.list"  # no system has such a name
@@ -133,10 +132,7 @@ def run() -> int:
 
 def words() -> argparse.ArgumentParser:
     """The words that the tool takes."""
-    parser = Parser(
-        prog=TOOL, description=__doc__, formatter_class=argparse.RawDescriptionHelpFormatter
-    )
-    add_version(parser, TOOL)
+    parser = parser_of(TOOL, __doc__)
     add_document_words(parser)
     add = parser.add_argument
     add("folder", metavar="FOLDER", help="where the lists go; it is made where there is none")

@@ -7,12 +7,10 @@ from dataclasses import dataclass, field
 from typing import Iterable, NamedTuple, Sequence
 
 from afdx_tools.faults import Failed, shown
+from afdx_tools.known import kinds
 from afdx_tools.program import program
 from afdx_tools.replay.running import counts_of
 
-FINDINGS = ("stopped", "strange", "passed", "late", "early")
-OF_LEFT = ("strange",)  # findings that name a frame that left; others one that came
-TIMED = ("late", "early")
 SKIPPED = "skipped "  # how the line of what was skipped begins
 FINDING = re.compile(r"(?P<word>[a-z]+) (?P<n>[0-9]+) (?P<side>[AB]) (?P<port>[0-9]+)"
                      r"(?: (?P<more>[a-z0-9-]+))?")  # fmt: skip
@@ -20,7 +18,7 @@ FINDING = re.compile(r"(?P<word>[a-z]+) (?P<n>[0-9]+) (?P<side>[AB]) (?P<port>[0
 
 class Deviation(NamedTuple):
     """A line of `conform` but the last: a finding, or `unsure`. `number` is a line of CAME, or of
-    LEFT for what is strange; `why` is its word, and `by` the ns by which it is late or early."""
+    LEFT for what names a frame that left; `why` is its word, and `by` its ns."""
 
     word: str
     number: int
@@ -32,7 +30,7 @@ class Deviation(NamedTuple):
     @property
     def is_left(self) -> bool:
         """It names a frame that left."""
-        return self.word in OF_LEFT
+        return kinds()[self.word].is_left
 
 
 @dataclass
@@ -52,12 +50,12 @@ class Judged:
 def deviation_of(line: str) -> Deviation | None:
     """A line as a finding, or `unsure`; None where it is another."""
     found = FINDING.fullmatch(line)
-    if found is None or found["word"] not in (*FINDINGS, "unsure"):
+    kind = kinds().get(found["word"]) if found else None
+    if found is None or kind is None:
         return None
     more = found["more"] or ""
-    is_timed = found["word"] in TIMED
-    by = int(more) if is_timed else None
-    why = "" if is_timed else more
+    by = int(more) if kind.is_timed else None
+    why = "" if kind.is_timed else more
     number, port = int(found["n"]), int(found["port"])
     return Deviation(found["word"], number, found["side"], port, why, by)
 

@@ -6,11 +6,12 @@ from typing import Sequence
 
 from afdx_tools.config import Config
 from afdx_tools.conformance.grouping import firsts
-from afdx_tools.conformance.judging import FINDINGS, Deviation, Judged
+from afdx_tools.conformance.judging import Deviation, Judged
 from afdx_tools.conformance.losses import Losses
 from afdx_tools.conformance.measuring import Measured, Named, Stream
 from afdx_tools.conformance.recorded import Stood
 from afdx_tools.faults import LONGEST_NAME, cut
+from afdx_tools.known import findings, kinds
 from afdx_tools.replay.checked import Checked
 from afdx_tools.report.where import utc
 from afdx_tools.tables import Row, percent
@@ -83,7 +84,7 @@ class Numbers:
             "priority": link.priority,
             "came": len(self.measured.came.get((stream.side, stream.vl), [])),
             "left": len(self.measured.left.get(stream, [])),
-            **{word: found[word] for word in FINDINGS},
+            **{word: found[word] for word in findings()},
             **spread,
             "greatest_line": pairs[-1][1] if pairs else None,
             "bound_ns": bound,
@@ -181,9 +182,9 @@ def totals_of(judged: Judged, streams: Sequence[Row], idle: Sequence[Row] = ()) 
     words = Counter(each.word for each in judged.deviations)
     counts = {name.replace("-", "_"): count for name, count in judged.counts.items()}
     counts = {**counts, "idle": judged.counts.get("idle", len(idle))} if counts else counts
-    kinds = {word: words[word] for word in (*FINDINGS, "unsure")}
+    told = {word: words[word] for word in kinds()}
     sums = {name: sum(row[name] for row in streams) for name in ("left", "frames")}
-    return {**counts, **kinds, "of_streams": sums["left"], "measured": sums["frames"]}
+    return {**counts, **told, "of_streams": sums["left"], "measured": sums["frames"]}
 
 
 def account_words(totals: Row) -> str:

@@ -3,8 +3,8 @@ from __future__ import annotations
 
 from html import escape
 
-from afdx_tools.conformance.judging import FINDINGS
 from afdx_tools.conformance.numbers import account_words, no_verdict
+from afdx_tools.known import findings
 from afdx_tools.report import figures
 from afdx_tools.report.findings import left_words
 from afdx_tools.report.head import badge
@@ -51,7 +51,6 @@ CARDS = {
     "left_out": "left out",
     "unseen": "unseen",
     "idle": "idle",
-    **{word: word for word in FINDINGS},
 }
 
 
@@ -126,11 +125,12 @@ def page(report: Row, most: int) -> str:
     names |= {"streams": "table of streams", "options": "options", "idle": "what was idle"}
     names |= {"unseen": "what isn't judged"} if "unseen" in report else {}
     names |= {"stamps": "stamps", "made": "what made it"}
+    cards = [(words, totals[key], False) for key, words in CARDS.items() if key in totals]
+    cards += [(word, totals[word], True) for word in findings()]
     parts = [
         answer(report),
         links_of(names),
-        cards_of((words, totals[key], key in FINDINGS) for key, words in CARDS.items()
-                 if key in totals),
+        cards_of(cards),
         picture(report, most),
         tables(report),
     ]  # fmt: skip

@@ -7,13 +7,11 @@ from typing import Iterator, Mapping
 
 from afdx_tools.config import MOST_PORTS, Config, port_at
 from afdx_tools.faults import Refused, shown
+from afdx_tools.known import kinds
 from afdx_tools.naming import Naming, naming_beside
 
 MOST_LINES = 1_000_000
 LONGEST_LINE = 200
-# the lines of `conform` that begin with a word and the number of a frame
-OF_FRAMES = ("stopped", "passed", "late", "early", "strange", "unsure")
-OF_LEFT = "strange"  # names a frame that left
 
 
 @dataclass
@@ -37,7 +35,8 @@ def judged_in(path: str, is_one: bool) -> dict[int, list[str]]:
     with open(path, encoding="utf-8", errors="surrogateescape") as file:
         for place, line in enumerate(iter(lambda: file.readline(LONGEST_LINE), ""), 1):
             word, *others = line.split()[:3] or [""]
-            if word not in OF_FRAMES or (word == OF_LEFT and not is_one):
+            kind = kinds().get(word)
+            if kind is None or (kind.is_left and not is_one):
                 continue
             if place > MOST_LINES or not others or not others[0].isdecimal():
                 raise Refused(f"{shown(path)} line {place}: it is no line of afdx conform")

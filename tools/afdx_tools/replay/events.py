@@ -1,15 +1,13 @@
 """The lines of `afdx replay` as columns: verdicts by the list's line, and what became of copies."""
 from __future__ import annotations
 
-import functools
-import subprocess
 from typing import IO, Callable
 
 import numpy as np
 
 from afdx_tools.config import MOST_PORTS, Config
 from afdx_tools.faults import Refused
-from afdx_tools.program import program
+from afdx_tools.known import drops
 from afdx_tools.replay.early import Early
 from afdx_tools.replay.hops import Came, Hops
 from afdx_tools.replay.lines import SPACE, Block, blocks_of
@@ -24,16 +22,6 @@ FATES = (LEFT, LOST, OLD)
 NOT_YET = -1  # stands for a line without a verdict, and for a departure without a receiver's line
 LETTERS = {letter: ord(letter) for letter in "VLDTMX"}
 KNOWN = np.isin(np.arange(256), list(LETTERS.values()))
-
-
-@functools.cache
-def verdicts() -> tuple[str, ...]:
-    """Why a switch drops a frame: the words of the program, in its order."""
-    words = [program(), "explain", "--list"]
-    run = subprocess.run(words, capture_output=True, check=False)
-    listed = run.stdout.decode(errors="replace")
-    drops = [line for line in listed.splitlines() if line.startswith("drop ")]
-    return tuple(line.removeprefix("drop ") for line in drops)
 
 
 class Words:
@@ -61,7 +49,7 @@ class Events:
         self.listing, self.sites = listing, listing.sites
         self.named = Named(listing)
         self.hops = Hops(config) if config and config.several else None
-        self.verdicts = Words(ACCEPT, *verdicts())
+        self.verdicts = Words(ACCEPT, *drops())
         self.ends = Words(DELIVERED, REDUNDANT)
         self.verdict = np.full(listing.lines + 1, NOT_YET, np.int8)
         self.parts: list[dict[str, np.ndarray]] = [none_at_all()]

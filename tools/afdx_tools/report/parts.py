@@ -4,6 +4,7 @@ from __future__ import annotations
 from html import escape
 from typing import Collection, Sequence
 
+from afdx_tools.known import findings
 from afdx_tools.report.where import Where, named_in
 from afdx_tools.tables import Row, cell, heads
 
@@ -36,8 +37,7 @@ def is_over(row: Row) -> bool:
     pairs = (("jitter_ns", "table_jitter_ns"), ("at_receivers_ns", "table_skew_ns"),
              ("skew_ns", "table_skew_ns"))  # fmt: skip
     over = any((row.get(name) or 0) > row.get(table, 0) for name, table in pairs if table in row)
-    words = ("late", "silent", "clock", "twice", "alone", "missing", "never", "stopped", "strange",
-             "passed", "early")  # fmt: skip
+    words = ("late", "silent", "clock", "twice", "alone", "missing", "never", *findings())
     wrong = any(row.get(name) for name in words)
     wrong |= row.get("reason") == "wrong-port"
     return over or bool(wrong) or ("latency_ns" in row and row["share"] > 1)

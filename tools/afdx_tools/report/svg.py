@@ -5,7 +5,8 @@ import math
 from html import escape
 from typing import Callable, Sequence
 
-from afdx_tools.replay.events import LOST, OLD, verdicts
+from afdx_tools.known import drops
+from afdx_tools.replay.events import LOST, OLD
 
 Scale = Callable[[float], float]  # where an amount stands in a picture
 
@@ -34,7 +35,7 @@ SYMBOLS = {
 
 def reasons() -> tuple[str, ...]:
     """Why a frame or its copy is lost: what a switch says, then what comes at its ports."""
-    return (*verdicts(), LOST, OLD)
+    return (*drops(), LOST, OLD)
 
 
 def text(x: float, y: float, words: str, kind: str = "", anchor: str = "start") -> str:
@@ -64,7 +65,7 @@ def dot(x: float, y: float, size: float, kind: str) -> str:
 
 def symbol(x: float, y: float, word: str) -> str:
     """The symbol of a reason."""
-    shape = {**dict(zip(verdicts(), SHAPES)), **SYMBOLS}.get(word, CROSS)
+    shape = {**dict(zip(drops(), SHAPES)), **SYMBOLS}.get(word, CROSS)
     return f'<path d="M{x:.1f} {y:.1f}{shape}" class="reason"/>'
 
 
