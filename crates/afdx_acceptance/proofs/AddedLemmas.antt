@@ -36,7 +36,8 @@ module _ (t : Rows) (c : Choices) (until : ℕ) (time : ℕ) (k : Key) (l : Link
       by None h s = absurd h
       by (Some place) h s = subst (λ o. LinkStands t c until None time k given lines slot o) h s
 
-  pub from-stream : IsStreamOf t k l → StreamStands (terms_at t c until l k.port) k given.came given.left lines time slot
+  pub from-stream : IsStreamOf t k l → StreamStands (terms_at t c until l k.port) k given.came given.left lines time
+      slot
       → KeyStands t c until None time k given lines slot
   unfolding KeyStands
   from-stream is stands = by k.link is
@@ -88,7 +89,8 @@ came-there key x given = ap (λ b. if b then given_with ((given key).came ++ x �
 
 pub came-elsewhere : (key : Key) (x : Arrival) (given : Key → Given) (k : Key) → is_key key k ≡ false
     → with_came key x given k ≡ given k
-came-elsewhere key x given k other = ap (λ b. if b then given_with ((given k).came ++ x ∷ []) (given k).left (given k).strange
+came-elsewhere key x given k other = ap (λ b. if b then given_with ((given k).came ++ x ∷ []) (given k).left
+    (given k).strange
     else given k) other
 
 pub left-there : (key : Key) (y : Gone) (given : Key → Given)
@@ -98,7 +100,8 @@ left-there key y given = ap (λ b. if b then given_with (given key).came ((given
 
 pub left-elsewhere : (key : Key) (y : Gone) (given : Key → Given) (k : Key) → is_key key k ≡ false
     → with_left key y given k ≡ given k
-left-elsewhere key y given k other = ap (λ b. if b then given_with (given k).came ((given k).left ++ y ∷ []) (given k).strange
+left-elsewhere key y given k other = ap (λ b. if b then given_with (given k).came ((given k).left ++ y ∷ [])
+    (given k).strange
     else given k) other
 
 pub strange-there : (key : Key) (d : Due) (given : Key → Given)
@@ -108,7 +111,8 @@ strange-there key d given = ap (λ b. if b then given_with (given key).came (giv
 
 pub strange-elsewhere : (key : Key) (d : Due) (given : Key → Given) (k : Key) → is_key key k ≡ false
     → with_strange key d given k ≡ given k
-strange-elsewhere key d given k other = ap (λ b. if b then given_with (given k).came (given k).left (d ∷ (given k).strange)
+strange-elsewhere key d given k other =
+    ap (λ b. if b then given_with (given k).came (given k).left (d ∷ (given k).strange)
     else given k) other
 
 -- of each key, where it is so of the one and stays so of the others
@@ -128,14 +132,16 @@ nothing-there z k xs ys lines time Nothing none stands = (stands.0, stands.1, st
 nothing-there z k xs ys lines time (Strangers s) none stands = absurd stands
 nothing-there z k xs ys lines time (Stream s told) none stands = absurd (none tt)
 
-module _ (t : Rows) (c : Choices) (until : ℕ) (lawful : IsLawfulSwitch t) (time : ℕ) (given : Key → Given) (lines : List Due)
+module _ (t : Rows) (c : Choices) (until : ℕ) (lawful : IsLawfulSwitch t) (time : ℕ) (given : Key → Given)
+    (lines : List Due)
     (old new : Kept) (key : Key) (slot : Slot) (due : Option ℕ) (at : ℕ) where
   pub kept-came : (l : LinkRow) (x : Arrival)
       → IsStreamOf t key l
       → AreKept t c until None time given lines old
       → (StreamStands (terms_at t c until l key.port) key (given key).came (given key).left (of_key key lines) time
       (slot_at old.slots.items key)
-      → StreamStands (terms_at t c until l key.port) key ((given key).came ++ x ∷ []) (given key).left (of_key key lines) time slot)
+      → StreamStands (terms_at t c until l key.port) key ((given key).came ++ x ∷ []) (given key).left
+      (of_key key lines) time slot)
       → IsNewlyDue (slot_due (slot_at old.slots.items key)) due (slot_due slot)
       → IsSameOrLater (slot_due (slot_at old.slots.items key)) at (slot_due slot)
       → time ≤ at
@@ -148,7 +154,8 @@ module _ (t : Rows) (c : Choices) (until : ℕ) (lawful : IsLawfulSwitch t) (tim
       (subst (λ g. KeyStands t c until None time key g (of_key key lines) slot) (sym (came-there key x given))
       (from-stream t c until time key l (given_with ((given key).came ++ x ∷ []) (given key).left (given key).strange)
       (of_key key lines) slot is
-      (next (to-stream t c until time key l (given key) (of_key key lines) (slot_at old.slots.items key) is (kept.stand key known)))))
+      (next (to-stream t c until time key l (given key) (of_key key lines) (slot_at old.slots.items key) is
+      (kept.stand key known)))))
       (came-elsewhere key x given) newly later le awaits slots
       (at-each (λ k. AreFalling (with_came key x given k).strange) key
       (subst (λ g. AreFalling g.strange) (sym (came-there key x given)) (kept.falling key))
@@ -159,7 +166,8 @@ module _ (t : Rows) (c : Choices) (until : ℕ) (lawful : IsLawfulSwitch t) (tim
       → AreKept t c until None time given lines old
       → (StreamStands (terms_at t c until l key.port) key (given key).came (given key).left (of_key key lines) time
       (slot_at old.slots.items key)
-      → StreamStands (terms_at t c until l key.port) key (given key).came ((given key).left ++ y ∷ []) (of_key key lines) time slot)
+      → StreamStands (terms_at t c until l key.port) key (given key).came ((given key).left ++ y ∷ [])
+      (of_key key lines) time slot)
       → IsNewlyDue (slot_due (slot_at old.slots.items key)) due (slot_due slot)
       → IsSameOrLater (slot_due (slot_at old.slots.items key)) at (slot_due slot)
       → time ≤ at
@@ -172,7 +180,8 @@ module _ (t : Rows) (c : Choices) (until : ℕ) (lawful : IsLawfulSwitch t) (tim
       (subst (λ g. KeyStands t c until None time key g (of_key key lines) slot) (sym (left-there key y given))
       (from-stream t c until time key l (given_with (given key).came ((given key).left ++ y ∷ []) (given key).strange)
       (of_key key lines) slot is
-      (next (to-stream t c until time key l (given key) (of_key key lines) (slot_at old.slots.items key) is (kept.stand key known)))))
+      (next (to-stream t c until time key l (given key) (of_key key lines) (slot_at old.slots.items key) is
+      (kept.stand key known)))))
       (left-elsewhere key y given) newly later le awaits slots
       (at-each (λ k. AreFalling (with_left key y given k).strange) key
       (subst (λ g. AreFalling g.strange) (sym (left-there key y given)) (kept.falling key))
@@ -204,7 +213,8 @@ module _ (t : Rows) (c : Choices) (until : ℕ) (lawful : IsLawfulSwitch t) (tim
       (λ k other. subst (λ g. AreFalling g.strange) (sym (strange-elsewhere key d given k other)) (kept.falling k)))
 
 -- a stream is put where there was none
-pub kept-put : (t : Rows) (c : Choices) (until : ℕ) (lawful : IsLawfulSwitch t) (time : ℕ) (given : Key → Given) (lines : List Due)
+pub kept-put : (t : Rows) (c : Choices) (until : ℕ) (lawful : IsLawfulSwitch t) (time : ℕ) (given : Key → Given)
+    (lines : List Due)
     (old new : Kept) (key : Key) (slot : Slot) (l : LinkRow)
     → IsStreamOf t key l
     → AreKept t c until None time given lines old
@@ -216,16 +226,19 @@ pub kept-put : (t : Rows) (c : Choices) (until : ℕ) (lawful : IsLawfulSwitch t
     → AreKept t c until None time given lines new
 kept-put t c until lawful time given lines old new key slot l is kept none stands no-due agenda slots =
     let known = known-stream t key l is in
-    let was = nothing-there (terms_at t c until l key.port) key (given key).came (given key).left (of_key key lines) time
+    let was = nothing-there (terms_at t c until l key.port) key (given key).came (given key).left (of_key key lines)
+    time
     (slot_at old.slots.items key) none
-    (to-stream t c until time key l (given key) (of_key key lines) (slot_at old.slots.items key) is (kept.stand key known)) in
+    (to-stream t c until time key l (given key) (of_key key lines) (slot_at old.slots.items key) is
+    (kept.stand key known)) in
     let z = terms_at t c until l key.port in
     kept-added t c until lawful time given given lines old new key slot None time known kept
     (from-stream t c until time key l (given key) (of_key key lines) slot is
     (subst (λ ls. StreamStands z key (given key).came (given key).left ls time slot) (sym was.2)
     (subst (λ ys. StreamStands z key (given key).came ys [] time slot) (sym was.1)
     (subst (λ xs. StreamStands z key xs [] [] time slot) (sym was.0) stands))))
-    (λ k other. refl) (inr no-due) (inr (subst (λ d. IsNoSooner time d) (sym no-due) tt)) (omega arith) agenda slots kept.falling
+    (λ k other. refl) (inr no-due) (inr (subst (λ d. IsNoSooner time d) (sym no-due) tt)) (omega arith) agenda slots
+    kept.falling
 
 pub put-there : (slots : List Slot) (key : Key) (slot : Slot) → key_place key < length slots → IsStream slot
     → IsStream (slot_at (set slots (key_place key) slot) key)
@@ -236,13 +249,15 @@ on-ok f (Ok x) p = f p
 on-ok f (Err e) p = tt
 
 -- what is read at a key's place
-pub read-there : (slots : List Slot) (key : Key) (place : ℕ) (s : Slot) → place ≡ key_place key → key_place key < length slots
+pub read-there : (slots : List Slot) (key : Key) (place : ℕ) (s : Slot) → place ≡ key_place key
+    → key_place key < length slots
     → s ≡ get_or slots place s → s ≡ slot_at slots key
 read-there slots key place s at within is =
     is ∙ ap (λ n. get_or slots n s) at ∙ get_or_default slots (key_place key) s Nothing within
 
 -- the place of a key of the tables is there
-pub stands-within : (t : Rows) (c : Choices) (until : ℕ) (ended : Option ℕ) (time : ℕ) (given : Key → Given) (lines : List Due)
+pub stands-within : (t : Rows) (c : Choices) (until : ℕ) (ended : Option ℕ) (time : ℕ) (given : Key → Given)
+    (lines : List Due)
     (kept : Kept) (key : Key) → IsLawfulSwitch t → is_known t key ≡ true → AreKept t c until ended time given lines kept
     → key_place key < length kept.slots.items
 stands-within t c until ended time given lines kept key lawful known are =
@@ -268,17 +283,20 @@ kept-none t c until time kept count nothing agenda = record {
   falling = λ k. tt;
 }
   where
-    stands : (k : Key) (o : Option ℕ) → is_known_by t k o ≡ true → KeyStandsBy t c until None time k (nothing_given k) [] Nothing o
+    stands : (k : Key) (o : Option ℕ) → is_known_by t k o ≡ true → KeyStandsBy t c until None time k (nothing_given k)
+        [] Nothing o
     stands k None known = (refl, refl)
     stands k (Some place) known = linked (link_to t place k.port) known
       where
-        linked : (o : Option LinkRow) → is_some o ≡ true → LinkStands t c until None time k (nothing_given k) [] Nothing o
+        linked : (o : Option LinkRow) → is_some o ≡ true → LinkStands t c until None time k (nothing_given k) []
+            Nothing o
         linked None h = absurd (true≢false (sym h))
         linked (Some l) h = (refl, refl, refl)
 
 -- ---- frames of no stream
 
-nothing-strange : (k : Key) (all lines : List Due) (slot : Slot) → (IsStrange slot → ⊥) → StrangersStand k all lines slot
+nothing-strange : (k : Key) (all lines : List Due) (slot : Slot) → (IsStrange slot → ⊥)
+    → StrangersStand k all lines slot
     → (all ≡ []) × (lines ≡ []) × (slot_due slot ≡ None)
 unfolding StrangersStand slot_due
 nothing-strange k all lines Nothing none stands = (stands.0, stands.1, refl)
@@ -286,7 +304,8 @@ nothing-strange k all lines (Strangers s) none stands = absurd (none tt)
 nothing-strange k all lines (Stream s told) none stands = absurd stands
 
 -- room for them is put where there was none
-pub kept-room : (t : Rows) (c : Choices) (until : ℕ) (lawful : IsLawfulSwitch t) (time : ℕ) (given : Key → Given) (lines : List Due)
+pub kept-room : (t : Rows) (c : Choices) (until : ℕ) (lawful : IsLawfulSwitch t) (time : ℕ) (given : Key → Given)
+    (lines : List Due)
     (old new : Kept) (key : Key) (slot : Slot)
     → key.link ≡ None
     → is_known t key ≡ true
@@ -305,11 +324,13 @@ kept-room t c until lawful time given lines old new key slot no-link known kept 
     (from-strangers t c until None time key (given key) (of_key key lines) slot no-link
     (subst (λ ls. StrangersStand key (given key).strange ls slot) (sym was.1)
     (subst (λ all. StrangersStand key all [] slot) (sym was.0) stands)))
-    (λ k other. refl) (inr no-due) (inr (subst (λ d. IsNoSooner time d) (sym no-due) tt)) (omega arith) agenda slots kept.falling
+    (λ k other. refl) (inr no-due) (inr (subst (λ d. IsNoSooner time d) (sym no-due) tt)) (omega arith) agenda slots
+    kept.falling
 
 pub room-there : (slots : List Slot) (key : Key) (slot : Slot) → key_place key < length slots → IsStrange slot
     → IsStrange (slot_at (set slots (key_place key) slot) key)
-room-there slots key slot within is = subst IsStrange (sym (get_or-set_same slots (key_place key) slot Nothing within)) is
+room-there slots key slot within is =
+    subst IsStrange (sym (get_or-set_same slots (key_place key) slot Nothing within)) is
 
 pub if-some : {X : Type 0} {P Q : X → Type 0} → ((x : X) → P x → Q x) → (o : Option X) → IfSome o P → IfSome o Q
 if-some f (Some x) p = f x p

@@ -43,7 +43,8 @@ later x y small lt = nat_cmp_is (rank_of x) (rank_of y) Greater (omega (arith, l
 behind-one : (k a b : ℕ) → nat_cmp a b ≡ nat_cmp (k + a) (k + b)
 behind-one k a b = grind (arith, nat_tests)
 
-pub by-key : (x y : Entry) → x.moment ≡ y.moment → nat_cmp (key_rank x.key) (key_rank y.key) ≡ nat_cmp (rank_of x) (rank_of y)
+pub by-key : (x y : Entry) → x.moment ≡ y.moment → nat_cmp (key_rank x.key) (key_rank y.key) ≡ nat_cmp (rank_of x)
+    (rank_of y)
 by-key x y same =
     behind-one (x.moment * 0x10000000000000000) (key_rank x.key) (key_rank y.key)
     ∙ ap (λ m. nat_cmp (rank_of x) (m * 0x10000000000000000 + key_rank y.key)) same

@@ -1,19 +1,17 @@
 -- What a run has begun to tell.
 use Rattle.std.proofs.Common.{◌≡◌, ℕ, ◌≤◌, Bool, true, false, List, [], ◌∷◌, ◌++◌, inr, refl, sym, ap, ◌∙◌, subst, arith}
 use Rattle.std.proofs.lemmas.Bool.{le-ltb}
-use Rattle.std.proofs.lemmas.List.{append-nil}
 use Rattle.std.specs.Io.KnownBytes.{Appends}
 use Rattle.std.specs.Prelude.{Err, None, Ok, OnErr, Option, Result, Some, cond, filter, nat_lt}
-use Rattle.std.specs.List.{AllByRecursion}
 use Rattle.afdx_config.specs.Rows.{Rows}
 use Rattle.afdx_inputs.specs.Joining.{Frame}
 use Rattle.afdx_lists.specs.Calls.{AppendsFront}
 use Rattle.afdx_text.proofs.OutputLemmas.{front-more, whole_front}
 use Rattle.afdx_text.specs.declared.conform_line.ConformLine.{ConformLine}
-use Rattle.afdx_acceptance.specs.Beginning.{AreBegun, AreEarly, AreFirstLines, BeginsFrom, IsEndFrom}
+use Rattle.afdx_acceptance.specs.Beginning.{AreEarly, AreFirstLines, BeginsFrom, IsEndFrom}
 use Rattle.afdx_acceptance.specs.Choices.{Choices, latest_of, until_or}
 use Rattle.afdx_acceptance.specs.Keeping.{IsSomeUpTo}
-use Rattle.afdx_acceptance.specs.Lines.{AreInOrder, Due, dues_of, rank}
+use Rattle.afdx_acceptance.specs.Lines.{AreInOrder, Due, dues_of}
 use Rattle.afdx_acceptance.specs.Telling.{lines_text}
 use Rattle.afdx_acceptance.specs.Told.{GoesOn, HasBegun, Stands}
 use Rattle.afdx_acceptance.specs.Written.{BeginsAll, BeginsWritten}
@@ -40,7 +38,8 @@ up-to to before is = subst (λ b. IsSomeUpTo to b) (sym is) (omega arith)
 
 -- to the end
 pub goes-on : (k : Rows × Choices) (time until : ℕ) (ended : Option ℕ) (frames : List Frame) → time ≤ until
-    → ((end : ℕ) → k.1.until ≡ Some end → until ≤ end) → ended ≡ None → GoesOn k false time until (Some until) ended frames
+    → ((end : ℕ) → k.1.until ≡ Some end → until ≤ end) → ended ≡ None → GoesOn k false time until (Some until) ended
+    frames
 goes-on k time until ended frames le said none = record {
   later = le;
   running = λ e. refl;
@@ -62,7 +61,8 @@ goes-past k time j lines frames stands = record {
 
 -- and once all came
 pub goes-last : (k : Rows × Choices) (time : ℕ) (j : Judging) (lines : List ConformLine) (frames : List Frame) (end : ℕ)
-    → j.streams.ended ≡ Some end → Stands k true time j frames lines → GoesOn k true time time None j.streams.ended frames
+    → j.streams.ended ≡ Some end → Stands k true time j frames lines → GoesOn k true time time None j.streams.ended
+    frames
 goes-last k time j lines frames end at stands = record {
   later = omega arith;
   running = λ e. absurd (let bad = sym e ∙ at in cc bad);
@@ -73,12 +73,15 @@ goes-last k time j lines frames end at stands = record {
 
 -- ---- a beginning
 
-pub begun-as : (k : Rows × Choices) (last : Bool) (time : ℕ) (ended : Option ℕ) (old new : Option (List ℕ)) (frames : List Frame)
+pub begun-as : (k : Rows × Choices) (last : Bool) (time : ℕ) (ended : Option ℕ) (old new : Option (List ℕ))
+    (frames : List Frame)
     → ended ≡ None → HasBegun k last time ended old new frames → HasBegun k last time None old new frames
 begun-as k last time ended old new frames none h = subst (λ e. HasBegun k last time e old new frames) none h
 
-pub begun-from : {V E : Type 0} (r : Result V E) (k : Rows × Choices) (until time : ℕ) (ended : Option ℕ) (old new : Option (List ℕ))
-    (frames : List Frame) → latest_of frames ≤ until → until ≤ time → OnErr r (HasBegun k false until ended old new frames)
+pub begun-from : {V E : Type 0} (r : Result V E) (k : Rows × Choices) (until time : ℕ) (ended : Option ℕ)
+    (old new : Option (List ℕ))
+    (frames : List Frame) → latest_of frames ≤ until → until ≤ time
+    → OnErr r (HasBegun k false until ended old new frames)
     → OnErr r (BeginsFrom k time old new frames)
 begun-from (Ok v) k until time ended old new frames latest le h = tt
 begun-from (Err e) k until time ended old new frames latest le (j, lines, begun, is, stands) = (
@@ -88,7 +91,8 @@ begun-from (Err e) k until time ended old new frames latest le (j, lines, begun,
       (stands-begun k frames until j lines latest stands),
 )
 
-pub begun-all : {V E : Type 0} (r : Result V E) (k : Rows × Choices) (until : ℕ) (ended : Option ℕ) (old new : Option (List ℕ))
+pub begun-all : {V E : Type 0} (r : Result V E) (k : Rows × Choices) (until : ℕ) (ended : Option ℕ)
+    (old new : Option (List ℕ))
     (frames : List Frame) → latest_of frames ≤ until → IsEndFrom k.1.until until (until_or k.1.until frames)
     → OnErr r (HasBegun k false until ended old new frames)
     → OnErr r (BeginsAll k frames old new)
@@ -102,7 +106,8 @@ begun-all (Err e) k until ended old new frames latest may (j, lines, begun, is, 
     }
 
 pub begun-last : {V E : Type 0} (r : Result V E) (k : Rows × Choices) (time : ℕ) (ended : Option ℕ) (end : ℕ)
-    (old new : Option (List ℕ)) (frames : List Frame) → ended ≡ Some end → OnErr r (HasBegun k true time ended old new frames)
+    (old new : Option (List ℕ)) (frames : List Frame) → ended ≡ Some end
+    → OnErr r (HasBegun k true time ended old new frames)
     → OnErr r (BeginsAll k frames old new)
 begun-last (Ok v) k time ended end old new frames at h = tt
 begun-last (Err e) k time ended end old new frames at (j, lines, begun, is, stands) =
@@ -126,10 +131,6 @@ none-before (d ∷ xs) = none-before xs
     ∙ sym (ap (λ b. cond b (d ∷ filter (λ e. nat_lt e.moment 0) xs) (filter (λ e. nat_lt e.moment 0) xs))
     (le-ltb d.moment 0 (omega arith)))
 
-all-later : (xs : List Due) → AllByRecursion (λ d. 0 ≤ rank d) xs
-all-later [] = tt
-all-later (d ∷ xs) = (omega arith, all-later xs)
-
 nothing-in-order : AreInOrder []
 unfolding AreInOrder
 nothing-in-order = tt
@@ -140,21 +141,6 @@ nothing-early k until more may late = (
   refl,
   record {
     own = λ key small. none-before (dues_of k.0 k.1 until (more ++ []) key);
-    only = λ key large. refl;
-    in_order = nothing-in-order;
-  },
-)
-
-pub nothing-begun : (k : Rows × Choices) → AreBegun k 0 [] []
-nothing-begun k until more may late = (
-  [],
-  refl,
-  record {
-    own = λ key small. record {
-      rest = dues_of k.0 k.1 until (more ++ []) key;
-      are = sym (append-nil (dues_of k.0 k.1 until (more ++ []) key));
-      later = all-later (dues_of k.0 k.1 until (more ++ []) key);
-    };
     only = λ key large. refl;
     in_order = nothing-in-order;
   },

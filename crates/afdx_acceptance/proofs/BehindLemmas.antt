@@ -55,7 +55,8 @@ module _ (z : Terms) (k : Key) (Q : ℕ → Type 0) where
   unsure-at [] h = tt
   unsure-at (m ∷ before) h = ((h m before refl, refl), tt)
 
-  newest-at : (arrivals : List Marked) → ((m : Marked) (more : List Marked) → arrivals ≡ more ++ m ∷ [] → At m.arrival.time)
+  newest-at : (arrivals : List Marked) → ((m : Marked) (more : List Marked) → arrivals ≡ more ++ m ∷ []
+      → At m.arrival.time)
       → (m : Marked) (before : List Marked) → reverse arrivals ≡ m ∷ before → At m.arrival.time
   newest-at arrivals h m before is =
       h m (reverse before) (sym (reverse-reverse arrivals) ∙ ap (λ l. reverse l) is ∙ reverse-append (m ∷ []) before)
@@ -73,17 +74,21 @@ module _ (z : Terms) (k : Key) (Q : ℕ → Type 0) where
       by true un d e = record { rest = []; are = ap (λ i. judged_dues z k i) (h.same un); later = tt }
       by false sure true e = record {
         rest = unsure_dues z k (reverse whole.arrivals) ++ map (found_due z k) h.found;
-        are = ap (λ b. (if b then unsure_dues z k (reverse whole.arrivals) else []) ++ map (found_due z k) whole.findings) e
+        are = ap (λ b. (if b then unsure_dues z k (reverse whole.arrivals) else []) ++ map (found_due z k)
+            whole.findings) e
             ∙ ap (λ l. unsure_dues z k (reverse whole.arrivals) ++ l) found
-            ∙ sym (append_assoc (unsure_dues z k (reverse whole.arrivals)) (map (found_due z k) h.found) (map (found_due z k) j.findings))
+            ∙ sym (append_assoc (unsure_dues z k (reverse whole.arrivals)) (map (found_due z k) h.found)
+            (map (found_due z k) j.findings))
             ∙ ap (λ b. (unsure_dues z k (reverse whole.arrivals) ++ map (found_due z k) h.found)
             ++ ((if b then unsure_dues z k (reverse j.arrivals) else []) ++ map (found_due z k) j.findings)) (sym sure);
-        later = every-append (λ d. Q d.moment × (d.key ≡ k)) (unsure_dues z k (reverse whole.arrivals)) (map (found_due z k) h.found)
+        later = every-append (λ d. Q d.moment × (d.key ≡ k)) (unsure_dues z k (reverse whole.arrivals))
+            (map (found_due z k) h.found)
             (unsure-at (reverse whole.arrivals) (newest-at whole.arrivals (h.newest sure e))) (found-at h.found h.at);
       }
       by false sure false e = record {
         rest = map (found_due z k) h.found;
-        are = ap (λ b. (if b then unsure_dues z k (reverse whole.arrivals) else []) ++ map (found_due z k) whole.findings) e
+        are = ap (λ b. (if b then unsure_dues z k (reverse whole.arrivals) else []) ++ map (found_due z k)
+            whole.findings) e
             ∙ found
             ∙ ap (λ b. map (found_due z k) h.found
             ++ ((if b then unsure_dues z k (reverse j.arrivals) else []) ++ map (found_due z k) j.findings)) (sym sure);
@@ -97,21 +102,25 @@ module _ (z : Terms) (k : Key) (Q : ℕ → Type 0) where
       (subst (λ l. IsBehind k Q (judged_dues z k j) l) (all-shown z k whole) (dues-added j (shown whole) h))
 
   module _ (up : (a b : ℕ) → a ≤ b → Q a → Q b) where
-    pub stream-behind : (time : ℕ) → Q time → time ≤ z.until → (xs ls : List Arrival) (ys ms : List Gone) (lines : List Due)
+    pub stream-behind : (time : ℕ) → Q time → time ≤ z.until → (xs ls : List Arrival) (ys ms : List Gone)
+        (lines : List Due)
         (s : Slot) → ((m : ℕ) → slot_due s ≡ Some m → Q m)
-        → AllByRecursion (λ x. time ≤ x.time) ls → AllByRecursion (λ y. time ≤ y.time) ms → StreamStands z k xs ys lines time s
+        → AllByRecursion (λ x. time ≤ x.time) ls → AllByRecursion (λ y. time ≤ y.time) ms
+        → StreamStands z k xs ys lines time s
         → IsBehind k Q lines (judged_dues z k (judged_of z (xs ++ ls) (ys ++ ms)))
     unfolding StreamStands slot_due
     stream-behind time here le xs ls ys ms lines slot.Nothing due come leave (no-xs, no-ys, no-lines) =
         subst (λ l. IsBehind k Q lines (judged_dues z k (judged_of z (l ++ ls) (ys ++ ms)))) (sym no-xs)
         (subst (λ l. IsBehind k Q lines (judged_dues z k (judged_of z ls (l ++ ms)))) (sym no-ys)
-        (of-shown nothing_judged (judged_of z ls ms) lines (no-lines ∙ sym (no-dues z k)) (fresh-adds z Q up time here ls ms come leave)))
+        (of-shown nothing_judged (judged_of z ls ms) lines (no-lines ∙ sym (no-dues z k))
+        (fresh-adds z Q up time here ls ms come leave)))
     stream-behind time here le xs ls ys ms lines (slot.Strangers s) due come leave stands = absurd stands
     stream-behind time here le xs ls ys ms lines (slot.Stream s told) due come leave (j, stands, are, said) =
         of-shown j (judged_of z (xs ++ ls) (ys ++ ms)) lines are
         (running-adds z Q up time here xs ls ys ms j s.value stands le due come leave)
 
-    pub ended-behind : (xs : List Arrival) (ys : List Gone) (lines : List Due) (s : Slot) → ((m : ℕ) → slot_due s ≡ Some m → Q m)
+    pub ended-behind : (xs : List Arrival) (ys : List Gone) (lines : List Due) (s : Slot)
+        → ((m : ℕ) → slot_due s ≡ Some m → Q m)
         → StreamEnds z k xs ys lines s → IsBehind k Q lines (judged_dues z k (judged_of z xs ys))
     unfolding StreamEnds slot_due
     ended-behind xs ys lines slot.Nothing due (no-xs, no-ys, no-lines) = record {
@@ -137,7 +146,8 @@ module _ (k : Key) (Q : ℕ → Type 0) (up : (a b : ℕ) → a ≤ b → Q a �
       ap (λ l. map (waiting_due k) l ++ lines) (reverse-append (x ∷ y ∷ []) w)
       ∙ ap (λ l. l ++ lines) (map-append (waiting_due k) (reverse w) (y ∷ x ∷ []))
       ∙ append_assoc (map (waiting_due k) (reverse w)) (waiting_due k y ∷ waiting_due k x ∷ []) lines in
-      let order : x.time ≤ y.time = falling-behind (map (waiting_due k) (reverse w)) (waiting_due k y) (waiting_due k x) lines
+      let order : x.time ≤ y.time = falling-behind (map (waiting_due k) (reverse w)) (waiting_due k y)
+      (waiting_due k x) lines
       (subst AreFalling moved falling) in
       let one : map (waiting_due k) (reverse (y ∷ w)) ++ waiting_due k x ∷ lines
       ≡ map (waiting_due k) (reverse w) ++ waiting_due k y ∷ waiting_due k x ∷ lines =
@@ -168,10 +178,13 @@ module _ (k : Key) (Q : ℕ → Type 0) (up : (a b : ℕ) → a ≤ b → Q a �
       let w = s.value.waiting.items in
       record {
         rest = newer ++ map (waiting_due k) (reverse s.value.waiting.items);
-        are = ap (λ l. newer ++ l) stands ∙ sym (append_assoc newer (map (waiting_due k) (reverse s.value.waiting.items)) lines);
-        later = every-append (λ d. Q d.moment × (d.key ≡ k)) newer (map (waiting_due k) (reverse s.value.waiting.items)) new
+        are = ap (λ l. newer ++ l) stands
+            ∙ sym (append_assoc newer (map (waiting_due k) (reverse s.value.waiting.items)) lines);
+        later = every-append (λ d. Q d.moment × (d.key ≡ k)) newer
+            (map (waiting_due k) (reverse s.value.waiting.items)) new
             (every-map (λ d. Q d.moment × (d.key ≡ k)) (waiting_due k) (reverse s.value.waiting.items)
-            (reversed (λ x. Q x.time × (k ≡ k)) w (every-on (λ x. Q x.time) (λ x. Q x.time × (k ≡ k)) (λ x q. (q, refl)) w
+            (reversed (λ x. Q x.time × (k ≡ k)) w (every-on (λ x. Q x.time) (λ x. Q x.time × (k ≡ k))
+            (λ x q. (q, refl)) w
             (waiting-at w lines (subst AreFalling stands falling) due))));
       }
   strangers-behind newer all lines (slot.Stream s told) new falling due stands = absurd stands

@@ -48,7 +48,8 @@ map-reverse f (x ∷ xs) =
 
 -- ---- those that pass a test
 
-every-filter : {X : Type 0} (time : X → ℕ) (test : X → Bool) (t : ℕ) (xs : List X) → AllByRecursion (λ u. u ≤ t) (map time xs)
+every-filter : {X : Type 0} (time : X → ℕ) (test : X → Bool) (t : ℕ) (xs : List X)
+    → AllByRecursion (λ u. u ≤ t) (map time xs)
     → AllByRecursion (λ u. u ≤ t) (map time (filter test xs))
 every-filter time test t [] h = tt
 every-filter time test t (x ∷ xs) h = by (test x) (every-filter time test t xs h.1)
@@ -58,11 +59,13 @@ every-filter time test t (x ∷ xs) h = by (test x) (every-filter time test t xs
     by true k = (h.0, k)
     by false k = k
 
-down-filter : {X : Type 0} (time : X → ℕ) (test : X → Bool) (xs : List X) → Down (map time xs) → Down (map time (filter test xs))
+down-filter : {X : Type 0} (time : X → ℕ) (test : X → Bool) (xs : List X) → Down (map time xs)
+    → Down (map time (filter test xs))
 down-filter time test [] h = tt
 down-filter time test (x ∷ xs) h = by (test x) (down-filter time test xs h.1)
   where
-    by : (b : Bool) → Down (map time (filter test xs)) → Down (map time (if b then x ∷ filter test xs else filter test xs))
+    by : (b : Bool) → Down (map time (filter test xs))
+        → Down (map time (if b then x ∷ filter test xs else filter test xs))
     by true k = (every-filter time test (time x) xs h.0, k)
     by false k = k
 
@@ -92,11 +95,13 @@ down-frames (x ∷ frames) h = (
 
 -- ---- a stream's
 
-arrivals-times : (frames : List Frame) → map (λ (x : Arrival). x.time) (map (λ (x : Frame). x.arrival) frames) ≡ map time_of frames
+arrivals-times : (frames : List Frame) → map (λ (x : Arrival). x.time) (map (λ (x : Frame). x.arrival) frames)
+    ≡ map time_of frames
 arrivals-times [] = refl
 arrivals-times (x ∷ frames) = ap (λ l. x.arrival.time ∷ l) (arrivals-times frames)
 
-gone-times : (frames : List Frame) → map (λ (y : Gone). y.time) (map (λ (x : Frame). gone_of x.arrival) frames) ≡ map time_of frames
+gone-times : (frames : List Frame) → map (λ (y : Gone). y.time) (map (λ (x : Frame). gone_of x.arrival) frames)
+    ≡ map time_of frames
 gone-times [] = refl
 gone-times (x ∷ frames) = ap (λ l. x.arrival.time ∷ l) (gone-times frames)
 
@@ -105,7 +110,8 @@ unfolding GoByTime
 by-time [] h = tt
 by-time (x ∷ xs) h = (times xs h.0, by-time xs h.1)
   where
-    times : (ws : List Arrival) → AllByRecursion (λ u. u ≤ x.time) (map (λ x. x.time) ws) → AllByRecursion (λ w. w.time ≤ x.time) ws
+    times : (ws : List Arrival) → AllByRecursion (λ u. u ≤ x.time) (map (λ x. x.time) ws)
+        → AllByRecursion (λ w. w.time ≤ x.time) ws
     times [] k = tt
     times (w ∷ ws) k = (k.0, times ws k.1)
 
@@ -160,7 +166,9 @@ module _ (t : Rows) (c : Choices) (frames : List Frame) (order : AreByTime frame
     -- those that aren't cut off
     pub uncut-go : (z : Terms) → GoUp (frame_times (reverse (uncut z (frames_of t c vl side port frames))))
     uncut-go z =
-        subst (λ (l : List ℕ). GoUp l) (sym (map-reverse (λ (y : Gone). y.time) (uncut z (frames_of t c vl side port frames))))
+        subst (λ (l : List ℕ). GoUp l)
+        (sym (map-reverse (λ (y : Gone). y.time) (uncut z (frames_of t c vl side port frames))))
         (down-up (map (λ y. y.time) (uncut z (frames_of t c vl side port frames)))
-        (down-filter (λ (y : Gone). y.time) (λ y. nat_le (y.time + reach z.by) z.until) (frames_of t c vl side port frames)
+        (down-filter (λ (y : Gone). y.time) (λ y. nat_le (y.time + reach z.by) z.until)
+        (frames_of t c vl side port frames)
         down-gone))

@@ -56,10 +56,12 @@ three-parts false b c e = absurd (true≢false (sym e))
 -- the link at this place, where it is the one that a frame names
 pub same-row : (t : Rows) (place p : ℕ) (l m : LinkRow) → nat_eq place p ≡ true → slice_get t.links place ≡ Some l
     → slice_get t.links p ≡ Some m → m ≡ l
-same-row t place p l m e at there = same_Some m l (sym there ∙ ap (λ i. slice_get t.links i) (sym (eqb-true place p e)) ∙ at)
+same-row t place p l m e at there = same_Some m l (sym there
+    ∙ ap (λ i. slice_get t.links i) (sym (eqb-true place p e)) ∙ at)
 
 -- of a link that is named so
-pub given-came : (t : Rows) (taps : Taps) (k : Key) (fs : List Frame) (a : Arrival) (place : ℕ) (l : LinkRow) → IsLawfulSwitch t
+pub given-came : (t : Rows) (taps : Taps) (k : Key) (fs : List Frame) (a : Arrival) (place : ℕ) (l : LinkRow)
+    → IsLawfulSwitch t
     → place_named t a.bytes ≡ Some place → slice_get t.links place ≡ Some l → is_known t k ≡ true
     → is_heard t taps a.side l ≡ true
     → given_from t taps k (frame_with Came a ∷ fs) k.link
@@ -70,7 +72,8 @@ given-came t taps k fs a place l lawful named at known heard = by k.link known
     among : Bool
     among = list_any (λ q. nat_eq q k.port) (seen_ports t taps a.side l.to)
 
-    judged : (p : ℕ) (m : LinkRow) → judged_to t taps k.side p k.port ≡ Some m → linked k (frame_with Came a ∷ fs) (Some m)
+    judged : (p : ℕ) (m : LinkRow) → judged_to t taps k.side p k.port ≡ Some m → linked k (frame_with Came a ∷ fs)
+        (Some m)
         ≡ (if is_side a.side k.side && nat_eq place p && among
         then given_with ((linked k fs (Some m)).came ++ a ∷ []) (linked k fs (Some m)).left []
         else linked k fs (Some m))
@@ -82,12 +85,15 @@ given-came t taps k fs a place l lawful named at known heard = by k.link known
         subst (λ n. given_with (reverse (map (λ y. y.arrival)
         (cond (is_side a.side k.side && n) (frame_with Came a ∷ filter (is_arrival_of m.vl k.side) fs)
         (filter (is_arrival_of m.vl k.side) fs))))
-        (reverse (map (λ x. gone_of x.arrival) (filter (λ x. left_at k.side k.port x && names m.vl x.arrival.bytes) fs))) []
+        (reverse (map (λ x. gone_of x.arrival) (filter (λ x. left_at k.side k.port x && names m.vl x.arrival.bytes)
+        fs))) []
         ≡ (if is_side a.side k.side && nat_eq place p && among
         then given_with ((linked k fs (Some m)).came ++ a ∷ []) (linked k fs (Some m)).left []
         else linked k fs (Some m))) (sym n-is)
-        (comes (frame_with Came a) (is_side a.side k.side) (nat_eq place p) among (filter (is_arrival_of m.vl k.side) fs)
-        (reverse (map (λ x. gone_of x.arrival) (filter (λ x. left_at k.side k.port x && names m.vl x.arrival.bytes) fs)))
+        (comes (frame_with Came a) (is_side a.side k.side) (nat_eq place p) among
+        (filter (is_arrival_of m.vl k.side) fs)
+        (reverse (map (λ x. gone_of x.arrival) (filter (λ x. left_at k.side k.port x && names m.vl x.arrival.bytes)
+        fs)))
         (λ s e. any-passes (taps Left a.side) k.port (map (port_of t) l.to)
         (ap (λ d. taps Left d k.port) (same-side a.side k.side s)
         ∙ (and_parts (is_heard t taps k.side m) (taps Left k.side k.port) both.1).1)
@@ -112,7 +118,8 @@ given-came t taps k fs a place l lawful named at known heard = by k.link known
 
     by : (o : Option ℕ) → is_known_by t k o ≡ true → given_from t taps k (frame_with Came a ∷ fs) o
         ≡ (if is_side a.side k.side && is_link (Some place) o && among
-        then given_with ((given_from t taps k fs o).came ++ a ∷ []) (given_from t taps k fs o).left (given_from t taps k fs o).strange
+        then given_with ((given_from t taps k fs o).came ++ a ∷ []) (given_from t taps k fs o).left
+        (given_from t taps k fs o).strange
         else given_from t taps k fs o)
     by None h = sym (never (is_side a.side k.side) among
         (given_with ((given_from t taps k fs None).came ++ a ∷ []) (given_from t taps k fs None).left
@@ -144,7 +151,8 @@ given-deaf t taps k fs a none = by k.link
     by-link p None is = refl
     by-link p (Some m) is = ap (λ v. given_with (reverse (map (λ y. y.arrival)
         (cond v (frame_with Came a ∷ filter (is_arrival_of m.vl k.side) fs) (filter (is_arrival_of m.vl k.side) fs))))
-        (reverse (map (λ x. gone_of x.arrival) (filter (λ x. left_at k.side k.port x && names m.vl x.arrival.bytes) fs))) [])
+        (reverse (map (λ x. gone_of x.arrival) (filter (λ x. left_at k.side k.port x && names m.vl x.arrival.bytes)
+        fs))) [])
         (none p m is)
 
     by : (o : Option ℕ) → given_from t taps k (frame_with Came a ∷ fs) o ≡ given_from t taps k fs o
@@ -161,17 +169,20 @@ pub given-unnamed : (t : Rows) (taps : Taps) (k : Key) (fs : List Frame) (a : Ar
     → given_from t taps k (frame_with Came a ∷ fs) k.link ≡ given_from t taps k fs k.link
 given-unnamed t taps k fs a lawful named = given-deaf t taps k fs a (λ p m is.
     let there = link-to t p k.port m (judged-is t taps k.side p k.port m is).0 in
-    let n-is : names m.vl a.bytes ≡ false = named-is t p m a.bytes lawful there.at ∙ ap (λ o. is_link o (Some p)) named in
+    let n-is : names m.vl a.bytes ≡ false = named-is t p m a.bytes lawful there.at
+    ∙ ap (λ o. is_link o (Some p)) named in
     ap (λ n. is_side a.side k.side && n) n-is ∙ and-false (is_side a.side k.side))
 
 -- its link's port isn't recorded
-pub given-unheard : (t : Rows) (taps : Taps) (k : Key) (fs : List Frame) (a : Arrival) (place : ℕ) (l : LinkRow) → IsLawfulSwitch t
+pub given-unheard : (t : Rows) (taps : Taps) (k : Key) (fs : List Frame) (a : Arrival) (place : ℕ) (l : LinkRow)
+    → IsLawfulSwitch t
     → place_named t a.bytes ≡ Some place → slice_get t.links place ≡ Some l → is_heard t taps a.side l ≡ false
     → given_from t taps k (frame_with Came a ∷ fs) k.link ≡ given_from t taps k fs k.link
 given-unheard t taps k fs a place l lawful named at deaf = given-deaf t taps k fs a (λ p m is.
     let both = judged-is t taps k.side p k.port m is in
     let there = link-to t p k.port m both.0 in
-    let n-is : names m.vl a.bytes ≡ nat_eq place p = named-is t p m a.bytes lawful there.at ∙ ap (λ o. is_link o (Some p)) named in
+    let n-is : names m.vl a.bytes ≡ nat_eq place p = named-is t p m a.bytes lawful there.at
+    ∙ ap (λ o. is_link o (Some p)) named in
     by (is_side a.side k.side) (names m.vl a.bytes) (λ s n.
     let row = same-row t place p l m (sym n-is ∙ n) at there.at in
     let hears = (and_parts (is_heard t taps k.side m) (taps Left k.side k.port) both.1).0 in

@@ -37,22 +37,59 @@ use Rattle.afdx_acceptance.proofs.TappedLemmas.{to-judged}
 counted-same : (a b : Counted) → a.explained ≡ b.explained → a.waiting ≡ b.waiting → a.uncertain ≡ b.uncertain
     → a.idle ≡ b.idle → a.is_unsure ≡ b.is_unsure → a ≡ b
 counted-same a b e w u i s =
-    ap (λ n. record { explained = n; waiting = a.waiting; uncertain = a.uncertain; idle = a.idle; is_unsure = a.is_unsure }) e
-    ∙ ap (λ n. record { explained = b.explained; waiting = n; uncertain = a.uncertain; idle = a.idle; is_unsure = a.is_unsure }) w
-    ∙ ap (λ n. record { explained = b.explained; waiting = b.waiting; uncertain = n; idle = a.idle; is_unsure = a.is_unsure }) u
-    ∙ ap (λ n. record { explained = b.explained; waiting = b.waiting; uncertain = b.uncertain; idle = n; is_unsure = a.is_unsure }) i
-    ∙ ap (λ n. record { explained = b.explained; waiting = b.waiting; uncertain = b.uncertain; idle = b.idle; is_unsure = n }) s
+    ap (λ n. record {
+      explained = n;
+      waiting = a.waiting;
+      uncertain = a.uncertain;
+      idle = a.idle;
+      is_unsure =
+          a.is_unsure;
+    }) e
+    ∙ ap (λ n. record {
+      explained = b.explained;
+      waiting = n;
+      uncertain = a.uncertain;
+      idle = a.idle;
+      is_unsure =
+          a.is_unsure;
+    }) w
+    ∙ ap (λ n. record {
+      explained = b.explained;
+      waiting = b.waiting;
+      uncertain = n;
+      idle = a.idle;
+      is_unsure =
+          a.is_unsure;
+    }) u
+    ∙ ap (λ n. record {
+      explained = b.explained;
+      waiting = b.waiting;
+      uncertain = b.uncertain;
+      idle = n;
+      is_unsure =
+          a.is_unsure;
+    }) i
+    ∙ ap (λ n. record {
+      explained = b.explained;
+      waiting = b.waiting;
+      uncertain = b.uncertain;
+      idle =
+          b.idle;
+      is_unsure = n;
+    }) s
 
 or-assoc : (a b c : Bool) → ((a || b) || c) ≡ (a || (b || c))
 or-assoc true b c = refl
 or-assoc false b c = refl
 
 pub both-assoc : (a b c : Counted) → both_counted (both_counted a b) c ≡ both_counted a (both_counted b c)
-both-assoc a b c = counted-same (both_counted (both_counted a b) c) (both_counted a (both_counted b c)) (omega arith) (omega arith)
+both-assoc a b c = counted-same (both_counted (both_counted a b) c) (both_counted a (both_counted b c)) (omega arith)
+    (omega arith)
     (omega arith) (omega arith) (or-assoc a.is_unsure b.is_unsure c.is_unsure)
 
 pub both-none : (a : Counted) → both_counted a none_counted ≡ a
-both-none a = counted-same (both_counted a none_counted) a (omega arith) (omega arith) (omega arith) (omega arith) (or-none a.is_unsure)
+both-none a = counted-same (both_counted a none_counted) a (omega arith) (omega arith) (omega arith) (omega arith)
+    (or-none a.is_unsure)
 
 pub none-both : (a : Counted) → both_counted none_counted a ≡ a
 none-both a = counted-same (both_counted none_counted a) a (omega arith) (omega arith) (omega arith) (omega arith) refl
@@ -69,7 +106,8 @@ nothing-counted : (z : Terms) → stream_counted z [] [] ≡ idle_counted
 unfolding judged_after events_of first_states least_from
 nothing-counted z = refl
 
-one-more : (n : Counted) (old new : Totals) → HasCounted n old → new ≡ record old { idle = min (old.idle + 1) most_counted }
+one-more : (n : Counted) (old new : Totals) → HasCounted n old
+    → new ≡ record old { idle = min (old.idle + 1) most_counted }
     → HasCounted (both_counted n idle_counted) new
 one-more n old new h is = subst (λ (m : Totals). HasCounted (both_counted n idle_counted) m) (sym is) (record {
   explained = (let e = h.explained in omega (arith, e));
@@ -81,7 +119,8 @@ one-more n old new h is = subst (λ (m : Totals). HasCounted (both_counted n idl
 
 -- what isn't a stream is of one that is idle
 pub has-other : (n : Counted) (z : Terms) (k : Key) (xs : List Arrival) (ys : List Gone) (lines : List Due) (s : Slot)
-    (old new : Totals) → ((b : Box Stream Global) (told : Bool) → s ≡ slot.Stream b told → ⊥) → StreamEnds z k xs ys lines s
+    (old new : Totals) → ((b : Box Stream Global) (told : Bool) → s ≡ slot.Stream b told → ⊥)
+    → StreamEnds z k xs ys lines s
     → HasCounted n old → new ≡ record old { idle = min (old.idle + 1) most_counted }
     → HasCounted (both_counted n (stream_counted z xs ys)) new
 unfolding StreamEnds
@@ -97,7 +136,8 @@ pub unsure-behind : (z : Terms) (xs : List Arrival) (ys : List Gone)
     → is_some (unsure_in (judged_of z xs ys)) ≡ (judged_of z xs ys).is_unsure
 unsure-behind z xs ys = by (judged_of z xs ys).is_unsure refl
   where
-    some : (l : List Marked) → (before : List Marked) × (one : Marked) × (l ≡ before ++ one ∷ []) → is_some (newest_tag l) ≡ true
+    some : (l : List Marked) → (before : List Marked) × (one : Marked) × (l ≡ before ++ one ∷ [])
+        → is_some (newest_tag l) ≡ true
     some l last = ap (λ m. is_some (newest_tag m)) last.2 ∙ ap is_some (newest-last last.0 last.1)
 
     by : (b : Bool) → (judged_of z xs ys).is_unsure ≡ b
@@ -124,9 +164,11 @@ told-is z k xs ys = by (judged_of z xs ys).is_unsure refl
         → has_line ((if b then unsure_dues z k (reverse (judged_of z xs ys).arrivals) else [])
         ++ map (found_due z k) (judged_of z xs ys).findings) ≡ (b || has_some (judged_of z xs ys).findings)
     by false e = found (judged_of z xs ys).findings
-    by true e = unsure (judged_of z xs ys).arrivals (map (found_due z k) (judged_of z xs ys).findings) (unsure-last z _ _ _ e)
+    by true e = unsure (judged_of z xs ys).arrivals (map (found_due z k) (judged_of z xs ys).findings)
+        (unsure-last z _ _ _ e)
 
-pub has-stream : (n : Counted) (z : Terms) (xs : List Arrival) (ys : List Gone) (counts : Counts) (old new : Totals) (b : Bool)
+pub has-stream : (n : Counted) (z : Terms) (xs : List Arrival) (ys : List Gone) (counts : Counts) (old new : Totals)
+    (b : Bool)
     (idle : ℕ) → HasCounted n old → counts ≡ counts_of z xs ys → (judged_of z xs ys).is_unsure ≡ b
     → idle ≡ idle_if (counts_of z xs ys).explained (is_told (judged_of z xs ys))
     → new.idle ≡ min (old.idle + idle) most_counted
@@ -170,7 +212,8 @@ module _ (t : Rows) (c : Choices) (until : ℕ) (frames : List Frame) where
   unfolding counted_to
   to-none side l = refl
 
-  to-append : (side : Side) (l : LinkRow) (xs : List ℕ) (system : ℕ) → counted_to t c until frames side l (xs ++ system ∷ [])
+  to-append : (side : Side) (l : LinkRow) (xs : List ℕ) (system : ℕ) → counted_to t c until frames side l
+      (xs ++ system ∷ [])
       ≡ both_counted (counted_to t c until frames side l xs) (counted_at t c until frames side l (port_of t system))
   unfolding counted_to
   to-append side l [] system = both-none (counted_at t c until frames side l (port_of t system))
@@ -183,9 +226,11 @@ module _ (t : Rows) (c : Choices) (until : ℕ) (frames : List Frame) where
   -- one more system
   pub to-next : (side : Side) (l : LinkRow) (rank system : ℕ) → system ≡ get_or l.to rank system → rank < length l.to
       → counted_to t c until frames side l (take (rank + 1) l.to)
-      ≡ both_counted (counted_to t c until frames side l (take rank l.to)) (counted_at t c until frames side l (port_of t system))
+      ≡ both_counted (counted_to t c until frames side l (take rank l.to))
+      (counted_at t c until frames side l (port_of t system))
   to-next side l rank system is lt =
-      ap (λ xs. counted_to t c until frames side l xs) (take_more l.to rank system lt ∙ ap (λ n. take rank l.to ++ n ∷ []) (sym is))
+      ap (λ xs. counted_to t c until frames side l xs) (take_more l.to rank system lt
+      ∙ ap (λ n. take rank l.to ++ n ∷ []) (sym is))
       ∙ to-append side l (take rank l.to) system
 
   pub among-none : (side : Side) → counted_among t c until frames side [] ≡ none_counted
@@ -221,17 +266,25 @@ pub totals-are : (k : Rows × Choices) (frames : List Frame) (dues : List Due) (
     → HasCounted (counted_of k.0 k.1 (until_or k.1.until frames) frames) totals
     → totals ≡ totals_of k frames dues
 totals-are k frames dues totals findings left_out unseen exercised has =
-    same totals (totals_of k frames dues) findings has.explained has.waiting has.uncertain left_out unseen has.idle has.is_unsure
+    same totals (totals_of k frames dues) findings has.explained has.waiting has.uncertain left_out unseen has.idle
+    has.is_unsure
     exercised
   where
-    same : (a b : Totals) → a.findings ≡ b.findings → a.explained ≡ b.explained → a.waiting ≡ b.waiting → a.uncertain ≡ b.uncertain
+    same : (a b : Totals) → a.findings ≡ b.findings → a.explained ≡ b.explained → a.waiting ≡ b.waiting
+        → a.uncertain ≡ b.uncertain
         → a.left_out ≡ b.left_out → a.unseen ≡ b.unseen → a.idle ≡ b.idle → a.is_unsure ≡ b.is_unsure
         → a.is_exercised ≡ b.is_exercised → a ≡ b
     same a b f e w u l s i un ex =
         ap (λ (n : ℕ). record a { findings = n }) f
         ∙ ap (λ (n : ℕ). record a { findings = b.findings; explained = n }) e
         ∙ ap (λ (n : ℕ). record a { findings = b.findings; explained = b.explained; waiting = n }) w
-        ∙ ap (λ (n : ℕ). record a { findings = b.findings; explained = b.explained; waiting = b.waiting; uncertain = n }) u
+        ∙ ap (λ (n : ℕ). record a {
+          findings = b.findings;
+          explained = b.explained;
+          waiting = b.waiting;
+          uncertain =
+              n;
+        }) u
         ∙ ap (λ (n : ℕ). record b {
           left_out = n;
           unseen = a.unseen;
@@ -239,7 +292,13 @@ totals-are k frames dues totals findings left_out unseen exercised has =
           is_unsure = a.is_unsure;
           is_exercised = a.is_exercised;
         }) l
-        ∙ ap (λ (n : ℕ). record b { unseen = n; idle = a.idle; is_unsure = a.is_unsure; is_exercised = a.is_exercised }) s
+        ∙ ap (λ (n : ℕ). record b {
+          unseen = n;
+          idle = a.idle;
+          is_unsure = a.is_unsure;
+          is_exercised =
+              a.is_exercised;
+        }) s
         ∙ ap (λ (n : ℕ). record b { idle = n; is_unsure = a.is_unsure; is_exercised = a.is_exercised }) i
         ∙ ap (λ (n : Bool). record b { is_unsure = n; is_exercised = a.is_exercised }) un
         ∙ ap (λ (n : Bool). record b { is_exercised = n }) ex

@@ -76,10 +76,12 @@ module _ (t : Rows) (c : Choices) (frames : List Frame) where
   came-role l k x e = (and_parts (is_of_came x.role) (is_side x.arrival.side k.side)
       (and_parts (is_of_came x.role && is_side x.arrival.side k.side) (names l.vl x.arrival.bytes) e).0).0
 
-  came-start : (k : Key) (o : Option LinkRow) → AllByRecursion (λ x. from_time c.by.start ≤ x.time) (given_to t c k frames o).came
+  came-start : (k : Key) (o : Option LinkRow) → AllByRecursion (λ x. from_time c.by.start ≤ x.time)
+      (given_to t c k frames o).came
   came-start k None = tt
   came-start k (Some l) = every-reverse (λ x. from_time c.by.start ≤ x.time) (arrivals_of t c l.vl k.side frames)
-      (every-map (λ x. from_time c.by.start ≤ x.time) (λ (x : Frame). x.arrival) (filter (is_arrival_of l.vl k.side) (counted t c frames))
+      (every-map (λ x. from_time c.by.start ≤ x.time) (λ (x : Frame). x.arrival)
+      (filter (is_arrival_of l.vl k.side) (counted t c frames))
       (every-on (λ x. (is_arrival_of l.vl k.side x ≡ true) × (counts t c x ≡ true))
       (λ x. from_time c.by.start ≤ x.arrival.time)
       (λ x h. came-from c x.role x.arrival.time (came-role l k x h.0) (counts-time t c x h.1))
@@ -106,9 +108,11 @@ module _ (t : Rows) (c : Choices) (frames : List Frame) where
     told-to z k (Some l) same = record {
       came = arrivals-go t c frames order l.vl k.side;
       left = frames-go t c frames order l.vl k.side k.port;
-      start = subst (λ b. AllByRecursion (λ x. from_time b.start ≤ x.time) (given_to t c k frames (Some l)).came) (sym same)
+      start = subst (λ b. AllByRecursion (λ x. from_time b.start ≤ x.time) (given_to t c k frames (Some l)).came)
+          (sym same)
           (came-start k (Some l));
-      begun = subst (λ b. AllByRecursion (λ y. from_time b.start ≤ y.time + reach b) (given_to t c k frames (Some l)).left)
+      begun = subst (λ b. AllByRecursion (λ y. from_time b.start ≤ y.time + reach b)
+          (given_to t c k frames (Some l)).left)
           (sym same) (left-start k (Some l));
     }
 
@@ -124,14 +128,16 @@ module _ (t : Rows) (c : Choices) (frames : List Frame) where
 
 -- ---- the lines of a key
 
-unsure-same : (z : Terms) (until : ℕ) (k : Key) (back : List Marked) → unsure_dues (until_then until z) k back ≡ unsure_dues z k back
+unsure-same : (z : Terms) (until : ℕ) (k : Key) (back : List Marked) → unsure_dues (until_then until z) k back
+    ≡ unsure_dues z k back
 unsure-same z until k [] = refl
 unsure-same z until k (m ∷ back) = refl
 
 dues-same : (z : Terms) (until : ℕ) (k : Key) (j : Judged) → judged_dues (until_then until z) k j ≡ judged_dues z k j
 unfolding judged_dues
 dues-same z until k j =
-    ap (λ l. (if j.is_unsure then l else []) ++ map (found_due z k) j.findings) (unsure-same z until k (reverse j.arrivals))
+    ap (λ l. (if j.is_unsure then l else []) ++ map (found_due z k) j.findings)
+    (unsure-same z until k (reverse j.arrivals))
 
 behind-filter : (k : Key) (time : ℕ) (first all : List Due) → IsBehind k (λ m. time ≤ m) first all
     → filter (λ d. nat_lt d.moment time) all ≡ filter (λ d. nat_lt d.moment time) first
@@ -158,7 +164,8 @@ module _ (t : Rows) (c : Choices) (until end time : ℕ) (more frames : List Fra
       (map (stranger_due t k) (strangers_of t c k.side k.port frames))
       ∙ ap (λ l. l ++ Early (map (stranger_due t k) (strangers_of t c k.side k.port frames)))
       (filter-none (λ d. nat_lt d.moment time) (map (stranger_due t k) (strangers_of t c k.side k.port more))
-      (every-on (λ d. (time ≤ d.moment) × (d.key ≡ k)) (λ d. nat_lt d.moment time ≡ false) (λ d h. le-ltb d.moment time h.0)
+      (every-on (λ d. (time ≤ d.moment) × (d.key ≡ k)) (λ d. nat_lt d.moment time ≡ false)
+      (λ d h. le-ltb d.moment time h.0)
       (map (stranger_due t k) (strangers_of t c k.side k.port more))
       (strange-late t c time more late k (λ m. time ≤ m) (λ a b le h. omega (arith, le, h)) (omega arith))))
       ∙ sym (ap (λ o. Early (dues_by t c end frames k o)) none)
@@ -171,7 +178,8 @@ module _ (t : Rows) (c : Choices) (until end time : ℕ) (more frames : List Fra
       let ys = (given_of t c frames k).left in
       let ls = (given_of t c more k).came in
       let ms = (given_of t c more k).left in
-      let to = judged-to z end time xs ls ys ms (told-of t c frames order until k l is) le end-le (came-late t c time more late k)
+      let to = judged-to z end time xs ls ys ms (told-of t c frames order until k l is) le end-le
+      (came-late t c time more late k)
       (left-late t c time more late k) in
       ap (λ l'. Early l') (dues-are t c until (more ++ frames) k l is
       ∙ ap (λ v. judged_dues z k (judged_of z v (given_of t c (more ++ frames) k).left)) (came-both t c more frames k)
@@ -204,9 +212,11 @@ module _ (t : Rows) (c : Choices) (until end time : ℕ) (more frames : List Fra
         ∙ sym (ap (λ l. Early l) (unknown-own t c end frames k small unknown))
   ]
     where
-      at : (u : ℕ) → c.until ≡ Some u → until ≡ u → end ≡ u → (b : Bool) → nat_lt u time ≡ b → (l : LinkRow) → IsStreamOf t k l
+      at : (u : ℕ) → c.until ≡ Some u → until ≡ u → end ≡ u → (b : Bool) → nat_lt u time ≡ b → (l : LinkRow)
+          → IsStreamOf t k l
           → AreSame k
-      at u said one two true lt l is = ended-early (one ∙ sym two) (none-counts t c time more late u said (ltb-true u time lt)) k l is
+      at u said one two true lt l is = ended-early (one ∙ sym two) (none-counts t c time more late u said
+          (ltb-true u time lt)) k l is
       at u said one two false ge l is =
           let le = ltb-false u time ge in running-early (omega (arith, le, one)) (omega (arith, le, two)) k l is
 
@@ -249,7 +259,8 @@ cut-lines time (d ∷ lines) ranged order = by (nat_lt d.moment time) refl (cut-
           are_early = (
             lt,
             every-on (λ f. rank f ≤ rank d) (λ f. f.moment < time)
-                (λ f le. (let m = moments f.moment d.moment (key_rank f.key) (side_rank d.key.side) d.key.port (link_rank d.key.link)
+                (λ f le. (let m = moments f.moment d.moment (key_rank f.key) (side_rank d.key.side) d.key.port
+                (link_rank d.key.link)
                 (side-small d.key.side) ranged.0.port ranged.0.link le in omega (arith, m, lt))) lines
                 (all-below (rank d) lines order.0 order.1),
           );
@@ -290,10 +301,12 @@ lines-begin t c until end time more frames lines few order late may may-end are 
             ∙ filter-append (λ d. nat_lt d.moment time) (of_key k cut.later) (of_key k cut.early)
             ∙ ap (λ l. l ++ filter (λ d. nat_lt d.moment time) (of_key k cut.early))
             (filter-none (λ d. nat_lt d.moment time) (of_key k cut.later)
-            (every-on (λ d. time ≤ d.moment) (λ d. nat_lt d.moment time ≡ false) (λ d h. le-ltb d.moment time h) (of_key k cut.later)
+            (every-on (λ d. time ≤ d.moment) (λ d. nat_lt d.moment time ≡ false) (λ d h. le-ltb d.moment time h)
+            (of_key k cut.later)
             (all-of (λ d. time ≤ d.moment) k cut.later cut.are_later)))
             ∙ filter-all (λ d. nat_lt d.moment time) (of_key k cut.early)
-            (every-on (λ d. d.moment < time) (λ d. nat_lt d.moment time ≡ true) (λ d h. lt-ltb d.moment time h) (of_key k cut.early)
+            (every-on (λ d. d.moment < time) (λ d. nat_lt d.moment time ≡ true) (λ d h. lt-ltb d.moment time h)
+            (of_key k cut.early)
             (all-of (λ d. d.moment < time) k cut.early cut.are_early)))
             ∙ ap (λ l. filter (λ d. nat_lt d.moment time) l) (are.own k small)
             ∙ key-early t c until end time more frames order late may may-end k small;

@@ -29,7 +29,8 @@ module _ (so : (until : ℕ) → List Frame → List Due → Type 0) (k : Rows �
   end-later None time to end le h = omega (arith, h, le)
   end-later (Some until) time to end le h = h
 
-  pub comes-later : (time to : ℕ) (frames : List Frame) (lines : List ConformLine) → time ≤ to → WhateverComes so k time frames lines
+  pub comes-later : (time to : ℕ) (frames : List Frame) (lines : List ConformLine) → time ≤ to
+      → WhateverComes so k time frames lines
       → WhateverComes so k to frames lines
   comes-later time to frames lines le h until more may late =
       h until more (end-later k.1.until time to until le may)
@@ -60,7 +61,8 @@ module _ (k : Rows × Choices) (frames : List Frame) (time : ℕ) (j : Judging) 
     (latest : latest_of frames ≤ time) (stands : Stands k false time j frames lines) where
   module _ (until : ℕ) (more : List Frame) (may : IsEndFrom k.1.until time until) (late : ComeFrom time more) where
     held : StandsIf k.0 k.1 false until frames lines time j.streams
-    held = stands.all until (may-end k.1.until frames j.streams.ended time until latest (λ end is. stands.ends end is) may)
+    held = stands.all until (may-end k.1.until frames j.streams.ended time until latest (λ end is. stands.ends end is)
+        may)
 
     behind : (key : Key) → is_known k.0 key ≡ true → (Q : ℕ → Type 0) → ((a b : ℕ) → a ≤ b → Q a → Q b)
         → (j.streams.ended ≡ None → Q time)
@@ -73,7 +75,8 @@ module _ (k : Rows × Choices) (frames : List Frame) (time : ℕ) (j : Judging) 
         by None none =
             running-behind k.0 k.1 until time more frames held.dues j.streams.kept key known Q up due late
             (end-from k.1.until time until (λ end said. stands.running end none said) may) (here none)
-            (subst (λ o. AreKept k.0 k.1 until o time (given_of k.0 k.1 frames) held.dues j.streams.kept) none held.streams.kept)
+            (subst (λ o. AreKept k.0 k.1 until o time (given_of k.0 k.1 frames) held.dues j.streams.kept) none
+            held.streams.kept)
         by (Some end) is =
             let ends = stands.ends end is in
             let same : until ≡ end = subst (λ o. IsEndFrom o time until) ends.0 may in
@@ -83,7 +86,8 @@ module _ (k : Rows × Choices) (frames : List Frame) (time : ℕ) (j : Judging) 
             (is ∙ ap (λ n. Some n) (sym same)) held.streams.kept)
 
     are-first : AreFirstLines k.0 k.1 until (more ++ frames) held.dues
-    are-first = first-lines k.0 k.1 until time j.streams.ended frames (more ++ frames) held.dues held.streams.lawful j.streams.kept
+    are-first = first-lines k.0 k.1 until time j.streams.ended frames (more ++ frames) held.dues held.streams.lawful
+        j.streams.kept
         held.streams.kept
         (λ key known. behind key known (IsRanked (last_rank held.dues) key) (ranked-up (last_rank held.dues) key)
         (λ none. (let e = held.streams.kept.early none in omega (arith, e)))
@@ -97,7 +101,8 @@ module _ (k : Rows × Choices) (frames : List Frame) (time : ℕ) (j : Judging) 
     are-early nothing = (
       held.dues,
       held.are,
-      lines-before k.0 k.1 until time j.streams.ended frames (more ++ frames) held.dues held.streams.lawful j.streams.kept
+      lines-before k.0 k.1 until time j.streams.ended frames (more ++ frames) held.dues held.streams.lawful
+          j.streams.kept
           held.streams.kept time (held.early refl)
           (λ key known. behind key known (λ m. time ≤ m) (λ a b le h. omega (arith, le, h)) (λ none. omega arith)
           (λ m is. not-before key m (nothing key m known is))),
@@ -123,9 +128,11 @@ module _ (k : Rows × Choices) (frames : List Frame) (time : ℕ) (j : Judging) 
   at-end = stands.ends end is
 
   ended-kept : AreKept k.0 k.1 end (Some end) time (given_of k.0 k.1 frames) whole.dues j.streams.kept
-  ended-kept = subst (λ o. AreKept k.0 k.1 end o time (given_of k.0 k.1 frames) whole.dues j.streams.kept) is whole.streams.kept
+  ended-kept = subst (λ o. AreKept k.0 k.1 end o time (given_of k.0 k.1 frames) whole.dues j.streams.kept) is
+      whole.streams.kept
 
-  pub last-first : (dues : List Due) × (lines ≡ lines_of dues) × AreFirstLines k.0 k.1 (until_or k.1.until frames) frames dues
+  pub last-first : (dues : List Due) × (lines ≡ lines_of dues) × AreFirstLines k.0 k.1 (until_or k.1.until frames)
+      frames dues
   last-first = (
     whole.dues,
     whole.are,

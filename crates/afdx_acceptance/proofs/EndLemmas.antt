@@ -42,7 +42,8 @@ ends-all (Err e) k j old new past time some told = tt
 -- ---- all lines
 
 -- what was told to the end is all
-pub all-lines : (k : Rows × Choices) (j : Judging) (old new : Option (List ℕ)) (past : List (Item Seen)) → TellsToEnd k j old new past
+pub all-lines : (k : Rows × Choices) (j : Judging) (old new : Option (List ℕ)) (past : List (Item Seen))
+    → TellsToEnd k j old new past
     → (dues : List Due) × AreLines k.0 k.1 (until_or k.1.until (frames_of past)) (frames_of past) dues
     × TellsOf k (frames_of past) j old new (lines_of dues)
 all-lines k j old new past (time, told, some, nothing) =
@@ -51,9 +52,11 @@ all-lines k j old new past (time, told, some, nothing) =
     (all.0, all.2, subst (λ l. TellsOf k (frames_of past) j old new l) all.1 told.1)
 
 -- and each stream is judged
-pub all-ended : (k : Rows × Choices) (j : Judging) (old new : Option (List ℕ)) (past : List (Item Seen)) → TellsToEnd k j old new past
+pub all-ended : (k : Rows × Choices) (j : Judging) (old new : Option (List ℕ)) (past : List (Item Seen))
+    → TellsToEnd k j old new past
     → AreEnded j.streams.tables.now k.1 (until_or k.1.until (frames_of past)) (frames_of past) j.streams.kept
 all-ended k j old new past (time, told, some, nothing) =
     let known = known-end j.streams.ended some in
-    subst (λ t. AreEnded t k.1 (until_or k.1.until (frames_of past)) (frames_of past) j.streams.kept) (sym told.1.tables_are)
+    subst (λ t. AreEnded t k.1 (until_or k.1.until (frames_of past)) (frames_of past) j.streams.kept)
+    (sym told.1.tables_are)
     (last-ended k (frames_of past) time j told.0 known.0 known.1 told.2 nothing)

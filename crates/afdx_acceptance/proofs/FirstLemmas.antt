@@ -32,24 +32,30 @@ use Rattle.afdx_acceptance.proofs.TappedLemmas.{judged-cases, no-stream}
 
 -- ---- lists
 
-reverse-more : {X Y : Type 0} (f : X → Y) (xs ys : List X) → reverse (map f (xs ++ ys)) ≡ reverse (map f ys) ++ reverse (map f xs)
+reverse-more : {X Y : Type 0} (f : X → Y) (xs ys : List X) → reverse (map f (xs ++ ys)) ≡ reverse (map f ys)
+    ++ reverse (map f xs)
 reverse-more f xs ys = ap (λ l. reverse l) (map-append f xs ys) ∙ reverse-append (map f xs) (map f ys)
 
-filter-every : {X : Type 0} (P : X → Type 0) (test : X → Bool) (xs : List X) → AllByRecursion P xs → AllByRecursion P (filter test xs)
+filter-every : {X : Type 0} (P : X → Type 0) (test : X → Bool) (xs : List X) → AllByRecursion P xs
+    → AllByRecursion P (filter test xs)
 filter-every P test [] h = tt
 filter-every P test (x ∷ xs) h = by (test x) (filter-every P test xs h.1)
   where
-    by : (b : Bool) → AllByRecursion P (filter test xs) → AllByRecursion P (cond b (x ∷ filter test xs) (filter test xs))
+    by : (b : Bool) → AllByRecursion P (filter test xs)
+        → AllByRecursion P (cond b (x ∷ filter test xs) (filter test xs))
     by true k = (h.0, k)
     by false k = k
 
-pub filter-none : {X : Type 0} (test : X → Bool) (xs : List X) → AllByRecursion (λ x. test x ≡ false) xs → filter test xs ≡ []
+pub filter-none : {X : Type 0} (test : X → Bool) (xs : List X) → AllByRecursion (λ x. test x ≡ false) xs
+    → filter test xs ≡ []
 filter-none test [] h = refl
 filter-none test (x ∷ xs) h = ap (λ b. cond b (x ∷ filter test xs) (filter test xs)) h.0 ∙ filter-none test xs h.1
 
-pub filter-all : {X : Type 0} (test : X → Bool) (xs : List X) → AllByRecursion (λ x. test x ≡ true) xs → filter test xs ≡ xs
+pub filter-all : {X : Type 0} (test : X → Bool) (xs : List X) → AllByRecursion (λ x. test x ≡ true) xs
+    → filter test xs ≡ xs
 filter-all test [] h = refl
-filter-all test (x ∷ xs) h = ap (λ b. cond b (x ∷ filter test xs) (filter test xs)) h.0 ∙ ap (λ l. x ∷ l) (filter-all test xs h.1)
+filter-all test (x ∷ xs) h = ap (λ b. cond b (x ∷ filter test xs) (filter test xs)) h.0
+    ∙ ap (λ l. x ∷ l) (filter-all test xs h.1)
 
 -- ---- what more frames give
 
@@ -74,33 +80,41 @@ module _ (t : Rows) (c : Choices) (more frames : List Frame) where
       let test : Frame → Bool = λ x. left_at k.side k.port x && names l.vl x.arrival.bytes in
       ap (λ fs. reverse (map (λ (x : Frame). gone_of x.arrival) (filter
       (λ x. left_at k.side k.port x && names l.vl x.arrival.bytes) fs))) counted-both
-      ∙ ap (λ fs. reverse (map (λ (x : Frame). gone_of x.arrival) fs)) (filter-append test (counted t c more) (counted t c frames))
-      ∙ reverse-more (λ (x : Frame). gone_of x.arrival) (filter test (counted t c more)) (filter test (counted t c frames))
+      ∙ ap (λ fs. reverse (map (λ (x : Frame). gone_of x.arrival) fs)) (filter-append test (counted t c more)
+      (counted t c frames))
+      ∙ reverse-more (λ (x : Frame). gone_of x.arrival) (filter test (counted t c more))
+      (filter test (counted t c frames))
 
-  pub came-both : (k : Key) → (given_of t c (more ++ frames) k).came ≡ (given_of t c frames k).came ++ (given_of t c more k).came
+  pub came-both : (k : Key) → (given_of t c (more ++ frames) k).came ≡ (given_of t c frames k).came
+      ++ (given_of t c more k).came
   unfolding given_of
   came-both k = by k.link
     where
-      by : (o : Option ℕ) → (given_by t c (more ++ frames) k o).came ≡ (given_by t c frames k o).came ++ (given_by t c more k o).came
+      by : (o : Option ℕ) → (given_by t c (more ++ frames) k o).came ≡ (given_by t c frames k o).came
+          ++ (given_by t c more k o).came
       by None = refl
       by (Some place) = came-to-both k (judged_to t c.taps k.side place k.port)
 
-  pub left-both : (k : Key) → (given_of t c (more ++ frames) k).left ≡ (given_of t c frames k).left ++ (given_of t c more k).left
+  pub left-both : (k : Key) → (given_of t c (more ++ frames) k).left ≡ (given_of t c frames k).left
+      ++ (given_of t c more k).left
   unfolding given_of
   left-both k = by k.link
     where
-      by : (o : Option ℕ) → (given_by t c (more ++ frames) k o).left ≡ (given_by t c frames k o).left ++ (given_by t c more k o).left
+      by : (o : Option ℕ) → (given_by t c (more ++ frames) k o).left ≡ (given_by t c frames k o).left
+          ++ (given_by t c more k o).left
       by None = refl
       by (Some place) = left-to-both k (judged_to t c.taps k.side place k.port)
 
   pub strange-both : (k : Key) → map (stranger_due t k) (strangers_of t c k.side k.port (more ++ frames))
-      ≡ map (stranger_due t k) (strangers_of t c k.side k.port more) ++ map (stranger_due t k) (strangers_of t c k.side k.port frames)
+      ≡ map (stranger_due t k) (strangers_of t c k.side k.port more) ++ map (stranger_due t k)
+      (strangers_of t c k.side k.port frames)
   strange-both k =
       let test : Frame → Bool = λ x. left_at k.side k.port x && is_stranger t c.taps x.arrival in
       ap (λ fs. map (stranger_due t k) (map (λ (x : Frame). x.arrival) (filter
       (λ x. left_at k.side k.port x && is_stranger t c.taps x.arrival) fs)))
       counted-both
-      ∙ ap (λ fs. map (stranger_due t k) (map (λ (x : Frame). x.arrival) fs)) (filter-append test (counted t c more) (counted t c frames))
+      ∙ ap (λ fs. map (stranger_due t k) (map (λ (x : Frame). x.arrival) fs)) (filter-append test (counted t c more)
+      (counted t c frames))
       ∙ ap (λ l. map (stranger_due t k) l)
       (map-append (λ (x : Frame). x.arrival) (filter test (counted t c more)) (filter test (counted t c frames)))
       ∙ map-append (stranger_due t k) (strangers_of t c k.side k.port more) (strangers_of t c k.side k.port frames)
@@ -151,7 +165,8 @@ module _ (t : Rows) (c : Choices) (time : ℕ) (more : List Frame) (late : ComeF
       every-map (λ d. Q d.moment × (d.key ≡ k)) (stranger_due t k) (strangers_of t c k.side k.port more)
       (every-map (λ (x : Arrival). Q x.time × (k ≡ k)) (λ (x : Frame). x.arrival)
       (filter (λ x. left_at k.side k.port x && is_stranger t c.taps x.arrival) (counted t c more))
-      (every-on (λ x. time ≤ x.arrival.time) (λ x. Q x.arrival.time × (k ≡ k)) (λ x le. (up time x.arrival.time le here, refl))
+      (every-on (λ x. time ≤ x.arrival.time) (λ x. Q x.arrival.time × (k ≡ k))
+      (λ x le. (up time x.arrival.time le here, refl))
       (filter (λ x. left_at k.side k.port x && is_stranger t c.taps x.arrival) (counted t c more))
       (passed-late (λ x. left_at k.side k.port x && is_stranger t c.taps x.arrival))))
 
@@ -166,7 +181,8 @@ module _ (t : Rows) (c : Choices) (time : ℕ) (more : List Frame) (late : ComeF
       and-not a false e = absurd (true≢false (sym e))
 
       behind : (x : Frame) → time ≤ x.arrival.time → counts t c x ≡ false
-      behind x le = out-of-time t c x (and-not (not (is_before c x.role x.arrival.time)) (is_behind x.arrival.time c.until)
+      behind x le = out-of-time t c x (and-not (not (is_before c x.role x.arrival.time))
+          (is_behind x.arrival.time c.until)
           (ap (λ o. is_behind x.arrival.time o) said ∙ lt-ltb end x.arrival.time (omega (arith, lt, le))))
 
 -- ---- the lines of one key
@@ -184,20 +200,23 @@ module _ (t : Rows) (c : Choices) (until : ℕ) (frames : List Frame) where
           (judged_of (terms_at t c until l k.port) (given_to t c k frames o).came (given_to t c k frames o).left)
       judged o (inl is) = subst (λ v. option_map_or (stream_dues t c until frames k) v []
           ≡ judged_dues (terms_at t c until l k.port) k
-          (judged_of (terms_at t c until l k.port) (given_to t c k frames v).came (given_to t c k frames v).left)) (sym is) refl
+          (judged_of (terms_at t c until l k.port) (given_to t c k frames v).came (given_to t c k frames v).left))
+          (sym is) refl
       judged o (inr is) = subst (λ v. option_map_or (stream_dues t c until frames k) v []
           ≡ judged_dues (terms_at t c until l k.port) k
-          (judged_of (terms_at t c until l k.port) (given_to t c k frames v).came (given_to t c k frames v).left)) (sym is)
+          (judged_of (terms_at t c until l k.port) (given_to t c k frames v).came (given_to t c k frames v).left))
+          (sym is)
           (sym (none-judged (terms_at t c until l k.port) k))
 
       by : (o : Option ℕ) → IsOfLink t k l o → dues_by t c until frames k o
           ≡ judged_dues (terms_at t c until l k.port) k
           (judged_of (terms_at t c until l k.port) (given_by t c frames k o).came (given_by t c frames k o).left)
       by None h = absurd h
-      by (Some place) h = judged (judged_to t c.taps k.side place k.port) (elim (judged-cases t c.taps k.side place k.port l h) [
-        | inl is ↦ inl is.0
-        | inr is ↦ inr is.0
-      ])
+      by (Some place) h = judged (judged_to t c.taps k.side place k.port)
+          (elim (judged-cases t c.taps k.side place k.port l h) [
+            | inl is ↦ inl is.0
+            | inr is ↦ inr is.0
+          ])
 
   no-link : (o : Option LinkRow) → is_some o ≡ false → o ≡ None
   no-link None e = refl
@@ -228,7 +247,8 @@ module _ (t : Rows) (c : Choices) (until time : ℕ) (more frames : List Frame) 
   abbrev Behind : Type 0
   Behind = IsBehind k Q (of_key k dues) (dues_of t c until (more ++ frames) k)
 
-  given-strange : k.link ≡ None → (given_of t c frames k).strange ≡ map (stranger_due t k) (strangers_of t c k.side k.port frames)
+  given-strange : k.link ≡ None → (given_of t c frames k).strange ≡ map (stranger_due t k)
+      (strangers_of t c k.side k.port frames)
   unfolding given_of
   given-strange none = ap (λ o. (given_by t c frames k o).strange) none
 
@@ -239,13 +259,15 @@ module _ (t : Rows) (c : Choices) (until time : ℕ) (more frames : List Frame) 
       subst (λ l. IsBehind k Q (of_key k dues) l)
       (sym (ap (λ o. dues_by t c until (more ++ frames) k o) none ∙ strange-both t c more frames k
       ∙ ap (λ l. map (stranger_due t k) (strangers_of t c k.side k.port more) ++ l) (sym (given-strange none))))
-      (strangers-behind k Q up (map (stranger_due t k) (strangers_of t c k.side k.port more)) (given_of t c frames k).strange
+      (strangers-behind k Q up (map (stranger_due t k) (strangers_of t c k.side k.port more))
+      (given_of t c frames k).strange
       (of_key k dues) (slot_at kept.slots.items k) newer (are.falling k) due
       (to-strangers t c until ended time k (given_of t c frames k) (of_key k dues) (slot_at kept.slots.items k) none
       (are.stand k known)))
 
   -- while frames come
-  pub running-behind : ComeFrom time more → time ≤ until → Q time → AreKept t c until None time (given_of t c frames) dues kept
+  pub running-behind : ComeFrom time more → time ≤ until → Q time → AreKept t c until None time (given_of t c frames)
+      dues kept
       → Behind
   running-behind late le here are = elim (known-cases t k known) [
     | inl none ↦ strange-behind None none (strange-late t c time more late k Q up here) are
@@ -254,7 +276,8 @@ module _ (t : Rows) (c : Choices) (until time : ℕ) (more frames : List Frame) 
         subst (λ l. IsBehind k Q (of_key k dues) l)
         (ap (λ l. judged_dues z k (judged_of z l ((given_of t c frames k).left ++ (given_of t c more k).left)))
         (sym (came-both t c more frames k))
-        ∙ ap (λ l. judged_dues z k (judged_of z (given_of t c (more ++ frames) k).came l)) (sym (left-both t c more frames k))
+        ∙ ap (λ l. judged_dues z k (judged_of z (given_of t c (more ++ frames) k).came l))
+        (sym (left-both t c more frames k))
         ∙ sym (dues-are t c until (more ++ frames) k of.0 of.1))
         (stream-behind z k Q up time here le (given_of t c frames k).came (given_of t c more k).came
         (given_of t c frames k).left (given_of t c more k).left (of_key k dues) (slot_at kept.slots.items k) due
@@ -264,10 +287,12 @@ module _ (t : Rows) (c : Choices) (until time : ℕ) (more frames : List Frame) 
   ]
 
   -- behind the end that is known
-  pub known-behind : counted t c more ≡ [] → AreKept t c until (Some until) time (given_of t c frames) dues kept → Behind
+  pub known-behind : counted t c more ≡ [] → AreKept t c until (Some until) time (given_of t c frames) dues kept
+      → Behind
   known-behind none are = elim (known-cases t k known) [
     | inl no-link ↦ strange-behind (Some until) no-link
-        (subst (λ fs. AllByRecursion (λ d. Q d.moment × (d.key ≡ k)) (map (stranger_due t k) (map (λ (x : Frame). x.arrival)
+        (subst (λ fs. AllByRecursion (λ d. Q d.moment × (d.key ≡ k))
+        (map (stranger_due t k) (map (λ (x : Frame). x.arrival)
         (filter (λ x. left_at k.side k.port x && is_stranger t c.taps x.arrival) fs)))) (sym none) tt) are
     | inr of ↦
         (let z = terms_at t c until of.0 k.port in
@@ -351,7 +376,8 @@ module _ (t : Rows) (c : Choices) (until time : ℕ) (ended : Option ℕ) (frame
     in_order = are.in_order;
   }
 
-  all-told : (k : Key) → IsBehind k (λ m. ⊥) (of_key k dues) (dues_of t c until all k) → of_key k dues ≡ dues_of t c until all k
+  all-told : (k : Key) → IsBehind k (λ m. ⊥) (of_key k dues) (dues_of t c until all k)
+      → of_key k dues ≡ dues_of t c until all k
   all-told k b = by b.rest b.are b.later
     where
       by : (rest : List Due) → dues_of t c until all k ≡ rest ++ of_key k dues

@@ -55,7 +55,8 @@ none-in (line ∷ lines) h =
 pub all-quiet : (dues : List Due) → NothingIsFound dues → AllByRecursion IsQuiet dues
 all-quiet dues h =
     every-unmap (λ line. is_finding line ≡ false) (λ (d : Due). d.line) dues
-    (subst (λ (l : List ConformLine). AllByRecursion (λ line. is_finding line ≡ false) l) (reverse-reverse (map (λ d. d.line) dues))
+    (subst (λ (l : List ConformLine). AllByRecursion (λ line. is_finding line ≡ false) l)
+    (reverse-reverse (map (λ d. d.line) dues))
     (every-reverse (λ line. is_finding line ≡ false) (lines_of dues) (none-of (lines_of dues) h)))
 
 pub quiet-all : (dues : List Due) → AllByRecursion IsQuiet dues → NothingIsFound dues
@@ -72,7 +73,8 @@ is-found side port (finding.Stopped n) = refl
 is-found side port (finding.Late n by) = refl
 is-found side port (finding.Early n by) = refl
 
-nothing-found : (z : Terms) (k : Key) (found : List Found) → AllByRecursion IsQuiet (map (found_due z k) found) → found ≡ []
+nothing-found : (z : Terms) (k : Key) (found : List Found) → AllByRecursion IsQuiet (map (found_due z k) found)
+    → found ≡ []
 nothing-found z k [] h = refl
 nothing-found z k (f ∷ found) h = absurd (true≢false (sym (is-found k.side k.port f.finding) ∙ h.0))
 
@@ -84,8 +86,10 @@ pub stream-quiet : (z : Terms) (k : Key) (j : Judged) → AllByRecursion IsQuiet
 unfolding judged_dues
 stream-quiet z k j = (
   λ h. nothing-found z k j.findings
-      (every-right IsQuiet (if j.is_unsure then unsure_dues z k (reverse j.arrivals) else []) (map (found_due z k) j.findings) h),
-  λ e. every-append IsQuiet (if j.is_unsure then unsure_dues z k (reverse j.arrivals) else []) (map (found_due z k) j.findings)
+      (every-right IsQuiet (if j.is_unsure then unsure_dues z k (reverse j.arrivals) else [])
+      (map (found_due z k) j.findings) h),
+  λ e. every-append IsQuiet (if j.is_unsure then unsure_dues z k (reverse j.arrivals) else [])
+      (map (found_due z k) j.findings)
       (by j.is_unsure) (subst (λ (l : List Found). AllByRecursion IsQuiet (map (found_due z k) l)) (sym e) tt),
 )
   where
@@ -108,10 +112,12 @@ module _ (t : Rows) (c : Choices) (until : ℕ) (frames : List Frame) (lawful : 
 
   pub stream-lines : (side : Side) (place port : ℕ) (l : LinkRow) → judged_to t c.taps side place port ≡ Some l
       → of_key (key_with side port (Some place)) lines
-      ≡ judged_dues (terms_at t c until l port) (key_with side port (Some place)) (judged_at t c until frames l side port)
+      ≡ judged_dues (terms_at t c until l port) (key_with side port (Some place))
+      (judged_at t c until frames l side port)
   stream-lines side place port l is =
       are.own (key_with side port (Some place)) (port-of side place port l is)
-      ∙ ap (λ (o : Option LinkRow). option_map_or (stream_dues t c until frames (key_with side port (Some place))) o []) is
+      ∙ ap (λ (o : Option LinkRow). option_map_or (stream_dues t c until frames (key_with side port (Some place))) o
+      []) is
 
   pub strange-lines : (side : Side) (port : ℕ) → port < 256
       → of_key (key_with side port None) lines
@@ -127,7 +133,8 @@ module _ (t : Rows) (c : Choices) (until : ℕ) (frames : List Frame) (lawful : 
         (subst (λ (l : List Due). AllByRecursion IsQuiet l) (strange-lines side port small)
         (all-of-key IsQuiet (key_with side port None) lines h)),
     λ side place port l is.
-        (stream-quiet (terms_at t c until l port) (key_with side port (Some place)) (judged_at t c until frames l side port)).0
+        (stream-quiet (terms_at t c until l port) (key_with side port (Some place))
+        (judged_at t c until frames l side port)).0
         (subst (λ (l : List Due). AllByRecursion IsQuiet l) (stream-lines side place port l is)
         (all-of-key IsQuiet (key_with side port (Some place)) lines h)),
   )
@@ -178,7 +185,8 @@ module _ (t : Rows) (c : Choices) (until : ℕ) (frames : List Frame) (lawful : 
       left (x ∷ xs) ys h = absurd (cc)
 
       by : (b : Bool) → j.is_unsure ≡ b
-          → (if b then unsure_dues z k (reverse j.arrivals) else []) ++ map (found_due z k) j.findings ≡ [] → j.is_unsure ≡ false
+          → (if b then unsure_dues z k (reverse j.arrivals) else []) ++ map (found_due z k) j.findings ≡ []
+          → j.is_unsure ≡ false
       by true is h =
           let some = behind is in
           let n = length-reverse j.arrivals in
@@ -186,7 +194,8 @@ module _ (t : Rows) (c : Choices) (until : ℕ) (frames : List Frame) (lawful : 
           (left (unsure_dues z k (reverse j.arrivals)) (map (found_due z k) j.findings) h))
       by false is h = is
 
-  pub sure-of-none : lines ≡ [] → (side : Side) (place port : ℕ) (l : LinkRow) → judged_to t c.taps side place port ≡ Some l
+  pub sure-of-none : lines ≡ [] → (side : Side) (place port : ℕ) (l : LinkRow) → judged_to t c.taps side place port
+      ≡ Some l
       → (judged_at t c until frames l side port).is_unsure ≡ false
   sure-of-none e side place port l is =
       no-lines (terms_at t c until l port) (key_with side port (Some place)) (judged_at t c until frames l side port)

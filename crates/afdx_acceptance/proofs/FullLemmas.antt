@@ -39,7 +39,8 @@ unfolding AreOver
 over-later z time to [] le all = tt
 over-later z time to (e ∷ events) le all = (let h = all.0 in omega (arith, h, le), over-later z time to events le all.1)
 
-stream-later : (z : Terms) (k : Key) (xs : List Arrival) (ys : List Gone) (lines : List Due) (time to : ℕ) (s : Slot) → time ≤ to
+stream-later : (z : Terms) (k : Key) (xs : List Arrival) (ys : List Gone) (lines : List Due) (time to : ℕ) (s : Slot)
+    → time ≤ to
     → StreamStands z k xs ys lines time s → StreamStands z k xs ys lines to s
 unfolding StreamStands
 stream-later z k xs ys lines time to slot.Nothing le stands = stands
@@ -61,7 +62,8 @@ module _ (t : Rows) (c : Choices) (until : ℕ) (time to : ℕ) (le : time ≤ t
   key-later : (ended : Option ℕ) (k : Key) (given : Given) (lines : List Due) (s : Slot) → is_known t k ≡ true
       → KeyStands t c until ended time k given lines s → KeyStands t c until ended to k given lines s
   key-later ended k given lines s known stands = elim (known-cases t k known) [
-    | inl none ↦ from-strangers t c until ended to k given lines s none (to-strangers t c until ended time k given lines s none stands)
+    | inl none ↦ from-strangers t c until ended to k given lines s none (to-strangers t c until ended time k given
+        lines s none stands)
     | inr of ↦ by ended stands of.0 of.1
   ]
     where
@@ -70,12 +72,14 @@ module _ (t : Rows) (c : Choices) (until : ℕ) (time to : ℕ) (le : time ≤ t
       by None st l is = from-stream t c until to k l given lines s is
           (stream-later (terms_at t c until l k.port) k given.came given.left lines time to s le
           (to-stream t c until time k l given lines s is st))
-      by (Some e) st l is = from-ended t c until to k l given lines s e is (to-ended t c until time k l given lines s e is st)
+      by (Some e) st l is = from-ended t c until to k l given lines s e is (to-ended t c until time k l given lines s
+          e is st)
 
   kept-later : (ended : Option ℕ) (given : Key → Given) (lines : List Due) (kept : Kept)
       → AreKept t c until ended time given lines kept → AreKept t c until ended to given lines kept
   kept-later ended given lines kept are = record {
-    stand = λ k known. key-later ended k (given k) (of_key k lines) (slot_at kept.slots.items k) known (are.stand k known);
+    stand = λ k known. key-later ended k (given k) (of_key k lines) (slot_at kept.slots.items k) known
+        (are.stand k known);
     none = are.none;
     count = are.count;
     on_agenda = are.on_agenda;
@@ -98,14 +102,16 @@ module _ (t : Rows) (c : Choices) (until : ℕ) (time to : ℕ) (le : time ≤ t
 
 -- ---- a frame that doesn't count
 
-pub stand-skipped : (t : Rows) (c : Choices) (until time : ℕ) (x : Frame) (frames : List Frame) (dues : List Due) (s : Streams)
+pub stand-skipped : (t : Rows) (c : Choices) (until time : ℕ) (x : Frame) (frames : List Frame) (dues : List Due)
+    (s : Streams)
     → counts t c x ≡ false → StreamsStand t c until frames dues time s → StreamsStand t c until (x ∷ frames) dues time s
 stand-skipped t c until time x frames dues s none stand = record {
   lawful = stand.lawful;
   tables = stand.tables;
   by = stand.by;
   taps = stand.taps;
-  kept = kept-same t c until s.ended time (given_of t c frames) (given_of t c (x ∷ frames)) dues s.kept (λ k known. same k)
+  kept = kept-same t c until s.ended time (given_of t c frames) (given_of t c (x ∷ frames)) dues s.kept
+      (λ k known. same k)
       (λ k. subst (λ g. AreFalling g.strange) (sym (same k)) (stand.kept.falling k)) stand.kept;
 }
   where
@@ -135,7 +141,8 @@ AreBefore last time dues = last ≡ false → AllByRecursion (λ d. d.moment < t
 
 before-later : (time to : ℕ) (dues : List Due) → time ≤ to → AllByRecursion (λ d. d.moment < time) dues
     → AllByRecursion (λ d. d.moment < to) dues
-before-later time to dues le all = every-on (λ d. d.moment < time) (λ d. d.moment < to) (λ d lt. omega (arith, le, lt)) dues all
+before-later time to dues le all = every-on (λ d. d.moment < time) (λ d. d.moment < to)
+    (λ d lt. omega (arith, le, lt)) dues all
 
 told-before : (key : Key) (m time : ℕ) (items : List ConformLine) (dues : List Due) → m < time
     → AllByRecursion (λ d. d.moment < time) dues → AllByRecursion (λ d. d.moment < time) (told_at key m items dues)
@@ -148,7 +155,8 @@ told-before key m time items dues lt all = go (reverse items)
 module _ (k : Rows × Choices) (frames : List Frame) where
   -- with other streams, of the same end
   pub stands-to : (last : Bool) (time : ℕ) (j i : Judging) (lines more : List ConformLine)
-      → ((until : ℕ) (dues : List Due) → StreamsStand k.0 k.1 until frames dues time j.streams → AreBefore last time dues
+      → ((until : ℕ) (dues : List Due) → StreamsStand k.0 k.1 until frames dues time j.streams
+      → AreBefore last time dues
       → (d : List Due) × (lines_of d ≡ lines_of dues ++ more) × StreamsStand k.0 k.1 until frames d time i.streams
       × AreBefore last time d)
       → i.streams.ended ≡ j.streams.ended → i.is_over ≡ j.is_over
@@ -165,7 +173,8 @@ module _ (k : Rows × Choices) (frames : List Frame) where
   }
 
   -- with the lines of one moment that are taken
-  pub stands-taken : (last : Bool) (time : ℕ) (j i : Judging) (lines out : List ConformLine) (key : Key) (m : ℕ) (items : List ConformLine)
+  pub stands-taken : (last : Bool) (time : ℕ) (j i : Judging) (lines out : List ConformLine) (key : Key) (m : ℕ)
+      (items : List ConformLine)
       → out ≡ items
       → ((until : ℕ) (dues : List Due) → StreamsStand k.0 k.1 until frames dues time j.streams
       → StreamsStand k.0 k.1 until frames (told_at key m items dues) time i.streams)
@@ -181,7 +190,8 @@ module _ (k : Rows × Choices) (frames : List Frame) where
         λ e. told-before key m time items dues (early e) (before e),
       )) ended over stands
 
-  pub stands-later : (last after : Bool) → (after ≡ false → last ≡ false) → (time to : ℕ) (j : Judging) (lines : List ConformLine)
+  pub stands-later : (last after : Bool) → (after ≡ false → last ≡ false)
+      → (time to : ℕ) (j : Judging) (lines : List ConformLine)
       → time ≤ to
       → ((end : ℕ) → j.streams.ended ≡ None → k.1.until ≡ Some end → to ≤ end)
       → ((end : ℕ) → j.streams.ended ≡ Some end → IsEnding after k.1.until frames to end)
@@ -201,7 +211,8 @@ module _ (k : Rows × Choices) (frames : List Frame) where
   }
 
   -- the end is known
-  pub stands-ended : (after : Bool) (time until to : ℕ) (j i : Judging) (lines : List ConformLine) → time ≤ until → until ≤ to
+  pub stands-ended : (after : Bool) (time until to : ℕ) (j i : Judging) (lines : List ConformLine) → time ≤ until
+      → until ≤ to
       → latest_of frames ≤ until → IsEndFor k.1.until frames until → IsEnding after k.1.until frames to until
       → j.streams.ended ≡ None → i.streams.ended ≡ Some until → i.is_over ≡ true
       → ((dues : List Due) → StreamsStand k.0 k.1 until frames dues time j.streams
@@ -232,7 +243,8 @@ module _ (k : Rows × Choices) (frames : List Frame) where
   raised time to j lines le running stands = stands-later false false (λ e. e) time to j lines le running
       (λ end is. let e = stands.ends end is in (e.0, let lt = e.1 in omega (arith, lt, le))) stands
 
-  pub not-ended : (time : ℕ) (j : Judging) (lines : List ConformLine) → j.is_over ≡ false → Stands k false time j frames lines
+  pub not-ended : (time : ℕ) (j : Judging) (lines : List ConformLine) → j.is_over ≡ false
+      → Stands k false time j frames lines
       → j.streams.ended ≡ None
   not-ended time j lines over stands = by j.streams.ended (sym stands.over ∙ over)
     where
@@ -256,11 +268,13 @@ pub said-end : (said : Option ℕ) (frames : List Frame) (end : ℕ) → said �
 said-end None frames end is = absurd (cc is)
 said-end (Some e) frames end is = sym (same_Some e end is)
 
-pub none-end : (said : Option ℕ) (frames : List Frame) (end : ℕ) → said ≡ None → latest_of frames ≤ end → IsEndFor said frames end
+pub none-end : (said : Option ℕ) (frames : List Frame) (end : ℕ) → said ≡ None → latest_of frames ≤ end
+    → IsEndFor said frames end
 none-end None frames end is le = le
 none-end (Some e) frames end is le = absurd (cc is)
 
-pub behind-later : (frames : List Frame) (to : ℕ) → latest_of frames ≤ to → IsBehindAll (latest_of frames) frames → IsBehindAll to frames
+pub behind-later : (frames : List Frame) (to : ℕ) → latest_of frames ≤ to → IsBehindAll (latest_of frames) frames
+    → IsBehindAll to frames
 behind-later frames to le all = go frames (latest_of frames) le all
   where
     go : (xs : List Frame) (time : ℕ) → time ≤ to → IsBehindAll time xs → IsBehindAll to xs
@@ -276,7 +290,8 @@ none-there None is h = h
 none-there (Some y) is h = absurd (cc is)
 
 -- with no more lines
-pub stands-same : (k : Rows × Choices) (frames : List Frame) (last : Bool) (time : ℕ) (j i : Judging) (lines : List ConformLine)
+pub stands-same : (k : Rows × Choices) (frames : List Frame) (last : Bool) (time : ℕ) (j i : Judging)
+    (lines : List ConformLine)
     → ((until : ℕ) (dues : List Due) → StreamsStand k.0 k.1 until frames dues time j.streams
     → StreamsStand k.0 k.1 until frames dues time i.streams)
     → i.streams.ended ≡ j.streams.ended → i.is_over ≡ j.is_over
@@ -293,7 +308,8 @@ stands-same k frames last time j i lines next ended over stands = record {
 
 -- ---- one more frame
 
-may-before : (said : Option ℕ) (frames : List Frame) (x : Frame) (ended : Option ℕ) (until : ℕ) → latest_of frames ≤ x.arrival.time
+may-before : (said : Option ℕ) (frames : List Frame) (x : Frame) (ended : Option ℕ) (until : ℕ)
+    → latest_of frames ≤ x.arrival.time
     → MayEnd said (x ∷ frames) ended until → MayEnd said frames ended until
 may-before None frames x None until le may = omega (arith, le, may)
 may-before (Some s) frames x None until le may = may
@@ -323,7 +339,8 @@ pub next-on : {V E : Type 0} (r : Result V E) (k : Rows × Choices) (frames : Li
     → OnOk r (StreamsStand k.0 k.1 until (x ∷ frames) dues x.arrival.time i.streams))
     → i.streams.ended ≡ j.streams.ended → i.is_over ≡ j.is_over
     → Stands k false x.arrival.time j frames lines → OnOk r (Stands k false x.arrival.time i (x ∷ frames) lines)
-next-on (Ok v) k frames x j i lines le next ended over stands = stands-next k frames x j i lines le next ended over stands
+next-on (Ok v) k frames x j i lines le next ended over stands = stands-next k frames x j i lines le next ended over
+    stands
 next-on (Err e) k frames x j i lines le next ended over stands = tt
 
 and-not : (a b c : Bool) → b ≡ true → (a && not b && c) ≡ false
@@ -351,7 +368,8 @@ unfolding counts
 too-long t c x lt = and-last (is_in_time c x) (not (is_passed t c x)) (nat_le (length x.arrival.bytes) most_bytes)
     (by (nat_le (length x.arrival.bytes) most_bytes) refl)
   where
-    by : (v : Bool) → nat_le (length x.arrival.bytes) most_bytes ≡ v → nat_le (length x.arrival.bytes) most_bytes ≡ false
+    by : (v : Bool) → nat_le (length x.arrival.bytes) most_bytes ≡ v → nat_le (length x.arrival.bytes) most_bytes
+        ≡ false
     by false e = e
     by true e = let le = leb-true (length x.arrival.bytes) most_bytes e in absurd (omega (arith, le, lt))
 
@@ -365,7 +383,8 @@ pub does-count : (t : Rows) (c : Choices) (x : Frame) → is_in_time c x ≡ tru
     → length x.arrival.bytes ≤ most_bytes
     → counts t c x ≡ true
 unfolding counts
-does-count t c x in-time out le = and-all (is_in_time c x) (is_passed t c x) (nat_le (length x.arrival.bytes) most_bytes) in-time out
+does-count t c x in-time out le = and-all (is_in_time c x) (is_passed t c x)
+    (nat_le (length x.arrival.bytes) most_bytes) in-time out
     (le-leb (length x.arrival.bytes) most_bytes le)
 
 -- while frames count, the end isn't known

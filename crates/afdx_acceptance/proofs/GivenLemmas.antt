@@ -33,7 +33,8 @@ use Rattle.afdx_acceptance.proofs.OutletLemmas.{port-is}
 
 -- ---- what is kept, of the same
 
-pub kept-same : (t : Rows) (c : Choices) (until : ℕ) (ended : Option ℕ) (time : ℕ) (given to : Key → Given) (lines : List Due)
+pub kept-same : (t : Rows) (c : Choices) (until : ℕ) (ended : Option ℕ) (time : ℕ) (given to : Key → Given)
+    (lines : List Due)
     (kept : Kept)
     → ((k : Key) → is_known t k ≡ true → to k ≡ given k)
     → ((k : Key) → AreFalling (to k).strange)
@@ -61,7 +62,8 @@ linked k fs (Some l) = given_with (reverse (map (λ x. x.arrival) (filter (is_ar
 -- what these frames give
 abbrev pub given_from : Rows → Taps → Key → List Frame → Option ℕ → Given
 given_from t taps k fs None = given_with [] []
-    (map (stranger_due t k) (map (λ x. x.arrival) (filter (λ x. left_at k.side k.port x && is_stranger t taps x.arrival) fs)))
+    (map (stranger_due t k)
+    (map (λ x. x.arrival) (filter (λ x. left_at k.side k.port x && is_stranger t taps x.arrival) fs)))
 given_from t taps k fs (Some place) = linked k fs (judged_to t taps k.side place k.port)
 
 pub given-from : (t : Rows) (c : Choices) (frames : List Frame) (k : Key)
@@ -121,7 +123,8 @@ place-other t place l vl (Some q) at other is =
     (sym (slice_get-get_or t.links q blank passes.0) ∙ ap (λ i. slice_get t.links i) same ∙ at))))
 
 -- a link is named exactly where its place is
-pub named-is : (t : Rows) (place : ℕ) (l : LinkRow) (bytes : List ℕ) → IsLawfulSwitch t → slice_get t.links place ≡ Some l
+pub named-is : (t : Rows) (place : ℕ) (l : LinkRow) (bytes : List ℕ) → IsLawfulSwitch t → slice_get t.links place
+    ≡ Some l
     → names l.vl bytes ≡ is_link (place_named t bytes) (Some place)
 unfolding names place_named
 named-is t place l bytes lawful at = by (link_named_by bytes)
@@ -131,7 +134,8 @@ named-is t place l bytes lawful at = by (link_named_by bytes)
     by None = refl
     by (Some v) = elim (cases_eq v.0 l.vl) [
       | inl same ↦ eq-eqb v.0 l.vl same
-          ∙ sym (ap (λ o. is_link o (Some place)) (ap (λ n. link_of t.links n) same ∙ (each_row-found t lawful).by_vl place l at)
+          ∙ sym (ap (λ o. is_link o (Some place)) (ap (λ n. link_of t.links n) same
+          ∙ (each_row-found t lawful).by_vl place l at)
           ∙ eq-eqb place place refl)
       | inr other ↦ not-eq v.0 l.vl other ∙ sym (place-other t place l v.0 (link_of t.links v.0) at other refl)
     ]
@@ -170,7 +174,8 @@ port-among t l port goes = by (system_at_port t.systems port) refl goes
 
 -- ---- times
 
-pub all-filter : {X : Type 0} (P : X → Type 0) (p : X → Bool) (xs : List X) → AllByRecursion P xs → AllByRecursion P (filter p xs)
+pub all-filter : {X : Type 0} (P : X → Type 0) (p : X → Bool) (xs : List X) → AllByRecursion P xs
+    → AllByRecursion P (filter p xs)
 all-filter P p [] all = tt
 all-filter P p (x ∷ xs) all = by (p x) (all-filter P p xs all.1)
   where
@@ -178,7 +183,8 @@ all-filter P p (x ∷ xs) all = by (p x) (all-filter P p xs all.1)
     by true more = (all.0, more)
     by false more = more
 
-all-map : {X Y : Type 0} (P : Y → Type 0) (f : X → Y) (xs : List X) → AllByRecursion (λ x. P (f x)) xs → AllByRecursion P (map f xs)
+all-map : {X Y : Type 0} (P : Y → Type 0) (f : X → Y) (xs : List X) → AllByRecursion (λ x. P (f x)) xs
+    → AllByRecursion P (map f xs)
 all-map P f [] all = tt
 all-map P f (x ∷ xs) all = (all.0, all-map P f xs all.1)
 
@@ -194,8 +200,10 @@ module _ (t : Rows) (c : Choices) (frames : List Frame) (time : ℕ)
     where
       by-link : (o : Option LinkRow) → AllByRecursion (λ x. x.time ≤ time) (linked k (counted t c frames) o).came
       by-link None = tt
-      by-link (Some l) = all-reverse (λ x. x.time ≤ time) (map (λ x. x.arrival) (filter (is_arrival_of l.vl k.side) (counted t c frames)))
-          (all-map (λ x. x.time ≤ time) (λ (x : Frame). x.arrival) (filter (is_arrival_of l.vl k.side) (counted t c frames))
+      by-link (Some l) = all-reverse (λ x. x.time ≤ time)
+          (map (λ x. x.arrival) (filter (is_arrival_of l.vl k.side) (counted t c frames)))
+          (all-map (λ x. x.time ≤ time) (λ (x : Frame). x.arrival)
+          (filter (is_arrival_of l.vl k.side) (counted t c frames))
           (all-filter (λ x. x.arrival.time ≤ time) (is_arrival_of l.vl k.side) (counted t c frames) all))
 
       by : (o : Option ℕ) → AllByRecursion (λ x. x.time ≤ time) (given_from t c.taps k (counted t c frames) o).came
@@ -208,17 +216,20 @@ module _ (t : Rows) (c : Choices) (frames : List Frame) (time : ℕ)
       by-link : (o : Option LinkRow) → AllByRecursion (λ y. y.time ≤ time) (linked k (counted t c frames) o).left
       by-link None = tt
       by-link (Some l) = all-reverse (λ y. y.time ≤ time)
-          (map (λ x. gone_of x.arrival) (filter (λ x. left_at k.side k.port x && names l.vl x.arrival.bytes) (counted t c frames)))
+          (map (λ x. gone_of x.arrival) (filter (λ x. left_at k.side k.port x && names l.vl x.arrival.bytes)
+          (counted t c frames)))
           (all-map (λ y. y.time ≤ time) (λ (x : Frame). gone_of x.arrival)
           (filter (λ x. left_at k.side k.port x && names l.vl x.arrival.bytes) (counted t c frames))
-          (all-filter (λ x. x.arrival.time ≤ time) (λ x. left_at k.side k.port x && names l.vl x.arrival.bytes) (counted t c frames) all))
+          (all-filter (λ x. x.arrival.time ≤ time) (λ x. left_at k.side k.port x && names l.vl x.arrival.bytes)
+          (counted t c frames) all))
 
       by : (o : Option ℕ) → AllByRecursion (λ y. y.time ≤ time) (given_from t c.taps k (counted t c frames) o).left
       by None = tt
       by (Some place) = by-link (judged_to t c.taps k.side place k.port)
 
   pub strange-times : AllByRecursion (λ d. d.moment ≤ time) (given_of t c frames k).strange
-  strange-times = subst (λ g. AllByRecursion (λ d. d.moment ≤ time) g.strange) (sym (given-from t c frames k)) (by k.link)
+  strange-times = subst (λ g. AllByRecursion (λ d. d.moment ≤ time) g.strange) (sym (given-from t c frames k))
+      (by k.link)
     where
       by-link : (o : Option LinkRow) → AllByRecursion (λ d. d.moment ≤ time) (linked k (counted t c frames) o).strange
       by-link None = tt
@@ -226,14 +237,16 @@ module _ (t : Rows) (c : Choices) (frames : List Frame) (time : ℕ)
 
       by : (o : Option ℕ) → AllByRecursion (λ d. d.moment ≤ time) (given_from t c.taps k (counted t c frames) o).strange
       by None = all-map (λ d. d.moment ≤ time) (stranger_due t k)
-          (map (λ x. x.arrival) (filter (λ x. left_at k.side k.port x && is_stranger t c.taps x.arrival) (counted t c frames)))
+          (map (λ x. x.arrival) (filter (λ x. left_at k.side k.port x && is_stranger t c.taps x.arrival)
+          (counted t c frames)))
           (all-map (λ x. x.time ≤ time) (λ (x : Frame). x.arrival)
           (filter (λ x. left_at k.side k.port x && is_stranger t c.taps x.arrival) (counted t c frames))
           (all-filter (λ x. x.arrival.time ≤ time) (λ x. left_at k.side k.port x && is_stranger t c.taps x.arrival)
           (counted t c frames) all))
       by (Some place) = by-link (judged_to t c.taps k.side place k.port)
 
-pub falling-more : (d : Due) (ds : List Due) → AllByRecursion (λ e. e.moment ≤ d.moment) ds → AreFalling ds → AreFalling (d ∷ ds)
+pub falling-more : (d : Due) (ds : List Due) → AllByRecursion (λ e. e.moment ≤ d.moment) ds → AreFalling ds
+    → AreFalling (d ∷ ds)
 unfolding AreFalling
 falling-more d [] all falling = tt
 falling-more d (e ∷ ds) all falling = (all.0, falling)

@@ -47,12 +47,15 @@ counts-time t c x e = by (is_before c x.role x.arrival.time)
     by false h = refl
     by true h = absurd (true≢false (sym h))
 
-pub came-start : (t : Rows) (c : Choices) (a : Arrival) → counts t c (frame_with Came a) ≡ true → from_time c.by.start ≤ a.time
-came-start t c a e = let h = ltb-false a.time (from_time c.by.start) (counts-time t c (frame_with Came a) e) in omega (arith, h)
+pub came-start : (t : Rows) (c : Choices) (a : Arrival) → counts t c (frame_with Came a) ≡ true
+    → from_time c.by.start ≤ a.time
+came-start t c a e = let h = ltb-false a.time (from_time c.by.start) (counts-time t c (frame_with Came a) e) in
+    omega (arith, h)
 
 pub left-start : (t : Rows) (c : Choices) (a : Arrival) → counts t c (frame_with Left a) ≡ true
     → from_time c.by.start ≤ a.time + reach c.by
-left-start t c a e = let h = ltb-false (a.time + reach c.by) (from_time c.by.start) (counts-time t c (frame_with Left a) e) in
+left-start t c a e = let h = ltb-false (a.time + reach c.by) (from_time c.by.start)
+    (counts-time t c (frame_with Left a) e) in
     omega (arith, h)
 
 -- which place is named
@@ -68,17 +71,22 @@ linked-falls k fs (Some l) = tt
 
 -- ---- all frames
 
-module _ (t : Rows) (c : Choices) (until : ℕ) (ended : Option ℕ) (time : ℕ) (frames : List Frame) (lines : List Due) (kept : Kept)
+module _ (t : Rows) (c : Choices) (until : ℕ) (ended : Option ℕ) (time : ℕ) (frames : List Frame) (lines : List Due)
+    (kept : Kept)
     (lawful : IsLawfulSwitch t) (a : Arrival) where
   given-more : (x : Frame) (k : Key) → counts t c x ≡ true
       → given_of t c (x ∷ frames) k ≡ given_from t c.taps k (x ∷ counted t c frames) k.link
-  given-more x k e = given-from t c (x ∷ frames) k ∙ ap (λ fs. given_from t c.taps k fs k.link) (counted-more t c x frames e)
+  given-more x k e = given-from t c (x ∷ frames) k ∙ ap (λ fs. given_from t c.taps k fs k.link)
+      (counted-more t c x frames e)
 
-  strange-same : (x : Frame) (k : Key) → ((b : Bool) → left_at k.side k.port x && is_stranger t c.taps x.arrival ≡ false)
+  strange-same : (x : Frame) (k : Key) → ((b : Bool) → left_at k.side k.port x && is_stranger t c.taps x.arrival
+      ≡ false)
       → counts t c x ≡ true → (given_of t c (x ∷ frames) k).strange ≡ (given_of t c frames k).strange
-  strange-same x k none e = ap (λ g. g.strange) (given-more x k e) ∙ by k.link ∙ sym (ap (λ g. g.strange) (given-from t c frames k))
+  strange-same x k none e = ap (λ g. g.strange) (given-more x k e) ∙ by k.link
+      ∙ sym (ap (λ g. g.strange) (given-from t c frames k))
     where
-      by-link : (o : Option LinkRow) → (linked k (x ∷ counted t c frames) o).strange ≡ (linked k (counted t c frames) o).strange
+      by-link : (o : Option LinkRow) → (linked k (x ∷ counted t c frames) o).strange
+          ≡ (linked k (counted t c frames) o).strange
       by-link None = refl
       by-link (Some l) = refl
 
@@ -105,12 +113,14 @@ module _ (t : Rows) (c : Choices) (until : ℕ) (ended : Option ℕ) (time : ℕ
   pub join-came : (place : ℕ) (l : LinkRow) → counts t c (frame_with Came a) ≡ true
       → place_named t a.bytes ≡ Some place → slice_get t.links place ≡ Some l → is_heard t c.taps a.side l ≡ true
       → ((k : Key) → AreFalling (given_of t c frames k).strange)
-      → AreKept t c until ended time (came_to a.side place (seen_ports t c.taps a.side l.to) a (given_of t c frames)) lines kept
+      → AreKept t c until ended time (came_to a.side place (seen_ports t c.taps a.side l.to) a (given_of t c frames))
+      lines kept
       → AreKept t c until ended time (given_of t c (frame_with Came a ∷ frames)) lines kept
   join-came place l e named at heard falling are =
       kept-same t c until ended time (came_to a.side place (seen_ports t c.taps a.side l.to) a (given_of t c frames))
       (given_of t c (frame_with Came a ∷ frames)) lines kept
-      (λ k known. given-more (frame_with Came a) k e ∙ given-came t c.taps k (counted t c frames) a place l lawful named at known heard
+      (λ k known. given-more (frame_with Came a) k e ∙ given-came t c.taps k (counted t c frames) a place l lawful
+      named at known heard
       ∙ ap (λ g. if is_side a.side k.side && is_link (Some place) k.link && list_any (λ q. nat_eq q k.port)
       (seen_ports t c.taps a.side l.to)
       then given_with (g.came ++ a ∷ []) g.left g.strange else g) (sym (given-from t c frames k)))
@@ -131,7 +141,8 @@ module _ (t : Rows) (c : Choices) (until : ℕ) (ended : Option ℕ) (time : ℕ
       → AreKept t c until ended time (given_of t c (frame_with Came a ∷ frames)) lines kept
   join-unheard place l e named at deaf are =
       kept-same t c until ended time (given_of t c frames) (given_of t c (frame_with Came a ∷ frames)) lines kept
-      (λ k known. given-more (frame_with Came a) k e ∙ given-unheard t c.taps k (counted t c frames) a place l lawful named at deaf
+      (λ k known. given-more (frame_with Came a) k e ∙ given-unheard t c.taps k (counted t c frames) a place l lawful
+      named at deaf
       ∙ sym (given-from t c frames k))
       (λ k. subst AreFalling (sym (strange-same (frame_with Came a) k (came-no-stranger k) e)) (are.falling k)) are
 
@@ -143,7 +154,8 @@ module _ (t : Rows) (c : Choices) (until : ℕ) (ended : Option ℕ) (time : ℕ
       → AreKept t c until ended time (given_of t c (frame_with Left a ∷ frames)) lines kept
   join-unseen place l e named to none unseen are =
       kept-same t c until ended time (given_of t c frames) (given_of t c (frame_with Left a ∷ frames)) lines kept
-      (λ k known. given-more (frame_with Left a) k e ∙ given-unseen t c.taps k (counted t c frames) a place l lawful named to none unseen
+      (λ k known. given-more (frame_with Left a) k e ∙ given-unseen t c.taps k (counted t c frames) a place l lawful
+      named to none unseen
       ∙ sym (given-from t c frames k))
       (λ k. subst AreFalling (sym (strange-same (frame_with Left a) k (left-no-stranger none k) e)) (are.falling k)) are
 
@@ -151,12 +163,14 @@ module _ (t : Rows) (c : Choices) (until : ℕ) (ended : Option ℕ) (time : ℕ
       → place_named t a.bytes ≡ Some place → link_to t place a.port ≡ Some l → is_stranger t c.taps a ≡ false
       → is_judged t c.taps a.side l a.port ≡ true
       → ((k : Key) → AreFalling (given_of t c frames k).strange)
-      → AreKept t c until ended time (with_left (key_with a.side a.port (Some place)) (gone_of a) (given_of t c frames)) lines kept
+      → AreKept t c until ended time (with_left (key_with a.side a.port (Some place)) (gone_of a)
+      (given_of t c frames)) lines kept
       → AreKept t c until ended time (given_of t c (frame_with Left a ∷ frames)) lines kept
   join-left place l e named to none judges falling are =
       kept-same t c until ended time (with_left (key_with a.side a.port (Some place)) (gone_of a) (given_of t c frames))
       (given_of t c (frame_with Left a ∷ frames)) lines kept
-      (λ k known. given-more (frame_with Left a) k e ∙ given-left t c.taps k (counted t c frames) a place l lawful named to known judges
+      (λ k known. given-more (frame_with Left a) k e ∙ given-left t c.taps k (counted t c frames) a place l lawful
+      named to known judges
       ∙ ap (λ g. if is_key (key_with a.side a.port (Some place)) k
       then given_with g.came (g.left ++ gone_of a ∷ []) g.strange else g) (sym (given-from t c frames k)))
       (λ k. subst AreFalling (sym (strange-same (frame_with Left a) k (left-no-stranger none k) e)) (falling k)) are
@@ -164,13 +178,16 @@ module _ (t : Rows) (c : Choices) (until : ℕ) (ended : Option ℕ) (time : ℕ
   pub join-strange : counts t c (frame_with Left a) ≡ true → is_stranger t c.taps a ≡ true
       → AllByRecursion (λ x. x.arrival.time ≤ a.time) (counted t c frames)
       → ((k : Key) → AreFalling (given_of t c frames k).strange)
-      → AreKept t c until ended time (with_strange (key_with a.side a.port None) (stranger_due t (key_with a.side a.port None) a)
+      → AreKept t c until ended time (with_strange (key_with a.side a.port None)
+      (stranger_due t (key_with a.side a.port None) a)
       (given_of t c frames)) lines kept
       → AreKept t c until ended time (given_of t c (frame_with Left a ∷ frames)) lines kept
   join-strange e strange all falling are =
-      kept-same t c until ended time (with_strange (key_with a.side a.port None) (stranger_due t (key_with a.side a.port None) a)
+      kept-same t c until ended time (with_strange (key_with a.side a.port None)
+      (stranger_due t (key_with a.side a.port None) a)
       (given_of t c frames)) (given_of t c (frame_with Left a ∷ frames)) lines kept
-      (λ k known. given-more (frame_with Left a) k e ∙ given-strange t c.taps k (counted t c frames) a lawful strange known
+      (λ k known. given-more (frame_with Left a) k e ∙ given-strange t c.taps k (counted t c frames) a lawful strange
+      known
       ∙ ap (λ g. if is_key (key_with a.side a.port None) k
       then given_with g.came g.left (stranger_due t (key_with a.side a.port None) a ∷ g.strange) else g)
       (sym (given-from t c frames k)))
@@ -185,17 +202,21 @@ module _ (t : Rows) (c : Choices) (until : ℕ) (ended : Option ℕ) (time : ℕ
       by k None f times = tell (left_at k.side k.port (frame_with Left a) && is_stranger t c.taps a)
         where
           tell : (v : Bool) → AreFalling (map (stranger_due t k) (map (λ y. y.arrival)
-              (cond v (frame_with Left a ∷ filter (λ y. left_at k.side k.port y && is_stranger t c.taps y.arrival) (counted t c frames))
+              (cond v (frame_with Left a ∷ filter (λ y. left_at k.side k.port y && is_stranger t c.taps y.arrival)
+              (counted t c frames))
               (filter (λ y. left_at k.side k.port y && is_stranger t c.taps y.arrival) (counted t c frames)))))
-          tell true = falling-more (stranger_due t k a) (given_from t c.taps k (counted t c frames) None).strange times f
+          tell true = falling-more (stranger_due t k a) (given_from t c.taps k (counted t c frames) None).strange
+              times f
           tell false = f
-      by k (Some place) f times = linked-falls k (frame_with Left a ∷ counted t c frames) (judged_to t c.taps k.side place k.port)
+      by k (Some place) f times = linked-falls k (frame_with Left a ∷ counted t c frames)
+          (judged_to t c.taps k.side place k.port)
 
 -- one of these is a system to which the link goes
 pub any-in : (to : List ℕ) (i s : ℕ) → s ≡ get_or to i s → i < length to → list_any (λ j. nat_eq j s) to ≡ true
 any-in [] i s is lt = absurd (omega (arith, lt))
 any-in (j ∷ to) zero s is lt = ap (λ v. v || list_any (λ q. nat_eq q s) to) (eq-eqb j s (sym is))
-any-in (j ∷ to) (suc i) s is lt = or-true (nat_eq j s) (list_any (λ q. nat_eq q s) to) (any-in to i s is (omega (arith, lt)))
+any-in (j ∷ to) (suc i) s is lt = or-true (nat_eq j s) (list_any (λ q. nat_eq q s) to)
+    (any-in to i s is (omega (arith, lt)))
   where
     or-true : (a b : Bool) → b ≡ true → (a || b) ≡ true
     or-true true b e = refl
@@ -205,14 +226,17 @@ filter-few : {X : Type 0} (p : X → Bool) (xs : List X) → length (filter p xs
 filter-few p [] = omega arith
 filter-few p (x ∷ xs) = by (p x) (filter-few p xs)
   where
-    by : (b : Bool) → length (filter p xs) ≤ length xs → length (cond b (x ∷ filter p xs) (filter p xs)) ≤ length (x ∷ xs)
+    by : (b : Bool) → length (filter p xs) ≤ length xs → length (cond b (x ∷ filter p xs) (filter p xs))
+        ≤ length (x ∷ xs)
     by true h = omega (arith, h)
     by false h = omega (arith, h)
 
 back-few : {X Y : Type 0} (f : X → Y) (p : X → Bool) (xs : List X) → length (reverse (map f (filter p xs))) ≤ length xs
-back-few f p xs = subst (λ n. n ≤ length xs) (sym (length-reverse (map f (filter p xs)) ∙ length-map (filter p xs) f)) (filter-few p xs)
+back-few f p xs = subst (λ n. n ≤ length xs) (sym (length-reverse (map f (filter p xs)) ∙ length-map (filter p xs) f))
+    (filter-few p xs)
 
-pub came-few : (t : Rows) (c : Choices) (frames : List Frame) (k : Key) → length (given_of t c frames k).came ≤ length frames
+pub came-few : (t : Rows) (c : Choices) (frames : List Frame) (k : Key) → length (given_of t c frames k).came
+    ≤ length frames
 came-few t c frames k = subst (λ g. length g.came ≤ length frames) (sym (given-from t c frames k)) (by k.link)
   where
     by-link : (o : Option LinkRow) → length (linked k (counted t c frames) o).came ≤ length frames
@@ -224,7 +248,8 @@ came-few t c frames k = subst (λ g. length g.came ≤ length frames) (sym (give
     by None = omega arith
     by (Some place) = by-link (judged_to t c.taps k.side place k.port)
 
-pub left-few : (t : Rows) (c : Choices) (frames : List Frame) (k : Key) → length (given_of t c frames k).left ≤ length frames
+pub left-few : (t : Rows) (c : Choices) (frames : List Frame) (k : Key) → length (given_of t c frames k).left
+    ≤ length frames
 left-few t c frames k = subst (λ g. length g.left ≤ length frames) (sym (given-from t c frames k)) (by k.link)
   where
     by-link : (o : Option LinkRow) → length (linked k (counted t c frames) o).left ≤ length frames
@@ -237,7 +262,8 @@ left-few t c frames k = subst (λ g. length g.left ≤ length frames) (sym (give
     by None = omega arith
     by (Some place) = by-link (judged_to t c.taps k.side place k.port)
 
-pub counted-behind : (t : Rows) (c : Choices) (frames : List Frame) (time : ℕ) → AllByRecursion (λ x. x.arrival.time ≤ time) frames
+pub counted-behind : (t : Rows) (c : Choices) (frames : List Frame) (time : ℕ)
+    → AllByRecursion (λ x. x.arrival.time ≤ time) frames
     → AllByRecursion (λ x. x.arrival.time ≤ time) (counted t c frames)
 counted-behind t c frames time all = all-filter (λ x. x.arrival.time ≤ time) (counts t c) frames all
 
@@ -249,16 +275,19 @@ more-ports t row rank s is lt =
     ∙ ap (λ n. map (port_of t) (take rank row.to ++ n ∷ [])) (sym is)
     ∙ map-append (port_of t) (take rank row.to) (s ∷ [])
 
-pub come-next : (t : Rows) (c : Choices) (until time : ℕ) (side : Side) (place : ℕ) (row : LinkRow) (rank s : ℕ) (x : Arrival)
+pub come-next : (t : Rows) (c : Choices) (until time : ℕ) (side : Side) (place : ℕ) (row : LinkRow) (rank s : ℕ)
+    (x : Arrival)
     (given : Key → Given) (lines : List Due) (kept : Kept)
     → IsLawfulSwitch t → slice_get t.links place ≡ Some row → s ≡ get_or row.to rank s → rank < length row.to
     → c.taps Left side (port_of t s) ≡ true
     → ((k : Key) → AreFalling (given k).strange)
     → AreKept t c until None time (with_came (key_with side (port_of t s) (Some place)) x
     (came_to side place (seen_ports t c.taps side (take rank row.to)) x given)) lines kept
-    → AreKept t c until None time (came_to side place (seen_ports t c.taps side (take (rank + 1) row.to)) x given) lines kept
+    → AreKept t c until None time (came_to side place (seen_ports t c.taps side (take (rank + 1) row.to)) x given)
+    lines kept
 come-next t c until time side place row rank s x given lines kept lawful at is lt seen falling are =
-    let more : seen_ports t c.taps side (take (rank + 1) row.to) ≡ seen_ports t c.taps side (take rank row.to) ++ port_of t s ∷ [] =
+    let more : seen_ports t c.taps side (take (rank + 1) row.to) ≡ seen_ports t c.taps side (take rank row.to)
+    ++ port_of t s ∷ [] =
     ap (λ l. filter (c.taps Left side) l) (more-ports t row rank s is lt)
     ∙ filter-pushed (c.taps Left side) (map (port_of t) (take rank row.to)) (port_of t s) seen in
     kept-same t c until None time (with_came (key_with side (port_of t s) (Some place)) x
@@ -268,13 +297,16 @@ come-next t c until time side place row rank s x given lines kept lawful at is l
     ∙ came-step side place (port_of t s) (seen_ports t c.taps side (take rank row.to)) x given k
     (any-fewer (c.taps Left side) (port_of t s) (map (port_of t) (take rank row.to))
     (fresh-port t place row rank s lawful at is lt)))
-    (λ k. subst AreFalling (sym (came-strange side place (seen_ports t c.taps side (take (rank + 1) row.to)) x given k)) (falling k)) are
+    (λ k. subst AreFalling (sym (came-strange side place (seen_ports t c.taps side (take (rank + 1) row.to)) x given
+    k)) (falling k)) are
 
-pub come-past : (t : Rows) (c : Choices) (until time : ℕ) (side : Side) (place : ℕ) (row : LinkRow) (rank s : ℕ) (x : Arrival)
+pub come-past : (t : Rows) (c : Choices) (until time : ℕ) (side : Side) (place : ℕ) (row : LinkRow) (rank s : ℕ)
+    (x : Arrival)
     (given : Key → Given) (lines : List Due) (kept : Kept)
     → s ≡ get_or row.to rank s → rank < length row.to → c.taps Left side (port_of t s) ≡ false
     → AreKept t c until None time (came_to side place (seen_ports t c.taps side (take rank row.to)) x given) lines kept
-    → AreKept t c until None time (came_to side place (seen_ports t c.taps side (take (rank + 1) row.to)) x given) lines kept
+    → AreKept t c until None time (came_to side place (seen_ports t c.taps side (take (rank + 1) row.to)) x given)
+    lines kept
 come-past t c until time side place row rank s x given lines kept is lt unseen are =
     subst (λ ps. AreKept t c until None time (came_to side place ps x given) lines kept)
     (sym (ap (λ l. filter (c.taps Left side) l) (more-ports t row rank s is lt)

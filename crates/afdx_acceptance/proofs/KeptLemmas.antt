@@ -91,7 +91,8 @@ module _ (t : Rows) (c : Choices) (until : ℕ) where
       → new.slots.items ≡ set old.slots.items (key_place key) slot
       → ((k : Key) → AreFalling (to k).strange)
       → AreKept t c until None time to lines new
-  kept-added lawful time given to lines old new key slot due at known kept stands same newly later le awaits slots falling =
+  kept-added lawful time given to lines old new key slot due at known kept stands same newly later le awaits slots
+      falling =
       let within : key_place key < length old.slots.items = subst (λ n. key_place key < n) (sym kept.count)
       (known-within t key lawful known) in record {
         stand = subst (λ (l : List Slot). (k : Key) → is_known t k ≡ true
@@ -104,18 +105,22 @@ module _ (t : Rows) (c : Choices) (until : ℕ) where
         count = ap (λ (l : List Slot). length l) slots ∙ length-set old.slots.items (key_place key) slot ∙ kept.count;
         on_agenda = λ k m kk is. subst (λ (l : List Slot). (k' : Key) → is_known t k' ≡ true
             → (m' : ℕ) → slot_due (slot_at l k') ≡ Some m' → Contains new.agenda (awaited m' k')) (sym slots)
-            (at-set t key old.slots.items slot (λ k' s. (m' : ℕ) → slot_due s ≡ Some m' → Contains old.agenda (awaited m' k'))
+            (at-set t key old.slots.items slot (λ k' s. (m' : ℕ) → slot_due s ≡ Some m'
+            → Contains old.agenda (awaited m' k'))
             (λ k' s. (m' : ℕ) → slot_due s ≡ Some m' → Contains new.agenda (awaited m' k')) lawful known within
-            (λ m' is'. newly-awaited key m' (slot_due (slot_at old.slots.items key)) due (slot_due slot) old.agenda new.agenda
+            (λ m' is'. newly-awaited key m' (slot_due (slot_at old.slots.items key)) due (slot_due slot) old.agenda
+            new.agenda
             newly awaits (λ e. kept.on_agenda key m' known e) is')
             (λ k' s other kk' p m' is'. awaits-old due key old.agenda new.agenda (awaited m' k') awaits (p m' is'))
             (λ k' kk' m' is'. kept.on_agenda k' m' kk' is')) k kk m is;
         known = awaits-all (λ e. is_known t e.key ≡ true) due key old.agenda new.agenda awaits (λ m. known) kept.known;
         behind = λ k m kk is. subst (λ (l : List Slot). (k' : Key) → is_known t k' ≡ true
             → (m' : ℕ) → slot_due (slot_at l k') ≡ Some m' → last_rank lines ≤ rank_of (awaited m' k')) (sym slots)
-            (at-set t key old.slots.items slot (λ k' s. (m' : ℕ) → slot_due s ≡ Some m' → last_rank lines ≤ rank_of (awaited m' k'))
+            (at-set t key old.slots.items slot (λ k' s. (m' : ℕ) → slot_due s ≡ Some m'
+            → last_rank lines ≤ rank_of (awaited m' k'))
             (λ k' s. (m' : ℕ) → slot_due s ≡ Some m' → last_rank lines ≤ rank_of (awaited m' k')) lawful known within
-            (λ m' is'. same-or-later (last_rank lines) time at m' (key_rank key) (slot_due (slot_at old.slots.items key)) (slot_due slot)
+            (λ m' is'. same-or-later (last_rank lines) time at m' (key_rank key)
+            (slot_due (slot_at old.slots.items key)) (slot_due slot)
             later le (kept.early refl) (λ e. kept.behind key m' known e) is')
             (λ k' s other kk' p. p)
             (λ k' kk' m' is'. kept.behind k' m' kk' is')) k kk m is;
@@ -131,7 +136,8 @@ pub of-told : (key : Key) (m : ℕ) (xs : List ConformLine) (lines : List Due)
     → of_key key (map (due_at key m) xs ++ lines) ≡ map (due_at key m) xs ++ of_key key lines
 of-told key m [] lines = refl
 of-told key m (x ∷ xs) lines =
-    ap (λ b. cond b (due_at key m x ∷ of_key key (map (due_at key m) xs ++ lines)) (of_key key (map (due_at key m) xs ++ lines)))
+    ap (λ b. cond b (due_at key m x ∷ of_key key (map (due_at key m) xs ++ lines))
+    (of_key key (map (due_at key m) xs ++ lines)))
     (key-self key)
     ∙ ap (λ l. due_at key m x ∷ l) (of-told key m xs lines)
 
@@ -140,10 +146,12 @@ pub of-other : (key k : Key) (m : ℕ) (xs : List ConformLine) (lines : List Due
     → of_key k (map (due_at key m) xs ++ lines) ≡ of_key k lines
 of-other key k m [] lines other = refl
 of-other key k m (x ∷ xs) lines other =
-    ap (λ b. cond b (due_at key m x ∷ of_key k (map (due_at key m) xs ++ lines)) (of_key k (map (due_at key m) xs ++ lines))) other
+    ap (λ b. cond b (due_at key m x ∷ of_key k (map (due_at key m) xs ++ lines))
+    (of_key k (map (due_at key m) xs ++ lines))) other
     ∙ of-other key k m xs lines other
 
-pub last-told : (key : Key) (m : ℕ) (xs : List ConformLine) (lines : List Due) → last_rank lines ≤ rank_of (awaited m key)
+pub last-told : (key : Key) (m : ℕ) (xs : List ConformLine) (lines : List Due)
+    → last_rank lines ≤ rank_of (awaited m key)
     → last_rank (map (due_at key m) xs ++ lines) ≤ rank_of (awaited m key)
 last-told key m [] lines le = le
 last-told key m (x ∷ xs) lines le = omega arith
@@ -186,7 +194,8 @@ module _ (t : Rows) (c : Choices) (until : ℕ) (ended : Option ℕ) (time : ℕ
     none = kept.none;
     count = ap (λ (l : List Slot). length l) slots ∙ kept.count;
     on_agenda = λ k m known is.
-        let due : slot_due (slot_at old.slots.items k) ≡ Some m = ap (λ (l : List Slot). slot_due (slot_at l k)) (sym slots) ∙ is in
+        let due : slot_due (slot_at old.slots.items k) ≡ Some m = ap (λ (l : List Slot). slot_due (slot_at l k))
+        (sym slots) ∙ is in
         still-awaited entry old.agenda new.agenda m k moved
         (λ same. stale (subst (λ (e : Entry). slot_due (slot_at old.slots.items e.key) ≡ Some e.moment) (sym same) due))
         (kept.on_agenda k m known due);
@@ -244,7 +253,8 @@ module _ (t : Rows) (c : Choices) (until : ℕ) (ended : Option ℕ) (time : ℕ
         count = ap (λ (l : List Slot). length l) slots ∙ length-set old.slots.items (key_place key) slot ∙ kept.count;
         on_agenda = λ k m kk is. subst (λ (l : List Slot). (k' : Key) → is_known t k' ≡ true
             → (m' : ℕ) → slot_due (slot_at l k') ≡ Some m' → Contains new.agenda (awaited m' k')) (sym slots)
-            (at-set t key old.slots.items slot (λ k' s. (m' : ℕ) → slot_due s ≡ Some m' → Contains old.agenda (awaited m' k'))
+            (at-set t key old.slots.items slot (λ k' s. (m' : ℕ) → slot_due s ≡ Some m'
+            → Contains old.agenda (awaited m' k'))
             (λ k' s. (m' : ℕ) → slot_due s ≡ Some m' → Contains new.agenda (awaited m' k')) lawful known within
             (λ m' is'. awaits-new m' key rest new.agenda (subst (λ d. Awaits d key rest new.agenda) is' awaits))
             (λ k' s other kk' p m' is'. awaits-old (slot_due slot) key rest new.agenda (awaited m' k') awaits
@@ -255,7 +265,8 @@ module _ (t : Rows) (c : Choices) (until : ℕ) (ended : Option ℕ) (time : ℕ
             (All-permutation (λ e. is_known t e.key ≡ true) old.agenda (entry ∷ rest) moved kept.known));
         behind = λ k m kk is. subst (λ (l : List Slot). (k' : Key) → is_known t k' ≡ true
             → (m' : ℕ) → slot_due (slot_at l k') ≡ Some m' → last_rank now ≤ rank_of (awaited m' k')) (sym slots)
-            (at-set t key old.slots.items slot (λ k' s. (m' : ℕ) → slot_due s ≡ Some m' → Contains old.agenda (awaited m' k'))
+            (at-set t key old.slots.items slot (λ k' s. (m' : ℕ) → slot_due s ≡ Some m'
+            → Contains old.agenda (awaited m' k'))
             (λ k' s. (m' : ℕ) → slot_due s ≡ Some m' → last_rank now ≤ rank_of (awaited m' k')) lawful known within
             (λ m' is'. step-rank (last_rank now) entry.moment m' (key_rank key) last
             (no-sooner entry.moment (slot_due slot) m' later is'))
@@ -278,12 +289,15 @@ module _ (t : Rows) (c : Choices) (until : ℕ) (ended : Option ℕ) (time : ℕ
           → last_rank (told_at entry.key entry.moment told lines) ≤ rank_of (awaited entry.moment entry.key)
           → last_rank (told_at entry.key entry.moment told lines) ≤ rank_of (awaited m k)
       behind-first k m h last =
-          let there = All-contains (λ y. rank_of entry ≤ rank_of y) rest (awaited m k) first h in omega (arith, last, there)
+          let there = All-contains (λ y. rank_of entry ≤ rank_of y) rest (awaited m k) first h in
+          omega (arith, last, there)
 
 -- what is taken comes before that time
-pub in-time : (time : ℕ) (before : Option ℕ) (x : Entry) → IsSomeUpTo time before → is_before before x ≡ true → x.moment < time
+pub in-time : (time : ℕ) (before : Option ℕ) (x : Entry) → IsSomeUpTo time before → is_before before x ≡ true
+    → x.moment < time
 in-time time None x up is = absurd up
 in-time time (Some before) x up is = let lt = ltb-true x.moment before is in omega (arith, lt, up)
 
-pub read-set : (slots : List Slot) (i : ℕ) (s new : Slot) → i < length slots → s ≡ get_or (set slots i new) i s → s ≡ new
+pub read-set : (slots : List Slot) (i : ℕ) (s new : Slot) → i < length slots → s ≡ get_or (set slots i new) i s
+    → s ≡ new
 read-set slots i s new within is = is ∙ get_or-set_same slots i new s within

@@ -129,10 +129,6 @@ to-link t place port l at goes =
 
 -- ---- places
 
-side-cases : (side : Side) → (side_rank side ≡ 0) ⊎ (side_rank side ≡ 1)
-side-cases A = inl refl
-side-cases B = inr refl
-
 pub side-of-rank : (a b : Side) → side_rank a ≡ side_rank b → is_side a b ≡ true
 side-of-rank A A e = refl
 side-of-rank A B e = absurd (cc)
@@ -147,7 +143,8 @@ pub known-link : (t : Rows) (place port : ℕ) → is_some (link_to t place port
     → (l : LinkRow) × (link_to t place port ≡ Some l)
 known-link t place port e = by (link_to t place port) refl e
   where
-    by : (o : Option LinkRow) → link_to t place port ≡ o → is_some o ≡ true → (l : LinkRow) × (link_to t place port ≡ Some l)
+    by : (o : Option LinkRow) → link_to t place port ≡ o → is_some o ≡ true
+        → (l : LinkRow) × (link_to t place port ≡ Some l)
     by None is h = absurd (true≢false (sym h))
     by (Some l) is h = (l, is)
 
@@ -163,11 +160,14 @@ pub known-within : (t : Rows) (k : Key) → IsLawfulSwitch t → is_known t k �
 unfolding is_known
 known-within t k lawful known = by k.link refl known
   where
-    by : (o : Option ℕ) → k.link ≡ o → is_known_by t k o ≡ true → place_of (side_rank k.side) k.port o < 512 + 64 * length t.links
+    by : (o : Option ℕ) → k.link ≡ o → is_known_by t k o ≡ true → place_of (side_rank k.side) k.port o
+        < 512 + 64 * length t.links
     by None is e = let p = ltb-true k.port 256 e in let s = side-small k.side in omega (arith, p, s)
-    by (Some place) is e = let p = link-place t place k.port lawful e in let s = side-small k.side in omega (arith, p.0, p.1, s)
+    by (Some place) is e = let p = link-place t place k.port lawful e in let s = side-small k.side in
+        omega (arith, p.0, p.1, s)
 
-apart-by : (t : Rows) (a b : Key) → IsLawfulSwitch t → (p q : Option ℕ) → is_known_by t a p ≡ true → is_known_by t b q ≡ true
+apart-by : (t : Rows) (a b : Key) → IsLawfulSwitch t → (p q : Option ℕ) → is_known_by t a p ≡ true
+    → is_known_by t b q ≡ true
     → place_of (side_rank b.side) b.port q ≡ place_of (side_rank a.side) a.port p
     → (side_rank a.side ≡ side_rank b.side) × (a.port ≡ b.port) × (is_link p q ≡ true)
 apart-by t a b lawful None None ka kb e =
@@ -214,7 +214,8 @@ at-set t key slots slot P Q lawful known within new others all k kk = elim (key-
       (subst (λ s. Q key s) (sym (get_or-set_same slots (key_place key) slot Nothing within)) new))
   | inr other ↦
       subst (λ s. Q k s)
-      (sym (get_or-set_other slots (key_place key) (key_place k) slot Nothing (place-apart t key k lawful known kk other)))
+      (sym (get_or-set_other slots (key_place key) (key_place k) slot Nothing
+      (place-apart t key k lawful known kk other)))
       (others k (slot_at slots k) other kk (all k kk))
 ]
 
@@ -230,5 +231,6 @@ pub beyond-due : (slots : List Slot) (k : Key) → length slots ≤ key_place k 
 unfolding slot_due
 beyond-due slots k past = ap slot_due (get_or_past slots (key_place k) Nothing past)
 
-pub not-beyond : (slots : List Slot) (k : Key) (m : ℕ) → length slots ≤ key_place k → slot_due (slot_at slots k) ≡ Some m → ⊥
+pub not-beyond : (slots : List Slot) (k : Key) (m : ℕ) → length slots ≤ key_place k → slot_due (slot_at slots k)
+    ≡ Some m → ⊥
 not-beyond slots k m past is = let no = sym (beyond-due slots k past) ∙ is in cc

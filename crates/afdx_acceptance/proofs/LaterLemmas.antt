@@ -45,7 +45,8 @@ module _ (z : Terms) (P : ℕ → Type 0) where
     pub newest : before.is_unsure ≡ false → after.is_unsure ≡ true → (m : Marked) (more : List Marked)
         → after.arrivals ≡ more ++ m ∷ [] → P m.arrival.time
 
-  came-unsure : (behind : List Arrival) (last : ℕ) (x : Arrival) (j : Judged) → j.is_unsure ≡ true → came_to z behind last x j ≡ j
+  came-unsure : (behind : List Arrival) (last : ℕ) (x : Arrival) (j : Judged) → j.is_unsure ≡ true
+      → came_to z behind last x j ≡ j
   unfolding came_to
   came-unsure behind last x j e =
       ap (λ (b : Bool). if b then j else came_by z behind last x (fault_of (Some z.rule) x.port x.bytes) j) e
@@ -56,11 +57,13 @@ module _ (z : Terms) (P : ℕ → Type 0) where
       ap (λ (b : Bool). if b then j else closed_by z time (kept (λ s. are_behind time s.rest) j.states) j) e
 
   -- where a stream is unsure there is a newest arrival
-  unsure-by : (ys : List Gone) (behind : List Arrival) (events : List Event) → (judged_after z ys behind events).is_unsure ≡ true
+  unsure-by : (ys : List Gone) (behind : List Arrival) (events : List Event)
+      → (judged_after z ys behind events).is_unsure ≡ true
       → (before : List Marked) × (one : Marked) × ((judged_after z ys behind events).arrivals ≡ before ++ one ∷ [])
   unfolding judged_after
   unsure-by ys behind [] e = absurd (cc)
-  unsure-by ys behind (Came x ∷ events) e = by (judged_after z ys (x ∷ behind) events).is_unsure refl (unsure-by ys (x ∷ behind) events)
+  unsure-by ys behind (Came x ∷ events) e = by (judged_after z ys (x ∷ behind) events).is_unsure refl
+      (unsure-by ys (x ∷ behind) events)
     where
       j : Judged
       j = judged_after z ys (x ∷ behind) events
@@ -97,14 +100,16 @@ module _ (z : Terms) (P : ℕ → Type 0) where
     λ sure un. by mid.is_unsure refl sure un,
   )
     where
-      by : (b : Bool) → mid.is_unsure ≡ b → before.is_unsure ≡ false → after.is_unsure ≡ true → (m : Marked) (more : List Marked)
+      by : (b : Bool) → mid.is_unsure ≡ b → before.is_unsure ≡ false → after.is_unsure ≡ true
+          → (m : Marked) (more : List Marked)
           → after.arrivals ≡ more ++ m ∷ [] → P m.arrival.time
       by true e sure un m more is = h.1 sure e m more (ap (λ (j : Judged). j.arrivals) (sym (same e)) ∙ is)
       by false e sure un m more is = next e un m more is
 
   stays : (ys : List Gone) (behind : List Arrival) (more before : List Event)
       → AllByRecursion (λ e. P (event_time z e)) more
-      → Stays (judged_after z ys (reverse (arrivals_came more) ++ behind) before) (judged_after z ys behind (more ++ before))
+      → Stays (judged_after z ys (reverse (arrivals_came more) ++ behind) before)
+      (judged_after z ys behind (more ++ before))
   unfolding judged_after
   stays ys behind [] before h = stays-same (judged_after z ys behind before)
   stays ys behind (Came x ∷ more) before h =
@@ -129,14 +134,16 @@ module _ (z : Terms) (P : ℕ → Type 0) where
 
   pub adds-at : (ys : List Gone) (behind : List Arrival) (more before : List Event)
       → AllByRecursion (λ e. P (event_time z e)) more
-      → AddsAt (judged_after z ys (reverse (arrivals_came more) ++ behind) before) (judged_after z ys behind (more ++ before))
+      → AddsAt (judged_after z ys (reverse (arrivals_came more) ++ behind) before)
+      (judged_after z ys behind (more ++ before))
   adds-at ys behind more before h =
       let s = found_stays z ys behind more before in
       let t = stays ys behind more before h in
       record {
         found = s.found;
         added = s.added;
-        at = every-on (λ f. IsTimeOf z f.time more) (λ f. P f.time) (λ f k. at-time z P more f.time h k) s.found s.at_events;
+        at = every-on (λ f. IsTimeOf z f.time more) (λ f. P f.time) (λ f k. at-time z P more f.time h k) s.found
+            s.at_events;
         same = t.0;
         newest = t.1;
       }

@@ -33,15 +33,18 @@ leaves x true came left =
 
 -- a stream at the port of a frame is that of its link
 judged-there : (t : Rows) (taps : Taps) (a : Arrival) (k : Key) (place p : ℕ) (l m : LinkRow)
-    → link_to t place a.port ≡ Some l → link_to t p k.port ≡ Some m → is_side a.side k.side ≡ true → nat_eq a.port k.port ≡ true
+    → link_to t place a.port ≡ Some l → link_to t p k.port ≡ Some m → is_side a.side k.side ≡ true
+    → nat_eq a.port k.port ≡ true
     → nat_eq place p ≡ true → is_judged t taps a.side l a.port ≡ is_judged t taps k.side m k.port
 judged-there t taps a k place p l m to there s q n =
     let port : a.port ≡ k.port = eqb-true a.port k.port q in
     let row : m ≡ l = same-row t place p l m n (link-to t place a.port l to).at (link-to t p k.port m there).at in
-    ap (λ d. is_judged t taps d l a.port) (same-side a.side k.side s) ∙ ap (λ r. is_judged t taps k.side r a.port) (sym row)
+    ap (λ d. is_judged t taps d l a.port) (same-side a.side k.side s) ∙ ap (λ r. is_judged t taps k.side r a.port)
+    (sym row)
     ∙ ap (λ x. is_judged t taps k.side m x) port
 
-pub given-left : (t : Rows) (taps : Taps) (k : Key) (fs : List Frame) (a : Arrival) (place : ℕ) (l : LinkRow) → IsLawfulSwitch t
+pub given-left : (t : Rows) (taps : Taps) (k : Key) (fs : List Frame) (a : Arrival) (place : ℕ) (l : LinkRow)
+    → IsLawfulSwitch t
     → place_named t a.bytes ≡ Some place → link_to t place a.port ≡ Some l → is_known t k ≡ true
     → is_judged t taps a.side l a.port ≡ true
     → given_from t taps k (frame_with Left a ∷ fs) k.link
@@ -55,7 +58,8 @@ given-left t taps k fs a place l lawful named to known judges = by k.link known
     strange true fs' d u = refl
     strange false fs' d u = refl
 
-    judged : (p : ℕ) (m : LinkRow) → judged_to t taps k.side p k.port ≡ Some m → linked k (frame_with Left a ∷ fs) (Some m)
+    judged : (p : ℕ) (m : LinkRow) → judged_to t taps k.side p k.port ≡ Some m → linked k (frame_with Left a ∷ fs)
+        (Some m)
         ≡ (if is_side a.side k.side && nat_eq a.port k.port && nat_eq place p
         then given_with (linked k fs (Some m)).came ((linked k fs (Some m)).left ++ gone_of a ∷ []) []
         else linked k fs (Some m))
@@ -117,9 +121,11 @@ given-left t taps k fs a place l lawful named to known judges = by k.link known
         ]
 
 -- one that left where its stream isn't judged
-pub given-unseen : (t : Rows) (taps : Taps) (k : Key) (fs : List Frame) (a : Arrival) (place : ℕ) (l : LinkRow) → IsLawfulSwitch t
+pub given-unseen : (t : Rows) (taps : Taps) (k : Key) (fs : List Frame) (a : Arrival) (place : ℕ) (l : LinkRow)
+    → IsLawfulSwitch t
     → place_named t a.bytes ≡ Some place → link_to t place a.port ≡ Some l → is_stranger t taps a ≡ false
-    → is_judged t taps a.side l a.port ≡ false → given_from t taps k (frame_with Left a ∷ fs) k.link ≡ given_from t taps k fs k.link
+    → is_judged t taps a.side l a.port ≡ false → given_from t taps k (frame_with Left a ∷ fs) k.link
+    ≡ given_from t taps k fs k.link
 unfolding is_arrival_of left_at
 given-unseen t taps k fs a place l lawful named to own none = by k.link
   where
@@ -181,9 +187,11 @@ given-strange t taps k fs a lawful strange known = by k.link refl known
     same-key : (o : Option ℕ) → k.link ≡ None → is_side a.side k.side && nat_eq a.port k.port ≡ true
         → key_with a.side a.port None ≡ k
     same-key o none e =
-        key-same (key_with a.side a.port None) k (ap (λ v. v && is_link None k.link) e ∙ ap (λ o'. is_link None o') none)
+        key-same (key_with a.side a.port None) k (ap (λ v. v && is_link None k.link) e
+        ∙ ap (λ o'. is_link None o') none)
 
-    judged : (p : ℕ) (m : LinkRow) → judged_to t taps k.side p k.port ≡ Some m → linked k (frame_with Left a ∷ fs) (Some m)
+    judged : (p : ℕ) (m : LinkRow) → judged_to t taps k.side p k.port ≡ Some m → linked k (frame_with Left a ∷ fs)
+        (Some m)
         ≡ (if is_side a.side k.side && nat_eq a.port k.port && false
         then given_with (linked k fs (Some m)).came (linked k fs (Some m)).left
         (stranger_due t (key_with a.side a.port None) a ∷ [])
@@ -200,7 +208,8 @@ given-strange t taps k fs a lawful strange known = by k.link refl known
         (λ e. let first = and_parts (is_side a.side k.side && nat_eq a.port k.port) (names m.vl a.bytes) e in
         let where-is = and_parts (is_side a.side k.side) (nat_eq a.port k.port) first.0 in
         let port : a.port ≡ k.port = eqb-true a.port k.port where-is.1 in
-        let heard : is_heard_at t taps a.side (Some p) ≡ true = ap (λ d. is_heard_at t taps d (Some p)) (same-side a.side k.side where-is.0)
+        let heard : is_heard_at t taps a.side (Some p) ≡ true = ap (λ d. is_heard_at t taps d (Some p))
+        (same-side a.side k.side where-is.0)
         ∙ judged-heard t taps k.side p k.port m there.at both.1 in
         let place : place_named t a.bytes ≡ Some p = same-place (place_named t a.bytes) p
         (sym (named-is t p m a.bytes lawful there.at) ∙ first.1) in

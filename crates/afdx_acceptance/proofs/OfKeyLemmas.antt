@@ -21,15 +21,19 @@ own-keys k [] = tt
 own-keys k (d ∷ lines) = elim (key-cases k d.key) [
   | inl same ↦ subst (λ (l : List Due). AllByRecursion (λ x. k ≡ x.key) l) (sym (own-key k d lines same))
       (key-same k d.key same, own-keys k lines)
-  | inr other ↦ subst (λ (l : List Due). AllByRecursion (λ x. k ≡ x.key) l) (sym (other-key k d lines other)) (own-keys k lines)
+  | inr other ↦ subst (λ (l : List Due). AllByRecursion (λ x. k ≡ x.key) l) (sym (other-key k d lines other))
+      (own-keys k lines)
 ]
 
 -- what is so of each line is so of those of a key, and the other way round
-pub all-of-key : (P : Due → Type 0) (k : Key) (lines : List Due) → AllByRecursion P lines → AllByRecursion P (of_key k lines)
+pub all-of-key : (P : Due → Type 0) (k : Key) (lines : List Due) → AllByRecursion P lines
+    → AllByRecursion P (of_key k lines)
 all-of-key P k [] h = tt
 all-of-key P k (d ∷ lines) h = elim (key-cases k d.key) [
-  | inl same ↦ subst (λ (l : List Due). AllByRecursion P l) (sym (own-key k d lines same)) (h.0, all-of-key P k lines h.1)
-  | inr other ↦ subst (λ (l : List Due). AllByRecursion P l) (sym (other-key k d lines other)) (all-of-key P k lines h.1)
+  | inl same ↦ subst (λ (l : List Due). AllByRecursion P l) (sym (own-key k d lines same))
+      (h.0, all-of-key P k lines h.1)
+  | inr other ↦ subst (λ (l : List Due). AllByRecursion P l) (sym (other-key k d lines other))
+      (all-of-key P k lines h.1)
 ]
 
 all-but-first : (P : Due → Type 0) (k : Key) (d : Due) (lines : List Due) → AllByRecursion P (of_key k (d ∷ lines))
@@ -39,7 +43,8 @@ all-but-first P k d lines h = elim (key-cases k d.key) [
   | inr other ↦ subst (λ (l : List Due). AllByRecursion P l) (other-key k d lines other) h
 ]
 
-pub of-each-key : (P : Due → Type 0) (lines : List Due) → ((k : Key) → AllByRecursion P (of_key k lines)) → AllByRecursion P lines
+pub of-each-key : (P : Due → Type 0) (lines : List Due) → ((k : Key) → AllByRecursion P (of_key k lines))
+    → AllByRecursion P lines
 of-each-key P [] h = tt
 of-each-key P (d ∷ lines) h = (
   (subst (λ (l : List Due). AllByRecursion P l) (its-key d lines) (h d.key)).0,

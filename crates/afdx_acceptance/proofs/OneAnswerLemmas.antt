@@ -31,7 +31,8 @@ link-of-rank (Some a) None e = absurd (omega (arith, e))
 link-of-rank (Some a) (Some b) e = eq-eqb a b (omega (arith, e))
 
 ranks : (m n s p l r q k : ℕ) → s ≤ 1 → r ≤ 1 → p < 256 → q < 256 → l < 0x100000000 → k < 0x100000000
-    → m * 18446744073709551616 + ((s * 256 + p) * 0x100000000 + l) ≡ n * 18446744073709551616 + ((r * 256 + q) * 0x100000000 + k)
+    → m * 18446744073709551616 + ((s * 256 + p) * 0x100000000 + l) ≡ n * 18446744073709551616
+    + ((r * 256 + q) * 0x100000000 + k)
     → (s ≡ r) × (p ≡ q) × (l ≡ k)
 ranks m n s p l r q k s1 r1 p1 q1 l1 k1 e =
     let at : m ≡ n = omega (arith, s1, r1, p1, q1, l1, k1, e) in
@@ -44,9 +45,11 @@ ranks m n s p l r q k s1 r1 p1 q1 l1 k1 e =
 rank-key : (a b : Due) → IsRanged a.key → IsRanged b.key → rank a ≡ rank b → is_key a.key b.key ≡ true
 unfolding is_key
 rank-key a b ra rb e =
-    let same = ranks a.moment b.moment (side_rank a.key.side) a.key.port (link_rank a.key.link) (side_rank b.key.side) b.key.port
+    let same = ranks a.moment b.moment (side_rank a.key.side) a.key.port (link_rank a.key.link) (side_rank b.key.side)
+    b.key.port
     (link_rank b.key.link) (side-small a.key.side) (side-small b.key.side) ra.port rb.port ra.link rb.link e in
-    ap (λ (v : Bool). v && nat_eq a.key.port b.key.port && is_link a.key.link b.key.link) (side-of-rank a.key.side b.key.side same.0)
+    ap (λ (v : Bool). v && nat_eq a.key.port b.key.port && is_link a.key.link b.key.link)
+    (side-of-rank a.key.side b.key.side same.0)
     ∙ ap (λ (v : Bool). v && is_link a.key.link b.key.link) (eq-eqb a.key.port b.key.port same.1)
     ∙ link-of-rank a.key.link b.key.link same.2
 
@@ -65,11 +68,6 @@ of-key-one k d (f ∷ lines) more e = elim (key-cases k f.key) [
   where
     first : (f d : Due) (xs ys : List Due) → f ∷ xs ≡ d ∷ ys → f ≡ d
     first f d xs ys e = cc
-
-one-of : (P : Due → Type 0) (d : Due) (lines : List Due) → IsOneOf d lines → AllByRecursion P lines → P d
-one-of P d [] m h = absurd m
-one-of P d (e ∷ lines) (inl same) h = subst P same h.0
-one-of P d (e ∷ lines) (inr m) h = one-of P d lines m h.1
 
 below : (d e : Due) (lines : List Due) → AreInOrder (d ∷ lines) → IsOneOf e lines → rank e ≤ rank d
 unfolding AreInOrder
@@ -99,7 +97,8 @@ tail-same d e lines others same all k = elim (key-cases k d.key) [
 first-same : (d e : Due) (lines others : List Due) → AreRanged (d ∷ lines) → AreRanged (e ∷ others)
     → AreInOrder (d ∷ lines) → AreInOrder (e ∷ others) → IsOnlyOne (d ∷ lines) (e ∷ others) → d ≡ e
 first-same d e lines others rd re od oe all = elim (key-cases d.key e.key) [
-  | inl is ↦ first d e (of_key d.key lines) (of_key d.key others) (sym (its-key d lines) ∙ all d.key ∙ own-key d.key e others is)
+  | inl is ↦ first d e (of_key d.key lines) (of_key d.key others) (sym (its-key d lines) ∙ all d.key
+      ∙ own-key d.key e others is)
   | inr other ↦
       (let mine = of-key-one e.key e lines (of_key e.key others)
       (sym (other-key e.key d lines (key-turned d.key e.key other)) ∙ all e.key ∙ its-key e others) in
@@ -126,7 +125,8 @@ only-one (d ∷ lines) (e ∷ others) rl ro ol oo all =
 
 -- ---- lines have keys in range
 
-pub judged-link : (t : Rows) (c : Choices) (side : Side) (place port : ℕ) (l : LinkRow) → judged_to t c.taps side place port ≡ Some l
+pub judged-link : (t : Rows) (c : Choices) (side : Side) (place port : ℕ) (l : LinkRow)
+    → judged_to t c.taps side place port ≡ Some l
     → link_to t place port ≡ Some l
 unfolding judged_to
 judged-link t c side place port l e = by (link_to t place port) e
@@ -135,7 +135,8 @@ judged-link t c side place port l e = by (link_to t place port) e
     test k true h = h
     test k false h = absurd (cc)
 
-    by : (o : Option LinkRow) → option_and_then (λ k. if is_judged t c.taps side k port then Some k else None) o ≡ Some l → o ≡ Some l
+    by : (o : Option LinkRow) → option_and_then (λ k. if is_judged t c.taps side k port then Some k else None) o
+        ≡ Some l → o ≡ Some l
     by None h = absurd (cc)
     by (Some k) h = test k (is_judged t c.taps side k port) h
 
@@ -144,7 +145,8 @@ all-ranged : (k : Key) (lines : List Due) → AllByRecursion (λ d. k ≡ d.key)
 all-ranged k [] h f = tt
 all-ranged k (d ∷ lines) h f =
     let r = f d lines refl in
-    every-on (λ (x : Due). k ≡ x.key) (λ (x : Due). IsRanged x.key) (λ x e. subst (λ (q : Key). IsRanged q) e r) (d ∷ lines) h
+    every-on (λ (x : Due). k ≡ x.key) (λ (x : Due). IsRanged x.key) (λ x e. subst (λ (q : Key). IsRanged q) e r)
+    (d ∷ lines) h
 
 module _ (t : Rows) (c : Choices) (until : ℕ) (frames : List Frame) (few : length t.links < 0x100000000) where
   ranged-own : (k : Key) (d : Due) (more : List Due) → k.port < 256 → dues_of t c until frames k ≡ d ∷ more → IsRanged k
@@ -154,7 +156,8 @@ module _ (t : Rows) (c : Choices) (until : ℕ) (frames : List Frame) (few : len
           → option_map_or (stream_dues t c until frames k) o [] ≡ d ∷ more → place + 1 < 0x100000000
       by-stream place None is h = absurd (cc)
       by-stream place (Some l) is h =
-          let at = slice_get_within t.links place l (link-to t place k.port l (judged-link t c k.side place k.port l is)).at in
+          let at = slice_get_within t.links place l
+          (link-to t place k.port l (judged-link t c k.side place k.port l is)).at in
           omega (arith, at, few)
 
       by : (o : Option ℕ) → dues_by t c until frames k o ≡ d ∷ more → link_rank o < 0x100000000
@@ -167,9 +170,11 @@ module _ (t : Rows) (c : Choices) (until : ℕ) (frames : List Frame) (few : len
       by : (k : Key) (b : Bool) → nat_lt k.port 256 ≡ b → AllByRecursion (λ d. IsRanged d.key) (of_key k lines)
       by k true e =
           let port = ltb-true k.port 256 e in
-          all-ranged k (of_key k lines) (own-keys k lines) (λ d more is. ranged-own k d more port (sym (are.own k port) ∙ is))
+          all-ranged k (of_key k lines) (own-keys k lines) (λ d more is. ranged-own k d more port
+          (sym (are.own k port) ∙ is))
       by k false e =
-          subst (λ (l : List Due). AllByRecursion (λ d. IsRanged d.key) l) (sym (are.only k (ltb-false k.port 256 e))) tt
+          subst (λ (l : List Due). AllByRecursion (λ d. IsRanged d.key) l) (sym (are.only k (ltb-false k.port 256 e)))
+          tt
 
   same-lines : (lines others : List Due) → AreLines t c until frames lines → AreLines t c until frames others
       → IsOnlyOne lines others
@@ -181,5 +186,6 @@ module _ (t : Rows) (c : Choices) (until : ℕ) (frames : List Frame) (few : len
 
 pub one_answer : ThereIsOneAnswer
 one_answer t c until frames lines others few a b =
-    only-one lines others (ranged t c until frames few lines a) (ranged t c until frames few others b) a.in_order b.in_order
+    only-one lines others (ranged t c until frames few lines a) (ranged t c until frames few others b) a.in_order
+    b.in_order
     (same-lines t c until frames few lines others a b)

@@ -22,7 +22,8 @@ pub receiver-known : (t : Rows) (l : Link) (rank : ℕ) (system : SystemId)
     → system ≡ get_or l.to.items rank system → system.0 < length t.systems
 receiver-known t l rank system lawful within at =
     subst (λ (s : SystemId). s.0 < length t.systems) (sym at)
-    (rw (← get_or-map (λ i. i.0) l.to.items rank system (system.0) (subst (λ (n : ℕ). rank < n) (length-map l.to.items (λ i. i.0)) within))
+    (rw (← get_or-map (λ i. i.0) l.to.items rank system (system.0)
+    (subst (λ (n : ℕ). rank < n) (length-map l.to.items (λ i. i.0)) within))
     (All-from_recursion (λ i. i < length t.systems) (link_row l).to lawful.to rank (system.0) within))
 
 pub port-is : (t : Rows) (system : ℕ) (s : SystemRow) → slice_get t.systems system ≡ Some s → port_of t system ≡ s.port
@@ -32,7 +33,8 @@ port-is t system s at = ap (λ o. option_map_or (λ r. r.port) o 0) at
 pub goes-port : (t : Rows) (place : ℕ) (l : LinkRow) (system : ℕ) (s : SystemRow) → IsLawfulSwitch t
     → slice_get t.links place ≡ Some l → slice_get t.systems system ≡ Some s → is_to system l ≡ true
     → link_to t place s.port ≡ Some l
-goes-port t place l system s lawful at sat to = to-link t place s.port l at ((port-of-system t system s lawful sat).goes l ∙ to)
+goes-port t place l system s lawful at sat to = to-link t place s.port l at
+    ((port-of-system t system s lawful sat).goes l ∙ to)
 
 -- a link that goes to a system goes to its port
 pub goes-there : (t : Rows) (place : ℕ) (l : LinkRow) (system : ℕ) (s : SystemRow) → IsLawfulSwitch t
@@ -46,7 +48,8 @@ pub no-link : (t : Rows) (place port : ℕ) (l : LinkRow) → slice_get t.links 
     → link_to t place port ≡ None
 unfolding link_to
 no-link t place port l at goes =
-    ap (λ o. option_and_then (λ k. if goes_to t k port then Some k else None) o) at ∙ ap (λ b. if b then Some l else None) goes
+    ap (λ o. option_and_then (λ k. if goes_to t k port then Some k else None) o) at
+    ∙ ap (λ b. if b then Some l else None) goes
 
 pub rule-same : (t : Rows) (l : LinkRow) (s : SystemRow) → slice_get t.systems l.from ≡ Some s
     → rule_with l.vl s.port l.bag_ms l.lmin l.lmax l.jitter_us l.policing ≡ rule_of t l
@@ -54,7 +57,9 @@ unfolding rule_of port_of
 rule-same t l s at =
     ap (λ o. rule_with l.vl (option_map_or (λ r. r.port) o 0) l.bag_ms l.lmin l.lmax l.jitter_us l.policing) (sym at)
 
-pub byte-same : (t : Rows) (system port : ℕ) (s : SystemRow) (time : ℕ) → IsLawfulSwitch t → slice_get t.systems system ≡ Some s
+pub byte-same : (t : Rows) (system port : ℕ) (s : SystemRow) (time : ℕ) → IsLawfulSwitch t
+    → slice_get t.systems system ≡ Some s
     → port_of t system ≡ port → time ≡ byte_ns s → byte_ns_at t port ≡ time
 byte-same t system port s time lawful at there is =
-    ap (λ p. byte_ns_at t p) (sym (sym (port-is t system s at) ∙ there)) ∙ (port-of-system t system s lawful at).line ∙ sym is
+    ap (λ p. byte_ns_at t p) (sym (sym (port-is t system s at) ∙ there)) ∙ (port-of-system t system s lawful at).line
+    ∙ sym is

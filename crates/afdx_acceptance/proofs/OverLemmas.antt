@@ -53,7 +53,8 @@ module _ (z : Terms) (time : ℕ) (xs : List Arrival) (ys : List Gone) (told : A
       omega (arith, less)
 
   stop : (over : List Event) → AreEvents z xs ys over → AreOver z time over
-      → ((e : Event) → next_of z (coming xs over) (unclosed ys over) ≡ Some e → time ≤ moment_at z (event_time z e)) → IsUpTo
+      → ((e : Event) → next_of z (coming xs over) (unclosed ys over) ≡ Some e → time ≤ moment_at z (event_time z e))
+      → IsUpTo
   stop over events before h = record {
     over = over;
     events = events;
@@ -65,7 +66,8 @@ module _ (z : Terms) (time : ℕ) (xs : List Arrival) (ys : List Gone) (told : A
 
   -- one more, if its moment lies before it
   step : (over : List Event) → AreEvents z xs ys over → AreOver z time over
-      → ((e : Event) → next_of z (coming xs over) (unclosed ys over) ≡ Some e → moment_at z (event_time z e) < time → IsUpTo)
+      → ((e : Event) → next_of z (coming xs over) (unclosed ys over) ≡ Some e → moment_at z (event_time z e) < time
+      → IsUpTo)
       → IsUpTo
   step over events before again = by (next_of z (coming xs over) (unclosed ys over)) refl
     where
@@ -102,7 +104,8 @@ module _ (z : Terms) (time : ℕ) (xs : List Arrival) (ys : List Gone) (told : A
 
 -- ---- whatever comes later, and whenever the recordings end
 
-next-same : (z : Terms) (until : ℕ) (cs : List Arrival) (us : List Gone) → next_of (until_then until z) cs us ≡ next_of z cs us
+next-same : (z : Terms) (until : ℕ) (cs : List Arrival) (us : List Gone) → next_of (until_then until z) cs us
+    ≡ next_of z cs us
 next-same z until [] [] = refl
 next-same z until [] (y ∷ us) = refl
 next-same z until (x ∷ cs) [] = refl
@@ -115,12 +118,16 @@ events-same z until xs ys [] h = tt
 events-same z until xs ys (e ∷ over) h =
     (next-same z until (coming xs over) (unclosed ys over) ∙ h.0, events-same z until xs ys over h.1)
 
-over-same : (z : Terms) (until time : ℕ) (over : List Event) → AreOver z time over → AreOver (until_then until z) time over
+over-same : (z : Terms) (until time : ℕ) (over : List Event) → AreOver z time over
+    → AreOver (until_then until z) time over
 unfolding AreOver
 over-same z until time [] h = tt
 over-same z until time (Came x ∷ over) h = (h.0, over-same z until time over h.1)
-over-same z until time (Closing t ∷ over) h =
-    ((let lt = h.0 in let same = at-until z until (Closing t) over in omega (arith, lt, same)), over-same z until time over h.1)
+over-same z until time (Closing t ∷ over) h = (
+  (let lt = h.0 in let same = at-until z until (Closing t) over in omega (arith, lt, same)),
+  over-same z until time
+      over h.1,
+)
 
 none-open : (z : Terms) (time : ℕ) (over : List Event) → time ≤ z.until → AreOver z time over → NoneIsOpen z over
 unfolding AreOver NoneIsOpen
@@ -128,7 +135,8 @@ none-open z time [] le h = tt
 none-open z time (Came x ∷ over) le h = (not-open z x time h.0 le, none-open z time over le h.1)
 none-open z time (Closing t ∷ over) le h = none-open z time over le h.1
 
-told-same : (z : Terms) (until : ℕ) (xs : List Arrival) (ys : List Gone) → AreTold z xs ys → AreTold (until_then until z) xs ys
+told-same : (z : Terms) (until : ℕ) (xs : List Arrival) (ys : List Gone) → AreTold z xs ys
+    → AreTold (until_then until z) xs ys
 told-same z until xs ys told = record { came = told.came; left = told.left; start = told.start; begun = told.begun }
 
 -- what is judged at the events before a time
@@ -137,9 +145,11 @@ pub record IsJudgedTo (z : Terms) (until time : ℕ) (xs ls : List Arrival) (ys 
   pub more : AddsAt z (λ t. time ≤ moment_at z t) j (shown (judged_of z (xs ++ ls) (ys ++ ms)))
   pub so_far : AddsAt (until_then until z) (λ t. time ≤ moment_at z t) j (shown (judged_of (until_then until z) xs ys))
 
-pub judged-to : (z : Terms) (until time : ℕ) (xs ls : List Arrival) (ys ms : List Gone) → AreTold z xs ys → time ≤ z.until
+pub judged-to : (z : Terms) (until time : ℕ) (xs ls : List Arrival) (ys ms : List Gone) → AreTold z xs ys
+    → time ≤ z.until
     → time ≤ until
-    → AllByRecursion (λ x. time ≤ x.time) ls → AllByRecursion (λ y. time ≤ y.time) ms → IsJudgedTo z until time xs ls ys ms
+    → AllByRecursion (λ x. time ≤ x.time) ls → AllByRecursion (λ y. time ≤ y.time) ms
+    → IsJudgedTo z until time xs ls ys ms
 judged-to z until time xs ls ys ms told le until-le come leave =
     let u = up-to-time z time xs ys told in
     let v : Terms = until_then until z in
@@ -148,14 +158,17 @@ judged-to z until time xs ls ys ms told le until-le come leave =
     (none-open v time u.over until-le (over-same z until time u.over u.before)) in
     record {
       j = shown (judged_by z xs ys u.over);
-      more = more-adds z (IsLate time) (late-later time) time (omega arith) xs ls ys ms u.over u.before told u.events le come leave
+      more = more-adds z (IsLate time) (late-later time) time (omega arith) xs ls ys ms u.over u.before told u.events
+          le come leave
           (inr u.rest);
       so_far =
           subst (λ (i : Judged). AddsAt v (λ t. time ≤ moment_at z t) (shown i) (shown (judged_of v xs ys))) same
-          (subst (λ (l : List Arrival). AddsAt v (λ t. time ≤ moment_at z t) (shown (judged_by v xs ys u.over)) (shown (judged_of v l ys)))
+          (subst (λ (l : List Arrival). AddsAt v (λ t. time ≤ moment_at z t) (shown (judged_by v xs ys u.over))
+          (shown (judged_of v l ys)))
           (append-nil xs)
           (subst (λ (l : List Gone). AddsAt v (λ t. time ≤ moment_at z t) (shown (judged_by v xs ys u.over))
           (shown (judged_of v (xs ++ []) l))) (append-nil ys)
-          (more-adds v (IsLate time) (late-later time) time (omega arith) xs [] ys [] u.over (over-same z until time u.over u.before)
+          (more-adds v (IsLate time) (late-later time) time (omega arith) xs [] ys [] u.over
+          (over-same z until time u.over u.before)
           (told-same z until xs ys told) (events-same z until xs ys u.over u.events) until-le tt tt (inr u.rest))));
     }

@@ -68,7 +68,12 @@ pub record IsPart (n whole : Counted) : Type 0 where
   pub sure : whole.is_unsure ≡ false → n.is_unsure ≡ false
 
 part-left : (a b : Counted) → IsPart a (both_counted a b)
-part-left a b = record { less = omega arith; open_less = omega arith; sure = λ h. (or-parts a.is_unsure b.is_unsure h).0 }
+part-left a b = record {
+  less = omega arith;
+  open_less = omega arith;
+  sure =
+      λ h. (or-parts a.is_unsure b.is_unsure h).0;
+}
 
 part-right : (n a b : Counted) → IsPart n b → IsPart n (both_counted a b)
 part-right n a b p = record {
@@ -108,7 +113,8 @@ module _ (t : Rows) (c : Choices) (until : ℕ) (frames : List Frame) where
   unfolding counted_to
   to-part side l s [] m = absurd m
   to-part side l s (x ∷ to) (inl e) =
-      subst (λ (n : ℕ). IsPart (At side l n) (both_counted (At side l x) (To side l to))) e (part-left (At side l x) (To side l to))
+      subst (λ (n : ℕ). IsPart (At side l n) (both_counted (At side l x) (To side l to))) e
+      (part-left (At side l x) (To side l to))
   to-part side l s (x ∷ to) (inr m) = part-right (At side l s) (At side l x) (To side l to) (to-part side l s to m)
 
   among-part : (side : Side) (links : List LinkRow) (place : ℕ) (l : LinkRow) → slice_get links place ≡ Some l
@@ -126,7 +132,8 @@ module _ (t : Rows) (c : Choices) (until : ℕ) (frames : List Frame) where
   side-part A = part-left (Among A t.links) (Among B t.links)
   side-part B = part-right (Among B t.links) (Among A t.links) (Among B t.links) (whole-part (Among B t.links))
 
-  pub is-part : (side : Side) (place s : ℕ) (l : LinkRow) → slice_get t.links place ≡ Some l → IsIn s l.to → IsPart (At side l s) Sum
+  pub is-part : (side : Side) (place s : ℕ) (l : LinkRow) → slice_get t.links place ≡ Some l → IsIn s l.to
+      → IsPart (At side l s) Sum
   is-part side place s l at m =
       part-part (At side l s) (To side l l.to) Sum (to-part side l s l.to m)
       (part-part (To side l l.to) (Among side t.links) Sum (among-part side t.links place l at) (side-part side))
@@ -137,7 +144,8 @@ module _ (t : Rows) (c : Choices) (until : ℕ) (frames : List Frame) where
       → (s : ℕ) × IsIn s to × (0 < (At side l s).explained)
   unfolding counted_to
   to-some side l [] h = absurd (omega (arith, h))
-  to-some side l (x ∷ to) h = by (some-part (At side l x).explained (To side l to).explained h) (λ k. to-some side l to k)
+  to-some side l (x ∷ to) h = by (some-part (At side l x).explained (To side l to).explained h)
+      (λ k. to-some side l to k)
     where
       by : (0 < (At side l x).explained) ⊎ (0 < (To side l to).explained)
           → (0 < (To side l to).explained → (s : ℕ) × IsIn s to × (0 < (At side l s).explained))
@@ -154,7 +162,8 @@ module _ (t : Rows) (c : Choices) (until : ℕ) (frames : List Frame) where
   among-some : (side : Side) (links : List LinkRow) → 0 < (Among side links).explained → SomeLink side links
   unfolding counted_among
   among-some side [] h = absurd (omega (arith, h))
-  among-some side (k ∷ links) h = by (some-part (To side k k.to).explained (Among side links).explained h) (λ m. among-some side links m)
+  among-some side (k ∷ links) h = by (some-part (To side k k.to).explained (Among side links).explained h)
+      (λ m. among-some side links m)
     where
       by : (0 < (To side k k.to).explained) ⊎ (0 < (Among side links).explained)
           → (0 < (Among side links).explained → SomeLink side links) → SomeLink side (k ∷ links)
@@ -230,7 +239,8 @@ module _ (t : Rows) (c : Choices) (until : ℕ) (frames : List Frame) where
       test k true is h = let same : k ≡ l = cc in ap (λ (m : LinkRow). is_judged t c.taps side m port) (sym same) ∙ is
       test k false is h = absurd (cc)
 
-      by : (o : Option LinkRow) → option_and_then (λ k. if is_judged t c.taps side k port then Some k else None) o ≡ Some l
+      by : (o : Option LinkRow) → option_and_then (λ k. if is_judged t c.taps side k port then Some k else None) o
+          ≡ Some l
           → is_judged t c.taps side l port ≡ true
       by None h = absurd (cc)
       by (Some k) h = test k (is_judged t c.taps side k port) refl h
@@ -254,15 +264,18 @@ module _ (t : Rows) (c : Choices) (until : ℕ) (frames : List Frame) where
   abbrev no-row : SystemRow
   no-row = record { name = []; port = 0; id = 0; partition = 0; rate = 0 }
 
-  pub to-judged : (side : Side) (place s : ℕ) (l : LinkRow) → IsLawfulSwitch t → slice_get t.links place ≡ Some l → IsIn s l.to
+  pub to-judged : (side : Side) (place s : ℕ) (l : LinkRow) → IsLawfulSwitch t → slice_get t.links place ≡ Some l
+      → IsIn s l.to
       → is_judged t c.taps side l (port_of t s) ≡ true → judged_to t c.taps side place (port_of t s) ≡ Some l
   unfolding judged_to
   to-judged side place s l lawful at m judged =
-      let row = AllByRecursion-slice_get (IsLinkUpTo jitter_from_any (length t.systems)) t.links place l lawful.links.each at in
+      let row = AllByRecursion-slice_get (IsLinkUpTo jitter_from_any (length t.systems)) t.links place l
+      lawful.links.each at in
       let r = get_or t.systems s no-row in
       let sat = slice_get-get_or t.systems s no-row (all-in (λ i. i < length t.systems) s l.to row.to m) in
       let link = goes-there t place l s r lawful at sat (any-in s l.to m) in
-      ap (λ (o : Option LinkRow). option_and_then (λ k. if is_judged t c.taps side k (port_of t s) then Some k else None) o) link
+      ap (λ (o : Option LinkRow). option_and_then (λ k. if is_judged t c.taps side k (port_of t s) then Some k
+      else None) o) link
       ∙ ap (λ (b : Bool). if b then Some l else None) judged
 
   pub at-judged : (side : Side) (l : LinkRow) (port : ℕ) → is_judged t c.taps side l port ≡ true
@@ -270,14 +283,16 @@ module _ (t : Rows) (c : Choices) (until : ℕ) (frames : List Frame) where
       (reverse (arrivals_of t c l.vl side frames)) (reverse (frames_of t c l.vl side port frames))
   unfolding counted_at
   at-judged side l port e =
-      ap (λ (b : Bool). if b then stream_counted (terms_at t c until l port) (reverse (arrivals_of t c l.vl side frames))
+      ap (λ (b : Bool). if b then stream_counted (terms_at t c until l port)
+      (reverse (arrivals_of t c l.vl side frames))
       (reverse (frames_of t c l.vl side port frames)) else none_counted) e
 
   pub at-other : (side : Side) (l : LinkRow) (port : ℕ) → is_judged t c.taps side l port ≡ false
       → counted_at t c until frames side l port ≡ none_counted
   unfolding counted_at
   at-other side l port e =
-      ap (λ (b : Bool). if b then stream_counted (terms_at t c until l port) (reverse (arrivals_of t c l.vl side frames))
+      ap (λ (b : Bool). if b then stream_counted (terms_at t c until l port)
+      (reverse (arrivals_of t c l.vl side frames))
       (reverse (frames_of t c l.vl side port frames)) else none_counted) e
 
   -- the whole is unsure exactly where a stream is
@@ -289,7 +304,8 @@ module _ (t : Rows) (c : Choices) (until : ℕ) (frames : List Frame) where
       ∙ (is-part side place p.system l p.at p.goes).sure h
 
   pub each-sure : IsLawfulSwitch t → AreSure t c until frames → Sum.is_unsure ≡ false
-  each-sure lawful sure = all-sure (λ side place s l at m. by side place s l at m (is_judged t c.taps side l (port_of t s)) refl)
+  each-sure lawful sure =
+      all-sure (λ side place s l at m. by side place s l at m (is_judged t c.taps side l (port_of t s)) refl)
     where
       by : (side : Side) (place s : ℕ) (l : LinkRow) → slice_get t.links place ≡ Some l → IsIn s l.to
           → (b : Bool) → is_judged t c.taps side l (port_of t s) ≡ b → (At side l s).is_unsure ≡ false

@@ -43,7 +43,8 @@ came-step side place port ports x given k fresh =
     let f : Given → Given = λ g. given_with (g.came ++ x ∷ []) g.left g.strange in
     ap (λ v. if is_side side k.side && is_link (Some place) k.link && v then f (given k) else given k)
     (list_any-append (λ q. nat_eq q k.port) ports (port ∷ []))
-    ∙ came-bools (is_side side k.side) (is_link (Some place) k.link) (nat_eq port k.port) (list_any (λ q. nat_eq q k.port) ports)
+    ∙ came-bools (is_side side k.side) (is_link (Some place) k.link) (nat_eq port k.port)
+    (list_any (λ q. nat_eq q k.port) ports)
     f (given k) (λ e. subst (λ p. list_any (λ q. nat_eq q p) ports ≡ false) (eqb-true port k.port e) fresh)
 
 last-false : {X : Type 0} (b : Bool) (u v : X) → (if b && false then u else v) ≡ v
@@ -65,12 +66,14 @@ pub came-strange : (side : Side) (place : ℕ) (ports : List ℕ) (x : Arrival) 
 came-strange side place ports x given k =
     by (is_side side k.side && is_link (Some place) k.link && list_any (λ q. nat_eq q k.port) ports)
   where
-    by : (v : Bool) → (if v then given_with ((given k).came ++ x ∷ []) (given k).left (given k).strange else given k).strange
+    by : (v : Bool) → (if v then given_with ((given k).came ++ x ∷ []) (given k).left (given k).strange
+        else given k).strange
         ≡ (given k).strange
     by true = refl
     by false = refl
 
-pub none-yet : (side : Side) (place : ℕ) (x : Arrival) (given : Key → Given) (k : Key) → came_to side place [] x given k ≡ given k
+pub none-yet : (side : Side) (place : ℕ) (x : Arrival) (given : Key → Given) (k : Key)
+    → came_to side place [] x given k ≡ given k
 none-yet side place x given k = last-false (is_side side k.side && is_link (Some place) k.link)
     (given_with ((given k).came ++ x ∷ []) (given k).left (given k).strange) (given k)
 
@@ -119,7 +122,8 @@ fresh-at t (d ∷ to) (suc i) s lawful all once is lt =
             let rb = slice_get-get_or t.systems b no-system wb in
             let sa = get_or t.systems a no-system in
             let sb = get_or t.systems b no-system in
-            let ports : sa.port ≡ sb.port = sym (port-is t a sa ra) ∙ eqb-true (port_of t a) (port_of t b) e ∙ port-is t b sb rb in
+            let ports : sa.port ≡ sb.port = sym (port-is t a sa ra) ∙ eqb-true (port_of t a) (port_of t b) e
+            ∙ port-is t b sb rb in
             let same : b ≡ a = same_Some b a (sym ((each_row-found t lawful).by_port b sb rb)
             ∙ ap (λ p. system_at_port t.systems p) (sym ports) ∙ (each_row-found t lawful).by_port a sa ra) in
             absurd (true≢false (sym (eq-eqb b a same) ∙ other))
@@ -133,9 +137,11 @@ apart-once from to e = by (has_repeat to) (and_parts (not (list_any (λ j. nat_e
     by true h = absurd (true≢false (sym h))
 
 -- the port of a link's system isn't that of one before it
-pub fresh-port : (t : Rows) (place : ℕ) (row : LinkRow) (rank s : ℕ) → IsLawfulSwitch t → slice_get t.links place ≡ Some row
+pub fresh-port : (t : Rows) (place : ℕ) (row : LinkRow) (rank s : ℕ) → IsLawfulSwitch t → slice_get t.links place
+    ≡ Some row
     → s ≡ get_or row.to rank s → rank < length row.to
     → list_any (λ q. nat_eq q (port_of t s)) (map (port_of t) (take rank row.to)) ≡ false
 fresh-port t place row rank s lawful at is lt =
-    let l = AllByRecursion-slice_get (IsLinkUpTo jitter_from_any (length t.systems)) t.links place row lawful.links.each at in
+    let l = AllByRecursion-slice_get (IsLinkUpTo jitter_from_any (length t.systems)) t.links place row
+    lawful.links.each at in
     fresh-at t row.to rank s lawful l.to (apart-once row.from row.to l.apart) is lt

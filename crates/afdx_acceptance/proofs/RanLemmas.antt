@@ -56,7 +56,8 @@ nothing-so-far k output = record {
 
 module _ (Takes : List Frame → Result SeenCount RunFault → Type 0) (k : Rows × Choices) (is_lossy : Bool) where
   -- there was no memory at the begin
-  pub answers-memory : (old : Option (List ℕ)) → Takes [] (Err Memory) → ConformAnswers Takes k is_lossy old old (Err Memory)
+  pub answers-memory : (old : Option (List ℕ)) → Takes [] (Err Memory) → ConformAnswers Takes k is_lossy old old
+      (Err Memory)
   answers-memory old takes = inl ([], takes, inl (nothing-so-far k old))
 
   module _ (judging : Judging) (old mid : Option (List ℕ)) where
@@ -106,7 +107,8 @@ module _ (Takes : List Frame → Result SeenCount RunFault → Type 0) (k : Rows
           record {
             dues = w.dues;
             are_lines = w.are_lines;
-            written = Appends-trans old mid new (lines_text (lines_of w.dues)) (conform_text (last_line totals)) w.written last;
+            written = Appends-trans old mid new (lines_text (lines_of w.dues)) (conform_text (last_line totals))
+                w.written last;
             totals_are = w.totals_are;
           },
         )
@@ -118,12 +120,27 @@ module _ (Takes : List Frame → Result SeenCount RunFault → Type 0) (k : Rows
         → ConformAnswers Takes k is_lossy old mid (Err fault)
     answers-lost count totals fault ended some (items, takes, told) =
         let w = ended items told in
-        inr (frames_of items, count, takes, inl (some, record { dues = w.dues; are_lines = w.are_lines; written = w.written }))
+        inr (
+          frames_of items,
+          count,
+          takes,
+          inl (
+            some,
+            record {
+              dues = w.dues;
+              are_lines = w.are_lines;
+              written =
+                  w.written;
+            },
+          ),
+        )
 
     -- the last line isn't written, or not all of it
-    pub answers-cut : (new : Option (List ℕ)) (count : SeenCount) (totals : Totals) (fault : RunFault) → IsOfOutput fault
+    pub answers-cut : (new : Option (List ℕ)) (count : SeenCount) (totals : Totals) (fault : RunFault)
+        → IsOfOutput fault
         → ((past : List (Item Seen)) → Ends past → IsWritten k (frames_of past) old mid totals)
-        → fault_behind is_lossy count ≡ None → AppendsFront mid new (conform_text (last_line totals)) → AreTold (Ok count)
+        → fault_behind is_lossy count ≡ None → AppendsFront mid new (conform_text (last_line totals))
+        → AreTold (Ok count)
         → ConformAnswers Takes k is_lossy old new (Err fault)
     answers-cut new count totals fault of ended none begun (items, takes, told) =
         let w = ended items told in
@@ -141,7 +158,8 @@ module _ (Takes : List Frame → Result SeenCount RunFault → Type 0) (k : Rows
 abbrev IsNoDevice : RunFault → Type 0
 IsNoDevice fault = (is_read fault ≡ false) × (is_write fault ≡ false)
 
-either-no-device : (a b : Option RunFault) → IfSome a IsNoDevice → IfSome b IsNoDevice → IfSome (option_or a b) IsNoDevice
+either-no-device : (a b : Option RunFault) → IfSome a IsNoDevice → IfSome b IsNoDevice
+    → IfSome (option_or a b) IsNoDevice
 either-no-device None b p q = q
 either-no-device (Some fault) b p q = p
 
@@ -171,7 +189,8 @@ count-no-device (count.Both tallies) =
     (absent-no-device (fault_of_role Came) (role-no-device Came) tallies.came.absent)
     (absent-no-device (fault_of_role Left) (role-no-device Left) tallies.left.absent)
 
-pub behind-no-device : (is_lossy : Bool) (count : SeenCount) (fault : RunFault) → fault_behind is_lossy count ≡ Some fault
+pub behind-no-device : (is_lossy : Bool) (count : SeenCount) (fault : RunFault) → fault_behind is_lossy count
+    ≡ Some fault
     → (is_read fault ≡ false) × (is_write fault ≡ false)
 behind-no-device is_lossy count fault is =
     subst (λ o. IfSome o IsNoDevice) is

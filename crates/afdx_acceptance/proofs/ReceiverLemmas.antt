@@ -21,7 +21,8 @@ any-map f p (x ∷ xs) = ap (λ b. p (f x) || b) (any-map f p xs)
 
 -- none of the first ones is, nor is the next
 pub none-next : (t : Rows) (port : ℕ) (to : List ℕ) (rank s : ℕ) → s ≡ get_or to rank s → rank < length to
-    → nat_eq (port_of t s) port ≡ false → is_at t port (take rank to) ≡ false → is_at t port (take (rank + 1) to) ≡ false
+    → nat_eq (port_of t s) port ≡ false → is_at t port (take rank to) ≡ false → is_at t port (take (rank + 1) to)
+    ≡ false
 none-next t port to rank s is lt other none =
     list_any_more (λ k. nat_eq (port_of t k) port) to rank s lt
     ∙ ap (λ b. b || nat_eq (port_of t (get_or to rank s)) port) none

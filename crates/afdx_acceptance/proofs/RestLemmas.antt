@@ -65,19 +65,23 @@ module _ (z : Terms) where
       subst (λ (l : List Gone). AreEvents z xs l over) (append_assoc ys (y ∷ []) ms)
       (events-left-all xs (ys ++ y ∷ []) ms time over late.1 o (events-left z xs ys y time over late.0 o h))
 
-  events-came-all : (xs ls : List Arrival) (ys : List Gone) (time : ℕ) (over : List Event) → AllByRecursion (λ x. time ≤ x.time) ls
+  events-came-all : (xs ls : List Arrival) (ys : List Gone) (time : ℕ) (over : List Event)
+      → AllByRecursion (λ x. time ≤ x.time) ls
       → AreOver z time over → AreEvents z xs ys over → AreEvents z (xs ++ ls) ys over
-  events-came-all xs [] ys time over late o h = subst (λ (l : List Arrival). AreEvents z l ys over) (sym (append-nil xs)) h
+  events-came-all xs [] ys time over late o h = subst (λ (l : List Arrival). AreEvents z l ys over)
+      (sym (append-nil xs)) h
   events-came-all xs (x ∷ ls) ys time over late o h =
       subst (λ (l : List Arrival). AreEvents z l ys over) (append_assoc xs (x ∷ []) ls)
       (events-came-all (xs ++ x ∷ []) ls ys time over late.1 o (events-came z xs ys x time over late.0 o h))
 
-  come-later-all : (ls : List Arrival) (time : ℕ) (over : List Event) → AllByRecursion (λ x. time ≤ x.time) ls → AreOver z time over
+  come-later-all : (ls : List Arrival) (time : ℕ) (over : List Event) → AllByRecursion (λ x. time ≤ x.time) ls
+      → AreOver z time over
       → ComeLater z ls over
   unfolding AreOver ComeLater
   come-later-all ls time [] late o = tt
   come-later-all ls time (Came w ∷ over) late o = (
-    every-on (λ x. time ≤ x.time) (λ x. moment_at z w.time < x.time) (λ x le. (let lt = o.0 in omega (arith, lt, le))) ls late,
+    every-on (λ x. time ≤ x.time) (λ x. moment_at z w.time < x.time) (λ x le. (let lt = o.0 in omega (arith, lt, le)))
+        ls late,
     come-later-all ls time over late o.1,
   )
   come-later-all ls time (Closing t ∷ over) late o = come-later-all ls time over late o.1
@@ -144,7 +148,8 @@ module _ (z : Terms) where
     all-at (x ∷ cs) [] go gone h = (arrivals-at x cs go (h (Came x) refl), tt)
     all-at (x ∷ cs) (y ∷ us) go gone h = by (closes_before z y x) refl
       where
-        next-is : (b : Bool) → closes_before z y x ≡ b → next_of z (x ∷ cs) (y ∷ us) ≡ (if b then Some (Closing y.time) else Some (Came x))
+        next-is : (b : Bool) → closes_before z y x ≡ b → next_of z (x ∷ cs) (y ∷ us)
+            ≡ (if b then Some (Closing y.time) else Some (Came x))
         next-is b e = ap (λ (v : Bool). if v then Some (Closing y.time) else Some (Came x)) e
 
         by : (b : Bool) → closes_before z y x ≡ b → AreAt (x ∷ cs) (y ∷ us)
@@ -181,7 +186,8 @@ module _ (z : Terms) where
         all-at (coming xs over) (unclosed ys over)
         (up-drop (λ (x : Arrival). x.time) (length (arrivals_came over)) xs f.told.came)
         (up-drop (λ (y : Gone). y.time) (length (closings_in over)) ys f.told.left)
-        (λ e next. h (moment_at z (event_time z e)) (is ∙ ap (λ o. option_map (λ v. moment_at z (event_time z v)) o) next))
+        (λ e next. h (moment_at z (event_time z e)) (is ∙ ap (λ o. option_map (λ v. moment_at z (event_time z v)) o)
+        next))
 
     late-uncut : (time : ℕ) (ns : List Gone) → AllByRecursion (λ y. time ≤ y.time) ns → AreLate z time (uncut z ns)
     late-uncut time [] all = tt
@@ -194,13 +200,15 @@ module _ (z : Terms) where
     arrivals-late : (time : ℕ) → Q time → (ls : List Arrival) → AllByRecursion (λ x. time ≤ x.time) ls
         → AllByRecursion (λ x. At x.time) ls
     arrivals-late time here ls come =
-        every-on (λ x. time ≤ x.time) (λ x. At x.time) (λ x k. up time (moment_at z x.time) (omega (arith, k)) here) ls come
+        every-on (λ x. time ≤ x.time) (λ x. At x.time) (λ x k. up time (moment_at z x.time) (omega (arith, k)) here)
+        ls come
 
     frames-late : (time : ℕ) → Q time → (ms : List Gone) → AllByRecursion (λ y. time ≤ y.time) ms
         → AllByRecursion (λ y. At (y.time + reach z.by)) (uncut z ms)
     frames-late time here ms leave =
         every-on (λ y. time ≤ y.time + reach z.by) (λ y. At (y.time + reach z.by))
-        (λ y k. up time (moment_at z (y.time + reach z.by)) (omega (arith, k)) here) (uncut z ms) (late-uncut time ms leave)
+        (λ y k. up time (moment_at z (y.time + reach z.by)) (omega (arith, k)) here) (uncut z ms)
+        (late-uncut time ms leave)
 
     -- ---- where nothing came before
 
@@ -217,7 +225,8 @@ module _ (z : Terms) where
         → ((m : ℕ) → due_of s ≡ Some m → Q m) → AddsAt z At j (shown (judged_of z xs ys))
     ended-adds xs ys j s h due =
         subst (λ (i : Judged). AddsAt z At i (shown (judged_whole z xs (uncut z ys)))) h.judged
-        (adds-shown z At (judged_by z xs (uncut z ys) h.over) (judged_whole z xs (uncut z ys)) (by s.growth.judging.is_unsure refl))
+        (adds-shown z At (judged_by z xs (uncut z ys) h.over) (judged_whole z xs (uncut z ys))
+        (by s.growth.judging.is_unsure refl))
       where
         by : (b : Bool) → s.growth.judging.is_unsure ≡ b
             → AddsAt z At (judged_by z xs (uncut z ys) h.over) (judged_whole z xs (uncut z ys))
@@ -229,7 +238,8 @@ module _ (z : Terms) where
 
     -- ---- while arrivals and frames come
 
-    module _ (time : ℕ) (now-at : Q time) (xs ls : List Arrival) (ys ms : List Gone) (over : List Event) (o : AreOver z time over)
+    module _ (time : ℕ) (now-at : Q time) (xs ls : List Arrival) (ys ms : List Gone) (over : List Event)
+        (o : AreOver z time over)
         (told : AreTold z xs ys) (events : AreEvents z xs ys over) (le : time ≤ z.until)
         (come : AllByRecursion (λ x. time ≤ x.time) ls) (leave : AllByRecursion (λ y. time ≤ y.time) ms) where
       abbrev us : List Gone
@@ -245,7 +255,8 @@ module _ (z : Terms) where
       whole-events = subst (λ (l : List Gone). AreEvents z xs l over) ends-at events
 
       closed-low : length (closings_in over) ≤ length us
-      closed-low = closed-shown z xs us (split z ys told.left).off time over whole-events o le (split z ys told.left).are_off
+      closed-low = closed-shown z xs us (split z ys told.left).off time over whole-events o le
+          (split z ys told.left).are_off
 
       told-uncut : AreTold z xs us
       told-uncut =
@@ -284,7 +295,8 @@ module _ (z : Terms) where
       left-at all =
           let off = (split z ys told.left).off in (
             subst (λ (l : List Arrival). AllByRecursion (λ x. At x.time) l)
-                (sym (drop-append-le (length (arrivals_came over)) xs ls (came-within z xs (us ++ ws) over events-more)))
+                (sym (drop-append-le (length (arrivals_came over)) xs ls
+                (came-within z xs (us ++ ws) over events-more)))
                 (every-append (λ x. At x.time) (coming xs over) ls all.0 (arrivals-late time now-at ls come)),
             subst (λ (l : List Gone). AllByRecursion (λ y. At (y.time + reach z.by)) l)
                 (sym (unclosed-more z xs us ws over closed-low))
@@ -302,7 +314,8 @@ module _ (z : Terms) where
       pub more-adds : ((judged_by z xs ys over).is_unsure ≡ true) ⊎ AreAt (coming xs over) (unclosed ys over)
           → AddsAt z At (shown (judged_by z xs ys over)) (shown (judged_of z (xs ++ ls) (ys ++ ms)))
       more-adds left =
-          subst (λ (l : List Gone). AddsAt z At (shown (judged_by z xs ys over)) (shown (judged_whole z (xs ++ ls) l))) (sym parts)
+          subst (λ (l : List Gone). AddsAt z At (shown (judged_by z xs ys over))
+          (shown (judged_whole z (xs ++ ls) l))) (sym parts)
           (subst (λ (i : Judged). AddsAt z At i (shown (judged_whole z (xs ++ ls) (us ++ ws)))) so-far
           (adds-shown z At (judged_by z (xs ++ ls) (us ++ ws) over) (judged_whole z (xs ++ ls) (us ++ ws)) (by left)))
         where
@@ -319,7 +332,8 @@ module _ (z : Terms) where
     running-adds time here xs ls ys ms j s h le due come leave =
         let f = h.is_after z.until le in
         subst (λ (i : Judged). AddsAt z At i (shown (judged_of z (xs ++ ls) (ys ++ ms)))) (h.judged z.until le)
-        (more-adds time here xs ls ys ms h.over h.before f.told f.events le come leave (by s.growth.judging.is_unsure refl f))
+        (more-adds time here xs ls ys ms h.over h.before f.told f.events le come leave
+        (by s.growth.judging.is_unsure refl f))
       where
         by : (b : Bool) → s.growth.judging.is_unsure ≡ b → IsAfter z xs ys 0 h.over s.growth
             → ((judged_by z xs ys h.over).is_unsure ≡ true) ⊎ AreAt (coming xs h.over) (unclosed ys h.over)

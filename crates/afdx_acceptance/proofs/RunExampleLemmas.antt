@@ -146,17 +146,21 @@ its-port : (port : ℕ) → goes_to tables link port ≡ true → port ≡ 3
 unfolding goes_to
 its-port port goes = by (system_at_port tables.systems port) refl goes
   where
-    at : (system : ℕ) (s : SystemRow) → slice_get tables.systems system ≡ Some s → s.port ≡ port → is_to system link ≡ true → port ≡ 3
+    at : (system : ℕ) (s : SystemRow) → slice_get tables.systems system ≡ Some s → s.port ≡ port
+        → is_to system link ≡ true → port ≡ 3
     at zero s is same to = absurd (true≢false (sym to))
-    at (suc zero) s is same to = sym same ∙ (let here : receiver ≡ s = cc is in ap (λ (x : SystemRow). x.port) (sym here))
+    at (suc zero) s is same to = sym same
+        ∙ (let here : receiver ≡ s = cc is in ap (λ (x : SystemRow). x.port) (sym here))
     at (suc (suc n)) s is same to = absurd (cc is)
 
-    by : (o : Option ℕ) → system_at_port tables.systems port ≡ o → option_map_or (λ system. is_to system link) o false ≡ true
+    by : (o : Option ℕ) → system_at_port tables.systems port ≡ o → option_map_or (λ system. is_to system link) o false
+        ≡ true
         → port ≡ 3
     by None is h = absurd (true≢false (sym h))
     by (Some system) is h = let s = system-at tables port system is in at system s.0 s.1 s.2 h
 
-is-it : (side : Side) (place port : ℕ) (l : LinkRow) → judged_to tables all_taps side place port ≡ Some l → IsIt place port l
+is-it : (side : Side) (place port : ℕ) (l : LinkRow) → judged_to tables all_taps side place port ≡ Some l
+    → IsIt place port l
 is-it side place port l is =
     let here = link-to tables place port l (judged-link tables choices side place port l is) in
     let at = its-place place l here.at in
@@ -179,7 +183,8 @@ module _ (time : ℕ) (all : counted tables choices (frames_at time) ≡ frames_
   no-strangers : (side : Side) (port : ℕ) → strangers_of tables choices side port (frames_at time) ≡ []
   unfolding left_at is_stranger goes_there place_named link_to link_of goes_to system_at_port
   no-strangers side port =
-      ap (λ (fs : List Frame). map (λ x. x.arrival) (filter (λ x. left_at side port x && is_stranger tables choices.taps x.arrival) fs)) all
+      ap (λ (fs : List Frame). map (λ x. x.arrival)
+      (filter (λ x. left_at side port x && is_stranger tables choices.taps x.arrival) fs)) all
       ∙ ap (λ (b : Bool). map (λ (x : Frame). x.arrival)
       (if b then frame_with Left (arrival_with 1 time A 3 frame_bytes) ∷ [] else []))
       (none-and (left_at side port (frame_with Left (arrival_with 1 time A 3 frame_bytes))))
@@ -193,25 +198,29 @@ module _ (time : ℕ) (all : counted tables choices (frames_at time) ≡ frames_
         on-side A e = absurd (true≢false (sym (key-self its-key) ∙ e))
         on-side B e = b-none
 
-        stream : (place port : ℕ) (l : LinkRow) → IsIt place port l → is_key (key_with k.side port (Some place)) its-key ≡ false
+        stream : (place port : ℕ) (l : LinkRow) → IsIt place port l → is_key (key_with k.side port (Some place))
+            its-key ≡ false
             → stream_dues tables choices time (frames_at time) (key_with k.side port (Some place)) l ≡ []
         stream place port l is e =
             ap (λ (n : ℕ). stream_dues tables choices time (frames_at time) (key_with k.side port (Some n)) l) is.place
             ∙ ap (λ (n : ℕ). stream_dues tables choices time (frames_at time) (key_with k.side n (Some 0)) l) is.port
-            ∙ ap (λ (m : LinkRow). stream_dues tables choices time (frames_at time) (key_with k.side 3 (Some 0)) m) is.link
+            ∙ ap (λ (m : LinkRow). stream_dues tables choices time (frames_at time) (key_with k.side 3 (Some 0)) m)
+            is.link
             ∙ on-side k.side (ap (λ (n : ℕ). is_key (key_with k.side 3 (Some n)) its-key) (sym is.place)
             ∙ ap (λ (n : ℕ). is_key (key_with k.side n (Some place)) its-key) (sym is.port) ∙ e)
 
         judged : (place : ℕ) → is_key (key_with k.side k.port (Some place)) its-key ≡ false
             → (o : Option LinkRow) → judged_to tables all_taps k.side place k.port ≡ o
-            → option_map_or (stream_dues tables choices time (frames_at time) (key_with k.side k.port (Some place))) o [] ≡ []
+            → option_map_or (stream_dues tables choices time (frames_at time) (key_with k.side k.port (Some place))) o
+            [] ≡ []
         judged place e None is = refl
         judged place e (Some l) is = stream place k.port l (is-it k.side place k.port l is) e
 
         by : (o : Option ℕ) → k.link ≡ o
             → dues_by tables choices time (frames_at time) (key_with k.side k.port o) o ≡ []
         by None is =
-            ap (λ (xs : List Arrival). map (stranger_due tables (key_with k.side k.port None)) xs) (no-strangers k.side k.port)
+            ap (λ (xs : List Arrival). map (stranger_due tables (key_with k.side k.port None)) xs)
+            (no-strangers k.side k.port)
         by (Some place) is =
             judged place (ap (λ (o : Option ℕ). is_key (key_with k.side k.port o) its-key) (sym is) ∙ other)
             (judged_to tables all_taps k.side place k.port) refl
@@ -228,7 +237,8 @@ its-lines : (time : ℕ) (lines : List Due) → counted tables choices (frames_a
     → AreLines tables choices time (frames_at time) lines
 its-lines time lines all b-none own others order = record {
   own = λ k small. elim (key-cases k its-key) [
-    | inl same ↦ subst (λ (q : Key). of_key q lines ≡ dues_of tables choices time (frames_at time) q) (sym (key-same k its-key same)) own
+    | inl same ↦ subst (λ (q : Key). of_key q lines ≡ dues_of tables choices time (frames_at time) q)
+        (sym (key-same k its-key same)) own
     | inr other ↦ others k other ∙ sym (others-none time all b-none k other)
   ];
   only = λ k big. elim (key-cases k its-key) [
@@ -238,7 +248,8 @@ its-lines time lines all b-none own others order = record {
   in_order = order;
 }
 
-its-right : (side : Side) → IsOfRight (terms_at tables choices 6720 link 3) (sound_at tables choices 6720 (frames_at 6720) link side)
+its-right : (side : Side) → IsOfRight (terms_at tables choices 6720 link 3)
+    (sound_at tables choices 6720 (frames_at 6720) link side)
     (uncut_at tables choices 6720 (frames_at 6720) link side 3)
 unfolding came counts is_unheard goes_there is_damaged is_arrival_of left_at names sound_of fault_of is_sealed sequence_of shift
     number port_of rule_of byte_ns_at system_at_port place_named link_of accepted_asked accepted_after keeps_windows
@@ -297,7 +308,8 @@ its-right B = record {
 
 pub premises_met : PremisesAreMet
 unfolding counts is_unheard goes_there is_damaged is_arrival_of left_at names sound_of fault_of is_sealed sequence_of shift
-    number port_of rule_of byte_ns_at system_at_port place_named link_of link_to goes_to judged_to judged_dues is_key AreByTime AreInOrder
+    number port_of rule_of byte_ns_at system_at_port place_named link_of link_to goes_to judged_to judged_dues is_key
+    AreByTime AreInOrder
     events_of up_to are_same does_more one_more thinned_onto front_rest first_named once_named strangeness unexplained
     skipped closed_to deviates came_to sound_events judged_after led_by kept are_behind first_states states_at fits
     is_open is_begun counted_at counted_to counted_among findings_in unseen_to unseen_among is_missed least_from
@@ -309,13 +321,16 @@ premises_met = record {
     none_strange = λ side port small. no-strangers 6720 refl side port;
     streams = λ side place port l is.
         let it = is-it side place port l is in
-        subst (λ (n : ℕ). IsOfRight (terms_at tables choices 6720 l n) (sound_at tables choices 6720 (frames_at 6720) l side)
+        subst (λ (n : ℕ). IsOfRight (terms_at tables choices 6720 l n) (sound_at tables choices 6720 (frames_at 6720)
+        l side)
         (uncut_at tables choices 6720 (frames_at 6720) l side n)) (sym it.port)
-        (subst (λ (m : LinkRow). IsOfRight (terms_at tables choices 6720 m 3) (sound_at tables choices 6720 (frames_at 6720) m side)
+        (subst (λ (m : LinkRow). IsOfRight (terms_at tables choices 6720 m 3)
+        (sound_at tables choices 6720 (frames_at 6720) m side)
         (uncut_at tables choices 6720 (frames_at 6720) m side 3)) (sym it.link) (its-right side));
   };
   no_line = its-lines 6720 [] refl refl refl (λ k other. refl) tt;
-  one_line = its-lines 17001 (late_line ∷ []) refl refl refl (λ k other. other-key k late_line [] other) (omega arith, tt);
+  one_line = its-lines 17001 (late_line ∷ []) refl refl refl (λ k other. other-key k late_line [] other)
+      (omega arith, tt);
   conforms = refl;
   deviates = refl;
 }

@@ -50,20 +50,23 @@ module _ (z : Terms) (own : List Arrival) (left : List Gone) where
   other-way : Explains z (sound_of z.rule own) (uncut z left)
       → Explains z (sound_of z.rule (reverse (reverse own))) (reverse (reverse (uncut z left)))
   other-way e =
-      subst (λ (l : List Gone). Explains z (sound_of z.rule (reverse (reverse own))) l) (sym (reverse-reverse (uncut z left)))
+      subst (λ (l : List Gone). Explains z (sound_of z.rule (reverse (reverse own))) l)
+      (sym (reverse-reverse (uncut z left)))
       (subst (λ (l : List Arrival). Explains z (sound_of z.rule l) (uncut z left)) (sym (reverse-reverse own)) e)
 
   this-way : Explains z (sound_of z.rule (reverse (reverse own))) (reverse (reverse (uncut z left)))
       → Explains z (sound_of z.rule own) (uncut z left)
   this-way e =
       subst (λ (l : List Arrival). Explains z (sound_of z.rule l) (uncut z left)) (reverse-reverse own)
-      (subst (λ (l : List Gone). Explains z (sound_of z.rule (reverse (reverse own))) l) (reverse-reverse (uncut z left)) e)
+      (subst (λ (l : List Gone). Explains z (sound_of z.rule (reverse (reverse own))) l)
+      (reverse-reverse (uncut z left)) e)
 
   stream-explained : GoUp (arrival_times (reverse own)) → GoUp (frame_times (reverse (uncut z left)))
       → (judged_of z (reverse own) (reverse left)).is_unsure ≡ false
       → ((judged_of z (reverse own) (reverse left)).findings ≡ []) ↔ Explains z (sound_of z.rule own) (uncut z left)
   stream-explained p q sure =
-      let law = all_explained z (reverse own) (reverse (uncut z left)) p q (ap (λ (j : Judged). j.is_unsure) (sym whole-is) ∙ sure) in (
+      let law = all_explained z (reverse own) (reverse (uncut z left)) p q
+      (ap (λ (j : Judged). j.is_unsure) (sym whole-is) ∙ sure) in (
         λ h. this-way (law.0 (ap (λ (j : Judged). j.findings) (sym whole-is) ∙ h)),
         λ e. ap (λ (j : Judged). j.findings) whole-is ∙ law.1 (other-way e),
       )
@@ -82,11 +85,13 @@ module _ (z : Terms) (own : List Arrival) (left : List Gone) where
 
 -- ---- frames that count are no later than the end
 
-every-test : {X : Type 0} (P : X → Type 0) (test : X → Bool) (xs : List X) → AllByRecursion P xs → AllByRecursion P (filter test xs)
+every-test : {X : Type 0} (P : X → Type 0) (test : X → Bool) (xs : List X) → AllByRecursion P xs
+    → AllByRecursion P (filter test xs)
 every-test P test [] h = tt
 every-test P test (x ∷ xs) h = by (test x) (every-test P test xs h.1)
   where
-    by : (b : Bool) → AllByRecursion P (filter test xs) → AllByRecursion P (if b then x ∷ filter test xs else filter test xs)
+    by : (b : Bool) → AllByRecursion P (filter test xs)
+        → AllByRecursion P (if b then x ∷ filter test xs else filter test xs)
     by true k = (h.0, k)
     by false k = k
 
@@ -138,19 +143,24 @@ module _ (t : Rows) (c : Choices) (until : ℕ) (frames : List Frame) (lines : L
     (order : AreByTime frames) (are : AreLines t c until frames lines) where
   explained-of : (l : LinkRow) (side : Side) (port : ℕ)
       → Explains (terms_at t c until l port) (sound_at t c until frames l side) (uncut_at t c until frames l side port)
-      → IsExplained (terms_at t c until l port) (sound_at t c until frames l side) (uncut_at t c until frames l side port)
+      → IsExplained (terms_at t c until l port) (sound_at t c until frames l side)
+      (uncut_at t c until frames l side port)
   explained-of l side port e = record {
     explains = e;
-    windows = what_passed (terms_at t c until l port) (sound_at t c until frames l side) (uncut_at t c until frames l side port)
-        (sound-by-time (rule_of t l) (arrivals_of t c l.vl side frames) (arrivals-by-time t c frames order l.vl side)) e;
+    windows = what_passed (terms_at t c until l port) (sound_at t c until frames l side)
+        (uncut_at t c until frames l side port)
+        (sound-by-time (rule_of t l) (arrivals_of t c l.vl side frames) (arrivals-by-time t c frames order l.vl side))
+        e;
   }
 
   each-explained : (l : LinkRow) (side : Side) (port : ℕ) → (judged_at t c until frames l side port).is_unsure ≡ false
       → ((judged_at t c until frames l side port).findings ≡ [])
       ↔ Explains (terms_at t c until l port) (sound_at t c until frames l side) (uncut_at t c until frames l side port)
   each-explained l side port sure =
-      stream-explained (terms_at t c until l port) (arrivals_of t c l.vl side frames) (frames_of t c l.vl side port frames)
-      (arrivals-go t c frames order l.vl side) (uncut-go t c frames order l.vl side port (terms_at t c until l port)) sure
+      stream-explained (terms_at t c until l port) (arrivals_of t c l.vl side frames)
+      (frames_of t c l.vl side port frames)
+      (arrivals-go t c frames order l.vl side) (uncut-go t c frames order l.vl side port (terms_at t c until l port))
+      sure
 
   pub found-then : AreSure t c until frames → NothingIsFound lines → AreExplained t c until frames
   found-then sure h =
@@ -164,7 +174,8 @@ module _ (t : Rows) (c : Choices) (until : ℕ) (frames : List Frame) (lines : L
   pub then-found : AreExplained t c until frames → NothingIsFound lines
   then-found e = quiet-all lines (streams-quiet t c until frames lawful lines are e.none_strange
       (λ side place port l is. stream-quiet-of (terms_at t c until l port) (arrivals_of t c l.vl side frames)
-      (frames_of t c l.vl side port frames) (arrivals-go t c frames order l.vl side) (e.streams side place port l is).explains))
+      (frames_of t c l.vl side port frames) (arrivals-go t c frames order l.vl side)
+      (e.streams side place port l is).explains))
 
   pub found-of-none : lines ≡ [] → NothingIsFound lines
   found-of-none e = quiet-all lines (subst (λ (l : List Due). AllByRecursion IsQuiet l) (sym e) tt)
@@ -184,7 +195,8 @@ none_explained t c until frames lines lawful order are = (
     sure,
     found-then t c until frames lines lawful order are sure (found-of-none t c until frames lines lawful order are e),
   ),
-  λ h. none-of-found t c until frames lines lawful order are h.0 (then-found t c until frames lines lawful order are h.1),
+  λ h. none-of-found t c until frames lines lawful order are h.0 (then-found t c until frames lines lawful order are
+      h.1),
 )
 
 pub right_conforms : RightConforms
@@ -194,14 +206,16 @@ right_conforms t c until frames lines lawful order drift are right =
       streams = λ side place port l is.
           let r = right.streams side place port l is in
           explained-of t c until frames lines lawful order are l side port
-          (subst (λ (xs : List Arrival). Explains (terms_at t c until l port) xs (uncut_at t c until frames l side port)) r.arrivals
+          (subst (λ (xs : List Arrival). Explains (terms_at t c until l port) xs
+          (uncut_at t c until frames l side port)) r.arrivals
           (right_explained (terms_at t c until l port) r.asked (uncut_at t c until frames l side port)
           (bag-of t c side place port l lawful is) drift r.is_right));
     })
 
 -- ---- with exact stamps and clocks
 
-module _ (t : Rows) (c : Choices) (frames : List Frame) (lines : List Due) (lawful : IsLawfulSwitch t) (order : AreByTime frames)
+module _ (t : Rows) (c : Choices) (frames : List Frame) (lines : List Due) (lawful : IsLawfulSwitch t)
+    (order : AreByTime frames)
     (exact : IsExactBy c.by) (are : AreLines t c (until_or c.until frames) frames lines) where
   abbrev End : ℕ
   End = until_or c.until frames
@@ -223,20 +237,25 @@ module _ (t : Rows) (c : Choices) (frames : List Frame) (lines : List Due) (lawf
     gone-until fs h.1,
   )
 
-  uncut-is : (l : LinkRow) (side : Side) (port : ℕ) → uncut_at t c End frames l side port ≡ frames_of t c l.vl side port frames
+  uncut-is : (l : LinkRow) (side : Side) (port : ℕ) → uncut_at t c End frames l side port ≡ frames_of t c l.vl side
+      port frames
   uncut-is l side port =
       uncut-all (terms_at t c End l port) [] [] (frames_of t c l.vl side port frames)
       (gone-until (filter (λ x. left_at side port x && names l.vl x.arrival.bytes) (counted t c frames))
-      (every-test (λ (x : Frame). x.arrival.time ≤ End) (λ x. left_at side port x && names l.vl x.arrival.bytes) (counted t c frames)
+      (every-test (λ (x : Frame). x.arrival.time ≤ End) (λ x. left_at side port x && names l.vl x.arrival.bytes)
+      (counted t c frames)
       (counted-until t c frames order)))
 
   headline-at : (side : Side) (place port : ℕ) (l : LinkRow) → judged_to t c.taps side place port ≡ Some l
       → Explains (terms_at t c End l port) (sound_at t c End frames l side) (uncut_at t c End frames l side port)
-      ↔ IsAsTheHeadline (terms_at t c End l port) (arrivals_of t c l.vl side frames) (frames_of t c l.vl side port frames)
+      ↔ IsAsTheHeadline (terms_at t c End l port) (arrivals_of t c l.vl side frames)
+      (frames_of t c l.vl side port frames)
   headline-at side place port l is =
-      subst (λ (ys : List Gone). Explains (terms_at t c End l port) (sound_at t c End frames l side) (uncut_at t c End frames l side port)
+      subst (λ (ys : List Gone). Explains (terms_at t c End l port) (sound_at t c End frames l side)
+      (uncut_at t c End frames l side port)
       ↔ IsAsTheHeadline (terms_at t c End l port) (arrivals_of t c l.vl side frames) ys) (uncut-is l side port)
-      (exact_is_the_headline (terms_at t c End l port) (arrivals_of t c l.vl side frames) (uncut_at t c End frames l side port)
+      (exact_is_the_headline (terms_at t c End l port) (arrivals_of t c l.vl side frames)
+      (uncut_at t c End frames l side port)
       (exact-at l port) (bag-of t c side place port l lawful is) (arrivals-by-time t c frames order l.vl side))
 
   by-headline : IsByTheHeadline t c frames lines
@@ -245,7 +264,8 @@ module _ (t : Rows) (c : Choices) (frames : List Frame) (lines : List Due) (lawf
     found = (
       λ h. let e = found-then t c End frames lines lawful order are sure-at h in record {
         none_strange = e.none_strange;
-        streams = λ side place port l is. (headline-at side place port l is).0 (e.streams side place port l is).explains;
+        streams = λ side place port l is. (headline-at side place port l is).0
+            (e.streams side place port l is).explains;
       },
       λ h. then-found t c End frames lines lawful order are (record {
         none_strange = h.none_strange;
@@ -253,7 +273,11 @@ module _ (t : Rows) (c : Choices) (frames : List Frame) (lines : List Due) (lawf
             ((headline-at side place port l is).1 (h.streams side place port l is));
       }),
     );
-    none = (none-of-found t c End frames lines lawful order are sure-at, found-of-none t c End frames lines lawful order are);
+    none = (
+      none-of-found t c End frames lines lawful order are sure-at,
+      found-of-none t c End frames lines lawful
+          order are,
+    );
   }
 
 pub is_the_headline : ConformsIsTheHeadline

@@ -32,7 +32,8 @@ few : {X : Type 0} (test : X → Bool) (xs : List X) → length (filter test xs)
 few test [] = omega arith
 few test (x ∷ xs) = by (test x) (few test xs)
   where
-    by : (b : Bool) → length (filter test xs) ≤ length xs → length (if b then x ∷ filter test xs else filter test xs) ≤ length (x ∷ xs)
+    by : (b : Bool) → length (filter test xs) ≤ length xs → length (if b then x ∷ filter test xs else filter test xs)
+        ≤ length (x ∷ xs)
     by true le = omega (arith, le)
     by false le = omega (arith, le)
 
@@ -41,7 +42,8 @@ all-pass test [] h = refl
 all-pass test (x ∷ xs) h = by (test x) h (λ k. all-pass test xs k)
   where
     by : (b : Bool) → length (x ∷ xs) ≤ length (if b then x ∷ filter test xs else filter test xs)
-        → (length xs ≤ length (filter test xs) → filter test xs ≡ xs) → (if b then x ∷ filter test xs else filter test xs) ≡ x ∷ xs
+        → (length xs ≤ length (filter test xs) → filter test xs ≡ xs)
+        → (if b then x ∷ filter test xs else filter test xs) ≡ x ∷ xs
     by true k more = ap (λ l. x ∷ l) (more (omega (arith, k)))
     by false k more = absurd (let le = few test xs in omega (arith, k, le))
 
@@ -57,8 +59,10 @@ open-parts : (z : Terms) (xs : List Arrival) (ys : List Gone) → (judged_of z x
     → (length ys - length (uncut z ys) ≡ 0) × (least_waiting (judged_of z xs ys).states ≡ 0)
 open-parts z xs ys sure h =
     let all : length ys - length (uncut z ys) + least_waiting (judged_of z xs ys).states ≡ 0 =
-    subst (λ (b : Bool). (if b then counts_with 0 0 0 else counts_with (length (uncut z ys) - (judged_of z xs ys).frames)
-    (length ys - length (uncut z ys) + least_waiting (judged_of z xs ys).states) (judged_of z xs ys).uncertain).waiting ≡ 0)
+    subst
+    (λ (b : Bool). (if b then counts_with 0 0 0 else counts_with (length (uncut z ys) - (judged_of z xs ys).frames)
+    (length ys - length (uncut z ys) + least_waiting (judged_of z xs ys).states)
+    (judged_of z xs ys).uncertain).waiting ≡ 0)
     sure h in
     (omega (arith, all), omega (arith, all))
 
@@ -67,9 +71,11 @@ module _ (z : Terms) (own : List Arrival) (left : List Gone) (order : GoUp (arri
     (none : (judged_of z (reverse own) (reverse left)).findings ≡ []) where
   least : AreLeastOpen z (sound_of z.rule own) (uncut z left) (least_waiting (Whole z own left).states)
   least =
-      subst (λ (l : List Arrival). AreLeastOpen z (sound_of z.rule l) (uncut z left) (least_waiting (Whole z own left).states))
+      subst (λ (l : List Arrival). AreLeastOpen z (sound_of z.rule l) (uncut z left)
+      (least_waiting (Whole z own left).states))
       (reverse-reverse own)
-      (subst (λ (l : List Gone). AreLeastOpen z (sound_of z.rule (reverse (reverse own))) l (least_waiting (Whole z own left).states))
+      (subst (λ (l : List Gone). AreLeastOpen z (sound_of z.rule (reverse (reverse own))) l
+      (least_waiting (Whole z own left).states))
       (reverse-reverse (uncut z left))
       (open_least z (reverse own) (reverse (uncut z left)) order
       (ap (λ (j : Judged). j.is_unsure) (sym (whole-is z own left)) ∙ sure)

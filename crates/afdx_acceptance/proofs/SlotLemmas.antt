@@ -140,7 +140,8 @@ if-ok f (Err e) p = tt
 
 -- ---- frames of no stream
 
-pub falling-behind : (xs : List Due) (d e : Due) (more : List Due) → AreFalling (xs ++ d ∷ e ∷ more) → e.moment ≤ d.moment
+pub falling-behind : (xs : List Due) (d e : Due) (more : List Due) → AreFalling (xs ++ d ∷ e ∷ more)
+    → e.moment ≤ d.moment
 unfolding AreFalling
 falling-behind [] d e more f = f.0
 falling-behind (x ∷ []) d e more f = f.1.0

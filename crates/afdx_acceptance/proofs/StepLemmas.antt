@@ -22,7 +22,8 @@ use Rattle.afdx_acceptance.proofs.AddedLemmas.{from-ended, from-stream, from-str
 use Rattle.afdx_acceptance.proofs.KeyLemmas.{known-link}
 use Rattle.afdx_acceptance.proofs.SlotLemmas.{if-ok}
 
-pub both-ok : {X E : Type 0} (P : X → Type 0) (Q : Type 0) (r : Result X E) → IfOk r P → OnOk r Q → IfOk r (λ x. P x × Q)
+pub both-ok : {X E : Type 0} (P : X → Type 0) (Q : Type 0) (r : Result X E) → IfOk r P → OnOk r Q
+    → IfOk r (λ x. P x × Q)
 both-ok P Q (Ok x) p q = (p, q)
 both-ok P Q (Err e) p q = tt
 
@@ -46,9 +47,11 @@ module _ (t : Rows) (c : Choices) (until : ℕ) (time : ℕ) (key : Key) (given 
       × IsNoSooner moment (slot_due after))
 
   abbrev pub StepsEnded : Option ℕ → Type 0
-  StepsEnded ended = (z : Terms) (xs : List Arrival) (ys : List Gone) (ls : List Due) (moment : ℕ) → ended ≡ Some z.until
+  StepsEnded ended = (z : Terms) (xs : List Arrival) (ys : List Gone) (ls : List Due) (moment : ℕ)
+      → ended ≡ Some z.until
       → slot_due before ≡ Some moment → StreamEnds z key xs ys ls before
-      → IfOk r (λ told. StreamEnds z key xs ys (told_at key moment (items told) ls) after × IsNoSooner moment (slot_due after))
+      → IfOk r (λ told. StreamEnds z key xs ys (told_at key moment (items told) ls) after × IsNoSooner moment
+      (slot_due after))
 
   abbrev pub StepsStrangers : Type 0
   StepsStrangers = (all ls : List Due) (moment : ℕ) → slot_due before ≡ Some moment → StrangersStand key all ls before
@@ -81,30 +84,42 @@ module _ (t : Rows) (c : Choices) (until : ℕ) (time : ℕ) (key : Key) (given 
           → IfOk r (λ told. KeyStands t c until e time key given (told_at key m (items told) lines) after
           × IsNoSooner m (slot_due after))
       by-end None l is streams ends lt stands =
-          if-ok (λ told p. (from-stream t c until time key l given (told_at key m (items told) lines) after is p.0, p.1)) r
+          if-ok (λ told p. (
+            from-stream t c until time key l given (told_at key m (items told) lines) after is p.0,
+            p.1,
+          )) r
           (streams (terms_at t c until l key.port) given.came given.left lines time m refl due (lt refl)
           (to-stream t c until time key l given lines before is stands))
       by-end (Some end) l is streams ends lt stands =
           let s = to-ended t c until time key l given lines before end is stands in
-          if-ok (λ told p. (from-ended t c until time key l given (told_at key m (items told) lines) after end is (s.0, p.0), p.1)) r
+          if-ok (λ told p. (
+            from-ended t c until time key l given (told_at key m (items told) lines) after end is
+                (s.0, p.0),
+            p.1,
+          )) r
           (ends (terms_at t c until l key.port) given.came given.left lines m (ap (λ n. Some n) s.0) due s.1)
 
 -- ---- the end
 
-module _ (t : Rows) (c : Choices) (until : ℕ) (lawful : IsLawfulSwitch t) (time : ℕ) (given : Key → Given) (lines : List Due)
+module _ (t : Rows) (c : Choices) (until : ℕ) (lawful : IsLawfulSwitch t) (time : ℕ) (given : Key → Given)
+    (lines : List Due)
     (old new : Kept) (le : time ≤ until) (in-time : (k : Key) → AllByRecursion (λ x. x.time ≤ until) (given k).came)
     (kept : AreKept t c until None time given lines old)
     (ends : (k : Key) → is_known t k ≡ true → Ends until (slot_at old.slots.items k) (slot_at new.slots.items k)) where
   ended-stands : (k : Key) → is_known t k ≡ true
       → KeyStands t c until (Some until) time k (given k) (of_key k lines) (slot_at new.slots.items k)
   ended-stands k known = elim (known-cases t k known) [
-    | inl none ↦ from-strangers t c until (Some until) time k (given k) (of_key k lines) (slot_at new.slots.items k) none
+    | inl none ↦ from-strangers t c until (Some until) time k (given k) (of_key k lines) (slot_at new.slots.items k)
+        none
         ((ends k known).strangers k (given k).strange (of_key k lines)
-        (to-strangers t c until None time k (given k) (of_key k lines) (slot_at old.slots.items k) none (kept.stand k known)))
+        (to-strangers t c until None time k (given k) (of_key k lines) (slot_at old.slots.items k) none
+        (kept.stand k known)))
     | inr of ↦ from-ended t c until time k of.0 (given k) (of_key k lines) (slot_at new.slots.items k) until of.1 (
       refl,
-      (ends k known).streams (terms_at t c until of.0 k.port) k (given k).came (given k).left (of_key k lines) time refl le
-          (to-stream t c until time k of.0 (given k) (of_key k lines) (slot_at old.slots.items k) of.1 (kept.stand k known)),
+      (ends k known).streams (terms_at t c until of.0 k.port) k (given k).came (given k).left (of_key k lines) time
+          refl le
+          (to-stream t c until time k of.0 (given k) (of_key k lines) (slot_at old.slots.items k) of.1
+          (kept.stand k known)),
     )
   ]
 
@@ -112,13 +127,17 @@ module _ (t : Rows) (c : Choices) (until : ℕ) (lawful : IsLawfulSwitch t) (tim
       → slot_due (slot_at old.slots.items k) ≡ Some m
   ended-due k m known is = elim (known-cases t k known) [
     | inl none ↦ sym ((ends k known).due_strange k (given k).strange (of_key k lines)
-        (to-strangers t c until None time k (given k) (of_key k lines) (slot_at old.slots.items k) none (kept.stand k known))) ∙ is
+        (to-strangers t c until None time k (given k) (of_key k lines) (slot_at old.slots.items k) none
+        (kept.stand k known))) ∙ is
     | inr of ↦ from-due m (slot_due (slot_at old.slots.items k)) (slot_due (slot_at new.slots.items k)) is
-        ((ends k known).due (terms_at t c until of.0 k.port) k (given k).came (given k).left (of_key k lines) time refl le (in-time k)
-        (to-stream t c until time k of.0 (given k) (of_key k lines) (slot_at old.slots.items k) of.1 (kept.stand k known)))
+        ((ends k known).due (terms_at t c until of.0 k.port) k (given k).came (given k).left (of_key k lines) time
+        refl le (in-time k)
+        (to-stream t c until time k of.0 (given k) (of_key k lines) (slot_at old.slots.items k) of.1
+        (kept.stand k known)))
   ]
     where
-      from-due : (m : ℕ) (before after : Option ℕ) → after ≡ Some m → (after ≡ before) ⊎ (after ≡ None) → before ≡ Some m
+      from-due : (m : ℕ) (before after : Option ℕ) → after ≡ Some m → (after ≡ before) ⊎ (after ≡ None)
+          → before ≡ Some m
       from-due m before after is (inl same) = sym same ∙ is
       from-due m before after is (inr none) = absurd (cc)
 

@@ -16,7 +16,8 @@ pub heard-at : (t : Rows) (taps : Taps) (side : Side) (place : ℕ) (l : LinkRow
     → is_heard_at t taps side (Some place) ≡ is_heard t taps side l
 heard-at t taps side place l at = ap (λ o. option_map_or (is_heard t taps side) o true) at
 
-pub judged-heard : (t : Rows) (taps : Taps) (side : Side) (place port : ℕ) (l : LinkRow) → slice_get t.links place ≡ Some l
+pub judged-heard : (t : Rows) (taps : Taps) (side : Side) (place port : ℕ) (l : LinkRow) → slice_get t.links place
+    ≡ Some l
     → is_judged t taps side l port ≡ true → is_heard_at t taps side (Some place) ≡ true
 judged-heard t taps side place port l at judged =
     heard-at t taps side place l at ∙ (and_parts (is_heard t taps side l) (taps Left side port) judged).0
@@ -44,13 +45,15 @@ pub stranger-none : (t : Rows) (taps : Taps) (a : Arrival) (port : ℕ) (named :
 unfolding is_stranger
 stranger-none t taps a port named at is none =
     ap (λ v. not v || not (is_heard_at t taps a.side (place_named t a.bytes)))
-    (goes-named t a named is ∙ ap (λ p. is_some (option_and_then (λ place. link_to t place p) named)) at ∙ ap is_some none)
+    (goes-named t a named is ∙ ap (λ p. is_some (option_and_then (λ place. link_to t place p) named)) at
+    ∙ ap is_some none)
 
 pub stranger-unheard : (t : Rows) (taps : Taps) (a : Arrival) (place : ℕ) → place_named t a.bytes ≡ Some place
     → is_heard_at t taps a.side (Some place) ≡ false → is_stranger t taps a ≡ true
 unfolding is_stranger
 stranger-unheard t taps a place named deaf =
-    ap (λ v. not (goes_there t a) || not v) (ap (λ o. is_heard_at t taps a.side o) named ∙ deaf) ∙ or-true (not (goes_there t a))
+    ap (λ v. not (goes_there t a) || not v) (ap (λ o. is_heard_at t taps a.side o) named ∙ deaf)
+    ∙ or-true (not (goes_there t a))
 
 -- one of a stream is heard
 pub stream-heard : (t : Rows) (taps : Taps) (a : Arrival) (place : ℕ) (l : LinkRow) → is_stranger t taps a ≡ false
@@ -85,7 +88,8 @@ unheard-is t taps x heard goes damaged left h g d =
     ∙ ap (λ v. not heard && v && not (is_damaged x.arrival.bytes)) g ∙ ap (λ v. not heard && goes && not v) d
 
 -- it is where its sender's port is recorded
-pub heard-counts : (t : Rows) (taps : Taps) (x : Frame) → is_heard_at t taps x.arrival.side (place_named t x.arrival.bytes) ≡ true
+pub heard-counts : (t : Rows) (taps : Taps) (x : Frame)
+    → is_heard_at t taps x.arrival.side (place_named t x.arrival.bytes) ≡ true
     → is_unheard t taps x ≡ false
 unfolding is_unheard
 heard-counts t taps x heard =

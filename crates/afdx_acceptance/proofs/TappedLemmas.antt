@@ -14,13 +14,15 @@ use Rattle.afdx_lists.specs.declared.role.Role.TheVariants.{Left}
 use Rattle.afdx_acceptance.specs.Tapped.{Taps, is_heard_at, is_judged, is_of_came, is_unheard, judged_to, link_to, place_named, unseen_among, unseen_to}
 
 module _ (t : Rows) (taps : Taps) (side : Side) (place port : ℕ) (l : LinkRow) where
-  pub to-judged : link_to t place port ≡ Some l → is_judged t taps side l port ≡ true → judged_to t taps side place port ≡ Some l
+  pub to-judged : link_to t place port ≡ Some l → is_judged t taps side l port ≡ true
+      → judged_to t taps side place port ≡ Some l
   unfolding judged_to
   to-judged to judged =
       ap (λ o. option_and_then (λ k. if is_judged t taps side k port then Some k else None) o) to
       ∙ ap (λ b. if b then Some l else None) judged
 
-  pub not-judged : link_to t place port ≡ Some l → is_judged t taps side l port ≡ false → judged_to t taps side place port ≡ None
+  pub not-judged : link_to t place port ≡ Some l → is_judged t taps side l port ≡ false
+      → judged_to t taps side place port ≡ None
   unfolding judged_to
   not-judged to judged =
       ap (λ o. option_and_then (λ k. if is_judged t taps side k port then Some k else None) o) to
@@ -60,7 +62,8 @@ module _ (t : Rows) (taps : Taps) (side : Side) (place port : ℕ) (l : LinkRow)
 pub no-stream : (t : Rows) (taps : Taps) (side : Side) (place port : ℕ) → link_to t place port ≡ None
     → judged_to t taps side place port ≡ None
 unfolding judged_to
-no-stream t taps side place port to = ap (λ o. option_and_then (λ k. if is_judged t taps side k port then Some k else None) o) to
+no-stream t taps side place port to =
+    ap (λ o. option_and_then (λ k. if is_judged t taps side k port then Some k else None) o) to
 
 -- ---- the ports that are recorded, of those of some systems
 
@@ -111,7 +114,8 @@ any-fewer f p (x ∷ xs) h = by (f x) (nat_eq x p) refl h (λ h'. any-fewer f p 
 
 -- one more that passes, or doesn't
 pub filter-push : (f : ℕ → Bool) (xs : List ℕ) (x : ℕ) → f x ≡ false → filter f (xs ++ x ∷ []) ≡ filter f xs
-filter-push f xs x e = filter-append f xs (x ∷ []) ∙ ap (λ b. filter f xs ++ cond b (x ∷ []) []) e ∙ append-nil (filter f xs)
+filter-push f xs x e = filter-append f xs (x ∷ []) ∙ ap (λ b. filter f xs ++ cond b (x ∷ []) []) e
+    ∙ append-nil (filter f xs)
 
 pub filter-pushed : (f : ℕ → Bool) (xs : List ℕ) (x : ℕ) → f x ≡ true → filter f (xs ++ x ∷ []) ≡ filter f xs ++ x ∷ []
 filter-pushed f xs x e = filter-append f xs (x ∷ []) ∙ ap (λ b. filter f xs ++ cond b (x ∷ []) []) e
@@ -144,7 +148,8 @@ module _ (t : Rows) (taps : Taps) (side : Side) where
       → unseen_to t taps side l (take (rank + 1) l.to)
       ≡ unseen_to t taps side l (take rank l.to) + (if is_judged t taps side l (port_of t system) then 0 else 1)
   unseen-next l rank system is lt =
-      ap (λ xs. unseen_to t taps side l xs) (take_more l.to rank system lt ∙ ap (λ n. take rank l.to ++ n ∷ []) (sym is))
+      ap (λ xs. unseen_to t taps side l xs) (take_more l.to rank system lt ∙ ap (λ n. take rank l.to ++ n ∷ [])
+      (sym is))
       ∙ unseen-append l (take rank l.to) system
 
   -- one more link

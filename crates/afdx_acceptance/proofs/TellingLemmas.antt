@@ -84,8 +84,3 @@ counted-next xs i d old new is within test before here =
     let next = findings-next xs i d within in
     let same : one_if is ≡ one_if (is_finding (get_or xs i d)) = ap one_if test in
     omega (arith, next, same, before, here)
-
--- and of several
-pub counted-more : (old new count all : ℕ) → count ≡ min all most_counted → new ≡ min (old + count) most_counted
-    → new ≡ min (old + all) most_counted
-counted-more old new count all here more = omega (arith, here, more)

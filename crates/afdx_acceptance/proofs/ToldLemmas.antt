@@ -26,18 +26,17 @@ told-rules same rules = record {
   taps = ap (λ (s : Streams). s.taps) same ∙ rules.taps;
 }
 
-pub same-rules : (s : Streams) → IsSameButKept s s
-same-rules s = record { tables = refl; taps = refl }
-
 module _ (r : Rows × Choices) (start : Option (List ℕ)) (frames : List Frame) (j k : Judging) where
   chosen-same : k.streams.taps ≡ j.streams.taps → k.choices ≡ j.choices
-      → choices_of (taps_in j.streams.taps.now) j.choices.now ≡ r.1 → choices_of (taps_in k.streams.taps.now) k.choices.now ≡ r.1
+      → choices_of (taps_in j.streams.taps.now) j.choices.now ≡ r.1
+      → choices_of (taps_in k.streams.taps.now) k.choices.now ≡ r.1
   chosen-same taps choices is =
       ap (λ (p : Bor Taps). choices_of (taps_in p.now) k.choices.now) taps
       ∙ ap (λ b. choices_of (taps_in j.streams.taps.now) b.now) choices ∙ is
 
   -- what else changes doesn't matter
-  pub tells-same : (output : Option (List ℕ)) (lines : List ConformLine) → IsSameButKept j.streams k.streams → k.choices ≡ j.choices
+  pub tells-same : (output : Option (List ℕ)) (lines : List ConformLine) → IsSameButKept j.streams k.streams
+      → k.choices ≡ j.choices
       → k.findings ≡ j.findings → k.left_out ≡ j.left_out → k.latest ≡ j.latest
       → TellsOf r frames j start output lines → TellsOf r frames k start output lines
   tells-same output lines rules choices findings left_out latest h = record {
@@ -50,7 +49,8 @@ module _ (r : Rows × Choices) (start : Option (List ℕ)) (frames : List Frame)
   }
 
   -- more lines are told
-  pub tells-more : (mid new : Option (List ℕ)) (lines more : List ConformLine) → IsSameButKept j.streams k.streams → k.choices ≡ j.choices
+  pub tells-more : (mid new : Option (List ℕ)) (lines more : List ConformLine) → IsSameButKept j.streams k.streams
+      → k.choices ≡ j.choices
       → k.left_out ≡ j.left_out → k.latest ≡ j.latest
       → k.findings ≡ min (j.findings + findings_in more) most_counted → Appends mid new (lines_text more)
       → TellsOf r frames j start mid lines → TellsOf r frames k start new (lines ++ more)
@@ -78,7 +78,8 @@ left-out-next : (t : Rows) (c : Choices) (x : Frame) (frames : List Frame) (is :
 left-out-next t c x frames true e = rw e (omega arith)
 left-out-next t c x frames false e = rw e (omega arith)
 
-pub missed-next : (t : Rows) (c : Choices) (x : Frame) (frames : List Frame) (old new : ℕ) (is : Bool) → is_missed t c x ≡ is
+pub missed-next : (t : Rows) (c : Choices) (x : Frame) (frames : List Frame) (old new : ℕ) (is : Bool)
+    → is_missed t c x ≡ is
     → old ≡ min (left_out_of t c frames) most_counted → new ≡ min (old + one_if is) most_counted
     → new ≡ min (left_out_of t c (x ∷ frames)) most_counted
 missed-next t c x frames old new is e before here =
@@ -104,18 +105,23 @@ pub tells-next : (r : Rows × Choices) (start : Option (List ℕ)) (frames : Lis
     (output : Option (List ℕ)) (lines : List ConformLine) (x : Frame) → IsSameButTaken j k
     → l.streams ≡ k.streams
     → l.choices ≡ k.choices → l.findings ≡ k.findings → l.left_out ≡ k.left_out → l.latest ≡ x.arrival.time
-    → (j.left_out ≡ min (left_out_of j.streams.tables.now (choices_of (taps_in j.streams.taps.now) j.choices.now) frames) most_counted
-    → k.left_out ≡ min (left_out_of j.streams.tables.now (choices_of (taps_in j.streams.taps.now) j.choices.now) (x ∷ frames)) most_counted)
+    → (j.left_out ≡ min (left_out_of j.streams.tables.now (choices_of (taps_in j.streams.taps.now) j.choices.now)
+    frames) most_counted
+    → k.left_out ≡ min (left_out_of j.streams.tables.now (choices_of (taps_in j.streams.taps.now) j.choices.now)
+    (x ∷ frames)) most_counted)
     → TellsOf r frames j start output lines → TellsOf r (x ∷ frames) l start output lines
 tells-next r start frames j k l output lines x others streams choices findings left_out latest counted h =
     let by-r = subst (λ (o : Choices). j.left_out ≡ min (left_out_of r.0 o frames) most_counted
     → k.left_out ≡ min (left_out_of r.0 o (x ∷ frames)) most_counted) h.choices_are
-    (subst (λ (t : Rows). j.left_out ≡ min (left_out_of t (choices_of (taps_in j.streams.taps.now) j.choices.now) frames) most_counted
+    (subst (λ (t : Rows). j.left_out ≡ min (left_out_of t (choices_of (taps_in j.streams.taps.now) j.choices.now)
+    frames) most_counted
     → k.left_out ≡ min (left_out_of t (choices_of (taps_in j.streams.taps.now) j.choices.now)
     (x ∷ frames)) most_counted) h.tables_are counted) in
     record {
-      tables_are = ap (λ (s : Streams). s.tables.now) streams ∙ ap (λ (b : Bor Rows). b.now) others.rules.tables ∙ h.tables_are;
-      choices_are = chosen-same r start frames j l (ap (λ (s : Streams). s.taps) streams ∙ others.rules.taps) (choices ∙ others.choices)
+      tables_are = ap (λ (s : Streams). s.tables.now) streams ∙ ap (λ (b : Bor Rows). b.now) others.rules.tables
+          ∙ h.tables_are;
+      choices_are = chosen-same r start frames j l (ap (λ (s : Streams). s.taps) streams ∙ others.rules.taps) (choices
+          ∙ others.choices)
           h.choices_are;
       written = h.written;
       findings_are = findings ∙ others.findings ∙ h.findings_are;

@@ -34,11 +34,14 @@ use Rattle.afdx_acceptance.proofs.PartLemmas.{SomeStream, at-judged, at-other, e
 pub uncut-length : (z : Terms) (ys : List Gone) → length (uncut z (reverse ys)) ≡ length (uncut z ys)
 uncut-length z ys = ap (λ (l : List Gone). length l) (uncut-reverse z ys) ∙ length-reverse (uncut z ys)
 
-explained-some : (z : Terms) (xs : List Arrival) (ys : List Gone) → 0 < (counts_of z xs ys).explained → 0 < length (uncut z ys)
+explained-some : (z : Terms) (xs : List Arrival) (ys : List Gone) → 0 < (counts_of z xs ys).explained
+    → 0 < length (uncut z ys)
 explained-some z xs ys h = by (judged_of z xs ys).is_unsure h
   where
-    by : (b : Bool) → 0 < (if b then counts_with 0 0 0 else counts_with (length (uncut z ys) - (judged_of z xs ys).frames)
-        (length ys - length (uncut z ys) + least_waiting (judged_of z xs ys).states) (judged_of z xs ys).uncertain).explained
+    by : (b : Bool)
+        → 0 < (if b then counts_with 0 0 0 else counts_with (length (uncut z ys) - (judged_of z xs ys).frames)
+        (length ys - length (uncut z ys) + least_waiting (judged_of z xs ys).states)
+        (judged_of z xs ys).uncertain).explained
         → 0 < length (uncut z ys)
     by true k = absurd (omega (arith, k))
     by false k = omega (arith, k)
@@ -47,8 +50,11 @@ some-explained : (z : Terms) (xs : List Arrival) (ys : List Gone) → (judged_of
     → (judged_of z xs ys).findings ≡ [] → 0 < length (uncut z ys) → 0 < (counts_of z xs ys).explained
 some-explained z xs ys sure none some =
     let frames = counts_none z xs (uncut z ys) none in
-    subst (λ (b : Bool). 0 < (if b then counts_with 0 0 0 else counts_with (length (uncut z ys) - (judged_of z xs ys).frames)
-    (length ys - length (uncut z ys) + least_waiting (judged_of z xs ys).states) (judged_of z xs ys).uncertain).explained)
+    subst
+    (λ (b : Bool). 0
+    < (if b then counts_with 0 0 0 else counts_with (length (uncut z ys) - (judged_of z xs ys).frames)
+    (length ys - length (uncut z ys) + least_waiting (judged_of z xs ys).states)
+    (judged_of z xs ys).uncertain).explained)
     (sym sure) (omega (arith, frames, some))
 
 -- ---- the answer
@@ -79,11 +85,13 @@ some-more (suc m) apart = omega arith
 
 pub conforms-parts : (n : Totals) → answer_of n ≡ Conforms → IsConform n
 conforms-parts n h =
-    by (nat_lt 0 n.findings) n.is_unsure (nat_eq n.explained 0) n.is_exercised (nat_lt 0 n.idle) refl refl refl refl refl h
+    by (nat_lt 0 n.findings) n.is_unsure (nat_eq n.explained 0) n.is_exercised (nat_lt 0 n.idle) refl refl refl refl
+    refl h
   where
     by : (f u e x i : Bool) → nat_lt 0 n.findings ≡ f → n.is_unsure ≡ u → nat_eq n.explained 0 ≡ e
         → n.is_exercised ≡ x → nat_lt 0 n.idle ≡ i
-        → (if f then Deviates n.findings else if u || e || (x && i) then Undecided else Conforms) ≡ Conforms → IsConform n
+        → (if f then Deviates n.findings else if u || e || (x && i) then Undecided else Conforms) ≡ Conforms
+        → IsConform n
     by true u e x i fe ue ee xe ie k = absurd (cc)
     by false true e x i fe ue ee xe ie k = absurd (cc)
     by false false true x i fe ue ee xe ie k = absurd (cc)
@@ -153,7 +161,8 @@ module _ (k : Rows × Choices) (frames : List Frame) (lines : List Due) (run : I
       let s = some-stream k.0 k.1 End frames (omega (arith, h)) in
       by s (is_judged k.0 k.1.taps s.side s.link (port_of k.0 s.system)) refl s.some
     where
-      by : (s : SomeStream k.0 k.1 End frames) (b : Bool) → is_judged k.0 k.1.taps s.side s.link (port_of k.0 s.system) ≡ b
+      by : (s : SomeStream k.0 k.1 End frames) (b : Bool) → is_judged k.0 k.1.taps s.side s.link
+          (port_of k.0 s.system) ≡ b
           → 0 < (counted_at k.0 k.1 End frames s.side s.link (port_of k.0 s.system)).explained → SomeLeft k frames
       by s true e some =
           let z = terms_at k.0 k.1 End s.link (port_of k.0 s.system) in
@@ -187,7 +196,8 @@ module _ (k : Rows × Choices) (frames : List Frame) (lines : List Due) (run : I
       (quiet.1 s.side s.place s.port s.link s.judged) (omega (arith, length_is, some)) in
       let here = subst (λ (n : Counted). 0 < n.explained)
       (sym (at-judged k.0 k.1 End frames s.side s.link s.port p.judged)) one in
-      let there = subst (λ (q : ℕ). 0 < (counted_at k.0 k.1 End frames s.side s.link q).explained) (sym p.port_is) here in
+      let there = subst (λ (q : ℕ). 0 < (counted_at k.0 k.1 End frames s.side s.link q).explained) (sym p.port_is)
+      here in
       let less = (is-part k.0 k.1 End frames s.side s.place p.system s.link p.at p.goes).less in
       omega (arith, there, less)
 
@@ -237,7 +247,8 @@ never_deviates k frames lines findings drift run right h =
 
 -- ---- what is written
 
-appended : (xs : List ℕ) (new other : Option (List ℕ)) (bytes : List ℕ) → Appends (Some xs) new bytes → Appends (Some xs) other bytes
+appended : (xs : List ℕ) (new other : Option (List ℕ)) (bytes : List ℕ) → Appends (Some xs) new bytes
+    → Appends (Some xs) other bytes
     → new ≡ other
 appended xs (Some a) (Some b) bytes p q = ap (λ (l : List ℕ). Some l) (p ∙ sym q)
 appended xs (Some a) None bytes p q = absurd q
@@ -249,8 +260,10 @@ written_once k frames old new other totals others few a b =
     let counted = a.totals_are ∙ ap (λ (l : List Due). totals_of k frames l) same ∙ sym b.totals_are in
     record {
       written = appended old new other (lines_text (lines_of b.dues) ++ conform_text (last_line others))
-          (subst (λ (n : Totals). Appends (Some old) new (lines_text (lines_of b.dues) ++ conform_text (last_line n))) counted
-          (subst (λ (l : List Due). Appends (Some old) new (lines_text (lines_of l) ++ conform_text (last_line totals))) same a.written))
+          (subst (λ (n : Totals). Appends (Some old) new (lines_text (lines_of b.dues) ++ conform_text (last_line n)))
+          counted
+          (subst (λ (l : List Due). Appends (Some old) new (lines_text (lines_of l) ++ conform_text
+          (last_line totals))) same a.written))
           b.written;
       counted = counted;
     }

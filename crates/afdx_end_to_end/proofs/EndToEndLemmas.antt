@@ -66,7 +66,8 @@ sent-as : (s : SystemRow) (side : Side) → 1 ≤ s.port → s.port ≤ 24
     → AreSaidBy xs (lines_on [] s side turns) → AreSentAs s side turns xs
 sent-as s side one most [] [] can said = tt
 sent-as s side one most [] (x ∷ past) can said = not-empty said.0 said.1 (sym said.2)
-sent-as s side one most (turn ∷ earlier) [] can said = not-empty (lines_on [] s side earlier) (line_on [] s side turn) said
+sent-as s side one most (turn ∷ earlier) [] can said = not-empty (lines_on [] s side earlier) (line_on [] s side turn)
+    said
 sent-as s side one most (turn ∷ earlier) (x ∷ past) can said =
     let same = snoc-same (lines_on [] s side earlier) said.0 (line_on [] s side turn) said.1 said.2 in
     let f : frame.ListedFrame = record {
@@ -143,7 +144,8 @@ module _ (laws : Laws) (t : Rows) (lawful : IsLawful t) (admitted : IsAdmitted t
 
   pub text-elsewhere : (side : Side) (port : ℕ) → port ≢ s.port
       → lines_at side port (lines_of (send_text s events)) ≡ []
-  text-elsewhere side port ne = text-off-port [] tt s is_system.port.1 (λ own at line. says_at own at (line_says 0 line))
+  text-elsewhere side port ne = text-off-port [] tt s is_system.port.1
+      (λ own at line. says_at own at (line_says 0 line))
       (says-tests s is_system.port.0 is_system.port.1) side port events ne fine
 
   text-sound : length (lines_of (send_text s events)) ≤ most_lines

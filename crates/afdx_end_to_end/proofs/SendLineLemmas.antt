@@ -166,7 +166,8 @@ module _ (name : List ℕ) (least : AtLeast 32 name) (s : SystemRow) (most : s.p
       (none-below 32 10 (refused x.line fault) (omega arith) (refused-least x.line fault few), tt)
   event-feed (Submitted x None) few = tt
 
-  no-feed : (events : List Event) → AllByRecursion (IsFine s) events → AllByRecursion HasNoFeed (all_lines name s events)
+  no-feed : (events : List Event) → AllByRecursion (IsFine s) events
+      → AllByRecursion HasNoFeed (all_lines name s events)
   no-feed [] all = tt
   no-feed (e ∷ before) all =
       all-join HasNoFeed (all_lines name s before) (lines_in name s e) (no-feed before all.1) (event-feed e all.0)

@@ -159,7 +159,8 @@ unfolding encode_with
 not_dash [] some = absurd (omega (arith, some))
 not_dash (b ∷ bytes) some = and_false (nat_eq (slice_index lower_digits (b / 16)) 45)
 
-pub bytes-back : (bytes : List ℕ) → AreBytes bytes → 1 ≤ length bytes → bytes_of_digits (encode_lower bytes) ≡ Some bytes
+pub bytes-back : (bytes : List ℕ) → AreBytes bytes → 1 ≤ length bytes → bytes_of_digits (encode_lower bytes)
+    ≡ Some bytes
 unfolding bytes_of_digits
 bytes-back bytes are some = rw (not_dash bytes some, decode_of-encode_lower bytes are) refl
 

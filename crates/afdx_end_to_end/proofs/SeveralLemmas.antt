@@ -1,5 +1,5 @@
 -- From what the senders of several switches took to what the receivers are told.
-use Rattle.std.proofs.Common.{◌≡◌, ℕ, ◌<◌, ◌≤◌, ◌==◌, ◌&&◌, Bool, List, [], ◌∷◌, length, take}
+use Rattle.std.proofs.Common.{◌≡◌, ℕ, ◌<◌, ◌≤◌, ◌==◌, ◌&&◌, List, [], ◌∷◌, length, take}
 use Rattle.std.proofs.Common.{refl, sym, ap, subst, ◌∙◌, arith, Some, None, slice_get}
 use Rattle.std.specs.Prelude.{reverse, Ok}
 use Rattle.std.specs.List.{AllByRecursion}
@@ -70,12 +70,10 @@ module _ (ss : List NamedRows) (are : AreSwitches ss) (k : ℕ) (within : k < le
   turn-says side turn can =
       let w = word ss are k within in
       ap (λ n. sited_line_says sites 0 (line_on n s side turn)) w.is
-      ∙ sited-says sites k w.first w.rest (ap (place_named sites) (sym w.is) ∙ found ss are k within) w.least side s.port
+      ∙ sited-says sites k w.first w.rest (ap (place_named sites) (sym w.is) ∙ found ss are k within) w.least side
+      s.port
       turn.end (frame_on s side turn.entry.item) one most can.early (can.frames side)
       (free-at ss are k within s.port most free)
-
-  there : Side → ℕ → List ℕ → Bool
-  there side port line = says_there k side port (sited_line_says sites 0 line)
 
   tests : Tests name s (λ side port line. says_there k side port (sited_line_says sites 0 line))
   tests = record {
@@ -144,7 +142,8 @@ module _ (laws : Laws) (ss : List NamedRows) (list : List (List ℕ)) (events : 
 
   -- what comes at its port is what the lines there say
   by-lines : (side : Side)
-      → AreSaidAt (sites_of ss) (arrivals_at side s.port (came_to k events)) (lines_there (sites_of ss) k side s.port list)
+      → AreSaidAt (sites_of ss) (arrivals_at side s.port (came_to k events))
+      (lines_there (sites_of ss) k side s.port list)
   by-lines side =
       let past = items_of (lists ss) list (length list) in
       subst (λ (xs : List Arrival). AreSaidAt (sites_of ss) xs (lines_there (sites_of ss) k side s.port list))
@@ -166,7 +165,8 @@ module _ (laws : Laws) (ss : List NamedRows) (list : List (List ℕ)) (events : 
   side-merged side holds =
       sent-as ss run.are k from.within s is_system.port.0 is_system.port.1 free side (turns_in sends)
       (arrivals_at side s.port (came_to k events)) can
-      (subst (AreSaidAt (sites_of ss) (arrivals_at side s.port (came_to k events))) (holds ∙ of-text side) (by-lines side))
+      (subst (AreSaidAt (sites_of ss) (arrivals_at side s.port (came_to k events))) (holds ∙ of-text side)
+      (by-lines side))
 
   first-merged : ((side : Side) → HoldsFirstOf ss k s side list (text_of ss k s sends))
       → IsMergedSoFar s (turns_in sends) (came_to k events)
@@ -180,7 +180,8 @@ module _ (laws : Laws) (ss : List NamedRows) (list : List (List ℕ)) (events : 
             (arrivals_at side s.port (came_to k events))
             (all-earlier (CanBeRead s) first.0 first.1
             (subst (λ (z : List (Turn Frame)). AllByRecursion (CanBeRead s) z) first.2 can))
-            (subst (AreSaidAt (sites_of ss) (arrivals_at side s.port (came_to k events))) (sym first.3) (by-lines side)),
+            (subst (AreSaidAt (sites_of ss) (arrivals_at side s.port (came_to k events))) (sym first.3)
+            (by-lines side)),
       )
 
   module _ (r : RowAt) (before : List RowAt) (system : ℕ) (way : IsWayToSystem ss r before system)
@@ -195,7 +196,8 @@ module _ (laws : Laws) (ss : List NamedRows) (list : List (List ℕ)) (events : 
         let z = switch-of ss first is in (
           is.place,
           ap (λ j. slice_get (tables_of ss j).links is.place) (sym at_k)
-              ∙ ap (λ (q : Rows). slice_get q.links is.place) (tables-at ss first.switch z.0 z.1) ∙ row-here ss first z.0 is z.1,
+              ∙ ap (λ (q : Rows). slice_get q.links is.place) (tables-at ss first.switch z.0 z.1)
+              ∙ row-here ss first z.0 is z.1,
         )
 
     ready : emitted.IsReady laws t lawful admitted sender from.own s given sends from.sent first.row
@@ -235,7 +237,8 @@ module _ (laws : Laws) (ss : List NamedRows) (list : List (List ℕ)) (events : 
     heard : HoldsTextOf ss k s list (text_of ss k s sends)
         → AreHeardAsTaken ss events r first system (taken_by first.row.vl sends)
     unfolding has-emitted
-    heard holds = as-taken (released-once laws.computed ss events r before system ready.0 h run.kept.once way has-emitted
+    heard holds = as-taken (released-once laws.computed ss events r before system ready.0 h run.kept.once way
+        has-emitted
         (moved (λ side. side-merged side (holds side))))
 
     heard-by-one : ((side : Side) → HoldsFirstOf ss k s side list (text_of ss k s sends)) → (whole : Side)
@@ -243,7 +246,8 @@ module _ (laws : Laws) (ss : List NamedRows) (list : List (List ℕ)) (events : 
         ≡ lines_there (sites_of ss) k whole s.port (lines_of (text_of ss k s sends))
         → AreHeardAsTaken ss events r first system (taken_by first.row.vl sends)
     unfolding has-emitted
-    heard-by-one holds whole all_come = as-taken (one-side-brings laws.computed ss events r before system ready.0 h whole
+    heard-by-one holds whole all_come = as-taken (one-side-brings laws.computed ss events r before system ready.0 h
+        whole
         run.kept.once_so_far way has-emitted (moved-first (first-merged holds))
         (subst (λ j. AreSentAs s whole (turns_in sends) (arrivals_at whole s.port (came_to j events))) (sym at_k)
         (side-merged whole all_come)))

@@ -137,7 +137,8 @@ module _ (sites : List NamedCables) (k c : ℕ) (name : List ℕ) (found : place
       (place_named sites (c ∷ name)) (number_of (decimal port)) digits) (number-decimal time time_fits)
       ∙ ap (λ q. from_six sited_fields_with (kind_of (82 ∷ [])) (Some time) (side_of (side_text side)) q
       (number_of (decimal port)) digits) found
-      ∙ ap (λ n. from_six sited_fields_with (kind_of (82 ∷ [])) (Some time) (side_of (side_text side)) (Some k) n digits)
+      ∙ ap (λ n. from_six sited_fields_with (kind_of (82 ∷ [])) (Some time) (side_of (side_text side)) (Some k) n
+      digits)
       (number-decimal port port_fits) ∙ r.are
 
   no_fault : sited_fault sites r.fields.switch r.fields.frame.time r.fields.frame.port 0 ≡ None
@@ -145,7 +146,8 @@ module _ (sites : List NamedCables) (k c : ℕ) (name : List ℕ) (found : place
       ap (λ n. sited_fault sites n r.fields.frame.time r.fields.frame.port 0) r.switch_is
       ∙ ap (λ n. sited_fault sites k n r.fields.frame.port 0) r.time_is
       ∙ ap (λ n. sited_fault sites k time n 0) r.port_is
-      ∙ ap (λ (o : Option LineFault). fault_or o (cable_fault sites k port)) (no-fault time port 0 one most early (omega arith))
+      ∙ ap (λ (o : Option LineFault). fault_or o (cable_fault sites k port)) (no-fault time port 0 one most early
+      (omega arith))
       ∙ ap (λ b. if b then Some BadPort else None) free
 
   pub sited-says : sited_line_says sites 0 line ≡ Ok (Some (frame_at k time side port bytes))

@@ -129,7 +129,8 @@ module _ (sites : List NamedCables) (k : ℕ) (side : Side) (port : ℕ) where
 
       by : (r : Result (Option SitedFrame) LineFault) → item_said (sited_frames sites) list n ≡ r
           → AreSaidAt sites (arrived_at list n) (lines_there sites k side port (take n list)) →
-          AreSaidAt sites (arrivals_at side port (frames_to k (with_item (sited_frames sites) (suc n) r (past_at list n))))
+          AreSaidAt sites
+          (arrivals_at side port (frames_to k (with_item (sited_frames sites) (suc n) r (past_at list n))))
           (lines_there sites k side port (take (suc n) list))
       by (Ok (Some f)) e rest =
           by_test f e (f.switch == k) (is_side side f.frame.side && (port == f.frame.port)) refl refl rest

@@ -130,35 +130,36 @@ some-promised t arrivals old new run written =
       accepted = told.accepted;
     }
 
-module _ (t : Rows) (bytes : List ℕ) (old new : Option (List ℕ)) (lawful : IsLawfulSwitch t) (admitted : IsAdmitted t) where
-  run-of : (n : ℕ) → IsAdmittedRun t (arrivals_of (lines_of bytes) n)
-  run-of n = record {
-    lawful = lawful;
-    admitted = admitted-serving t admitted;
-    timed = arrivals-timed (lines_of bytes) n;
-  }
+module _ (t : Rows) (bytes : List ℕ) (old new : Option (List ℕ)) (lawful : IsLawfulSwitch t) (admitted : IsAdmitted t)
+  where
+    run-of : (n : ℕ) → IsAdmittedRun t (arrivals_of (lines_of bytes) n)
+    run-of n = record {
+      lawful = lawful;
+      admitted = admitted-serving t admitted;
+      timed = arrivals-timed (lines_of bytes) n;
+    }
 
-  all-told : (n : ℕ) → WritesSoFar t old new (arrivals_of (lines_of bytes) n)
-      → WritesPromisedSoFar t old new (arrivals_of (lines_of bytes) n)
-  all-told n written = so-far-promised t (arrivals_of (lines_of bytes) n) old new (run-of n) written
+    all-told : (n : ℕ) → WritesSoFar t old new (arrivals_of (lines_of bytes) n)
+        → WritesPromisedSoFar t old new (arrivals_of (lines_of bytes) n)
+    all-told n written = so-far-promised t (arrivals_of (lines_of bytes) n) old new (run-of n) written
 
-  some-told : (n : ℕ) → WritesSome t old new (arrivals_of (lines_of bytes) n)
-      → WritesPromisedSome t old new (arrivals_of (lines_of bytes) n)
-  some-told n written = some-promised t (arrivals_of (lines_of bytes) n) old new (run-of n) written
+    some-told : (n : ℕ) → WritesSome t old new (arrivals_of (lines_of bytes) n)
+        → WritesPromisedSome t old new (arrivals_of (lines_of bytes) n)
+    some-told n written = some-promised t (arrivals_of (lines_of bytes) n) old new (run-of n) written
 
-  pub promised-answers : (rest : Option (List ℕ)) (r : Result Summary RunFault)
-      → Answers t bytes rest old new r → PromisedAnswers t bytes rest old new r
-  promised-answers rest (Err fault) stops =
-      stops-more frames (WritesSoFar t old new) (WritesSome t old new) (WritesPromisedSoFar t old new)
-      (WritesPromisedSome t old new) bytes rest all-told some-told fault stops
-  promised-answers rest (Ok summary) all =
-      let list = lines_of bytes in
-      record {
-        sound = all.sound;
-        listed = arrivals-listed list (length list);
-        promised = as-promised t (arrivals_of list (length list)) old new summary (run-of (length list))
-            all.written (ap (λ (s : Summary). s.lost) all.counted) (ap (λ (s : Summary). s.too_old) all.counted);
-      }
+    pub promised-answers : (rest : Option (List ℕ)) (r : Result Summary RunFault)
+        → Answers t bytes rest old new r → PromisedAnswers t bytes rest old new r
+    promised-answers rest (Err fault) stops =
+        stops-more frames (WritesSoFar t old new) (WritesSome t old new) (WritesPromisedSoFar t old new)
+        (WritesPromisedSome t old new) bytes rest all-told some-told fault stops
+    promised-answers rest (Ok summary) all =
+        let list = lines_of bytes in
+        record {
+          sound = all.sound;
+          listed = arrivals-listed list (length list);
+          promised = as-promised t (arrivals_of list (length list)) old new summary (run-of (length list))
+              all.written (ap (λ (s : Summary). s.lost) all.counted) (ap (λ (s : Summary). s.too_old) all.counted);
+        }
 
 -- where the input's bytes are known
 pub if-known : (t : Rows) (o rest old new : Option (List ℕ)) (r : Result Summary RunFault)

@@ -45,7 +45,8 @@ line-late s w (x ∷ past) events at stands ends until =
     let inside = there.inside.0.0 in
     let count = there.count in
     let n = slice_get-within w.networks.items x.switch (omega (arith, inside, count)) in
-    below-time x.arrival.time at (1 ∷ (admission_after (tables_of s x.switch) (came_to x.switch ends.0) x.arrival).place ∷ [])
+    below-time x.arrival.time at
+    (1 ∷ (admission_after (tables_of s x.switch) (came_to x.switch ends.0) x.arrival).place ∷ [])
     (1 ∷ length (arrivals_in (at_switch x.switch (h ∷ ends.0))) ∷ [])
     ((there.keeps.stands.all.each x.switch n.0 n.1).past at (until.networks x.switch n.0 n.1) h.event
     (subst (IsAmong h.event) (sym (at-same x.switch h.event ends.0)) (inl refl)))

@@ -120,7 +120,8 @@ module _ (s : List NamedRows) (all : List Systems) (k : ℕ) (before : List Swit
   pub systems-unheard : (d : Departure) → listener_at (tables_of s k) d.port ≡ None
       → SystemsAre s all (event_at k (Left d) ∷ before)
   systems-unheard d none j x at = elim (cases_eq k j) [
-    | inl same ↦ subst (λ z. systems.StandsFor (tables_of s z) x (frames_left (at_switch z (event_at k (Left d) ∷ before))))
+    | inl same ↦ subst (λ z. systems.StandsFor (tables_of s z) x
+        (frames_left (at_switch z (event_at k (Left d) ∷ before))))
         same (subst (λ es. systems.StandsFor (tables_of s k) x (frames_left es)) (sym (at-same k (Left d) before))
         (unheard (tables_of s k) x d (at_switch k before) none
         (subst (λ z. systems.StandsFor (tables_of s z) x (frames_left (at_switch z before))) (sym same) (are j x at))))
@@ -283,7 +284,8 @@ module _ (s : List NamedRows) (all : List Systems) (k : ℕ) (before : List Swit
         ∙ ap (λ n. departure_line false d.turn.entry.item.tag n (place_text x.side name) x.port) is.time
         ∙ ap (λ z. departure_line false d.turn.entry.item.tag d.turn.end (place_text z name) x.port) is.side
         ∙ ap (λ n. departure_line false d.turn.entry.item.tag d.turn.end (place_text d.side n) x.port) named
-        ∙ ap (λ n. departure_line false d.turn.entry.item.tag d.turn.end (place_text d.side (switch_name s k)) n) is.port
+        ∙ ap (λ n. departure_line false d.turn.entry.item.tag d.turn.end (place_text d.side (switch_name s k)) n)
+        is.port
         ∙ ap (λ b. departure_line b d.turn.entry.item.tag d.turn.end (place_text d.side (switch_name s k)) d.port)
         (sym is.left)
 

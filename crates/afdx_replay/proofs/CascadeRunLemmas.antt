@@ -128,7 +128,8 @@ module _ (s : List NamedRows) (past : List Line) (until : ℕ) (events : List Sw
       let count = length-append (reverse taken.taken) [] in
       let there = length-reverse taken.taken in
       let here = length-reverse past in
-      let frames : length (frames_of taken.taken) ≡ length taken.taken = length-map taken.taken (λ (l : Line). l.arrival) in
+      let frames : length (frames_of taken.taken) ≡ length taken.taken =
+      length-map taken.taken (λ (l : Line). l.arrival) in
       let is = ap length taken.listed_is in
       omega (arith, lines, count, there, here, frames, is)
 
@@ -147,7 +148,8 @@ module _ (s : List NamedRows) (past : List Line) (until : ℕ) (events : List Sw
   low-counts w counts stands few is steady =
       let few = few-events w stands few in
       let all : total counts ≡ length events = ap total is ∙ total-is s events in
-      let accepted : counts.accepted ≡ accepted_in events = ap (λ (c : Summary). c.accepted) is ∙ accepted-is s events in
+      let accepted : counts.accepted ≡ accepted_in events = ap (λ (c : Summary). c.accepted) is
+      ∙ accepted-is s events in
       let f = few.0 in
       let g = few.1 in
       let losses = steady.losses in
@@ -202,7 +204,8 @@ module _ {D : Type 0} (contents : D → Option (List ℕ)) (s : List NamedRows) 
   }
 
   -- a beginning of its lines is written
-  pub begun-event : AppendsFront middle new (event_lines s before h) → AppendsFront old new (cascade_text s (h ∷ before))
+  pub begun-event : AppendsFront middle new (event_lines s before h)
+      → AppendsFront old new (cascade_text s (h ∷ before))
   begun-event front = subst (λ x. AppendsFront old new x) (sym (text-more s h before))
       (front-more old middle new (cascade_text s before) (event_lines s before h) has.written front)
 

@@ -256,7 +256,8 @@ module _ {D : Type 0} (contents : D → Option (List ℕ)) (w0 w after : Cascade
         → (n : GivesNext (plan_of s) after until k.events happened)
         → HasTold contents s after new start first out (n.event ∷ k.events)
     more-told s start first past k n =
-        let own = own-event contents s w t start first middle past until k.events k.told k.first happened n.event n.tells in
+        let own = own-event contents s w t start first middle past until k.events k.told k.first happened n.event
+        n.tells in
         step-told contents s w t start first middle past until k.events k.told k.first after new out n.event n.stands
         step.fits (λ systems. step.tells k.events n.event systems own) (step.hears k.events n.event start own)
 
@@ -283,5 +284,6 @@ module _ {D : Type 0} (contents : D → Option (List ℕ)) (w0 w after : Cascade
         let told = more-told room.0 room.1 room.2 room.3 k n in
         let was = step-total contents room.0 w t room.1 room.2 middle room.3 until k.events k.told k.first in
         let is = step-total contents room.0 after new room.1 room.2 out room.3 until (n.event ∷ k.events) told next in
-        let few = step-few contents room.0 after new room.1 room.2 out room.3 until (n.event ∷ k.events) told next room.7 in
+        let few = step-few contents room.0 after new room.1 room.2 out room.3 until (n.event ∷ k.events) told next
+        room.7 in
         omega (arith, was, is, few)

@@ -1,5 +1,5 @@
 -- What is told of the frames that came too early.
-use Rattle.std.proofs.Common.{◌≡◌, ℕ, true, false, List, [], ◌∷◌, ◌++◌, Option, Some, None, refl, sym, ap, ◌∙◌}
+use Rattle.std.proofs.Common.{◌≡◌, ℕ, true, List, [], ◌∷◌, ◌++◌, Option, Some, None, refl, sym, ap, ◌∙◌}
 use Rattle.std.proofs.Common.{Bool, subst, ◌⊎◌, inl, inr}
 use Rattle.afdx_config.specs.Rows.{Rows}
 use Rattle.afdx_police.specs.Arrival.{Arrival}
@@ -45,13 +45,6 @@ module _ {D : Type 0} (contents : D → Option (List ℕ)) (t : Rows) where
       let dropped : reason_of t past x ≡ Some OverRate = sym is ∙ is_over_rate-true reason over in
       more start before after past x true (early_line x.tag wait) h (ap is_over_rate (sym is) ∙ over)
       (wait, early-dropped t past x OverRate wait dropped (early (over-rate-sound t past x dropped)), refl) told
-
-  -- or wasn't
-  pub early-same : (start drops : Watched D) (past : List Arrival) (x : Arrival) (reason : Option Reason)
-      → TellsEarly contents t start drops past → reason ≡ reason_of t past x → is_over_rate reason ≡ false
-      → TellsEarly contents t start drops (x ∷ past)
-  early-same start drops past x reason h is kept =
-      more start drops drops past x false [] h (ap is_over_rate (sym is) ∙ kept) refl (Tells-none contents drops)
 
 -- a device is told one arrival more, if there is one
 pub heard-more : {D : Type 0} (contents : D → Option (List ℕ)) (t : Rows) (start before : Option (Watched D))

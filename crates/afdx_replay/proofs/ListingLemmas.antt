@@ -22,7 +22,8 @@ listing-unread d options ports (Some bytes) old =
     (WritesLines d old old) (WritesLines d old old) (WritesSomeLines d old old) refl (lines-start d old)
 
 -- by ports that agree it is the same
-pub listing-agrees : (d : Described) (options : Options) (p q : Ports) → Agree p q → (left rest : Option (List ℕ)) (old new : Bytes)
+pub listing-agrees : (d : Described) (options : Options) (p q : Ports) → Agree p q
+    → (left rest : Option (List ℕ)) (old new : Bytes)
     (r : Result Tally RunFault)
     → IfSome left (λ bytes. ListingAnswers d options p bytes rest old new r)
     → IfSome left (λ bytes. ListingAnswers d options q bytes rest old new r)

@@ -77,7 +77,8 @@ lines-kept t before (Came c) kept =
     ap (λ ports. text_of t (told_by t before)
     ++ (verdict_line c.arrival.tag (side_text c.arrival.side) c.reason
     ++ loss_lines c.arrival.tag (side_text c.arrival.side) ports)) (kept.came c (inl refl))
-    ∙ ap (λ zs. text_of t (told_by t before) ++ zs) (append-none (verdict_line c.arrival.tag (side_text c.arrival.side) c.reason))
+    ∙ ap (λ zs. text_of t (told_by t before) ++ zs)
+    (append-none (verdict_line c.arrival.tag (side_text c.arrival.side) c.reason))
 lines-kept t before (Left d) kept =
     ap (λ b. text_of t (told_by t before)
     ++ (departure_line b d.turn.entry.item.tag d.turn.end (side_text d.side) d.port

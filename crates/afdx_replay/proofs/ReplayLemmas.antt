@@ -324,15 +324,6 @@ room-start held n h k = record {
   messages = omega arith;
 }
 
-pub room-more : (counts : Summary) (held n m : ℕ) → m ≡ n + 1 → HasRoom counts held n → HasRoom counts held m
-room-more counts held n m e h =
-    record {
-      verdicts = omega (arith, e, h.verdicts);
-      losses = omega (arith, e, h.losses);
-      turns = omega (arith, e, h.turns);
-      messages = h.messages;
-    }
-
 pub room-less : (counts : Summary) (held more n : ℕ) → held ≤ more → HasRoom counts more n → HasRoom counts held n
 room-less counts held more n le h =
     record {

@@ -237,6 +237,7 @@ pub polices-known : {B : Type 0} (rule : Rule) (takes : B → Taking) (police : 
     (known : Option B) (r : Result InputCount RunFault)
     → IfSome known (λ bytes. Took (police_told.TellsItems rule police old new)
     (police_told.TellsItems rule police old new) (police_told.BeginsItems rule old new) (takes bytes) r)
-    → IfSome known (λ bytes. Polices rule (takes bytes) old new (answer_of (Counts rule (takes bytes) police old new) r))
+    → IfSome known (λ bytes. Polices rule (takes bytes) old new (answer_of (Counts rule (takes bytes) police old new)
+    r))
 polices-known rule takes police old new None r h = tt
 polices-known rule takes police old new (Some bytes) r h = polices-told rule (takes bytes) police old new r h

@@ -106,7 +106,8 @@ module _ (ss : List NamedRows) (are : AreSwitches ss) (k : ℕ) (within : k < le
   pub found : place_named (sites_of ss) (switch_name ss k) ≡ Some k
   unfolding place_named switch_named
   found =
-      same-position (λ (z : NamedCables). bytes_eq (switch_name ss k) z.name) (λ (z : NamedRows). bytes_eq (switch_name ss k) z.name)
+      same-position (λ (z : NamedCables). bytes_eq (switch_name ss k) z.name)
+      (λ (z : NamedRows). bytes_eq (switch_name ss k) z.name)
       (sites_of ss) ss (sites-count ss) (λ i x y at there.
       let site = same_Some x (site_of ss i) (sym at ∙ site-at ss i (slice_get_within ss i y there)) in
       ap (λ (z : NamedCables). bytes_eq (switch_name ss k) z.name) site

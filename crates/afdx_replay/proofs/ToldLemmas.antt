@@ -16,15 +16,14 @@ use Rattle.afdx_police.specs.Rule.{Rule}
 use Rattle.afdx_police.specs.Verdicts.{verdict_in}
 use Rattle.afdx_commands.specs.declared.summary.Summary.{Summary}
 use Rattle.afdx_engine.specs.Listed.{frames}
-use Rattle.afdx_engine.specs.Stops.{StopsAt}
 use Rattle.afdx_replay.specs.policing.Text.{text_of, count_judged, side_text, verdict_line}
-use Rattle.afdx_replay.specs.policing.Policed.{WritesText, WritesBeginning, WritesAll}
+use Rattle.afdx_replay.specs.policing.Policed.{WritesBeginning, WritesAll}
 use Rattle.afdx_replay.specs.policing.Accounts.{HaveSeen}
 use Rattle.afdx_replay.specs.policing.Told.{HasTold}
-use Rattle.afdx_engine.proofs.RunLemmas.{IsDone, stops-at-start}
+use Rattle.afdx_engine.proofs.RunLemmas.{IsDone}
 use Rattle.afdx_replay.proofs.TextLemmas.{text_of-none, text_of-more, judged-none}
 use Rattle.afdx_replay.proofs.TextLemmas.{judged-more, judged-same}
-use Rattle.afdx_text.proofs.OutputLemmas.{whole_front as front-whole, front-more}
+use Rattle.afdx_text.proofs.OutputLemmas.{front-more}
 
 pub told-start : (rule : Rule) (accounts : BySide LinkAccount) (output : Option (List ℕ))
     → HaveSeen accounts rule [] → HasTold rule accounts 0 0 output output []
@@ -107,16 +106,6 @@ begun-next rule accounts accepted dropped old new newer x past reason text h e t
     (front-more old new newer (text_of rule past) (verdict_line x.tag (side_text x.side) reason) h.written
     (subst (λ (t : List ℕ). AppendsFront new newer t) t w))
 
-pub told-text : (rule : Rule) (accounts : BySide LinkAccount) (accepted dropped : ℕ)
-    (old new : Option (List ℕ)) (past : List Arrival)
-    → HasTold rule accounts accepted dropped old new past → WritesText rule old new past
-told-text rule accounts accepted dropped old new past h = h.written
-
-pub told-front : (rule : Rule) (accounts : BySide LinkAccount) (accepted dropped : ℕ)
-    (old new : Option (List ℕ)) (past : List Arrival)
-    → HasTold rule accounts accepted dropped old new past → WritesBeginning rule old new past
-told-front rule accounts accepted dropped old new past h = front-whole old new (text_of rule past) h.written
-
 -- all arrivals are told
 done_all : (rule : Rule) (accounts : BySide LinkAccount) (accepted dropped n : ℕ) (lines : List (List ℕ))
     (old new : Option (List ℕ)) (summary : Summary)
@@ -153,12 +142,3 @@ pub told-done : (rule : Rule) (accounts : BySide LinkAccount) (accepted dropped 
 told-done rule accounts accepted dropped n None old new summary h e = tt
 told-done rule accounts accepted dropped n (Some bytes) old new summary h e =
     done_all rule accounts accepted dropped n (lines_of bytes) old new summary h e
-
--- memory ran out before anything was read
-pub stops-start : (rule : Rule) (input output : Option (List ℕ)) →
-    IfSome input (λ bytes. StopsAt (WritesText rule output output)
-    (WritesBeginning rule output output) bytes input run.Memory)
-stops-start rule input output =
-    stops-at-start frames (WritesText rule output output) (WritesBeginning rule output output) input
-    (subst (λ (t : List ℕ). AppendsFront output output t) (sym (text_of-none rule))
-    (front-whole output output [] (Appends-nil output)))

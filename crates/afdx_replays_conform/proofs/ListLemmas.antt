@@ -56,10 +56,6 @@ filter-map {X} {Y} p f (x ∷ xs) = by (p (f x)) (filter-map p f xs)
     by true rest = ap (λ (l : List Y). f x ∷ l) rest
     by false rest = rest
 
-pub map-id : {X : Type 0} (f : X → X) → ((x : X) → f x ≡ x) → (xs : List X) → map f xs ≡ xs
-map-id f is [] = refl
-map-id {X} f is (x ∷ xs) = rw (is x) (ap (λ (l : List X). x ∷ l) (map-id f is xs))
-
 pub and-false : (b : Bool) → b && false ≡ false
 and-false true = refl
 and-false false = refl
@@ -67,9 +63,6 @@ and-false false = refl
 pub bool-cases : (b : Bool) → (b ≡ true) ⊎ (b ≡ false)
 bool-cases true = inl refl
 bool-cases false = inr refl
-
-pub not-both : (b : Bool) → b ≡ true → b ≡ false → ⊥
-not-both b p q = absurd (cc)
 
 pub filter-passes : {X : Type 0} (p : X → Bool) (xs : List X) → AllByRecursion (λ x. p x ≡ true) (filter p xs)
 filter-passes p [] = tt

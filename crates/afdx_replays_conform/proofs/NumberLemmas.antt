@@ -14,11 +14,6 @@ use Rattle.afdx_replays_conform.specs.Recorded.{AreSameArrivals, IsSameArrival}
 pub same-itself : (x : Arrival) → IsSameArrival x x
 same-itself x = record { time = refl; side = refl; port = refl; bytes = refl }
 
-pub all-same : (xs : List Arrival) → AreSameArrivals xs xs
-unfolding AreSameArrivals
-all-same [] = tt
-all-same (x ∷ xs) = (same-itself x, all-same xs)
-
 -- ---- what is left by a test that reads no number
 
 -- these are some arrivals under the numbers of those of them that pass the test

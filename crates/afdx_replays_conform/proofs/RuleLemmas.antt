@@ -96,7 +96,8 @@ module _ (rule : Rule) where
   pub arrivals-by : (past : List Arrival) (x : Arrival) (b : Bool) → is_none (reason_after rule past x) ≡ b
       → accepted_arrivals rule (x ∷ past) ≡ (if b then x ∷ accepted_arrivals rule past else accepted_arrivals rule past)
   unfolding accepted_arrivals
-  arrivals-by past x b e = ap (λ (d : Bool). if d then x ∷ accepted_arrivals rule past else accepted_arrivals rule past) e
+  arrivals-by past x b e = ap (λ (d : Bool). if d then x ∷ accepted_arrivals rule past else accepted_arrivals rule
+      past) e
 
   pub own-keep : (time : ℕ) (xs : List Arrival) → AllByRecursion (λ w. w.time ≤ time) xs
       → AllByRecursion (λ c. c.time ≤ time) (accepted_own rule xs)

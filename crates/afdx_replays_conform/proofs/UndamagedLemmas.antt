@@ -45,14 +45,16 @@ not-true true is = refl
 not-true false is = absurd (true≢false (sym is))
 
 undamaged-by : (a b c d : Bool) → a ≡ false → b ≡ false → c ≡ false
-    → is_damage (first_of ((a, TooShort) ∷ (b, TooLong) ∷ (c, BadFcs) ∷ (d, BadAddress) ∷ (true, UnknownLink) ∷ [])) ≡ false
+    → is_damage (first_of ((a, TooShort) ∷ (b, TooLong) ∷ (c, BadFcs) ∷ (d, BadAddress) ∷ (true, UnknownLink) ∷ []))
+    ≡ false
 undamaged-by true b c d p q r = absurd (true≢false p)
 undamaged-by false true c d p q r = absurd (true≢false q)
 undamaged-by false false true d p q r = absurd (true≢false r)
 undamaged-by false false false true p q r = refl
 undamaged-by false false false false p q r = refl
 
-sound-undamaged : (rule : Rule) (port : ℕ) (bytes : List ℕ) → fault_of (Some rule) port bytes ≡ None → is_damaged bytes ≡ false
+sound-undamaged : (rule : Rule) (port : ℕ) (bytes : List ℕ) → fault_of (Some rule) port bytes ≡ None
+    → is_damaged bytes ≡ false
 unfolding fault_of is_damaged
 sound-undamaged rule port bytes none =
     let sound : IsSound rule port bytes = (faultless-is-sound rule port bytes).0 none in
@@ -97,14 +99,16 @@ module _ (t : Rows) (lawful : IsLawfulSwitch t) (arrivals : List Arrival) (left 
         is_leaving at.link.vl d.side d.port,
         ap (λ b. (b && (d.port == d.port)) && names at.link.vl d.frame.bytes) (side-own d.side)
             ∙ ap (λ b. b && names at.link.vl d.frame.bytes) (port-own d.port) ∙ at.named,
-        every-unmap (λ f. is_damaged f.bytes ≡ false) (λ (e : Leaving). e.frame) (filter (is_leaving at.link.vl d.side d.port) left)
+        every-unmap (λ f. is_damaged f.bytes ≡ false) (λ (e : Leaving). e.frame)
+            (filter (is_leaving at.link.vl d.side d.port) left)
             (subst (AllByRecursion (λ f. is_damaged f.bytes ≡ false))
             (sym (promised.frames d.side d.port at.place at.link here.low here.high at.stands
             ∙ ap (λ b. if b then map passing (accepted_on t at.link d.side arrivals) else []) at.goes))
             (every-map (λ f. is_damaged f.bytes ≡ false) passing (accepted_on t at.link d.side arrivals)
             (every-on (λ (x : Arrival). fault_of (Some (rule_of t at.link)) x.port x.bytes ≡ None)
             (λ x. is_damaged x.bytes ≡ false) (λ x none. sound-undamaged (rule_of t at.link) x.port x.bytes none)
-            (accepted_on t at.link d.side arrivals) (accepted-shape (rule_of t at.link) (own at.link.vl d.side arrivals))))),
+            (accepted_on t at.link d.side arrivals)
+            (accepted-shape (rule_of t at.link) (own at.link.vl d.side arrivals))))),
       )
 
   pub all-undamaged : AllByRecursion (λ d. is_damaged d.frame.bytes ≡ false) left
@@ -119,7 +123,8 @@ or-true true = refl
 or-true false = refl
 
 pub counted-none : (t : Rows) (c : Choices) (y : Arrival) (place : ℕ) (l : LinkRow) → place_named t y.bytes ≡ Some place
-    → link_to t place y.port ≡ Some l → is_damaged y.bytes ≡ false → counts t c (record { role = Left; arrival = y }) ≡ true
+    → link_to t place y.port ≡ Some l → is_damaged y.bytes ≡ false → counts t c (record { role = Left; arrival = y })
+    ≡ true
     → is_stranger t c.taps y ≡ false
 counted-none t c y place l named to whole counted = by (is_heard_at t c.taps y.side (Some place)) refl
   where
@@ -127,7 +132,8 @@ counted-none t c y place l named to whole counted = by (is_heard_at t c.taps y.s
     by true e = stranger-no t c.taps y place l named to e
     by false e =
         let x : Frame = record { role = Left; arrival = y } in
-        let passed : is_passed t c x ≡ true = ap (λ v. is_left_out c x || v) (unheard-is t c.taps x false true false refl
+        let passed : is_passed t c x ≡ true = ap (λ v. is_left_out c x || v)
+        (unheard-is t c.taps x false true false refl
         (ap (λ o. is_heard_at t c.taps y.side o) named ∙ e) (goes-named t y (Some place) named ∙ ap is_some to) whole)
         ∙ or-true (is_left_out c x) in
         absurd (true≢false (sym counted ∙ out-of-choice t c x passed))

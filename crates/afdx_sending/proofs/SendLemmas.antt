@@ -6,8 +6,7 @@ use Rattle.std.specs.Prelude.{IfSome, IfNone, Result}
 use Rattle.std.specs.List.{slice_get}
 use Rattle.std.specs.Io.KnownBytes.{Appends}
 use Rattle.std.proofs.KnownBytes.{Appends-trans, Appends-nil}
-use Rattle.afdx_config.specs.Admission.{IsAdmitted, links_from}
-use Rattle.afdx_config.specs.Reading.{Spells, system_named}
+use Rattle.afdx_config.specs.Admission.{links_from}
 use Rattle.afdx_config.specs.Lawful.{AreDistinct}
 use Rattle.afdx_config.specs.LawfulStream.{Sending}
 use Rattle.afdx_config.specs.Rows.{SystemRow, LinkRow, Rows}
@@ -475,10 +474,6 @@ told-done s told counts summary n (Some bytes) old new h all e =
 pub room-start : (held n : ℕ) → held ≡ 0 → n ≡ 0 → HasRoom no_counts held n
 room-start held n h k = record { submissions = omega (arith, k); emissions = omega (arith, h) }
 
-pub room-more : (counts : Summary) (held n m : ℕ) → m ≡ n + 1 → HasRoom counts held n → HasRoom counts held m
-room-more counts held n m e h =
-    record { submissions = (let k = h.submissions in omega (arith, e, k)); emissions = h.emissions }
-
 -- ---- answers of calls
 
 pub if-none : {T : Type 0} (o : Option T) (P : Type 0) → ((x : T) → o ≡ Some x → ⊥) → IfNone o P → P
@@ -525,7 +520,8 @@ own-ends (Several switches) name from lawful e = by (system_of switches name) e
     at : (k i : ℕ) (o : Option NamedRows) → slice_get switches k ≡ o → option_map (system_among i) o ≡ Some from
         → HasEnds from
     at k i None is e = absurd (none-some e)
-    at k i (Some s) is e = subst HasEnds (some-same e) (each-at (λ s. IsLawfulSwitch s.rows) switches lawful.each k s is).own
+    at k i (Some s) is e = subst HasEnds (some-same e) (each-at (λ s. IsLawfulSwitch s.rows) switches lawful.each k s
+        is).own
 
     by : (o : Option (ℕ × ℕ)) → option_and_then (λ found. option_map (system_among found.1)
         (slice_get switches found.0)) o ≡ Some from → HasEnds from

@@ -23,7 +23,8 @@ returns-then-is_judged-clause-counted c c' until frames n l at to taps ended has
     goes-port t place l s (system_row c.system.result.now) c.system.ensures.lawful at c.system.ensures.row to in
     let judged : is_judged t c'.taps side l port ≡ true =
     ap (λ (p : Taps). is_judged t p side l port) (sym taps)
-    ∙ ap (λ q. is_judged t (taps_in c.args.taps.now) side l q) (sym there) ∙ sym (c.is_judged.ensures l at) ∙ c.if-is_judged.true in
+    ∙ ap (λ q. is_judged t (taps_in c.args.taps.now) side l q) (sym there) ∙ sym (c.is_judged.ensures l at)
+    ∙ c.if-is_judged.true in
     let key : Key = key_with side port (Some place) in
     let e = ended key l goes in
     subst (λ m. HasCounted m c.count.new.totals)
@@ -37,6 +38,7 @@ returns-else-is_judged-clause-counted c c' until frames n l at to taps ended has
     let t = c.args.tables.now in
     let port : ℕ = port_of t c.args.system.0 in
     let judged : is_judged t c'.taps c.args.side l port ≡ false =
-    ap (λ (p : Taps). is_judged t p c.args.side l port) (sym taps) ∙ sym (c.is_judged.ensures l at) ∙ c.if-is_judged.false in
+    ap (λ (p : Taps). is_judged t p c.args.side l port) (sym taps) ∙ sym (c.is_judged.ensures l at)
+    ∙ c.if-is_judged.false in
     subst (λ m. HasCounted (both_counted n m) c.args.totals.now)
     (sym (unjudged-counted t c' until frames c.args.side port l judged)) (has-none n c.args.totals.now has)

@@ -14,7 +14,8 @@ loop-link-init c = record {
   unseen = refl;
   exercised = refl;
   counted = λ c' until frames n taps ended has.
-      subst (λ m. HasCounted (both_counted n m) c.args.totals.now) (sym (among-none c.args.tables.now c' until frames c.args.side))
+      subst (λ m. HasCounted (both_counted n m) c.args.totals.now)
+      (sym (among-none c.args.tables.now c' until frames c.args.side))
       (has-none n c.args.totals.now has);
 }
 
@@ -28,7 +29,8 @@ loop-link-preserved c = record {
       let t = c.args.tables.now in
       let place = c.loop-link.link in
       let l : LinkRow = get_or t.links place blank in
-      let at = slice_get-get_or t.links place blank (let test = c.loop-link-test.true in let len = c.link_count-link-end.ensures in
+      let at = slice_get-get_or t.links place blank (let test = c.loop-link-test.true in let len =
+      c.link_count-link-end.ensures in
       omega (arith, test, len)) in
       let before = counted_among t c' until frames c.args.side (take place t.links) in
       subst (λ m. HasCounted m c.count_to.new.totals)

@@ -15,7 +15,8 @@ loop-rank-init c = record {
   unseen = refl;
   exercised = refl;
   counted = λ c' until frames n row at taps ended has.
-      subst (λ m. HasCounted (both_counted n m) c.args.totals.now) (sym (to-none c.args.tables.now c' until frames c.args.side row))
+      subst (λ m. HasCounted (both_counted n m) c.args.totals.now)
+      (sym (to-none c.args.tables.now c' until frames c.args.side row))
       (has-none n c.args.totals.now has);
 }
 
@@ -30,11 +31,13 @@ loop-rank-preserved c = record {
       let side = c.args.side in
       let s : ℕ = c.receiver-system.result.0 in
       let rank : ℕ = c.loop-rank.rank in
-      let mine : link_row c.link.result.now ≡ row = same_Some (link_row c.link.result.now) row (sym c.link.ensures.row ∙ at) in
+      let mine : link_row c.link.result.now ≡ row = same_Some (link_row c.link.result.now) row (sym c.link.ensures.row
+      ∙ at) in
       let count = length-map c.link.result.now.to.items (λ i. i.0) in
       let test = c.loop-rank-test.true in
       let len = c.len-rank-end.ensures in
-      let lt : rank < length row.to = subst (λ (r : LinkRow). rank < length r.to) mine (omega (arith, test, len, count)) in
+      let lt : rank < length row.to = subst (λ (r : LinkRow). rank < length r.to) mine
+      (omega (arith, test, len, count)) in
       let is = c.receiver-system.ensures.is row at in
       let before = counted_to t c' until frames side row (take rank row.to) in
       subst (λ m. HasCounted m c.count_at.new.totals)
@@ -47,7 +50,8 @@ loop-rank-preserved c = record {
 pub returns-clause-counted : goal.returns-clause-counted
 returns-clause-counted c c' until frames n row at taps ended has =
     let t = c.args.tables.now in
-    let mine : link_row c.link.result.now ≡ row = same_Some (link_row c.link.result.now) row (sym c.link.ensures.row ∙ at) in
+    let mine : link_row c.link.result.now ≡ row = same_Some (link_row c.link.result.now) row (sym c.link.ensures.row
+    ∙ at) in
     let count = length-map c.link.result.now.to.items (λ i. i.0) in
     let test = c.loop-rank-test.false in
     let len = c.len-rank-end.ensures in

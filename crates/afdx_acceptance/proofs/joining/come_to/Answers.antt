@@ -30,7 +30,8 @@ returns c c' until time given lines l at to by le start all few kept =
     let time-is : (arrival_of c.new-arrived.result).time ≡ h.time = ap (λ (x : Arrival). x.time) arrived in
     let made = c.in_ok-key.ensures.stands c' until time given lines l at to by kept in
     on-ok (λ k. subst (λ x. AreKept t c' until None time (with_came key x given) lines c.add_arrival.new.self) arrived
-    (subst (λ q. AreKept t c' until None time (with_came q (arrival_of c.new-arrived.result) given) lines c.add_arrival.new.self)
+    (subst (λ q. AreKept t c' until None time (with_came q (arrival_of c.new-arrived.result) given) lines
+    c.add_arrival.new.self)
     (sym same) k)) c.add_arrival.result
     (c.add_arrival.ensures t c' until time given lines l lawful (subst (λ q. IsStreamOf t q l) same is)
     (c.new-arrived.ensures.judged (terms_at t c' until l c.in_ok-key.key.port) (sym (c.rule_at-rule.ensures l at)))

@@ -22,7 +22,8 @@ returns c c' until time given lines l at to by le start all few kept =
     (get_or t.systems c.args.system.0 no-system) lawful at here to in
     let same : key ≡ c.in_ok-key.key = sym c.in_ok-key.ensures.key in
     let made = c.in_ok-key.ensures.stands c' until time given lines l at to by kept in
-    on-ok (λ k. subst (λ q. AreKept t c' until None time (with_left q (gone_of c.args.frame) given) lines c.add_frame.new.self)
+    on-ok (λ k. subst (λ q. AreKept t c' until None time (with_left q (gone_of c.args.frame) given) lines
+    c.add_frame.new.self)
     (sym same) k) c.add_frame.result
     (c.add_frame.ensures t c' until time given lines l lawful (subst (λ q. IsStreamOf t q l) same is)
     (record {

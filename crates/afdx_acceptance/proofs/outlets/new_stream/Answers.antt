@@ -14,5 +14,6 @@ returns-clause-stands c c' until time port l at there by =
     let here = slice_get-get_or t.systems c.args.system.0 no-system c.requires.system in
     c.new.ensures.stands (terms_at t c' until l port) time (sym (c.rule_at-rule.ensures l at))
     (ap (λ (x : LinkRow). 1000 * x.latency_us) (sym is))
-    (byte-same t c.args.system.0 port (get_or t.systems c.args.system.0 no-system) c.byte_ns.result c.link.ensures.lawful here there
+    (byte-same t c.args.system.0 port (get_or t.systems c.args.system.0 no-system) c.byte_ns.result
+    c.link.ensures.lawful here there
     (c.byte_ns.ensures.time (get_or t.systems c.args.system.0 no-system) here)) (sym by)

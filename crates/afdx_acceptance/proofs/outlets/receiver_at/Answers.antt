@@ -14,11 +14,13 @@ loop-rank-init c = λ row at. refl
 pub loop-rank-preserved : goal.loop-rank-preserved
 loop-rank-preserved c = λ row at.
     let rank : ℕ = c.loop-rank.rank in
-    let mine : link_row c.link.result.now ≡ row = same_Some (link_row c.link.result.now) row (sym c.link.ensures.row ∙ at) in
+    let mine : link_row c.link.result.now ≡ row = same_Some (link_row c.link.result.now) row (sym c.link.ensures.row
+    ∙ at) in
     let count = length-map c.link.result.now.to.items (λ i. i.0) in
     let test = c.loop-rank-test.true in
     let len = c.len-rank-end.ensures in
-    let lt : rank < length row.to = subst (λ (r : LinkRow). rank < length r.to) mine (omega (arith, test, len, count)) in
+    let lt : rank < length row.to = subst (λ (r : LinkRow). rank < length r.to) mine (omega (arith, test, len, count))
+    in
     let s : ℕ = c.receiver-system.result.0 in
     none-next c.args.tables.now c.args.port row.to rank s (c.receiver-system.ensures.is row at) lt
     (ap (λ p. nat_eq p c.args.port) (port-is c.args.tables.now s (system_row c.system.result.now) c.system.ensures.row)
@@ -27,7 +29,8 @@ loop-rank-preserved c = λ row at.
 pub returns-then-system-port-clause-to : goal.returns-then-system-port-clause-to
 returns-then-system-port-clause-to c l at =
     let rank : ℕ = c.loop-rank.rank in
-    let mine : link_row c.link.result.now ≡ l = same_Some (link_row c.link.result.now) l (sym c.link.ensures.row ∙ at) in
+    let mine : link_row c.link.result.now ≡ l = same_Some (link_row c.link.result.now) l (sym c.link.ensures.row ∙ at)
+    in
     let count = length-map c.link.result.now.to.items (λ i. i.0) in
     let test = c.loop-rank-test.true in
     let len = c.len-rank-end.ensures in

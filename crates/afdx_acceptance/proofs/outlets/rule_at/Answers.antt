@@ -8,5 +8,6 @@ use Rattle.afdx_acceptance.proofs.outlets.rule_at.Goals as goal
 pub returns : goal.returns
 returns c l at =
     let row = link_row c.link-link.result.now in
-    c.in-Some.ensures.given ∙ rule-same c.args.tables.now row (system_row c.system-sender.result.now) c.system-sender.ensures.row
+    c.in-Some.ensures.given ∙ rule-same c.args.tables.now row (system_row c.system-sender.result.now)
+    c.system-sender.ensures.row
     ∙ ap (λ x. rule_in c.args.tables.now x) (same_Some row l (sym c.link-link.ensures.row ∙ at))

@@ -21,7 +21,8 @@ returns-in-Stream c = record {
   strangers = λ k all lines stands. absurd (subst (λ (s : Slot). StrangersStand k all lines s) c.in-Stream.is stands);
   due = λ z k xs ys lines time is le all stands.
       let here = subst (λ (s : Slot). StreamStands z k xs ys lines time s) c.in-Stream.is stands in
-      same-due (slot_due c.args.at.now) c.in-Stream.stream.value c.deref_mut.result.now c.end.new.self (ap slot_due c.in-Stream.is)
+      same-due (slot_due c.args.at.now) c.in-Stream.stream.value c.deref_mut.result.now c.end.new.self
+      (ap slot_due c.in-Stream.is)
       c.deref_mut.ensures.value
       (c.end.ensures.due_same z xs ys here.0 time is le all
       (subst (λ (s : Stream). StandsFor z xs ys here.0 time s) (sym c.deref_mut.ensures.value) here.1));

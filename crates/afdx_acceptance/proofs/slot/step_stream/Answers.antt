@@ -12,7 +12,8 @@ returns-clause-stands c z xs ys j time moment none due lt s =
       r.0,
       r.1,
       told-found z k moment c.in_ok-found.found.items j r.0 (due_of c.decide.new.self)
-          c.unsure_behind.result c.in_ok-lines.lines.items all.items r.2 (c.unsure_behind.ensures.stands z xs ys r.0 time r.1)
+          c.unsure_behind.result c.in_ok-lines.lines.items all.items r.2 (c.unsure_behind.ensures.stands z xs ys r.0
+          time r.1)
           (c.in_ok-lines.ensures ∙ ap (λ l. map (found_line k.side k.port) l) c.as_slice.ensures.value) e,
       r.2.later,
     ))

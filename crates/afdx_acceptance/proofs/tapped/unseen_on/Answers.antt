@@ -26,7 +26,8 @@ loop-link-preserved c =
           let here = c.unseen_to-count.ensures.count l at in
           let next = among-next c.args.tables.now (taps_in c.args.taps.now) c.args.side links link l at in
           omega (arith, before, here, next);
-      few = let before = c.loop-link.invariant.few in let here = c.unseen_to-count.ensures.few in omega (arith, before, here);
+      few = let before = c.loop-link.invariant.few in let here = c.unseen_to-count.ensures.few in
+          omega (arith, before, here);
     }
 
 pub returns-clause-count : goal.returns-clause-count

@@ -11,5 +11,6 @@ returns-clause-exactly c =
 
 pub returns-clause-answer : goal.returns-clause-answer
 returns-clause-answer c =
-    promised-answered c.right_conforms.ensures.found c.right_conforms.ensures.answer c.conforms_is_the_headline.ensures.found
+    promised-answered c.right_conforms.ensures.found c.right_conforms.ensures.answer
+    c.conforms_is_the_headline.ensures.found
     c.conforms_is_the_headline.ensures.answer

@@ -7,9 +7,11 @@ returns-clause-found c = replays-conform c.right_conforms.ensures.found c.promis
 
 pub returns-clause-exactly : goal.returns-clause-exactly
 returns-clause-exactly c =
-    replays-conform-exactly c.right_conforms.ensures.found c.conforms_is_the_headline.ensures.found c.promises_are_kept.ensures.all
+    replays-conform-exactly c.right_conforms.ensures.found c.conforms_is_the_headline.ensures.found
+    c.promises_are_kept.ensures.all
 
 pub returns-clause-answer : goal.returns-clause-answer
 returns-clause-answer c =
-    replays-answered c.right_conforms.ensures.found c.right_conforms.ensures.answer c.conforms_is_the_headline.ensures.found
+    replays-answered c.right_conforms.ensures.found c.right_conforms.ensures.answer
+    c.conforms_is_the_headline.ensures.found
     c.conforms_is_the_headline.ensures.answer c.promises_are_kept.ensures.all

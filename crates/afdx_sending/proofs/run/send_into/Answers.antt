@@ -49,5 +49,6 @@ returns-clause-answer g c row is =
     (answers-ok submissions (thing_of submissions submission_of) (TellsAll s sending old new)
     (TellsItems s sending old new) (BeginsItems s old new) (WritesEvents s sending.counts old new)
     (g.R.Read.remaining c.args.input.now.inner) (g.R.Read.remaining c.run_list.new.input.inner)
-    c.in_ok-lines.lines (λ past h. h) (c.in_ok-lines.ensures.answer s (c.in_ok-sending.ensures.told row is old) (λ item gives. tt)))
+    c.in_ok-lines.lines (λ past h. h) (c.in_ok-lines.ensures.answer s (c.in_ok-sending.ensures.told row is old)
+    (λ item gives. tt)))
     (λ past h. h) refl

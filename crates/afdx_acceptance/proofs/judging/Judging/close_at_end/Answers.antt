@@ -9,8 +9,12 @@ use Rattle.afdx_acceptance.proofs.BegunLemmas.{begun-all}
 use Rattle.afdx_acceptance.proofs.judging.Judging.close_at_end.Goals as goal
 
 pub returns-then-self-clause-stands : goal.returns-then-self-clause-stands
-returns-then-self-clause-stands g c k start frames h =
-    (latest_of frames, (h.0, h.1, stands-last k frames (latest_of frames) c.args.self.now h.0 h.2), sym h.2.over ∙ c.if-self.true)
+returns-then-self-clause-stands g c k start frames h = (
+  latest_of frames,
+  (h.0, h.1, stands-last k frames (latest_of frames) c.args.self.now h.0 h.2),
+  sym h.2.over
+      ∙ c.if-self.true,
+)
 
 pub returns-in-Some-clause-stands : goal.returns-in-Some-clause-stands
 returns-in-Some-clause-stands g c k start frames h =
@@ -20,7 +24,8 @@ returns-in-Some-clause-stands g c k start frames h =
     on-ok (λ r. (c.in-Some.until, r.0, ap is_some r.1)) c.close.result
     (c.close.ensures.stands k true (latest_of frames) c.in-Some.until start frames in-time (omega arith) in-time
     (said-end k.1.until frames c.in-Some.until said)
-    (λ end is. let same = same_Some c.in-Some.until end (sym said ∙ is) in subst (λ n. c.in-Some.until ≤ n) same (omega arith))
+    (λ end is. let same = same_Some c.in-Some.until end (sym said ∙ is) in subst (λ n. c.in-Some.until ≤ n) same
+    (omega arith))
     (sym (ap (λ o. until_or o frames) said)) none h)
 
 pub returns-in-None-clause-stands : goal.returns-in-None-clause-stands
@@ -29,7 +34,8 @@ returns-in-None-clause-stands g c k start frames h =
     let none = not-ended k frames (latest_of frames) c.args.self.now h.0 c.if-self.false h.2 in
     let last = h.1.latest_is in
     on-ok (λ r. (c.args.self.now.latest, r.0, ap is_some r.1)) c.close-in-None.result
-    (c.close-in-None.ensures.stands k true (latest_of frames) c.args.self.now.latest start frames (omega (arith, last)) (omega arith)
+    (c.close-in-None.ensures.stands k true (latest_of frames) c.args.self.now.latest start frames
+    (omega (arith, last)) (omega arith)
     (omega (arith, last))
     (none-end k.1.until frames c.args.self.now.latest said (omega (arith, last)))
     (λ end is. absurd (let bad = sym said ∙ is in cc bad))
@@ -43,7 +49,8 @@ returns-in-Some-clause-begun g c = λ k start frames h.
     begun-all c.close.result k c.in-Some.until None start _ frames in-time
     (subst (λ o. IsEndFrom o c.in-Some.until (until_or o frames)) (sym said) refl)
     (c.close.ensures.begun k (latest_of frames) start frames in-time
-    (λ end is. let same = same_Some c.in-Some.until end (sym said ∙ is) in subst (λ n. c.in-Some.until ≤ n) same (omega arith)) none h)
+    (λ end is. let same = same_Some c.in-Some.until end (sym said ∙ is) in subst (λ n. c.in-Some.until ≤ n) same
+    (omega arith)) none h)
 
 pub returns-in-None-clause-begun : goal.returns-in-None-clause-begun
 returns-in-None-clause-begun g c = λ k start frames h.

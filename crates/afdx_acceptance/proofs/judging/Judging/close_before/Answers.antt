@@ -19,7 +19,8 @@ returns-in_default-clause-stands g c k before start frames le latest h = (
   h.0,
   h.1,
   raised k frames before c.args.time c.args.self.now h.0 le
-      (λ end none said. absurd (let bad = sym c.in_default.is ∙ ap (λ x. x.until) h.1.choices_are ∙ said in cc bad)) h.2,
+      (λ end none said. absurd (let bad = sym c.in_default.is ∙ ap (λ x. x.until) h.1.choices_are ∙ said in cc bad))
+      h.2,
 )
 
 pub returns-else-until-time-clause-stands : goal.returns-else-until-time-clause-stands
@@ -27,7 +28,8 @@ returns-else-until-time-clause-stands g c k before start frames le latest h = (
   h.0,
   h.1,
   raised k frames before c.args.time c.args.self.now h.0 le
-      (λ end none said. let same = same_Some c.in-Some.until end (sym c.in-Some.is ∙ ap (λ x. x.until) h.1.choices_are ∙ said) in
+      (λ end none said. let same = same_Some c.in-Some.until end (sym c.in-Some.is ∙ ap (λ x. x.until) h.1.choices_are
+      ∙ said) in
       let test = c.if-until-time.false in subst (λ n. c.args.time ≤ n) same (omega (arith, test))) h.2,
 )
 
@@ -38,9 +40,11 @@ returns-then-until-time-clause-stands g c k before start frames le latest h =
     let test = c.if-until-time.true in
     let in-time = h.2.running c.in-Some.until none said in
     on-ok (λ r. r.0) c.close.result
-    (c.close.ensures.stands k false before c.args.time start frames in-time (omega (arith, test)) (omega (arith, latest, in-time))
+    (c.close.ensures.stands k false before c.args.time start frames in-time (omega (arith, test))
+    (omega (arith, latest, in-time))
     (said-end k.1.until frames c.in-Some.until said)
-    (λ end is. let same = same_Some c.in-Some.until end (sym said ∙ is) in subst (λ n. c.in-Some.until ≤ n) same (omega arith))
+    (λ end is. let same = same_Some c.in-Some.until end (sym said ∙ is) in subst (λ n. c.in-Some.until ≤ n) same
+    (omega arith))
     (said, test) none h)
 
 pub returns-then-until-time-clause-begun : goal.returns-then-until-time-clause-begun
@@ -49,6 +53,8 @@ returns-then-until-time-clause-begun g c = λ k before start frames le latest h.
     let none = not-ended k frames before c.args.self.now h.0 (c.if-self.false) h.2 in
     let test = c.if-until-time.true in
     let in-time = h.2.running c.in-Some.until none said in
-    begun-from c.close.result k c.in-Some.until c.args.time None start _ frames (omega (arith, latest, in-time)) (omega (arith, test))
+    begun-from c.close.result k c.in-Some.until c.args.time None start _ frames (omega (arith, latest, in-time))
+    (omega (arith, test))
     (c.close.ensures.begun k before start frames in-time
-    (λ end is. let same = same_Some c.in-Some.until end (sym said ∙ is) in subst (λ n. c.in-Some.until ≤ n) same (omega arith)) none h)
+    (λ end is. let same = same_Some c.in-Some.until end (sym said ∙ is) in subst (λ n. c.in-Some.until ≤ n) same
+    (omega arith)) none h)

@@ -18,7 +18,8 @@ returns c = λ output. (
     all = λ until may. record {
       dues = [];
       are = refl;
-      streams = c.in_ok-streams.ensures.stands (choices_of (taps_in c.args.taps.now) c.args.choices.now) until refl refl;
+      streams = c.in_ok-streams.ensures.stands (choices_of (taps_in c.args.taps.now) c.args.choices.now) until refl
+          refl;
       early = λ e. tt;
     };
     by_time = tt;

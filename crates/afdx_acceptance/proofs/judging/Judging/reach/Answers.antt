@@ -12,7 +12,8 @@ returns-in_err-close_before-clause-begun g c = λ k before start frames le lates
 pub returns-clause-begun : goal.returns-clause-begun
 returns-clause-begun g c = λ k before start frames le latest h.
     let mid = c.in_ok-close_before.ensures.stands k before start frames le latest h in
-    begun-from c.tell_due.result k c.args.time c.args.time c.close_before.new.self.streams.ended start _ frames (omega (arith, le, latest))
+    begun-from c.tell_due.result k c.args.time c.args.time c.close_before.new.self.streams.ended start _ frames
+    (omega (arith, le, latest))
     (omega arith)
     (c.tell_due.ensures.begun k false c.args.time c.args.time start frames
     (goes-past k c.args.time c.close_before.new.self mid.0 frames mid.2) mid)

@@ -102,7 +102,8 @@ returns-then-is_passed-clause-stands c k frames lines same-tables chosen latest 
     stands-next k frames x c.args.self.now _ lines latest
     (λ until dues s. stand-skipped k.0 k.1 until x.arrival.time x frames dues c.args.self.now.streams
     (out-of-choice k.0 k.1 x (subst (λ o. is_passed k.0 o x ≡ true) chosen
-    (subst (λ t. is_passed t (choices_of (taps_in c.args.self.now.streams.taps.now) c.args.self.now.choices.now) x ≡ true) same-tables
+    (subst (λ t. is_passed t (choices_of (taps_in c.args.self.now.streams.taps.now) c.args.self.now.choices.now) x
+    ≡ true) same-tables
     (sym (c.is_passed.ensures x refl refl refl c.frame-frame.ensures (c.in_ok-vl.ensures
     ∙ ap link_named_by c.frame-frame.ensures)
     (c.place_named-named.ensures.place x.arrival.bytes (c.in_ok-vl.ensures
@@ -112,16 +113,19 @@ pub returns-then-length-gt-MOST_BYTES-clause-stands : goal.returns-then-length-g
 returns-then-length-gt-MOST_BYTES-clause-stands c k frames lines same-tables chosen latest few stands =
     let x : Frame = frame_of (item_of c.args.n c.args.seen.now c.args.message.now) in
     stands-next k frames x c.args.self.now c.args.self.now lines latest
-    (λ until dues s. stand-skipped k.0 k.1 until x.arrival.time x frames dues c.args.self.now.streams (too-long k.0 k.1 x
+    (λ until dues s. stand-skipped k.0 k.1 until x.arrival.time x frames dues c.args.self.now.streams
+    (too-long k.0 k.1 x
     (subst (λ (b : List ℕ). most_bytes < length b) c.frame-frame.ensures
-    (let l = c.length.ensures in let test = c.if-length-gt-MOST_BYTES.true in omega (arith, l, test)))) s) refl refl stands
+    (let l = c.length.ensures in let test = c.if-length-gt-MOST_BYTES.true in omega (arith, l, test)))) s) refl refl
+    stands
 
 pub returns-in-Came-clause-stands : goal.returns-in-Came-clause-stands
 returns-in-Came-clause-stands c k frames lines same-tables chosen latest few stands =
     let h = c.args.seen.now.heading in
     let x : Frame = frame_of (item_of c.args.n c.args.seen.now c.args.message.now) in
     let in-time : is_in_time k.1 x ≡ true = subst (λ (o : Choices). is_in_time o x ≡ true) chosen
-    (sym (c.is_in_time.ensures (taps_in c.args.self.now.streams.taps.now) c.args.message.now c.args.n) ∙ c.if-not-is_in_time.false) in
+    (sym (c.is_in_time.ensures (taps_in c.args.self.now.streams.taps.now) c.args.message.now c.args.n)
+    ∙ c.if-not-is_in_time.false) in
     let out : is_passed k.0 k.1 x ≡ false = subst (λ (o : Choices). is_passed k.0 o x ≡ false) chosen
     (subst (λ (t : Rows). is_passed t (choices_of
     (taps_in c.args.self.now.streams.taps.now) c.args.self.now.choices.now) x ≡ false) same-tables
@@ -138,7 +142,8 @@ returns-in-Came-clause-stands c k frames lines same-tables chosen latest few sta
     let count = does-count k.0 k.1 x in-time out (subst (λ (b : List ℕ). length b ≤ most_bytes) c.frame-frame.ensures
     (let l = c.length.ensures in let test = c.if-length-gt-MOST_BYTES.false in omega (arith, l, test))) in
     next-on c.came.result k frames x c.args.self.now _ lines latest
-    (λ until dues s. subst (λ f. OnOk c.came.result (StreamsStand k.0 k.1 until (f ∷ frames) dues h.time c.came.new.self)) same
+    (λ until dues s. subst (λ f. OnOk c.came.result (StreamsStand k.0 k.1 until (f ∷ frames) dues h.time
+    c.came.new.self)) same
     (c.came.ensures.stands k.0 k.1 until h.time frames dues
     (c.place_named-named.ensures.place bytes (c.in_ok-vl.ensures))
     (ap (λ f. counts k.0 k.1 f) same ∙ count) (omega arith)
@@ -149,7 +154,8 @@ returns-in-Left-clause-stands c k frames lines same-tables chosen latest few sta
     let h = c.args.seen.now.heading in
     let x : Frame = frame_of (item_of c.args.n c.args.seen.now c.args.message.now) in
     let in-time : is_in_time k.1 x ≡ true = subst (λ (o : Choices). is_in_time o x ≡ true) chosen
-    (sym (c.is_in_time.ensures (taps_in c.args.self.now.streams.taps.now) c.args.message.now c.args.n) ∙ c.if-not-is_in_time.false) in
+    (sym (c.is_in_time.ensures (taps_in c.args.self.now.streams.taps.now) c.args.message.now c.args.n)
+    ∙ c.if-not-is_in_time.false) in
     let out : is_passed k.0 k.1 x ≡ false = subst (λ (o : Choices). is_passed k.0 o x ≡ false) chosen
     (subst (λ (t : Rows). is_passed t (choices_of
     (taps_in c.args.self.now.streams.taps.now) c.args.self.now.choices.now) x ≡ false) same-tables
@@ -165,7 +171,8 @@ returns-in-Left-clause-stands c k frames lines same-tables chosen latest few sta
     let count = does-count k.0 k.1 x in-time out (subst (λ (b : List ℕ). length b ≤ most_bytes) c.frame-frame.ensures
     (let l = c.length.ensures in let test = c.if-length-gt-MOST_BYTES.false in omega (arith, l, test))) in
     next-on c.left.result k frames x c.args.self.now _ lines latest
-    (λ until dues s. subst (λ f. OnOk c.left.result (StreamsStand k.0 k.1 until (f ∷ frames) dues h.time c.left.new.self)) same
+    (λ until dues s. subst (λ f. OnOk c.left.result (StreamsStand k.0 k.1 until (f ∷ frames) dues h.time
+    c.left.new.self)) same
     (c.left.ensures.stands k.0 k.1 until h.time frames dues
     (c.place_named-named.ensures.place bytes c.in_ok-vl.ensures)
     (ap (λ f. counts k.0 k.1 f) same ∙ count) (omega arith)

@@ -29,9 +29,11 @@ returns-in_err-tell_lines-clause-begun g c = λ k last time to start frames on h
       old.0 ++ c.as_slice.result.now,
       text-more start _ _ old.0 c.as_slice.result.now old.1.written c.in_err-tell_lines.ensures.begun,
       ended ∙ c.loop-lines.invariant.ended,
-      stands-taken k frames last to c.loop-lines.self c.tell_lines.new.self old.0 c.as_slice.result.now l.key l.moment l.lines.items
+      stands-taken k frames last to c.loop-lines.self c.tell_lines.new.self old.0 c.as_slice.result.now l.key l.moment
+          l.lines.items
           c.as_slice.ensures.value
-          (λ until dues s. subst (λ st. StreamsStand k.0 k.1 until frames (told_at l.key l.moment l.lines.items dues) to st)
+          (λ until dues s. subst (λ st. StreamsStand k.0 k.1 until frames (told_at l.key l.moment l.lines.items dues)
+          to st)
           (sym c.tell_lines.ensures.others.streams)
           (some-there c.in_ok-lines.field-0 l (λ x. StreamsStand k.0 k.1 until frames
           (told_at x.key x.moment x.lines.items dues) to c.take_before.new.self) c.in-Some.is
@@ -52,23 +54,28 @@ loop-lines-preserved g c = record {
       let l = c.in-Some.lines in (
         old.0 ++ c.as_slice.result.now,
         tells-more k start frames c.loop-lines.self c.tell_lines.new.self _ _ old.0 _
-            (told-rules c.tell_lines.ensures.others.streams c.take_before.ensures.rules) c.tell_lines.ensures.others.choices
+            (told-rules c.tell_lines.ensures.others.streams c.take_before.ensures.rules)
+            c.tell_lines.ensures.others.choices
             c.tell_lines.ensures.others.left_out c.tell_lines.ensures.others.latest
             c.in_ok-tell_lines.ensures.counted c.in_ok-tell_lines.ensures.told old.1,
-        stands-taken k frames last time c.loop-lines.self c.tell_lines.new.self old.0 c.as_slice.result.now l.key l.moment l.lines.items
+        stands-taken k frames last time c.loop-lines.self c.tell_lines.new.self old.0 c.as_slice.result.now l.key
+            l.moment l.lines.items
             c.as_slice.ensures.value
-            (λ until dues s. subst (λ st. StreamsStand k.0 k.1 until frames (told_at l.key l.moment l.lines.items dues) time st)
+            (λ until dues s. subst (λ st. StreamsStand k.0 k.1 until frames
+            (told_at l.key l.moment l.lines.items dues) time st)
             (sym c.tell_lines.ensures.others.streams)
             (some-there c.in_ok-lines.field-0 l (λ x. StreamsStand k.0 k.1 until frames
             (told_at x.key x.moment x.lines.items dues) time c.take_before.new.self) c.in-Some.is
-            (c.in_ok-lines.ensures.told k.0 k.1 until time frames dues (λ none. up (sym c.loop-lines.invariant.ended ∙ none)) s)))
+            (c.in_ok-lines.ensures.told k.0 k.1 until time frames dues (λ none. up (sym c.loop-lines.invariant.ended
+            ∙ none)) s)))
             (λ e. in-time time c.args.before (awaited l.moment l.key) (early e)
             (some-there c.in_ok-lines.field-0 l (λ x. IsBefore c.args.before (awaited x.moment x.key)) c.in-Some.is
             c.in_ok-lines.ensures.in_time))
             (ap (λ s. s.ended) c.tell_lines.ensures.others.streams ∙ c.take_before.ensures.ended)
             c.tell_lines.ensures.others.is_over old.2,
       );
-  ended = ap (λ s. s.ended) c.tell_lines.ensures.others.streams ∙ c.take_before.ensures.ended ∙ c.loop-lines.invariant.ended;
+  ended = ap (λ s. s.ended) c.tell_lines.ensures.others.streams ∙ c.take_before.ensures.ended
+      ∙ c.loop-lines.invariant.ended;
 }
 
 pub returns-clause-stands : goal.returns-clause-stands
@@ -85,5 +92,6 @@ returns-clause-stands g c k last time to start frames on h =
             (λ until dues st. (none-there c.in_ok-lines.field-0 c.in_default.is
             (c.in_ok-lines.ensures.none k.0 k.1 until to frames dues st)).0) c.take_before.ensures.ended refl old.2,
       ),
-      (none-there c.in_ok-lines.field-0 c.in_default.is (c.in_ok-lines.ensures.none k.0 k.1 some.0 to frames s.dues s.streams)).1,
+      (none-there c.in_ok-lines.field-0 c.in_default.is (c.in_ok-lines.ensures.none k.0 k.1 some.0 to frames s.dues
+          s.streams)).1,
     )

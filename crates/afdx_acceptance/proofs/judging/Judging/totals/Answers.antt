@@ -25,7 +25,8 @@ returns c = record {
             ∙ ap (λ (o : Choices). unseen_of k.0 o.taps) all.2.choices_are)
             (c.count.ensures.exercised ∙ c.new-totals.ensures.exercised
             ∙ ap (λ (o : Choices). o.exercised) all.2.choices_are)
-            (subst (λ (t : Rows). HasCounted (counted_of t k.1 until (frames_of past)) c.count.new.totals) all.2.tables_are
+            (subst (λ (t : Rows). HasCounted (counted_of t k.1 until (frames_of past)) c.count.new.totals)
+            all.2.tables_are
             (c.count.ensures.counted k.1 until (frames_of past) (ap (λ (o : Choices). o.taps) all.2.choices_are)
             (all-ended k c.args.self.now start end past h)
             c.new-totals.ensures.counted));

@@ -7,6 +7,7 @@ abbrev pub invariant-loop-place : goal.invariant-loop-place
 invariant-loop-place l = record {
   agenda : l.self.agenda ≡ l.fn.self.agenda;
   count : length l.self.slots.items ≡ length l.fn.self.slots.items;
-  ends : (i : ℕ) → i < l.place → Ends l.until (get_or l.fn.self.slots.items i Nothing) (get_or l.self.slots.items i Nothing);
+  ends : (i : ℕ) → i < l.place → Ends l.until (get_or l.fn.self.slots.items i Nothing)
+      (get_or l.self.slots.items i Nothing);
   same : (i : ℕ) → l.place ≤ i → get_or l.self.slots.items i Nothing ≡ get_or l.fn.self.slots.items i Nothing;
 }

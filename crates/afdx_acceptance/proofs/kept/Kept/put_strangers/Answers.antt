@@ -14,11 +14,13 @@ returns-in_ok-new c t c' until time given lines lawful none known vacant kept =
     let key = c.args.key in
     let old : Kept = c.args.self.now in
     let within = stands-within t c' until _ time given lines old key lawful known kept in
-    let empty : c.in_ok-new.field-0.value.waiting.items ≡ [] = ap (λ s. s.waiting.items) c.in_ok-new.ensures.ok ∙ c.new-strangers.ensures in
+    let empty : c.in_ok-new.field-0.value.waiting.items ≡ [] = ap (λ s. s.waiting.items) c.in_ok-new.ensures.ok
+    ∙ c.new-strangers.ensures in
     let slots = ap (λ n. set old.slots.items n (Slot.Strangers c.in_ok-new.field-0)) c.place-place.ensures in (
       kept-room t c' until lawful time given lines old _ key (Slot.Strangers c.in_ok-new.field-0) none known kept vacant
           (ap (λ l. map (waiting_due key) (reverse l) ++ []) (sym empty)) (ap first_time empty) refl slots,
-      subst (λ n. IsStrange (slot_at (set old.slots.items n (Slot.Strangers c.in_ok-new.field-0)) key)) (sym c.place-place.ensures)
+      subst (λ n. IsStrange (slot_at (set old.slots.items n (Slot.Strangers c.in_ok-new.field-0)) key))
+          (sym c.place-place.ensures)
           (room-there old.slots.items key (Slot.Strangers c.in_ok-new.field-0) within tt),
     )
 

@@ -28,7 +28,8 @@ returns-in_ok-new c t c' until time given lines l lawful is new no-due none kept
         refl,
       )
           (ap due_of c.in_ok-new.ensures.ok ∙ no-due) refl slots,
-      subst (λ n. IsStream (slot_at (set old.slots.items n (Slot.Stream c.in_ok-new.field-0 false)) key)) (sym c.place-place.ensures)
+      subst (λ n. IsStream (slot_at (set old.slots.items n (Slot.Stream c.in_ok-new.field-0 false)) key))
+          (sym c.place-place.ensures)
           (put-there old.slots.items key (Slot.Stream c.in_ok-new.field-0 false) within tt),
     )
 

@@ -16,13 +16,15 @@ loop-entry-preserved c = record {
       kept-stale t c' until ended time given lines c.loop-entry.self _ c.in-Some.entry
       (c.loop-entry.invariant.kept t c' until ended time given lines k) c.in-Some.ensures.rest
       (λ is. true≢false (sym (c.is_due.ensures.due.1
-      (ap (λ (l : List Slot). slot_due (slot_at l c.in-Some.entry.key)) c.as_slice.ensures.value ∙ is)) ∙ c.if-is_due.false)) refl;
+      (ap (λ (l : List Slot). slot_due (slot_at l c.in-Some.entry.key)) c.as_slice.ensures.value ∙ is))
+      ∙ c.if-is_due.false)) refl;
 }
 
 pub returns-then-is_due-clause-told : goal.returns-then-is_due-clause-told
 returns-then-is_due-clause-told c t c' until time given lines lawful up kept =
     c.in_ok-lines.ensures.told t c' until time given lines c.loop-entry.self.agenda lawful
-    (All-permutation (λ e. IsKey e.key) c.loop-entry.self.agenda (c.in-Some.entry ∷ c.take_before.new.self) c.in-Some.ensures.rest
+    (All-permutation (λ e. IsKey e.key) c.loop-entry.self.agenda (c.in-Some.entry ∷ c.take_before.new.self)
+    c.in-Some.ensures.rest
     c.in-Some.ensures.keys 0 c.in-Some.entry (omega arith))
     c.in-Some.ensures.rest c.in-Some.ensures.first
     (λ none. in-time time c.args.before c.in-Some.entry (up none) c.in-Some.ensures.in_time)

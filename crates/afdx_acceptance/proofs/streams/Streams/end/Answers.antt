@@ -10,5 +10,6 @@ returns-clause-stands c t c' time frames lines le running all stand = record {
   by = stand.by;
   taps = stand.taps;
   kept = c.end.ensures t c' time (given_of t c' frames) lines stand.lawful le (came-times t c' frames c.args.until all)
-      (subst (λ e. AreKept t c' c.args.until e time (given_of t c' frames) lines c.args.self.now.kept) running stand.kept);
+      (subst (λ e. AreKept t c' c.args.until e time (given_of t c' frames) lines c.args.self.now.kept) running
+      stand.kept);
 }

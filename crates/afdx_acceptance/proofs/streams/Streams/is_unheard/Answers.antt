@@ -8,7 +8,8 @@ use Rattle.afdx_acceptance.proofs.streams.Streams.is_unheard.Goals as goal
 
 pub returns-in-Came : goal.returns-in-Came
 returns-in-Came c x role side port bytes named =
-    sym (unheard-came c.args.self.now.tables.now (taps_in c.args.self.now.taps.now) x (ap is_of_came (role ∙ c.in-Came.is)))
+    sym (unheard-came c.args.self.now.tables.now (taps_in c.args.self.now.taps.now) x
+    (ap is_of_came (role ∙ c.in-Came.is)))
 
 pub returns-in_default : goal.returns-in_default
 returns-in_default c x role side port bytes named =

@@ -40,7 +40,8 @@ returns-then-not-is_tapped-clause-stands c t c' until time frames lines named-is
     subst (λ (p : Taps). is_stranger r p a ≡ false) stand.taps (sym (c.in-Some.ensures.strange a refl refl named-is)) in
     let unseen : c'.taps Left h.side h.port ≡ false =
     ap (λ (p : Taps). p Left h.side h.port) (sym stand.taps) ∙ sym c.is_tapped.ensures ∙ c.if-not-is_tapped.true in
-    subst (λ (x : Rows). StreamsStand x c' until (frame_with Left a ∷ frames) lines time c.args.self.now) stand.tables (record {
+    subst (λ (x : Rows). StreamsStand x c' until (frame_with Left a ∷ frames) lines time c.args.self.now) stand.tables
+    (record {
       lawful = mine.lawful;
       tables = refl;
       by = mine.by;
@@ -83,12 +84,15 @@ returns-in-Some-clause-stands c t c' until time frames lines named-is e le behin
       tables = refl;
       by = mine.by;
       taps = mine.taps;
-      kept = subst (λ o. AreKept r c' until o time (given_of r c' (frame_with Left a ∷ frames)) lines c.leave_to.new.kept) (sym running)
+      kept = subst (λ o. AreKept r c' until o time (given_of r c' (frame_with Left a ∷ frames)) lines
+          c.leave_to.new.kept) (sym running)
           (join-left r c' until None time frames lines c.leave_to.new.kept mine.lawful a link l mine-e named to.0
           own judges old.falling
-          (subst (λ p. AreKept r c' until None time (with_left (key_with h.side p (Some link)) (gone_of a) (given_of r c' frames)) lines
+          (subst (λ p. AreKept r c' until None time (with_left (key_with h.side p (Some link)) (gone_of a)
+          (given_of r c' frames)) lines
           c.leave_to.new.kept) to.1
-          (subst (λ g. AreKept r c' until None time (with_left key g (given_of r c' frames)) lines c.leave_to.new.kept) left k)));
+          (subst (λ g. AreKept r c' until None time (with_left key g (given_of r c' frames)) lines
+          c.leave_to.new.kept) left k)));
     })) c.leave_to.result
     (c.leave_to.ensures c' until time (given_of r c' frames) lines l at to.2 mine.by le (left-start r c' a mine-e)
     (left-times r c' frames h.time (counted-behind r c' frames h.time behind) key) (omega (arith, n, few)) old)
@@ -104,9 +108,11 @@ returns-clause-stands c t c' until time frames lines named-is e le behind few ru
     let named : place_named r a.bytes ≡ c.args.named =
     sym named-is in
     let strange : is_stranger r c'.taps a ≡ true =
-    subst (λ (p : Taps). is_stranger r p a ≡ true) stand.taps (sym (c.in_default.ensures.strange a refl refl named-is)) in
+    subst (λ (p : Taps). is_stranger r p a ≡ true) stand.taps
+    (sym (c.in_default.ensures.strange a refl refl named-is)) in
     let why : c.why_strange-why.result ≡ stranger_reason r a.bytes =
-    c.why_strange-why.ensures ∙ ap (λ b. stranger_by b (fault_of None 0 a.bytes)) (c.is_some.ensures ∙ ap is_some (sym named)) in
+    c.why_strange-why.ensures ∙ ap (λ b. stranger_by b (fault_of None 0 a.bytes)) (c.is_some.ensures
+    ∙ ap is_some (sym named)) in
     let old : AreKept r c' until None time (given_of r c' frames) lines c.args.self.now.kept =
     subst (λ o. AreKept r c' until o time (given_of r c' frames) lines c.args.self.now.kept) running mine.kept in
     let all = counted-behind r c' frames h.time behind in
@@ -125,5 +131,6 @@ returns-clause-stands c t c' until time frames lines named-is e le behind few ru
           lines c.leave_strange.new.kept) why k));
     })) c.leave_strange.result
     (c.leave_strange.ensures r c' until time (given_of r c' frames) lines mine.lawful le
-    (falling-more (due_at key h.time (Strange c.args.n h.side h.port c.why_strange-why.result)) (given_of r c' frames key).strange
+    (falling-more (due_at key h.time (Strange c.args.n h.side h.port c.why_strange-why.result))
+    (given_of r c' frames key).strange
     (strange-times r c' frames h.time all key) (old.falling key)) old)

@@ -21,10 +21,12 @@ returns-then-is_some-clause-counted c n z k xs ys lines due ends has =
     let again = subst (λ v. IsEnding z xs ys there.0 v) (sym c.deref-in-Stream.ensures) there.1 in
     let judged = c.counts-counts.ensures.judged z xs ys there.0 none ending in
     let counted = c.counts-counts.ensures.counted z xs ys there.0 none ending in
-    let told = there.3 ∙ ap has_line there.2 ∙ ap (λ (j : Judged). has_line (judged_dues z k j)) judged ∙ told-is z k xs ys in
+    let told = there.3 ∙ ap has_line there.2 ∙ ap (λ (j : Judged). has_line (judged_dues z k j)) judged
+    ∙ told-is z k xs ys in
     let unsure = sym (unsure-behind z xs ys)
     ∙ ap (λ (j : Judged). is_some (unsure_in j)) (sym judged)
-    ∙ ap (λ o. is_some o) (sym (c.unsure_behind.ensures.ends z xs ys there.0 again)) ∙ sym c.is_some.ensures ∙ c.if-is_some.true in
+    ∙ ap (λ o. is_some o) (sym (c.unsure_behind.ensures.ends z xs ys there.0 again)) ∙ sym c.is_some.ensures
+    ∙ c.if-is_some.true in
     has-stream n z xs ys c.counts-counts.result c.args.self.now _ true c.idle_if-idle.result has counted unsure
     (c.idle_if-idle.ensures ∙ ap (λ (m : Counts). idle_if m.explained c.in-Stream.is_told) counted
     ∙ ap (λ b. idle_if (counts_of z xs ys).explained b) told)
@@ -41,10 +43,12 @@ returns-else-is_some-clause-counted c n z k xs ys lines due ends has =
     let again = subst (λ v. IsEnding z xs ys there.0 v) (sym c.deref-in-Stream.ensures) there.1 in
     let judged = c.counts-counts.ensures.judged z xs ys there.0 none ending in
     let counted = c.counts-counts.ensures.counted z xs ys there.0 none ending in
-    let told = there.3 ∙ ap has_line there.2 ∙ ap (λ (j : Judged). has_line (judged_dues z k j)) judged ∙ told-is z k xs ys in
+    let told = there.3 ∙ ap has_line there.2 ∙ ap (λ (j : Judged). has_line (judged_dues z k j)) judged
+    ∙ told-is z k xs ys in
     let unsure = sym (unsure-behind z xs ys)
     ∙ ap (λ (j : Judged). is_some (unsure_in j)) (sym judged)
-    ∙ ap (λ o. is_some o) (sym (c.unsure_behind.ensures.ends z xs ys there.0 again)) ∙ sym c.is_some.ensures ∙ c.if-is_some.false in
+    ∙ ap (λ o. is_some o) (sym (c.unsure_behind.ensures.ends z xs ys there.0 again)) ∙ sym c.is_some.ensures
+    ∙ c.if-is_some.false in
     has-stream n z xs ys c.counts-counts.result c.args.self.now _ false c.idle_if-idle.result has counted unsure
     (c.idle_if-idle.ensures ∙ ap (λ (m : Counts). idle_if m.explained c.in-Stream.is_told) counted
     ∙ ap (λ b. idle_if (counts_of z xs ys).explained b) told)

@@ -27,7 +27,8 @@ returns-in_err-lines-clause-answer g c =
     (WritesText rule old new) (WritesBeginning rule old new) (g.R.Read.remaining c.args.input.now.inner)
     rest c.in_err-lines.field-0.0
     (λ past h. (h.told.written, front-whole old new _ h.told.written)) (λ past h. h)
-    (rw c.new-output.ensures.device at (c.in_err-lines.ensures.answer rule (c.new-police.ensures _) (λ item gives. tt))) in
+    (rw c.new-output.ensures.device at (c.in_err-lines.ensures.answer rule (c.new-police.ensures _)
+    (λ item gives. tt))) in
     once-back device (λ w. IfSome (g.R.Read.remaining c.args.input.now.inner) (λ bytes. Answers rule bytes rest old
     (g.W.Write.contents w.inner) c.from_residual.result)) {back = c.output-2-1.given.0} (search rules) (search rules)
 
@@ -56,5 +57,6 @@ returns-clause-answer g c =
     (HasTold rule police.accounts police.accepted police.dropped old new)
     (g.R.Read.remaining c.args.input.now.inner) rest c.in_ok-lines.lines
     (λ past h. h.told)
-    (rw c.new-output.ensures.device at (c.in_ok-lines.ensures.answer rule (c.new-police.ensures _) (λ item gives. tt)))) refl)
+    (rw c.new-output.ensures.device at (c.in_ok-lines.ensures.answer rule (c.new-police.ensures _)
+    (λ item gives. tt)))) refl)
     (search rules)

@@ -72,5 +72,5 @@ pub returns-in-None-clause-line : goal.returns-in-None-clause-line
 returns-in-None-clause-line g c t before stands =
     let a = g.O.Sink.written c.args.output.now in
     subst (λ x. Appends a a x)
-        (sym (told-nothing t before (handed_over c.args.handover) (c.in-None.ensures.answer t before stands)).0)
-        (Appends-nil a)
+    (sym (told-nothing t before (handed_over c.args.handover) (c.in-None.ensures.answer t before stands)).0)
+    (Appends-nil a)

@@ -36,7 +36,8 @@ returns-in_err-lines-clause-answer g c =
     (TellsItems t replay old new) (BeginsItems t old new) (WritesSoFar t old new) (WritesSome t old new)
     (g.R.Read.remaining c.args.input.now.inner) rest c.in_err-lines.field-0.0
     (λ past h. (are-so-far _ _ _ _ _ _ _ h.told, are-some _ _ _ _ _ _ _ h.told)) (λ past h. h)
-    (rw c.new-output.ensures.device at (c.in_err-lines.ensures.answer t (c.in_ok-replay.ensures _) (λ item gives. tt))) in
+    (rw c.new-output.ensures.device at (c.in_err-lines.ensures.answer t (c.in_ok-replay.ensures _)
+    (λ item gives. tt))) in
     once-back device (λ w. IfSome (g.R.Read.remaining c.args.input.now.inner) (λ bytes. Answers t bytes rest old
     (g.W.Write.contents w.inner) c.from_residual-in_err-lines.result)) {back = c.output-3-1.given.0} (search rules)
     (search rules)

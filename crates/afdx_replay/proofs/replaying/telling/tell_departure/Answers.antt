@@ -18,7 +18,8 @@ returns-in_err-put_departure-clause-begun g c t before d stands is =
     (departure_line d.turn.too_old d.turn.entry.item.tag d.turn.end
     (place_text d.side c.args.switch.now) d.port)
     (heard d.turn.too_old t (frames_left before) (handed_over d))
-    (subst (λ x. AppendsFront a b x) (line-is c.args.switch.now c.args.departed.now d is) c.in_err-put_departure.ensures.front))
+    (subst (λ x. AppendsFront a b x) (line-is c.args.switch.now c.args.departed.now d is)
+    c.in_err-put_departure.ensures.front))
 
 pub returns-then-too_old-clause-told : goal.returns-then-too_old-clause-told
 returns-then-too_old-clause-told g c t before d stands is =
@@ -41,7 +42,8 @@ returns-in_err-hear-clause-begun g c t before d stands is =
     let a = g.O.Sink.written c.args.output.now in
     let m = g.O.Sink.written c.put_departure.new.output in
     let b = g.O.Sink.written c.hear.new.output in
-    on-err c.from_residual-in_err-hear.result _ (subst (λ x. AppendsFront a b x) (left-lines c.args.switch.now t before d left)
+    on-err c.from_residual-in_err-hear.result _
+    (subst (λ x. AppendsFront a b x) (left-lines c.args.switch.now t before d left)
     (heard-front t (frames_left before) _ (handed_over d) a m b
     (departure_line false d.turn.entry.item.tag d.turn.end
     (place_text d.side c.args.switch.now) d.port) handed
