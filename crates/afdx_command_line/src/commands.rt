@@ -1,5 +1,7 @@
 //! The commands, by the words of the command line.
 
+ghost use Rattle.std.specs.Prelude.{◌≡◌};
+
 use crate::configs::{check_config, solve_tables};
 use crate::conforming::judge_inputs;
 use crate::running::{Replaying, Run, run_inputs, run_sender};
@@ -9,27 +11,31 @@ use afdx_console::{
     read_config, take_places, tell_text, visible_text,
 };
 use afdx_explain::meaning_of;
-use afdx_replay::{CommandedRule, Policing, RunFault};
-use afdx_words::afdx_command;
+use afdx_replay::{CommandedRule, RunFault};
+use afdx_words::{
+    PoliceOptions, afdx_command, conform_inputs, inputs_in, police_options, replay_options,
+    send_words, wants_lists,
+};
 use clap::error::ErrorKind;
 use clap::{ArgMatches, Error};
 use std::alloc::{AllocError, Global};
 
 /// The rule that the words of `police` give.
-fn commanded_rule(matches: &ArgMatches<'_>) -> Option<CommandedRule> {
-    let policing = match matches.get_str("policing")? {
-        "frame" => Policing::Frame,
-        _ => Policing::Byte,
-    };
-    Some(CommandedRule {
-        vl: matches.get_one::<u64>("vl")?,
-        port: matches.get_one::<u64>("port")?,
-        bag_ms: matches.get_one::<u64>("BAG_MS")?,
-        lmin: matches.get_one::<u64>("lmin")?,
-        lmax: matches.get_one::<u64>("LMAX")?,
-        jitter_us: matches.get_one::<u64>("JITTER_US")?,
-        policing,
-    })
+fn commanded_rule(said: PoliceOptions) -> CommandedRule
+    ensures link { (result.vl ≡ said.vl) × (result.port ≡ said.port) }
+    ensures times { (result.bag_ms ≡ said.bag_ms) × (result.jitter_us ≡ said.jitter_us) }
+    ensures lengths { (result.lmin ≡ said.lmin) × (result.lmax ≡ said.lmax) }
+    ensures charge { result.policing ≡ said.policing }
+{
+    CommandedRule {
+        vl: said.vl,
+        port: said.port,
+        bag_ms: said.bag_ms,
+        lmin: said.lmin,
+        lmax: said.lmax,
+        jitter_us: said.jitter_us,
+        policing: said.policing,
+    }
 }
 
 /// The status with which a run ended, or why there was none.
@@ -40,14 +46,15 @@ fn ended(status: Result<u8, u8>) -> u8 {
 }
 
 fn police_list(rt: &HostRuntime, matches: &ArgMatches<'_>) -> u8 {
-    let (Some(list), Some(rule)) = (matches.get_str("LIST"), commanded_rule(matches)) else {
+    let (Some(inputs), Some(said)) = (inputs_in(matches), police_options(matches)) else {
         return WRONG_WORDS;
     };
-    ended(run_inputs(rt, matches, &Run::Police(rule), list, None))
+    let run = Run::Police(commanded_rule(said));
+    ended(run_inputs(rt, matches, &run, inputs.list, None))
 }
 
 fn replay_list(rt: &HostRuntime, matches: &ArgMatches<'_>) -> u8 {
-    let Some(list) = matches.get_str("LIST") else {
+    let Some(inputs) = inputs_in(matches) else {
         return WRONG_WORDS;
     };
     let config = match read_config(rt, matches) {
@@ -56,28 +63,26 @@ fn replay_list(rt: &HostRuntime, matches: &ArgMatches<'_>) -> u8 {
     };
     let replaying = Replaying {
         config: config.as_slice(),
-        admission: !matches.get_flag("no-admission"),
-        explains_drops: matches.get_flag("explain-drops"),
+        options: replay_options(matches),
     };
-    let second = matches.get_str("LIST_B");
-    ended(run_inputs(rt, matches, &Run::Replay(replaying), list, second))
+    let run = Run::Replay(replaying);
+    ended(run_inputs(rt, matches, &run, inputs.list, inputs.second))
 }
 
 /// Judges a switch by what came and what left.
 fn judge_switch(rt: &HostRuntime, matches: &ArgMatches<'_>) -> u8 {
-    let Some(came) = matches.get_str("CAME") else {
+    let Some(inputs) = conform_inputs(matches) else {
         return WRONG_WORDS;
     };
     let config = match read_config(rt, matches) {
         Ok(config) => config,
         Err(status) => return status,
     };
-    let left = matches.get_str("LEFT");
-    ended(judge_inputs(rt, matches, config.as_slice(), came, left))
+    ended(judge_inputs(rt, matches, config.as_slice(), inputs))
 }
 
 fn list_numbers(rt: &HostRuntime, matches: &ArgMatches<'_>) -> u8 {
-    let Some(list) = matches.get_str("LIST") else {
+    let Some(inputs) = inputs_in(matches) else {
         return WRONG_WORDS;
     };
     let config = match read_config(rt, matches) {
@@ -87,19 +92,18 @@ fn list_numbers(rt: &HostRuntime, matches: &ArgMatches<'_>) -> u8 {
     let run = Run::List {
         config: config.as_slice(),
     };
-    ended(run_inputs(rt, matches, &run, list, matches.get_str("LIST_B")))
+    ended(run_inputs(rt, matches, &run, inputs.list, inputs.second))
 }
 
 fn send_list(rt: &HostRuntime, matches: &ArgMatches<'_>) -> u8 {
-    let (Some(list), Some(system)) = (matches.get_str("SUBMISSIONS"), matches.get_str("SYSTEM"))
-    else {
+    let Some(said) = send_words(matches) else {
         return WRONG_WORDS;
     };
     let config = match read_config(rt, matches) {
         Ok(config) => config,
         Err(status) => return status,
     };
-    ended(run_sender(rt, matches, config.as_slice(), system, list))
+    ended(run_sender(rt, matches, config.as_slice(), said))
 }
 
 /// Tells that a text is no line or word of the program, and gives the status.
@@ -112,7 +116,7 @@ fn refuse_text(rt: &HostRuntime, matches: &ArgMatches<'_>) -> u8 {
 
 /// Says what a line means, or what each word of the closed lists means.
 fn explain_words(rt: &HostRuntime, matches: &ArgMatches<'_>) -> u8 {
-    if matches.get_flag("list") {
+    if wants_lists(matches) {
         if print_lists(rt).is_err() {
             return end_with(rt, RunFault::Write);
         }

@@ -2,7 +2,8 @@
 
 use afdx_commands::status::DONE;
 use afdx_console::{Cause, Heard, Traced, error_lines, explain_if_asked, read_config};
-use afdx_replay::{CheckOptions, KeptKeys, SolveOptions, Watched, check_lines, solve_config};
+use afdx_replay::{Watched, check_lines, solve_config};
+use afdx_words::{check_options, solve_options};
 use clap::ArgMatches;
 use std::io::Write;
 
@@ -42,23 +43,9 @@ pub fn check_config(rt: &HostRuntime, matches: &ArgMatches<'_>) -> u8 {
     let config = config.as_slice();
     let mut output = Watched::new(Heard::new(Traced::new(rt.stdout())));
     let mut errors = Watched::new(Heard::new(error_lines(rt)));
-    let options = CheckOptions {
-        all: matches.get_flag("all"),
-        margins: matches.get_flag("margins"),
-    };
+    let options = check_options(matches);
     let status = check_lines(rt.alloc(), options, config, &mut output, &mut errors);
     explain_end(rt, matches, config, status, output, errors)
-}
-
-/// The keys that are kept.
-fn kept_keys(matches: &ArgMatches<'_>) -> KeptKeys {
-    let words = matches.get_strs("keep").unwrap_or(&[]);
-    KeptKeys {
-        jitter: words.contains(&"jitter"),
-        buffer: words.contains(&"buffer"),
-        latency: words.contains(&"latency"),
-        skew: words.contains(&"skew"),
-    }
 }
 
 /// Writes the solution of a configuration.
@@ -70,10 +57,7 @@ pub fn solve_tables(rt: &HostRuntime, matches: &ArgMatches<'_>) -> u8 {
     let config = config.as_slice();
     let mut output = Watched::new(Heard::new(Traced::new(rt.stdout())));
     let mut errors = Watched::new(Heard::new(error_lines(rt)));
-    let options = SolveOptions {
-        kept: kept_keys(matches),
-        raise_only: matches.get_flag("raise-only"),
-    };
+    let options = solve_options(matches);
     let status = solve_config(rt.alloc(), options, config, &mut output, &mut errors);
     explain_end(rt, matches, config, status, output, errors)
 }

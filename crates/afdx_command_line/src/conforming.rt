@@ -14,7 +14,8 @@ use afdx_lists::Role;
 use afdx_replay::{Output, Peeked, RunFault, Tally, Watched, finish};
 use afdx_text::{WholeLines, tell_fault};
 use afdx_words::{
-    BadPlace, Refused, STANDARD_INPUT, conform_options, seen_options, seen_pair_options,
+    BadPlace, ConformInputs, Refused, STANDARD_INPUT, conform_options, seen_options,
+    seen_pair_options, switch_in, wants_summary,
 };
 use clap::ArgMatches;
 use std::alloc::Global;
@@ -86,7 +87,7 @@ fn end_judged<W: Write + Drop, E: Write + Drop>(
     mut errors: Watched<Heard<Cleared<'_, E>>>,
 ) -> u8 {
     let mut status = finish(judged.status, &mut output, &mut errors);
-    let is_told = !output.failed() && matches.get_flag("summary");
+    let is_told = !output.failed() && wants_summary(matches);
     let mut device = WholeLines::new(output.into_device());
     if let Some(count) = judged.count
         && is_told
@@ -130,7 +131,7 @@ fn judge_one(
     let judged = conform(
         rt.alloc(),
         &choices,
-        matches.get_str("switch"),
+        switch_in(matches),
         options,
         config,
         &mut input,
@@ -188,7 +189,7 @@ fn judge_two(
         left: Watched::new(Peeked::new(Traced::new(Counted::new(&count, inputs.left)))),
     };
     let mut errors = Watched::new(Heard::new(Cleared::new(rt, told, error_lines(rt))));
-    let (alloc, switch) = (rt.alloc(), matches.get_str("switch"));
+    let (alloc, switch) = (rt.alloc(), switch_in(matches));
     let (ins, outs, faults) = (&mut inputs, &mut output, &mut errors);
     let judged = match options {
         None => match look_at_both(ins) {
@@ -214,9 +215,9 @@ pub fn judge_inputs(
     rt: &HostRuntime,
     matches: &ArgMatches<'_>,
     config: &[u8],
-    came: &str,
-    left: Option<&str>,
+    inputs: ConformInputs<'_>,
 ) -> Result<u8, u8> {
+    let ConformInputs { came, left } = inputs;
     let input = open(rt, matches, came)?;
     let Some(left) = left else {
         return judge_one(rt, matches, config, came, input);

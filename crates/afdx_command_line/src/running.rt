@@ -15,7 +15,9 @@ use afdx_replay::{
     police_input, replay_input, send_and_count,
 };
 use afdx_text::WholeLines;
-use afdx_words::{Refused, pair_options, recording_options};
+use afdx_words::{
+    Refused, ReplayOptions, SendWords, pair_options, recording_options, wants_summary,
+};
 use clap::ArgMatches;
 use std::io::{IsTerminal, Read, Stderr, Write};
 
@@ -65,7 +67,7 @@ pub fn end_run<W: Write + Drop, E: Write + Drop>(
     let mut errors = errors.into_inner();
     errors.device_mut().notice_mut().clear();
     explain_if_asked(rt, matches, errors.line(), &cause);
-    if status == DONE && matches.get_flag("summary") {
+    if status == DONE && wants_summary(matches) {
         print_counts(rt, &ended);
     }
     status
@@ -75,8 +77,7 @@ pub fn end_run<W: Write + Drop, E: Write + Drop>(
 #[derive(Drop)]
 pub struct Replaying<'a> {
     pub config: &'a [u8],
-    pub admission: bool,
-    pub explains_drops: bool,
+    pub options: ReplayOptions,
 }
 
 /// What is done with the arrivals of an input, and with what it is done.
@@ -107,7 +108,7 @@ impl Run<'_> {
     /// Whether lines come on standard error while it goes on.
     fn explains_drops(&self) -> bool {
         match self {
-            Run::Replay(replaying) => replaying.explains_drops,
+            Run::Replay(replaying) => replaying.options.explains_drops,
             Run::Police(_) | Run::List { .. } => false,
         }
     }
@@ -206,8 +207,8 @@ fn run_over<P: Placing + Drop, A: Recordings<P>, O: Sink, E: Write>(
     match run {
         Run::Police(rule) => { police_input(rt.alloc(), options, rule, input, lines, faults) }
         Run::Replay(replaying) => {
-            let early = early_lines(rt, replaying.explains_drops);
-            let (admission, config) = (replaying.admission, replaying.config);
+            let early = early_lines(rt, replaying.options.explains_drops);
+            let (admission, config) = (replaying.options.admission, replaying.config);
             let ended = replay_input(
                 rt.alloc(),
                 admission,
@@ -333,10 +334,9 @@ pub fn run_sender(
     rt: &HostRuntime,
     matches: &ArgMatches<'_>,
     config: &[u8],
-    system: &str,
-    list: &str,
+    said: SendWords<'_>,
 ) -> Result<u8, u8> {
-    let input = open(rt, matches, list)?;
+    let input = open(rt, matches, said.submissions)?;
     let device = Traced::new(rt.stdout());
     let Ok(mut output) = Output::new(rt.alloc(), output_room(rt, matches), device) else {
         return Err(memory(rt));
@@ -349,7 +349,7 @@ pub fn run_sender(
         ended: send_and_count(
             rt.alloc(),
             config,
-            system,
+            said.system,
             &mut input,
             &mut output,
             &mut errors,
@@ -358,7 +358,7 @@ pub fn run_sender(
     };
     let read = Cause {
         config,
-        path: name_of_input(list),
+        path: name_of_input(said.submissions),
         reason: input.into_inner().reason(),
     };
     Ok(end_run(rt, matches, ended, read, output, errors))

@@ -3,8 +3,11 @@ use Rattle.std.proofs.Common.{◌≡◌, ◌++◌, ℕ, List, [], ◌∷◌, map
 use Rattle.std.specs.Option.{option_map_or, unwrap_or}
 use Rattle.std.proofs.Common.{◌<◌, ◌+◌, length, take, get_or}
 use Rattle.std.proofs.lemmas.List.{map_more}
-use Rattle.std.specs.List.{AllZip}
+use Rattle.std.proofs.Common.{Bool, true, false, not, ap, ◌||◌}
+use Rattle.std.specs.List.{AllZip, list_any}
+use Rattle.std.specs.Str.{bytes_eq}
 use Rattle.afdx_frame.specs.declared.link.VlId.{VlId}
+use Rattle.afdx_words.specs.AskedSaid.{is_among}
 use Rattle.afdx_words.specs.ConformSaid.{NamesLink}
 use Rattle.clap.specs.Words.{raw_values}
 use Rattle.clap.specs.declared.parser.matches.MatchedArg.{MatchedArg}
@@ -39,3 +42,14 @@ links-more words i d old new link lt all one e =
     map_more (λ (word : Bor (List ℕ)). word.now) words i d lt in
     rw (more, e) (zip-push NamesLink (map (λ (word : Bor (List ℕ)). word.now) (take i words)) old
     (get_or words i d).now link all one)
+
+-- whether a word is among them
+pub among-texts : (word : List ℕ) (words : List (Bor (List ℕ))) → list_any (λ said. bytes_eq said.now word) words
+    ≡ is_among word (map (λ said. said.now) words)
+among-texts word [] = refl
+among-texts word (said ∷ words) = ap (λ (other : Bool). bytes_eq said.now word || other) (among-texts word words)
+
+-- what isn't denied
+pub not-not : (b : Bool) → b ≡ not (not b)
+not-not true = refl
+not-not false = refl
