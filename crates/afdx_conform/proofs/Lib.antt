@@ -77,4 +77,5 @@ pub mod BytesLemmas
 pub mod ByBytesLemmas
 pub mod PlacesLemmas
 pub mod SearchLemmas
+pub mod GapLemmas
 pub mod GatherLemmas
