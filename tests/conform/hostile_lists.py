@@ -179,6 +179,13 @@ def strange(first: int, count: int) -> list[str]:
     return [f"strange {n} A 3 no-arrival" for n in range(first, first + count)]
 
 
+def one_held_back(judge: Judge, count: int) -> None:
+    """A refused frame never leaves, and too late for it so many refused ones come and leave."""
+    came = spread(2, 0, 0, 1) + spread(count, 30_000, 10_000, 1)
+    left = spread(1, 6_720, 0, 3) + spread(count, 36_720, 10_000, 3)
+    many_equal(judge, came, left, passed(3, count), f"{count} explained 1 open 0")
+
+
 def sealed_otherwise(judge: Judge, count: int) -> None:
     """So many frames that are sealed wrongly never leave; as many of the same message do."""
     came = spread(count, 0, 0, 1, "B") + spread(count, 0, 0, 1)
@@ -192,6 +199,14 @@ def all_too_late(judge: Judge, count: int) -> None:
     left = spread(1, 6_720, 0, 3) + spread(count, 17_500, 0, 3)
     told = strange(2, count)
     many_equal(judge, spread(count, 0, 0, 1), left, told, f"{count} explained 1 open 0")
+
+
+def each_twice(judge: Judge, count: int) -> None:
+    """So many refused frames leave twice, too late to be the accepted one."""
+    came = spread(1, 0, 0, 1) + spread(count, 12_000, 0, 1)
+    left = spread(1, 6_720, 0, 3) + spread(2 * count, 20_000, 5_000, 3)
+    told = passed(2, count) + strange(count + 2, count)
+    many_equal(judge, came, left, told, f"{2 * count} explained 1 open 0")
 
 
 def all_too_early(judge: Judge, count: int, until: int) -> None:
@@ -320,6 +335,8 @@ def hostile_lists(program: Program) -> Iterator[tuple]:
         for until in (0, 100_000):
             name = f"conform: {20_000 * times} equal, all_too_early until {until}"
             yield name, all_too_early, judge, 20_000 * times, until
+    for case in (one_held_back, each_twice):
+        yield f"conform: 400000 equal, {case.__name__}", case, judge, 400_000
     for seed in range(4):
         yield f"conform: out of order, {seed}", out_of_order, judge, seed
     yield "conform: the largest tables", largest_tables, judge

@@ -77,6 +77,7 @@ pub mod BytesLemmas
 pub mod ByBytesLemmas
 pub mod PlacesLemmas
 pub mod SearchLemmas
+pub mod GapLemmas
 pub mod GatherLemmas
 pub mod StillLemmas
 pub mod PassedLemmas

@@ -1,9 +1,8 @@
 -- The first arrival that the finding of a frame may name.
-use Rattle.std.proofs.Common.{◌≡◌, ℕ, zero, suc, ◌+◌, ◌<◌, ◌≤◌, Bool, true, false, ◌&&◌, List, [], ◌∷◌, ◌++◌, map, reverse, take, drop, get_or, set, length, refl, sym, ap, ◌∙◌, subst, arith}
-use Rattle.std.proofs.lemmas.List.{append_assoc, append-nil, length_push, reverse-append, take_all, drop_all}
-use Rattle.std.specs.Prelude.{if◌then◌else◌, not, ◌||◌, IsTrue, is_some, Option, Some, None}
-use Rattle.std.proofs.lemmas.List.Elements.{recursion_from_All, All-from_recursion}
-use Rattle.std.specs.List.{list_any, AllByRecursion}
+use Rattle.std.proofs.Common.{◌≡◌, ℕ, zero, suc, ◌+◌, ◌<◌, ◌≤◌, Bool, true, false, ◌&&◌, List, [], ◌∷◌, ◌++◌, map, reverse, take, drop, get_or, set, length, refl, sym, ap, ◌∙◌, arith}
+use Rattle.std.proofs.lemmas.List.{append_assoc, append-nil, reverse-append, take_all, drop_all}
+use Rattle.std.specs.Prelude.{if◌then◌else◌, not, ◌||◌, is_some, Option, Some, None}
+use Rattle.std.specs.List.{list_any}
 use Rattle.std.specs.Option.{option_to_list}
 use Rattle.afdx_police.specs.declared.shape.Reason.{Reason}
 use Rattle.afdx_conform.specs.Findings.{Finding, Found, Marked, marked, Judged, judged_with, found_at, frames_of, frames_in, names_it, passed_or, named_or, first_named, once_named, finding_or, damaged_or, damage, is_of_right, strangeness, unexplained}
@@ -11,7 +10,7 @@ use Rattle.afdx_conform.specs.declared.finding.Finding.TheVariants.{Strange, Pas
 use Rattle.afdx_conform.specs.declared.finding.Strangeness.{Strangeness}
 use Rattle.afdx_conform.specs.declared.finding.Strangeness.TheVariants.{Damaged, OutOfTurn, NoArrival}
 use Rattle.afdx_conform.specs.Marks.{arrival_of, marked_of, marked_all, told}
-use Rattle.afdx_conform.specs.Naming.{AreSettled, IsSettledTo, IsNoneNamed, IsNamedAt, may_be_named, unexplained_all, with_last}
+use Rattle.afdx_conform.specs.Naming.{IsNoneNamed, IsNamedAt, may_be_named, unexplained_all, with_last}
 use Rattle.afdx_conform.specs.Streams.{Gone, Terms, fits}
 use Rattle.afdx_conform.specs.declared.arrived.Arrived.{Arrived}
 use Rattle.afdx_conform.specs.declared.finding.Mark.{Mark}
@@ -136,35 +135,35 @@ module _ (z : Terms) (y : Gone) where
       by true k = k
       by false k = absurd (cc)
 
-  -- an arrival that no finding may name, and the first of which none may be
-  unnamed : (a : Arrived) (m : Mark) → IsTrue (not (may_be_named m)) → names_it z y (marked_of a m) ≡ None
+  -- an arrival that no finding may name, one that the frame doesn't fit, and the first where each is one of these
+  pub unnamed : (a : Arrived) (m : Mark) → may_be_named m ≡ false → names_it z y (marked_of a m) ≡ None
   unnamed a m h = by (fits z (arrival_of a) y) m.reason m.is_named h
     where
-      by : (b : Bool) (r : Option Reason) (n : Bool) → IsTrue (not (is_some r && not n))
+      by : (b : Bool) (r : Option Reason) (n : Bool) → (is_some r && not n) ≡ false
           → (if b && not n then r else None) ≡ None
       by false r n h = refl
       by true r true h = refl
       by true None false h = refl
       by true (Some r) false h = absurd (cc)
 
-  from-each-settled : (xs : List Arrived) (ms : List Mark) (n : ℕ) → length ms ≤ length xs → n ≤ length ms
-      → AllByRecursion (λ m. IsTrue (not (may_be_named m))) (take n ms) → IsNamedFrom (marked_all xs ms) n
+  pub unfitting : (a : Arrived) (m : Mark) → fits z (arrival_of a) y ≡ false → names_it z y (marked_of a m) ≡ None
+  unfitting a m h = ap (λ (b : Bool). if b && not m.is_named then m.reason else None) h
+
+  pub from-unnamed : (xs : List Arrived) (ms : List Mark) (n : ℕ) → length ms ≤ length xs → n ≤ length ms
+      → ((p : ℕ) (a : Arrived) (m : Mark) → p < n → names_it z y (marked_of (get_or xs p a) (get_or ms p m)) ≡ None)
+      → IsNamedFrom (marked_all xs ms) n
   unfolding marked_all
-  from-each-settled xs ms zero h le all = from-start (marked_all xs ms)
-  from-each-settled xs [] (suc n) h le all = absurd (omega (arith, le))
-  from-each-settled [] (m ∷ ms) (suc n) h le all = absurd (omega (arith, h))
-  from-each-settled (a ∷ xs) (m ∷ ms) (suc n) h le all =
-      let none = unnamed a m all.0 in
-      let more = from-each-settled xs ms n (omega (arith, h)) (omega (arith, le)) all.1 in
+  from-unnamed xs ms zero h le all = from-start (marked_all xs ms)
+  from-unnamed xs [] (suc n) h le all = absurd (omega (arith, le))
+  from-unnamed [] (m ∷ ms) (suc n) h le all = absurd (omega (arith, h))
+  from-unnamed (a ∷ xs) (m ∷ ms) (suc n) h le all =
+      let none = all 0 a m (omega arith) in
+      let more = from-unnamed xs ms n (omega (arith, h)) (omega (arith, le))
+      (λ p b k lt. all (suc p) b k (omega (arith, lt))) in
       record {
         first = first-on (marked_of a m) (marked_all xs ms) None none ∙ more.first;
         once = once-on (marked_of a m) (marked_all xs ms) None none ∙ ap (λ t. marked_of a m ∷ t) more.once;
       }
-
-  pub from-settled : (xs : List Arrived) (ms : List Mark) (n : ℕ) → length ms ≤ length xs → n ≤ length ms
-      → AreSettled n ms → IsNamedFrom (marked_all xs ms) n
-  from-settled xs ms n h le all =
-      from-each-settled xs ms n h le (recursion_from_All (λ m. IsTrue (not (may_be_named m))) (take n ms) all)
 
   pub from-here : (xs : List Arrived) (ms : List Mark) (i : ℕ) (a : Arrived) (m : Mark) (reason : Reason) → i < length ms
       → length ms ≤ length xs → a ≡ get_or xs i a → names_it z y (marked_of a (get_or ms i m)) ≡ Some reason
@@ -223,6 +222,19 @@ any-end test xs ms i le h =
     let all = length-marked xs ms h in
     ap (λ l. list_any test l) (drop_all i (marked_all xs ms) (omega (arith, all, le)))
 
+-- where the first don't pass it
+pub any-behind : (test : Marked → Bool) (xs : List Arrived) (ms : List Mark) (n : ℕ) → length ms ≤ length xs
+    → n ≤ length ms
+    → ((p : ℕ) (a : Arrived) (m : Mark) → p < n → test (marked_of (get_or xs p a) (get_or ms p m)) ≡ false)
+    → list_any test (marked_all xs ms) ≡ list_any test (drop n (marked_all xs ms))
+unfolding marked_all
+any-behind test xs ms zero h le all = refl
+any-behind test xs [] (suc n) h le all = absurd (omega (arith, le))
+any-behind test [] (m ∷ ms) (suc n) h le all = absurd (omega (arith, h))
+any-behind test (a ∷ xs) (m ∷ ms) (suc n) h le all =
+    ap (λ (b : Bool). b || list_any test (marked_all xs ms)) (all 0 a m (omega arith))
+    ∙ any-behind test xs ms n (omega (arith, h)) (omega (arith, le)) (λ p b k lt. all (suc p) b k (omega (arith, lt)))
+
 -- ---- what is wrong with a frame
 
 module _ (z : Terms) (l : List Marked) (y : Gone) where
@@ -242,41 +254,6 @@ module _ (z : Terms) (l : List Marked) (y : Gone) where
   unfolding strangeness
   strange-none e k = sym (ap (λ (o : Option Reason). damaged_or o turn) e
       ∙ ap (λ (b : Bool). if b then OutOfTurn else NoArrival) k)
-
--- ---- so many are settled
-
-each-less : (n m : ℕ) (ms : List Mark) → n ≤ m → AllByRecursion (λ k. IsTrue (not (may_be_named k))) (take m ms)
-    → AllByRecursion (λ k. IsTrue (not (may_be_named k))) (take n ms)
-each-less zero m ms le all = tt
-each-less (suc n) zero ms le all = absurd (omega (arith, le))
-each-less (suc n) (suc m) [] le all = tt
-each-less (suc n) (suc m) (k ∷ ms) le all = (all.0, each-less n m ms (omega (arith, le)) all.1)
-
-pub settled-less : (n m : ℕ) (ms : List Mark) → n ≤ m → m ≤ length ms → AreSettled m ms → IsSettledTo n ms
-settled-less n m ms le low all = record {
-  within = omega (arith, le, low);
-  settled = All-from_recursion (λ k. IsTrue (not (may_be_named k))) (take n ms)
-      (each-less n m ms le (recursion_from_All (λ k. IsTrue (not (may_be_named k))) (take m ms) all));
-}
-
-pub settled_none : (ms : List Mark) → IsSettledTo 0 ms
-settled_none ms = record { within = omega arith; settled = λ k d lt. absurd (omega (arith, lt)) }
-
-each-push : (n : ℕ) (ms : List Mark) (v : Mark) → n ≤ length ms → AllByRecursion (λ k. IsTrue (not (may_be_named k))) (take n ms)
-    → AllByRecursion (λ k. IsTrue (not (may_be_named k))) (take n (ms ++ (v ∷ [])))
-each-push zero ms v le all = tt
-each-push (suc n) [] v le all = absurd (omega (arith, le))
-each-push (suc n) (k ∷ ms) v le all = (all.0, each-push n ms v (omega (arith, le)) all.1)
-
-pub settled-push : (n : ℕ) (ms all : List Mark) (v : Mark) → all ≡ ms ++ (v ∷ []) → IsSettledTo n ms → IsSettledTo n all
-settled-push n ms all v e s =
-    let low = s.within in
-    let size = length_push ms v in
-    subst (λ (l : List Mark). IsSettledTo n l) (sym e) (record {
-      within = omega (arith, low, size);
-      settled = All-from_recursion (λ k. IsTrue (not (may_be_named k))) (take n (ms ++ (v ∷ [])))
-          (each-push n ms v low (recursion_from_All (λ k. IsTrue (not (may_be_named k))) (take n ms) s.settled));
-    })
 
 -- ---- several
 

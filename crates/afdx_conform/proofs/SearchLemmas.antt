@@ -1,22 +1,24 @@
 -- What is found of a frame by a look at the arrivals alone that have its bytes.
-use Rattle.std.proofs.Common.{◌≡◌, ℕ, zero, suc, ◌+◌, ◌*◌, ◌≤◌, Bool, false, ◌&&◌, List, [], ◌∷◌, ◌++◌, map, take, drop, length, refl, sym, ap, ◌∙◌, subst, arith}
+use Rattle.std.proofs.Common.{◌≡◌, ℕ, zero, suc, ◌+◌, ◌*◌, ◌≤◌, Bool, true, false, ◌&&◌, List, [], ◌∷◌, ◌++◌, map, take, drop, get_or, length, refl, sym, ap, ◌∙◌, subst, arith}
+use Rattle.std.proofs.lemmas.Bool.{and_left, and_right}
 use Rattle.std.proofs.lemmas.List.{append_assoc, drop-drop, length-drop, take_all}
 use Rattle.std.specs.List.{list_any}
 use Rattle.std.specs.Int.{div_ceil}
 use Rattle.std.specs.Prelude.{if◌then◌else◌, ◌||◌, not, is_none, None}
-use Rattle.afdx_conform.specs.Findings.{Marked, first_named, is_of_right, named_or, once_named, passed_or}
+use Rattle.afdx_conform.specs.Findings.{Marked, first_named, is_of_right, named_or, names_it, once_named, passed_or}
 use Rattle.afdx_conform.specs.KnownBytes.{AreOthers, StandAt, may_fit}
 use Rattle.afdx_conform.specs.Levels.{parts}
 use Rattle.afdx_conform.specs.Limits.{AreLimits, gone_of}
 use Rattle.afdx_conform.specs.Marks.{arrival_of, marked_all, marked_of}
-use Rattle.afdx_conform.specs.Naming.{IsNoneNamed}
+use Rattle.afdx_conform.specs.Naming.{IsNoneNamed, NoneIsWanted, may_be_named}
 use Rattle.afdx_conform.specs.Streams.{Gone, Terms, fits}
 use Rattle.afdx_conform.specs.declared.arrived.Arrived.{Arrived}
 use Rattle.afdx_conform.specs.declared.finding.Mark.{Mark}
+use Rattle.afdx_conform.specs.declared.gaps.Wanted.TheVariants.{ToName, Accepted}
 use Rattle.afdx_conform.specs.declared.limits.Frame.{Frame}
 use Rattle.afdx_conform.specs.declared.limits.Limits.{Limits}
 use Rattle.afdx_conform.proofs.LimitLemmas.{fits-is}
-use Rattle.afdx_conform.proofs.NamingLemmas.{IsNamedFrom, any-end, from-end}
+use Rattle.afdx_conform.proofs.NamingLemmas.{IsNamedFrom, any-behind, any-end, from-end, from-unnamed, unfitting, unnamed}
 use Rattle.afdx_conform.proofs.PlacesLemmas.{IsReached, none-left}
 
 take-none : {X : Type 0} (n : ℕ) (l : List X) → l ≡ [] → take n l ≡ []
@@ -175,3 +177,31 @@ module _ (z : Terms) (limits : Limits) (f : Frame) (k' : AreLimits z limits) whe
       → list_any (λ w. fits z w y) (map arrival_of (drop at xs)) ≡ false
   fit-nowhere xs at ps e h = fit-none (drop at xs)
       (none-left fit at (drop at xs) (subst (λ (l : List ℕ). StandAt fit at (drop at xs) l) e h))
+
+  -- ---- behind those that aren't wanted
+
+  not-named : (a : Arrived) (m : Mark) → (fit a ≡ true → may_be_named m ≡ false) → names_it z y (marked_of a m) ≡ None
+  not-named a m h = by (fit a) refl
+    where
+      by : (b : Bool) → fit a ≡ b → names_it z y (marked_of a m) ≡ None
+      by true e = unnamed z y a m (h e)
+      by false e = unfitting z y a m (fits-none a e)
+
+  pub named-behind : (xs : List Arrived) (ms : List Mark) (n : ℕ) → length ms ≤ length xs
+      → NoneIsWanted ToName limits f n xs ms → IsNamedFrom z y (marked_all xs ms) n
+  named-behind xs ms n h w = from-unnamed z y xs ms n h w.within
+      (λ p a m lt. not-named (get_or xs p a) (get_or ms p m) (w.none p a m lt))
+
+  not-right : (a : Arrived) (m : Mark) → (fit a ≡ true → is_none m.reason ≡ false)
+      → is_of_right z y (marked_of a m) ≡ false
+  not-right a m h = by (fit a) refl
+    where
+      by : (b : Bool) → fit a ≡ b → is_of_right z y (marked_of a m) ≡ false
+      by true e = and_right (fits z (arrival_of a) y) (is_none m.reason) (h e)
+      by false e = and_left (fits z (arrival_of a) y) (is_none m.reason) (fits-none a e)
+
+  pub right-behind : (xs : List Arrived) (ms : List Mark) (n : ℕ) → length ms ≤ length xs
+      → NoneIsWanted Accepted limits f n xs ms
+      → list_any (λ m. is_of_right z y m) (marked_all xs ms) ≡ list_any (λ m. is_of_right z y m) (drop n (marked_all xs ms))
+  right-behind xs ms n h w = any-behind (λ m. is_of_right z y m) xs ms n h w.within
+      (λ p a m lt. not-right (get_or xs p a) (get_or ms p m) (w.none p a m lt))

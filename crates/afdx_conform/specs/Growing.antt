@@ -20,7 +20,7 @@ use Rattle.afdx_conform.specs.Leeway.{reach}
 use Rattle.afdx_conform.specs.LeewayOf.{leeway_of}
 use Rattle.afdx_conform.specs.Limits.{gone_of}
 use Rattle.afdx_conform.specs.Marks.{IsJudged, arrival_of}
-use Rattle.afdx_conform.specs.Naming.{IsSettledTo}
+use Rattle.afdx_conform.specs.Naming.{AreSettled}
 use Rattle.afdx_conform.specs.Ranges.{most_held}
 use Rattle.afdx_conform.specs.States.{Event, Closing, arrivals_came}
 use Rattle.afdx_conform.specs.Streams.{Gone, Terms}
@@ -47,7 +47,7 @@ pub record IsSound (s : Growth) : Type 0 where
   pub frames : length s.frames.items ≤ s.left
   pub left : s.left + s.cut < most_held
   pub known : AreKnown s.known s.arrivals.items
-  pub settled : IsSettledTo s.known.settled s.judging.marks.items
+  pub settled : AreSettled s.known.gaps.items s.arrivals.items s.judging.marks.items
 
 -- nothing has changed; the states are known from the first event on
 pub record IsSame (before after : Growth) : Type 0 where

@@ -15,7 +15,7 @@ ghost use Rattle.afdx_conform.specs.Findings.{is_uncertain as uncertain_of};
 ghost use Rattle.afdx_conform.specs.HeldStates.{IsWithin, state_of};
 ghost use Rattle.afdx_conform.specs.Judging.{IsUnchanged};
 ghost use Rattle.afdx_conform.specs.Marks.{IsCharged, arrival_of};
-ghost use Rattle.afdx_conform.specs.Naming.{IsSettledTo};
+ghost use Rattle.afdx_conform.specs.Naming.{AreSettled};
 ghost use Rattle.afdx_conform.specs.Ranges.{most_held};
 ghost use Rattle.afdx_conform.specs.Streams.{Gone, Terms};
 
@@ -167,7 +167,7 @@ fn go_wrong(
     judging: &mut Judging,
     alloc: Global,
     bounds: &Bounds,
-    known: &KnownBytes,
+    known: &mut KnownBytes,
     arrivals: &[Arrived],
     frames: &[Frame],
     arrived: &Arrived,
@@ -177,8 +177,8 @@ fn go_wrong(
     requires place { length judging.old.marks.items < length arrivals.now }
     requires few { length frames.now < most_held }
     requires counted { judging.old.uncertain < most_held }
-    requires known { AreKnown known.now arrivals.now }
-    requires settled { IsSettledTo known.now.settled judging.old.marks.items }
+    requires known { AreKnown known.old arrivals.now }
+    requires settled { AreSettled known.old.gaps.items arrivals.now judging.old.marks.items }
     requires within { (count : ℕ) × (count < most_held)
         × All (λ h. IsWithin bounds.now.rates (length frames.now) count h)
         judging.old.held.items }
@@ -192,7 +192,8 @@ fn go_wrong(
         judging.old.held.items →
         OnOk result (All (λ h. IsWithin bounds.now.rates (length frames.now) (count + 1) h)
         judging.new.held.items) }
-    ensures settled { OnOk result (IsSettledTo known.now.settled judging.new.marks.items) }
+    ensures known { AreKnown known.new arrivals.now }
+    ensures settled { AreSettled known.new.gaps.items arrivals.now judging.new.marks.items }
     ensures refused { OnErr result (IsUnchanged judging.old judging.new) }
 {
     let from = judging.marks.len() + 1;
@@ -231,7 +232,7 @@ pub(crate) fn judge_with(
     judging: &mut Judging,
     alloc: Global,
     bounds: &Bounds,
-    known: &KnownBytes,
+    known: &mut KnownBytes,
     arrivals: &[Arrived],
     frames: &[Frame],
     arrived: &Arrived,
@@ -240,8 +241,8 @@ pub(crate) fn judge_with(
     requires place { length judging.old.marks.items < length arrivals.now }
     requires few { length frames.now < most_held }
     requires counted { judging.old.uncertain < most_held }
-    requires known { AreKnown known.now arrivals.now }
-    requires settled { IsSettledTo known.now.settled judging.old.marks.items }
+    requires known { AreKnown known.old arrivals.now }
+    requires settled { AreSettled known.old.gaps.items arrivals.now judging.old.marks.items }
     requires within { (count : ℕ) × (count < most_held)
         × All (λ h. IsWithin bounds.now.rates (length frames.now) count h)
         judging.old.held.items }
@@ -255,7 +256,8 @@ pub(crate) fn judge_with(
         judging.old.held.items →
         OnOk result (All (λ h. IsWithin bounds.now.rates (length frames.now) (count + 1) h)
         judging.new.held.items) }
-    ensures settled { OnOk result (IsSettledTo known.now.settled judging.new.marks.items) }
+    ensures known { AreKnown known.new arrivals.now }
+    ensures settled { AreSettled known.new.gaps.items arrivals.now judging.new.marks.items }
     ensures refused { OnErr result (IsUnchanged judging.old judging.new) }
 {
     match arrived.fault {
@@ -314,8 +316,8 @@ pub fn judge_arrival(
         judging.new.held.items) }
     ensures refused { OnErr result (IsUnchanged judging.old judging.new) }
 {
-    let known = KnownBytes::new(alloc);
+    let mut known = KnownBytes::new(alloc);
     judge_with(
-        judging, alloc, bounds, &known, arrivals, frames, arrived, moment,
+        judging, alloc, bounds, &mut known, arrivals, frames, arrived, moment,
     )
 }

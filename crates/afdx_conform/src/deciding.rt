@@ -110,7 +110,6 @@ impl Growth {
         ensures same { IsSame self.old self.new }
     {
         self.known.gather(self.arrivals.as_slice())?;
-        self.known.settle(self.judging.marks.as_slice());
         if self.is_started {
             return Ok(());
         }
@@ -185,7 +184,7 @@ impl Growth {
             &mut self.judging,
             spare.alloc(),
             &self.bounds,
-            &self.known,
+            &mut self.known,
             self.arrivals.as_slice(),
             self.frames.as_slice(),
             arrived,
@@ -221,7 +220,7 @@ impl Growth {
             &mut self.judging,
             spare.alloc(),
             &self.bounds,
-            &self.known,
+            &mut self.known,
             self.arrivals.as_slice(),
             self.frames.as_slice(),
             to,

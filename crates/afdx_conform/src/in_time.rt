@@ -41,7 +41,7 @@ pub(crate) fn comes_behind(arrivals: &[Arrived], arrived: &Arrived) -> bool
 }
 
 /// So many of the first arrivals came too early for the frame.
-fn count_early(limits: &Limits, arrivals: &[Arrived], frame: &Frame) -> usize
+pub(crate) fn count_early(limits: &Limits, arrivals: &[Arrived], frame: &Frame) -> usize
     requires { GoByTime arrivals.now }
     ensures { (i : ℕ) (a : Arrived) → i < result →
         may_fit limits.now frame.now (get_or arrivals.now i a) ≡ false }

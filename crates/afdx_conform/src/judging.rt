@@ -10,7 +10,7 @@ ghost use Rattle.afdx_conform.specs.Judging.{StandsFor, AreFound};
 ghost use Rattle.afdx_conform.specs.KnownBytes.{AreKnown};
 ghost use Rattle.afdx_conform.specs.Leeway.{reach};
 ghost use Rattle.afdx_conform.specs.Limits.{gone_of};
-ghost use Rattle.afdx_conform.specs.Naming.{IsSettledTo};
+ghost use Rattle.afdx_conform.specs.Naming.{AreSettled};
 ghost use Rattle.afdx_conform.specs.Streams.{Terms};
 
 use crate::arrived::Arrived;
@@ -48,15 +48,15 @@ fn skip(
     judging: &mut Judging,
     alloc: Global,
     bounds: &Bounds,
-    known: &KnownBytes,
+    known: &mut KnownBytes,
     arrivals: &[Arrived],
     frames: &[Frame],
     closed: usize,
 ) -> Result<Vec<Finding>, AllocError>
     requires marks { length judging.old.marks.items ≤ length arrivals.now }
     requires closed { closed ≤ length frames.now }
-    requires known { AreKnown known.now arrivals.now }
-    requires settled { IsSettledTo known.now.settled judging.old.marks.items }
+    requires known { AreKnown known.old arrivals.now }
+    requires settled { AreSettled known.old.gaps.items arrivals.now judging.old.marks.items }
     ensures defined { JudgesSkipped (λ done. IfOk result done) bounds.now frames.now arrivals.now
         judging.old judging.new closed }
     ensures marks { length judging.new.marks.items ≡ length judging.old.marks.items }
@@ -66,7 +66,8 @@ fn skip(
         judging.old.held.items →
         All (λ h. IsWithin bounds.now.rates (length frames.now) count h)
         judging.new.held.items }
-    ensures settled { IsSettledTo known.now.settled judging.new.marks.items }
+    ensures known { AreKnown known.new arrivals.now }
+    ensures settled { AreSettled known.new.gaps.items arrivals.now judging.new.marks.items }
     ensures refused { OnErr result (judging.new ≡ judging.old) }
 {
     let held = judging.held.as_slice();
@@ -95,15 +96,15 @@ pub(crate) fn close_with(
     judging: &mut Judging,
     alloc: Global,
     bounds: &Bounds,
-    known: &KnownBytes,
+    known: &mut KnownBytes,
     arrivals: &[Arrived],
     frames: &[Frame],
     closed: usize,
 ) -> Result<Vec<Finding>, AllocError>
     requires marks { length judging.old.marks.items ≤ length arrivals.now }
     requires closed { closed ≤ length frames.now }
-    requires known { AreKnown known.now arrivals.now }
-    requires settled { IsSettledTo known.now.settled judging.old.marks.items }
+    requires known { AreKnown known.old arrivals.now }
+    requires settled { AreSettled known.old.gaps.items arrivals.now judging.old.marks.items }
     ensures defined { (z : Terms) (time : ℕ) (j : Judged) → AreBounds z bounds.now →
         AreClosed time closed (map gone_of frames.now) → j.is_unsure ≡ false →
         StandsFor bounds.now.rates frames.now arrivals.now j judging.old →
@@ -117,7 +118,8 @@ pub(crate) fn close_with(
         judging.old.held.items →
         All (λ h. IsWithin bounds.now.rates (length frames.now) count h)
         judging.new.held.items }
-    ensures settled { IsSettledTo known.now.settled judging.new.marks.items }
+    ensures known { AreKnown known.new arrivals.now }
+    ensures settled { AreSettled known.new.gaps.items arrivals.now judging.new.marks.items }
     ensures refused { OnErr result (judging.new ≡ judging.old) }
 {
     if is_one_passed(judging.held.as_slice(), closed) {
@@ -154,6 +156,6 @@ pub fn judge_closing(
         judging.new.held.items }
     ensures refused { OnErr result (judging.new ≡ judging.old) }
 {
-    let known = KnownBytes::new(alloc);
-    close_with(judging, alloc, bounds, &known, arrivals, frames, closed)
+    let mut known = KnownBytes::new(alloc);
+    close_with(judging, alloc, bounds, &mut known, arrivals, frames, closed)
 }

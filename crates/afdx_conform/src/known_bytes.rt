@@ -1,29 +1,31 @@
 //! Where arrivals of a stream stand that have the bytes of a frame.
 
-ghost use Rattle.std.specs.Prelude.{◌++◌, ◌∷◌, [], Bool, List, IfOk, OnErr, OnOk};
+ghost use Rattle.std.specs.Prelude.{◌≡◌, ◌≤◌, ◌++◌, ◌∷◌, [], Bool, List, IfOk, OnErr, OnOk};
+ghost use Rattle.std.specs.Prelude.{length};
 ghost use Rattle.afdx_conform.specs.KnownBytes.{AreEach, AreKept, AreKnown, StandAt, may_fit};
-ghost use Rattle.afdx_conform.specs.Naming.{IsSettledTo};
+ghost use Rattle.afdx_conform.specs.Naming.{AreSettled, NoneIsWanted};
+ghost use Rattle.afdx_conform.specs.declared.gaps.Wanted.TheVariants.{ToName, Accepted};
 
 use crate::arrived::Arrived;
 use crate::by_bytes::ByBytes;
 use crate::finding::Mark;
-use crate::in_time::{comes_behind, go_by_time, in_time};
+use crate::gaps::{Gaps, first_alike, next_gaps, unknown_all, unknown_gaps};
+use crate::in_time::{comes_behind, count_early, go_by_time, in_time};
 use crate::limits::{Frame, Limits};
-use crate::naming::settled_from;
 use std::alloc::{AllocError, Global};
 
 /// Of fewer arrivals each is looked at.
 const FEW_ARRIVALS: usize = 256;
 
 /// Where the arrivals stand that are held, by their bytes, if `is_whole`: then they go by time.
-/// Else they are few, don't, or weren't gathered yet. The first `settled` of them no finding may
-/// name any more.
+/// Else they are few, don't, or weren't gathered yet. `gaps` are those of the bytes of each; they
+/// are kept up where those bytes first stand.
 #[derive(Drop)]
 pub(crate) struct KnownBytes {
     alloc: Global,
     places: ByBytes,
     is_whole: bool,
-    pub(crate) settled: usize,
+    pub(crate) gaps: Vec<Gaps>,
 }
 
 /// Where each of these arrivals stands, by its bytes. Fails only out of memory.
@@ -51,28 +53,17 @@ fn each_of(alloc: Global, arrivals: &[Arrived]) -> Result<Vec<usize>, AllocError
 
 impl KnownBytes {
     /// It was told of none yet.
-    #[tactic(auto, using(crate::proofs::NamingLemmas::settled_none))]
     pub(crate) fn new(alloc: Global) -> KnownBytes
         ensures known { (arrivals : List Arrived) → AreKnown result arrivals }
-        ensures settled { (marks : List Mark) → IsSettledTo result.settled marks }
+        ensures settled { (arrivals : List Arrived) (marks : List Mark) →
+            AreSettled result.gaps.items arrivals marks }
     {
         KnownBytes {
             alloc,
             places: ByBytes::new(alloc),
             is_whole: false,
-            settled: 0,
+            gaps: Vec::new(alloc),
         }
-    }
-
-    /// No finding may name the first arrivals any more, by their marks, up to the first that one
-    /// may name.
-    pub(crate) fn settle(&mut self, marks: &[Mark])
-        requires { IsSettledTo self.old.settled marks.now }
-        ensures known { (arrivals : List Arrived) → AreKnown self.old arrivals →
-            AreKnown self.new arrivals }
-        ensures settled { IsSettledTo self.new.settled marks.now }
-    {
-        self.settled = settled_from(marks, self.settled);
     }
 
     /// It knows where each of these arrivals stands, if they are many and go by time. Fails only
@@ -80,14 +71,16 @@ impl KnownBytes {
     pub(crate) fn gather(&mut self, arrivals: &[Arrived]) -> Result<(), AllocError>
         requires { AreKnown self.old arrivals.now }
         ensures known { AreKnown self.new arrivals.now }
-        ensures settled { (marks : List Mark) → IsSettledTo self.old.settled marks →
-            IsSettledTo self.new.settled marks }
+        ensures settled { (marks : List Mark) → AreSettled self.old.gaps.items arrivals.now marks →
+            AreSettled self.new.gaps.items arrivals.now marks }
     {
         if self.is_whole || arrivals.len() < FEW_ARRIVALS || !go_by_time(arrivals) {
             return Ok(());
         }
         let places = places_of(self.alloc, arrivals)?;
+        let gaps = unknown_all(self.alloc, arrivals.len())?;
         self.places = places;
+        self.gaps = gaps;
         self.is_whole = true;
         Ok(())
     }
@@ -97,8 +90,12 @@ impl KnownBytes {
         requires { AreKnown self.old arrivals.now }
         ensures told { OnOk result (AreKnown self.new (arrivals.now ++ arrived.now ∷ [])) }
         ensures refused { OnErr result (AreKnown self.new arrivals.now) }
-        ensures settled { (marks : List Mark) → IsSettledTo self.old.settled marks →
-            IsSettledTo self.new.settled marks }
+        ensures settled { (marks : List Mark) → length marks ≤ length arrivals.now →
+            AreSettled self.old.gaps.items arrivals.now marks →
+            OnOk result (AreSettled self.new.gaps.items (arrivals.now ++ arrived.now ∷ []) marks) }
+        ensures refused_settled { (marks : List Mark) →
+            AreSettled self.old.gaps.items arrivals.now marks →
+            OnErr result (AreSettled self.new.gaps.items arrivals.now marks) }
     {
         if !self.is_whole {
             return Ok(());
@@ -108,18 +105,19 @@ impl KnownBytes {
             return Ok(());
         }
         self.places.add(&arrived.bytes, arrivals.len())?;
+        self.gaps.push(unknown_gaps())?;
         self.is_whole = true;
         Ok(())
     }
 
     /// The first arrivals are forgotten: those that are left stand at other places.
-    #[tactic(auto, using(crate::proofs::NamingLemmas::settled_none))]
     pub(crate) fn forget(&mut self)
         ensures known { (arrivals : List Arrived) → AreKnown self.new arrivals }
-        ensures settled { (marks : List Mark) → IsSettledTo self.new.settled marks }
+        ensures settled { (arrivals : List Arrived) (marks : List Mark) →
+            AreSettled self.new.gaps.items arrivals marks }
     {
         if !self.is_whole {
-            self.settled = 0;
+            self.gaps.truncate(0);
             return;
         }
         *self = KnownBytes::new(self.alloc);
@@ -156,5 +154,41 @@ impl KnownBytes {
         } else {
             each
         }
+    }
+
+    /// Behind which of the first arrivals those are that are wanted and that the frame may be of.
+    /// The gaps of its bytes are kept from there on.
+    pub(crate) fn settle(
+        &mut self,
+        limits: &Limits,
+        arrivals: &[Arrived],
+        marks: &[Mark],
+        frame: &Frame,
+    ) -> Gaps
+        requires marks { length marks.now ≤ length arrivals.now }
+        requires known { AreKnown self.old arrivals.now }
+        requires settled { AreSettled self.old.gaps.items arrivals.now marks.now }
+        ensures same { self.new ≡ record self.old { gaps = self.new.gaps } }
+        ensures settled { AreSettled self.new.gaps.items arrivals.now marks.now }
+        ensures to_name { NoneIsWanted ToName limits.now frame.now result.to_name.to arrivals.now
+            marks.now }
+        ensures accepted { NoneIsWanted Accepted limits.now frame.now result.accepted.to
+            arrivals.now marks.now }
+    {
+        if !self.is_whole {
+            return unknown_gaps();
+        }
+        let alike = self.places.at(&frame.bytes);
+        let Some(first) = first_alike(arrivals, alike, frame) else {
+            return unknown_gaps();
+        };
+        if first >= self.gaps.len() {
+            return unknown_gaps();
+        }
+        let early = count_early(limits, arrivals, frame);
+        let before = self.gaps[first];
+        let gaps = next_gaps(before, early, marks, alike);
+        self.gaps[first] = gaps;
+        gaps
     }
 }

@@ -20,6 +20,7 @@ mod finding;
 mod first;
 mod forgetting;
 mod fronts;
+mod gaps;
 mod growth;
 mod in_time;
 mod judging;

@@ -1,7 +1,7 @@
 //! What is found of a frame that no arrival explains.
 
-ghost use Rattle.std.specs.Prelude.{◌≡◌, ◌≤◌, ◌<◌, [], ℕ, IfSome, IsTrue, MatchOption};
-ghost use Rattle.std.specs.Prelude.{drop, length, map, slice_get, take, vec_capacity, vec_len};
+ghost use Rattle.std.specs.Prelude.{◌≡◌, ◌≤◌, ◌<◌, [], ℕ, IfSome, MatchOption};
+ghost use Rattle.std.specs.Prelude.{drop, length, map, vec_capacity, vec_len};
 ghost use Rattle.std.specs.List.{list_any};
 ghost use Rattle.afdx_conform.specs.Findings.{names_it as may_name, is_of_right};
 ghost use Rattle.afdx_conform.specs.Findings.{damage as damage_of, strangeness as strangeness_of};
@@ -9,60 +9,27 @@ ghost use Rattle.afdx_conform.specs.Findings.{first_named, once_named, finding_o
 ghost use Rattle.afdx_conform.specs.KnownBytes.{AreEach, AreKnown, StandAt, may_fit};
 ghost use Rattle.afdx_conform.specs.declared.finding.Finding.TheVariants.{Strange};
 ghost use Rattle.afdx_conform.specs.Marks.{marked_of, marked_all, told};
-ghost use Rattle.afdx_conform.specs.Naming.{AreSettled, IsSettledTo, IsNoneNamed, IsNamedAt, may_be_named};
-ghost use Rattle.afdx_conform.specs.Naming.{unexplained_all};
+ghost use Rattle.afdx_conform.specs.Naming.{IsNoneNamed, IsNamedAt, AreSettled, NoneIsWanted};
+ghost use Rattle.afdx_conform.specs.Naming.{StayUnwanted, may_be_named, unexplained_all};
+ghost use Rattle.afdx_conform.specs.declared.gaps.Wanted.TheVariants.{ToName, Accepted};
 ghost use Rattle.afdx_conform.specs.Limits.{AreLimits, gone_of};
 ghost use Rattle.afdx_conform.specs.Streams.{Terms};
 
 use crate::arrived::Arrived;
 use crate::checked_bytes::CheckedBytes;
 use crate::finding::{Finding, Mark, Strangeness};
+use crate::gaps::Gaps;
 use crate::known_bytes::KnownBytes;
 use crate::limits::{Frame, Limits};
 use crate::places::no_less;
 use afdx_frame::{GREATEST_FRAME, LEAST_FRAME};
 use afdx_police::Reason;
 
-/// Of fewer places each is looked at.
-const FEW_PLACES: usize = 16;
-
 /// Whether a finding may name an arrival with this mark.
-fn is_to_name(mark: Mark) -> bool
+pub(crate) fn is_to_name(mark: Mark) -> bool
     ensures { result ≡ may_be_named mark }
 {
     mark.reason.is_some() && !mark.is_named
-}
-
-/// How many of the first arrivals are settled, so that no finding may name them, by their marks:
-/// up to the first that one may name, where so many are known to be.
-pub(crate) fn settled_from(marks: &[Mark], settled: usize) -> usize
-    requires within { settled ≤ length marks.now }
-    requires settled { AreSettled settled marks.now }
-    ensures more { settled ≤ result }
-    ensures within { result ≤ length marks.now }
-    ensures settled { AreSettled result marks.now }
-    ensures next { IfSome (slice_get marks.now result) (λ m. IsTrue (may_be_named m)) }
-{
-    let mut count = settled;
-    while count < marks.len() && !is_to_name(marks[count]) {
-        count += 1;
-    }
-    count
-}
-
-/// The same where so many arrivals may be the frame's; where they are few, what was known to be.
-fn settled_for(marks: &[Mark], settled: usize, places: usize) -> usize
-    requires within { settled ≤ length marks.now }
-    requires settled { AreSettled settled marks.now }
-    ensures more { settled ≤ result }
-    ensures within { result ≤ length marks.now }
-    ensures settled { AreSettled result marks.now }
-{
-    if places <= FEW_PLACES {
-        settled
-    } else {
-        settled_from(marks, settled)
-    }
 }
 
 /// The reason by which the finding of a frame may name the arrival.
@@ -77,8 +44,8 @@ fn names_it(limits: &Limits, arrived: &Arrived, mark: Mark, frame: &Frame) -> Op
     }
 }
 
-/// The first arrival that the finding of a frame may name, behind the first `settled`: its place,
-/// and the reason. Behind those all that the frame fits stand at `places`.
+/// The first arrival that the finding of a frame may name, which is behind the first `settled`: its
+/// place, and the reason. Behind those all that the frame fits stand at `places`.
 fn first_place(
     limits: &Limits,
     arrivals: &[Arrived],
@@ -88,11 +55,10 @@ fn first_place(
     frame: &Frame,
 ) -> Option<(usize, Reason)>
     requires marks { length marks.now ≤ length arrivals.now }
-    requires within { settled ≤ length marks.now }
-    requires settled { AreSettled settled marks.now }
+    requires settled { NoneIsWanted ToName limits.now frame.now settled arrivals.now marks.now }
     requires places { StandAt (may_fit limits.now frame.now) settled (drop settled arrivals.now)
         places.now }
-    ensures within { IfSome result (λ at. (settled ≤ at.0) × (at.0 < length marks.now)) }
+    ensures within { IfSome result (λ at. at.0 < length marks.now) }
     ensures named { (z : Terms) → AreLimits z limits.now → MatchOption result
         (IsNoneNamed z (gone_of frame.now) (marked_all arrivals.now marks.now))
         (λ at. IsNamedAt z (gone_of frame.now) (marked_all arrivals.now marks.now) at.0 at.1) }
@@ -117,20 +83,24 @@ fn fits_without_mark(limits: &Limits, arrived: &Arrived, mark: Mark, frame: &Fra
     mark.reason.is_none() && limits.fits(arrived.time, &arrived.bytes, frame)
 }
 
-/// Whether the frame fits an arrival that isn't refused. All that it fits stand at `places`.
+/// Whether the frame fits an arrival that isn't refused, which is behind the first `settled`. All
+/// that it fits stand at `places`.
 fn fits_unmarked(
     limits: &Limits,
     arrivals: &[Arrived],
     marks: &[Mark],
+    settled: usize,
     places: &[usize],
     frame: &Frame,
 ) -> bool
     requires marks { length marks.now ≤ length arrivals.now }
+    requires settled { NoneIsWanted Accepted limits.now frame.now settled arrivals.now marks.now }
     requires places { StandAt (may_fit limits.now frame.now) 0 arrivals.now places.now }
     ensures { (z : Terms) → AreLimits z limits.now → result
         ≡ list_any (λ m. is_of_right z (gone_of frame.now) m) (marked_all arrivals.now marks.now) }
 {
-    for place in places {
+    let later = no_less(places, settled);
+    for place in later {
         if *place >= marks.len() {
             return false;
         }
@@ -157,15 +127,18 @@ fn damage(bytes: &CheckedBytes) -> Option<Reason>
     None
 }
 
-/// What is wrong with a frame that no arrival explains. All that it fits stand at `places`.
+/// What is wrong with a frame that no arrival explains. An arrival that it fits and that isn't
+/// refused is behind the first `settled`. All that it fits stand at `places`.
 fn strangeness(
     limits: &Limits,
     arrivals: &[Arrived],
     marks: &[Mark],
+    settled: usize,
     places: &[usize],
     frame: &Frame,
 ) -> Strangeness
     requires marks { length marks.now ≤ length arrivals.now }
+    requires settled { NoneIsWanted Accepted limits.now frame.now settled arrivals.now marks.now }
     requires places { StandAt (may_fit limits.now frame.now) 0 arrivals.now places.now }
     ensures { (z : Terms) → AreLimits z limits.now →
         result ≡ strangeness_of z (marked_all arrivals.now marks.now) (gone_of frame.now) }
@@ -173,7 +146,7 @@ fn strangeness(
     match damage(&frame.bytes) {
         Some(reason) => Strangeness::Damaged(reason),
         None => {
-            if fits_unmarked(limits, arrivals, marks, places, frame) {
+            if fits_unmarked(limits, arrivals, marks, settled, places, frame) {
                 Strangeness::OutOfTurn
             } else {
                 Strangeness::NoArrival
@@ -182,20 +155,22 @@ fn strangeness(
     }
 }
 
-/// What is found of a frame that no arrival explains. An arrival that the finding names, behind the
-/// first `settled`, is marked so. Marks are those of the first arrivals. All arrivals that the
-/// frame fits stand at `places`.
+/// What is found of a frame that no arrival explains. An arrival that the finding names is marked
+/// so. Marks are those of the first arrivals. All arrivals that the frame fits stand at `places`;
+/// in its gaps none is wanted.
 pub(crate) fn unexplained(
     limits: &Limits,
     arrivals: &[Arrived],
     marks: &mut Vec<Mark>,
-    settled: usize,
+    gaps: Gaps,
     places: &[usize],
     frame: &Frame,
 ) -> Finding
     requires marks { length marks.old.items ≤ length arrivals.now }
-    requires within { settled ≤ length marks.old.items }
-    requires settled { AreSettled settled marks.old.items }
+    requires to_name { NoneIsWanted ToName limits.now frame.now gaps.to_name.to arrivals.now
+        marks.old.items }
+    requires accepted { NoneIsWanted Accepted limits.now frame.now gaps.accepted.to arrivals.now
+        marks.old.items }
     requires places { StandAt (may_fit limits.now frame.now) 0 arrivals.now places.now }
     ensures finding { (z : Terms) → AreLimits z limits.now → result
         ≡ finding_or (first_named z (gone_of frame.now) (marked_all arrivals.now marks.old.items))
@@ -205,12 +180,15 @@ pub(crate) fn unexplained(
         ≡ once_named z (gone_of frame.now) (marked_all arrivals.now marks.old.items) }
     ensures length { length marks.new.items ≡ length marks.old.items }
     ensures capacity { vec_capacity marks.new ≡ vec_capacity marks.old }
-    ensures kept { take settled marks.new.items ≡ take settled marks.old.items }
+    ensures stay { StayUnwanted marks.old.items marks.new.items }
 {
+    let settled = gaps.to_name.to;
     let later = no_less(places, settled);
     match first_place(limits, arrivals, marks.as_slice(), settled, later, frame) {
         None => {
-            let strangeness = strangeness(limits, arrivals, marks.as_slice(), places, frame);
+            let judged = marks.as_slice();
+            let behind = gaps.accepted.to;
+            let strangeness = strangeness(limits, arrivals, judged, behind, places, frame);
             Finding::Strange(frame.number, strangeness)
         }
         Some((place, reason)) => {
@@ -228,7 +206,7 @@ pub(crate) fn unexplained(
 /// that `known` gave.
 pub(crate) fn unexplained_all(
     limits: &Limits,
-    known: &KnownBytes,
+    known: &mut KnownBytes,
     each: &[usize],
     arrivals: &[Arrived],
     marks: &mut Vec<Mark>,
@@ -236,9 +214,9 @@ pub(crate) fn unexplained_all(
     found: &mut Vec<Finding>,
 )
     requires marks { length marks.old.items ≤ length arrivals.now }
-    requires known { AreKnown known.now arrivals.now }
-    requires each { AreEach known.now arrivals.now each.now }
-    requires settled { IsSettledTo known.now.settled marks.old.items }
+    requires known { AreKnown known.old arrivals.now }
+    requires each { AreEach known.old arrivals.now each.now }
+    requires settled { AreSettled known.old.gaps.items arrivals.now marks.old.items }
     requires none { found.old.items ≡ [] }
     requires room { length frames.now ≤ vec_capacity found.old }
     ensures found { (z : Terms) (time : ℕ) (j : Judged) → AreLimits z limits.now →
@@ -249,13 +227,14 @@ pub(crate) fn unexplained_all(
     ensures capacity { vec_capacity found.new ≡ vec_capacity found.old }
     ensures length { length marks.new.items ≡ length marks.old.items }
     ensures marks_capacity { vec_capacity marks.new ≡ vec_capacity marks.old }
-    ensures settled { IsSettledTo known.now.settled marks.new.items }
+    ensures known { AreKnown known.new arrivals.now }
+    ensures settled { AreSettled known.new.gaps.items arrivals.now marks.new.items }
 {
-    let mut settled = known.settled;
     for frame in frames {
+        let judged = marks.as_slice();
+        let gaps = known.settle(limits, arrivals, judged, frame);
         let places = known.places(limits, arrivals, frame, each);
-        settled = settled_for(marks.as_slice(), settled, places.len());
-        let finding = unexplained(limits, arrivals, marks, settled, places, frame);
+        let finding = unexplained(limits, arrivals, marks, gaps, places, frame);
         found.push_reserved(finding);
     }
 }

@@ -7,13 +7,14 @@ use Rattle.afdx_conform.specs.Findings.{Finding, Judged, aged, deviates, front_r
 use Rattle.afdx_conform.specs.HeldStates.{IsWithin, state_of}
 use Rattle.afdx_conform.specs.Limits.{gone_of}
 use Rattle.afdx_conform.specs.Marks.{arrival_of, marked_all, told}
-use Rattle.afdx_conform.specs.Naming.{IsSettledTo, with_last}
+use Rattle.afdx_conform.specs.Naming.{AreSettled, with_last}
 use Rattle.afdx_conform.specs.States.{State, led_by, states_at}
 use Rattle.afdx_conform.specs.declared.finding.Mark.{Mark}
 use Rattle.afdx_conform.specs.declared.states.Held.{Held}
 use Rattle.afdx_conform.proofs.ArrivalSteps.{stands-arrival, answered-none, more-marks, one-less}
 use Rattle.afdx_conform.proofs.DeviateSteps.{within-frames}
-use Rattle.afdx_conform.proofs.NamingLemmas.{settled-push, told-last}
+use Rattle.afdx_conform.proofs.GapLemmas.{settled-push}
+use Rattle.afdx_conform.proofs.NamingLemmas.{told-last}
 use Rattle.afdx_conform.proofs.PlacesLemmas.{each-slice}
 use Rattle.afdx_conform.proofs.arriving.go_wrong.Goals as goal
 
@@ -106,9 +107,12 @@ unexplained_all-requires-clause-each c =
 
 pub unexplained_all-requires-clause-settled : goal.unexplained_all-requires-clause-settled
 unexplained_all-requires-clause-settled c =
-    subst (λ (l : List Mark). IsSettledTo c.args.known.now.settled l) (sym c.in_ok-reserve.ensures.items) c.requires.settled
+    subst (λ (l : List Mark). AreSettled c.args.known.now.gaps.items c.args.arrivals.now l)
+    (sym c.in_ok-reserve.ensures.items)
+    c.requires.settled
 
 pub returns-clause-settled : goal.returns-clause-settled
 returns-clause-settled c =
-    settled-push c.args.known.now.settled c.unexplained_all.new.marks.items c.settle.new.judging.marks.items _
+    settled-push c.unexplained_all.new.known.gaps.items c.args.arrivals.now c.unexplained_all.new.marks.items
+    c.settle.new.judging.marks.items _
     (c.settle.ensures.marks ∙ c.push_reserved.ensures.items) c.unexplained_all.ensures.settled

@@ -13,7 +13,8 @@ use Rattle.std.specs.Prelude.{nat_lt}
 use Rattle.afdx_conform.proofs.AloneLemmas.{thinned-alone}
 use Rattle.afdx_conform.proofs.ArrivalSteps.{stands-arrival, stands-fault, answered-led, more-marks, one-less}
 use Rattle.afdx_conform.proofs.DeviateSteps.{some-held, within-frames, within-more}
-use Rattle.afdx_conform.proofs.NamingLemmas.{settled-push, told-none}
+use Rattle.afdx_conform.proofs.GapLemmas.{settled-push}
+use Rattle.afdx_conform.proofs.NamingLemmas.{told-none}
 use Rattle.afdx_conform.proofs.arriving.judge_with.Goals as goal
 
 pub returns-in-Some-clause-defined : goal.returns-in-Some-clause-defined
@@ -157,15 +158,18 @@ returns-clause-within c l by count r all = c.go_wrong.ensures.within l by count 
 
 pub returns-in-Some-clause-settled : goal.returns-in-Some-clause-settled
 returns-in-Some-clause-settled c =
-    settled-push c.args.known.now.settled c.args.judging.now.marks.items c.push.new.self.items _ c.in_ok-push-in-Some.ensures.items
+    settled-push c.args.known.now.gaps.items c.args.arrivals.now c.args.judging.now.marks.items c.push.new.self.items
+    _ c.in_ok-push-in-Some.ensures.items
     c.requires.settled
 
 pub returns-in-Some-led_alone-clause-settled : goal.returns-in-Some-led_alone-clause-settled
 returns-in-Some-led_alone-clause-settled c =
-    settled-push c.args.known.now.settled c.args.judging.now.marks.items c.go_on_alone.new.judging.marks.items _
+    settled-push c.args.known.now.gaps.items c.args.arrivals.now c.args.judging.now.marks.items
+    c.go_on_alone.new.judging.marks.items _
     c.in_ok-go_on_alone.ensures.marks c.requires.settled
 
 pub returns-then-has_any-clause-settled : goal.returns-then-has_any-clause-settled
 returns-then-has_any-clause-settled c =
-    settled-push c.args.known.now.settled c.args.judging.now.marks.items c.go_on.new.judging.marks.items _
+    settled-push c.args.known.now.gaps.items c.args.arrivals.now c.args.judging.now.marks.items
+    c.go_on.new.judging.marks.items _
     c.in_ok-go_on.ensures.marks c.requires.settled

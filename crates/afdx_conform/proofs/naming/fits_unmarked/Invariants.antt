@@ -9,7 +9,7 @@ use Rattle.afdx_conform.proofs.naming.fits_unmarked.Given as goal
 
 abbrev pub invariant-loop-place : goal.invariant-loop-place
 invariant-loop-place l = (at : ℕ) × StandAt (may_fit l.limits l.frame) at (drop at l.arrivals)
-    (drop l.place-index l.places)
+    (drop l.place-index l.later)
     × ((z : Terms) → AreLimits z l.limits →
     list_any (λ m. is_of_right z (gone_of l.frame) m) (marked_all l.arrivals l.marks)
     ≡ list_any (λ m. is_of_right z (gone_of l.frame) m) (drop at (marked_all l.arrivals l.marks)))

@@ -1,11 +1,13 @@
-use Rattle.std.proofs.Common.{rules, ◌<◌, List, length, subst}
+use Rattle.std.proofs.Common.{rules, ◌<◌, List, length, sym, subst}
 use Rattle.afdx_conform.specs.Findings.{strangeness}
 use Rattle.afdx_conform.specs.declared.finding.Finding.TheVariants.{Strange}
 use Rattle.afdx_conform.specs.declared.finding.Mark.{Mark}
+use Rattle.afdx_conform.specs.declared.gaps.Wanted.TheVariants.{ToName}
 use Rattle.afdx_conform.specs.KnownBytes.{may_fit}
 use Rattle.afdx_conform.specs.Limits.{gone_of}
 use Rattle.afdx_conform.specs.Marks.{marked_all}
-use Rattle.afdx_conform.specs.Naming.{IsNamedAt}
+use Rattle.afdx_conform.specs.Naming.{IsNamedAt, NoneIsWanted}
+use Rattle.afdx_conform.proofs.GapLemmas.{stay-named}
 use Rattle.afdx_conform.proofs.NamingLemmas.{named-finding, named-marks}
 use Rattle.afdx_conform.proofs.naming.unexplained.Goals as goal
 
@@ -30,3 +32,14 @@ returns-in-Some-clause-named c z a =
 pub first_place-requires-clause-places : goal.first_place-requires-clause-places
 first_place-requires-clause-places c = c.no_less-later.ensures (may_fit c.args.limits.now c.args.frame.now)
     c.args.arrivals.now c.requires.places
+
+pub first_place-requires-clause-settled : goal.first_place-requires-clause-settled
+first_place-requires-clause-settled c =
+    subst (λ (l : List Mark). NoneIsWanted ToName c.args.limits.now c.args.frame.now c.args.gaps.to_name.to
+    c.args.arrivals.now l)
+    (sym c.as_slice.ensures.value) c.requires.to_name
+
+pub returns-in-Some-clause-stay : goal.returns-in-Some-clause-stay
+returns-in-Some-clause-stay c =
+    let lt : c.in-Some.place < length c.args.marks.now.items = search rules in
+    stay-named c.args.marks.now.items c.in-Some.place c.in-Some.reason lt

@@ -1,4 +1,4 @@
-use Rattle.std.proofs.Common.{◌≡◌, ◌≤◌, ℕ, map, take, length, vec_len, vec_capacity}
+use Rattle.std.proofs.Common.{◌≡◌, ℕ, map, take, length, vec_len, vec_capacity}
 use Rattle.afdx_conform.specs.Findings.{Judged}
 use Rattle.afdx_conform.specs.Limits.{AreLimits, gone_of}
 use Rattle.afdx_conform.specs.Marks.{marked_all, told}
@@ -12,9 +12,8 @@ invariant-loop-frame l = record {
       → told time l.found.items (marked_all l.arrivals l.marks.items) j
       ≡ unexplained_all z time (map gone_of (take l.frame-index l.frames)) j;
   size : length l.marks.items ≡ length l.initial.marks.items;
-  low : l.settled ≤ length l.marks.items;
-  settled : AreSettled l.settled l.marks.items;
-  far : l.known.settled ≤ l.settled;
+  same_known : l.known ≡ record l.initial.known { gaps = l.known.gaps };
+  settled : AreSettled l.known.gaps.items l.arrivals l.marks.items;
   count : vec_len l.found ≡ l.frame-index;
   room : vec_capacity l.found ≡ vec_capacity l.initial.found;
   kept : vec_capacity l.marks ≡ vec_capacity l.initial.marks;

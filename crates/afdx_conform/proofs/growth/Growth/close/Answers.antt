@@ -4,13 +4,16 @@ use Rattle.afdx_conform.specs.Growing.{Decides, IsAfter, IsSound, undecided_by}
 use Rattle.afdx_conform.specs.HeldStates.{AreClosed, IsWithin}
 use Rattle.afdx_conform.specs.Histories.{coming, judged_by, next_of, unclosed}
 use Rattle.afdx_conform.specs.Judging.{AreFound, StandsFor}
+use Rattle.afdx_conform.specs.KnownBytes.{AreKnown}
 use Rattle.afdx_conform.specs.Leeway.{reach}
 use Rattle.afdx_conform.specs.Limits.{AreFrames, gone_of}
+use Rattle.afdx_conform.specs.Naming.{AreSettled}
 use Rattle.afdx_conform.specs.States.{Closing}
 use Rattle.afdx_conform.specs.declared.arrived.Arrived.{Arrived}
 use Rattle.afdx_conform.specs.declared.finding.Finding.{Finding}
 use Rattle.afdx_conform.specs.declared.growth.Growth.{Growth}
 use Rattle.afdx_conform.specs.declared.limits.Frame.{Frame}
+use Rattle.afdx_conform.proofs.GatherLemmas.{known-after, with_known}
 use Rattle.afdx_conform.proofs.GrowthCloses.{Close, after-close, closed-of, frames-held}
 use Rattle.afdx_conform.proofs.ClosedLemmas.{closes, same-frame}
 use Rattle.afdx_conform.proofs.UndecidedLemmas.{undecided-less}
@@ -37,8 +40,11 @@ forget-requires c =
       came = s.came;
       frames = s.frames;
       left = s.left;
-      known = s.known;
-      settled = c.in_ok-found.ensures.settled;
+      known = subst (λ (l : List Arrived). AreKnown c.close_with.new.known l) c.as_slice.ensures.value
+          c.in_ok-found.ensures.known;
+      settled = subst (λ (l : List Arrived). AreSettled c.close_with.new.known.gaps.items l
+          c.close_with.new.judging.marks.items)
+          c.as_slice.ensures.value c.in_ok-found.ensures.settled;
     })
 
 pub returns-clause-decides : goal.returns-clause-decides
@@ -67,10 +73,13 @@ returns-clause-decides c z xs ys cut over f sure at next r =
     let one = subst (λ (s : Growth). IsAfter z xs ys cut (Closing c.index.result.now.time ∷ over) s
     × AreFound (c.index.result.now.time + reach z.by) c.in_ok-found.found.items (judged_by z xs ys over)
     (judged_by z xs ys (Closing c.index.result.now.time ∷ over))) (sym (c.count.ensures
-    ∙ ap (λ (l : List Finding). Close z xs ys cut over c.index.result.now c.args.self.now c.close_with.new.judging l to)
-    c.as_slice-3.ensures.value))
+    ∙ ap (λ (l : List Finding). with_known (Close z xs ys cut over c.index.result.now c.args.self.now
+    c.close_with.new.judging l to)
+    c.close_with.new.known) c.as_slice-3.ensures.value))
+    (known-after z xs ys cut (Closing c.index.result.now.time ∷ over) _ c.close_with.new.known
     (after-close z xs ys cut over c.index.result.now c.args.self.now c.close_with.new.judging c.in_ok-found.found.items
-    c.closed_by-to.result r.gone r.past r.kept r.continues sure held out.1 c.in_ok-found.ensures.marks r.after next') in
+    c.closed_by-to.result r.gone r.past r.kept r.continues sure held out.1 c.in_ok-found.ensures.marks r.after
+    next')) in
     subst (λ (v : Frame). Decides z xs ys cut over c.forget.new.self (Closing v.time) None c.in_ok-found.found.items) same (
       c.forget.ensures.after z xs ys cut (Closing c.index.result.now.time ∷ over) one.0,
       one.1,

@@ -10,13 +10,16 @@ use Rattle.afdx_conform.specs.Growing.{Decides, IsAfter, IsKnownBy, IsQuiet, IsS
 use Rattle.afdx_conform.specs.HeldStates.{IsWithin}
 use Rattle.afdx_conform.specs.Histories.{coming, judged_by, next_of, unclosed}
 use Rattle.afdx_conform.specs.Judging.{AreFound, StandsFor}
+use Rattle.afdx_conform.specs.KnownBytes.{AreKnown}
 use Rattle.afdx_conform.specs.LeewayOf.{leeway_of}
 use Rattle.afdx_conform.specs.Marks.{IsJudged, arrival_of}
+use Rattle.afdx_conform.specs.Naming.{AreSettled}
 use Rattle.afdx_conform.specs.States.{Came, arrivals_came}
 use Rattle.afdx_conform.specs.declared.arrived.Arrived.{Arrived}
 use Rattle.afdx_conform.specs.declared.growth.Growth.{Growth}
 use Rattle.afdx_conform.specs.declared.limits.Frame.{Frame}
 use Rattle.afdx_conform.proofs.ClosedLemmas.{same-arrived}
+use Rattle.afdx_conform.proofs.GatherLemmas.{known-after, with_known}
 use Rattle.afdx_conform.proofs.GrowthDecides.{Come, after-come, outcome-of}
 use Rattle.afdx_conform.proofs.LeanLemmas.{some-over}
 use Rattle.afdx_conform.proofs.UndecidedLemmas.{undecided-less}
@@ -53,8 +56,11 @@ close_explained-requires-clause-sound c =
       came = s.came;
       frames = s.frames;
       left = s.left;
-      known = s.known;
-      settled = c.in_ok-found.ensures.settled;
+      known = subst (λ (l : List Arrived). AreKnown c.judge_with.new.known l) c.as_slice.ensures.value
+          c.in_ok-found.ensures.known;
+      settled = subst (λ (l : List Arrived). AreSettled c.judge_with.new.known.gaps.items l
+          c.judge_with.new.judging.marks.items)
+          c.as_slice.ensures.value c.in_ok-found.ensures.settled;
     })
 
 pub returns-clause-decides : goal.returns-clause-decides
@@ -85,11 +91,13 @@ returns-clause-decides c = (
       let one = subst (λ (s : Growth). IsAfter z xs ys cut (Came (arrival_of c.index-arrived.result.now) ∷ over) s
       × AreFound c.index-arrived.result.now.time c.in_ok-found.found.items (judged_by z xs ys over)
       (judged_by z xs ys (Came (arrival_of c.index-arrived.result.now) ∷ over))) (sym (c.count.ensures
-      ∙ ap (λ (l : List Finding). Come z xs ys cut over a c.args.self.now c.judge_with.new.judging c.number_if-self.result
-      c.last_after-last.result l) c.as_slice-3.ensures.value))
+      ∙ ap (λ (l : List Finding). with_known (Come z xs ys cut over a c.args.self.now c.judge_with.new.judging
+      c.number_if-self.result
+      c.last_after-last.result l) c.judge_with.new.known) c.as_slice-3.ensures.value))
+      (known-after z xs ys cut (Came (arrival_of c.index-arrived.result.now) ∷ over) _ c.judge_with.new.known
       (after-come z xs ys cut over c.index-arrived.result.now c.args.self.now c.judge_with.new.judging c.number_if-self.result
       c.last_after-last.result c.in_ok-found.found.items r.gone r.past r.kept c.requires.place here r.continues judged sure
-      held.0 held.1 c.in_ok-found.ensures.marks c.last_after-last.ensures c.number_if-self.ensures r.after next') in
+      held.0 held.1 c.in_ok-found.ensures.marks c.last_after-last.ensures c.number_if-self.ensures r.after next')) in
       let two = c.close_explained.ensures.after.1 z xs ys cut (Came (arrival_of c.index-arrived.result.now) ∷ over) one.0 in
       let closed = c.close_explained.ensures.after.0 in
       let told : c.moment_of-told.result ≡ moment_at z c.index-arrived.result.now.time =

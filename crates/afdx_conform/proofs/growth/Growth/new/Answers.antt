@@ -1,4 +1,4 @@
-use Rattle.std.proofs.Common.{List, length, refl, ap, arith}
+use Rattle.std.proofs.Common.{rules, List, length, refl, ap, arith}
 use Rattle.afdx_conform.specs.declared.arrived.Arrived.{Arrived}
 use Rattle.afdx_conform.specs.declared.limits.Frame.{Frame}
 use Rattle.afdx_conform.proofs.GrowthStarts.{after-none}
@@ -15,3 +15,18 @@ returns-clause-due c =
     let arrivals = ap (λ (l : List Arrived). length l) c.new-3.ensures.items in
     let frames = ap (λ (l : List Frame). length l) c.new-5.ensures.items in
     due-nothing _ (omega (arith, arrivals)) (omega (arith, frames))
+
+pub returns-clause-sound : goal.returns-clause-sound
+returns-clause-sound c = record {
+  rates = search rules;
+  within = search rules;
+  closed = search rules;
+  places = search rules;
+  uncertain = search rules;
+  arrivals = search rules;
+  came = search rules;
+  frames = search rules;
+  left = search rules;
+  known = c.new-4.ensures.known _;
+  settled = c.new-4.ensures.settled _ _;
+}
