@@ -35,7 +35,8 @@ kept-map f test same (x ∷ xs) =
     ∙ by (test x) (kept-map f test same xs)
   where
     by : (b : Bool) → kept test (map f xs) ≡ map f (kept test xs)
-        → (if b then f x ∷ kept test (map f xs) else kept test (map f xs)) ≡ map f (if b then x ∷ kept test xs else kept test xs)
+        → (if b then f x ∷ kept test (map f xs) else kept test (map f xs))
+        ≡ map f (if b then x ∷ kept test xs else kept test xs)
     by true e = ap (λ (l : List State). f x ∷ l) e
     by false e = e
 
@@ -74,12 +75,15 @@ module _ (z : Terms) where
   unfolding first_states
   first-more levels [] [] all = refl
   first-more levels [] (m ∷ more) all =
-      ap (λ (l : List State). state_with (m ∷ more) levels 0 ∷ l) (if-false (is_begun z m) (first_states z levels more) [] all.0)
+      ap (λ (l : List State). state_with (m ∷ more) levels 0 ∷ l)
+      (if-false (is_begun z m) (first_states z levels more) [] all.0)
   first-more levels (y ∷ ys) more all =
-      ap (λ (l : List State). state_with (y ∷ (ys ++ more)) levels 0 ∷ l) (by (is_begun z y) (first-more levels ys more all))
+      ap (λ (l : List State). state_with (y ∷ (ys ++ more)) levels 0 ∷ l)
+      (by (is_begun z y) (first-more levels ys more all))
     where
       by : (b : Bool) → first_states z levels (ys ++ more) ≡ map (with_more more) (first_states z levels ys)
-          → (if b then first_states z levels (ys ++ more) else []) ≡ map (with_more more) (if b then first_states z levels ys else [])
+          → (if b then first_states z levels (ys ++ more) else []) ≡ map (with_more more)
+          (if b then first_states z levels ys else [])
       by true e = e
       by false e = refl
 
@@ -94,7 +98,8 @@ module _ (z : Terms) where
       by false e = refl
   accepted-more x levels n [] (m ∷ more) opens all =
       if-false (fits z x m) (state_with more levels n ∷ []) [] (too-late x m all.0)
-      ∙ sym (ap (λ (l : List State). map (with_more (m ∷ more)) l) (if-false (is_open z x) (state_with [] levels (n + 1) ∷ []) [] opens))
+      ∙ sym (ap (λ (l : List State). map (with_more (m ∷ more)) l)
+      (if-false (is_open z x) (state_with [] levels (n + 1) ∷ []) [] opens))
   accepted-more x levels n (y ∷ rest) more opens all = by (fits z x y)
     where
       by : (b : Bool) → (if b then state_with (rest ++ more) levels n ∷ [] else [])
@@ -107,8 +112,10 @@ module _ (z : Terms) where
       → (s : State) → states_at z x levels (with_more more s) ≡ map (with_more more) (states_at z x levels s)
   unfolding states_at
   at-more x levels more opens all s =
-      ap (λ (l : List State). l ++ refused-states (s.rest ++ more)) (may-by (may_pass (link z) z.by (charge z x) levels))
-      ∙ ap (λ (l : List State). map (with_more more) passed ++ l) (must-by (has_to_pass (link z) z.by (charge z x) levels))
+      ap (λ (l : List State). l ++ refused-states (s.rest ++ more))
+      (may-by (may_pass (link z) z.by (charge z x) levels))
+      ∙ ap (λ (l : List State). map (with_more more) passed ++ l)
+      (must-by (has_to_pass (link z) z.by (charge z x) levels))
       ∙ sym (map-joined (with_more more) passed (refused-states s.rest))
     where
       refused-states : List Gone → List State
@@ -120,14 +127,17 @@ module _ (z : Terms) where
           then accepted_states z x (charged (link z) z.by (charge z x) levels) s.waiting s.rest else []
 
       may-by : (b : Bool)
-          → (if b then accepted_states z x (charged (link z) z.by (charge z x) levels) s.waiting (s.rest ++ more) else [])
-          ≡ map (with_more more) (if b then accepted_states z x (charged (link z) z.by (charge z x) levels) s.waiting s.rest else [])
+          → (if b then accepted_states z x (charged (link z) z.by (charge z x) levels) s.waiting (s.rest ++ more)
+          else [])
+          ≡ map (with_more more) (if b then accepted_states z x (charged (link z) z.by (charge z x) levels) s.waiting
+          s.rest else [])
       may-by true = accepted-more x (charged (link z) z.by (charge z x) levels) s.waiting s.rest more opens all
       may-by false = refl
 
       must-by : (b : Bool)
           → (if b then [] else state_with (s.rest ++ more) (refused (link z) z.by (charge z x) levels) s.waiting ∷ [])
-          ≡ map (with_more more) (if b then [] else state_with s.rest (refused (link z) z.by (charge z x) levels) s.waiting ∷ [])
+          ≡ map (with_more more) (if b then [] else state_with s.rest (refused (link z) z.by (charge z x) levels)
+          s.waiting ∷ [])
       must-by true = refl
       must-by false = refl
 
@@ -135,8 +145,11 @@ pub later_frames : LaterFramesChangeNothing
 unfolding states_after AreBeyond
 later_frames z ys more [] all = first-more z (first_levels (link z) z.by z.by.start) ys more all
 later_frames z ys more (Came x ∷ before) all =
-    let lead : State → List State = λ s. states_at z x (levels_then z s.levels (last_time z.by (arrivals_came before)) x) s in
-    ap (λ (l : List State). led_by (λ s. states_at z x (levels_then z s.levels (last_time z.by (arrivals_came before)) x) s) l)
+    let lead : State → List State = λ s. states_at z x (levels_then z s.levels (last_time z.by (arrivals_came before))
+    x) s in
+    ap
+    (λ (l : List State). led_by
+    (λ s. states_at z x (levels_then z s.levels (last_time z.by (arrivals_came before)) x) s) l)
     (later_frames z ys more before all.2)
     ∙ led-map (with_more more)
     (λ s. states_at z x (levels_then z s.levels (last_time z.by (arrivals_came before)) x) s)
@@ -145,4 +158,5 @@ later_frames z ys more (Came x ∷ before) all =
     (states_after z ys before)
 later_frames z ys more (Closing time ∷ before) all =
     ap (λ (l : List State). kept (λ s. are_behind time s.rest) l) (later_frames z ys more before all.1)
-    ∙ kept-map (with_more more) (λ s. are_behind time s.rest) (λ s. behind-same time s.rest more all.0) (states_after z ys before)
+    ∙ kept-map (with_more more) (λ s. are_behind time s.rest) (λ s. behind-same time s.rest more all.0)
+    (states_after z ys before)

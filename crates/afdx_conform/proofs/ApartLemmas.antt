@@ -1,7 +1,7 @@
 -- States of which none outdoes another, as other numbers of frames are explained in them.
-use Rattle.std.proofs.Common.{◌≡◌, ℕ, zero, suc, ◌+◌, ◌≤◌, ◌<◌, Bool, true, false, ◌&&◌, List, [], ◌∷◌, ◌++◌, take, drop, get_or, length, refl, sym, ap, ◌∙◌, subst, arith}
+use Rattle.std.proofs.Common.{◌≡◌, ℕ, ◌+◌, ◌≤◌, ◌<◌, Bool, true, false, ◌&&◌, List, [], ◌∷◌, ◌++◌, take, get_or, length, refl, sym, ap, ◌∙◌, subst, arith}
 use Rattle.std.proofs.lemmas.Bool.{and_parts, eqb-true}
-use Rattle.std.proofs.lemmas.List.{take_more, take_all}
+use Rattle.std.proofs.lemmas.List.{take_all}
 use Rattle.std.proofs.lemmas.List.Elements.{All-nil}
 use Rattle.std.specs.Prelude.{if◌then◌else◌, nat_eq, nat_le, not, ◌||◌, map, All}
 use Rattle.std.specs.List.{AllByRecursion, filter, list_any}
@@ -10,7 +10,7 @@ use Rattle.afdx_conform.specs.Streams.{Gone}
 use Rattle.afdx_conform.specs.Thinned.{AreEnough}
 use Rattle.afdx_conform.specs.declared.levels.Rates.{Rates}
 use Rattle.afdx_conform.specs.declared.states.Held.{Held}
-use Rattle.afdx_conform.proofs.KeepLemmas.{all-with, enough-none, enough-next, kept-front, front-none, kept-all}
+use Rattle.afdx_conform.proofs.KeepLemmas.{enough-none, enough-next, kept-front, front-none, kept-all}
 use Rattle.afdx_conform.proofs.FewLemmas.{AreFew, few-none, few-next}
 
 -- fewer frames are explained in each
@@ -20,25 +20,17 @@ AreBelow top xs = AllByRecursion (λ h. h.passed < top) xs
 pub below-none : (top : ℕ) → AreBelow top []
 below-none top = tt
 
-pub below-append : (top : ℕ) (xs ys : List Held) → AreBelow top xs → AreBelow top ys → AreBelow top (xs ++ ys)
-below-append top [] ys all more = more
-below-append top (x ∷ xs) ys all more = (all.0, below-append top xs ys all.1 more)
-
 pub below-on : (top bound : ℕ) (xs : List Held) → top ≤ bound → AreBelow top xs → AreBelow bound xs
 below-on top bound [] le all = tt
 below-on top bound (x ∷ xs) le all = let h = all.0 in (omega (arith, h, le), below-on top bound xs le all.1)
-
-pub below-more : (top : ℕ) (xs : List Held) (i : ℕ) (d : Held) → i < length xs → AreBelow top (take i xs)
-    → (get_or xs i d).passed < top → AreBelow top (take (i + 1) xs)
-below-more top xs i d lt all h = subst (λ (l : List Held). AreBelow top l) (sym (take_more xs i d lt))
-    (all-with (λ (x : Held). x.passed < top) (take i xs) (get_or xs i d) all h)
 
 outdoes-equal : (a b : Held) → outdoes a b ≡ true → a.passed ≡ b.passed
 unfolding outdoes
 outdoes-equal a b e =
     let one = and_parts (nat_eq a.passed b.passed && nat_le a.levels.lo b.levels.lo && nat_le b.levels.hi a.levels.hi)
     (nat_le a.waiting b.waiting) e in
-    let two = and_parts (nat_eq a.passed b.passed && nat_le a.levels.lo b.levels.lo) (nat_le b.levels.hi a.levels.hi) one.0 in
+    let two = and_parts (nat_eq a.passed b.passed && nat_le a.levels.lo b.levels.lo) (nat_le b.levels.hi a.levels.hi)
+    one.0 in
     let three = and_parts (nat_eq a.passed b.passed) (nat_le a.levels.lo b.levels.lo) two.0 in
     eqb-true a.passed b.passed three.0
 
@@ -81,7 +73,8 @@ append-on (x ∷ xs) ys zs = ap (λ (l : List Held). x ∷ l) (append-on xs ys z
 pub kept-apart : (s : Held) (xs ys : List Held) → AreBelow s.passed xs
     → kept_with s (xs ++ ys) ≡ xs ++ kept_with s ys
 unfolding kept_with
-kept-apart s xs ys all = by (list_any (λ x. outdoes x s) (xs ++ ys)) (list_any (λ x. outdoes x s) ys) (any-apart s xs ys all)
+kept-apart s xs ys all = by (list_any (λ x. outdoes x s) (xs ++ ys)) (list_any (λ x. outdoes x s) ys)
+    (any-apart s xs ys all)
   where
     by : (b c : Bool) → b ≡ c
         → (if b then xs ++ ys else filter (λ x. not (outdoes s x)) (xs ++ ys) ++ (s ∷ []))
@@ -91,15 +84,6 @@ kept-apart s xs ys all = by (list_any (λ x. outdoes x s) (xs ++ ys)) (list_any 
         ∙ append-on xs (filter (λ x. not (outdoes s x)) ys) (s ∷ [])
     by true false e = absurd (cc)
     by false true e = absurd (cc)
-
-pub split-is : (n : ℕ) (xs ys : List Held) → (xs ++ take n ys) ++ drop n ys ≡ xs ++ ys
-split-is n xs ys = append-on xs (take n ys) (drop n ys) ∙ ap (λ (l : List Held). xs ++ l) (both n ys)
-  where
-    both : (n : ℕ) (ys : List Held) → take n ys ++ drop n ys ≡ ys
-    both zero [] = refl
-    both zero (y ∷ ys) = refl
-    both (suc n) [] = refl
-    both (suc n) (y ∷ ys) = ap (λ (l : List Held). y ∷ l) (both n ys)
 
 -- these are what is kept of the first of all
 pub record AreKeptOf (first all out : List Held) : Type 0 where

@@ -22,7 +22,8 @@ marked-push (x ∷ xs) [] a m lt = none xs
     none : (l : List Arrived) → marked_of x m ∷ marked_all l [] ≡ marked_of x m ∷ []
     none [] = refl
     none (y ∷ l) = refl
-marked-push (x ∷ xs) (n ∷ ms) a m lt = ap (λ (l : List Marked). marked_of x n ∷ l) (marked-push xs ms a m (omega (arith, lt)))
+marked-push (x ∷ xs) (n ∷ ms) a m lt = ap (λ (l : List Marked). marked_of x n ∷ l)
+    (marked-push xs ms a m (omega (arith, lt)))
 
 -- whether one of the states passes a test
 pub any-held : (ys : List Gone) (test : State → Bool) (held : List Held) (i : ℕ) (h : Held) (b : Bool) → i < length held

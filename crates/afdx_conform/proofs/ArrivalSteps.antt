@@ -61,21 +61,26 @@ module _ (z : Terms) (behind : List Arrival) (last : ℕ) (x : Arrival) (j : Jud
   by-led [] e = absurd (cc)
   by-led (s ∷ l) e = refl
 
-  pub answered-led : (l : List State) → Led ≡ l → has_some l ≡ true → answered_by z behind last x Led j ≡ with_states l j
+  pub answered-led : (l : List State) → Led ≡ l → has_some l ≡ true → answered_by z behind last x Led j
+      ≡ with_states l j
   answered-led l e some = ap (λ (t : List State). answered_by z behind last x t j) e ∙ by-led l some
 
-  pub answered-none : Led ≡ [] → answered_by z behind last x Led j ≡ deviates z behind x (aged z last x j.states) (front_rest j.states) j
+  pub answered-none : Led ≡ [] → answered_by z behind last x Led j ≡ deviates z behind x (aged z last x j.states)
+      (front_rest j.states) j
   answered-none e = ap (λ (t : List State). answered_by z behind last x t j) e
 
   few-is : (ys : List Gone) (few : List Held) (n : ℕ) (k : Judged) → map (state_of ys) few ≡ thinned_onto [] k.states
       → few_of z n k ≡ judged_with (map (state_of ys) few) k.arrivals k.findings k.frames (k.uncertain + n)
       (nat_lt most_states (length few))
   few-is ys few n k e =
-      ap (λ (l : List State). judged_with l k.arrivals k.findings k.frames (k.uncertain + n) (nat_lt most_states (length l))) (sym e)
-      ∙ ap (λ (m : ℕ). judged_with (map (state_of ys) few) k.arrivals k.findings k.frames (k.uncertain + n) (nat_lt most_states m))
+      ap (λ (l : List State). judged_with l k.arrivals k.findings k.frames (k.uncertain + n)
+      (nat_lt most_states (length l))) (sym e)
+      ∙ ap (λ (m : ℕ). judged_with (map (state_of ys) few) k.arrivals k.findings k.frames (k.uncertain + n)
+      (nat_lt most_states m))
       (length-map few (state_of ys))
 
-  pub came-whole : (ys : List Gone) (mid few : List Held) (found : List Finding) (arrivals : List Marked) (reason : Option Reason) (u :
+  pub came-whole : (ys : List Gone) (mid few : List Held) (found : List Finding) (arrivals : List Marked)
+      (reason : Option Reason) (u :
       Bool)
       → j.is_unsure ≡ false → fault_of (Some z.rule) x.port x.bytes ≡ None
       → answered_by z behind last x Led j ≡ with_states (map (state_of ys) mid) (told x.time found arrivals j)
@@ -86,15 +91,19 @@ module _ (z : Terms) (behind : List Arrival) (last : ℕ) (x : Arrival) (j : Jud
       (nat_lt most_states (length few))
   came-whole ys mid few found arrivals reason u sure fault answered thin mark unc =
       came-is sure fault
-      ∙ ap (λ (k : Judged). with_mark x (rate_mark z last x j.states) (few_of z (one_if z (is_uncertain z last x j.states)) k)) answered
+      ∙ ap (λ (k : Judged). with_mark x (rate_mark z last x j.states)
+      (few_of z (one_if z (is_uncertain z last x j.states)) k)) answered
       ∙ ap (λ (k : Judged). with_mark x (rate_mark z last x j.states) k)
-      (few-is ys few (one_if z (is_uncertain z last x j.states)) (with_states (map (state_of ys) mid) (told x.time found arrivals j))
+      (few-is ys few (one_if z (is_uncertain z last x j.states)) (with_states (map (state_of ys) mid)
+      (told x.time found arrivals j))
       thin)
-      ∙ ap (λ (n : ℕ). judged_with (map (state_of ys) few) (arrivals ++ (marked x (rate_mark z last x j.states) false ∷ []))
+      ∙ ap (λ (n : ℕ). judged_with (map (state_of ys) few)
+      (arrivals ++ (marked x (rate_mark z last x j.states) false ∷ []))
       (told x.time found arrivals j).findings (told x.time found arrivals j).frames (j.uncertain + n)
       (nat_lt most_states (length few))) (one-is z (is_uncertain z last x j.states))
       ∙ ap (λ (o : Option Reason). judged_with (map (state_of ys) few) (arrivals ++ (marked x o false ∷ []))
-      (told x.time found arrivals j).findings (told x.time found arrivals j).frames (j.uncertain + one_of (is_uncertain z last x
+      (told x.time found arrivals j).findings (told x.time found arrivals j).frames
+      (j.uncertain + one_of (is_uncertain z last x
       j.states))
       (nat_lt most_states (length few))) (sym mark)
       ∙ ap (λ (b : Bool). judged_with (map (state_of ys) few) (arrivals ++ (marked x reason false ∷ []))
@@ -105,7 +114,8 @@ no-frames : (n : ℕ) → n ≡ n + frames_in []
 unfolding frames_in
 no-frames n = let e : n ≡ n + 0 = omega arith in e
 
-module _ (rates : Rates) (fs : List Frame) (xs : List Arrived) (z : Terms) (behind : List Arrival) (last : ℕ) (a : Arrived) (j : Judged)
+module _ (rates : Rates) (fs : List Frame) (xs : List Arrived) (z : Terms) (behind : List Arrival) (last : ℕ)
+    (a : Arrived) (j : Judged)
     (old new : Judging) (s : StandsFor rates fs xs j old) (lt : length old.marks.items < length xs)
     (at : a ≡ get_or xs (length old.marks.items) a) where
   pushed-marks : (ms : List Mark) (m : Mark) → length ms ≡ length old.marks.items
@@ -126,10 +136,12 @@ module _ (rates : Rates) (fs : List Frame) (xs : List Arrived) (z : Terms) (behi
       → new.uncertain ≡ old.uncertain + one_of u
       → new.is_unsure ≡ nat_lt most_states (length new.held.items)
       → All (λ h. IsWithin rates (length fs) (length new.marks.items) h) new.held.items
-      → StandsFor rates fs xs (came_to z behind last (arrival_of a) j) new × AreFound a.time found j (came_to z behind last (arrival_of
+      → StandsFor rates fs xs (came_to z behind last (arrival_of a) j) new × AreFound a.time found j
+      (came_to z behind last (arrival_of
       a) j)
   stands-arrival ms mid found reason u sure fault answered thin mark unc len nm nu nn within =
-      let whole = came-whole z behind last (arrival_of a) j (map gone_of fs) mid new.held.items found (marked_all xs ms) reason u sure
+      let whole = came-whole z behind last (arrival_of a) j (map gone_of fs) mid new.held.items found
+      (marked_all xs ms) reason u sure
       fault
       answered thin mark unc in
       let marks = ap (λ (l : List Mark). marked_all xs l) nm
@@ -151,7 +163,8 @@ module _ (rates : Rates) (fs : List Frame) (xs : List Arrived) (z : Terms) (behi
       → new.marks.items ≡ old.marks.items ++ (record { reason = Some fault; is_named = false } ∷ [])
       → new.uncertain ≡ old.uncertain → new.is_unsure ≡ old.is_unsure
       → All (λ h. IsWithin rates (length fs) (length new.marks.items) h) new.held.items
-      → StandsFor rates fs xs (came_to z behind last (arrival_of a) j) new × AreFound a.time found j (came_to z behind last (arrival_of
+      → StandsFor rates fs xs (came_to z behind last (arrival_of a) j) new × AreFound a.time found j
+      (came_to z behind last (arrival_of
       a) j)
   stands-fault fault found nothing sure e held nm nu nn within =
       let whole = came-fault z behind last (arrival_of a) j fault sure e in
@@ -161,7 +174,8 @@ module _ (rates : Rates) (fs : List Frame) (xs : List Arrived) (z : Terms) (behi
           within = within;
           marks = ap (λ (l : List Mark). marked_all xs l) nm
               ∙ pushed-marks old.marks.items (record { reason = Some fault; is_named = false }) refl
-              ∙ ap (λ (l : List Marked). l ++ (marked_of a (record { reason = Some fault; is_named = false }) ∷ [])) s.marks;
+              ∙ ap (λ (l : List Marked). l ++ (marked_of a (record { reason = Some fault; is_named = false }) ∷ []))
+              s.marks;
           uncertain = nu ∙ s.uncertain;
           unsure = nn ∙ s.unsure;
         },
@@ -172,8 +186,10 @@ module _ (rates : Rates) (fs : List Frame) (xs : List Arrived) (z : Terms) (behi
       )
 
 -- a state more, with a mark more
-pub more-marks : (rates : Rates) (frames n : ℕ) (ms all : List Mark) (m : Mark) (held : List Held) → all ≡ ms ++ (m ∷ [])
-    → length ms ≡ n → All (λ h. IsWithin rates frames (n + 1) h) held → All (λ h. IsWithin rates frames (length all) h) held
+pub more-marks : (rates : Rates) (frames n : ℕ) (ms all : List Mark) (m : Mark) (held : List Held)
+    → all ≡ ms ++ (m ∷ [])
+    → length ms ≡ n → All (λ h. IsWithin rates frames (n + 1) h) held
+    → All (λ h. IsWithin rates frames (length all) h) held
 more-marks rates frames n ms all m held e len within =
     subst (λ (k : ℕ). All (λ (h : Held). IsWithin rates frames k h) held)
     (sym (ap (λ (l : List Mark). length l) e ∙ length_push ms m ∙ ap (λ (k : ℕ). k + 1) len)) within

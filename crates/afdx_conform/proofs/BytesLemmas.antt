@@ -35,7 +35,8 @@ or-true false = refl
 wrong-is : (message : List ℕ) → are_wrong (whole Wrong message) ≡ true
 unfolding whole
 wrong-is message = (bytes_eq-Decides (sealed_wrongly message) (sealed_wrongly (front_of (sealed_wrongly message)))).1
-    (ap (λ (l : List ℕ). sealed_wrongly l) (front-at message (to_le_bytes w32 (0xffff_ffff - sequence_of message)) refl))
+    (ap (λ (l : List ℕ). sealed_wrongly l) (front-at message (to_le_bytes w32 (0xffff_ffff - sequence_of message))
+    refl))
 
 missing-is : (message : List ℕ) → whole Missing message ≡ message
 unfolding whole

@@ -14,7 +14,8 @@ use Rattle.afdx_conform.specs.declared.limits.Frame.{Frame}
 
 -- ---- a place
 
-pub same-arrived : (xs : List Arrived) (i : ℕ) (a b : Arrived) → i < length xs → a ≡ get_or xs i a → b ≡ get_or xs i b → b ≡ a
+pub same-arrived : (xs : List Arrived) (i : ℕ) (a b : Arrived) → i < length xs → a ≡ get_or xs i a → b ≡ get_or xs i b
+    → b ≡ a
 same-arrived xs i a b lt p q = q ∙ get_or_default xs i b a lt ∙ sym p
 
 pub some-arrived : (xs : List Arrived) (i : ℕ) → i < length xs → (a : Arrived) × (a ≡ get_or xs i a)
@@ -38,7 +39,8 @@ not-later time other b told e = by (nat_lt time other) refl
     by true k = let yes : b ≡ true = told.1 (ltb-true time other k) in absurd (cc)
     by false k = ltb-false time other k
 
-pub closed-more : (fs : List Frame) (from place time : ℕ) (v : Frame) → v ≡ get_or fs place v → place < length fs → v.time ≤ time
+pub closed-more : (fs : List Frame) (from place time : ℕ) (v : Frame) → v ≡ get_or fs place v → place < length fs
+    → v.time ≤ time
     → ((k : ℕ) (f : Frame) → from ≤ k → k < place → f ≡ get_or fs k f → f.time ≤ time)
     → (k : ℕ) (f : Frame) → from ≤ k → k < place + 1 → f ≡ get_or fs k f → f.time ≤ time
 closed-more fs from place time v is lt le inv k f low less at = by (nat_lt k place) refl
@@ -78,7 +80,8 @@ front-closed fs time to within closed k d lt =
     (closed k (get_or fs k d) less (at-place fs k d inside))
 
 rest-behind : (fs : List Frame) (time to : ℕ)
-    → ((k : ℕ) (f : Frame) → to ≤ k → k < length fs → f ≡ get_or fs k f → time < f.time) → All (λ f. time < f.time) (drop to fs)
+    → ((k : ℕ) (f : Frame) → to ≤ k → k < length fs → f ≡ get_or fs k f → time < f.time)
+    → All (λ f. time < f.time) (drop to fs)
 rest-behind fs time to behind k d lt =
     let size = length-drop to fs in
     let inside : to + k < length fs = omega (arith, lt, size) in
@@ -94,7 +97,8 @@ all-gone P (f ∷ fs) all = (all.0, all-gone P fs all.1)
 are-behind : (time : ℕ) (ys : List Gone) → AllByRecursion (λ (y : Gone). time < y.time) ys → are_behind time ys ≡ true
 unfolding are_behind
 are-behind time [] all = refl
-are-behind time (y ∷ ys) all = and_from (nat_lt time y.time) (are_behind time ys) (lt-ltb time y.time all.0) (are-behind time ys all.1)
+are-behind time (y ∷ ys) all = and_from (nat_lt time y.time) (are_behind time ys) (lt-ltb time y.time all.0)
+    (are-behind time ys all.1)
 
 drop-gone : (fs : List Frame) (n : ℕ) → drop n (map gone_of fs) ≡ map gone_of (drop n fs)
 drop-gone fs zero = refl

@@ -35,7 +35,8 @@ none-some : (l : List State) → has_some l ≡ false → l ≡ []
 none-some [] e = refl
 none-some (s ∷ l) e = absurd (cc)
 
-by-some : (z : Terms) (time : ℕ) (l : List State) (j : Judged) → has_some l ≡ true → closed_by z time l j ≡ with_states l j
+by-some : (z : Terms) (time : ℕ) (l : List State) (j : Judged) → has_some l ≡ true
+    → closed_by z time l j ≡ with_states l j
 by-some z time [] j e = absurd (cc)
 by-some z time (s ∷ l) j e = refl
 
@@ -51,17 +52,20 @@ kept-first test s l e = ap (λ (b : Bool). if b then s ∷ kept test l else kept
 nothing-closed : (z : Terms) (time : ℕ) (l : List State) (j : Judged) → j.states ≡ l → closed_by z time l j ≡ j
 unfolding skipped front_rest kept
 nothing-closed z time [] j e =
-    ap (λ (l : List State). skipped z time (lead l) (front_rest l) j) e ∙ ap (λ (l : List State). with_states l j) (sym e)
+    ap (λ (l : List State). skipped z time (lead l) (front_rest l) j) e ∙ ap (λ (l : List State). with_states l j)
+    (sym e)
 nothing-closed z time (s ∷ l) j e = ap (λ (m : List State). with_states m j) (sym e)
 
-module _ (z : Terms) (time passed : ℕ) (ys : List Gone) (held : List Held) (j : Judged) (closed : AreClosed time passed ys)
+module _ (z : Terms) (time passed : ℕ) (ys : List Gone) (held : List Held) (j : Judged)
+    (closed : AreClosed time passed ys)
     (states : map (state_of ys) held ≡ j.states) (sure : j.is_unsure ≡ false) where
   abbrev left : List State
   left = kept (λ s. are_behind time s.rest) j.states
 
   some-left : has_some left ≡ list_any (λ h. nat_le passed h.passed) held
   some-left = ap (λ (l : List State). has_some (kept (λ s. are_behind time s.rest) l)) (sym states)
-      ∙ kept-has ys (λ s. are_behind time s.rest) (λ h. nat_le passed h.passed) (λ h. closed-is time passed ys closed h.passed) held
+      ∙ kept-has ys (λ s. are_behind time s.rest) (λ h. nat_le passed h.passed)
+      (λ h. closed-is time passed ys closed h.passed) held
 
   sure-is : closed_to z time j ≡ closed_by z time left j
   unfolding closed_to
@@ -115,7 +119,8 @@ module _ (z : Terms) (time : ℕ) (front : List State) where
 
   skip-on : (y : Gone) (rest : List Gone) (j : Judged) (b : Bool) → are_behind time rest ≡ b
       → skipped z time front (y ∷ rest) j
-      ≡ (if b then with_states (with_rest rest front) (unexplained z At y j) else skipped z time front rest (unexplained z At y j))
+      ≡ (if b then with_states (with_rest rest front) (unexplained z At y j) else skipped z time front rest
+      (unexplained z At y j))
   unfolding skipped
   skip-on y rest j b e =
       ap (λ (c : Bool). if c then with_states (with_rest rest front) (unexplained z At y j)
@@ -136,7 +141,8 @@ module _ (z : Terms) (time : ℕ) (front : List State) where
 
 take-between : (P : Gone → Type 0) (ys : List Gone) (from to : ℕ) → from ≤ to → AllByRecursion P (take to ys)
     → AllByRecursion P (take (to - from) (drop from ys))
-take-between P ys zero to h all = subst (λ (n : ℕ). AllByRecursion P (take n ys)) (let e : to ≡ to - 0 = omega arith in e) all
+take-between P ys zero to h all = subst (λ (n : ℕ). AllByRecursion P (take n ys)) (let e : to ≡ to - 0 =
+    omega arith in e) all
 take-between P ys (suc from) zero h all = absurd (omega (arith, h))
 take-between P [] (suc from) (suc to) h all = none (suc to - suc from)
   where
@@ -144,11 +150,13 @@ take-between P [] (suc from) (suc to) h all = none (suc to - suc from)
     none zero = tt
     none (suc n) = tt
 take-between P (y ∷ ys) (suc from) (suc to) h all =
-    subst (λ (n : ℕ). AllByRecursion P (take n (drop from ys))) (let e : to - from ≡ suc to - suc from = omega arith in e)
+    subst (λ (n : ℕ). AllByRecursion P (take n (drop from ys))) (let e : to - from ≡ suc to - suc from =
+    omega arith in e)
     (take-between P ys from to (omega (arith, h)) all.1)
 
 -- what is skipped from a place on
-pub skip-from : (z : Terms) (time passed from : ℕ) (ys : List Gone) (states : List State) (j : Judged) → AreClosed time passed ys
+pub skip-from : (z : Terms) (time passed from : ℕ) (ys : List Gone) (states : List State) (j : Judged)
+    → AreClosed time passed ys
     → from < passed → drop from ys ≡ front_rest states
     → skipped z time (lead states) (front_rest states) j
     ≡ with_states (with_rest (drop passed ys) (lead states))
@@ -175,7 +183,8 @@ none-passed passed [] e = tt
 none-passed passed (x ∷ xs) e = by (nat_le passed x.passed) refl e (λ k. none-passed passed xs k)
   where
     by : (b : Bool) → nat_le passed x.passed ≡ b → (b || list_any (λ h. nat_le passed h.passed) xs) ≡ false
-        → (list_any (λ h. nat_le passed h.passed) xs ≡ false → AllByRecursion (λ (k : Held). nat_le passed k.passed ≡ false) xs)
+        → (list_any (λ h. nat_le passed h.passed) xs ≡ false
+        → AllByRecursion (λ (k : Held). nat_le passed k.passed ≡ false) xs)
         → AllByRecursion (λ (k : Held). nat_le passed k.passed ≡ false) (x ∷ xs)
     by true k e more = absurd (cc)
     by false k e more = (k, more e)

@@ -21,7 +21,8 @@ use Rattle.afdx_conform.proofs.HeldLemmas.{if-false}
 
 -- ---- where none waits
 
-from-none : (least : ℕ) (states : List State) → least ≡ 0 → AllByRecursion (λ s. s.waiting ≡ 0) states → least_from least states ≡ 0
+from-none : (least : ℕ) (states : List State) → least ≡ 0 → AllByRecursion (λ s. s.waiting ≡ 0) states
+    → least_from least states ≡ 0
 unfolding least_from
 from-none least [] e h = e
 from-none least (s ∷ states) e h = let w = h.0 in from-none (min least s.waiting) states (omega (arith, e, w)) h.1
@@ -30,7 +31,8 @@ least-none : (states : List State) → AllByRecursion (λ s. s.waiting ≡ 0) st
 least-none [] h = refl
 least-none (s ∷ states) h = from-none s.waiting states h.0 h.1
 
-first-none : (z : Terms) (levels : Levels) (ys : List Gone) → AllByRecursion (λ s. s.waiting ≡ 0) (first_states z levels ys)
+first-none : (z : Terms) (levels : Levels) (ys : List Gone) → AllByRecursion (λ s. s.waiting ≡ 0)
+    (first_states z levels ys)
 unfolding first_states
 first-none z levels [] = (refl, tt)
 first-none z levels (y ∷ ys) = (
@@ -78,7 +80,8 @@ module _ (z : Terms) (xs : List Arrival) (ys : List Gone) (cut : ℕ) (over : Li
     (f : IsAfter z xs ys cut over g) where
   -- what waits, and what is uncertain
   abbrev AreTheSame : Type 0
-  AreTheSame = (least ≡ least_waiting (judged_by z xs ys over).states) × (g.judging.uncertain ≡ (judged_by z xs ys over).uncertain)
+  AreTheSame = (least ≡ least_waiting (judged_by z xs ys over).states)
+      × (g.judging.uncertain ≡ (judged_by z xs ys over).uncertain)
 
   none-waits : (l : List Gone) → least_waiting (judged_by z xs l []).states ≡ 0
   unfolding judged_after
@@ -92,14 +95,17 @@ module _ (z : Terms) (xs : List Arrival) (ys : List Gone) (cut : ℕ) (over : Li
   at-first : (h : IsHeld z xs ys cut over g) → g.is_started ≡ false → AreTheSame
   at-first h e = by over (sym h.kept.started ∙ e) h.kept.marks h.kept.certain
     where
-      by : (l : List Event) → is_some l ≡ false → length (arrivals_came l) ≡ length h.gone + length g.judging.marks.items
+      by : (l : List Event) → is_some l ≡ false → length (arrivals_came l) ≡ length h.gone + length
+          g.judging.marks.items
           → (l ≡ [] → g.judging.uncertain ≡ 0)
-          → (least ≡ least_waiting (judged_by z xs ys l).states) × (g.judging.uncertain ≡ (judged_by z xs ys l).uncertain)
+          → (least ≡ least_waiting (judged_by z xs ys l).states)
+          × (g.judging.uncertain ≡ (judged_by z xs ys l).uncertain)
       by (v ∷ l) s m k = absurd (cc)
       by [] s m k = (
         leasts []
             ∙ least-none (map (state_of []) g.judging.held.items) (held-none [] g.judging.held.items
-            (every-on (λ v. IsWithin g.bounds.rates (length g.frames.items) (length g.judging.marks.items) v) (λ v. v.waiting ≤ 0)
+            (every-on (λ v. IsWithin g.bounds.rates (length g.frames.items) (length g.judging.marks.items) v)
+            (λ v. v.waiting ≤ 0)
             (λ v w. (let n = w.waiting in omega (arith, n, m))) g.judging.held.items
             (recursion_from_All (λ v. IsWithin g.bounds.rates (length g.frames.items) (length g.judging.marks.items) v)
             g.judging.held.items sound.within)))

@@ -20,7 +20,8 @@ filter-reverse test (x ∷ xs) =
     ap (λ l. filter test l) (reverse-first x xs) ∙ filter-append test (reverse xs) (x ∷ [])
     ∙ ap (λ l. l ++ filter test (x ∷ [])) (filter-reverse test xs) ∙ by (test x)
   where
-    by : (b : Bool) → reverse (filter test xs) ++ (if b then x ∷ [] else []) ≡ reverse (if b then x ∷ filter test xs else filter test xs)
+    by : (b : Bool) → reverse (filter test xs) ++ (if b then x ∷ [] else []) ≡ reverse (if b then x ∷ filter test xs
+        else filter test xs)
     by true = sym (reverse-first x (filter test xs))
     by false = append-nil (reverse (filter test xs))
 

@@ -83,7 +83,8 @@ module _ (z : Terms) where
   drop-all (u ∷ us) rs = drop-all us rs
 
   -- none of those is closed
-  pub closed-shown : (xs : List Arrival) (us off : List Gone) (time : ℕ) (over : List Event) → AreEvents z xs (us ++ off) over
+  pub closed-shown : (xs : List Arrival) (us off : List Gone) (time : ℕ) (over : List Event)
+      → AreEvents z xs (us ++ off) over
       → AreOver z time over → time ≤ z.until → AllByRecursion IsCutOff off → length (closings_in over) ≤ length us
   unfolding AreEvents AreOver
   closed-shown xs us off time [] h o le c = omega arith
@@ -142,9 +143,11 @@ module _ (z : Terms) where
   all-same off [] (b ∷ ms) e = absurd (cc)
   all-same off (a ∷ ls) [] e = absurd (cc)
   all-same off (a ∷ ls) (b ∷ ms) e =
-      ap (λ (s : State). s ∷ ls) (more-same off a b (heads e)) ∙ ap (λ (l : List State). b ∷ l) (all-same off ls ms (tails e))
+      ap (λ (s : State). s ∷ ls) (more-same off a b (heads e))
+      ∙ ap (λ (l : List State). b ∷ l) (all-same off ls ms (tails e))
     where
-      heads : with_more off a ∷ map (with_more off) ls ≡ with_more off b ∷ map (with_more off) ms → with_more off a ≡ with_more off b
+      heads : with_more off a ∷ map (with_more off) ls ≡ with_more off b ∷ map (with_more off) ms
+          → with_more off a ≡ with_more off b
       heads k = cc
 
       tails : with_more off a ∷ map (with_more off) ls ≡ with_more off b ∷ map (with_more off) ms
@@ -166,7 +169,8 @@ module _ (z : Terms) where
     passed-low fs here off held states is le.1 (tails e),
   )
     where
-      heads : state_of fs h ∷ map (state_of fs) held ≡ with_more off s ∷ map (with_more off) states → state_of fs h ≡ with_more off s
+      heads : state_of fs h ∷ map (state_of fs) held ≡ with_more off s ∷ map (with_more off) states
+          → state_of fs h ≡ with_more off s
       heads k = cc
 
       tails : state_of fs h ∷ map (state_of fs) held ≡ with_more off s ∷ map (with_more off) states

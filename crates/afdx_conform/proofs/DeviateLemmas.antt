@@ -2,18 +2,15 @@
 use Rattle.std.proofs.Common.{◌≡◌, ℕ, zero, suc, ◌+◌, ◌<◌, ◌≤◌, Bool, true, false, List, [], ◌∷◌, ◌++◌, map, drop, get_or, length, refl, sym, ap, ◌∙◌, arith}
 use Rattle.std.proofs.lemmas.List.{drop_all, length-map}
 use Rattle.std.proofs.lemmas.List.Elements.{All-from_recursion, recursion_from_All, All-weaker, All-same, All-map, All-filter}
-use Rattle.std.proofs.lemmas.Bool.{leb-true, eq-eqb}
+use Rattle.std.proofs.lemmas.Bool.{eq-eqb}
 use Rattle.std.specs.Prelude.{if◌then◌else◌, nat_lt, nat_eq, IsTrue, All}
 use Rattle.std.specs.List.{AllByRecursion, filter}
-use Rattle.afdx_frame.specs.Regulation.{Regulation}
 use Rattle.afdx_police.specs.Arrival.{Arrival}
-use Rattle.afdx_conform.specs.Accounts.{AreRates, AreNear, HasRoom}
 use Rattle.afdx_conform.specs.Bounds.{HaveToPass}
 use Rattle.afdx_conform.specs.Explanations.{link, charge, levels_then}
-use Rattle.afdx_conform.specs.Leeway.{Leeway}
 use Rattle.afdx_conform.specs.Findings.{Judged, with_states, front_rest, lead, with_rest, has_some, aged, as_accepted, asked, stopped, took, unexplained, deviation_of, deviates_by, deviates, Finding}
 use Rattle.afdx_conform.specs.HeldStates.{state_of, IsWithin, IsSmall, past}
-use Rattle.afdx_conform.specs.Levels.{Levels, charged, may_pass, has_to_pass, refused, cost, full}
+use Rattle.afdx_conform.specs.Levels.{Levels, charged, may_pass, has_to_pass, refused}
 use Rattle.afdx_conform.specs.Limits.{gone_of}
 use Rattle.afdx_conform.specs.Ranges.{most_held}
 use Rattle.afdx_conform.specs.States.{State, state_with, led_by, states_at, accepted_states}
@@ -27,11 +24,11 @@ use Rattle.afdx_conform.specs.declared.states.Held.{Held}
 use Rattle.afdx_conform.proofs.AmongLemmas.{Among, kept-among}
 use Rattle.afdx_conform.proofs.FindingLemmas.{front-is}
 use Rattle.afdx_conform.proofs.HeldLemmas.{if-true, if-false}
-use Rattle.afdx_conform.proofs.LevelLemmas.{rated-cost}
 
 -- ---- one step of the definition
 
-module _ (z : Terms) (behind : List Arrival) (x : Arrival) (states : List State) (y : Gone) (rest : List Gone) (j : Judged) where
+module _ (z : Terms) (behind : List Arrival) (x : Arrival) (states : List State) (y : Gone) (rest : List Gone)
+    (j : Judged) where
   abbrev further : Judged
   further = deviates z behind x (with_rest rest (lead states)) rest (unexplained z x.time y j)
 
@@ -40,7 +37,8 @@ module _ (z : Terms) (behind : List Arrival) (x : Arrival) (states : List State)
   unfolding deviates
   on d e = ap (λ (v : Deviation). deviates_by z v x states y rest j further) e
 
-  pub on-stopped : deviation_of z behind x y ≡ deviation.Stopped → deviates z behind x states (y ∷ rest) j ≡ stopped z x states j
+  pub on-stopped : deviation_of z behind x y ≡ deviation.Stopped → deviates z behind x states (y ∷ rest) j
+      ≡ stopped z x states j
   on-stopped e = on deviation.Stopped e
 
   pub on-took : (f : Finding) → deviation_of z behind x y ≡ deviation.Took f
@@ -50,12 +48,14 @@ module _ (z : Terms) (behind : List Arrival) (x : Arrival) (states : List State)
   pub on-led : deviation_of z behind x y ≡ deviation.Other → has_some (asked z x rest states) ≡ true
       → deviates z behind x states (y ∷ rest) j ≡ with_states (asked z x rest states) (unexplained z x.time y j)
   on-led e some = on deviation.Other e
-      ∙ if-true (has_some (asked z x rest states)) (with_states (asked z x rest states) (unexplained z x.time y j)) further some
+      ∙ if-true (has_some (asked z x rest states)) (with_states (asked z x rest states) (unexplained z x.time y j))
+      further some
 
   pub on-other : deviation_of z behind x y ≡ deviation.Other → has_some (asked z x rest states) ≡ false
       → deviates z behind x states (y ∷ rest) j ≡ further
   on-other e none = on deviation.Other e
-      ∙ if-false (has_some (asked z x rest states)) (with_states (asked z x rest states) (unexplained z x.time y j)) further none
+      ∙ if-false (has_some (asked z x rest states)) (with_states (asked z x rest states) (unexplained z x.time y j))
+      further none
 
 pub on-none : (z : Terms) (behind : List Arrival) (x : Arrival) (states : List State) (j : Judged)
     → deviates z behind x states [] j ≡ stopped z x states j
@@ -94,7 +94,8 @@ some-of : (s : State) (l : List State) → Among s l → has_some l ≡ true
 some-of s [] h = absurd h
 some-of s (t ∷ l) h = refl
 
-pub lead-some : (states : List State) (y : Gone) (rest : List Gone) → front_rest states ≡ y ∷ rest → has_some (lead states) ≡ true
+pub lead-some : (states : List State) (y : Gone) (rest : List Gone) → front_rest states ≡ y ∷ rest
+    → has_some (lead states) ≡ true
 unfolding front_rest
 lead-some [] y rest e = absurd (cc)
 lead-some (s ∷ more) y rest e =
@@ -103,7 +104,8 @@ lead-some (s ∷ more) y rest e =
     (kept-among (λ t. nat_eq (length t.rest) (length (front_rest (s ∷ more)))) (s ∷ more) f.of f.among
     (eq-eqb (length f.of.rest) (length (front_rest (s ∷ more))) (ap (λ (l : List Gone). length l) f.rest)))
 
-pub front-on : (rest : List Gone) (l few : List State) → few ≡ with_rest rest l → has_some l ≡ true → rest ≡ front_rest few
+pub front-on : (rest : List Gone) (l few : List State) → few ≡ with_rest rest l → has_some l ≡ true
+    → rest ≡ front_rest few
 front-on rest [] few e some = absurd (cc)
 front-on rest (s ∷ more) few e some = sym (ap (λ (t : List State). front_rest t) e ∙ rest-front rest s more)
 
@@ -142,17 +144,20 @@ module _ (z : Terms) (x : Arrival) where
       → led_by (λ s. states_at z x (levels_then z s.levels last x) s) (map (state_of ys) held) ≡ []
       → HaveToPass z last x held
   have-to-pass last ys held e =
-      All-from_recursion (λ (h : Held). IsTrue (has_to_pass (link z) z.by (charge z x) (levels_then z h.levels last x))) held
+      All-from_recursion
+      (λ (h : Held). IsTrue (has_to_pass (link z) z.by (charge z x) (levels_then z h.levels last x))) held
       (pass-by last ys held e)
 
   -- one more state where it was accepted
   pub accepted-more : (last : ℕ) (ys : List Gone) (held : List Held) (h : Held)
       → as_accepted z x (aged z last x (map (state_of ys) (held ++ (h ∷ []))))
       ≡ as_accepted z x (aged z last x (map (state_of ys) held))
-      ++ (state_with (drop h.passed ys) (charged (link z) z.by (charge z x) (levels_then z h.levels last x)) h.waiting ∷ [])
+      ++ (state_with (drop h.passed ys) (charged (link z) z.by (charge z x) (levels_then z h.levels last x)) h.waiting
+      ∷ [])
   accepted-more last ys [] h = refl
   accepted-more last ys (k ∷ held) h =
-      ap (λ (l : List State). state_with (drop k.passed ys) (charged (link z) z.by (charge z x) (levels_then z k.levels last x))
+      ap (λ (l : List State). state_with (drop k.passed ys)
+      (charged (link z) z.by (charge z x) (levels_then z k.levels last x))
       k.waiting ∷ l)
       (accepted-more last ys held h)
 
@@ -160,16 +165,8 @@ module _ (z : Terms) (x : Arrival) where
       → with_rest rest (as_accepted z x states) ≡ as_accepted z x (with_rest rest states)
   accepted-rest rest [] = refl
   accepted-rest rest (s ∷ states) =
-      ap (λ (l : List State). state_with rest (charged (link z) z.by (charge z x) s.levels) s.waiting ∷ l) (accepted-rest rest states)
-
--- a frame that has to pass has room
-pub room-for-sure : (link : Regulation) (by : Leeway) (rates : Rates) (levels : Levels) (charge : ℕ) → AreRates link by rates
-    → AreNear rates levels → IsTrue (has_to_pass link by charge levels) → HasRoom rates levels charge
-room-for-sure link by rates levels charge r near must =
-    let le = leb-true (levels.hi + cost link by charge) (full link by) must in
-    let same = rated-cost link by rates charge r in
-    let all = r.full in
-    omega (arith, near, le, same, all)
+      ap (λ (l : List State). state_with rest (charged (link z) z.by (charge z x) s.levels) s.waiting ∷ l)
+      (accepted-rest rest states)
 
 -- ---- bounds
 
@@ -187,8 +184,10 @@ pub past-within : (rates : Rates) (frames count front to : ℕ) (held out : List
     → out ≡ map (λ h. past to h) (filter (λ h. nat_eq h.passed front) held)
     → All (λ h. IsWithin rates frames count h) held → All (λ h. IsWithin rates frames count h) out
 past-within rates frames count front to held out le e all =
-    All-same (λ (h : Held). IsWithin rates frames count h) out (map (λ h. past to h) (filter (λ h. nat_eq h.passed front) held)) e
-    (All-map (λ (h : Held). IsWithin rates frames count h) (λ (h : Held). past to h) (filter (λ h. nat_eq h.passed front) held)
+    All-same (λ (h : Held). IsWithin rates frames count h) out
+    (map (λ h. past to h) (filter (λ h. nat_eq h.passed front) held)) e
+    (All-map (λ (h : Held). IsWithin rates frames count h) (λ (h : Held). past to h)
+    (filter (λ h. nat_eq h.passed front) held)
     (All-weaker (λ (h : Held). IsWithin rates frames count h) (λ (h : Held). IsWithin rates frames count (past to h))
     (λ h w. record { passed = le; waiting = w.waiting; levels = w.levels; near = w.near })
     (filter (λ h. nat_eq h.passed front) held)
@@ -205,7 +204,8 @@ pub of-cases : (P : Held → Type 0) (cases : List Case) (held : List Held) → 
     → All P held → All (λ (d : Case). P d.held) cases
 of-cases P cases held e all =
     All-from_recursion (λ (d : Case). P d.held) cases
-    (all-of P cases (recursion_from_All P (map (λ (d : Case). d.held) cases) (All-same P (map (λ (d : Case). d.held) cases) held e all)))
+    (all-of P cases (recursion_from_All P (map (λ (d : Case). d.held) cases)
+    (All-same P (map (λ (d : Case). d.held) cases) held e all)))
 
 pub held-states : (ys : List Gone) (cases : List Case)
     → map (λ (d : Case). state_of ys d.held) cases ≡ map (state_of ys) (map (λ (d : Case). d.held) cases)

@@ -36,7 +36,8 @@ either : (b : Bool) (u v : Deviation) → IsOneFrame u → IsOneFrame v → IsOn
 either true u v p q = p
 either false u v p q = q
 
-pub one-frame : (z : Terms) (behind : List Arrival) (x : Arrival) (y : Gone) (f : Finding) → deviation_of z behind x y ≡ deviation.Took f
+pub one-frame : (z : Terms) (behind : List Arrival) (x : Arrival) (y : Gone) (f : Finding) → deviation_of z behind x y
+    ≡ deviation.Took f
     → frames_of f ≡ 1
 one-frame z behind x y f e =
     subst (λ (d : Deviation). IsOneFrame d) e
@@ -44,9 +45,6 @@ one-frame z behind x y f e =
     (either (bytes_eq x.bytes y.bytes && is_late z x y) _ _ refl (either (is_late z x y) _ _ tt tt)))))
 
 module _ (z : Terms) (last : ℕ) (behind : List Arrival) (x : Arrival) (ys : List Gone) where
-  abbrev S : List Held → List State
-  S held = map (state_of ys) held
-
   abbrev When : List Held → List State
   When held = aged z last x (map (state_of ys) held)
 
@@ -61,7 +59,8 @@ module _ (z : Terms) (last : ℕ) (behind : List Arrival) (x : Arrival) (ys : Li
     pub none : Led held ≡ []
     pub at_front : drop front ys ≡ front_rest (map (state_of ys) held)
 
-  pub at-first : (held : List Held) (front : ℕ) (j : Judged) → Led held ≡ [] → drop front ys ≡ front_rest (map (state_of ys) held)
+  pub at-first : (held : List Held) (front : ℕ) (j : Judged) → Led held ≡ []
+      → drop front ys ≡ front_rest (map (state_of ys) held)
       → AreAt held held front j j
   at-first held front j none e = record {
     same = ap (λ (l : List Gone). deviates z behind x (When held) l j) e;
@@ -84,7 +83,8 @@ module _ (z : Terms) (last : ℕ) (behind : List Arrival) (x : Arrival) (ys : Li
       pub at-stop : deviation_of z behind x y ≡ deviation.Stopped → stopped z x (When held) so_far ≡ Whole
       at-stop e = sym (on-stopped z behind x (When held) y rest so_far e) ∙ here
 
-      pub at-took : (f : Finding) → deviation_of z behind x y ≡ deviation.Took f → took z x f (When held) rest so_far ≡ Whole
+      pub at-took : (f : Finding) → deviation_of z behind x y ≡ deviation.Took f → took z x f (When held) rest so_far
+          ≡ Whole
       at-took f e = sym (on-took z behind x (When held) y rest so_far f e) ∙ here
 
       module _ (out : List Held) (moved : map (state_of ys) out ≡ with_rest rest (lead (map (state_of ys) held))) where
@@ -98,19 +98,23 @@ module _ (z : Terms) (last : ℕ) (behind : List Arrival) (x : Arrival) (ys : Li
         asked-is = ap (λ (l : List State). led_by (λ s. states_at z x s.levels s) l) lead-when
             ∙ aged-led z last x (map (state_of ys) out)
 
-        pub at-led : (led : List State) → deviation_of z behind x y ≡ deviation.Other → Led out ≡ led → has_some led ≡ true
+        pub at-led : (led : List State) → deviation_of z behind x y ≡ deviation.Other → Led out ≡ led
+            → has_some led ≡ true
             → with_states led (unexplained z x.time y so_far) ≡ Whole
         at-led led e is some =
             ap (λ (l : List State). with_states l (unexplained z x.time y so_far)) (sym (asked-is ∙ is))
-            ∙ sym (on-led z behind x (When held) y rest so_far e (ap (λ (l : List State). has_some l) (asked-is ∙ is) ∙ some))
+            ∙ sym (on-led z behind x (When held) y rest so_far e (ap (λ (l : List State). has_some l) (asked-is ∙ is)
+            ∙ some))
             ∙ here
 
-        pub at-next : (further : ℕ) → deviation_of z behind x y ≡ deviation.Other → Led out ≡ [] → rest ≡ drop further ys
+        pub at-next : (further : ℕ) → deviation_of z behind x y ≡ deviation.Other → Led out ≡ []
+            → rest ≡ drop further ys
             → AreAt all out further whole (unexplained z x.time y so_far)
         at-next further e none on = record {
           same = ap (λ (l : List Gone). deviates z behind x (When out) l (unexplained z x.time y so_far)) (sym on)
               ∙ ap (λ (l : List State). deviates z behind x l rest (unexplained z x.time y so_far)) (sym lead-when)
-              ∙ sym (on-other z behind x (When held) y rest so_far e (ap (λ (l : List State). has_some l) (asked-is ∙ none)))
+              ∙ sym (on-other z behind x (When held) y rest so_far e (ap (λ (l : List State). has_some l) (asked-is
+              ∙ none)))
               ∙ here;
           none = none;
           at_front = sym on ∙ front-on rest (lead (map (state_of ys) held)) (map (state_of ys) out) moved
@@ -134,7 +138,8 @@ pub past-passes : (z : Terms) (last : ℕ) (x : Arrival) (front to : ℕ) (held 
 past-passes z last x front to held out e all =
     All-same (λ (h : Held). IsTrue (has_to_pass (link z) z.by (charge z x) (levels_then z h.levels last x))) out
     (map (λ h. past to h) (filter (λ h. nat_eq h.passed front) held)) e
-    (All-map (λ (h : Held). IsTrue (has_to_pass (link z) z.by (charge z x) (levels_then z h.levels last x))) (λ (h : Held). past to h)
+    (All-map (λ (h : Held). IsTrue (has_to_pass (link z) z.by (charge z x) (levels_then z h.levels last x)))
+    (λ (h : Held). past to h)
     (filter (λ h. nat_eq h.passed front) held)
     (All-filter (λ h. nat_eq h.passed front)
     (λ (h : Held). IsTrue (has_to_pass (link z) z.by (charge z x) (levels_then z h.levels last x))) held all))
@@ -144,17 +149,20 @@ past-passes z last x front to held out e all =
 abbrev lead_of : List Gone → List Held → List State
 lead_of ys held = lead (map (state_of ys) held)
 
-pub if-ok-two : {X E : Type 0} {P Q R : X → Type 0} (r : Result X E) → ((x : X) → P x → Q x → R x) → IfOk r P → IfOk r Q → IfOk r R
+pub if-ok-two : {X E : Type 0} {P Q R : X → Type 0} (r : Result X E) → ((x : X) → P x → Q x → R x) → IfOk r P
+    → IfOk r Q → IfOk r R
 if-ok-two (Ok x) f p q = f x p q
 if-ok-two (Err e) f p q = p
 
-module _ (z : Terms) (last : ℕ) (behind : List Arrival) (x : Arrival) (ys : List Gone) (all held : List Held) (front : ℕ)
+module _ (z : Terms) (last : ℕ) (behind : List Arrival) (x : Arrival) (ys : List Gone) (all held : List Held)
+    (front : ℕ)
     (j so_far : Judged) (at : AreAt z last behind x ys all held front j so_far) where
   abbrev Everything : Judged
   Everything = deviates z behind x (aged z last x (map (state_of ys) all)) (front_rest (map (state_of ys) all)) j
 
   -- it was stopped: no frame is left in the front, or the next one isn't its own
-  pub stopped-whole : (out : List Held) → map (state_of ys) out ≡ as_accepted z x (aged z last x (map (state_of ys) held))
+  pub stopped-whole : (out : List Held) → map (state_of ys) out ≡ as_accepted z x
+      (aged z last x (map (state_of ys) held))
       → stopped z x (aged z last x (map (state_of ys) held)) so_far ≡ Everything
       → with_states (map (state_of ys) out) (with_finding x.time (Stopped x.tag) 0 so_far) ≡ Everything
   stopped-whole out s whole =
@@ -190,7 +198,8 @@ module _ (z : Terms) (time : ℕ) (fs : List Frame) (j : Judged) where
       ∙ ap (λ (n : ℕ). with_finding time f (frames_of f) (Passed n past)) e
 
 range-more : (fs : List Frame) (first front : ℕ) (f : Frame) → first ≤ front → front < length fs → f ≡ get_or fs front f
-    → map gone_of (take (front + 1 - first) (drop first fs)) ≡ map gone_of (take (front - first) (drop first fs)) ++ (gone_of f ∷ [])
+    → map gone_of (take (front + 1 - first) (drop first fs)) ≡ map gone_of (take (front - first) (drop first fs))
+    ++ (gone_of f ∷ [])
 range-more [] first front f le lt is = absurd (omega (arith, lt))
 range-more (g ∷ fs) zero front f le lt is =
     let n : front + 1 - 0 ≡ front + 1 = omega arith in
@@ -220,7 +229,8 @@ inside-on first past u v n e k le most = (omega (arith, e, k, le), omega (arith,
 
 -- ---- the code's steps
 
-pub at-start : (z : Terms) (last : ℕ) (behind : List Arrival) (x : Arrival) (fs : List Frame) (held : List Held) (front : ℕ)
+pub at-start : (z : Terms) (last : ℕ) (behind : List Arrival) (x : Arrival) (fs : List Frame) (held : List Held)
+    (front : ℕ)
     (j : Judged)
     → led_by (λ s. states_at z x (levels_then z s.levels last x) s) (map (state_of (map gone_of fs)) held) ≡ []
     → drop front (map gone_of fs) ≡ front_rest (map (state_of (map gone_of fs)) held)
@@ -241,7 +251,8 @@ front-within rates fs count held slice f value all (inr m) =
     let e = m.2 in
     omega (arith, p, e)
 
-pub at-same : (z : Terms) (last : ℕ) (behind : List Arrival) (x : Arrival) (ys : List Gone) (all held : List Held) (front : ℕ)
+pub at-same : (z : Terms) (last : ℕ) (behind : List Arrival) (x : Arrival) (ys : List Gone) (all held : List Held)
+    (front : ℕ)
     (whole so_far same : Judged) → same ≡ so_far → AreAt z last behind x ys all held front whole so_far
     → AreAt z last behind x ys all held front whole same
 at-same z last behind x ys all held front whole so_far same e at =
@@ -256,12 +267,14 @@ within-frames rates fs count held all =
 pub near-all : (rates : Rates) (frames count : ℕ) (held : List Held)
     → All (λ h. IsWithin rates frames count h) held → All (λ h. AreNear rates h.levels) held
 near-all rates frames count held all =
-    All-weaker (λ (h : Held). IsWithin rates frames count h) (λ (h : Held). AreNear rates h.levels) (λ h w. w.near) held all
+    All-weaker (λ (h : Held). IsWithin rates frames count h) (λ (h : Held). AreNear rates h.levels) (λ h w. w.near)
+    held all
 
 pub levels-all : (rates : Rates) (frames count : ℕ) (held : List Held)
     → All (λ h. IsWithin rates frames count h) held → All (λ h. AreLevels rates h.levels) held
 levels-all rates frames count held all =
-    All-weaker (λ (h : Held). IsWithin rates frames count h) (λ (h : Held). AreLevels rates h.levels) (λ h w. w.levels) held all
+    All-weaker (λ (h : Held). IsWithin rates frames count h) (λ (h : Held). AreLevels rates h.levels)
+    (λ h w. w.levels) held all
 
 pub within-more : (rates : Rates) (frames count : ℕ) (held : List Held)
     → All (λ h. IsWithin rates frames count h) held → All (λ h. IsWithin rates frames (count + 1) h) held

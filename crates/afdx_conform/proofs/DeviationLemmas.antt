@@ -1,45 +1,21 @@
 -- What the switch did with an arrival that leads to no state, by the tests of the code.
-use Rattle.std.proofs.Common.{◌≡◌, ℕ, ◌+◌, ◌-◌, ◌*◌, ◌<◌, Bool, true, false, ◌&&◌, List, map, drop, get_or, length, refl, sym, ap, ◌∙◌}
+use Rattle.std.proofs.Common.{◌≡◌, ℕ, ◌+◌, ◌-◌, ◌<◌, Bool, true, false, ◌&&◌, List, map, drop, get_or, length, refl, sym, ap, ◌∙◌}
 use Rattle.std.proofs.lemmas.List.{drop_more}
-use Rattle.std.specs.Prelude.{if◌then◌else◌, nat_lt, nat_le, not, ◌||◌}
-use Rattle.std.specs.Int.{div_ceil}
+use Rattle.std.specs.Prelude.{if◌then◌else◌, ◌||◌}
 use Rattle.std.specs.List.{list_any}
 use Rattle.std.specs.Str.{bytes_eq}
 use Rattle.afdx_police.specs.Arrival.{Arrival}
-use Rattle.afdx_conform.specs.Levels.{parts}
 use Rattle.afdx_conform.specs.Findings.{Finding, is_far, is_late, is_early, deviation_of}
 use Rattle.afdx_conform.specs.declared.finding.Deviation.{Deviation}
 use Rattle.afdx_conform.specs.declared.finding.Deviation.TheVariants.{Stopped, Took, Other}
 use Rattle.afdx_conform.specs.declared.finding.Finding.TheVariants.{Early, Late}
 use Rattle.afdx_conform.specs.Limits.{AreLimits}
 use Rattle.afdx_conform.specs.Marks.{arrival_of}
-use Rattle.afdx_conform.specs.Streams.{Gone, Terms, fits, is_no_sooner, latency, wire_time}
+use Rattle.afdx_conform.specs.Streams.{Gone, Terms, fits, latency, wire_time}
 use Rattle.afdx_conform.specs.declared.arrived.Arrived.{Arrived}
 use Rattle.afdx_conform.specs.declared.limits.Limits.{Limits}
 
 module _ (z : Terms) (x : Arrival) (y : Gone) (l : Limits) (a : AreLimits z l) where
-  pub far-is : nat_lt (x.time + l.latency + l.latency + l.reach) y.time ≡ is_far z x y
-  far-is = ap (λ (n : ℕ). nat_lt (x.time + n + n + l.reach) y.time) a.latency
-      ∙ ap (λ (n : ℕ). nat_lt (x.time + latency z + latency z + n) y.time) a.reach
-
-  pub late-is : nat_lt (x.time + l.latency + l.reach) y.time ≡ is_late z x y
-  late-is = ap (λ (n : ℕ). nat_lt (x.time + n + l.reach) y.time) a.latency
-      ∙ ap (λ (n : ℕ). nat_lt (x.time + latency z + n) y.time) a.reach
-
-  pub wire-of : (wire : ℕ) → wire ≡ div_ceil (parts * ((length x.bytes + 8) * l.byte_ns)) (parts + l.drift)
-      → wire ≡ wire_time z x.bytes
-  wire-of wire w = w
-      ∙ ap (λ (n : ℕ). div_ceil (parts * ((length x.bytes + 8) * n)) (parts + l.drift)) a.byte_ns
-      ∙ ap (λ (n : ℕ). div_ceil (parts * ((length x.bytes + 8) * z.byte_ns)) (parts + n)) a.drift
-
-  pub sooner-is : (wire : ℕ) → wire ≡ div_ceil (parts * ((length x.bytes + 8) * l.byte_ns)) (parts + l.drift)
-      → nat_le (x.time + wire) (y.time + l.reach) ≡ is_no_sooner z x y
-  sooner-is wire w = ap (λ (n : ℕ). nat_le (x.time + n) (y.time + l.reach)) (wire-of wire w)
-      ∙ ap (λ (n : ℕ). nat_le (x.time + wire_time z x.bytes) (y.time + n)) a.reach
-
-  pub early-is : (bytes_eq x.bytes y.bytes && nat_le x.time (y.time + l.reach) && not (is_no_sooner z x y))
-      ≡ is_early z x y
-  early-is = ap (λ (n : ℕ). bytes_eq x.bytes y.bytes && nat_le x.time (y.time + n) && not (is_no_sooner z x y)) a.reach
 
 -- ---- the order of the tests
 
@@ -90,7 +66,8 @@ module _ (z : Terms) (behind : List Arrival) (x : Arrival) (y : Gone) where
   abbrev fits_behind : Bool
   fits_behind = list_any (λ w. fits z w y) behind
 
-  is-tests : by_tests (is_far z x y) (is_early z x y) fits_behind (bytes_eq x.bytes y.bytes) (is_late z x y) early_finding late_finding
+  is-tests : by_tests (is_far z x y) (is_early z x y) fits_behind (bytes_eq x.bytes y.bytes) (is_late z x y)
+      early_finding late_finding
       ≡ deviation_of z behind x y
   unfolding by_tests
   is-tests = refl
@@ -107,7 +84,8 @@ module _ (z : Terms) (behind : List Arrival) (x : Arrival) (y : Gone) where
       ∙ at-early fits_behind (bytes_eq x.bytes y.bytes) (is_late z x y) early_finding late_finding
       ∙ same-tests false true _ _ _ _ _ _ _ _ early_finding late_finding h k refl refl refl ∙ is-tests
 
-  pub deviation-behind : is_far z x y ≡ false → is_early z x y ≡ false → fits_behind ≡ true → Stopped ≡ deviation_of z behind x y
+  pub deviation-behind : is_far z x y ≡ false → is_early z x y ≡ false → fits_behind ≡ true
+      → Stopped ≡ deviation_of z behind x y
   deviation-behind h k m =
       at-behind (bytes_eq x.bytes y.bytes) (is_late z x y) early_finding late_finding
       ∙ same-tests false false true _ _ _ _ _ _ _ early_finding late_finding h k m refl refl ∙ is-tests
@@ -124,8 +102,10 @@ module _ (z : Terms) (behind : List Arrival) (x : Arrival) (y : Gone) where
       at-stop early_finding late_finding
       ∙ same-tests false false false false true _ _ _ _ _ early_finding late_finding h k m e n ∙ is-tests
 
-  pub deviation-late : (by : ℕ) → is_far z x y ≡ false → is_early z x y ≡ false → fits_behind ≡ false → is_late z x y ≡ true
-      → bytes_eq x.bytes y.bytes ≡ true → by ≡ y.time - x.time - latency z → Took (Late x.tag by) ≡ deviation_of z behind x y
+  pub deviation-late : (by : ℕ) → is_far z x y ≡ false → is_early z x y ≡ false → fits_behind ≡ false
+      → is_late z x y ≡ true
+      → bytes_eq x.bytes y.bytes ≡ true → by ≡ y.time - x.time - latency z
+      → Took (Late x.tag by) ≡ deviation_of z behind x y
   deviation-late by h k m n e d =
       ap (λ (v : ℕ). Took (Late x.tag v)) d
       ∙ at-late early_finding late_finding

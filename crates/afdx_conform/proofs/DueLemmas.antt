@@ -70,7 +70,8 @@ due-left old f frames' count items le =
     (by-unsure old.judging.is_unsure f.time _ _ (in-left old.bounds.limits cs fs f))
 
 -- nothing is judged any more
-pub due-many : (old new : Growth) (time : ℕ) → new.judging.is_unsure ≡ true → IsSameOrLater (due_by old) time (due_by new)
+pub due-many : (old new : Growth) (time : ℕ) → new.judging.is_unsure ≡ true
+    → IsSameOrLater (due_by old) time (due_by new)
 unfolding due_by
 due-many old new time e =
     subst (λ (b : Bool). IsSameOrLater (due_by old) time (if b then None else due_in new.bounds.limits

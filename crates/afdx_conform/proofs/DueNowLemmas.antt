@@ -56,10 +56,12 @@ module _ (g : Growth) where
   due-unsure un = sym (if-true g.judging.is_unsure None
       (due_in g.bounds.limits (drop Place g.arrivals.items) (drop g.closed g.frames.items)) un)
 
-  pub due-over : g.judging.is_unsure ≡ false → length g.frames.items ≤ g.closed → length g.arrivals.items ≤ Place → None ≡ due_by g
+  pub due-over : g.judging.is_unsure ≡ false → length g.frames.items ≤ g.closed → length g.arrivals.items ≤ Place
+      → None ≡ due_by g
   due-over sure frames arrivals =
       sym (sure-is sure
-      ∙ ap (λ (l : List Arrived). due_in g.bounds.limits l (drop g.closed g.frames.items)) (drop_all Place g.arrivals.items arrivals)
+      ∙ ap (λ (l : List Arrived). due_in g.bounds.limits l (drop g.closed g.frames.items))
+      (drop_all Place g.arrivals.items arrivals)
       ∙ ap (λ (l : List Frame). due_in g.bounds.limits [] l) (drop_all g.closed g.frames.items frames))
 
   pub due-arrival : (a : Arrived) (moment : ℕ) → g.judging.is_unsure ≡ false → Place < length g.arrivals.items
@@ -71,8 +73,10 @@ module _ (g : Growth) where
       ap (λ (n : ℕ). Some n) is
       ∙ in-arrival g.bounds.limits a (drop (Place + 1) g.arrivals.items) (drop g.closed g.frames.items)
       (λ f more e. first f (less-than g.closed g.frames.items more f e) (head-is g.closed g.frames.items more f e))
-      ∙ ap (λ (v : Arrived). due_in g.bounds.limits (v ∷ drop (Place + 1) g.arrivals.items) (drop g.closed g.frames.items)) at
-      ∙ ap (λ (l : List Arrived). due_in g.bounds.limits l (drop g.closed g.frames.items)) (sym (drop_more g.arrivals.items Place a lt))
+      ∙ ap (λ (v : Arrived). due_in g.bounds.limits (v ∷ drop (Place + 1) g.arrivals.items)
+      (drop g.closed g.frames.items)) at
+      ∙ ap (λ (l : List Arrived). due_in g.bounds.limits l (drop g.closed g.frames.items))
+      (sym (drop_more g.arrivals.items Place a lt))
       ∙ sym (sure-is sure)
 
   pub due-closing : (f : Frame) (moment : ℕ) → g.judging.is_unsure ≡ false → g.closed < length g.frames.items
@@ -84,6 +88,8 @@ module _ (g : Growth) where
       ap (λ (n : ℕ). Some n) is
       ∙ in-closing g.bounds.limits f (drop (g.closed + 1) g.frames.items) (drop Place g.arrivals.items)
       (λ a more e. before a (less-than Place g.arrivals.items more a e) (head-is Place g.arrivals.items more a e))
-      ∙ ap (λ (v : Frame). due_in g.bounds.limits (drop Place g.arrivals.items) (v ∷ drop (g.closed + 1) g.frames.items)) at
-      ∙ ap (λ (l : List Frame). due_in g.bounds.limits (drop Place g.arrivals.items) l) (sym (drop_more g.frames.items g.closed f lt))
+      ∙ ap (λ (v : Frame). due_in g.bounds.limits (drop Place g.arrivals.items)
+      (v ∷ drop (g.closed + 1) g.frames.items)) at
+      ∙ ap (λ (l : List Frame). due_in g.bounds.limits (drop Place g.arrivals.items) l)
+      (sym (drop_more g.frames.items g.closed f lt))
       ∙ sym (sure-is sure)

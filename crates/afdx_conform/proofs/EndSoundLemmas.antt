@@ -15,7 +15,8 @@ known-within : (rates : Rates) (frames count : ℕ) (b : Bool) (held : List Held
 known-within rates frames count true held all = all
 known-within rates frames count false held all = λ i d lt. absurd (omega (arith, lt))
 
-few-within : (rates : Rates) (frames kept count front : ℕ) (held : List Held) → All (λ h. IsWithin rates frames count h) held
+few-within : (rates : Rates) (frames kept count front : ℕ) (held : List Held)
+    → All (λ h. IsWithin rates frames count h) held
     → All (λ h. h.passed ≤ front) held → front ≤ kept → All (λ h. IsWithin rates kept count h) held
 few-within rates frames kept count front held all few le i d lt =
     let h = all i d lt in
@@ -33,12 +34,14 @@ pub sound-end : (old : Growth) (frames' : Vec Frame) (held' : Vec Held) (front k
       cut = old.cut + (size - kept);
     })
 sound-end old frames' held' front kept size held items few low closed high whole s =
-    let size' : length frames'.items ≡ kept = ap (λ (l : List Frame). length l) items ∙ length-take-le kept old.frames.items high in
+    let size' : length frames'.items ≡ kept = ap (λ (l : List Frame). length l) items
+    ∙ length-take-le kept old.frames.items high in
     let f = s.frames in
     let l = s.left in
     record {
       rates = s.rates;
-      within = subst (λ (n : ℕ). All (λ h. IsWithin old.bounds.rates n (length old.judging.marks.items) h) held'.items) (sym size')
+      within = subst (λ (n : ℕ). All (λ h. IsWithin old.bounds.rates n (length old.judging.marks.items) h)
+          held'.items) (sym size')
           (few-within old.bounds.rates (length old.frames.items) kept (length old.judging.marks.items) front held'.items
           (subst (λ (k : List Held). All (λ h. IsWithin old.bounds.rates (length old.frames.items)
           (length old.judging.marks.items) h) k) (sym held)

@@ -41,7 +41,8 @@ some-at [] k lt = absurd (omega (arith, lt))
 some-at (f ∷ fs) zero lt = record { frame = f; at = refl }
 some-at (f ∷ fs) (suc k) lt = let s = some-at fs k (omega (arith, lt)) in record { frame = s.frame; at = s.at }
 
-at-first : (P : Gone → Type 0) (fs : List Frame) (here off : List Gone) (k : ℕ) (d : Frame) → map gone_of fs ≡ here ++ off
+at-first : (P : Gone → Type 0) (fs : List Frame) (here off : List Gone) (k : ℕ) (d : Frame)
+    → map gone_of fs ≡ here ++ off
     → k < length here → AllByRecursion P here → P (gone_of (get_or fs k d))
 at-first P fs [] off k d e lt h = absurd (omega (arith, lt))
 at-first P [] (y ∷ here) off k d e lt h = absurd (cc)
@@ -69,7 +70,8 @@ at-next P (f ∷ fs) (y ∷ here) off d e lt h = at-next P fs here off d (tails 
     tails k = cc
 
 -- the first of them are these
-first-are : (fs : List Frame) (here off : List Gone) → map gone_of fs ≡ here ++ off → map gone_of (take (length here) fs) ≡ here
+first-are : (fs : List Frame) (here off : List Gone) → map gone_of fs ≡ here ++ off
+    → map gone_of (take (length here) fs) ≡ here
 first-are fs [] off e = refl
 first-are [] (y ∷ here) off e = absurd (cc)
 first-are (f ∷ fs) (y ∷ here) off e =
@@ -84,7 +86,8 @@ first-are (f ∷ fs) (y ∷ here) off e =
 
 -- as many are kept as aren't cut off, however many were looked at
 kept-is : (z : Terms) (fs : List Frame) (here off : List Gone) (apart from kept : ℕ) → apart ≡ reach z.by
-    → map gone_of fs ≡ here ++ off → AllByRecursion (IsShown z) here → AllByRecursion (IsCutOff z) off → from ≤ length here
+    → map gone_of fs ≡ here ++ off → AllByRecursion (IsShown z) here → AllByRecursion (IsCutOff z) off
+    → from ≤ length here
     → ((k : ℕ) (f : Frame) → from ≤ k → k < kept → f ≡ get_or fs k f → f.time + apart ≤ z.until)
     → ((f : Frame) → kept < length fs → f ≡ get_or fs kept f → z.until < f.time + apart)
     → kept ≤ length fs → kept ≡ length here
@@ -165,7 +168,8 @@ module _ (z : Terms) (xs : List Arrival) (us off : List Gone) (time : ℕ) (over
       by : (l : List Event) → is_some l ≡ true → AreTold z xs us → AreEvents z xs us l → AreOver z time l
           → judged_by z xs (us ++ off) l ≡ judged_more off (judged_by z xs us l)
       by [] s told ev ov = absurd (cc)
-      by (v ∷ before) s told ev ov = judged-late z xs us off time v before told ev le (are-late z time off le outside) ov
+      by (v ∷ before) s told ev ov = judged-late z xs us off time v before told ev le (are-late z time off le outside)
+          ov
 
   module _ (frames' : Vec Frame) (held' : Vec Held) (front kept count cut : ℕ) (h : IsHeld z xs (us ++ off) 0 over old)
       (states : held'.items ≡ (if old.is_started then old.judging.held.items else []))
@@ -175,7 +179,8 @@ module _ (z : Terms) (xs : List Arrival) (us off : List Gone) (time : ℕ) (over
       → g.time + old.bounds.limits.reach ≤ z.until)
       (cuts : (g : Frame) → kept < length old.frames.items → g ≡ get_or old.frames.items kept g
       → z.until < g.time + old.bounds.limits.reach)
-      (high : kept ≤ length old.frames.items) (counted : count ≡ length old.frames.items - kept) (all : cut ≡ length off) where
+      (high : kept ≤ length old.frames.items) (counted : count ≡ length old.frames.items - kept)
+      (all : cut ≡ length off) where
     past-low : length h.past ≤ length us
     past-low = let c = h.kept.closed in let l = closed-low in omega (arith, c, l)
 
@@ -186,10 +191,12 @@ module _ (z : Terms) (xs : List Arrival) (us off : List Gone) (time : ℕ) (over
     us-size = ap (λ (l : List Gone). length l) c.first ∙ length-append h.past c.here
 
     fs-size : length old.frames.items ≡ length c.here + length off
-    fs-size = sym (length-map old.frames.items gone_of) ∙ ap (λ (l : List Gone). length l) c.behind ∙ length-append c.here off
+    fs-size = sym (length-map old.frames.items gone_of) ∙ ap (λ (l : List Gone). length l) c.behind
+        ∙ length-append c.here off
 
     here-shown : AllByRecursion (IsShown z) c.here
-    here-shown = every-right (IsShown z) h.past c.here (subst (λ (l : List Gone). AllByRecursion (IsShown z) l) c.first inside)
+    here-shown = every-right (IsShown z) h.past c.here (subst (λ (l : List Gone). AllByRecursion (IsShown z) l)
+        c.first inside)
 
     states-are : old.is_started ≡ true → map (state_of (map gone_of old.frames.items)) old.judging.held.items
         ≡ map (with_more off) (judged_by z xs us over).states
@@ -202,16 +209,19 @@ module _ (z : Terms) (xs : List Arrival) (us off : List Gone) (time : ℕ) (over
     low-passed s =
         let k = h.continues s in
         let size = length-map old.frames.items gone_of in
-        passed-low z (map gone_of old.frames.items) c.here off old.judging.held.items (judged_by z xs us over).states c.behind
+        passed-low z (map gone_of old.frames.items) c.here off old.judging.held.items (judged_by z xs us over).states
+        c.behind
         (every-on (λ v. IsWithin old.bounds.rates (length old.frames.items) (length old.judging.marks.items) v)
         (λ v. v.passed ≤ length (map gone_of old.frames.items)) (λ v w. (let p = w.passed in omega (arith, p, size)))
         old.judging.held.items
-        (recursion_from_All (λ v. IsWithin old.bounds.rates (length old.frames.items) (length old.judging.marks.items) v)
+        (recursion_from_All (λ v. IsWithin old.bounds.rates (length old.frames.items) (length old.judging.marks.items)
+        v)
         old.judging.held.items k.stands.within))
         (states-are s)
 
     low-held : AllByRecursion (λ s. s.passed ≤ length c.here) held'.items
-    low-held = subst (λ (l : List Held). AllByRecursion (λ s. s.passed ≤ length c.here) l) (sym states) (by old.is_started refl)
+    low-held = subst (λ (l : List Held). AllByRecursion (λ s. s.passed ≤ length c.here) l) (sym states)
+        (by old.is_started refl)
       where
         by : (b : Bool) → old.is_started ≡ b
             → AllByRecursion (λ s. s.passed ≤ length c.here) (if b then old.judging.held.items else [])
@@ -221,7 +231,8 @@ module _ (z : Terms) (xs : List Arrival) (us off : List Gone) (time : ℕ) (over
     front-low : front ≤ length c.here
     front-low = by among
       where
-        by : ((held'.items ≡ []) × (front ≡ 0)) ⊎ ((s : Held) × Contains held'.items s × (s.passed ≡ front)) → front ≤ length c.here
+        by : ((held'.items ≡ []) × (front ≡ 0)) ⊎ ((s : Held) × Contains held'.items s × (s.passed ≡ front))
+            → front ≤ length c.here
         by (inl e) = let none = e.1 in omega (arith, none)
         by (inr e) =
             let is = e.2 in
@@ -230,9 +241,11 @@ module _ (z : Terms) (xs : List Arrival) (us off : List Gone) (time : ℕ) (over
             omega (arith, is, one)
 
     kept-here : kept ≡ length c.here
-    kept-here = kept-is z old.frames.items c.here off old.bounds.limits.reach (max front old.closed) kept f.bounds.limits.reach
+    kept-here = kept-is z old.frames.items c.here off old.bounds.limits.reach (max front old.closed) kept
+        f.bounds.limits.reach
         c.behind here-shown outside
-        (let n = h.kept.closed in let l = closed-low in let u = us-size in let p = front-low in omega (arith, n, l, u, p))
+        (let n = h.kept.closed in let l = closed-low in let u = us-size in let p = front-low in
+        omega (arith, n, l, u, p))
         shows cuts high
 
     frames-are : map gone_of frames'.items ≡ c.here
@@ -261,7 +274,8 @@ module _ (z : Terms) (xs : List Arrival) (us off : List Gone) (time : ℕ) (over
           let s = fs-size in
           omega (arith, n, l, k, s, counted));
       arrivals = h.kept.arrivals;
-      cut_off = (let n = h.kept.cut_off in let k = kept-here in let s = fs-size in omega (arith, n, k, s, counted, all));
+      cut_off = (let n = h.kept.cut_off in let k = kept-here in let s = fs-size in
+          omega (arith, n, k, s, counted, all));
       started = h.kept.started;
       certain = h.kept.certain;
     }
@@ -281,7 +295,8 @@ module _ (z : Terms) (xs : List Arrival) (us off : List Gone) (time : ℕ) (over
                 ∙ ap (λ (l : List Held). map (state_of c.here) l) held-is
                 ∙ all-same z off (map (state_of c.here) old.judging.held.items) j.states
                 (sym (states-more c.here off old.judging.held.items (length c.here)
-                (All-from_recursion (λ v. v.passed ≤ length c.here) old.judging.held.items (low-passed s)) (omega arith))
+                (All-from_recursion (λ v. v.passed ≤ length c.here) old.judging.held.items (low-passed s))
+                (omega arith))
                 ∙ ap (λ (l : List Gone). map (state_of l) old.judging.held.items) (sym c.behind)
                 ∙ states-are s);
             within = subst (λ (l : List Held). All (λ v. IsWithin old.bounds.rates (length frames'.items)
@@ -290,7 +305,8 @@ module _ (z : Terms) (xs : List Arrival) (us off : List Gone) (time : ℕ) (over
                 let v = k.stands.within i d lt in
                 record {
                   passed =
-                      (let p = All-from_recursion (λ v. v.passed ≤ length c.here) old.judging.held.items (low-passed s) i d lt in
+                      (let p = All-from_recursion (λ v. v.passed ≤ length c.here) old.judging.held.items
+                      (low-passed s) i d lt in
                       let n = frames-size in
                       omega (arith, p, n));
                   waiting = v.waiting;
@@ -344,8 +360,10 @@ module _ (z : Terms) (xs : List Arrival) (ys : List Gone) (time : ℕ) (over : L
         events = events' z xs (uncut z ys) Split.off time over old le o (all-shown z ys) Split.are_off f';
         unsure = un.0;
         tag = un.1;
-        sure = λ s. ended-held z xs (uncut z ys) Split.off time over old le o (all-shown z ys) Split.are_off f' frames' held'
-            front kept count (length ys - length (uncut z ys)) (f'.sure s) states items among shows cuts high counted sizes;
+        sure = λ s. ended-held z xs (uncut z ys) Split.off time over old le o (all-shown z ys) Split.are_off f'
+            frames' held'
+            front kept count (length ys - length (uncut z ys)) (f'.sure s) states items among shows cuts high counted
+            sizes;
       }
     where
       sizes : length ys - length (uncut z ys) ≡ length Split.off

@@ -118,10 +118,6 @@ module _ (z : Terms) where
       (λ y le. omega (arith, le)) ys
       (every-unmap (λ other. time ≤ other) (λ y. y.time) ys h)
 
-  more-below : (low high : ℕ) (events : List Event) → low ≤ high → AllByRecursion (NotBelow high) events
-      → AllByRecursion (NotBelow low) events
-  more-below low high events le h = every-on (NotBelow high) (NotBelow low) (λ e k. omega (arith, le, k)) events h
-
   pub by-time : (xs : List Arrival) (ys : List Gone) → GoUp (arrival_times xs) → GoUp (frame_times ys)
       → GoUp (map (event_time z) (events_of z xs ys))
   unfolding GoUp events_of up_to

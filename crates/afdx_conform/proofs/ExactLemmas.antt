@@ -87,9 +87,6 @@ module _ (l : Regulation) (is : IsTrue (is_bag l.bag_ms)) (inner : ℕ) where
   pub positive : 0 < 128 / l.bag_ms
   positive = factor_positive l.bag_ms (128 / l.bag_ms) (is_bag-divides l.bag_ms is)
 
-  no-slip : (n : ℕ) → n * (0 + 0 + 0) ≡ 0
-  no-slip n = omega arith
-
   pub level-later : (accepted : List Charged) (time at lo : ℕ) → All (λ x. x.time ≤ time) accepted → time ≤ at
       → IsLevel accepted time lo → IsLevel accepted at (lo - l.smax * 1000000 * (at - time))
   level-later accepted time at lo came h e =
@@ -133,7 +130,8 @@ module _ (l : Regulation) (is : IsTrue (is_bag l.bag_ms)) (inner : ℕ) (accepte
 
   pub charged-is : IsLevel l is inner (x ∷ accepted) x.time (lo + cost l (exact inner) x.charge)
   charged-is =
-      sum-number (128 / l.bag_ms) 1000000 lo (cost l (exact inner) x.charge) (missing l accepted x.time) (byte_units * x.charge)
+      sum-number (128 / l.bag_ms) 1000000 lo (cost l (exact inner) x.charge) (missing l accepted x.time)
+      (byte_units * x.charge)
       e (cost-number (128 / l.bag_ms) 1000000 (bag l) x.charge byte_units (units l is inner))
       ∙ ap (λ n. 1000000 * n) (sym (missing-accept l accepted x))
 
@@ -211,7 +209,8 @@ module _ (rule : Rule) (is : IsTrue (is_bag rule.bag_ms)) (latency_ns byte_ns in
   if-so b c u v e = ap (λ (d : Bool). if d then u else v) e
 
   own-by : (past : List Arrival) (x : Arrival) (b : Bool) → is_none (reason_after rule past x) ≡ b
-      → accepted_own rule (x ∷ past) ≡ (if b then charged_by rule x ∷ accepted_own rule past else accepted_own rule past)
+      → accepted_own rule (x ∷ past) ≡ (if b then charged_by rule x ∷ accepted_own rule past else accepted_own rule
+      past)
   unfolding accepted_own reason_after
   own-by past x b e = if-so _ b (charged_by rule x ∷ accepted_own rule past) (accepted_own rule past) e
 
@@ -274,7 +273,8 @@ module _ (rule : Rule) (is : IsTrue (is_bag rule.bag_ms)) (latency_ns byte_ns in
     now-is : now ≡ levels_with lo-then lo-then
     now-is =
         ap (λ (v : Levels). levels_then z v (last_time (exact inner) (arrivals_in answers)) x) at.levels_are
-        ∙ ap (λ (came : List Arrival). levels_then z (levels_with at.lo at.lo) (last_time (exact inner) came) x) at.are_answered
+        ∙ ap (λ (came : List Arrival). levels_then z (levels_with at.lo at.lo) (last_time (exact inner) came) x)
+        at.are_answered
 
     abbrev fit : Bool
     fit = window.fits l (accepted_own rule past) (charged_by rule x)
@@ -295,8 +295,10 @@ module _ (rule : Rule) (is : IsTrue (is_bag rule.bag_ms)) (latency_ns byte_ns in
     step-accepted : fit ≡ true → IsAt (x ∷ past) (answered x true ∷ answers)
     unfolding arrivals_in AreAllowed accepted_in levels_after
     step-accepted e =
-        let own : accepted_own rule (x ∷ past) ≡ charged_by rule x ∷ accepted_own rule past = own-by past x true (reason-is ∙ e) in
-        let came : accepted_arrivals rule (x ∷ past) ≡ x ∷ accepted_arrivals rule past = arrivals-by past x true (reason-is ∙ e) in
+        let own : accepted_own rule (x ∷ past) ≡ charged_by rule x ∷ accepted_own rule past =
+        own-by past x true (reason-is ∙ e) in
+        let came : accepted_arrivals rule (x ∷ past) ≡ x ∷ accepted_arrivals rule past =
+        arrivals-by past x true (reason-is ∙ e) in
         let here : sound_of rule (x ∷ past) ≡ x ∷ sound_of rule past = sound-here past x sound in
         let last-is : last (x ∷ past) ≡ x.time = ap (λ (list : List Arrival). last_time (exact inner) list) here in
         record {
@@ -306,9 +308,13 @@ module _ (rule : Rule) (is : IsTrue (is_bag rule.bag_ms)) (latency_ns byte_ns in
           lo = lo-then + cost l (exact inner) (charge z x);
           levels_are = ap (λ (v : Levels). charged l (exact inner) (charge z x) v) now-is
               ∙ charged-level l is inner (accepted_own rule past) (charged_by rule x) lo-then level-then e;
-          level = rw (own, last-is) (charged-is l is inner (accepted_own rule past) (charged_by rule x) lo-then level-then);
-          came = came-with (x ∷ past) x.time (charged_by rule x ∷ accepted_own rule past) own last-is
-              (omega arith, came-later (last past) x.time (accepted_own rule past) (last-before past x.time older) at.came);
+          level = rw (own, last-is) (charged-is l is inner (accepted_own rule past) (charged_by rule x) lo-then
+              level-then);
+          came = came-with (x ∷ past) x.time (charged_by rule x ∷ accepted_own rule past) own last-is (
+            omega arith,
+            came-later (last past) x.time (accepted_own rule past) (last-before past x.time older)
+                at.came,
+          );
         }
 
     -- one that doesn't, and is refused
@@ -316,7 +322,8 @@ module _ (rule : Rule) (is : IsTrue (is_bag rule.bag_ms)) (latency_ns byte_ns in
     unfolding arrivals_in AreAllowed accepted_in levels_after
     step-refused e =
         let own : accepted_own rule (x ∷ past) ≡ accepted_own rule past = own-by past x false (reason-is ∙ e) in
-        let came : accepted_arrivals rule (x ∷ past) ≡ accepted_arrivals rule past = arrivals-by past x false (reason-is ∙ e) in
+        let came : accepted_arrivals rule (x ∷ past) ≡ accepted_arrivals rule past = arrivals-by past x false
+        (reason-is ∙ e) in
         let here : sound_of rule (x ∷ past) ≡ x ∷ sound_of rule past = sound-here past x sound in
         let last-is : last (x ∷ past) ≡ x.time = ap (λ (list : List Arrival). last_time (exact inner) list) here in
         record {
@@ -361,13 +368,15 @@ module _ (rule : Rule) (is : IsTrue (is_bag rule.bag_ms)) (latency_ns byte_ns in
       (answer-is past answers x a.accepted sound older (so_far answers tail allowed_so.1) allowed_so.0)
 
   -- whatever answers are allowed are the window rule's
-  pub exactly : (own : List Arrival) → GoByTime own → (answers : List Answered) → arrivals_in answers ≡ sound_of rule own
+  pub exactly : (own : List Arrival) → GoByTime own → (answers : List Answered)
+      → arrivals_in answers ≡ sound_of rule own
       → AreAllowed z answers → IsAt own answers
   unfolding arrivals_in AreAllowed sound_of GoByTime
   exactly [] order [] same allowed = at-first
   exactly [] order (a ∷ answers) same allowed = absurd (cc)
   exactly (x ∷ past) order answers same allowed =
-      exactly-by past x order.0 answers same allowed (λ a s h. exactly past order.1 a s h) (fault_of (Some rule) x.port x.bytes) refl
+      exactly-by past x order.0 answers same allowed (λ a s h. exactly past order.1 a s h)
+      (fault_of (Some rule) x.port x.bytes) refl
 
   -- and there are such answers
   pub some-answers : (own : List Arrival) → GoByTime own → (answers : List Answered) × IsAt own answers

@@ -20,14 +20,17 @@ same-itself [] = refl
 same-itself (x ∷ xs) =
     and_from (nat_eq x.number x.number && nat_eq x.time x.time && bytes_eq x.bytes x.bytes) (are_same xs xs)
     (and_from (nat_eq x.number x.number && nat_eq x.time x.time) (bytes_eq x.bytes x.bytes)
-    (and_from (nat_eq x.number x.number) (nat_eq x.time x.time) (eq-eqb x.number x.number refl) (eq-eqb x.time x.time refl))
+    (and_from (nat_eq x.number x.number) (nat_eq x.time x.time) (eq-eqb x.number x.number refl)
+    (eq-eqb x.time x.time refl))
     ((bytes_eq-Decides x.bytes x.bytes).1 refl)) (same-itself xs)
 
 same-drops : (ys : List Gone) (p q : ℕ) → p ≤ length ys → q ≤ length ys → nat_eq p q ≡ are_same (drop p ys) (drop q ys)
 same-drops ys p q hp hq = by (nat_eq p q) (are_same (drop p ys) (drop q ys)) refl refl
   where
-    by : (b c : Bool) → nat_eq p q ≡ b → are_same (drop p ys) (drop q ys) ≡ c → nat_eq p q ≡ are_same (drop p ys) (drop q ys)
-    by true c e k = e ∙ sym (subst (λ (n : ℕ). are_same (drop p ys) (drop n ys) ≡ true) (eqb-true p q e) (same-itself (drop p ys)))
+    by : (b c : Bool) → nat_eq p q ≡ b → are_same (drop p ys) (drop q ys) ≡ c
+        → nat_eq p q ≡ are_same (drop p ys) (drop q ys)
+    by true c e k = e ∙ sym (subst (λ (n : ℕ). are_same (drop p ys) (drop n ys) ≡ true) (eqb-true p q e)
+        (same-itself (drop p ys)))
     by false false e k = e ∙ sym k
     by false true e k =
         let lp = length-drop p ys in
@@ -43,7 +46,8 @@ module _ (ys : List Gone) where
   outdoes-same : (a b : Held) → IsWithin a → IsWithin b → outdoes a b ≡ does_more (state_of ys a) (state_of ys b)
   unfolding outdoes does_more
   outdoes-same a b ha hb =
-      ap (λ (t : Bool). t && nat_le a.levels.lo b.levels.lo && nat_le b.levels.hi a.levels.hi && nat_le a.waiting b.waiting)
+      ap (λ (t : Bool). t && nat_le a.levels.lo b.levels.lo && nat_le b.levels.hi a.levels.hi && nat_le a.waiting
+      b.waiting)
       (same-drops ys a.passed b.passed ha hb)
 
   any-same : (s : Held) (xs : List Held) → IsWithin s → AllByRecursion IsWithin xs
@@ -58,12 +62,14 @@ module _ (ys : List Gone) where
       ≡ filter (λ t. not (does_more (state_of ys s) t)) (map (state_of ys) xs)
   filter-same-states s [] h all = refl
   filter-same-states s (x ∷ xs) h all =
-      by (outdoes s x) (does_more (state_of ys s) (state_of ys x)) (outdoes-same s x h all.0) (filter-same-states s xs h all.1)
+      by (outdoes s x) (does_more (state_of ys s) (state_of ys x)) (outdoes-same s x h all.0)
+      (filter-same-states s xs h all.1)
     where
       by : (b c : Bool) → b ≡ c
           → map (state_of ys) (filter (λ w. not (outdoes s w)) xs)
           ≡ filter (λ t. not (does_more (state_of ys s) t)) (map (state_of ys) xs)
-          → map (state_of ys) (if not b then x ∷ filter (λ w. not (outdoes s w)) xs else filter (λ w. not (outdoes s w)) xs)
+          → map (state_of ys) (if not b then x ∷ filter (λ w. not (outdoes s w)) xs
+          else filter (λ w. not (outdoes s w)) xs)
           ≡ (if not c then state_of ys x ∷ filter (λ t. not (does_more (state_of ys s) t)) (map (state_of ys) xs)
           else filter (λ t. not (does_more (state_of ys s) t)) (map (state_of ys) xs))
       by true true e more = more
@@ -74,7 +80,8 @@ module _ (ys : List Gone) where
   with-same : (s : Held) (xs : List Held) → IsWithin s → AllByRecursion IsWithin xs
       → map (state_of ys) (kept_with s xs) ≡ one_more (state_of ys s) (map (state_of ys) xs)
   unfolding kept_with one_more
-  with-same s xs h all = by (list_any (λ x. outdoes x s) xs) (list_any (λ t. does_more t (state_of ys s)) (map (state_of ys) xs))
+  with-same s xs h all = by (list_any (λ x. outdoes x s) xs) (list_any (λ t. does_more t (state_of ys s))
+      (map (state_of ys) xs))
       (any-same s xs h all)
     where
       by : (b c : Bool) → b ≡ c
@@ -87,13 +94,15 @@ module _ (ys : List Gone) where
       by true false e = absurd (cc)
       by false true e = absurd (cc)
 
-  within-with : (s : Held) (xs : List Held) → IsWithin s → AllByRecursion IsWithin xs → AllByRecursion IsWithin (kept_with s xs)
+  within-with : (s : Held) (xs : List Held) → IsWithin s → AllByRecursion IsWithin xs
+      → AllByRecursion IsWithin (kept_with s xs)
   unfolding kept_with
   within-with s xs h all = by (list_any (λ x. outdoes x s) xs)
     where
       by : (b : Bool) → AllByRecursion IsWithin (if b then xs else filter (λ x. not (outdoes s x)) xs ++ (s ∷ []))
       by true = all
-      by false = all-with IsWithin (filter (λ x. not (outdoes s x)) xs) s (all-filter IsWithin (λ x. not (outdoes s x)) xs all) h
+      by false = all-with IsWithin (filter (λ x. not (outdoes s x)) xs) s
+          (all-filter IsWithin (λ x. not (outdoes s x)) xs all) h
 
 thinned-more : (few xs : List State) (s : State) → thinned_onto few (xs ++ (s ∷ [])) ≡ one_more s (thinned_onto few xs)
 unfolding thinned_onto

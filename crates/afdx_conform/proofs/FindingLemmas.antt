@@ -46,14 +46,17 @@ skipped-finds z time front y rest j =
     if-both (λ (r : Judged). IsFound r.findings) (are_behind time rest) _ _ tt
     (skipped-stays z time front rest _ tt)
 
-pub deviates-finds : (z : Terms) (behind : List Arrival) (x : Arrival) (states : List State) (rest : List Gone) (j : Judged)
+pub deviates-finds : (z : Terms) (behind : List Arrival) (x : Arrival) (states : List State) (rest : List Gone)
+    (j : Judged)
     → IsFound (deviates z behind x states rest j).findings
 unfolding deviates unexplained
 deviates-finds z behind x states [] j = tt
 deviates-finds z behind x states (y ∷ rest) j =
-    by (deviation_of z behind x y) (deviates-finds z behind x (with_rest rest (lead states)) rest (unexplained z x.time y j))
+    by (deviation_of z behind x y) (deviates-finds z behind x (with_rest rest (lead states)) rest
+    (unexplained z x.time y j))
   where
-    by : (d : Deviation) → IsFound (deviates z behind x (with_rest rest (lead states)) rest (unexplained z x.time y j)).findings
+    by : (d : Deviation)
+        → IsFound (deviates z behind x (with_rest rest (lead states)) rest (unexplained z x.time y j)).findings
         → IsFound (deviates_by z d x states y rest j
         (deviates z behind x (with_rest rest (lead states)) rest (unexplained z x.time y j))).findings
     by deviation.Stopped more = tt
@@ -141,7 +144,8 @@ module _ (z : Terms) (behind : List Arrival) (last : ℕ) (x : Arrival) (all : L
       inl (record {
         none = g.none;
         enough = enough-on (led_by To all) (s ∷ more) (thinned_onto [] (s ∷ more))
-            (subst (λ (l : List State). AreEnough (led_by To all) l) e (enough-came z x last all j.states g.enough)) these;
+            (subst (λ (l : List State). AreEnough (led_by To all) l) e (enough-came z x last all j.states g.enough))
+            these;
         some = some-enough (s ∷ more) (thinned_onto [] (s ∷ more)) these tt;
       })
   came-cases (s ∷ more) e (inr b) = inr (record {
@@ -221,7 +225,8 @@ judged-is z ys behind (Came x ∷ before) h =
         (judged_after z ys (x ∷ behind) before))
     by-fault None m = came-cases z behind (last_time z.by (arrivals_came (sound_events z before))) x
         (states_after z ys (sound_events z before)) (judged_after z ys (x ∷ behind) before)
-        (rate_mark z (last_time z.by (arrivals_came (sound_events z before))) x (judged_after z ys (x ∷ behind) before).states)
+        (rate_mark z (last_time z.by (arrivals_came (sound_events z before))) x
+        (judged_after z ys (x ∷ behind) before).states)
         (one_if z (is_uncertain z (last_time z.by (arrivals_came (sound_events z before))) x
         (judged_after z ys (x ∷ behind) before).states)) _ refl m
     by-fault (Some fault) m = marked-either x (Some fault) (states_after z ys (sound_events z before))
@@ -254,7 +259,8 @@ judged-is z ys behind (Closing time ∷ before) h =
         else closed_by z time (kept (λ s. are_behind time s.rest) (judged_after z ys behind before).states)
         (judged_after z ys behind before))
     by true e k more = absurd (cc)
-    by false e k more = closed-cases z time (states_after z ys (sound_events z before)) (judged_after z ys behind before)
+    by false e k more = closed-cases z time (states_after z ys (sound_events z before))
+        (judged_after z ys behind before)
         _ refl (more e)
 
 pub found-none : (found : List Found) → IsFound found → found ≡ [] → ⊥
@@ -270,7 +276,8 @@ either-way all j (inr b) = (
 
 pub found_where : FoundWhereNoneIsLeft
 found_where z ys behind events h =
-    either-way (states_after z ys (sound_events z events)) (judged_after z ys behind events) (judged-is z ys behind events h)
+    either-way (states_after z ys (sound_events z events)) (judged_after z ys behind events)
+    (judged-is z ys behind events h)
 
 pub found_explained : NothingFoundIsExplained
 unfolding sound_events

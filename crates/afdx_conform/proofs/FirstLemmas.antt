@@ -24,7 +24,8 @@ module _ (z : Terms) (levels : Levels) (ys : List Gone) where
   first-one out e = record { before = []; at = ap (λ (l : List Held). map (state_of ys) l) e; whole = refl }
 
   on : (y : Gone) (rest : List Gone) (b : Bool) → is_begun z y ≡ b
-      → first_states z levels (y ∷ rest) ≡ state_with (y ∷ rest) levels 0 ∷ (if b then first_states z levels rest else [])
+      → first_states z levels (y ∷ rest) ≡ state_with (y ∷ rest) levels 0 ∷ (if b then first_states z levels rest
+      else [])
   unfolding first_states
   on y rest b e = ap (λ (c : Bool). state_with (y ∷ rest) levels 0 ∷ (if c then first_states z levels rest else [])) e
 
@@ -56,8 +57,10 @@ module _ (z : Terms) (levels : Levels) (ys : List Gone) where
           ∙ ap (λ (l : List State). l ++ (state_with (drop (place + 1) ys) levels 0 ∷ [])) f.at;
       whole = f.whole ∙ ap (λ (l : List Gone). f.before ++ first_states z levels l) next
           ∙ ap (λ (l : List State). f.before ++ l) (on y (drop (place + 1) ys) true e)
-          ∙ ap (λ (l : List Gone). f.before ++ (state_with l levels 0 ∷ first_states z levels (drop (place + 1) ys))) (sym next)
-          ∙ sym (append_assoc f.before (state_with (drop place ys) levels 0 ∷ []) (first_states z levels (drop (place + 1) ys)));
+          ∙ ap (λ (l : List Gone). f.before ++ (state_with l levels 0 ∷ first_states z levels (drop (place + 1) ys)))
+          (sym next)
+          ∙ sym (append_assoc f.before (state_with (drop place ys) levels 0 ∷ [])
+          (first_states z levels (drop (place + 1) ys)));
     }
 
 -- ---- what may be of arrivals before the start

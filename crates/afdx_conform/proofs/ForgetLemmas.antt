@@ -48,7 +48,8 @@ states-behind : (count : ℕ) (ys : List Gone) (held : List Held) → AllByRecur
     → map (state_of (drop count ys)) (map (λ h. past (h.passed - count) h) held) ≡ map (state_of ys) held
 states-behind count ys [] le = refl
 states-behind count ys (h ∷ held) le =
-    ap (λ (s : State). s ∷ map (state_of (drop count ys)) (map (λ k. past (k.passed - count) k) held)) (state-behind count ys h le.0)
+    ap (λ (s : State). s ∷ map (state_of (drop count ys)) (map (λ k. past (k.passed - count) k) held))
+    (state-behind count ys h le.0)
     ∙ ap (λ (l : List State). state_of ys h ∷ l) (states-behind count ys held le.1)
 
 within-behind : (rates : Rates) (frames n count : ℕ) (held : List Held)
@@ -69,7 +70,8 @@ pub within-frames : (rates : Rates) (fs fs' : List Frame) (n count : ℕ) (held 
     → held' ≡ map (λ h. past (h.passed - count) h) held → All (λ h. IsWithin rates (length fs) n h) held
     → All (λ h. IsWithin rates (length fs') n h) held'
 within-frames rates fs fs' n count held held' e k w =
-    let size : length fs - count ≡ length fs' = sym (length-drop count fs) ∙ ap (λ (l : List Frame). length l) (sym e) in
+    let size : length fs - count ≡ length fs' = sym (length-drop count fs) ∙ ap (λ (l : List Frame). length l) (sym e)
+    in
     subst (λ (l : List Held). All (λ h. IsWithin rates (length fs') n h) l) (sym k)
     (subst (λ (m : ℕ). All (λ h. IsWithin rates m n h) (map (λ h. past (h.passed - count) h) held)) size
     (All-from_recursion (λ h. IsWithin rates (length fs - count) n h) (map (λ h. past (h.passed - count) h) held)
@@ -99,7 +101,8 @@ module _ (z : Terms) (xs : List Arrival) (ys : List Gone) (cut : ℕ) (over : Li
       came = k.came;
       left = k.left
           ∙ ap (λ (l : List Gone). before ++ l) (map-split gone_of count old.frames.items)
-          ∙ sym (append_assoc before (map gone_of (take count old.frames.items)) (map gone_of (drop count old.frames.items)))
+          ∙ sym (append_assoc before (map gone_of (take count old.frames.items))
+          (map gone_of (drop count old.frames.items)))
           ∙ ap (λ (l : List Frame). (before ++ map gone_of (take count old.frames.items)) ++ map gone_of l) (sym items);
       judged = k.judged;
       marks = k.marks;
@@ -110,7 +113,8 @@ module _ (z : Terms) (xs : List Arrival) (ys : List Gone) (cut : ℕ) (over : Li
           let c = k.closed in
           omega (arith, size, mapped, taken, c, closed));
       unread = subst (λ (l : List Frame). FitNone z (map gone_of l) gone) (sym items)
-          (every-right (λ y. AllByRecursion (λ m. fits z m.arrival y ≡ false) gone) (map gone_of (take count old.frames.items))
+          (every-right (λ y. AllByRecursion (λ m. fits z m.arrival y ≡ false) gone)
+          (map gone_of (take count old.frames.items))
           (map gone_of (drop count old.frames.items))
           (subst (λ (l : List Gone). FitNone z l gone) (map-split gone_of count old.frames.items) k.unread));
       last = k.last;
@@ -160,7 +164,8 @@ module _ (z : Terms) (xs : List Arrival) (ys : List Gone) (cut : ℕ) (over : Li
       sure = λ s. held-frames (f.sure s);
     }
 
-pub due-frames : (old : Growth) (count : ℕ) (frames' : Vec Frame) (held' : Vec Held) → frames'.items ≡ drop count old.frames.items
+pub due-frames : (old : Growth) (count : ℕ) (frames' : Vec Frame) (held' : Vec Held)
+    → frames'.items ≡ drop count old.frames.items
     → count ≤ old.closed → due_by (without_frames old count frames' held') ≡ due_by old
 unfolding due_by
 due-frames old count frames' held' items closed =
@@ -224,7 +229,8 @@ marked-length n come ms le more =
     omega (arith, one, two, three, four)
 
 every-marked : (P : Arrival → Type 0) (n : ℕ) (come : List Arrived) (ms : List Mark)
-    → AllByRecursion (λ a. P (arrival_of a)) (take n come) → AllByRecursion (λ m. P m.arrival) (marked_all (take n come) (take n ms))
+    → AllByRecursion (λ a. P (arrival_of a)) (take n come)
+    → AllByRecursion (λ m. P m.arrival) (marked_all (take n come) (take n ms))
 unfolding marked_all
 every-marked P zero come ms h = tt
 every-marked P (suc n) [] ms h = tt
@@ -265,7 +271,8 @@ module _ (z : Terms) (xs : List Arrival) (ys : List Gone) (cut : ℕ) (over : Li
   abbrev More : List Marked
   More = marked_all (take count old.arrivals.items) (take count old.judging.marks.items)
 
-  every-both : (gone more : List Marked) (fs : List Gone) → FitNone z fs gone → FitNone z fs more → FitNone z fs (gone ++ more)
+  every-both : (gone more : List Marked) (fs : List Gone) → FitNone z fs gone → FitNone z fs more
+      → FitNone z fs (gone ++ more)
   every-both gone more [] g m = tt
   every-both gone more (y ∷ fs) g m =
       (every-append (λ m. fits z m.arrival y ≡ false) gone more g.0 m.0, every-both gone more fs g.1 m.1)
@@ -286,7 +293,8 @@ module _ (z : Terms) (xs : List Arrival) (ys : List Gone) (cut : ℕ) (over : Li
     judged = subst (λ (l : List Arrived). All (λ a. IsJudged z a) l) (sym items)
         (All-from_recursion (λ a. IsJudged z a) (drop count old.arrivals.items)
         (every-right (λ a. IsJudged z a) (take count old.arrivals.items) (drop count old.arrivals.items)
-        (subst (λ (l : List Arrived). AllByRecursion (λ a. IsJudged z a) l) (sym (take-append-drop count old.arrivals.items))
+        (subst (λ (l : List Arrived). AllByRecursion (λ a. IsJudged z a) l)
+        (sym (take-append-drop count old.arrivals.items))
         (recursion_from_All (λ a. IsJudged z a) old.arrivals.items k.judged))));
     marks =
         (let m = k.marks in
@@ -306,20 +314,23 @@ module _ (z : Terms) (xs : List Arrival) (ys : List Gone) (cut : ℕ) (over : Li
     certain = k.certain;
   }
 
-  continues-arrivals : (gone : List Marked) → Continues z xs ys over gone old → Continues z xs ys over (gone ++ More) Less
+  continues-arrivals : (gone : List Marked) → Continues z xs ys over gone old
+      → Continues z xs ys over (gone ++ More) Less
   continues-arrivals gone c =
       let split = marked-split count old.arrivals.items old.judging.marks.items less places in
       let rest = marked_all (drop count old.arrivals.items) (drop count old.judging.marks.items) in
       record {
         j = judged_with c.j.states rest c.j.findings c.j.frames c.j.uncertain c.j.is_unsure;
-        same = ap (λ (l : List Marked). judged_with c.j.states l c.j.findings c.j.frames (0 + c.j.uncertain) c.j.is_unsure)
+        same = ap (λ (l : List Marked). judged_with c.j.states l c.j.findings c.j.frames (0 + c.j.uncertain)
+            c.j.is_unsure)
             (append_assoc gone More rest ∙ ap (λ (l : List Marked). gone ++ l) (sym split ∙ c.stands.marks))
             ∙ c.same;
         stands = record {
           states = c.stands.states;
           within = All-from_recursion
               (λ h. IsWithin old.bounds.rates (length old.frames.items) (length marks'.items) h) old.judging.held.items
-              (within-none old.bounds.rates (length old.frames.items) (length old.judging.marks.items) (length marks'.items)
+              (within-none old.bounds.rates (length old.frames.items) (length old.judging.marks.items)
+              (length marks'.items)
               old.judging.held.items (recursion_from_All (λ h. h.waiting ≡ 0) old.judging.held.items none)
               (recursion_from_All
               (λ h. IsWithin old.bounds.rates (length old.frames.items) (length old.judging.marks.items) h)
@@ -357,7 +368,8 @@ unfolding due_by
 due-arrivals old count arrivals' marks' items marked less =
     let size : length marks'.items ≡ length old.judging.marks.items - count =
     ap (λ (l : List Mark). length l) marked ∙ length-drop count old.judging.marks.items in
-    let same : count + (length old.judging.marks.items - count) ≡ length old.judging.marks.items = omega (arith, less) in
+    let same : count + (length old.judging.marks.items - count) ≡ length old.judging.marks.items = omega (arith, less)
+    in
     ap (λ (l : List Arrived). if old.judging.is_unsure then None
     else due_in old.bounds.limits l (drop old.closed old.frames.items))
     (ap (λ (l : List Arrived). drop (length marks'.items) l) items
@@ -384,16 +396,21 @@ no-later (a ∷ b ∷ come) (suc n) d h lt =
     let next = more.0 in
     (omega (arith, first, next), more)
 
-module _ (z : Terms) (xs : List Arrival) (ys : List Gone) (cut : ℕ) (over : List Event) (old : Growth) (n : ℕ) (a : Arrived)
-    (f : Frame) (rest : List Frame) (bounds : AreBounds z old.bounds) (told : AreTold z xs ys) (lt : n < length old.arrivals.items)
+module _ (z : Terms) (xs : List Arrival) (ys : List Gone) (cut : ℕ) (over : List Event) (old : Growth) (n : ℕ)
+    (a : Arrived)
+    (f : Frame) (rest : List Frame) (bounds : AreBounds z old.bounds) (told : AreTold z xs ys)
+    (lt : n < length old.arrivals.items)
     (at : a ≡ get_or old.arrivals.items n a) (frames : old.frames.items ≡ f ∷ rest)
-    (late : a.time + old.bounds.limits.latency + old.bounds.limits.reach < f.time) (held : IsHeld z xs ys cut over old) where
+    (late : a.time + old.bounds.limits.latency + old.bounds.limits.reach < f.time)
+    (held : IsHeld z xs ys cut over old) where
   come-up : GoUp (map (λ a. a.time) old.arrivals.items)
   come-up = subst (λ (l : List ℕ). GoUp l) (map-map (λ (x : Arrival). x.time) arrival_of old.arrivals.items)
-      (up-right (map (λ x. x.time) (map (λ m. m.arrival) held.gone)) (map (λ x. x.time) (map arrival_of old.arrivals.items))
+      (up-right (map (λ x. x.time) (map (λ m. m.arrival) held.gone))
+      (map (λ x. x.time) (map arrival_of old.arrivals.items))
       (subst (λ (l : List ℕ). GoUp l)
       (ap (λ (l : List Arrival). map (λ x. x.time) l) held.kept.came
-      ∙ map-append (λ (x : Arrival). x.time) (map (λ m. m.arrival) held.gone) (map arrival_of old.arrivals.items)) told.came))
+      ∙ map-append (λ (x : Arrival). x.time) (map (λ m. m.arrival) held.gone) (map arrival_of old.arrivals.items))
+      told.came))
 
   left-up : GoUp (map (λ y. y.time) (map gone_of (f ∷ rest)))
   left-up = up-right (map (λ y. y.time) held.past) (map (λ y. y.time) (map gone_of (f ∷ rest)))
@@ -424,7 +441,8 @@ module _ (z : Terms) (xs : List Arrival) (ys : List Gone) (cut : ℕ) (over : Li
       (map gone_of (f ∷ rest)) frames-late)
 
 -- the first of them are, up to the last one that is looked at
-pub early-arrivals : (z : Terms) (xs : List Arrival) (ys : List Gone) (cut : ℕ) (over : List Event) (old : Growth) (count : ℕ)
+pub early-arrivals : (z : Terms) (xs : List Arrival) (ys : List Gone) (cut : ℕ) (over : List Event) (old : Growth)
+    (count : ℕ)
     (a : Arrived) (f : Frame) → AreBounds z old.bounds → AreTold z xs ys → 0 < count → count ≤ length old.arrivals.items
     → a ≡ get_or old.arrivals.items (count - 1) a → f ≡ get_or old.frames.items 0 f
     → a.time + old.bounds.limits.latency + old.bounds.limits.reach < f.time → IsHeld z xs ys cut over old

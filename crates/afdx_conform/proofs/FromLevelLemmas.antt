@@ -33,7 +33,8 @@ module _ (rule : Rule) (latency_ns byte_ns between inner until start : ℕ) wher
       → IsAllowed z levels b x × IsIn next (levels_by z b x levels)
   step-in true x level next levels i d =
       let low = i.low in let high = i.high in let room = d.0 in let is = d.1 in (
-        le-leb (levels.lo + cost (link z) z.by (charge z x)) (full (link z) z.by + fast_slip (link z) z.by) (omega (arith, low, room)),
+        le-leb (levels.lo + cost (link z) z.by (charge z x)) (full (link z) z.by + fast_slip (link z) z.by)
+            (omega (arith, low, room)),
         record { low = omega (arith, low, is); high = omega (arith, high, room, is) },
       )
   step-in false x level next levels i d =
@@ -42,7 +43,8 @@ module _ (rule : Rule) (latency_ns byte_ns between inner until start : ℕ) wher
         record { low = omega (arith, low, none, is); high = omega (arith, high, is) },
       )
 
-  leads-in : (first : ℕ) → first ≤ full (link z) z.by → (answers : List Answered) (level : ℕ) → Leads z first answers level
+  leads-in : (first : ℕ) → first ≤ full (link z) z.by → (answers : List Answered) (level : ℕ)
+      → Leads z first answers level
       → AreAllowed z answers × IsIn level (levels_after z answers)
   unfolding levels_after arrivals_in AreAllowed Leads
   leads-in first within [] level e = (tt, record { low = omega arith; high = omega (arith, within, e) })
@@ -61,9 +63,11 @@ module _ (rule : Rule) (latency_ns byte_ns between inner until start : ℕ) wher
     pub order : levels.lo ≤ levels.hi
     pub most : levels.hi ≤ full (link z) z.by
 
-  step-wide : (b : Bool) (x : Arrival) (levels : Levels) → IsWide levels → IsAllowed z levels b x → IsWide (levels_by z b x levels)
+  step-wide : (b : Bool) (x : Arrival) (levels : Levels) → IsWide levels → IsAllowed z levels b x
+      → IsWide (levels_by z b x levels)
   step-wide true x levels w allowed =
-      let room = leb-true (levels.lo + cost (link z) z.by (charge z x)) (full (link z) z.by + fast_slip (link z) z.by) allowed in
+      let room = leb-true (levels.lo + cost (link z) z.by (charge z x)) (full (link z) z.by + fast_slip (link z) z.by)
+      allowed in
       let order = w.order in let most = w.most in
       record { order = omega (arith, room, order); most = omega (arith, most) }
   step-wide false x levels w allowed =
@@ -103,7 +107,8 @@ module _ (rule : Rule) (latency_ns byte_ns between inner until start : ℕ) wher
       let so_far = wide before allowed.1 in
       let order = so_far.order in
       let most = so_far.most in
-      step-wide x.accepted x.arrival (now before x.arrival) (record { order = omega (arith, order); most = omega (arith, most) })
+      step-wide x.accepted x.arrival (now before x.arrival)
+      (record { order = omega (arith, order); most = omega (arith, most) })
       allowed.0
 
   some-first : (answers : List Answered) → AreAllowed z answers → (level : ℕ) → IsIn level (levels_after z answers)
@@ -148,7 +153,8 @@ terms-with rule latency_ns byte_ns until s b d i q st = record {
 
 same-terms : (rule : Rule) (latency_ns byte_ns until s b d i q : ℕ) (st : Option ℕ) (start : ℕ)
     → s ≡ 0 → d ≡ 0 → q ≡ 0 → st ≡ Some start
-    → terms-with rule latency_ns byte_ns until s b d i q st ≡ terms-with rule latency_ns byte_ns until 0 b 0 i 0 (Some start)
+    → terms-with rule latency_ns byte_ns until s b d i q st ≡ terms-with rule latency_ns byte_ns until 0 b 0 i 0
+    (Some start)
 same-terms rule latency_ns byte_ns until s b d i q st start at rate asks from = rw (at, rate, asks, from) refl
 
 pub allowed_some : AllowedIsSomeAccount
@@ -160,5 +166,6 @@ allowed_some t answers start a b g c =
           (subst (λ (w : Terms). AreAllowed w answers) same h)),
       λ h. subst (λ (w : Terms). AreAllowed w answers) (sym same)
           (let s = subst (λ (w : Terms). SomeLeads w answers) same h in
-          (leads-in t.rule t.latency_ns t.byte_ns t.by.between t.by.inner t.until start s.first s.within answers s.level s.leads).0),
+          (leads-in t.rule t.latency_ns t.byte_ns t.by.between t.by.inner t.until start s.first s.within answers
+          s.level s.leads).0),
     )

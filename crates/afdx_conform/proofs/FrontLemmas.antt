@@ -27,7 +27,8 @@ same-is [] [] e = refl
 same-is [] (y ∷ ys) e = absurd (cc)
 same-is (x ∷ xs) [] e = absurd (cc)
 same-is (x ∷ xs) (y ∷ ys) e =
-    let one = and_parts (nat_eq x.number y.number && nat_eq x.time y.time && bytes_eq x.bytes y.bytes) (are_same xs ys) e in
+    let one = and_parts (nat_eq x.number y.number && nat_eq x.time y.time && bytes_eq x.bytes y.bytes)
+    (are_same xs ys) e in
     let two = and_parts (nat_eq x.number y.number && nat_eq x.time y.time) (bytes_eq x.bytes y.bytes) one.0 in
     let three = and_parts (nat_eq x.number y.number) (nat_eq x.time y.time) two.0 in
     let head : x ≡ y = gone-same x y (eqb-true x.number y.number three.0) (eqb-true x.time y.time three.1)
@@ -40,7 +41,8 @@ unfolding does_more
 does-more a b e =
     let one = and_parts (are_same a.rest b.rest && nat_le a.levels.lo b.levels.lo && nat_le b.levels.hi a.levels.hi)
     (nat_le a.waiting b.waiting) e in
-    let two = and_parts (are_same a.rest b.rest && nat_le a.levels.lo b.levels.lo) (nat_le b.levels.hi a.levels.hi) one.0 in
+    let two = and_parts (are_same a.rest b.rest && nat_le a.levels.lo b.levels.lo) (nat_le b.levels.hi a.levels.hi)
+    one.0 in
     let three = and_parts (are_same a.rest b.rest) (nat_le a.levels.lo b.levels.lo) two.0 in
     record {
       rest = same-is a.rest b.rest three.0;

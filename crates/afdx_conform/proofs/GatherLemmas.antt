@@ -36,7 +36,8 @@ same-known s known' = record {
   unsure = refl;
 }
 
-pub after-known : (z : Terms) (xs : List Arrival) (ys : List Gone) (cut : ℕ) (over : List Event) (s : Growth) (known' : KnownBytes)
+pub after-known : (z : Terms) (xs : List Arrival) (ys : List Gone) (cut : ℕ) (over : List Event) (s : Growth)
+    (known' : KnownBytes)
     → IsAfter z xs ys cut over s → IsAfter z xs ys cut over (with_known s known')
 after-known z xs ys cut over s known' f = after-same z xs ys cut over s (with_known s known') (same-known s known') f
 

@@ -1,11 +1,9 @@
 -- What the code keeps of a stream once the closing of a frame is over.
-use Rattle.std.proofs.Common.{◌≡◌, ℕ, zero, suc, ◌+◌, ◌<◌, ◌≤◌, Bool, true, false, List, [], ◌∷◌, ◌++◌, map, drop, get_or, length, min, refl, sym, ap, ◌∙◌, subst, arith}
-use Rattle.std.proofs.Math.Seq.{drop-append-add}
-use Rattle.std.proofs.lemmas.List.{drop_more}
+use Rattle.std.proofs.Common.{◌≡◌, ℕ, zero, suc, ◌+◌, ◌<◌, ◌≤◌, Bool, true, false, List, [], ◌∷◌, ◌++◌, map, get_or, length, min, refl, sym, ap, ◌∙◌, subst, arith}
 use Rattle.std.specs.Prelude.{if◌then◌else◌, Some, None}
 use Rattle.std.specs.List.{AllByRecursion}
 use Rattle.afdx_police.specs.Arrival.{Arrival}
-use Rattle.afdx_conform.specs.Events.{GoUp, closings_in, frame_times}
+use Rattle.afdx_conform.specs.Events.{GoUp, frame_times}
 use Rattle.afdx_conform.specs.Findings.{Finding, Judged, Marked, closed_by, closed_to, frames_in, front_rest, judged_after, lead, skipped, sound_events, unexplained}
 use Rattle.afdx_conform.specs.Forgetting.{FitNone, with_gone}
 use Rattle.afdx_conform.specs.Growing.{Continues, IsAfter, IsKept, most_found}
@@ -20,21 +18,17 @@ use Rattle.afdx_conform.specs.declared.growth.Growth.{Growth}
 use Rattle.afdx_conform.specs.declared.judging.Judging.{Judging}
 use Rattle.afdx_conform.specs.declared.limits.Frame.{Frame}
 use Rattle.afdx_conform.proofs.ForgettingLemmas.{forgetting_nothing}
-use Rattle.afdx_conform.proofs.GrowthDecides.{drop-map, front-none, of-both}
+use Rattle.afdx_conform.proofs.GrowthDecides.{front-none, of-both}
 
 -- ---- frames that go by time, by their places
-
-up-right : (ts us : List ℕ) → GoUp (ts ++ us) → GoUp us
-unfolding GoUp
-up-right [] us h = h
-up-right (t ∷ ts) us h = up-right ts us h.1
 
 times-right : (past : List Gone) (ys : List Gone) → GoUp (frame_times (past ++ ys)) → GoUp (frame_times ys)
 unfolding GoUp
 times-right [] ys h = h
 times-right (y ∷ past) ys h = times-right past ys h.1
 
-at-or-behind : (fs : List Frame) (time k : ℕ) (g : Frame) → AllByRecursion (λ t. time ≤ t) (frame_times (map gone_of fs))
+at-or-behind : (fs : List Frame) (time k : ℕ) (g : Frame)
+    → AllByRecursion (λ t. time ≤ t) (frame_times (map gone_of fs))
     → k < length fs → g ≡ get_or fs k g → time ≤ g.time
 at-or-behind [] time k g all lt at = absurd (omega (arith, lt))
 at-or-behind (f ∷ fs) time zero g all lt at = subst (λ (v : Frame). time ≤ v.time) (sym at) all.0
@@ -48,9 +42,11 @@ are-frames (h ∷ fs) up zero zero f g le lt p q =
 are-frames (h ∷ fs) up zero (suc k) f g le lt p q =
     subst (λ (v : Frame). v.time ≤ g.time) (sym p) (at-or-behind fs h.time k g up.0 (omega (arith, lt)) q)
 are-frames (h ∷ fs) up (suc i) zero f g le lt p q = absurd (omega (arith, le))
-are-frames (h ∷ fs) up (suc i) (suc k) f g le lt p q = are-frames fs up.1 i k f g (omega (arith, le)) (omega (arith, lt)) p q
+are-frames (h ∷ fs) up (suc i) (suc k) f g le lt p q = are-frames fs up.1 i k f g (omega (arith, le))
+    (omega (arith, lt)) p q
 
-pub frames-held : (past ys : List Gone) (fs : List Frame) → GoUp (frame_times ys) → ys ≡ past ++ map gone_of fs → AreFrames fs
+pub frames-held : (past ys : List Gone) (fs : List Frame) → GoUp (frame_times ys) → ys ≡ past ++ map gone_of fs
+    → AreFrames fs
 frames-held past ys fs up e =
     are-frames fs (times-right past (map gone_of fs) (subst (λ (l : List Gone). GoUp (frame_times l)) e up))
 
@@ -77,7 +73,8 @@ module _ (z : Terms) where
       by (s ∷ more) = refl
 
   pub closed-of : (f : Frame) (old : Growth) (judging' : Judging) (j : Judged) (xs' : List Arrived) (fs : List Frame)
-      → xs' ≡ old.arrivals.items → fs ≡ old.frames.items → StandsFor old.bounds.rates fs xs' (closed_to z f.time j) judging'
+      → xs' ≡ old.arrivals.items → fs ≡ old.frames.items → StandsFor old.bounds.rates fs xs' (closed_to z f.time j)
+      judging'
       → StandsFor old.bounds.rates old.frames.items old.arrivals.items (closed_to z f.time j) judging'
   closed-of f old judging' j xs' fs e g s =
       subst (λ (l : List Arrived). StandsFor old.bounds.rates old.frames.items l (closed_to z f.time j) judging') e
@@ -85,7 +82,8 @@ module _ (z : Terms) where
 
   -- ---- the closing of a frame
 
-  module _ (xs : List Arrival) (ys : List Gone) (cut : ℕ) (over : List Event) (f : Frame) (old : Growth) (judging' : Judging)
+  module _ (xs : List Arrival) (ys : List Gone) (cut : ℕ) (over : List Event) (f : Frame) (old : Growth)
+      (judging' : Judging)
       (found : List Finding) (to : ℕ) where
     abbrev pub Close : Growth
     Close = record old {
@@ -97,16 +95,6 @@ module _ (z : Terms) where
     }
 
     module _ (gone : List Marked) (past : List Gone) (k : IsKept z xs ys cut over gone past old) where
-      pub unclosed-is : old.closed < length old.frames.items → f ≡ get_or old.frames.items old.closed f
-          → unclosed ys over ≡ gone_of f ∷ map gone_of (drop (old.closed + 1) old.frames.items)
-      unclosed-is lt at =
-          ap (λ (l : List Gone). drop (length (closings_in over)) l) k.left
-          ∙ ap (λ (n : ℕ). drop n (past ++ map gone_of old.frames.items)) k.closed
-          ∙ drop-append-add past (map gone_of old.frames.items) old.closed
-          ∙ drop-map gone_of old.closed old.frames.items
-          ∙ ap (λ (l : List Frame). map gone_of l) (drop_more old.frames.items old.closed f lt)
-          ∙ ap (λ (v : Frame). gone_of v ∷ map gone_of (drop (old.closed + 1) old.frames.items)) (sym at)
-
       pub closed-next : (c : Continues z xs ys over gone old) → judged_by z xs ys (Closing f.time ∷ over)
           ≡ with_gone gone 0 (closed_to z f.time c.j)
       unfolding judged_after
@@ -120,9 +108,11 @@ module _ (z : Terms) where
           (stands : StandsFor old.bounds.rates old.frames.items old.arrivals.items (closed_to z f.time c.j) judging')
           (are : AreFound (f.time + reach z.by) found c.j (closed_to z f.time c.j))
           (marks : length judging'.marks.items ≡ length old.judging.marks.items) where
-        found-close : AreFound (f.time + reach z.by) found (judged_by z xs ys over) (judged_by z xs ys (Closing f.time ∷ over))
+        found-close : AreFound (f.time + reach z.by) found (judged_by z xs ys over)
+            (judged_by z xs ys (Closing f.time ∷ over))
         found-close =
-            subst (λ (v : Judged). AreFound (f.time + reach z.by) found v (judged_by z xs ys (Closing f.time ∷ over))) c.same
+            subst (λ (v : Judged). AreFound (f.time + reach z.by) found v (judged_by z xs ys (Closing f.time ∷ over)))
+            c.same
             (subst (λ (v : Judged). AreFound (f.time + reach z.by) found (with_gone gone 0 c.j) v) (sym (closed-next c))
             (record { findings = are.findings; frames = are.frames }))
 
@@ -164,7 +154,8 @@ module _ (z : Terms) where
         before-sure : (judged_by z xs ys over).is_unsure ≡ false
         before-sure = ap (λ (v : Judged). v.is_unsure) (sym c.same) ∙ sym c.stands.unsure ∙ sure
 
-        pub after-close : IsAfter z xs ys cut over old → next_of z (coming xs over) (unclosed ys over) ≡ Some (Closing f.time)
+        pub after-close : IsAfter z xs ys cut over old → next_of z (coming xs over) (unclosed ys over)
+            ≡ Some (Closing f.time)
             → IsAfter z xs ys cut (Closing f.time ∷ over) Close
             × AreFound (f.time + reach z.by) found (judged_by z xs ys over) (judged_by z xs ys (Closing f.time ∷ over))
         unfolding AreEvents
@@ -175,7 +166,8 @@ module _ (z : Terms) where
             told = g.told;
             events = (next, g.events);
             unsure = stands.unsure ∙ ap (λ (v : Judged). v.is_unsure) (sym (closed-next c));
-            tag = g.tag ∙ none (judged_by z xs ys over) before-sure ∙ sym (none (judged_by z xs ys (Closing f.time ∷ over)) still-sure);
+            tag = g.tag ∙ none (judged_by z xs ys over) before-sure
+                ∙ sym (none (judged_by z xs ys (Closing f.time ∷ over)) still-sure);
             sure = λ s. record { gone = gone; past = past; kept = kept-close; continues = λ e. continues-close };
           },
           found-close,

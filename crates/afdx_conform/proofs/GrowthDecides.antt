@@ -33,9 +33,6 @@ drop-map f zero xs = refl
 drop-map f (suc n) [] = refl
 drop-map f (suc n) (x ∷ xs) = drop-map f n xs
 
-pub forgot : {P Q R : Type 0} → (P → Q) → P × R → Q × R
-forgot f both = (f both.0, both.1)
-
 pub of-both : {X : Type 0} (P : X → Type 0) (b : Bool) (u v : X) → P u → P v → P (if b then u else v)
 of-both P true u v p q = p
 of-both P false u v p q = q
@@ -45,9 +42,11 @@ pub front-none : (z : Terms) (ys : List Gone) (gone : List Marked) (held : List 
     → FitNone z (front_rest (map (state_of ys) held)) gone
 unfolding front_rest
 front-none z ys gone [] all = tt
-front-none z ys gone (h ∷ []) all = every-drop (λ y. AllByRecursion (λ m. fits z m.arrival y ≡ false) gone) h.passed ys all
+front-none z ys gone (h ∷ []) all = every-drop (λ y. AllByRecursion (λ m. fits z m.arrival y ≡ false) gone) h.passed
+    ys all
 front-none z ys gone (h ∷ g ∷ held) all =
-    of-both (λ l. FitNone z l gone) (nat_lt (length (drop h.passed ys)) (length (front_rest (map (state_of ys) (g ∷ held)))))
+    of-both (λ l. FitNone z l gone) (nat_lt (length (drop h.passed ys))
+    (length (front_rest (map (state_of ys) (g ∷ held)))))
     (drop h.passed ys) (front_rest (map (state_of ys) (g ∷ held)))
     (every-drop (λ y. AllByRecursion (λ m. fits z m.arrival y ≡ false) gone) h.passed ys all)
     (front-none z ys gone (g ∷ held) all)
@@ -70,14 +69,16 @@ module _ (z : Terms) where
       → IsLast x (came_to z behind last x j).arrivals
   unfolding came_to
   came-last behind last x j sure =
-      subst (λ (b : Bool). IsLast x (if b then j else came_by z behind last x (fault_of (Some z.rule) x.port x.bytes) j).arrivals)
+      subst (λ (b : Bool). IsLast x (if b then j else came_by z behind last x (fault_of (Some z.rule) x.port x.bytes)
+      j).arrivals)
       (sym sure) (by (fault_of (Some z.rule) x.port x.bytes))
     where
       by : (fault : Option Reason) → IsLast x (came_by z behind last x fault j).arrivals
       by None = record { before = _; one = _; is = refl; arrival = refl }
       by (Some reason) = record { before = _; one = _; is = refl; arrival = refl }
 
-  pub outcome-of : (over : List Event) (a : Arrived) (old : Growth) (judging' : Judging) (found : List Finding) (j : Judged)
+  pub outcome-of : (over : List Event) (a : Arrived) (old : Growth) (judging' : Judging) (found : List Finding)
+      (j : Judged)
       (xs' : List Arrived) (fs : List Frame) → xs' ≡ old.arrivals.items → fs ≡ old.frames.items
       → StandsFor old.bounds.rates fs xs' (came_to z (map arrival_of (drop (length old.judging.marks.items + 1) xs'))
       (last_time z.by (arrivals_came (sound_events z over))) (arrival_of a) j) judging'
@@ -86,7 +87,8 @@ module _ (z : Terms) where
       → StandsFor old.bounds.rates old.frames.items old.arrivals.items (came_to z (map arrival_of
       (drop (length old.judging.marks.items + 1) old.arrivals.items))
       (last_time z.by (arrivals_came (sound_events z over))) (arrival_of a) j) judging'
-      × AreFound a.time found j (came_to z (map arrival_of (drop (length old.judging.marks.items + 1) old.arrivals.items))
+      × AreFound a.time found j
+      (came_to z (map arrival_of (drop (length old.judging.marks.items + 1) old.arrivals.items))
       (last_time z.by (arrivals_came (sound_events z over))) (arrival_of a) j)
   outcome-of over a old judging' found j xs' fs e g out =
       subst (λ (l : List Arrived). StandsFor old.bounds.rates old.frames.items l (came_to z (map arrival_of
@@ -102,7 +104,8 @@ module _ (z : Terms) where
 
   -- ---- an arrival
 
-  module _ (xs : List Arrival) (ys : List Gone) (cut : ℕ) (over : List Event) (a : Arrived) (old : Growth) (judging' : Judging)
+  module _ (xs : List Arrival) (ys : List Gone) (cut : ℕ) (over : List Event) (a : Arrived) (old : Growth)
+      (judging' : Judging)
       (tag' : Option ℕ) (last' : ℕ) (found : List Finding) where
     abbrev X : Arrival
     X = arrival_of a
@@ -125,14 +128,16 @@ module _ (z : Terms) where
       found = min (old.found + frames_in found) most_found;
     }
 
-    module _ (gone : List Marked) (past : List Gone) (k : IsKept z xs ys cut over gone past old) (lt : Marks < length old.arrivals.items)
+    module _ (gone : List Marked) (past : List Gone) (k : IsKept z xs ys cut over gone past old)
+        (lt : Marks < length old.arrivals.items)
         (at : a ≡ get_or old.arrivals.items Marks a) where
       pub coming-is : coming xs over ≡ X ∷ Behind
       coming-is =
           ap (λ (l : List Arrival). drop (length (arrivals_came over)) l) k.came
           ∙ ap (λ (n : ℕ). drop n (map (λ m. m.arrival) gone ++ map arrival_of old.arrivals.items))
           (let m = k.marks in let g = length-map gone (λ (m : Marked). m.arrival) in
-          let e : length (arrivals_came over) ≡ length (map (λ (m : Marked). m.arrival) gone) + Marks = omega (arith, m, g) in e)
+          let e : length (arrivals_came over) ≡ length (map (λ (m : Marked). m.arrival) gone) + Marks =
+          omega (arith, m, g) in e)
           ∙ drop-append-add (map (λ (m : Marked). m.arrival) gone) (map arrival_of old.arrivals.items) Marks
           ∙ drop-map arrival_of Marks old.arrivals.items
           ∙ ap (λ (l : List Arrived). map arrival_of l) (drop_more old.arrivals.items Marks a lt)
@@ -166,7 +171,8 @@ module _ (z : Terms) where
           by false = refl
 
       module _ (c : Continues z xs ys over gone old) (js : IsJudged z a) (sure : old.judging.is_unsure ≡ false)
-          (stands : StandsFor old.bounds.rates old.frames.items old.arrivals.items (came_to z Behind Last X c.j) judging')
+          (stands : StandsFor old.bounds.rates old.frames.items old.arrivals.items (came_to z Behind Last X c.j)
+          judging')
           (are : AreFound a.time found c.j (came_to z Behind Last X c.j))
           (marks : length judging'.marks.items ≡ Marks + 1)
           (last-is : last' ≡ (if is_none a.fault then a.time else old.last))

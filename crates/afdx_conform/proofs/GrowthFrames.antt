@@ -51,7 +51,8 @@ within-more rates n k count held le all i d lt =
 module _ (z : Terms) where
   -- ---- what is judged is the same but for the states
 
-  pub judged-late : (xs : List Arrival) (ys more : List Gone) (time : ℕ) (e : Event) (before : List Event) → AreTold z xs ys
+  pub judged-late : (xs : List Arrival) (ys more : List Gone) (time : ℕ) (e : Event) (before : List Event)
+      → AreTold z xs ys
       → AreEvents z xs ys (e ∷ before) → time ≤ z.until → AreLate z time more → AreOver z time (e ∷ before)
       → judged_by z xs (ys ++ more) (e ∷ before) ≡ judged_more more (judged_by z xs ys (e ∷ before))
   judged-late xs ys more time e before told events until late o =
@@ -100,7 +101,8 @@ module _ (z : Terms) where
           → FitNone z (map gone_of frames'.items) gone
       unread-more gone past k =
           subst (λ (l : List Gone). FitNone z l gone) (sym frames-of)
-          (every-append (λ y. AllByRecursion (λ w. fits z w.arrival y ≡ false) gone) (map gone_of old.frames.items) One k.unread (
+          (every-append (λ y. AllByRecursion (λ w. fits z w.arrival y ≡ false) gone) (map gone_of old.frames.items)
+          One k.unread (
             every-on (λ w. moment_at z w.arrival.time < time) (λ w. fits z w.arrival (gone_of f) ≡ false)
                 (λ w lt. fits-not z w.arrival (gone_of f) time lt (late m).0) gone
                 (gone-over z xs (map arrival_of old.arrivals.items) ys gone time over events k.came
@@ -132,7 +134,8 @@ module _ (z : Terms) where
       same-left gone j some e = by over some t events o e
         where
           by : (l : List Event) → is_some l ≡ true → AreTold z xs ys → AreEvents z xs ys l → AreOver z time l
-              → with_gone gone 0 j ≡ judged_by z xs ys l → with_gone gone 0 (judged_more One j) ≡ judged_by z xs (ys ++ One) l
+              → with_gone gone 0 j ≡ judged_by z xs ys l → with_gone gone 0 (judged_more One j) ≡ judged_by z xs
+              (ys ++ One) l
           by [] s told ev ov same = absurd (cc)
           by (v ∷ before) s told ev ov same =
               ap (λ (k : Judged). judged_more One k) same
@@ -151,7 +154,8 @@ module _ (z : Terms) where
               ∙ ap (λ (l : List State). map (with_more One) l) c.stands.states;
           within = within-more old.bounds.rates (length old.frames.items) (length frames'.items)
               (length old.judging.marks.items) old.judging.held.items
-              (let n = ap (λ (l : List Frame). length l) items ∙ length-append old.frames.items (f ∷ []) in omega (arith, n))
+              (let n = ap (λ (l : List Frame). length l) items ∙ length-append old.frames.items (f ∷ []) in
+              omega (arith, n))
               c.stands.within;
           marks = c.stands.marks;
           uncertain = c.stands.uncertain;
@@ -167,7 +171,8 @@ module _ (z : Terms) where
         continues = λ s. continues-left h.gone (sym h.kept.started ∙ s) (h.continues s);
       }
 
-    pub after-left : frames'.items ≡ old.frames.items ++ (f ∷ []) → count ≡ old.left + 1 → MayLeave z ys time (gone_of f)
+    pub after-left : frames'.items ≡ old.frames.items ++ (f ∷ []) → count ≡ old.left + 1
+        → MayLeave z ys time (gone_of f)
         → time ≤ z.until → AreOver z time over → IsAfter z xs ys cut over old
         → IsAfter z xs (ys ++ One) cut over WithFrame
     after-left items counted m until o g =
@@ -182,7 +187,8 @@ module _ (z : Terms) where
           sure = λ s. held-left items counted m until o g.told g.events (g.sure s);
         }
 
-    pub frame-unsure : old.judging.is_unsure ≡ true → MayLeave z ys time (gone_of f) → time ≤ z.until → AreOver z time over
+    pub frame-unsure : old.judging.is_unsure ≡ true → MayLeave z ys time (gone_of f) → time ≤ z.until
+        → AreOver z time over
         → IsAfter z xs ys cut over old → IsAfter z xs (ys ++ One) cut over old
     frame-unsure un m until o g =
         let same = shown-late xs ys One time over g.told g.events until (late m) o in

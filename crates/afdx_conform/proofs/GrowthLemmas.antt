@@ -26,7 +26,8 @@ use Rattle.afdx_conform.proofs.OverLemmas.{come-later, over-arrivals}
 
 -- ---- lists
 
-pub up-more : (times : List ℕ) (time : ℕ) → GoUp times → AllByRecursion (λ t. t ≤ time) times → GoUp (times ++ (time ∷ []))
+pub up-more : (times : List ℕ) (time : ℕ) → GoUp times → AllByRecursion (λ t. t ≤ time) times
+    → GoUp (times ++ (time ∷ []))
 unfolding GoUp
 up-more [] time h all = (tt, tt)
 up-more (t ∷ times) time h all = (
@@ -58,7 +59,8 @@ marked-more (a ∷ xs) more (m ∷ ms) le =
     ap (λ (l : List Marked). marked_of a m ∷ l) (marked-more xs more ms (omega (arith, le)))
 
 -- what is the first of two lists that are the same together
-pub prefix-all : {X : Type 0} (P : X → Type 0) (gs rest rs others : List X) → gs ++ rest ≡ rs ++ others → length gs ≤ length rs
+pub prefix-all : {X : Type 0} (P : X → Type 0) (gs rest rs others : List X) → gs ++ rest ≡ rs ++ others
+    → length gs ≤ length rs
     → AllByRecursion P rs → AllByRecursion P gs
 prefix-all P [] rest rs others e le h = tt
 prefix-all P (g ∷ gs) rest [] others e le h = absurd (omega (arith, le))
@@ -83,7 +85,8 @@ module _ (z : Terms) where
   over-first xs ys [] h = refl
   over-first xs ys (Came x ∷ before) h =
       let first = next-came z (coming xs before) (unclosed ys before) x h.0 in
-      ap (λ (l : List Arrival). l ++ drop (suc (length (arrivals_came before))) xs) (reverse-first x (arrivals_came before))
+      ap (λ (l : List Arrival). l ++ drop (suc (length (arrivals_came before))) xs)
+      (reverse-first x (arrivals_came before))
       ∙ append_assoc (reverse (arrivals_came before)) (x ∷ []) (drop (suc (length (arrivals_came before))) xs)
       ∙ ap (λ (l : List Arrival). reverse (arrivals_came before) ++ (x ∷ l))
       (drop-next (length (arrivals_came before)) xs x first.0 first.1)
@@ -108,7 +111,8 @@ module _ (z : Terms) where
       let size = length-map gone (λ (m : Marked). m.arrival) in
       let back = length-reverse (arrivals_came over) in
       arrivals-of (λ x. moment_at z x.time < time) gone
-      (prefix-all (λ x. moment_at z x.time < time) (map (λ m. m.arrival) gone) rest (reverse (arrivals_came over)) (coming xs over)
+      (prefix-all (λ x. moment_at z x.time < time) (map (λ m. m.arrival) gone) rest (reverse (arrivals_came over))
+      (coming xs over)
       (sym e ∙ sym (over-first xs ys over events))
       (omega (arith, le, size, back))
       (every-reverse (λ x. moment_at z x.time < time) (arrivals_came over) (over-arrivals z time over o)))
@@ -144,7 +148,8 @@ module _ (z : Terms) where
       kept-came gone past j k = record {
         came = ap (λ (l : List Arrival). l ++ One) k.came
             ∙ append_assoc (map (λ m. m.arrival) gone) (map arrival_of old.arrivals.items) One
-            ∙ ap (λ (l : List Arrival). map (λ m. m.arrival) gone ++ l) (sym (map-append arrival_of old.arrivals.items (a ∷ [])))
+            ∙ ap (λ (l : List Arrival). map (λ m. m.arrival) gone ++ l)
+            (sym (map-append arrival_of old.arrivals.items (a ∷ [])))
             ∙ ap (λ (l : List Arrived). map (λ m. m.arrival) gone ++ map arrival_of l) (sym items);
         left = k.left;
         judged = subst (λ (l : List Arrived). All (λ b. IsJudged z b) l) (sym items)

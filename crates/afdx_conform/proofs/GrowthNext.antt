@@ -24,20 +24,24 @@ use Rattle.afdx_conform.proofs.GrowthDecides.{drop-map}
 module _ (z : Terms) where
   -- ---- by what is held
 
-  coming-held : (xs : List Arrival) (ys : List Gone) (cut : ℕ) (over : List Event) (gone : List Marked) (past : List Gone)
+  coming-held : (xs : List Arrival) (ys : List Gone) (cut : ℕ) (over : List Event) (gone : List Marked)
+      (past : List Gone)
       (s : Growth) → IsKept z xs ys cut over gone past s
       → coming xs over ≡ map arrival_of (drop (length s.judging.marks.items) s.arrivals.items)
   coming-held xs ys cut over gone past s k =
       let size = length-map gone (λ (m : Marked). m.arrival) in
       let marks = k.marks in
-      let e : length (arrivals_came over) ≡ length (map (λ (m : Marked). m.arrival) gone) + length s.judging.marks.items =
+      let e : length (arrivals_came over) ≡ length (map (λ (m : Marked). m.arrival) gone) + length
+      s.judging.marks.items =
       omega (arith, size, marks) in
       ap (λ (l : List Arrival). drop (length (arrivals_came over)) l) k.came
       ∙ ap (λ (n : ℕ). drop n (map (λ (m : Marked). m.arrival) gone ++ map arrival_of s.arrivals.items)) e
-      ∙ drop-append-add (map (λ (m : Marked). m.arrival) gone) (map arrival_of s.arrivals.items) (length s.judging.marks.items)
+      ∙ drop-append-add (map (λ (m : Marked). m.arrival) gone) (map arrival_of s.arrivals.items)
+      (length s.judging.marks.items)
       ∙ drop-map arrival_of (length s.judging.marks.items) s.arrivals.items
 
-  unclosed-held : (xs : List Arrival) (ys : List Gone) (cut : ℕ) (over : List Event) (gone : List Marked) (past : List Gone)
+  unclosed-held : (xs : List Arrival) (ys : List Gone) (cut : ℕ) (over : List Event) (gone : List Marked)
+      (past : List Gone)
       (s : Growth) → IsKept z xs ys cut over gone past s
       → unclosed ys over ≡ map gone_of (drop s.closed s.frames.items)
   unclosed-held xs ys cut over gone past s k =
@@ -46,10 +50,12 @@ module _ (z : Terms) where
       ∙ drop-append-add past (map gone_of s.frames.items) s.closed
       ∙ drop-map gone_of s.closed s.frames.items
 
-  pub next-held : (xs : List Arrival) (ys : List Gone) (cut : ℕ) (over : List Event) (gone : List Marked) (past : List Gone)
+  pub next-held : (xs : List Arrival) (ys : List Gone) (cut : ℕ) (over : List Event) (gone : List Marked)
+      (past : List Gone)
       (s : Growth) → IsKept z xs ys cut over gone past s
       → next_of z (coming xs over) (unclosed ys over)
-      ≡ next_of z (map arrival_of (drop (length s.judging.marks.items) s.arrivals.items)) (map gone_of (drop s.closed s.frames.items))
+      ≡ next_of z (map arrival_of (drop (length s.judging.marks.items) s.arrivals.items))
+      (map gone_of (drop s.closed s.frames.items))
   next-held xs ys cut over gone past s k =
       ap (λ (l : List Arrival). next_of z l (unclosed ys over)) (coming-held xs ys cut over gone past s k)
       ∙ ap (λ (l : List Gone). next_of z (map arrival_of (drop (length s.judging.marks.items) s.arrivals.items)) l)
@@ -58,19 +64,22 @@ module _ (z : Terms) where
   -- ---- the moment
 
   pub due-next : (limits : Limits) (cs : List Arrived) (fs : List Frame) → AreLimits z limits
-      → due_in limits cs fs ≡ option_map (λ e. moment_at z (event_time z e)) (next_of z (map arrival_of cs) (map gone_of fs))
+      → due_in limits cs fs ≡ option_map (λ e. moment_at z (event_time z e))
+      (next_of z (map arrival_of cs) (map gone_of fs))
   due-next limits [] [] b = refl
   due-next limits [] (f ∷ fs) b =
       ap (λ (n : ℕ). Some n) (let l = b.latency in let s = b.reach in omega (arith, l, s))
   due-next limits (c ∷ cs) [] b =
       ap (λ (n : ℕ). Some n) (let l = b.latency in let s = b.reach in omega (arith, l, s))
   due-next limits (c ∷ cs) (f ∷ fs) b =
-      ap (λ (n : ℕ). if nat_lt (f.time + n) c.time then Some (due_at limits (f.time + limits.reach)) else Some (due_at limits c.time))
+      ap (λ (n : ℕ). if nat_lt (f.time + n) c.time then Some (due_at limits (f.time + limits.reach))
+      else Some (due_at limits c.time))
       b.reach
       ∙ by (nat_lt (f.time + reach z.by) c.time)
     where
       by : (t : Bool) → (if t then Some (due_at limits (f.time + limits.reach)) else Some (due_at limits c.time))
-          ≡ option_map (λ e. moment_at z (event_time z e)) (if t then Some (Closing f.time) else Some (Came (arrival_of c)))
+          ≡ option_map (λ e. moment_at z (event_time z e)) (if t then Some (Closing f.time)
+          else Some (Came (arrival_of c)))
       by true = ap (λ (n : ℕ). Some n) (let l = b.latency in let s = b.reach in omega (arith, l, s))
       by false = ap (λ (n : ℕ). Some n) (let l = b.latency in let s = b.reach in omega (arith, l, s))
 
@@ -113,14 +122,16 @@ module _ (z : Terms) where
   get-drop : {X : Type 0} (n : ℕ) (xs : List X) (d : X) → get_or (drop n xs) 0 d ≡ get_or xs n d
   get-drop n xs d = get_or-drop n xs 0 d ∙ ap (λ (k : ℕ). get_or xs k d) (omega arith)
 
-  pub arrives-at : (place closed : ℕ) (cs : List Arrived) (fs : List Frame) (a : Arrived) (apart : ℕ) → apart ≡ reach z.by
+  pub arrives-at : (place closed : ℕ) (cs : List Arrived) (fs : List Frame) (a : Arrived) (apart : ℕ)
+      → apart ≡ reach z.by
       → place < length cs → a ≡ get_or cs place a
       → ((f : Frame) → closed < length fs → f ≡ get_or fs closed f → a.time ≤ f.time + apart)
       → next_of z (map arrival_of (drop place cs)) (map gone_of (drop closed fs)) ≡ Some (Came (arrival_of a))
   arrives-at place closed cs fs a apart e lt at first =
       let size = length-drop place cs in
       let many = length-drop closed fs in
-      first-arrives (drop place cs) (drop closed fs) a apart e (omega (arith, lt, size)) (at ∙ sym (get-drop place cs a))
+      first-arrives (drop place cs) (drop closed fs) a apart e (omega (arith, lt, size)) (at
+      ∙ sym (get-drop place cs a))
       (λ f less is. first f (omega (arith, less, many)) (is ∙ get-drop closed fs f))
 
   pub closes-at : (place closed : ℕ) (cs : List Arrived) (fs : List Frame) (f : Frame) (apart : ℕ) → apart ≡ reach z.by
@@ -130,7 +141,8 @@ module _ (z : Terms) where
   closes-at place closed cs fs f apart e lt at first =
       let size = length-drop closed fs in
       let many = length-drop place cs in
-      first-closes (drop place cs) (drop closed fs) f apart e (omega (arith, lt, size)) (at ∙ sym (get-drop closed fs f))
+      first-closes (drop place cs) (drop closed fs) f apart e (omega (arith, lt, size)) (at
+      ∙ sym (get-drop closed fs f))
       (λ a less is. first a (omega (arith, less, many)) (is ∙ get-drop place cs a))
 
   pub none-at : (place closed : ℕ) (cs : List Arrived) (fs : List Frame) → length cs ≤ place → length fs ≤ closed

@@ -23,8 +23,10 @@ use Rattle.afdx_conform.proofs.GrowthCloses.{Close, after-close, closed-next}
 abbrev pub Closed : Growth → ℕ → Growth
 Closed old to = record old { closed = old.closed + 1; closing = to }
 
-same-growth : (old : Growth) (to n : ℕ) (z : Terms) (xs : List Arrival) (ys : List Gone) (cut : ℕ) (over : List Event) (f : Frame)
-    → old.is_started ≡ true → old.found ≡ min n most_found → Close z xs ys cut over f old old.judging [] to ≡ Closed old to
+same-growth : (old : Growth) (to n : ℕ) (z : Terms) (xs : List Arrival) (ys : List Gone) (cut : ℕ) (over : List Event)
+    (f : Frame)
+    → old.is_started ≡ true → old.found ≡ min n most_found → Close z xs ys cut over f old old.judging [] to
+    ≡ Closed old to
 unfolding frames_in
 same-growth old to n z xs ys cut over f started found =
     ap (λ (b : Bool). record old {
@@ -43,7 +45,8 @@ nothing-found time j k e = record {
   frames = (let same = ap (λ (v : Judged). v.frames) e in omega (arith, same));
 }
 
-module _ (z : Terms) (xs : List Arrival) (ys : List Gone) (cut : ℕ) (over : List Event) (f : Frame) (old : Growth) (to moment : ℕ)
+module _ (z : Terms) (xs : List Arrival) (ys : List Gone) (cut : ℕ) (over : List Event) (f : Frame) (old : Growth)
+    (to moment : ℕ)
     (g : IsAfter z xs ys cut over old) (sure : old.judging.is_unsure ≡ false) (started : old.is_started ≡ true)
     (next : next_of z (coming xs over) (unclosed ys over) ≡ Some (Closing f.time))
     (closed : AreClosed f.time to (map gone_of old.frames.items))
@@ -58,7 +61,8 @@ module _ (z : Terms) (xs : List Arrival) (ys : List Gone) (cut : ℕ) (over : Li
       close-all z f.time to (map gone_of old.frames.items) old.judging.held.items c.j closed c.stands.states
       (sym c.stands.unsure ∙ sure) all in
       let after = after-close z xs ys cut over f old old.judging [] to h.gone h.past h.kept c sure
-      (subst (λ (j : Judged). StandsFor old.bounds.rates old.frames.items old.arrivals.items j old.judging) (sym same) c.stands)
+      (subst (λ (j : Judged). StandsFor old.bounds.rates old.frames.items old.arrivals.items j old.judging) (sym same)
+      c.stands)
       (nothing-found (f.time + reach z.by) c.j (closed_to z f.time c.j) same) refl g next in (
         subst (λ (s : Growth). IsAfter z xs ys cut (Closing f.time ∷ over) s)
             (same-growth old to (judged_by z xs ys over).frames z xs ys cut over f started h.kept.found) after.0,

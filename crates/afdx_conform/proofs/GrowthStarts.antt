@@ -29,9 +29,11 @@ use Rattle.afdx_conform.proofs.GrowthLemmas.{true-false}
 
 -- ---- where nothing has changed
 
-module _ (z : Terms) (xs : List Arrival) (ys : List Gone) (cut : ℕ) (over : List Event) (old new : Growth) (s : IsSame old new)
+module _ (z : Terms) (xs : List Arrival) (ys : List Gone) (cut : ℕ) (over : List Event) (old new : Growth)
+    (s : IsSame old new)
   where
-    kept-same : (gone : List Marked) (past : List Gone) → IsKept z xs ys cut over gone past old → IsKept z xs ys cut over gone past new
+    kept-same : (gone : List Marked) (past : List Gone) → IsKept z xs ys cut over gone past old
+        → IsKept z xs ys cut over gone past new
     kept-same gone past k = record {
       came = k.came ∙ ap (λ (l : List Arrived). map (λ m. m.arrival) gone ++ map arrival_of l) (sym s.arrivals);
       left = k.left ∙ ap (λ (l : List Frame). past ++ map gone_of l) (sym s.frames);
@@ -48,7 +50,8 @@ module _ (z : Terms) (xs : List Arrival) (ys : List Gone) (cut : ℕ) (over : Li
       certain = λ e. s.uncertain ∙ k.certain e;
     }
 
-    continues-same : (gone : List Marked) → old.is_started ≡ true → Continues z xs ys over gone old → Continues z xs ys over gone new
+    continues-same : (gone : List Marked) → old.is_started ≡ true → Continues z xs ys over gone old
+        → Continues z xs ys over gone new
     continues-same gone started c =
         let held = s.held started in
         record {
@@ -57,11 +60,14 @@ module _ (z : Terms) (xs : List Arrival) (ys : List Gone) (cut : ℕ) (over : Li
           stands = record {
             states = ap (λ (l : List Frame). map (state_of (map gone_of l)) new.judging.held.items) s.frames
                 ∙ ap (λ (l : List Held). map (state_of (map gone_of old.frames.items)) l) held ∙ c.stands.states;
-            within = subst (λ (r : Rates). All (λ h. IsWithin r (length new.frames.items) (length new.judging.marks.items) h)
+            within =
+                subst (λ (r : Rates). All (λ h. IsWithin r (length new.frames.items) (length new.judging.marks.items) h)
                 new.judging.held.items) (ap (λ (b : Bounds). b.rates) (sym s.bounds))
-                (subst (λ (n : ℕ). All (λ h. IsWithin old.bounds.rates n (length new.judging.marks.items) h) new.judging.held.items)
+                (subst (λ (n : ℕ). All (λ h. IsWithin old.bounds.rates n (length new.judging.marks.items) h)
+                new.judging.held.items)
                 (ap (λ (l : List Frame). length l) (sym s.frames))
-                (subst (λ (n : ℕ). All (λ h. IsWithin old.bounds.rates (length old.frames.items) n h) new.judging.held.items)
+                (subst (λ (n : ℕ). All (λ h. IsWithin old.bounds.rates (length old.frames.items) n h)
+                new.judging.held.items)
                 (ap (λ (l : List Mark). length l) (sym s.marks))
                 (subst (λ (l : List Held). All (λ h. IsWithin old.bounds.rates (length old.frames.items)
                 (length old.judging.marks.items) h) l) (sym held) c.stands.within)));
@@ -104,8 +110,10 @@ no-length [] e = refl
 no-length (x ∷ xs) e = absurd (omega (arith, e))
 
 pub after-none : (z : Terms) (g : Growth) → AreBounds z g.bounds → z.by ≡ leeway_of g.by → g.arrivals.items ≡ []
-    → g.frames.items ≡ [] → g.judging.marks.items ≡ [] → g.judging.uncertain ≡ 0 → g.judging.is_unsure ≡ false → g.closed ≡ 0
-    → g.last ≡ from_time z.by.start → g.is_started ≡ false → g.came ≡ 0 → g.left ≡ 0 → g.cut ≡ 0 → g.found ≡ 0 → g.unsure ≡ None
+    → g.frames.items ≡ [] → g.judging.marks.items ≡ [] → g.judging.uncertain ≡ 0 → g.judging.is_unsure ≡ false
+    → g.closed ≡ 0
+    → g.last ≡ from_time z.by.start → g.is_started ≡ false → g.came ≡ 0 → g.left ≡ 0 → g.cut ≡ 0 → g.found ≡ 0
+    → g.unsure ≡ None
     → IsAfter z [] [] 0 [] g
 unfolding judged_after sound_events AreEvents GoUp
 after-none z g bounds by arrivals frames marks uncertain sure closed last started came left cut found tag = record {
@@ -121,7 +129,8 @@ after-none z g bounds by arrivals frames marks uncertain sure closed last starte
     kept = record {
       came = ap (λ (l : List Arrived). map arrival_of l) (sym arrivals);
       left = ap (λ (l : List Frame). map gone_of l) (sym frames);
-      judged = subst (λ (l : List Arrived). All (λ a. IsJudged z a) l) (sym arrivals) (λ i d lt. absurd (omega (arith, lt)));
+      judged = subst (λ (l : List Arrived). All (λ a. IsJudged z a) l) (sym arrivals)
+          (λ i d lt. absurd (omega (arith, lt)));
       marks = (let n = ap (λ (l : List Mark). length l) marks in omega (arith, n));
       closed = omega (arith, closed);
       unread = subst (λ (l : List Frame). FitNone z (map gone_of l) []) (sym frames) tt;
@@ -167,7 +176,8 @@ module _ (z : Terms) (xs : List Arrival) (ys : List Gone) (cut : ℕ) (g : Growt
     certain = k.certain;
   }
 
-  first-continues : (gone : List Marked) (past : List Gone) → IsKept z xs ys cut [] gone past g → g.judging.is_unsure ≡ false
+  first-continues : (gone : List Marked) (past : List Gone) → IsKept z xs ys cut [] gone past g
+      → g.judging.is_unsure ≡ false
       → map (state_of (map gone_of g.frames.items)) held.items ≡ first_states z (first_levels (link z) z.by z.by.start)
       (map gone_of g.frames.items)
       → All (λ h. IsWithin g.bounds.rates (length g.frames.items) 0 h) held.items
@@ -180,10 +190,12 @@ module _ (z : Terms) (xs : List Arrival) (ys : List Gone) (cut : ℕ) (g : Growt
       let forgotten = no-length gone (omega (arith, none)) in
       let whole = ap (λ (l : List Gone). l ++ map gone_of g.frames.items) (no-length past (omega (arith, closed))) in
       record {
-        j = judged_with (first_states z (first_levels (link z) z.by z.by.start) (map gone_of g.frames.items)) [] [] 0 0 false;
+        j = judged_with (first_states z (first_levels (link z) z.by z.by.start) (map gone_of g.frames.items)) [] [] 0
+            0 false;
         same = ap (λ (l : List Marked). judged_with (first_states z (first_levels (link z) z.by z.by.start)
             (map gone_of g.frames.items)) (l ++ []) [] 0 0 false) forgotten
-            ∙ ap (λ (l : List Gone). judged_with (first_states z (first_levels (link z) z.by z.by.start) l) [] [] 0 0 false)
+            ∙ ap (λ (l : List Gone). judged_with (first_states z (first_levels (link z) z.by z.by.start) l) [] [] 0 0
+            false)
             (sym whole ∙ sym k.left);
         stands = record {
           states = states;
@@ -197,7 +209,8 @@ module _ (z : Terms) (xs : List Arrival) (ys : List Gone) (cut : ℕ) (g : Growt
 
   pub ready-first : (over : List Event) (fs : List Frame) → fs ≡ g.frames.items → IsAfter z xs ys cut over g
       → g.judging.is_unsure ≡ false → g.is_started ≡ false
-      → map (state_of (map gone_of fs)) held.items ≡ first_states z (first_levels (link z) z.by z.by.start) (map gone_of fs)
+      → map (state_of (map gone_of fs)) held.items ≡ first_states z (first_levels (link z) z.by z.by.start)
+      (map gone_of fs)
       → All (λ h. IsWithin g.bounds.rates (length fs) 0 h) held.items
       → IsReady z xs ys cut over WithHeld
   ready-first [] fs e f sure started states within =

@@ -24,7 +24,8 @@ whole-div w = mul-div_cancel_left w (omega arith)
 whole-ceil : (w : ℕ) → div_ceil (1000000 * w) 1000000 ≡ w
 whole-ceil w =
     let quotient = whole-div w in
-    let rest : (1000000 * w) % 1000000 ≡ 1000000 * w - 1000000 * (1000000 * w / 1000000) = mod-eq-sub-mul-div (1000000 * w) 1000000 in
+    let rest : (1000000 * w) % 1000000 ≡ 1000000 * w - 1000000 * (1000000 * w / 1000000) =
+    mod-eq-sub-mul-div (1000000 * w) 1000000 in
     let none : (1000000 * w) % 1000000 ≡ 0 = omega (arith, rest, quotient) in
     omega (arith, none, quotient)
 
@@ -77,7 +78,8 @@ module _ (rule : Rule) (is : IsTrue (is_bag rule.bag_ms)) (latency_ns byte_ns in
   frames-pairs (x ∷ xs) [] h = absurd h
   frames-pairs (x ∷ xs) (y ∷ ys) h = (frame-fits x y h.0, frames-pairs xs ys h.1)
 
-  there : (own : List Arrival) (frames : List Gone) → GoByTime own → Explains z (sound_of rule own) frames → IsAsTheHeadline z own frames
+  there : (own : List Arrival) (frames : List Gone) → GoByTime own → Explains z (sound_of rule own) frames
+      → IsAsTheHeadline z own frames
   there own frames order e =
       let at = exactly rule is latency_ns byte_ns inner until own order e.answers e.are_answered e.are_allowed in
       record {
@@ -93,9 +95,11 @@ module _ (rule : Rule) (is : IsTrue (is_bag rule.bag_ms)) (latency_ns byte_ns in
       → AreTheirFrames z (accepted_arrivals rule own) frames
   all-there own frames order answers same allowed pairs =
       let at = exactly rule is latency_ns byte_ns inner until own order answers same allowed in
-      subst (λ (xs : List Arrival). AreTheirFrames z xs frames) at.same (pairs-frames (accepted_in answers) frames pairs)
+      subst (λ (xs : List Arrival). AreTheirFrames z xs frames) at.same (pairs-frames (accepted_in answers) frames
+      pairs)
 
-  back : (own : List Arrival) (frames : List Gone) → GoByTime own → IsAsTheHeadline z own frames → Explains z (sound_of rule own) frames
+  back : (own : List Arrival) (frames : List Gone) → GoByTime own → IsAsTheHeadline z own frames
+      → Explains z (sound_of rule own) frames
   back own frames order h =
       let some = some-answers rule is latency_ns byte_ns inner until own order in
       let at = some.1 in
@@ -119,7 +123,8 @@ terms-with rule latency_ns byte_ns until s b d i q st = record {
   until = until;
 }
 
-same-terms : (rule : Rule) (latency_ns byte_ns until s b d i q : ℕ) (st : Option ℕ) → s ≡ 0 → b ≡ 0 → d ≡ 0 → q ≡ 0 → st ≡ None
+same-terms : (rule : Rule) (latency_ns byte_ns until s b d i q : ℕ) (st : Option ℕ) → s ≡ 0 → b ≡ 0 → d ≡ 0 → q ≡ 0
+    → st ≡ None
     → terms-with rule latency_ns byte_ns until s b d i q st ≡ terms-with rule latency_ns byte_ns until 0 0 0 i 0 None
 same-terms rule latency_ns byte_ns until s b d i q st at apart rate asks from = rw (at, apart, rate, asks, from) refl
 

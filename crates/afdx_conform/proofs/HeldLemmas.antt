@@ -6,12 +6,12 @@ use Rattle.afdx_conform.specs.Accounts.{AreLevels, AreNear}
 use Rattle.afdx_conform.specs.declared.levels.Rates.{Rates}
 use Rattle.afdx_police.specs.Arrival.{Arrival}
 use Rattle.afdx_conform.specs.Levels.{Levels}
-use Rattle.afdx_conform.specs.Streams.{Gone, Terms, fits, is_open}
+use Rattle.afdx_conform.specs.Streams.{Gone, Terms, fits}
 use Rattle.afdx_conform.specs.States.{State, state_with, accepted_states, led_by}
 use Rattle.afdx_conform.specs.declared.states.Case.{Case}
 use Rattle.afdx_conform.specs.declared.states.Held.{Held}
 use Rattle.afdx_conform.specs.HeldStates.{IsNext, IsWithin}
-use Rattle.afdx_conform.specs.declared.states.NextFrame.TheVariants.{Fits, Other, Open, Over}
+use Rattle.afdx_conform.specs.declared.states.NextFrame.TheVariants.{Fits}
 
 pub if-true : {X : Type 0} (b : Bool) (u v : X) → b ≡ true → (if b then u else v) ≡ u
 if-true true u v e = refl
@@ -30,7 +30,8 @@ drop-next (suc p) (w ∷ ys) y rest e =
     drop-next p ys y rest e ∙ sym (ap (λ n. drop n (w ∷ ys)) on)
 
 module _ (z : Terms) (x : Arrival) (levels : Levels) (n p : ℕ) (ys : List Gone) where
-  pub next-fits : IsNext z x (drop p ys) Fits → accepted_states z x levels n (drop p ys) ≡ state_with (drop (p + 1) ys) levels n ∷ []
+  pub next-fits : IsNext z x (drop p ys) Fits → accepted_states z x levels n (drop p ys) ≡ state_with
+      (drop (p + 1) ys) levels n ∷ []
   next-fits h = by (drop p ys) refl h
     where
       by : (rest : List Gone) → drop p ys ≡ rest → IsNext z x rest Fits
@@ -39,27 +40,6 @@ module _ (z : Terms) (x : Arrival) (levels : Levels) (n p : ℕ) (ys : List Gone
       by (y ∷ rest) e h =
           if-true (fits z x y) (state_with rest levels n ∷ []) [] h
           ∙ ap (λ (r : List Gone). state_with r levels n ∷ []) (drop-next p ys y rest e)
-
-  pub next-open : IsNext z x (drop p ys) Open → accepted_states z x levels n (drop p ys) ≡ state_with (drop p ys) levels (n + 1) ∷ []
-  next-open h = by (drop p ys) h
-    where
-      by : (rest : List Gone) → IsNext z x rest Open → accepted_states z x levels n rest ≡ state_with rest levels (n + 1) ∷ []
-      by [] h = if-true (is_open z x) (state_with [] levels (n + 1) ∷ []) [] h
-      by (y ∷ rest) h = absurd h
-
-  pub next-other : IsNext z x (drop p ys) Other → accepted_states z x levels n (drop p ys) ≡ []
-  next-other h = by (drop p ys) h
-    where
-      by : (rest : List Gone) → IsNext z x rest Other → accepted_states z x levels n rest ≡ []
-      by [] h = absurd h
-      by (y ∷ rest) h = if-false (fits z x y) (state_with rest levels n ∷ []) [] h
-
-  pub next-over : IsNext z x (drop p ys) Over → accepted_states z x levels n (drop p ys) ≡ []
-  next-over h = by (drop p ys) h
-    where
-      by : (rest : List Gone) → IsNext z x rest Over → accepted_states z x levels n rest ≡ []
-      by [] h = if-false (is_open z x) (state_with [] levels (n + 1) ∷ []) [] h
-      by (y ∷ rest) h = absurd h
 
 -- ---- all of them
 

@@ -50,7 +50,8 @@ module _ (z : Terms) where
     below-later lo time at (taken + charge z x) xs on h.2,
   )
 
-  below-more : (lo hi time taken : ℕ) (xs : List Arrival) → lo ≤ hi → IsBelow lo time taken xs → IsBelow hi time taken xs
+  below-more : (lo hi time taken : ℕ) (xs : List Arrival) → lo ≤ hi → IsBelow lo time taken xs
+      → IsBelow hi time taken xs
   below-more lo hi time taken [] on h = tt
   below-more lo hi time taken (x ∷ xs) on h =
       (let b = h.0 in omega (arith, b, on), h.1, below-more lo hi time (taken + charge z x) xs on h.2)
@@ -73,7 +74,8 @@ module _ (z : Terms) where
   unfolding KeepsEach
   below-keeps lo taken last [] room h = tt
   below-keeps lo taken last (x ∷ xs) room h = (
-    window-number rate lo (load (taken + charge z x)) last.time x.time (account_slip z.by) (full (link z) z.by) h.0 room,
+    window-number rate lo (load (taken + charge z x)) last.time x.time (account_slip z.by) (full (link z) z.by) h.0
+        room,
     below-keeps lo (taken + charge z x) last xs room h.2,
   )
 
@@ -87,12 +89,15 @@ module _ (z : Terms) where
   low answers x = (levels_after z answers).lo - rate * (x.time - last_time z.by (arrivals_in answers))
 
   step-kept : (b : Bool) (x : Arrival) (answers : List Answered) → AreAllowed z (answered x b ∷ answers)
-      → IsBelow (low answers x) x.time 0 (accepted_in answers) → KeepAll z (accepted_in answers) → Kept (answered x b ∷ answers)
+      → IsBelow (low answers x) x.time 0 (accepted_in answers) → KeepAll z (accepted_in answers)
+      → Kept (answered x b ∷ answers)
   unfolding levels_after accepted_in arrivals_in AreAllowed KeepAll
   step-kept true x answers allowed now all =
       let room : low answers x + cost (link z) z.by (charge z x) ≤ full (link z) z.by + fast_slip (link z) z.by
-      = leb-true (low answers x + cost (link z) z.by (charge z x)) (full (link z) z.by + fast_slip (link z) z.by) allowed.0 in
-      let tail = below-charged (low answers x) x.time 0 (charge z x) (0 + charge z x) (accepted_in answers) (omega arith) now in
+      = leb-true (low answers x + cost (link z) z.by (charge z x)) (full (link z) z.by + fast_slip (link z) z.by)
+      allowed.0 in
+      let tail = below-charged (low answers x) x.time 0 (charge z x) (0 + charge z x) (accepted_in answers)
+      (omega arith) now in
       let head : load (0 + charge z x) ≡ load (charge z x) = ap (λ m. load m) (omega arith) in
       let below : IsBelow (low answers x + load (charge z x)) x.time 0 (x ∷ accepted_in answers) =
       (omega (arith, head), omega arith, tail) in

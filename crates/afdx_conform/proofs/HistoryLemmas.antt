@@ -20,7 +20,8 @@ cons-first x w xs ws e = cc
 cons-rest : {X : Type 0} (x w : X) (xs ws : List X) → x ∷ xs ≡ w ∷ ws → xs ≡ ws
 cons-rest x w xs ws e = cc
 
-pub drop-next : {X : Type 0} (n : ℕ) (xs : List X) (x : X) (rest : List X) → drop n xs ≡ x ∷ rest → drop (suc n) xs ≡ rest
+pub drop-next : {X : Type 0} (n : ℕ) (xs : List X) (x : X) (rest : List X) → drop n xs ≡ x ∷ rest
+    → drop (suc n) xs ≡ rest
 drop-next zero [] x rest e = absurd (cc)
 drop-next zero (w ∷ xs) x rest e = cons-rest w x xs rest e
 drop-next (suc n) [] x rest e = absurd (cc)
@@ -32,7 +33,8 @@ drop-less zero (w ∷ xs) x rest e = omega arith
 drop-less (suc n) [] x rest e = absurd (cc)
 drop-less (suc n) (w ∷ xs) x rest e = (let h = drop-less n xs x rest e in omega (arith, h))
 
-pub every-drop : {X : Type 0} (P : X → Type 0) (n : ℕ) (xs : List X) → AllByRecursion P xs → AllByRecursion P (drop n xs)
+pub every-drop : {X : Type 0} (P : X → Type 0) (n : ℕ) (xs : List X) → AllByRecursion P xs
+    → AllByRecursion P (drop n xs)
 every-drop P zero xs h = h
 every-drop P (suc n) [] h = h
 every-drop P (suc n) (x ∷ xs) h = every-drop P n xs h.1
@@ -85,7 +87,8 @@ module _ (z : Terms) where
   with-arrival [] (y ∷ us) x e lt h =
       let is : Closing y.time ≡ e = cc in
       let less = subst (λ (v : Event). event_time z v < x.time) (sym is) lt in
-      ap (λ (b : Bool). if b then Some (Closing y.time) else Some (Came x)) (lt-ltb (y.time + reach z.by) x.time less) ∙ h
+      ap (λ (b : Bool). if b then Some (Closing y.time) else Some (Came x)) (lt-ltb (y.time + reach z.by) x.time less)
+      ∙ h
   with-arrival (c ∷ cs) [] x e lt h = h
   with-arrival (c ∷ cs) (y ∷ us) x e lt h = h
 
@@ -95,7 +98,8 @@ module _ (z : Terms) where
   with-frame (c ∷ cs) [] y e le h =
       let is : Came c ≡ e = cc in
       let less = subst (λ (v : Event). event_time z v ≤ y.time + reach z.by) (sym is) le in
-      ap (λ (b : Bool). if b then Some (Closing y.time) else Some (Came c)) (le-ltb (y.time + reach z.by) c.time less) ∙ h
+      ap (λ (b : Bool). if b then Some (Closing y.time) else Some (Came c)) (le-ltb (y.time + reach z.by) c.time less)
+      ∙ h
   with-frame [] (u ∷ us) y e le h = h
   with-frame (c ∷ cs) (u ∷ us) y e le h = h
 
@@ -107,7 +111,8 @@ module _ (z : Terms) where
   cut-came (c ∷ cs) [] [] x h = h
   cut-came (c ∷ cs) [] (y ∷ cut) x h = by (closes_before z y c) h
     where
-      by : (b : Bool) → (if b then Some (Closing y.time) else Some (Came c)) ≡ Some (Came x) → Some (Came c) ≡ Some (Came x)
+      by : (b : Bool) → (if b then Some (Closing y.time) else Some (Came c)) ≡ Some (Came x)
+          → Some (Came c) ≡ Some (Came x)
       by true e = absurd (cc)
       by false e = e
   cut-came [] (u ∷ us) cut x h = h
@@ -145,7 +150,8 @@ module _ (z : Terms) where
       → coming (xs ++ (x ∷ [])) over ≡ coming xs over ++ (x ∷ [])
   coming-more xs ys x over h = drop-append-le (length (arrivals_came over)) xs (x ∷ []) (came-within xs ys over h)
 
-  pub unclosed-more : (xs : List Arrival) (ys more : List Gone) (over : List Event) → length (closings_in over) ≤ length ys
+  pub unclosed-more : (xs : List Arrival) (ys more : List Gone) (over : List Event) → length (closings_in over)
+      ≤ length ys
       → unclosed (ys ++ more) over ≡ unclosed ys over ++ more
   unclosed-more xs ys more over le = drop-append-le (length (closings_in over)) ys more le
 
@@ -254,6 +260,7 @@ module _ (z : Terms) where
       (first-closes (coming xs before) (unclosed ys before) time first.0 first.1 h.0 first.2 first.3
       ∙ ap (λ (l : List Gone). Closing time ∷ events_of z (coming xs before) l)
       (sym (drop-next (length (closings_in before)) ys first.0 first.1 first.2)))
-      ∙ sym (append_assoc (reverse before) (Closing time ∷ []) (events_of z (coming xs before) (unclosed ys (Closing time ∷ before))))
+      ∙ sym (append_assoc (reverse before) (Closing time ∷ [])
+      (events_of z (coming xs before) (unclosed ys (Closing time ∷ before))))
       ∙ ap (λ (l : List Event). l ++ events_of z (coming xs before) (unclosed ys (Closing time ∷ before)))
       (sym (reverse-first (Closing time) before))

@@ -51,10 +51,6 @@ both-false true true = refl
 both-false true false = refl
 both-false false b = refl
 
-mid-false : (a c : Bool) → (a && false && c) ≡ false
-mid-false true c = refl
-mid-false false c = refl
-
 pub fits-no-early : (l : Limits) (f : Frame) (a : Arrived) → a.time + l.latency + l.reach < f.time
     → may_fit l f a ≡ false
 unfolding may_fit

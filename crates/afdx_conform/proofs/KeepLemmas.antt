@@ -8,9 +8,7 @@ use Rattle.std.specs.List.{AllByRecursion, filter, list_any}
 use Rattle.std.specs.Option.{option_to_list}
 use Rattle.afdx_conform.proofs.HeldLemmas.{if-true, if-false}
 use Rattle.afdx_conform.specs.Streams.{Gone, Terms}
-use Rattle.afdx_conform.specs.States.{Event, Came, Closing, State, arrivals_came, led_by, kept, are_behind, states_at}
-use Rattle.afdx_police.specs.Arrival.{Arrival}
-use Rattle.afdx_conform.specs.Explanations.{last_time, levels_then}
+use Rattle.afdx_conform.specs.States.{Event, Closing, State, kept, are_behind}
 use Rattle.afdx_conform.specs.HeldStates.{AreClosed, state_of, outdoes, kept_with, AreFront}
 use Rattle.afdx_conform.specs.Thinned.{Outdoes, IsOutdone, AreEnough, AreKept, IsAmong}
 use Rattle.afdx_conform.proofs.AmongLemmas.{among-left, among-right, among-cases}
@@ -97,7 +95,8 @@ module _ (ys : List Gone) where
   outdoes-is a b e =
       let one = and_parts (nat_eq a.passed b.passed && nat_le a.levels.lo b.levels.lo && nat_le b.levels.hi a.levels.hi)
       (nat_le a.waiting b.waiting) e in
-      let two = and_parts (nat_eq a.passed b.passed && nat_le a.levels.lo b.levels.lo) (nat_le b.levels.hi a.levels.hi) one.0 in
+      let two = and_parts (nat_eq a.passed b.passed && nat_le a.levels.lo b.levels.lo)
+      (nat_le b.levels.hi a.levels.hi) one.0 in
       let three = and_parts (nat_eq a.passed b.passed) (nat_le a.levels.lo b.levels.lo) two.0 in
       record {
         rest = ap (λ (n : ℕ). drop n ys) (eqb-true a.passed b.passed three.0);
@@ -151,7 +150,8 @@ module _ (ys : List Gone) where
       by false e (inr k) more = later (more k)
         where
           later : IsAmong t (map (state_of ys) (filter (λ w. not (outdoes s w)) xs)) ⊎ Outdoes (state_of ys s) t
-              → IsAmong t (state_of ys x ∷ map (state_of ys) (filter (λ w. not (outdoes s w)) xs)) ⊎ Outdoes (state_of ys s) t
+              → IsAmong t (state_of ys x ∷ map (state_of ys) (filter (λ w. not (outdoes s w)) xs))
+              ⊎ Outdoes (state_of ys s) t
           later (inl m) = inl (inr m)
           later (inr o) = inr o
 
@@ -189,14 +189,16 @@ module _ (ys : List Gone) where
       new-out t (inl m) = record { by = t; among = among-left t _ (state_of ys s ∷ []) m; outdoes = outdoes-itself t }
       new-out t (inr o) = record {
         by = state_of ys s;
-        among = among-right (state_of ys s) (map (state_of ys) (filter (λ x. not (outdoes s x)) xs)) (state_of ys s ∷ []) (inl refl);
+        among = among-right (state_of ys s) (map (state_of ys) (filter (λ x. not (outdoes s x)) xs))
+            (state_of ys s ∷ []) (inl refl);
         outdoes = o;
       }
 
       new : (t : State) → IsAmong t (map (state_of ys) xs) ⊎ IsAmong t (state_of ys s ∷ [])
           → IsOutdone t (map (state_of ys) (filter (λ x. not (outdoes s x)) xs) ++ (state_of ys s ∷ []))
       new t (inl m) = new-out t (stays-or s xs t m)
-      new t (inr (inl k)) = new-out t (inr (subst (λ (r : State). Outdoes (state_of ys s) r) k (outdoes-itself (state_of ys s))))
+      new t (inr (inl k)) =
+          new-out t (inr (subst (λ (r : State). Outdoes (state_of ys s) r) k (outdoes-itself (state_of ys s))))
       new t (inr (inr m)) = absurd m
 
       join : (t : State) → IsAmong t (map (state_of ys) xs) ⊎ IsAmong t (state_of ys s ∷ [])
@@ -213,7 +215,8 @@ module _ (ys : List Gone) where
       })
       by false e = subst (λ (l : List State). AreEnough l
           (map (state_of ys) (filter (λ x. not (outdoes s x)) xs ++ (s ∷ [])))) (sym all-is)
-          (subst (λ (l : List State). AreEnough (map (state_of ys) xs ++ (state_of ys s ∷ [])) l) (sym some-is) (record {
+          (subst (λ (l : List State). AreEnough (map (state_of ys) xs ++ (state_of ys s ∷ [])) l) (sym some-is)
+          (record {
             among = λ t m. join t (new-of t
                 (among-cases t (map (state_of ys) (filter (λ x. not (outdoes s x)) xs)) (state_of ys s ∷ []) m));
             outdone = λ t m. new t (among-cases t (map (state_of ys) xs) (state_of ys s ∷ []) m);
@@ -224,7 +227,8 @@ module _ (ys : List Gone) where
       → AreEnough (map (state_of ys) all) (map (state_of ys) few)
       → AreEnough (map (state_of ys) (all ++ (s ∷ []))) (map (state_of ys) (few ++ (s ∷ [])))
   enough-with all few s h =
-      subst (λ (l : List State). AreEnough l (map (state_of ys) (few ++ (s ∷ [])))) (sym (map-append (state_of ys) all (s ∷ [])))
+      subst (λ (l : List State). AreEnough l (map (state_of ys) (few ++ (s ∷ []))))
+      (sym (map-append (state_of ys) all (s ∷ [])))
       (subst (λ (l : List State). AreEnough (map (state_of ys) all ++ (state_of ys s ∷ [])) l)
       (sym (map-append (state_of ys) few (s ∷ []))) (record {
         among = λ t m. inside t (among-cases t (map (state_of ys) few) (state_of ys s ∷ []) m);
@@ -260,17 +264,20 @@ module _ (ys : List Gone) where
       subst (λ (l : List Held). AreEnough (map (state_of ys) (take (i + 1) xs)) (map (state_of ys) l)) (sym e)
       (subst (λ (l : List Held). AreEnough (map (state_of ys) l) (map (state_of ys) (kept_with (get_or xs i d) few)))
       (sym (take_more xs i d lt))
-      (enough-on (map (state_of ys) (take i xs ++ (get_or xs i d ∷ []))) (map (state_of ys) (few ++ (get_or xs i d ∷ [])))
+      (enough-on (map (state_of ys) (take i xs ++ (get_or xs i d ∷ [])))
+      (map (state_of ys) (few ++ (get_or xs i d ∷ [])))
       (map (state_of ys) (kept_with (get_or xs i d) few))
       (enough-with (take i xs) few (get_or xs i d) h) (kept-enough (get_or xs i d) few)))
 
 -- ---- none outdoes another
 
-pub all-filter : (P : Held → Type 0) (told : Held → Bool) (xs : List Held) → AllByRecursion P xs → AllByRecursion P (filter told xs)
+pub all-filter : (P : Held → Type 0) (told : Held → Bool) (xs : List Held) → AllByRecursion P xs
+    → AllByRecursion P (filter told xs)
 all-filter P told [] all = tt
 all-filter P told (x ∷ xs) all = by (told x) (all-filter P told xs all.1)
   where
-    by : (b : Bool) → AllByRecursion P (filter told xs) → AllByRecursion P (if b then x ∷ filter told xs else filter told xs)
+    by : (b : Bool) → AllByRecursion P (filter told xs)
+        → AllByRecursion P (if b then x ∷ filter told xs else filter told xs)
     by true more = (all.0, more)
     by false more = more
 
@@ -283,7 +290,8 @@ front-filter told (x ∷ xs) h = by (told x) (front-filter told xs h.1)
     by true more = (all-filter (λ y. (outdoes x y ≡ false) × (outdoes y x ≡ false)) told xs h.0, more)
     by false more = more
 
-none-any : (s : Held) (xs : List Held) → list_any (λ x. outdoes x s) xs ≡ false → AllByRecursion (λ x. outdoes x s ≡ false) xs
+none-any : (s : Held) (xs : List Held) → list_any (λ x. outdoes x s) xs ≡ false
+    → AllByRecursion (λ x. outdoes x s ≡ false) xs
 none-any s [] e = tt
 none-any s (x ∷ xs) e = by (outdoes x s) refl e (λ k. none-any s xs k)
   where
@@ -293,7 +301,8 @@ none-any s (x ∷ xs) e = by (outdoes x s) refl e (λ k. none-any s xs k)
     by true k h more = absurd (cc)
     by false k h more = (k, more h)
 
-none-stays : (s : Held) (xs : List Held) → AllByRecursion (λ x. outdoes s x ≡ false) (filter (λ x. not (outdoes s x)) xs)
+none-stays : (s : Held) (xs : List Held) → AllByRecursion (λ x. outdoes s x ≡ false)
+    (filter (λ x. not (outdoes s x)) xs)
 none-stays s [] = tt
 none-stays s (x ∷ xs) = by (outdoes s x) refl (none-stays s xs)
   where
@@ -303,7 +312,8 @@ none-stays s (x ∷ xs) = by (outdoes s x) refl (none-stays s xs)
     by true k more = more
     by false k more = (k, more)
 
-pub all-with : (P : Held → Type 0) (xs : List Held) (s : Held) → AllByRecursion P xs → P s → AllByRecursion P (xs ++ (s ∷ []))
+pub all-with : (P : Held → Type 0) (xs : List Held) (s : Held) → AllByRecursion P xs → P s
+    → AllByRecursion P (xs ++ (s ∷ []))
 all-with P [] s all h = (h, tt)
 all-with P (x ∷ xs) s all h = (all.0, all-with P xs s all.1 h)
 
@@ -345,15 +355,9 @@ front-none = tt
 
 -- ---- after one more event
 
-pub kept-came : (z : Terms) (x : Arrival) (ys : List Gone) (before : List Event) (held led few : List State)
-    → led ≡ led_by (λ s. states_at z x (levels_then z s.levels (last_time z.by (arrivals_came before)) x) s) held
-    → AreEnough led few → AreKept z ys before held → AreKept z ys (Came x ∷ before) few
-unfolding AreKept
-kept-came z x ys before held led few e enough h =
-    (held, h, subst (λ (l : List State). AreEnough l few) e enough)
-
 pub kept-closed : (z : Terms) (ys : List Gone) (before : List Event) (time : ℕ) (held few : List State)
-    → few ≡ kept (λ s. are_behind time s.rest) held → AreKept z ys before held → AreKept z ys (Closing time ∷ before) few
+    → few ≡ kept (λ s. are_behind time s.rest) held → AreKept z ys before held
+    → AreKept z ys (Closing time ∷ before) few
 unfolding AreKept
 kept-closed z ys before time held few e h = (
   held,

@@ -43,10 +43,6 @@ module _ (z : Terms) (more : List Gone) where
 
   -- ---- a closing
 
-  unexplained-more : (time : ℕ) (y : Gone) (j : Judged) → unexplained z time y (J j) ≡ J (unexplained z time y j)
-  unfolding unexplained
-  unexplained-more time y j = refl
-
   skipped-more : (time : ℕ) (front : List State) (y : Gone) (rest : List Gone) (j : Judged) → Behind time
       → skipped z time (M front) (y ∷ (rest ++ more)) (J j) ≡ J (skipped z time front (y ∷ rest) j)
   unfolding skipped unexplained are_behind

@@ -20,7 +20,8 @@ least [] = tt
 least (s ∷ []) = (omega arith, tt)
 least (s ∷ t ∷ more) = by (nat_lt (length s.rest) (length (front_rest (t ∷ more)))) refl (least (t ∷ more))
   where
-    below : (n m : ℕ) → n ≤ m → (l : List State) → AllByRecursion (λ r. m ≤ length r.rest) l → AllByRecursion (λ r. n ≤ length r.rest) l
+    below : (n m : ℕ) → n ≤ m → (l : List State) → AllByRecursion (λ r. m ≤ length r.rest) l
+        → AllByRecursion (λ r. n ≤ length r.rest) l
     below n m h [] all = tt
     below n m h (r ∷ l) all = (let one = all.0 in omega (arith, h, one), below n m h l all.1)
 
@@ -71,10 +72,13 @@ module _ (ys : List Gone) where
   front-drop (k ∷ held) f none within greatest (inr (h, c, e)) is =
       let states = map (state_of ys) (k ∷ held) in
       let o = front-of held k f greatest in
-      let shortest = All-contains (λ (m : Held). length (front_rest (map (state_of ys) (k ∷ held))) ≤ length (drop m.passed ys)) (k ∷
+      let shortest = All-contains (λ (m : Held). length (front_rest (map (state_of ys) (k ∷ held)))
+      ≤ length (drop m.passed ys)) (k ∷
       held) h
-      (All-from_recursion (λ (m : Held). length (front_rest (map (state_of ys) (k ∷ held))) ≤ length (drop m.passed ys)) (k ∷ held)
-      (rests-of (length (front_rest (map (state_of ys) (k ∷ held)))) (k ∷ held) (least (map (state_of ys) (k ∷ held))))) c in
+      (All-from_recursion (λ (m : Held). length (front_rest (map (state_of ys) (k ∷ held)))
+      ≤ length (drop m.passed ys)) (k ∷ held)
+      (rests-of (length (front_rest (map (state_of ys) (k ∷ held)))) (k ∷ held)
+      (least (map (state_of ys) (k ∷ held))))) c in
       let inside = All-contains (λ (m : Held). m.passed ≤ length ys) (k ∷ held) h within c in
       let one = ap (λ (l : List Gone). length l) o.rest_is ∙ length-drop o.passed ys in
       let two = length-drop h.passed ys in
@@ -83,12 +87,14 @@ module _ (ys : List Gone) where
       ap (λ (n : ℕ). drop n ys) same ∙ sym o.rest_is
 
   -- those of the front
-  kept-some : (test : State → Bool) (told : Held → Bool) (P : Held → Type 0) → ((h : Held) → P h → test (state_of ys h) ≡ told h)
+  kept-some : (test : State → Bool) (told : Held → Bool) (P : Held → Type 0)
+      → ((h : Held) → P h → test (state_of ys h) ≡ told h)
       → (xs : List Held) → All P xs → map (state_of ys) (filter told xs) ≡ kept test (map (state_of ys) xs)
   unfolding kept
   kept-some test told P same [] all = refl
   kept-some test told P same (x ∷ xs) all =
-      by (test (state_of ys x)) (told x) (same x (All-head P x xs all)) (kept-some test told P same xs (All-tail P x xs all))
+      by (test (state_of ys x)) (told x) (same x (All-head P x xs all))
+      (kept-some test told P same xs (All-tail P x xs all))
     where
       by : (c b : Bool) → c ≡ b → map (state_of ys) (filter told xs) ≡ kept test (map (state_of ys) xs)
           → map (state_of ys) (if b then x ∷ filter told xs else filter told xs)
@@ -98,10 +104,12 @@ module _ (ys : List Gone) where
       by true false e more = absurd (cc)
       by false true e more = absurd (cc)
 
-  same-test : (p f n : ℕ) → p ≤ length ys → f ≤ length ys → n ≡ length ys - f → nat_eq (length (drop p ys)) n ≡ nat_eq p f
+  same-test : (p f n : ℕ) → p ≤ length ys → f ≤ length ys → n ≡ length ys - f → nat_eq (length (drop p ys)) n
+      ≡ nat_eq p f
   same-test p f n hp hf e = by (nat_eq (length (drop p ys)) n) (nat_eq p f) refl refl
     where
-      by : (b c : Bool) → nat_eq (length (drop p ys)) n ≡ b → nat_eq p f ≡ c → nat_eq (length (drop p ys)) n ≡ nat_eq p f
+      by : (b c : Bool) → nat_eq (length (drop p ys)) n ≡ b → nat_eq p f ≡ c → nat_eq (length (drop p ys)) n
+          ≡ nat_eq p f
       by true true k l = k ∙ sym l
       by false false k l = k ∙ sym l
       by true false k l =
@@ -124,14 +132,16 @@ module _ (ys : List Gone) where
       (λ h w. same-test h.passed f (length (front_rest (map (state_of ys) held))) w hf
       (ap (λ (l : List Gone). length l) (sym front) ∙ length-drop f ys)) held within
 
-  pub past-is : (to : ℕ) (held : List Held) → map (state_of ys) (map (λ h. past to h) held) ≡ with_rest (drop to ys) (map (state_of ys)
+  pub past-is : (to : ℕ) (held : List Held) → map (state_of ys) (map (λ h. past to h) held) ≡ with_rest (drop to ys)
+      (map (state_of ys)
       held)
   past-is to [] = refl
   past-is to (h ∷ held) = ap (λ (l : List State). state_with (drop to ys) h.levels h.waiting ∷ l) (past-is to held)
 
   -- what the code takes for the lead, with other frames left
   pub lead-past : (held out : List Held) (f to : ℕ) → All (λ h. h.passed ≤ length ys) held → f ≤ length ys
-      → drop f ys ≡ front_rest (map (state_of ys) held) → out ≡ map (λ h. past to h) (filter (λ h. nat_eq h.passed f) held)
+      → drop f ys ≡ front_rest (map (state_of ys) held)
+      → out ≡ map (λ h. past to h) (filter (λ h. nat_eq h.passed f) held)
       → map (state_of ys) out ≡ with_rest (drop to ys) (lead (map (state_of ys) held))
   lead-past held out f to within hf front e =
       ap (λ (l : List Held). map (state_of ys) l) e
@@ -159,7 +169,8 @@ module _ (z : Terms) (last : ℕ) (x : Arrival) where
           → (if b then state_with s.rest (levels_then z s.levels last x) s.waiting
           ∷ kept (λ s. nat_eq (length s.rest) n) (aged z last x states)
           else kept (λ s. nat_eq (length s.rest) n) (aged z last x states))
-          ≡ aged z last x (if b then s ∷ kept (λ s. nat_eq (length s.rest) n) states else kept (λ s. nat_eq (length s.rest) n) states)
+          ≡ aged z last x (if b then s ∷ kept (λ s. nat_eq (length s.rest) n) states
+          else kept (λ s. nat_eq (length s.rest) n) states)
       by true more = ap (λ (l : List State). state_with s.rest (levels_then z s.levels last x) s.waiting ∷ l) more
       by false more = more
 

@@ -84,12 +84,13 @@ drop-map g [] p d h = absurd (omega (arith, h))
 drop-map g (f ∷ fs) zero d h = refl
 drop-map g (f ∷ fs) (suc p) d h = drop-map g fs p d (omega (arith, h))
 
-module _ (z : Terms) (x : Arrival) (fs : List Frame) (p : ℕ) (f : Frame) (h : p < length fs) (is : f ≡ get_or fs p f) where
-  at-next : drop p (map gone_of fs) ≡ gone_of f ∷ drop (suc p) (map gone_of fs)
-  at-next = drop-map gone_of fs p f h ∙ ap (λ (g : Frame). gone_of g ∷ drop (suc p) (map gone_of fs)) (sym is)
+module _ (z : Terms) (x : Arrival) (fs : List Frame) (p : ℕ) (f : Frame) (h : p < length fs) (is : f ≡ get_or fs p f)
+  where
+    at-next : drop p (map gone_of fs) ≡ gone_of f ∷ drop (suc p) (map gone_of fs)
+    at-next = drop-map gone_of fs p f h ∙ ap (λ (g : Frame). gone_of g ∷ drop (suc p) (map gone_of fs)) (sym is)
 
-  pub fits-next : true ≡ fits z x (gone_of f) → IsNext z x (drop p (map gone_of fs)) Fits
-  fits-next e = subst (λ (l : List Gone). IsNext z x l Fits) (sym at-next) (sym e)
+    pub fits-next : true ≡ fits z x (gone_of f) → IsNext z x (drop p (map gone_of fs)) Fits
+    fits-next e = subst (λ (l : List Gone). IsNext z x l Fits) (sym at-next) (sym e)
 
-  pub other-next : false ≡ fits z x (gone_of f) → IsNext z x (drop p (map gone_of fs)) Other
-  other-next e = subst (λ (l : List Gone). IsNext z x l Other) (sym at-next) (sym e)
+    pub other-next : false ≡ fits z x (gone_of f) → IsNext z x (drop p (map gone_of fs)) Other
+    other-next e = subst (λ (l : List Gone). IsNext z x l Other) (sym at-next) (sym e)

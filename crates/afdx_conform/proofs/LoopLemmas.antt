@@ -15,7 +15,8 @@ unfolding frames_in
 frames-more [] f = omega arith
 frames-more (g ∷ found) f = (let h = frames-more found f in omega (arith, h))
 
-pub least-more : (least : ℕ) (l : List State) (s : State) → least_from least (l ++ (s ∷ [])) ≡ min (least_from least l) s.waiting
+pub least-more : (least : ℕ) (l : List State) (s : State) → least_from least (l ++ (s ∷ []))
+    ≡ min (least_from least l) s.waiting
 unfolding least_from
 least-more least [] s = refl
 least-more least (t ∷ l) s = least-more (min least t.waiting) l s
@@ -34,7 +35,8 @@ abbrev pub changed : ℕ → ℕ → List Held → List Held
 changed count i held = map (λ h. past (h.passed - count) h) (take i held) ++ drop i held
 
 pub change-next : (count i : ℕ) (held : List Held) (d : Held) → i < length held
-    → slice_set (changed count i held) i (past ((get_or (changed count i held) i d).passed - count) (get_or (changed count i held) i d))
+    → slice_set (changed count i held) i (past ((get_or (changed count i held) i d).passed - count)
+    (get_or (changed count i held) i d))
     ≡ changed count (suc i) held
 change-next count i [] d lt = absurd (omega (arith, lt))
 change-next count zero (h ∷ held) d lt = refl
@@ -61,9 +63,12 @@ least-next d ys held i first least result lt before is =
     (sym (ap (λ (l : List Held). map (state_of ys) l) (take_more held i d lt)
     ∙ map-append (state_of ys) (take i held) (get_or held i d ∷ [])))
 
-pub changed-next : (count i passed : ℕ) (held items : List Held) (at : Held) → i < length held → items ≡ changed count i held
-    → (seen : Held) → at ≡ get_or items i at → seen ≡ get_or items i seen → i < length items → passed ≡ seen.passed - count
-    → slice_set items i (record { passed = passed; levels = at.levels; waiting = at.waiting }) ≡ changed count (i + 1) held
+pub changed-next : (count i passed : ℕ) (held items : List Held) (at : Held) → i < length held
+    → items ≡ changed count i held
+    → (seen : Held) → at ≡ get_or items i at → seen ≡ get_or items i seen → i < length items
+    → passed ≡ seen.passed - count
+    → slice_set items i (record { passed = passed; levels = at.levels; waiting = at.waiting }) ≡ changed count (i + 1)
+    held
 changed-next count i passed held items at lt are seen is saw inside passed-is =
     let both : seen ≡ at = saw ∙ get_or_default items i seen at inside ∙ sym is in
     let less = passed-is ∙ ap (λ (h : Held). h.passed - count) both in

@@ -165,7 +165,8 @@ module _ (z : Terms) (y : Gone) where
         once = once-on (marked_of a m) (marked_all xs ms) None none ∙ ap (λ t. marked_of a m ∷ t) more.once;
       }
 
-  pub from-here : (xs : List Arrived) (ms : List Mark) (i : ℕ) (a : Arrived) (m : Mark) (reason : Reason) → i < length ms
+  pub from-here : (xs : List Arrived) (ms : List Mark) (i : ℕ) (a : Arrived) (m : Mark) (reason : Reason)
+      → i < length ms
       → length ms ≤ length xs → a ≡ get_or xs i a → names_it z y (marked_of a (get_or ms i m)) ≡ Some reason
       → IsNamedFrom (marked_all xs ms) i → IsNamedAt z y (marked_all xs ms) i reason
   from-here xs ms i a m reason lt h is here from =
@@ -177,7 +178,8 @@ module _ (z : Terms) (y : Gone) where
         here = at;
         mark = its-mark (marked_of (get_or xs i a) (get_or ms i m)) reason named;
         first = from.first ∙ ap (λ r. first_named z y r) at
-            ∙ first-on (marked_of (get_or xs i a) (get_or ms i m)) (drop (i + 1) (marked_all xs ms)) (Some reason) named;
+            ∙ first-on (marked_of (get_or xs i a) (get_or ms i m)) (drop (i + 1) (marked_all xs ms)) (Some reason)
+            named;
         once = from.once ∙ ap (λ r. take i (marked_all xs ms) ++ once_named z y r) at
             ∙ ap (λ r. take i (marked_all xs ms) ++ r)
             (once-on (marked_of (get_or xs i a) (get_or ms i m)) (drop (i + 1) (marked_all xs ms)) (Some reason) named);
@@ -213,10 +215,12 @@ pub any-from : (test : Marked → Bool) (xs : List Arrived) (ms : List Mark) (i 
     → list_any test (drop i (marked_all xs ms)) ≡ (b || list_any test (drop (i + 1) (marked_all xs ms)))
 any-from test xs ms i a m b lt h is e =
     ap (λ l. list_any test l) (marked-at xs ms i a m lt h)
-    ∙ ap (λ (v : Arrived). test (marked_of v (get_or ms i m)) || list_any test (drop (i + 1) (marked_all xs ms))) (sym is)
+    ∙ ap (λ (v : Arrived). test (marked_of v (get_or ms i m)) || list_any test (drop (i + 1) (marked_all xs ms)))
+    (sym is)
     ∙ ap (λ (c : Bool). c || list_any test (drop (i + 1) (marked_all xs ms))) e
 
-pub any-end : (test : Marked → Bool) (xs : List Arrived) (ms : List Mark) (i : ℕ) → length ms ≤ i → length ms ≤ length xs
+pub any-end : (test : Marked → Bool) (xs : List Arrived) (ms : List Mark) (i : ℕ) → length ms ≤ i
+    → length ms ≤ length xs
     → list_any test (drop i (marked_all xs ms)) ≡ false
 any-end test xs ms i le h =
     let all = length-marked xs ms h in
@@ -278,7 +282,8 @@ told-more time found f before after j =
     omega (arith, frames-more found f) in
     ap (λ (l : List Found). judged_with j.states after (l ++ j.findings) (j.frames + frames_in (found ++ (f ∷ [])))
     j.uncertain j.is_unsure) (turned-more time found f)
-    ∙ ap (λ (n : ℕ). judged_with j.states after (found_at time f ∷ (map (found_at time) (reverse found) ++ j.findings)) n
+    ∙ ap (λ (n : ℕ). judged_with j.states after
+    (found_at time f ∷ (map (found_at time) (reverse found) ++ j.findings)) n
     j.uncertain j.is_unsure) sum
 
 pub told-none : (time : ℕ) (arrivals : List Marked) (j : Judged) → j.arrivals ≡ arrivals → told time [] arrivals j ≡ j

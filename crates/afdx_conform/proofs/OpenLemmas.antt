@@ -56,11 +56,13 @@ low-each first (x ∷ more) s (inl e) =
     let is = ap (λ (t : State). t.waiting) e in omega (arith, le, is)
 low-each first (x ∷ more) s (inr m) = low-each (min first x.waiting) more s m
 
-least-one : (states : List State) → IsSomeState states → (s : State) × Among s states × (s.waiting ≡ least_waiting states)
+least-one : (states : List State) → IsSomeState states → (s : State) × Among s states
+    × (s.waiting ≡ least_waiting states)
 least-one [] h = absurd h
 least-one (s ∷ more) h = by (least-is s.waiting more).is
   where
-    by : (least_from s.waiting more ≡ s.waiting) ⊎ ((t : State) × Among t more × (t.waiting ≡ least_from s.waiting more))
+    by : (least_from s.waiting more ≡ s.waiting)
+        ⊎ ((t : State) × Among t more × (t.waiting ≡ least_from s.waiting more))
         → (t : State) × Among t (s ∷ more) × (t.waiting ≡ least_from s.waiting more)
     by (inl e) = (s, inl refl, sym e)
     by (inr t) = (t.0, inr t.1, t.2)
@@ -103,7 +105,8 @@ module _ (z : Terms) (xs : List Arrival) (ys : List Gone) (order : GoUp (arrival
         are_so_many = e.1 ∙ one.2;
         none_has_fewer = λ other.
             let o = good.enough.outdone (standing z other.answers other.waiting [])
-            (explained-state z ys Events (sound-order z (reverse (events_of z xs ys)) (in-order z xs ys order)) other) in
+            (explained-state z ys Events (sound-order z (reverse (events_of z xs ys)) (in-order z xs ys order)) other)
+            in
             let le = least-each J.states o.by o.among in
             let less = o.outdoes.waiting in
             omega (arith, le, less);

@@ -1,10 +1,10 @@
 -- What comes later is far behind the events that are over; these go by time.
-use Rattle.std.proofs.Common.{◌≡◌, ℕ, zero, suc, ◌+◌, ◌<◌, ◌≤◌, true, false, List, [], ◌∷◌, drop, length, refl, sym, subst, arith}
+use Rattle.std.proofs.Common.{◌≡◌, ℕ, ◌+◌, ◌<◌, ◌≤◌, true, false, List, [], ◌∷◌, drop, length, refl, sym, subst, arith}
 use Rattle.std.proofs.lemmas.Bool.{lt-ltb, le-ltb}
 use Rattle.std.specs.Prelude.{Option, Some, None, nat_lt}
 use Rattle.std.specs.List.{AllByRecursion}
 use Rattle.afdx_police.specs.Arrival.{Arrival}
-use Rattle.afdx_conform.specs.Events.{GoUp, closings_in, event_time, moment_at}
+use Rattle.afdx_conform.specs.Events.{closings_in, event_time, moment_at}
 use Rattle.afdx_conform.specs.Explanations.{from_time}
 use Rattle.afdx_conform.specs.Growing.{AreTold, IsKnownBy}
 use Rattle.afdx_conform.specs.Histories.{AreEvents, AreOver, coming, next_of, unclosed}
@@ -46,7 +46,8 @@ module _ (z : Terms) where
     not-open w time o.0 until,
     every-on (λ y. time ≤ y.time + reach z.by)
         (λ y. nat_lt (w.time + latency z + latency z + reach z.by) y.time ≡ true)
-        (λ y le. lt-ltb (w.time + latency z + latency z + reach z.by) y.time (let lt = o.0 in omega (arith, lt, le))) more late,
+        (λ y le. lt-ltb (w.time + latency z + latency z + reach z.by) y.time (let lt = o.0 in omega (arith, lt, le)))
+        more late,
     are-far more time before until late begun o.1,
   )
   are-far more time (Closing t ∷ before) until late begun o = (
@@ -68,7 +69,8 @@ module _ (z : Terms) where
       (every-drop (λ w. from_time z.by.start ≤ w.time + reach z.by) (length (closings_in before)) ys told.begun)).0 in
       let is = first.3 in omega (arith, le, is)
 
-  begun-not : (start : Option ℕ) (y : Gone) → from_time start + latency z + reach z.by ≤ y.time → is_begun_by z start y ≡ false
+  begun-not : (start : Option ℕ) (y : Gone) → from_time start + latency z + reach z.by ≤ y.time
+      → is_begun_by z start y ≡ false
   begun-not None y le = refl
   begun-not (Some start) y le = le-ltb y.time (start + latency z + reach z.by) le
 
@@ -86,7 +88,8 @@ module _ (z : Terms) where
       omega (arith, from, lt)
   from-over xs ys time (Closing t) (e ∷ before) told events o = from-over xs ys time e before told events.1 o.1
 
-  pub not-begun : (xs : List Arrival) (ys more : List Gone) (time : ℕ) (e : Event) (before : List Event) → AreTold z xs ys
+  pub not-begun : (xs : List Arrival) (ys more : List Gone) (time : ℕ) (e : Event) (before : List Event)
+      → AreTold z xs ys
       → AreEvents z xs ys (e ∷ before) → AreOver z time (e ∷ before) → AreLate time more
       → AllByRecursion (λ y. is_begun z y ≡ false) more
   unfolding is_begun
@@ -114,11 +117,4 @@ module _ (z : Terms) where
   pub fits-not : (x : Arrival) (y : Gone) (time : ℕ) → moment_at z x.time < time → time ≤ y.time + reach z.by
       → fits z x y ≡ false
   fits-not x y time lt le = too-late z x y (omega (arith, lt, le))
-
   -- ---- by time
-
-  up-tail : (n : ℕ) (times : List ℕ) → GoUp times → GoUp (drop n times)
-  unfolding GoUp
-  up-tail zero times h = h
-  up-tail (suc n) [] h = h
-  up-tail (suc n) (t ∷ times) h = up-tail n times h.1

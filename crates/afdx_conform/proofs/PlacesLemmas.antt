@@ -51,7 +51,8 @@ from-more bytes at (x ∷ xs) a = by (bytes_eq x.bytes bytes) (from-more bytes (
         ∙ ap (λ (n : ℕ). places_from bytes (at + 1) xs ++ places_from bytes n (a ∷ [])) on)
     by false e = e ∙ ap (λ (n : ℕ). places_from bytes (at + 1) xs ++ places_from bytes n (a ∷ [])) on
 
-more-if : (b : Bool) (l : List ℕ) (place : ℕ) → (if b then l ++ (place ∷ []) else l) ≡ l ++ (if b then place ∷ [] else [])
+more-if : (b : Bool) (l : List ℕ) (place : ℕ) → (if b then l ++ (place ∷ []) else l) ≡ l
+    ++ (if b then place ∷ [] else [])
 more-if true l place = refl
 more-if false l place = sym (append-nil l)
 
@@ -425,36 +426,37 @@ is-equal Less e = absurd (cc)
 is-equal Equal e = refl
 is-equal Greater e = absurd (cc)
 
-module _ (old new : Places) (key : List ℕ) (w : Vec ℕ) (place : ℕ) (items : w.items ≡ kept_at old key ++ (place ∷ [])) where
-  abbrev compare : List ℕ → Vec ℕ → Ordering
-  compare by k = slice_cmp nat_cmp by k.items
+module _ (old new : Places) (key : List ℕ) (w : Vec ℕ) (place : ℕ) (items : w.items ≡ kept_at old key ++ (place ∷ []))
+  where
+    abbrev compare : List ℕ → Vec ℕ → Ordering
+    compare by k = slice_cmp nat_cmp by k.items
 
-  abbrev order : Vec ℕ → Vec ℕ → Ordering
-  order x y = slice_cmp nat_cmp x.items y.items
+    abbrev order : Vec ℕ → Vec ℕ → Ordering
+    order x y = slice_cmp nat_cmp x.items y.items
 
-  -- a key is found by equal bytes
-  found-by : (by : List ℕ) (k : Vec ℕ) → is_at (compare by) k ≡ true → by ≡ k.items
-  found-by by k e = exact_bytes by k.items (is-equal (compare by k) e)
+    -- a key is found by equal bytes
+    found-by : (by : List ℕ) (k : Vec ℕ) → is_at (compare by) k ≡ true → by ≡ k.items
+    found-by by k e = exact_bytes by k.items (is-equal (compare by k) e)
 
-  keeps-others : (other : List ℕ) → bytes_eq key other ≡ false
-      → KeepsOthers (eq_by_cmp order) (is_at (compare key)) old.by_key.entries new.by_key.entries
-      → kept_at new other ≡ kept_at old other
-  unfolding KeepsOthers
-  keeps-others other apart keep = ap (λ (o : Option (Vec ℕ)). all_of o) (keep (is_at (compare other))
-      (λ x y e. ap (λ (l : List ℕ). is_eq (slice_cmp nat_cmp l y.items)) (found-by other x e))
-      (λ k e. false_from_ne_true (is_at (compare other) k) (λ yes.
-      let both : key ≡ other = found-by key k e ∙ sym (found-by other k yes) in
-      let is = sym ((bytes_eq-Decides key other).1 both) ∙ apart in
-      absurd cc)))
+    keeps-others : (other : List ℕ) → bytes_eq key other ≡ false
+        → KeepsOthers (eq_by_cmp order) (is_at (compare key)) old.by_key.entries new.by_key.entries
+        → kept_at new other ≡ kept_at old other
+    unfolding KeepsOthers
+    keeps-others other apart keep = ap (λ (o : Option (Vec ℕ)). all_of o) (keep (is_at (compare other))
+        (λ x y e. ap (λ (l : List ℕ). is_eq (slice_cmp nat_cmp l y.items)) (found-by other x e))
+        (λ k e. false_from_ne_true (is_at (compare other) k) (λ yes.
+        let both : key ≡ other = found-by key k e ∙ sym (found-by other k yes) in
+        let is = sym ((bytes_eq-Decides key other).1 both) ∙ apart in
+        absurd cc)))
 
-  pub kept-added : UpdatesBy order (compare key) old.by_key new.by_key (Some w) → (other : List ℕ)
-      → kept_at new other ≡ (if bytes_eq key other then kept_at old other ++ (place ∷ []) else kept_at old other)
-  kept-added u other = by (bytes_eq key other) refl
-    where
-      by : (b : Bool) → bytes_eq key other ≡ b
-          → kept_at new other ≡ (if b then kept_at old other ++ (place ∷ []) else kept_at old other)
-      by true e =
-          let same = (bytes_eq-Decides key other).0 e in
-          subst (λ (l : List ℕ). kept_at new l ≡ kept_at old l ++ (place ∷ [])) same
-          (ap (λ (o : Option (Vec ℕ)). all_of o) u.1 ∙ items)
-      by false e = keeps-others other e u.3
+    pub kept-added : UpdatesBy order (compare key) old.by_key new.by_key (Some w) → (other : List ℕ)
+        → kept_at new other ≡ (if bytes_eq key other then kept_at old other ++ (place ∷ []) else kept_at old other)
+    kept-added u other = by (bytes_eq key other) refl
+      where
+        by : (b : Bool) → bytes_eq key other ≡ b
+            → kept_at new other ≡ (if b then kept_at old other ++ (place ∷ []) else kept_at old other)
+        by true e =
+            let same = (bytes_eq-Decides key other).0 e in
+            subst (λ (l : List ℕ). kept_at new l ≡ kept_at old l ++ (place ∷ [])) same
+            (ap (λ (o : Option (Vec ℕ)). all_of o) u.1 ∙ items)
+        by false e = keeps-others other e u.3

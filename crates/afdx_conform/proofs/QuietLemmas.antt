@@ -57,7 +57,8 @@ module _ (z : Terms) (ys : List Gone) (behind : List Arrival) (x : Arrival) (bef
   J = judged_after z ys (x ∷ behind) before
 
   quiet-came : (fault : Option Reason)
-      → IsSomeState (states_after z ys (if is_none fault then Came x ∷ sound_events z before else sound_events z before))
+      → IsSomeState (states_after z ys (if is_none fault then Came x ∷ sound_events z before else sound_events z
+      before))
       → (IsSomeState Every → IsQuiet Every J)
       → IsQuiet (states_after z ys (if is_none fault then Came x ∷ sound_events z before else sound_events z before))
       (if J.is_unsure then J else came_by z behind Last x fault J)
@@ -65,7 +66,8 @@ module _ (z : Terms) (ys : List Gone) (behind : List Arrival) (x : Arrival) (bef
   quiet-came None some more =
       step Every (led_by (λ s. states_at z x (levels_then z s.levels Last x) s) Every) J (sound_came z behind Last x J)
       (more (led-some (λ s. states_at z x (levels_then z s.levels Last x) s) Every some)) some
-      (λ m. came-cases z behind Last x Every J (rate_mark z Last x J.states) (one_if z (is_uncertain z Last x J.states)) _ refl m)
+      (λ m. came-cases z behind Last x Every J (rate_mark z Last x J.states)
+      (one_if z (is_uncertain z Last x J.states)) _ refl m)
       J.is_unsure refl
   quiet-came (Some fault) some more =
       step Every Every J (with_mark x (Some fault) J) (more some) some
@@ -99,7 +101,8 @@ unfolding states_after sound_events
 finds_nothing z xs ys p e =
     let events = reverse (events_of z xs ys) in
     let came = sound-whole z xs ys in
-    let law = states_explain z ys (sound_events z events) (total ys) (sound-order z events (in-order z xs ys p)) (all-within ys) in
+    let law = states_explain z ys (sound_events z events) (total ys) (sound-order z events (in-order z xs ys p))
+    (all-within ys) in
     let some = law.1 (subst (λ (l : List Arrival). Explains z l (reverse ys)) (sym came) e) in
     (quiet z ys [] events
     (kept-some (λ s. are_behind (total ys) s.rest) (states_after z ys (sound_events z events)) some)).none
@@ -111,7 +114,8 @@ unsure-came : (z : Terms) (behind : List Arrival) (last : ℕ) (x : Arrival) (fa
 unsure-came z behind last x None j =
     let k = few_of z (one_if z (is_uncertain z last x j.states)) (answered_by z behind last x
     (led_by (λ s. states_at z x (levels_then z s.levels last x) s) j.states) j) in
-    let n = length-append k.arrivals ((record { arrival = x; mark = rate_mark z last x j.states; is_named = false }) ∷ []) in
+    let n = length-append k.arrivals ((record { arrival = x; mark = rate_mark z last x j.states; is_named = false })
+    ∷ []) in
     omega (arith, n)
 unsure-came z behind last x (Some fault) j =
     let n = length-append j.arrivals ((record { arrival = x; mark = Some fault; is_named = false }) ∷ []) in
@@ -156,7 +160,8 @@ counted-came : (z : Terms) (behind : List Arrival) (last : ℕ) (x : Arrival) (l
 counted-came z behind last x [] j h = inl (deviates-finds z behind x _ (front_rest j.states) j)
 counted-came z behind last x (s ∷ more) j h = h
 
-counted-by : (z : Terms) (behind : List Arrival) (last : ℕ) (x : Arrival) (fault : Option Reason) (j : Judged) → IsCounted j
+counted-by : (z : Terms) (behind : List Arrival) (last : ℕ) (x : Arrival) (fault : Option Reason) (j : Judged)
+    → IsCounted j
     → IsCounted (came_by z behind last x fault j)
 counted-by z behind last x None j h =
     counted-came z behind last x (led_by (λ s. states_at z x (levels_then z s.levels last x) s) j.states) j h
@@ -180,7 +185,8 @@ counted z ys behind (Came x ∷ before) =
     let last = last_time z.by (arrivals_came (sound_events z before)) in
     let j = judged_after z ys (x ∷ behind) before in
     let h = counted z ys (x ∷ behind) before in
-    if-both (λ (k : Judged). IsCounted k) j.is_unsure j (came_by z behind last x (fault_of (Some z.rule) x.port x.bytes) j)
+    if-both (λ (k : Judged). IsCounted k) j.is_unsure j
+    (came_by z behind last x (fault_of (Some z.rule) x.port x.bytes) j)
     h (counted-by z behind last x (fault_of (Some z.rule) x.port x.bytes) j h)
 counted z ys behind (Closing time ∷ before) =
     let j = judged_after z ys behind before in

@@ -88,9 +88,11 @@ first-next z levels (w ∷ ws) y rest begun (inl e) =
     at_once (v ∷ l) = inl refl
 
     by : (b : Bool) → b ≡ true → Among (state_with rest levels 0) (if b then first_states z levels ws else [])
-    by true e = subst (λ (l : List Gone). Among (state_with rest levels 0) (first_states z levels l)) (sym tail) (at_once rest)
+    by true e = subst (λ (l : List Gone). Among (state_with rest levels 0) (first_states z levels l)) (sym tail)
+        (at_once rest)
     by false e = absurd (cc)
-first-next z levels (w ∷ ws) y rest begun (inr h) = inr (by (is_begun z w) h (λ k. first-next z levels ws y rest begun k))
+first-next z levels (w ∷ ws) y rest begun (inr h) =
+    inr (by (is_begun z w) h (λ k. first-next z levels ws y rest begun k))
   where
     by : (b : Bool) → Among (state_with (y ∷ rest) levels 0) (if b then first_states z levels ws else [])
         → (Among (state_with (y ∷ rest) levels 0) (first_states z levels ws)
@@ -99,7 +101,8 @@ first-next z levels (w ∷ ws) y rest begun (inr h) = inr (by (is_begun z w) h (
     by true k more = more k
     by false k more = absurd k
 
-first-here : (z : Terms) (levels : Levels) (rest : List Gone) → Among (state_with rest levels 0) (first_states z levels rest)
+first-here : (z : Terms) (levels : Levels) (rest : List Gone)
+    → Among (state_with rest levels 0) (first_states z levels rest)
 unfolding first_states
 first-here z levels [] = inl refl
 first-here z levels (y ∷ rest) = inl refl
@@ -129,7 +132,8 @@ pub record Reached (z : Terms) (ys : List Gone) (events : List Event) (s : State
   pub all : reverse passed ++ s.rest ≡ ys
   pub last : (waiting ≡ []) ⊎ (s.rest ≡ [])
 
-reached-first : (z : Terms) (ys : List Gone) (s : State) → Among s (first_states z (first_levels (link z) z.by z.by.start) ys)
+reached-first : (z : Terms) (ys : List Gone) (s : State)
+    → Among s (first_states z (first_levels (link z) z.by z.by.start) ys)
     → Reached z ys [] s
 unfolding levels_after accepted_in arrivals_in AreAllowed ArePairs
 reached-first z ys s h =
@@ -163,7 +167,8 @@ module _ (z : Terms) (ys : List Gone) (x : Arrival) (before : List Event) where
   -- the arrival was refused
   reached-refused : (p : State) → Reached z ys before p
       → has_to_pass (link z) z.by (charge z x) (then_levels p) ≡ false
-      → Reached z ys (Came x ∷ before) (state_with p.rest (refused (link z) z.by (charge z x) (then_levels p)) p.waiting)
+      → Reached z ys (Came x ∷ before) (state_with p.rest (refused (link z) z.by (charge z x) (then_levels p))
+      p.waiting)
   unfolding levels_after accepted_in arrivals_in AreAllowed
   reached-refused p r must = record {
     answers = answered x false ∷ r.answers;
@@ -192,7 +197,8 @@ module _ (z : Terms) (ys : List Gone) (x : Arrival) (before : List Event) where
   reached-took p y rest e r may fit = none_waits r.last
     where
       none_waits : (r.waiting ≡ []) ⊎ (p.rest ≡ [])
-          → Reached z ys (Came x ∷ before) (state_with rest (charged (link z) z.by (charge z x) (then_levels p)) p.waiting)
+          → Reached z ys (Came x ∷ before) (state_with rest (charged (link z) z.by (charge z x) (then_levels p))
+          p.waiting)
       none_waits (inr over) = let none : (y ∷ rest) ≡ [] = sym e ∙ over in absurd (cc)
       none_waits (inl none) = record {
         answers = answered x true ∷ r.answers;
@@ -216,7 +222,8 @@ module _ (z : Terms) (ys : List Gone) (x : Arrival) (before : List Event) where
   -- it was accepted, and waits
   reached-waits : (p : State) → p.rest ≡ [] → Reached z ys before p
       → IsTrue (may_pass (link z) z.by (charge z x) (then_levels p)) → IsTrue (is_open z x)
-      → Reached z ys (Came x ∷ before) (state_with [] (charged (link z) z.by (charge z x) (then_levels p)) (p.waiting + 1))
+      → Reached z ys (Came x ∷ before) (state_with [] (charged (link z) z.by (charge z x) (then_levels p))
+      (p.waiting + 1))
   unfolding levels_after accepted_in arrivals_in AreAllowed
   reached-waits p e r may opens = record {
     answers = answered x true ∷ r.answers;
@@ -244,13 +251,15 @@ module _ (z : Terms) (ys : List Gone) (x : Arrival) (before : List Event) where
   reached-came p s r h = by (among-cases s _ _ h)
     where
       accepted-by : (b : Bool) → may_pass (link z) z.by (charge z x) (then_levels p) ≡ b
-          → Among s (if b then accepted_states z x (charged (link z) z.by (charge z x) (then_levels p)) p.waiting p.rest else [])
+          → Among s (if b then accepted_states z x (charged (link z) z.by (charge z x) (then_levels p)) p.waiting
+          p.rest else [])
           → Reached z ys (Came x ∷ before) s
       accepted-by false e k = absurd k
       accepted-by true e k = with_rest p.rest refl k
         where
           took-by : (y : Gone) (rest : List Gone) → p.rest ≡ (y ∷ rest) → (b : Bool) → fits z x y ≡ b
-              → Among s (if b then state_with rest (charged (link z) z.by (charge z x) (then_levels p)) p.waiting ∷ [] else [])
+              → Among s (if b then state_with rest (charged (link z) z.by (charge z x) (then_levels p)) p.waiting ∷ []
+              else [])
               → Reached z ys (Came x ∷ before) s
           took-by y rest is false f k = absurd k
           took-by y rest is true f (inl same) =
@@ -258,10 +267,12 @@ module _ (z : Terms) (ys : List Gone) (x : Arrival) (before : List Event) where
           took-by y rest is true f (inr k) = absurd k
 
           waits-by : p.rest ≡ [] → (b : Bool) → is_open z x ≡ b
-              → Among s (if b then state_with [] (charged (link z) z.by (charge z x) (then_levels p)) (p.waiting + 1) ∷ [] else [])
+              → Among s (if b then state_with [] (charged (link z) z.by (charge z x) (then_levels p)) (p.waiting + 1)
+              ∷ [] else [])
               → Reached z ys (Came x ∷ before) s
           waits-by is false f k = absurd k
-          waits-by is true f (inl same) = subst (λ (s : State). Reached z ys (Came x ∷ before) s) same (reached-waits p is r e f)
+          waits-by is true f (inl same) = subst (λ (s : State). Reached z ys (Came x ∷ before) s) same
+              (reached-waits p is r e f)
           waits-by is true f (inr k) = absurd k
 
           with_rest : (rest : List Gone) → p.rest ≡ rest
@@ -271,10 +282,12 @@ module _ (z : Terms) (ys : List Gone) (x : Arrival) (before : List Event) where
           with_rest (y ∷ rest) is k = took-by y rest is (fits z x y) refl k
 
       refused-by : (b : Bool) → has_to_pass (link z) z.by (charge z x) (then_levels p) ≡ b
-          → Among s (if b then [] else state_with p.rest (refused (link z) z.by (charge z x) (then_levels p)) p.waiting ∷ [])
+          → Among s (if b then [] else state_with p.rest (refused (link z) z.by (charge z x) (then_levels p))
+          p.waiting ∷ [])
           → Reached z ys (Came x ∷ before) s
       refused-by true e k = absurd k
-      refused-by false e (inl same) = subst (λ (s : State). Reached z ys (Came x ∷ before) s) same (reached-refused p r e)
+      refused-by false e (inl same) = subst (λ (s : State). Reached z ys (Came x ∷ before) s) same
+          (reached-refused p r e)
       refused-by false e (inr k) = absurd k
 
       by : Among s (if may_pass (link z) z.by (charge z x) (then_levels p)

@@ -1,5 +1,5 @@
 -- What the frames that are left after an event have in common.
-use Rattle.std.proofs.Common.{◌≡◌, ℕ, ◌+◌, ◌<◌, Bool, true, false, Option, List, [], ◌∷◌, ◌++◌, inl, inr, map, refl, sym, subst}
+use Rattle.std.proofs.Common.{◌≡◌, ℕ, ◌+◌, ◌<◌, Bool, true, false, Option, List, [], ◌∷◌, ◌++◌, map, refl, sym, subst}
 use Rattle.std.proofs.lemmas.Bool.{ltb-true, and_parts}
 use Rattle.std.specs.Prelude.{if◌then◌else◌, nat_lt, not, Some, None}
 use Rattle.std.specs.List.{AllByRecursion, list_all, filter}
@@ -16,7 +16,6 @@ use Rattle.afdx_conform.specs.declared.finding.Deviation.{Deviation}
 use Rattle.afdx_conform.specs.declared.finding.Deviation.TheVariants as deviation
 use Rattle.afdx_conform.proofs.EveryLemmas.{every-append}
 use Rattle.afdx_conform.proofs.FindingLemmas.{if-both}
-use Rattle.afdx_conform.proofs.AmongLemmas.{Among}
 use Rattle.afdx_conform.proofs.HeldLemmas.{if-false}
 
 module _ (R : Gone → Type 0) where
@@ -26,11 +25,6 @@ module _ (R : Gone → Type 0) where
 
   abbrev Has : State → Type 0
   Has s = AllByRecursion R s.rest
-
-  among-has : (s : State) (l : List State) → Among s l → Holds l → Has s
-  among-has s [] m h = absurd m
-  among-has s (x ∷ l) (inl e) h = subst (λ t. Has t) e h.0
-  among-has s (x ∷ l) (inr m) h = among-has s l m h.1
 
   holds-kept : (test : State → Bool) (l : List State) → Holds l → Holds (kept test l)
   unfolding kept

@@ -109,7 +109,8 @@ module _ (l : Regulation) (is : IsTrue (is_bag l.bag_ms)) (by : Leeway) where
     must-within none = let upper = w.upper in
         lt-leb (levels.hi + cost l by c) (full l by) (omega (arith, none, upper))
 
-    charged-within : level + cost l by c ≤ full l by → IsWithin l by (level + cost l by c) (charged l by c levels) stamp moment
+    charged-within : level + cost l by c ≤ full l by → IsWithin l by (level + cost l by c) (charged l by c levels)
+        stamp moment
     charged-within room =
         let lower = w.lower in
         let upper = w.upper in
@@ -152,7 +153,8 @@ module _ (l : Regulation) (is : IsTrue (is_bag l.bag_ms)) where
       let filled : (128 / l.bag_ms) * (l.smax * (time - x.time)) ≡ fill_rate l * (time - x.time)
       = fills (128 / l.bag_ms) l.smax (time - x.time) in
       let less = mul-sub (128 / l.bag_ms) (bag l * (taken + x.charge)) (l.smax * (time - x.time)) in
-      let most = greater (128 / l.bag_ms) (bag l * (taken + x.charge) - l.smax * (time - x.time)) (lack-of xs (taken + x.charge) time) in
+      let most = greater (128 / l.bag_ms) (bag l * (taken + x.charge) - l.smax * (time - x.time))
+      (lack-of xs (taken + x.charge) time) in
       omega (arith, rest, loaded, filled, less, most)
 
   -- what is missing is a level
@@ -165,12 +167,14 @@ module _ (l : Regulation) (is : IsTrue (is_bag l.bag_ms)) where
       turn-two k n = grind arith
 
   -- an account that holds its cap has a level of at most a full one
-  whole-full : (by : Leeway) (xs : List Charged) (time : ℕ) → missing l xs time ≤ cap l → 1000000 * lack-of xs 0 time ≤ full l by
+  whole-full : (by : Leeway) (xs : List Charged) (time : ℕ) → missing l xs time ≤ cap l → 1000000 * lack-of xs 0 time
+      ≤ full l by
   whole-full by xs time h =
       let e = whole-level xs time in
       let f = full-number (128 / l.bag_ms) 1000000 l.smax (bag l + jitter l) in
       let up : 1000000 * missing l xs time ≤ 1000000 * cap l = mul-le-mul_left 1000000 h in
-      let below : (128 / l.bag_ms) * (1000000 * lack-of xs 0 time) ≤ (128 / l.bag_ms) * full l by = omega (arith, up, e, f) in
+      let below : (128 / l.bag_ms) * (1000000 * lack-of xs 0 time) ≤ (128 / l.bag_ms) * full l by =
+      omega (arith, up, e, f) in
       le_of_mul-le-mul_left below (positive l is 0)
 
 -- ---- over what came
@@ -191,18 +195,21 @@ module _ (z : Terms) (is : IsTrue (is_bag z.rule.bag_ms)) where
   -- a step to the next arrival
   stands-later : (acc : List Charged) (clock stamp moment clock1 stamp1 moment1 : ℕ) (levels : Levels)
       → Stands acc clock stamp moment levels → IsNear z.by stamp moment → IsNear z.by stamp1 moment1 → stamp ≤ stamp1
-      → GoesOn z.by moment clock moment1 clock1 → Stands acc clock1 stamp1 moment1 (later (link z) z.by (stamp1 - stamp) levels)
+      → GoesOn z.by moment clock moment1 clock1
+      → Stands acc clock1 stamp1 moment1 (later (link z) z.by (stamp1 - stamp) levels)
   stands-later acc clock stamp moment clock1 stamp1 moment1 levels s at at1 order on = record {
     level = s.level - (link z).smax * 1000000 * (clock1 - clock);
     exact = level-later (link z) is 0 acc clock clock1 s.level
         (All-from_recursion (λ (c : Charged). c.time ≤ clock) acc s.came) on.clocks s.exact;
     came = later-came clock clock1 acc on.clocks s.came;
-    within = within-later (link z) is z.by s.level levels stamp moment clock stamp1 moment1 clock1 at at1 order on s.within;
+    within = within-later (link z) is z.by s.level levels stamp moment clock stamp1 moment1 clock1 at at1 order on
+        s.within;
   }
 
   -- the first arrival, after a reset or from the start
   stands-first : (start : Option ℕ) (first : List Charged) (moment clock : ℕ) (x : Asked)
-      → IsFirst z start first moment clock → GoesOn z.by moment clock x.asked_at x.asked_clock → IsNear z.by x.arrival.time x.asked_at
+      → IsFirst z start first moment clock → GoesOn z.by moment clock x.asked_at x.asked_clock
+      → IsNear z.by x.arrival.time x.asked_at
       → IsFrom z start x.arrival.time
       → Stands first x.asked_clock x.arrival.time x.asked_at
       (later (link z) z.by (x.arrival.time - from_time start) (first_levels (link z) z.by start))
@@ -224,12 +231,14 @@ module _ (z : Terms) (is : IsTrue (is_bag z.rule.bag_ms)) where
       let moments = on.moments in
       let late = at.late in
       let early = is_first.0 in
-      let span : (x.arrival.time - start) + (x.asked_at + z.by.slack - x.arrival.time) ≤ (x.asked_at - moment) + account_slip z.by
+      let span : (x.arrival.time - start) + (x.asked_at + z.by.slack - x.arrival.time) ≤ (x.asked_at - moment)
+      + account_slip z.by
       = omega (arith, moments, late, early, from) in
       let more = mul-le-mul_left (slowest (link z) z.by) span in
       let one = split (slowest (link z) z.by) (x.arrival.time - start) (x.asked_at + z.by.slack - x.arrival.time) in
       let two = split (slowest (link z) z.by) (x.asked_at - moment) (account_slip z.by) in
-      let drained = scaled (link z).smax (1000000 - z.by.drift) 1000000 (x.asked_at - moment) (x.asked_clock - clock) on.slowest in
+      let drained = scaled (link z).smax (1000000 - z.by.drift) 1000000 (x.asked_at - moment) (x.asked_clock - clock)
+      on.slowest in
       record {
         level = 1000000 * lack-of (link z) is first 0 clock - (link z).smax * 1000000 * (x.asked_clock - clock);
         exact = level-later (link z) is 0 first clock x.asked_clock (1000000 * lack-of (link z) is first 0 clock)
@@ -266,7 +275,8 @@ module _ (z : Terms) (is : IsTrue (is_bag z.rule.bag_ms)) where
             level = s.level + cost (link z) z.by (charge z x.arrival);
             exact = charged-is (link z) is 0 acc (seen z x) s.level s.exact;
             came = (omega arith, s.came);
-            within = charged-within (link z) is z.by s.level (charge z x.arrival) x.arrival.time x.asked_at levels at s.within h;
+            within = charged-within (link z) is z.by s.level (charge z x.arrival) x.arrival.time x.asked_at levels at
+                s.within h;
           },
           may-within (link z) is z.by s.level (charge z x.arrival) x.arrival.time x.asked_at levels at s.within h,
         )
@@ -277,7 +287,8 @@ module _ (z : Terms) (is : IsTrue (is_bag z.rule.bag_ms)) where
             level = s.level;
             exact = s.exact;
             came = s.came;
-            within = refused-within (link z) is z.by s.level (charge z x.arrival) x.arrival.time x.asked_at levels at s.within h;
+            within = refused-within (link z) is z.by s.level (charge z x.arrival) x.arrival.time x.asked_at levels at
+                s.within h;
           },
           must-within (link z) is z.by s.level (charge z x.arrival) x.arrival.time x.asked_at levels at s.within h,
         )
@@ -287,7 +298,8 @@ module _ (z : Terms) (is : IsTrue (is_bag z.rule.bag_ms)) where
   unfolding GoByClock accepted_after answers_of levels_after AreAllowed arrivals_in
   answers-first first moment clock x is_first go =
       let stands = stands-first z.by.start first moment clock x is_first go.0 (near z.by x go.1) go.2 in
-      let answer = answered-so first x (later (link z) z.by (x.arrival.time - from_time z.by.start) (first_levels (link z) z.by
+      let answer = answered-so first x (later (link z) z.by (x.arrival.time - from_time z.by.start)
+      (first_levels (link z) z.by
       z.by.start))
       (near z.by x go.1) stands (is_accepted z first [] x) refl in
       record { stands = answer.0; allowed = (answer.1, tt) }
@@ -311,7 +323,8 @@ module _ (z : Terms) (is : IsTrue (is_bag z.rule.bag_ms)) where
   stamped-of moment clock x [] go = near z.by x go.1
   stamped-of moment clock x (w ∷ before) go = near z.by x go.1
 
-  answers-all : (first : List Charged) (moment clock : ℕ) (x : Asked) (before : List Asked) → IsFirst z z.by.start first moment clock
+  answers-all : (first : List Charged) (moment clock : ℕ) (x : Asked) (before : List Asked)
+      → IsFirst z z.by.start first moment clock
       → GoByClock z moment clock (x ∷ before) → Answers first x before
   unfolding GoByClock
   answers-all first moment clock x [] is_first go = answers-first first moment clock x is_first go
@@ -323,7 +336,8 @@ module _ (z : Terms) (is : IsTrue (is_bag z.rule.bag_ms)) where
       → GoByClock z moment clock asked → AreAllowed z (answers_of z first asked)
   unfolding answers_of AreAllowed
   allowed-all first moment clock [] is_first go = tt
-  allowed-all first moment clock (x ∷ before) is_first go = (answers-all first moment clock x before is_first go).allowed
+  allowed-all first moment clock (x ∷ before) is_first go =
+      (answers-all first moment clock x before is_first go).allowed
 
 -- ---- frames
 
@@ -350,9 +364,11 @@ module _ (z : Terms) (slow : z.by.drift < parts) where
       let fastest = on.fastest in
       let slowest = on.slowest in
       let wire : (length x.arrival.bytes + 8) * z.byte_ns ≤ h.clock - x.clock = omega (arith, sooner) in
-      let wires : 1000000 * ((length x.arrival.bytes + 8) * z.byte_ns) ≤ 1000000 * (h.clock - x.clock) = mul-le-mul_left 1000000 wire in
+      let wires : 1000000 * ((length x.arrival.bytes + 8) * z.byte_ns) ≤ 1000000 * (h.clock - x.clock) =
+      mul-le-mul_left 1000000 wire in
       let late : h.clock - x.clock ≤ z.latency_ns + z.by.inner = omega (arith, in_time) in
-      let lates : 1000000 * (h.clock - x.clock) ≤ 1000000 * (z.latency_ns + z.by.inner) = mul-le-mul_left 1000000 late in
+      let lates : 1000000 * (h.clock - x.clock) ≤ 1000000 * (z.latency_ns + z.by.inner) = mul-le-mul_left 1000000 late
+      in
       let turned = swap (h.moment - x.moment) (1000000 - z.by.drift) in (
         ceil-le (1000000 * ((length x.arrival.bytes + 8) * z.byte_ns)) (h.moment - x.moment) (1000000 + z.by.drift)
             (omega arith) (omega (arith, wires, fastest)),
@@ -360,7 +376,8 @@ module _ (z : Terms) (slow : z.by.drift < parts) where
             (omega (arith, slow)) (omega (arith, lates, slowest, turned)),
       )
 
-  leaves-fits : (x : Asked) (y : Gone) → IsStamped z.by.slack x.arrival.time x.moment → LeavesAs z x y → IsTrue (fits z x.arrival y)
+  leaves-fits : (x : Asked) (y : Gone) → IsStamped z.by.slack x.arrival.time x.moment → LeavesAs z x y
+      → IsTrue (fits z x.arrival y)
   unfolding fits
   leaves-fits x y at h =
       let span = spent x y h in
@@ -379,7 +396,8 @@ module _ (z : Terms) (slow : z.by.drift < parts) where
       (le-leb y.time (x.arrival.time + latency z + reach z.by)
       (omega (arith, slowly, moments, early, late1)))
 
-  later-open : (x : Asked) → IsStamped z.by.slack x.arrival.time x.moment → LeavesLater z x → IsTrue (is_open z x.arrival)
+  later-open : (x : Asked) → IsStamped z.by.slack x.arrival.time x.moment → LeavesLater z x
+      → IsTrue (is_open z x.arrival)
   unfolding is_open
   later-open x at h =
       let span = spent x h.frame h.leaves in
@@ -392,9 +410,6 @@ module _ (z : Terms) (slow : z.by.drift < parts) where
       (omega (arith, slowly, moments, early, late1, unseen))
 
 -- ---- all of it
-
-arrivals-of : List Asked → List Arrival
-arrivals-of xs = map (λ x. x.arrival) xs
 
 answers-arrivals : (z : Terms) (first : List Charged) (asked : List Asked)
     → arrivals_in (answers_of z first asked) ≡ map (λ x. x.arrival) asked
@@ -470,7 +485,8 @@ module _ (z : Terms) (slow : z.by.drift < parts) where
   unseen-begun [] all = tt
   unseen-begun (y ∷ ys) all = (begun-by z.by.start y all.0, unseen-begun ys all.1)
 
-  all-pairs : (xs : List Asked) (ys : List Gone) → AreStamped z xs → EachLeaves z xs ys → ArePairs z (map (λ x. x.arrival) xs) ys
+  all-pairs : (xs : List Asked) (ys : List Gone) → AreStamped z xs → EachLeaves z xs ys
+      → ArePairs z (map (λ x. x.arrival) xs) ys
   unfolding EachLeaves ArePairs
   all-pairs [] ys at all = unseen-begun ys all
   all-pairs (x ∷ xs) [] at all = absurd all
@@ -479,7 +495,8 @@ module _ (z : Terms) (slow : z.by.drift < parts) where
 pub right_explained : RightIsExplained
 right_explained z asked frames is slow right =
     let at = stamped-all z right.moment right.clock asked right.go_on in
-    let accepted = subst (λ (l : List Asked). AreStamped z l) right.accepted (accepted-stamped z right.first asked at) in
+    let accepted = subst (λ (l : List Asked). AreStamped z l) right.accepted (accepted-stamped z right.first asked at)
+    in
     record {
       answers = answers_of z right.first asked;
       are_answered = answers-arrivals z right.first asked;

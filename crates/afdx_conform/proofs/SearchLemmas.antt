@@ -38,7 +38,8 @@ unfolding marked_all
 marked-none [] = refl
 marked-none (a ∷ l) = refl
 
-marked-drop : (n : ℕ) (xs : List Arrived) (ms : List Mark) → drop n (marked_all xs ms) ≡ marked_all (drop n xs) (drop n ms)
+marked-drop : (n : ℕ) (xs : List Arrived) (ms : List Mark) → drop n (marked_all xs ms) ≡ marked_all (drop n xs)
+    (drop n ms)
 unfolding marked_all
 marked-drop zero xs ms = refl
 marked-drop (suc n) [] [] = refl
@@ -75,7 +76,8 @@ module _ (z : Terms) (limits : Limits) (f : Frame) (k' : AreLimits z limits) whe
       (fits-none a all.0) ∙ fit-past n xs all.1
 
   pub fit-reached : (xs : List Arrived) (at p : ℕ) (rest : List ℕ) → IsReached fit xs at p rest
-      → list_any (λ w. fits z w y) (map arrival_of (drop at xs)) ≡ list_any (λ w. fits z w y) (map arrival_of (drop p xs))
+      → list_any (λ w. fits z w y) (map arrival_of (drop at xs)) ≡ list_any (λ w. fits z w y)
+      (map arrival_of (drop p xs))
   fit-reached xs at p rest k =
       fit-past k.skipped (drop at xs) k.others
       ∙ ap (λ (l : List Arrived). list_any (λ w. fits z w y) (map arrival_of l))
@@ -89,7 +91,8 @@ module _ (z : Terms) (limits : Limits) (f : Frame) (k' : AreLimits z limits) whe
   -- ---- arrivals that aren't refused
 
   right-past : (n : ℕ) (xs : List Arrived) (ms : List Mark) → AreOthers fit (take n xs)
-      → list_any (λ m. is_of_right z y m) (marked_all xs ms) ≡ list_any (λ m. is_of_right z y m) (drop n (marked_all xs ms))
+      → list_any (λ m. is_of_right z y m) (marked_all xs ms) ≡ list_any (λ m. is_of_right z y m)
+      (drop n (marked_all xs ms))
   unfolding marked_all
   right-past zero xs ms all = refl
   right-past (suc n) [] [] all = refl
@@ -202,6 +205,7 @@ module _ (z : Terms) (limits : Limits) (f : Frame) (k' : AreLimits z limits) whe
 
   pub right-behind : (xs : List Arrived) (ms : List Mark) (n : ℕ) → length ms ≤ length xs
       → NoneIsWanted Accepted limits f n xs ms
-      → list_any (λ m. is_of_right z y m) (marked_all xs ms) ≡ list_any (λ m. is_of_right z y m) (drop n (marked_all xs ms))
+      → list_any (λ m. is_of_right z y m) (marked_all xs ms) ≡ list_any (λ m. is_of_right z y m)
+      (drop n (marked_all xs ms))
   right-behind xs ms n h w = any-behind (λ m. is_of_right z y m) xs ms n h w.within
       (λ p a m lt. not-right (get_or xs p a) (get_or ms p m) (w.none p a m lt))

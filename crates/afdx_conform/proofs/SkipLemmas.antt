@@ -26,7 +26,8 @@ use Rattle.afdx_conform.proofs.NamingLemmas.{all-none}
 -- the code stands for what is judged then
 pub stands-after : (rates : Rates) (fs : List Frame) (arrivals : List Arrived) (j k : Judged) (old new : Judging)
     (found : List Finding) (t : ℕ) → StandsFor rates fs arrivals j old
-    → k ≡ with_states (map (state_of (map gone_of fs)) new.held.items) (told t found (marked_all arrivals new.marks.items) j)
+    → k ≡ with_states (map (state_of (map gone_of fs)) new.held.items)
+    (told t found (marked_all arrivals new.marks.items) j)
     → new.uncertain ≡ old.uncertain → new.is_unsure ≡ old.is_unsure
     → All (λ h. IsWithin rates (length fs) (length new.marks.items) h) new.held.items
     → length new.marks.items ≡ length old.marks.items
@@ -64,7 +65,8 @@ module _ (z : Terms) (time passed foremost front : ℕ) (fs : List Frame) (arriv
 
   -- some state is in front of the closing
   skip-some : AreClosed time passed ys → list_any (λ h. nat_le passed h.passed) held ≡ false → j.is_unsure ≡ false
-      → S held ≡ j.states → All (λ h. h.passed ≤ length ys) held → drop foremost ys ≡ front_rest (S held) → foremost < passed
+      → S held ≡ j.states → All (λ h. h.passed ≤ length ys) held → drop foremost ys ≡ front_rest (S held)
+      → foremost < passed
       → front ≡ foremost
       → out ≡ map (λ h. past passed h) (filter (λ h. nat_eq h.passed front) held)
       → After ≡ unexplained_all z At (map gone_of (take (passed - front) (drop front fs))) j
@@ -74,10 +76,12 @@ module _ (z : Terms) (time passed foremost front : ℕ) (fs : List Frame) (arriv
       let moved = lead-past ys held out foremost passed within (omega (arith, lt, inside)) at_front
       (o ∙ ap (λ (n : ℕ). map (λ h. past passed h) (filter (λ h. nat_eq h.passed n) held)) is) in
       close-none z time passed ys held j closed states sure none
-      ∙ skip-from z time passed foremost ys j.states j closed lt (at_front ∙ ap (λ (l : List State). front_rest l) states)
+      ∙ skip-from z time passed foremost ys j.states j closed lt (at_front
+      ∙ ap (λ (l : List State). front_rest l) states)
       ∙ ap (λ (l : List State). with_states (with_rest (drop passed ys) (lead l))
       (unexplained_all z At (take (passed - foremost) (drop foremost ys)) j)) (sym states)
-      ∙ ap (λ (l : List State). with_states l (unexplained_all z At (take (passed - foremost) (drop foremost ys)) j)) (sym moved)
+      ∙ ap (λ (l : List State). with_states l (unexplained_all z At (take (passed - foremost) (drop foremost ys)) j))
+      (sym moved)
       ∙ ap (λ (l : List Gone). with_states (S out) (unexplained_all z At l j))
       (ap (λ (l : List Gone). take (passed - foremost) l) (drop-gone fs foremost)
       ∙ take-map gone_of (passed - foremost) (drop foremost fs)
@@ -107,7 +111,8 @@ module _ (z : Terms) (time passed foremost front : ℕ) (fs : List Frame) (arriv
       ∙ ap (λ (l : List Held). with_states (S l) j) (sym (o
       ∙ ap (λ (l : List Held). map (λ h. past passed h) (filter (λ h. nat_eq h.passed front) l)) e))
       ∙ ap (λ (k : Judged). with_states (S out) k)
-      (sym (told_is ∙ ap (λ (n : ℕ). unexplained_all z At (map gone_of (take n (drop front fs))) j) nothing ∙ all-none z At j))
+      (sym (told_is ∙ ap (λ (n : ℕ). unexplained_all z At (map gone_of (take n (drop front fs))) j) nothing
+      ∙ all-none z At j))
 
   pub skip-whole : AreClosed time passed ys → list_any (λ h. nat_le passed h.passed) held ≡ false → j.is_unsure ≡ false
       → S held ≡ j.states → All (λ h. h.passed ≤ length ys) held → drop foremost ys ≡ front_rest (S held)

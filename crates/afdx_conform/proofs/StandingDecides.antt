@@ -70,14 +70,16 @@ module _ (z : Terms) where
       let is : Came c ≡ e = cc in
       subst (λ (v : Event). y.time + reach z.by ≤ event_time z v) is (by (closes_before z y c) refl here)
     where
-      by : (b : Bool) → closes_before z y c ≡ b → (if b then Some (Closing y.time) else Some (Came c)) ≡ Some (Closing y.time)
+      by : (b : Bool) → closes_before z y c ≡ b → (if b then Some (Closing y.time) else Some (Came c))
+          ≡ Some (Closing y.time)
           → y.time + reach z.by ≤ c.time
       by true k h = (let lt = ltb-true (y.time + reach z.by) c.time k in omega (arith, lt))
       by false k h = absurd (cc)
   later-closed (c ∷ cs) y (u ∷ us) e up here there =
       one (closes_before z u c) there (by (closes_before z y c) refl here)
     where
-      by : (b : Bool) → closes_before z y c ≡ b → (if b then Some (Closing y.time) else Some (Came c)) ≡ Some (Closing y.time)
+      by : (b : Bool) → closes_before z y c ≡ b → (if b then Some (Closing y.time) else Some (Came c))
+          ≡ Some (Closing y.time)
           → y.time + reach z.by ≤ c.time
       by true k h = (let lt = ltb-true (y.time + reach z.by) c.time k in omega (arith, lt))
       by false k h = absurd (cc)
@@ -106,7 +108,8 @@ module _ (z : Terms) where
       let up = subst (λ (l : List Gone). GoUp (frame_times l)) first.2
       (up-drop (λ (w : Gone). w.time) (length (closings_in over)) ys told.left) in
       let le = later-closed (coming xs over) first.0 first.1 n up
-      (ap (λ (l : List Gone). next_of z (coming xs over) l) (sym first.2) ∙ here ∙ ap (λ (k : ℕ). Some (Closing k)) (sym first.3))
+      (ap (λ (l : List Gone). next_of z (coming xs over) l) (sym first.2) ∙ here
+      ∙ ap (λ (k : ℕ). Some (Closing k)) (sym first.3))
       (ap (λ (l : List Gone). next_of z (coming xs over) l)
       (sym (drop-next (length (closings_in over)) ys first.0 first.1 first.2)) ∙ there) in
       let same = first.3 in
@@ -150,7 +153,8 @@ module _ (z : Terms) where
   abbrev MomentOf : Event → ℕ
   MomentOf e = moment_at z (event_time z e)
 
-  pub due-is : (xs : List Arrival) (ys : List Gone) (cut : ℕ) (over : List Event) (s : Growth) → IsAfter z xs ys cut over s
+  pub due-is : (xs : List Arrival) (ys : List Gone) (cut : ℕ) (over : List Event) (s : Growth)
+      → IsAfter z xs ys cut over s
       → s.judging.is_unsure ≡ false → due_by s ≡ option_map MomentOf (next_of z (coming xs over) (unclosed ys over))
   unfolding due_by
   due-is xs ys cut over s f sure =
@@ -200,8 +204,10 @@ module _ (z : Terms) where
         by : (b : Bool) → new.judging.is_unsure ≡ b → IsNoSooner moment (due_by new)
         by true u = subst (λ (o : Option ℕ). IsNoSooner moment o) (sym (due-unsure new u)) tt
         by false u =
-            subst (λ (o : Option ℕ). IsNoSooner moment o) (sym (due-is xs ys cut (closed_too closed (e ∷ over)) new d.0 u))
-            (later-of moment (next_of z (coming xs (closed_too closed (e ∷ over))) (unclosed ys (closed_too closed (e ∷ over))))
+            subst (λ (o : Option ℕ). IsNoSooner moment o)
+            (sym (due-is xs ys cut (closed_too closed (e ∷ over)) new d.0 u))
+            (later-of moment (next_of z (coming xs (closed_too closed (e ∷ over)))
+            (unclosed ys (closed_too closed (e ∷ over))))
             (λ n h. (let le = later-next xs ys over e closed n told d.0.events h in omega (arith, le, is))))
 
     time-is : event_time z e ≡ time_of z moment
@@ -215,17 +221,20 @@ module _ (z : Terms) where
         absurd (true-false un (closed-unsure z t (judged_by z xs ys over) ∙ sure))
     newest-of (Came x) here un m more at =
         let first = next-came z (coming xs over) (unclosed ys over) x here in
-        let same = ap (λ (l : List Arrival). x ∷ l) (drop-next (length (arrivals_came over)) xs x first.0 first.1) ∙ sym first.1 in
+        let same = ap (λ (l : List Arrival). x ∷ l) (drop-next (length (arrivals_came over)) xs x first.0 first.1)
+        ∙ sym first.1 in
         let newest = came-last z (coming xs (Came x ∷ over)) (last_time z.by (arrivals_came (sound_events z over))) x
         (judged_after z ys (x ∷ coming xs (Came x ∷ over)) over)
         (ap (λ (l : List Arrival). (judged_after z ys l over).is_unsure) same ∙ sure) in
         ap (λ (v : Marked). v.arrival.time) (last-same more newest.before m newest.one (sym at ∙ newest.is))
         ∙ ap (λ (v : Arrival). v.time) newest.arrival
 
-    pub finds : Finds z moment found (shown (judged_by z xs ys over)) (shown (judged_by z xs ys (e ∷ over))) (due_by new)
+    pub finds : Finds z moment found (shown (judged_by z xs ys over)) (shown (judged_by z xs ys (e ∷ over)))
+        (due_by new)
     finds = record {
       is_moment = omega (arith, is);
-      are_found = subst (λ (t : ℕ). AreFound t found (shown (judged_by z xs ys over)) (shown (judged_by z xs ys (e ∷ over)))) time-is
+      are_found = subst (λ (t : ℕ). AreFound t found (shown (judged_by z xs ys over))
+          (shown (judged_by z xs ys (e ∷ over)))) time-is
           (record { findings = d.1.findings; frames = d.1.frames });
       later = later-due;
       sure = sure;

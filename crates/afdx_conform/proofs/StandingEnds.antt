@@ -27,7 +27,8 @@ use Rattle.afdx_conform.proofs.StandingDecides.{due-is}
 -- ---- an unsure stream stays so
 
 module _ (z : Terms) (ys : List Gone) where
-  came-unsure : (behind : List Arrival) (last : ℕ) (x : Arrival) (j : Judged) → j.is_unsure ≡ true → came_to z behind last x j ≡ j
+  came-unsure : (behind : List Arrival) (last : ℕ) (x : Arrival) (j : Judged) → j.is_unsure ≡ true
+      → came_to z behind last x j ≡ j
   unfolding came_to
   came-unsure behind last x j e =
       ap (λ (b : Bool). if b then j else came_by z behind last x (fault_of (Some z.rule) x.port x.bytes) j) e
@@ -78,7 +79,8 @@ module _ (z : Terms) where
       → (judged_by z xs ys over).is_unsure ≡ true → judged_whole z xs ys ≡ judged_by z xs ys over
   whole-unsure xs ys over events e =
       let left = events_of z (coming xs over) (unclosed ys over) in
-      let back : reverse (arrivals_came (reverse (events_of z (coming xs over) (unclosed ys over)))) ++ [] ≡ coming xs over =
+      let back : reverse (arrivals_came (reverse (events_of z (coming xs over) (unclosed ys over)))) ++ []
+      ≡ coming xs over =
       append-nil (reverse (arrivals_came (reverse (events_of z (coming xs over) (unclosed ys over)))))
       ∙ ap (λ (l : List Arrival). reverse l) (came-reverse (events_of z (coming xs over) (unclosed ys over)))
       ∙ reverse-reverse (arrivals_came (events_of z (coming xs over) (unclosed ys over)))
@@ -123,12 +125,14 @@ module _ (z : Terms) where
   none-due None h = refl
   none-due (Some e) h = absurd (cc)
 
-  pub next-none : (xs : List Arrival) (ys : List Gone) (cut : ℕ) (over : List Event) (s : Growth) → IsAfter z xs ys cut over s
+  pub next-none : (xs : List Arrival) (ys : List Gone) (cut : ℕ) (over : List Event) (s : Growth)
+      → IsAfter z xs ys cut over s
       → s.judging.is_unsure ≡ false → due_by s ≡ None → next_of z (coming xs over) (unclosed ys over) ≡ None
   next-none xs ys cut over s f sure due =
       none-due (next_of z (coming xs over) (unclosed ys over)) (sym (due-is z xs ys cut over s f sure) ∙ due)
 
-  pub whole-is : (xs : List Arrival) (ys : List Gone) (cut : ℕ) (over : List Event) (s : Growth) → IsAfter z xs ys cut over s
+  pub whole-is : (xs : List Arrival) (ys : List Gone) (cut : ℕ) (over : List Event) (s : Growth)
+      → IsAfter z xs ys cut over s
       → due_by s ≡ None → judged_whole z xs ys ≡ judged_by z xs ys over
   whole-is xs ys cut over s f due = by s.judging.is_unsure refl
     where
@@ -138,7 +142,8 @@ module _ (z : Terms) where
 
   -- ---- the end
 
-  pub ends : (xs : List Arrival) (ys : List Gone) (j : Judged) (time : ℕ) (old new : Stream) (h : StandsFor z xs ys j time old)
+  pub ends : (xs : List Arrival) (ys : List Gone) (j : Judged) (time : ℕ) (old new : Stream)
+      (h : StandsFor z xs ys j time old)
       → time ≤ z.until
       → IsAfter z xs (uncut z ys) (length ys - length (uncut z ys)) h.over new.growth
       → AreOver z time h.over → IsEnding z xs ys j new
@@ -147,7 +152,8 @@ module _ (z : Terms) where
       record {
         over = h.over;
         is_after = f;
-        judged = sym (shown-late z xs (uncut z ys) s.off time h.over f.told f.events le (are-late z time s.off le s.are_off) o)
+        judged = sym (shown-late z xs (uncut z ys) s.off time h.over f.told f.events le
+            (are-late z time s.off le s.are_off) o)
             ∙ ap (λ (l : List Gone). shown (judged_by z xs l h.over)) (sym s.same) ∙ h.judged z.until le;
       }
 
@@ -159,7 +165,8 @@ module _ (z : Terms) where
   pub counted : (xs : List Arrival) (ys : List Gone) (cut : ℕ) (over : List Event) (s : Growth) (result : Counts)
       → IsAfter z xs ys cut over s → due_by s ≡ None
       → (s.judging.is_unsure ≡ true → result ≡ counts_with 0 0 0)
-      → (next_of z (coming xs over) (unclosed ys over) ≡ None → result ≡ counts_by (length ys) cut (judged_by z xs ys over))
+      → (next_of z (coming xs over) (unclosed ys over) ≡ None → result ≡ counts_by (length ys) cut
+      (judged_by z xs ys over))
       → result ≡ counts_by (length ys) cut (judged_whole z xs ys)
   counted xs ys cut over s result f due un all =
       by s.judging.is_unsure refl

@@ -45,16 +45,19 @@ module _ (z : Terms) (until : ℕ) where
   over-until time (e ∷ before) o =
       (let lt = o.0 in let same = at-until e before in omega (arith, lt, same), over-until time before o.1)
 
-  pub none-open : (time : ℕ) (over : List Event) → time ≤ until → AreOver z time over → NoneIsOpen (until_then until z) over
+  pub none-open : (time : ℕ) (over : List Event) → time ≤ until → AreOver z time over
+      → NoneIsOpen (until_then until z) over
   unfolding AreOver NoneIsOpen
   none-open time [] le o = tt
   none-open time (Came x ∷ before) le o = (not-open (until_then until z) x time o.0 le, none-open time before le o.1)
   none-open time (Closing t ∷ before) le o = none-open time before le o.1
 
-pub judged-until : (z : Terms) (xs : List Arrival) (ys : List Gone) (time a b : ℕ) (over : List Event) → time ≤ a → time ≤ b
+pub judged-until : (z : Terms) (xs : List Arrival) (ys : List Gone) (time a b : ℕ) (over : List Event) → time ≤ a
+    → time ≤ b
     → AreOver z time over → judged_by (until_then a z) xs ys over ≡ judged_by (until_then b z) xs ys over
 judged-until z xs ys time a b over le more o =
-    end_later (until_then b z) a ys (coming xs over) over (none-open z b time over more o) (none-open z a time over le o)
+    end_later (until_then b z) a ys (coming xs over) over (none-open z b time over more o)
+    (none-open z a time over le o)
 
 -- ---- results
 
@@ -80,7 +83,8 @@ pub leave-for : (z : Terms) (until : ℕ) (ys : List Gone) (time : ℕ) (y : Gon
     → MayLeave (until_then until z) ys time y
 leave-for z until ys time y m = record { behind = m.behind; by_time = m.by_time; start = m.start; few = m.few }
 
-module _ (z : Terms) (xs : List Arrival) (ys : List Gone) (j : Judged) (time : ℕ) (old new : Stream) (h : StandsFor z xs ys j time old)
+module _ (z : Terms) (xs : List Arrival) (ys : List Gone) (j : Judged) (time : ℕ) (old new : Stream)
+    (h : StandsFor z xs ys j time old)
   where
     pub stands-came : (a : Arrived) → IsJudged z a → MayCome z xs time (arrival_of a)
         → ((until : ℕ) → time ≤ until → IsAfter (until_then until z) (xs ++ (arrival_of a ∷ [])) ys 0 h.over new.growth
@@ -107,7 +111,8 @@ module _ (z : Terms) (xs : List Arrival) (ys : List Gone) (j : Judged) (time : �
       before = h.before;
       is_after = λ until le. (f until le).0;
       judged = λ until le.
-          shown-late (until_then until z) xs ys (y ∷ []) time h.over (h.is_after until le).told (h.is_after until le).events le
+          shown-late (until_then until z) xs ys (y ∷ []) time h.over (h.is_after until le).told
+          (h.is_after until le).events le
           ((let b = m.behind in omega (arith, b)), tt) (over-until z until time h.over h.before)
           ∙ h.judged until le;
       lean = (f time (omega arith)).1 h.lean;
@@ -117,7 +122,8 @@ module _ (z : Terms) (xs : List Arrival) (ys : List Gone) (j : Judged) (time : �
     stands-same s = record {
       over = h.over;
       before = h.before;
-      is_after = λ until le. after-same (until_then until z) xs ys 0 h.over old.growth new.growth s (h.is_after until le);
+      is_after = λ until le. after-same (until_then until z) xs ys 0 h.over old.growth new.growth s
+          (h.is_after until le);
       judged = h.judged;
       lean = lean-same old.growth new.growth s h.lean;
     }
@@ -136,7 +142,8 @@ module _ (z : Terms) (xs : List Arrival) (ys : List Gone) (j : Judged) (time : �
       lean = h.lean;
     }
 
-pub ending-same : (z : Terms) (xs : List Arrival) (ys : List Gone) (j : Judged) (old new : Stream) → IsEnding z xs ys j old
+pub ending-same : (z : Terms) (xs : List Arrival) (ys : List Gone) (j : Judged) (old new : Stream)
+    → IsEnding z xs ys j old
     → IsSame old.growth new.growth → IsEnding z xs ys j new
 ending-same z xs ys j old new h s = record {
   over = h.over;

@@ -34,10 +34,12 @@ module _ (z : Terms) (xs : List Arrival) (ys : List Gone) (j : Judged) (time mom
 
   pub next-at : (until : ℕ) → next_of (until_then until z) (coming xs h.over) (unclosed ys h.over) ≡ Some event
   next-at until =
-      next-until z until (coming xs h.over) (unclosed ys h.over) ∙ sym (next-until z time (coming xs h.over) (unclosed ys h.over)) ∙ here
+      next-until z until (coming xs h.over) (unclosed ys h.over)
+      ∙ sym (next-until z time (coming xs h.over) (unclosed ys h.over)) ∙ here
 
   moment-at : (until : ℕ) → moment_at z (event_time (until_then until z) event) ≡ moment
-  moment-at until = (let a = time-until z time event in let b = time-until z until event in let c = is-due in omega (arith, a, b, c))
+  moment-at until = (let a = time-until z time event in let b = time-until z until event in let c = is-due in
+      omega (arith, a, b, c))
 
   pub known-at : (until : ℕ) → time ≤ until → (end : Option ℕ) → end ≡ None → IsKnownBy (until_then until z) end event
   known-at until le end none =
@@ -47,7 +49,8 @@ module _ (z : Terms) (xs : List Arrival) (ys : List Gone) (j : Judged) (time mom
   before-event : AreOver z time (event ∷ h.over)
   unfolding AreOver
   before-event = (
-    (let m = is-due in let s = time-until z time event in let le = over-moment z event h.over in omega (arith, m, s, lt, le)),
+    (let m = is-due in let s = time-until z time event in let le = over-moment z event h.over in
+        omega (arith, m, s, lt, le)),
     h.before,
   )
 
@@ -66,9 +69,12 @@ module _ (z : Terms) (xs : List Arrival) (ys : List Gone) (j : Judged) (time mom
   stands-next new closed found d =
       let here-at = d time (omega arith) in
       let before = before-next closed here-at.2.early in
-      let one = finds At xs ys 0 h.over event moment new.growth closed found first.told here is-due sure-before here-at in
+      let one = finds At xs ys 0 h.over event moment new.growth closed found first.told here is-due sure-before
+      here-at in
       let at = h.judged time (omega arith) in
-      let two = subst (λ (k : Judged). Finds At moment found k (shown (judged_by At xs ys (closed_too closed (event ∷ h.over))))
+      let two =
+      subst (λ (k : Judged). Finds At moment found k
+      (shown (judged_by At xs ys (closed_too closed (event ∷ h.over))))
       (due_of new)) at
       (subst (λ (k : Judged). Finds At moment found (shown (judged_by At xs ys h.over)) (shown k) (due_of new))
       (sym here-at.2.same) one) in (
@@ -115,6 +121,7 @@ module _ (z : Terms) (xs : List Arrival) (ys : List Gone) (j : Judged) (moment :
         record { over = closed_too closed (last-event ∷ h.over); is_after = d.0; judged = refl },
         subst (λ (k : Judged). Finds z moment found k
             (shown (judged_by z xs (uncut z ys) (closed_too closed (last-event ∷ h.over)))) (due_of new)) h.judged
-            (subst (λ (k : Judged). Finds z moment found (shown (judged_by z xs (uncut z ys) h.over)) (shown k) (due_of new))
+            (subst (λ (k : Judged). Finds z moment found (shown (judged_by z xs (uncut z ys) h.over)) (shown k)
+            (due_of new))
             (sym d.2.same) one),
       )

@@ -71,7 +71,8 @@ none-first [] [] e = (refl, refl)
 none-first [] (x ∷ took) e = absurd (cc)
 none-first (x ∷ waiting) took e = absurd (cc)
 
-among-first : (z : Terms) (ys : List Gone) (answers : List Answered) (waiting took : List Arrival) (passed rest : List Gone)
+among-first : (z : Terms) (ys : List Gone) (answers : List Answered) (waiting took : List Arrival)
+    (passed rest : List Gone)
     → Explained z ys [] answers waiting took passed rest
     → Among (standing z answers waiting rest) (first_states z (first_levels (link z) z.by z.by.start) ys)
 unfolding levels_after accepted_in arrivals_in ArePairs
@@ -95,7 +96,8 @@ module _ (z : Terms) (x : Arrival) (levels old : Levels) (n : ℕ) where
   if-false false u v e = refl
 
   pub refused-state : (rest : List Gone) → has_to_pass (link z) z.by (charge z x) levels ≡ false
-      → Among (state_with rest (refused (link z) z.by (charge z x) levels) n) (states_at z x levels (state_with rest old n))
+      → Among (state_with rest (refused (link z) z.by (charge z x) levels) n)
+      (states_at z x levels (state_with rest old n))
   unfolding states_at
   refused-state rest e =
       among-right _ (if may_pass (link z) z.by (charge z x) levels
@@ -113,17 +115,22 @@ module _ (z : Terms) (x : Arrival) (levels old : Levels) (n : ℕ) where
       (sym (if-true (may_pass (link z) z.by (charge z x) levels)
       (accepted_states z x (charged (link z) z.by (charge z x) levels) n rest) [] may)) h)
 
-  pub took-state : (y : Gone) (rest : List Gone) → IsTrue (may_pass (link z) z.by (charge z x) levels) → IsTrue (fits z x y)
-      → Among (state_with rest (charged (link z) z.by (charge z x) levels) n) (states_at z x levels (state_with (y ∷ rest) old n))
+  pub took-state : (y : Gone) (rest : List Gone) → IsTrue (may_pass (link z) z.by (charge z x) levels)
+      → IsTrue (fits z x y)
+      → Among (state_with rest (charged (link z) z.by (charge z x) levels) n)
+      (states_at z x levels (state_with (y ∷ rest) old n))
   took-state y rest may fit = accepted-state (y ∷ rest) _ may
       (subst (λ (l : List State). Among (state_with rest (charged (link z) z.by (charge z x) levels) n) l)
-      (sym (if-true (fits z x y) (state_with rest (charged (link z) z.by (charge z x) levels) n ∷ []) [] fit)) (inl refl))
+      (sym (if-true (fits z x y) (state_with rest (charged (link z) z.by (charge z x) levels) n ∷ []) [] fit))
+      (inl refl))
 
   pub waits-state : IsTrue (may_pass (link z) z.by (charge z x) levels) → IsTrue (is_open z x)
-      → Among (state_with [] (charged (link z) z.by (charge z x) levels) (n + 1)) (states_at z x levels (state_with [] old n))
+      → Among (state_with [] (charged (link z) z.by (charge z x) levels) (n + 1))
+      (states_at z x levels (state_with [] old n))
   waits-state may opens = accepted-state [] _ may
       (subst (λ (l : List State). Among (state_with [] (charged (link z) z.by (charge z x) levels) (n + 1)) l)
-      (sym (if-true (is_open z x) (state_with [] (charged (link z) z.by (charge z x) levels) (n + 1) ∷ []) [] opens)) (inl refl))
+      (sym (if-true (is_open z x) (state_with [] (charged (link z) z.by (charge z x) levels) (n + 1) ∷ []) [] opens))
+      (inl refl))
 
 -- one more arrival, whose answer is known, and where it stood before
 module _ (z : Terms) (ys : List Gone) (x : Arrival) (before : List Event) (more : List Answered)
@@ -131,15 +138,14 @@ module _ (z : Terms) (ys : List Gone) (x : Arrival) (before : List Event) (more 
   abbrev levels_of : List Arrival → Levels
   levels_of came = levels_then z (levels_after z more) (last_time z.by came) x
 
-  lead : State → List State
-  lead p = states_at z x (levels_then z p.levels (last_time z.by (arrivals_came before)) x) p
-
-  came-refused : (waiting : List Arrival) (rest : List Gone) → Among (standing z more waiting rest) (states_after z ys before)
+  came-refused : (waiting : List Arrival) (rest : List Gone) → Among (standing z more waiting rest)
+      (states_after z ys before)
       → has_to_pass (link z) z.by (charge z x) (levels_of (arrivals_in more)) ≡ false
       → Among (standing z (answered x false ∷ more) waiting rest) (states_after z ys (Came x ∷ before))
   unfolding states_after levels_after arrivals_in
   came-refused waiting rest h e =
-      subst (λ (came : List Arrival). Among (state_with rest (refused (link z) z.by (charge z x) (levels_of came)) (length waiting))
+      subst (λ (came : List Arrival). Among (state_with rest (refused (link z) z.by (charge z x) (levels_of came))
+      (length waiting))
       (states_after z ys (Came x ∷ before))) (sym same)
       (led-among _ (states_after z ys before) (standing z more waiting rest) _ h
       (refused-state z x (levels_of (arrivals_came before)) (levels_after z more) (length waiting) rest
@@ -151,7 +157,8 @@ module _ (z : Terms) (ys : List Gone) (x : Arrival) (before : List Event) (more 
       → Among (standing z (answered x true ∷ more) waiting rest) (states_after z ys (Came x ∷ before))
   unfolding states_after levels_after arrivals_in
   came-took waiting y rest h e fit =
-      subst (λ (came : List Arrival). Among (state_with rest (charged (link z) z.by (charge z x) (levels_of came)) (length waiting))
+      subst (λ (came : List Arrival). Among (state_with rest (charged (link z) z.by (charge z x) (levels_of came))
+      (length waiting))
       (states_after z ys (Came x ∷ before))) (sym same)
       (led-among _ (states_after z ys before) (standing z more waiting (y ∷ rest)) _ h
       (took-state z x (levels_of (arrivals_came before)) (levels_after z more) (length waiting) y rest
@@ -165,7 +172,8 @@ module _ (z : Terms) (ys : List Gone) (x : Arrival) (before : List Event) (more 
       let one : length waiting + 1 ≡ length (w ∷ waiting) = omega arith in
       subst (λ (n : ℕ). Among (state_with [] (charged (link z) z.by (charge z x) (levels_of (arrivals_in more))) n)
       (states_after z ys (Came x ∷ before))) one
-      (subst (λ (came : List Arrival). Among (state_with [] (charged (link z) z.by (charge z x) (levels_of came)) (length waiting + 1))
+      (subst (λ (came : List Arrival). Among (state_with [] (charged (link z) z.by (charge z x) (levels_of came))
+      (length waiting + 1))
       (states_after z ys (Came x ∷ before))) (sym same)
       (led-among _ (states_after z ys before) (standing z more waiting []) _ h
       (waits-state z x (levels_of (arrivals_came before)) (levels_after z more) (length waiting)
@@ -264,7 +272,8 @@ module _ (z : Terms) (ys : List Gone) where
   among-of (Came x ∷ before) order (a ∷ more) waiting took passed rest e =
       let head : a.arrival ≡ x = let all = e.are_answered in cc in
       let is : a ≡ answered x a.accepted = ap (λ (v : Arrival). answered v a.accepted) head in
-      subst (λ (b : Answered). Among (standing z (b ∷ more) waiting rest) (states_after z ys (Came x ∷ before))) (sym is)
+      subst (λ (b : Answered). Among (standing z (b ∷ more) waiting rest) (states_after z ys (Came x ∷ before)))
+      (sym is)
       (came-of x before a.accepted more waiting took passed rest order.0
       (subst (λ (b : Answered). Explained z ys (Came x ∷ before) (b ∷ more) waiting took passed rest) is e)
       (λ w t p r so. among-of before order.1 more w t p r so))
@@ -302,7 +311,8 @@ explains-so z ys events s r none =
 
 -- and what explains them is a state
 pub explained-state : (z : Terms) (ys : List Gone) (events : List Event) → AreInOrder z events
-    → (e : Explains z (arrivals_came events) (reverse ys)) → Among (standing z e.answers e.waiting []) (states_after z ys events)
+    → (e : Explains z (arrivals_came events) (reverse ys)) → Among (standing z e.answers e.waiting [])
+    (states_after z ys events)
 explained-state z ys events order e =
     among-of z ys events order e.answers e.waiting e.took (reverse ys) [] (record {
       are_answered = e.are_answered;
@@ -319,7 +329,8 @@ pub states_explain : StatesAreExplanations
 unfolding states_after are_behind
 states_explain z ys events end order all = (there, back)
   where
-    explains-by : (s : State) → Among s (states_after z ys (Closing end ∷ events)) → Explains z (arrivals_came events) (reverse ys)
+    explains-by : (s : State) → Among s (states_after z ys (Closing end ∷ events))
+        → Explains z (arrivals_came events) (reverse ys)
     explains-by s h =
         let kept = kept-from (λ s. are_behind end s.rest) (states_after z ys events) s h in
         let r = reached z ys events s kept.0 in

@@ -31,7 +31,8 @@ module _ (l : Regulation) (by : Leeway) (c : ℕ) (a b : Levels) (w : Wider a b)
   wider-refused : Wider (refused l by c a) (refused l by c b)
   wider-refused = let lo = w.lo in let hi = w.hi in record { lo = omega (arith, lo); hi = hi }
 
-wider-later : (l : Regulation) (by : Leeway) (ns : ℕ) (a b : Levels) → Wider a b → Wider (later l by ns a) (later l by ns b)
+wider-later : (l : Regulation) (by : Leeway) (ns : ℕ) (a b : Levels) → Wider a b
+    → Wider (later l by ns a) (later l by ns b)
 wider-later l by ns a b w = let lo = w.lo in let hi = w.hi in record { lo = omega (arith, lo); hi = omega (arith, hi) }
 
 wider-of : (a b : State) → Outdoes a b → Wider a.levels b.levels
@@ -47,7 +48,13 @@ outdoes-itself s = record { rest = refl; lo = omega arith; hi = omega arith; wai
 pub outdoes-on : (a b c : State) → Outdoes a b → Outdoes b c → Outdoes a c
 outdoes-on a b c p q =
     let l1 = p.lo in let l2 = q.lo in let h1 = p.hi in let h2 = q.hi in let w1 = p.waiting in let w2 = q.waiting in
-    record { rest = p.rest ∙ q.rest; lo = omega (arith, l1, l2); hi = omega (arith, h1, h2); waiting = omega (arith, w1, w2) }
+    record {
+      rest = p.rest ∙ q.rest;
+      lo = omega (arith, l1, l2);
+      hi = omega (arith, h1, h2);
+      waiting =
+          omega (arith, w1, w2);
+    }
 
 -- one that outdoes another leads to what outdoes all that the other leads to
 module _ (z : Terms) (x : Arrival) (a b s : State) (u v : Levels) (o : Outdoes a b) (w : Wider u v) where
@@ -74,7 +81,8 @@ module _ (z : Terms) (x : Arrival) (a b s : State) (u v : Levels) (o : Outdoes a
         (states_at z x u (state_with r a.levels a.waiting))) (sym (o.rest ∙ e))
         (waits-state z x u a.levels a.waiting (wider-may (link z) z.by (charge z x) u v w may) opens);
     outdoes = subst (λ (t : State). Outdoes (state_with [] (charged (link z) z.by (charge z x) u) (a.waiting + 1)) t) is
-        (outdoes-with [] _ _ _ _ (wider-charged (link z) z.by (charge z x) u v w) (let n = o.waiting in omega (arith, n)));
+        (outdoes-with [] _ _ _ _ (wider-charged (link z) z.by (charge z x) u v w) (let n = o.waiting in
+        omega (arith, n)));
   }
 
   out-refused : has_to_pass (link z) z.by (charge z x) v ≡ false
@@ -93,7 +101,8 @@ module _ (z : Terms) (x : Arrival) (a b s : State) (u v : Levels) (o : Outdoes a
   out-accepted [] e may h = by (is_open z x) refl h
     where
       by : (c : Bool) → is_open z x ≡ c
-          → Among s (if c then state_with [] (charged (link z) z.by (charge z x) v) (b.waiting + 1) ∷ [] else []) → Found
+          → Among s (if c then state_with [] (charged (link z) z.by (charge z x) v) (b.waiting + 1) ∷ [] else [])
+          → Found
       by false k m = absurd m
       by true k (inl is) = out-waits e may k is
       by true k (inr m) = absurd m
@@ -110,7 +119,8 @@ module _ (z : Terms) (x : Arrival) (a b s : State) (u v : Levels) (o : Outdoes a
   step-out h = cases (among-cases s _ _ h)
     where
       may-by : (c : Bool) → may_pass (link z) z.by (charge z x) v ≡ c
-          → Among s (if c then accepted_states z x (charged (link z) z.by (charge z x) v) b.waiting b.rest else []) → Found
+          → Among s (if c then accepted_states z x (charged (link z) z.by (charge z x) v) b.waiting b.rest else [])
+          → Found
       may-by false k m = absurd m
       may-by true k m = out-accepted b.rest refl k m
 

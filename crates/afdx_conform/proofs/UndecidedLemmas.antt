@@ -19,7 +19,8 @@ pub undecided-less : (old new : Growth) → old.judging.is_unsure ≡ false
     → undecided_by new < undecided_by old
 unfolding undecided_by
 undecided-less old new sure lt =
-    let is : undecided_by old ≡ (length old.arrivals.items - length old.judging.marks.items) + (length old.frames.items - old.closed) =
+    let is : undecided_by old ≡ (length old.arrivals.items - length old.judging.marks.items)
+    + (length old.frames.items - old.closed) =
     ap (λ (b : Bool). if b then 0 else (length old.arrivals.items - length old.judging.marks.items)
     + (length old.frames.items - old.closed)) sure in
     let less = if-less new.judging.is_unsure _ _ lt in
@@ -35,7 +36,8 @@ undecided-same old new u e =
     + (length new.frames.items - new.closed)) u
     ∙ ap (λ (n : ℕ). if old.judging.is_unsure then 0 else n) e
 
-pub forgot-arrivals : (old : Growth) (count : ℕ) (xs : List Arrived) (ms : List Mark) → xs ≡ drop count old.arrivals.items
+pub forgot-arrivals : (old : Growth) (count : ℕ) (xs : List Arrived) (ms : List Mark)
+    → xs ≡ drop count old.arrivals.items
     → ms ≡ drop count old.judging.marks.items → count ≤ length old.judging.marks.items
     → (length xs - length ms) + (length old.frames.items - old.closed)
     ≡ (length old.arrivals.items - length old.judging.marks.items) + (length old.frames.items - old.closed)
@@ -58,11 +60,13 @@ undecided-unchanged old new s =
     let c = s.closed in
     undecided-same old new s.is_unsure (omega (arith, a, m, f, c))
 
-pub due-nothing : (s : Growth) → length s.arrivals.items ≤ length s.judging.marks.items → length s.frames.items ≤ s.closed
+pub due-nothing : (s : Growth) → length s.arrivals.items ≤ length s.judging.marks.items → length s.frames.items
+    ≤ s.closed
     → due_by s ≡ None
 unfolding due_by
 due-nothing s le few =
-    ap (λ (l : List Arrived). if s.judging.is_unsure then None else due_in s.bounds.limits l (drop s.closed s.frames.items))
+    ap (λ (l : List Arrived). if s.judging.is_unsure then None else due_in s.bounds.limits l
+    (drop s.closed s.frames.items))
     (drop_all (length s.judging.marks.items) s.arrivals.items le)
     ∙ ap (λ (l : List Frame). if s.judging.is_unsure then None else due_in s.bounds.limits [] l)
     (drop_all s.closed s.frames.items few)

@@ -286,38 +286,3 @@ pub(crate) fn judge_with(
         judging, alloc, bounds, known, arrivals, frames, arrived, moment, tested,
     )
 }
-
-/// Judges an arrival, the first without a mark: gives what is found, in its order. Fails only out
-/// of memory; then nothing has changed.
-pub fn judge_arrival(
-    judging: &mut Judging,
-    alloc: Global,
-    bounds: &Bounds,
-    arrivals: &[Arrived],
-    frames: &[Frame],
-    arrived: &Arrived,
-    moment: Moment,
-) -> Result<Vec<Finding>, AllocError>
-    requires place { length judging.old.marks.items < length arrivals.now }
-    requires few { length frames.now < most_held }
-    requires counted { judging.old.uncertain < most_held }
-    requires within { (count : ℕ) × (count < most_held)
-        × All (λ h. IsWithin bounds.now.rates (length frames.now) count h)
-        judging.old.held.items }
-    ensures defined { JudgesArrival (λ done. IfOk result done) bounds.now frames.now arrivals.now
-        judging.old judging.new arrived.now moment }
-    ensures marks { OnOk result
-        (length judging.new.marks.items ≡ length judging.old.marks.items + 1) }
-    ensures counted { OnOk result (judging.new.uncertain ≤ judging.old.uncertain + 1) }
-    ensures within { (l : Regulation) (by : By) (count : ℕ) → AreRates l by bounds.now.rates →
-        All (λ h. IsWithin bounds.now.rates (length frames.now) count h)
-        judging.old.held.items →
-        OnOk result (All (λ h. IsWithin bounds.now.rates (length frames.now) (count + 1) h)
-        judging.new.held.items) }
-    ensures refused { OnErr result (IsUnchanged judging.old judging.new) }
-{
-    let mut known = KnownBytes::new(alloc);
-    judge_with(
-        judging, alloc, bounds, &mut known, arrivals, frames, arrived, moment,
-    )
-}

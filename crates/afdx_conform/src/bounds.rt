@@ -5,7 +5,7 @@ use crate::limits::Limits;
 
 /// How its link's account is filled and charged, and which frame may be of which arrival.
 #[derive(Clone, Copy, Debug)]
-pub struct Bounds {
+pub(crate) struct Bounds {
     pub rates: Rates,
     pub limits: Limits,
 }

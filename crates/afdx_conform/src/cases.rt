@@ -17,7 +17,7 @@ use std::alloc::{AllocError, Global};
 /// Of each state, what stands next in it for an arrival of these bytes at this time, in ns.
 /// `is_open` says whether what the switch makes of the arrival may leave unseen. Fails only out of
 /// memory.
-pub fn cases_of(
+pub(crate) fn cases_of(
     alloc: Global,
     limits: &Limits,
     held: &[Held],

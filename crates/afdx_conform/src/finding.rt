@@ -31,14 +31,14 @@ pub enum Finding {
 /// What is known of an arrival whose event is over: why the rule refuses it, if it does so in each
 /// state, and whether a finding named it.
 #[derive(Clone, Copy, Debug, PartialEq, Eq)]
-pub struct Mark {
+pub(crate) struct Mark {
     pub reason: Option<Reason>,
     pub is_named: bool,
 }
 
 /// What the switch did with an arrival that leaves no state.
 #[derive(Clone, Copy, Debug, PartialEq, Eq)]
-pub enum Deviation {
+pub(crate) enum Deviation {
     /// It stopped it.
     Stopped,
     /// The next frame is its own, with this finding.

@@ -27,7 +27,7 @@ use std::alloc::{AllocError, Global};
 /// many of them the options left uncertain; and whether there were more states than are kept, from
 /// where on nothing is judged.
 #[derive(Debug, Drop)]
-pub struct Judging {
+pub(crate) struct Judging {
     pub held: Vec<Held>,
     pub marks: Vec<Mark>,
     pub uncertain: u64,
@@ -127,35 +127,4 @@ pub(crate) fn close_with(
         return Ok(Vec::new(alloc));
     }
     skip(judging, alloc, bounds, known, arrivals, frames, closed)
-}
-
-/// Judges the closing of the first `closed` frames: gives what is found, in its order. Fails only
-/// out of memory; then nothing has changed.
-pub fn judge_closing(
-    judging: &mut Judging,
-    alloc: Global,
-    bounds: &Bounds,
-    arrivals: &[Arrived],
-    frames: &[Frame],
-    closed: usize,
-) -> Result<Vec<Finding>, AllocError>
-    requires marks { length judging.old.marks.items ≤ length arrivals.now }
-    requires closed { closed ≤ length frames.now }
-    ensures defined { (z : Terms) (time : ℕ) (j : Judged) → AreBounds z bounds.now →
-        AreClosed time closed (map gone_of frames.now) → j.is_unsure ≡ false →
-        StandsFor bounds.now.rates frames.now arrivals.now j judging.old →
-        IfOk result (λ found.
-        StandsFor bounds.now.rates frames.now arrivals.now (closed_to z time j) judging.new
-        × AreFound (time + reach z.by) found.items j (closed_to z time j)) }
-    ensures marks { length judging.new.marks.items ≡ length judging.old.marks.items }
-    ensures uncertain { judging.new.uncertain ≡ judging.old.uncertain }
-    ensures within { (count : ℕ) →
-        All (λ h. IsWithin bounds.now.rates (length frames.now) count h)
-        judging.old.held.items →
-        All (λ h. IsWithin bounds.now.rates (length frames.now) count h)
-        judging.new.held.items }
-    ensures refused { OnErr result (judging.new ≡ judging.old) }
-{
-    let mut known = KnownBytes::new(alloc);
-    close_with(judging, alloc, bounds, &mut known, arrivals, frames, closed)
 }

@@ -29,7 +29,7 @@ use std::alloc::{AllocError, Global};
 /// When an arrival comes: so many ns after the one before it. `is_open` says whether what the
 /// switch makes of it may leave unseen.
 #[derive(Clone, Copy, Debug)]
-pub struct Moment {
+pub(crate) struct Moment {
     pub ns: u64,
     pub is_open: bool,
 }

@@ -15,7 +15,7 @@ use afdx_police::LinkRule;
 
 /// What is missing in an account at least, and at most, in millionths of a byte times a nanosecond.
 #[derive(Clone, Copy, Debug, PartialEq, Eq)]
-pub struct Levels {
+pub(crate) struct Levels {
     pub lo: u64,
     pub hi: u64,
 }
@@ -26,7 +26,7 @@ pub struct Levels {
 /// `full`. Between two moments at which it is asked it may be filled by `fast_slip` more, and by
 /// `slow_slip` less, than stamps say. A byte takes `byte_cost`.
 #[derive(Clone, Copy, Debug)]
-pub struct Rates {
+pub(crate) struct Rates {
     pub fastest: u64,
     pub slowest: u64,
     pub full: u64,

@@ -29,7 +29,7 @@ pub struct Frame {
 /// stamps together may be off by `reach` ns; a byte lasts `byte_ns` on the line; a clock's rate may
 /// be off by `drift` millionths.
 #[derive(Clone, Copy, Debug)]
-pub struct Limits {
+pub(crate) struct Limits {
     pub latency: u64,
     pub reach: u64,
     pub byte_ns: u64,

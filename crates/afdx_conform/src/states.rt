@@ -30,7 +30,7 @@ const FEW_STATES: usize = 16;
 
 /// What stands next in a state for an arrival that is accepted.
 #[derive(Clone, Copy, Debug, PartialEq, Eq)]
-pub enum NextFrame {
+pub(crate) enum NextFrame {
     /// A frame that may be what the switch made of it.
     Fits,
     /// Another frame.
@@ -44,7 +44,7 @@ pub enum NextFrame {
 /// A state: how many frames are explained, the account's levels at the last arrival, how many
 /// accepted arrivals wait for a frame.
 #[derive(Clone, Copy, Debug, PartialEq, Eq)]
-pub struct Held {
+pub(crate) struct Held {
     pub passed: usize,
     pub levels: Levels,
     pub waiting: u64,
@@ -181,7 +181,7 @@ impl Held {
 
 /// A state, and what stands next in it.
 #[derive(Clone, Copy, Debug, PartialEq, Eq)]
-pub struct Case {
+pub(crate) struct Case {
     pub held: Held,
     pub next: NextFrame,
 }
@@ -198,7 +198,7 @@ fn push_some(out: &mut Vec<Held>, held: Option<Held>) -> Result<(), AllocError>
 
 /// All states to which an arrival of this charge, in bytes, leads that comes so many ns after the
 /// one before. Fails only out of memory.
-pub fn lead_all(
+pub(crate) fn lead_all(
     alloc: Global,
     rates: &Rates,
     cases: &[Case],
@@ -232,7 +232,7 @@ pub fn lead_all(
 }
 
 /// Closes the first `passed` frames: leaves the states in which so many, or more, are explained.
-pub fn close(held: &mut Vec<Held>, passed: usize)
+pub(crate) fn close(held: &mut Vec<Held>, passed: usize)
     ensures left { (ys : List Gone) (time : ℕ) → AreClosed time passed ys →
         map (state_of ys) held.new.items
         ≡ kept (λ s. are_behind time s.rest) (map (state_of ys) held.old.items) }
@@ -357,7 +357,7 @@ fn thinned_in_order(alloc: Global, held: &[Held]) -> Result<Vec<Held>, AllocErro
 }
 
 /// Of these states those that no other outdoes. Fails only out of memory.
-pub fn thinned(alloc: Global, held: &[Held]) -> Result<Vec<Held>, AllocError>
+pub(crate) fn thinned(alloc: Global, held: &[Held]) -> Result<Vec<Held>, AllocError>
     ensures enough { (ys : List Gone) → IfOk result (λ out.
         AreEnough (map (state_of ys) held.now) (map (state_of ys) out.items)) }
     ensures defined { (ys : List Gone) → All (λ h. h.passed ≤ length ys) held.now →
@@ -373,33 +373,4 @@ pub fn thinned(alloc: Global, held: &[Held]) -> Result<Vec<Held>, AllocError>
     } else {
         thinned_in_order(alloc, held)
     }
-}
-
-/// The states after one more arrival, of this charge in bytes, so many ns after the one before: of
-/// those to which it leads the ones that no other outdoes. Fails only out of memory.
-pub fn came(
-    alloc: Global,
-    rates: &Rates,
-    cases: &[Case],
-    ns: u64,
-    charge: u64,
-) -> Result<Vec<Held>, AllocError>
-    requires cost { charge ≤ most_charge }
-    requires some { 0 < charge }
-    requires small { All (λ c. IsSmall rates.now c.held) cases.now }
-    ensures kept { (z : Terms) (x : Arrival) (ys : List Gone) (before : List Event) →
-        AreRates (link z) z.by rates.now →
-        charge ≡ charge_of z x →
-        ns ≡ x.time - last_time z.by (arrivals_came before) →
-        All (λ c. IsNext z x (drop c.held.passed ys) c.next) cases.now →
-        AreKept z ys before (map (λ c. state_of ys c.held) cases.now) →
-        IfOk result (λ out. AreKept z ys (Came x ∷ before) (map (state_of ys) out.items)) }
-    ensures front { IfOk result (λ out. AreFront out.items) }
-    ensures within { (link : Regulation) (by : By) (frames count : ℕ) →
-        AreRates link by rates.now →
-        All (λ c. IsCaseWithin rates.now frames count c) cases.now →
-        IfOk result (λ out. All (λ h. IsWithin rates.now frames (count + 1) h) out.items) }
-{
-    let led = lead_all(alloc, rates, cases, ns, charge)?;
-    thinned(alloc, led.as_slice())
 }

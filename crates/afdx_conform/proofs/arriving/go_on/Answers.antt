@@ -10,4 +10,5 @@ returns-clause-thinned c ys all =
 
 pub returns-clause-within : goal.returns-clause-within
 returns-clause-within c rates frames count all =
-    All-same (λ (h : Held). IsWithin rates frames count h) _ _ c.settle.ensures.held (c.in_ok-few.ensures.within rates frames count all)
+    All-same (λ (h : Held). IsWithin rates frames count h) _ _ c.settle.ensures.held
+    (c.in_ok-few.ensures.within rates frames count all)

@@ -23,9 +23,11 @@ returns-clause-defined c z last j b k at ns opens mark unc fault sure none s =
     let marks = c.in_ok-reserve.ensures.items in
     let held = c.in_ok-held.ensures.items ∙ c.as_slice.ensures.value in
     let len : c.len-from.result ≡ length c.args.judging.now.marks.items = search rules in
-    let none_copied = ap (λ (l : List Held). (led_by (λ s. states_at z (arrival_of c.args.arrived.now) (levels_then z s.levels last
+    let none_copied =
+    ap (λ (l : List Held). (led_by (λ s. states_at z (arrival_of c.args.arrived.now) (levels_then z s.levels last
     (arrival_of c.args.arrived.now)) s) (map (state_of (map gone_of c.args.frames.now)) l))) held ∙ none in
-    let none_judged = ap (λ (l : List State). (led_by (λ s. states_at z (arrival_of c.args.arrived.now) (levels_then z s.levels last
+    let none_judged =
+    ap (λ (l : List State). (led_by (λ s. states_at z (arrival_of c.args.arrived.now) (levels_then z s.levels last
     (arrival_of c.args.arrived.now)) s) l)) (sym s.states) ∙ none in
     let states = ap (λ (l : List Held). map (state_of (map gone_of c.args.frames.now)) l) held ∙ s.states in
     let whole = c.in_ok-outcome.ensures.defined z last j b (k.charged fault) ns opens none_copied in
@@ -36,41 +38,53 @@ returns-clause-defined c z last j b k at ns opens mark unc fault sure none s =
     ∙ ap (λ (q : Judged). with_last c.args.arrived.now.time c.in_ok-outcome.outcome.last q)
     (c.unexplained_all.ensures.found z c.args.arrived.now.time j b.limits
     (sym s.marks ∙ ap (λ (l : List Mark). marked_all c.args.arrivals.now l) (sym marks))) in
-    let answered = answered-none z (map arrival_of (drop (length c.args.judging.now.marks.items + 1) c.args.arrivals.now)) last
+    let answered =
+    answered-none z (map arrival_of (drop (length c.args.judging.now.marks.items + 1) c.args.arrivals.now)) last
     (arrival_of c.args.arrived.now) j none_judged
-    ∙ ap (λ (l : List State). deviates z (map arrival_of (drop (length c.args.judging.now.marks.items + 1) c.args.arrivals.now))
+    ∙ ap
+    (λ (l : List State). deviates z
+    (map arrival_of (drop (length c.args.judging.now.marks.items + 1) c.args.arrivals.now))
     (arrival_of c.args.arrived.now) (aged z last (arrival_of c.args.arrived.now) l) (front_rest l) j) (sym states)
     ∙ ap (λ (n : ℕ). deviates z (map arrival_of (drop (n + 1) c.args.arrivals.now)) (arrival_of c.args.arrived.now)
-    (aged z last (arrival_of c.args.arrived.now) (map (state_of (map gone_of c.args.frames.now)) c.in_ok-held.held.items)) (front_rest
+    (aged z last (arrival_of c.args.arrived.now) (map (state_of (map gone_of c.args.frames.now))
+    c.in_ok-held.held.items)) (front_rest
     (map (state_of (map gone_of c.args.frames.now)) c.in_ok-held.held.items)) j)
     (sym len)
     ∙ sym whole
-    ∙ ap (λ (q : Judged). with_states (map (state_of (map gone_of c.args.frames.now)) c.in_ok-outcome.outcome.held.items) q)
+    ∙ ap
+    (λ (q : Judged). with_states (map (state_of (map gone_of c.args.frames.now))
+    c.in_ok-outcome.outcome.held.items) q)
     (sym told_is) in
     let within = c.in_ok-outcome.ensures.within (link z) z.by (length c.args.judging.now.marks.items) b.rates
-    (All-same (λ (h : Held). IsWithin c.args.bounds.now.rates (length c.args.frames.now) (length c.args.judging.now.marks.items) h) _ _
+    (All-same (λ (h : Held). IsWithin c.args.bounds.now.rates (length c.args.frames.now)
+    (length c.args.judging.now.marks.items) h) _ _
     held
     s.within) in
     let within_slice = All-same (λ (h : Held). IsWithin c.args.bounds.now.rates (length c.args.frames.now)
     (length c.args.judging.now.marks.items + 1) h) _ _ c.as_slice-2.ensures.value within in
     let thin = ap (λ (l : List Held). map (state_of (map gone_of c.args.frames.now)) l) c.settle.ensures.held
     ∙ c.in_ok-few.ensures.defined (map gone_of c.args.frames.now)
-    (within-frames c.args.bounds.now.rates c.args.frames.now (length c.args.judging.now.marks.items + 1) c.as_slice-2.result.now
+    (within-frames c.args.bounds.now.rates c.args.frames.now (length c.args.judging.now.marks.items + 1)
+    c.as_slice-2.result.now
     within_slice)
-    ∙ ap (λ (l : List Held). thinned_onto [] (map (state_of (map gone_of c.args.frames.now)) l)) c.as_slice-2.ensures.value in
+    ∙ ap (λ (l : List Held). thinned_onto [] (map (state_of (map gone_of c.args.frames.now)) l))
+    c.as_slice-2.ensures.value in
     let size = c.unexplained_all.ensures.length ∙ ap (λ (l : List Mark). length l) marks in
     let pushed = c.settle.ensures.marks ∙ c.push_reserved.ensures.items in
     stands-arrival c.args.bounds.now.rates c.args.frames.now c.args.arrivals.now z (map arrival_of (drop (length
     c.args.judging.now.marks.items + 1) c.args.arrivals.now)) last c.args.arrived.now j
-    c.args.judging.now c.settle.new.judging s c.requires.place at c.unexplained_all.new.marks.items c.in_ok-outcome.outcome.held.items
-    c.add_last.new.found.items c.args.tested.reason c.args.tested.is_uncertain sure (sym k.fault ∙ fault) answered thin mark unc
+    c.args.judging.now c.settle.new.judging s c.requires.place at c.unexplained_all.new.marks.items
+    c.in_ok-outcome.outcome.held.items
+    c.add_last.new.found.items c.args.tested.reason c.args.tested.is_uncertain sure (sym k.fault ∙ fault) answered
+    thin mark unc
     size pushed c.settle.ensures.uncertain
     (c.settle.ensures.unsure ∙ ap (λ (l : List Held). nat_lt most_states (length l)) (sym c.settle.ensures.held))
     (more-marks c.args.bounds.now.rates (length c.args.frames.now) (length c.args.judging.now.marks.items)
     c.unexplained_all.new.marks.items c.settle.new.judging.marks.items _ c.settle.new.judging.held.items pushed size
     (All-same (λ (h : Held). IsWithin c.args.bounds.now.rates (length c.args.frames.now)
     (length c.args.judging.now.marks.items + 1) h) _ _ c.settle.ensures.held
-    (c.in_ok-few.ensures.within c.args.bounds.now.rates (length c.args.frames.now) (length c.args.judging.now.marks.items + 1)
+    (c.in_ok-few.ensures.within c.args.bounds.now.rates (length c.args.frames.now)
+    (length c.args.judging.now.marks.items + 1)
     within_slice)))
 
 pub returns-clause-marks : goal.returns-clause-marks
@@ -88,21 +102,25 @@ returns-clause-counted c =
 
 pub returns-clause-within : goal.returns-clause-within
 returns-clause-within c l by count r all =
-    All-same (λ (h : Held). IsWithin c.args.bounds.now.rates (length c.args.frames.now) (count + 1) h) _ _ c.settle.ensures.held
+    All-same (λ (h : Held). IsWithin c.args.bounds.now.rates (length c.args.frames.now) (count + 1) h) _ _
+    c.settle.ensures.held
     (c.in_ok-few.ensures.within c.args.bounds.now.rates (length c.args.frames.now) (count + 1)
-    (All-same (λ (h : Held). IsWithin c.args.bounds.now.rates (length c.args.frames.now) (count + 1) h) _ _ c.as_slice-2.ensures.value
+    (All-same (λ (h : Held). IsWithin c.args.bounds.now.rates (length c.args.frames.now) (count + 1) h) _ _
+    c.as_slice-2.ensures.value
     (c.in_ok-outcome.ensures.within l by count r
     (All-same (λ (h : Held). IsWithin c.args.bounds.now.rates (length c.args.frames.now) count h) _ _
     (c.in_ok-held.ensures.items ∙ c.as_slice.ensures.value) all))))
 
 pub deviate-requires-clause-each : goal.deviate-requires-clause-each
 deviate-requires-clause-each c =
-    each-slice c.args.known.now c.args.arrivals.now c.in_ok-all.all.items c.as_slice-each.result.now c.as_slice-each.ensures.value
+    each-slice c.args.known.now c.args.arrivals.now c.in_ok-all.all.items c.as_slice-each.result.now
+    c.as_slice-each.ensures.value
     c.in_ok-all.ensures
 
 pub unexplained_all-requires-clause-each : goal.unexplained_all-requires-clause-each
 unexplained_all-requires-clause-each c =
-    each-slice c.args.known.now c.args.arrivals.now c.in_ok-all.all.items c.as_slice-each.result.now c.as_slice-each.ensures.value
+    each-slice c.args.known.now c.args.arrivals.now c.in_ok-all.all.items c.as_slice-each.result.now
+    c.as_slice-each.ensures.value
     c.in_ok-all.ensures
 
 pub unexplained_all-requires-clause-settled : goal.unexplained_all-requires-clause-settled

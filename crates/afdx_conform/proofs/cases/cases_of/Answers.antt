@@ -14,7 +14,8 @@ no-held = record { passed = 0; levels = record { lo = 0; hi = 0 }; waiting = 0 }
 pub loop-state-init : goal.loop-state-init
 loop-state-init c = (
   ap (λ (l : List Case). map (λ (d : Case). d.held) l) c.new-out.ensures.items,
-  λ z x a at of opens. subst (λ (l : List Case). All (λ d. IsNext z x (drop d.held.passed (map gone_of c.args.frames.now)) d.next) l)
+  λ z x a at of opens. subst
+      (λ (l : List Case). All (λ d. IsNext z x (drop d.held.passed (map gone_of c.args.frames.now)) d.next) l)
       (sym c.new-out.ensures.items) (λ i d lt. absurd (omega (arith, lt))),
   λ rates count all. subst (λ (l : List Case). All (λ d. IsCaseWithin rates (length c.args.frames.now) count d) l)
       (sym c.new-out.ensures.items) (All-nil (λ (d : Case). IsCaseWithin rates (length c.args.frames.now) count d)),
@@ -29,15 +30,21 @@ loop-state-preserved c =
           ∙ map-append (λ (d : Case). d.held) c.loop-state.out.items (case ∷ [])
           ∙ ap (λ (l : List Held). l ++ (held ∷ [])) c.loop-state.invariant.0
           ∙ sym (take_more c.args.held.now c.loop-state.state-index no-held c.loop-state-test.true),
-      λ z x a at of opens. subst (λ (l : List Case). All (λ d. IsNext z x (drop d.held.passed (map gone_of c.args.frames.now)) d.next) l)
+      λ z x a at of opens. subst
+          (λ (l : List Case). All (λ d. IsNext z x (drop d.held.passed (map gone_of c.args.frames.now)) d.next) l)
           (sym c.in_ok-push.ensures.items)
-          (All-push (λ (d : Case). IsNext z x (drop d.held.passed (map gone_of c.args.frames.now)) d.next) c.loop-state.out.items case
+          (All-push (λ (d : Case). IsNext z x (drop d.held.passed (map gone_of c.args.frames.now)) d.next)
+          c.loop-state.out.items case
           (c.loop-state.invariant.1 z x a at of opens) (c.next-next.ensures.defined z x a at of opens)),
       λ rates count all. subst (λ (l : List Case). All (λ d. IsCaseWithin rates (length c.args.frames.now) count d) l)
           (sym c.in_ok-push.ensures.items)
           (All-push (λ (d : Case). IsCaseWithin rates (length c.args.frames.now) count d) c.loop-state.out.items case
           (c.loop-state.invariant.2 rates count all)
-          (record { held = all c.loop-state.state-index no-held c.loop-state-test.true; left = c.next-next.ensures.left })),
+          (record {
+            held = all c.loop-state.state-index no-held c.loop-state-test.true;
+            left =
+                c.next-next.ensures.left;
+          })),
     )
 
 pub returns-clause-held : goal.returns-clause-held

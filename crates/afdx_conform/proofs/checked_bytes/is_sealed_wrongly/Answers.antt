@@ -20,7 +20,8 @@ returns-then-eq c =
     let last : Decides c.eq-then-eq.result (c.split_at.result.1.now ≡ c.as_slice.result.now) =
     slice_eq-Decides Decides-eqb _ _ _ c.eq-then-eq.ensures in
     let tail : c.as_slice.result.now ≡ to_le_bytes w32 (0xffff_ffff - sequence_of message) =
-    c.as_slice.ensures ∙ c.to_le_bytes.ensures ∙ ap (λ (n : ℕ). to_le_bytes w32 (0xffff_ffff - n)) c.fcs.ensures.computed in
+    c.as_slice.ensures ∙ c.to_le_bytes.ensures ∙ ap (λ (n : ℕ). to_le_bytes w32 (0xffff_ffff - n))
+    c.fcs.ensures.computed in
     joined c.args.bytes.now message (to_le_bytes w32 (0xffff_ffff - sequence_of message)) c.eq-then-eq.result (
       λ yes. (sym c.split_at.ensures.front ∙ front.0 c.if-eq.true, sym c.split_at.ensures.back ∙ last.0 yes ∙ tail),
       λ parts. last.1 (c.split_at.ensures.back ∙ parts.1 ∙ sym tail),

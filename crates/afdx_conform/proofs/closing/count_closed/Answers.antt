@@ -8,8 +8,10 @@ loop-place-init c k f le lt is = absurd (omega (arith, le, lt))
 
 pub loop-place-preserved : goal.loop-place-preserved
 loop-place-preserved c =
-    let is : c.index-frames-place.result ≡ get_or c.args.frames.now c.loop-place.place c.index-frames-place.result = search rules in
-    closed-more c.args.frames.now c.args.from c.loop-place.place c.args.time c.index-frames-place.result is c.loop-place-test.true
+    let is : c.index-frames-place.result ≡ get_or c.args.frames.now c.loop-place.place c.index-frames-place.result =
+    search rules in
+    closed-more c.args.frames.now c.args.from c.loop-place.place c.args.time c.index-frames-place.result is
+    c.loop-place-test.true
     (not-later c.args.time c.index-frames-place.result.time c.is_later.result c.is_later.ensures c.if-is_later.false)
     c.loop-place.invariant
 
@@ -18,8 +20,10 @@ returns-then-is_later-clause-closed c = c.loop-place.invariant
 
 pub returns-then-is_later-clause-behind : goal.returns-then-is_later-clause-behind
 returns-then-is_later-clause-behind c f lt at =
-    let is : c.index-frames-place.result ≡ get_or c.args.frames.now c.loop-place.place c.index-frames-place.result = search rules in
-    subst (λ (g : Frame). c.args.time < g.time) (same-frame c.args.frames.now c.loop-place.place f c.index-frames-place.result lt at is)
+    let is : c.index-frames-place.result ≡ get_or c.args.frames.now c.loop-place.place c.index-frames-place.result =
+    search rules in
+    subst (λ (g : Frame). c.args.time < g.time) (same-frame c.args.frames.now c.loop-place.place f
+    c.index-frames-place.result lt at is)
     (c.is_later.ensures.0 c.if-is_later.true)
 
 pub returns-clause-closed : goal.returns-clause-closed

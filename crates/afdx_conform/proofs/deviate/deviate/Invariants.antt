@@ -17,7 +17,8 @@ use Rattle.afdx_conform.proofs.deviate.deviate.Given as goal
 
 abbrev pub invariant-loop-front : goal.invariant-loop-front
 invariant-loop-front l = record {
-  bounds : (count : ℕ) × (count < most_held) × All (λ h. IsWithin l.bounds.rates (length l.frames) count h) l.held.items;
+  bounds : (count : ℕ) × (count < most_held) × All (λ h. IsWithin l.bounds.rates (length l.frames) count h)
+      l.held.items;
   inside : (l.first ≤ l.front) × (l.front ≤ length l.frames);
   within : (link : Regulation) (by : Leeway) (count : ℕ) → AreRates link by l.bounds.rates
       → All (λ h. IsWithin l.bounds.rates (length l.frames) count h) l.fn.held.items

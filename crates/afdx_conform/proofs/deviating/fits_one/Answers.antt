@@ -58,6 +58,7 @@ returns-then-place-arrivals c z a =
 pub returns : goal.returns
 returns c z a =
     let inv = c.loop-place.invariant in
-    let past : length c.args.places.now ≤ c.loop-place.place-index = (let h = c.loop-place-test.false in omega (arith, h)) in
+    let past : length c.args.places.now ≤ c.loop-place.place-index =
+    (let h = c.loop-place-test.false in omega (arith, h)) in
     sym (inv.2 z a ∙ fit-nowhere z c.args.limits.now c.args.frame.now a c.args.arrivals.now inv.0
     (drop c.loop-place.place-index c.args.places.now) (drop_all c.loop-place.place-index c.args.places.now past) inv.1)

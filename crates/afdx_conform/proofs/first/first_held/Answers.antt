@@ -31,8 +31,10 @@ loop-place-init c =
 pub loop-place-preserved : goal.loop-place-preserved
 loop-place-preserved c = record {
   defined = λ z b by.
-      let is : c.index-frames-place.result ≡ get_or c.args.frames.now c.loop-place.place c.index-frames-place.result = search rules in
-      first-more z c.first_levels-levels.result (map gone_of c.args.frames.now) c.loop-place.out.items c.loop-place.place
+      let is : c.index-frames-place.result ≡ get_or c.args.frames.now c.loop-place.place c.index-frames-place.result =
+      search rules in
+      first-more z c.first_levels-levels.result (map gone_of c.args.frames.now) c.loop-place.out.items
+      c.loop-place.place
       (gone_of c.index-frames-place.result) (c.loop-place.invariant.defined z b by)
       (gone-here c.args.frames.now c.loop-place.place c.index-frames-place.result c.loop-place-test.true is) _
       (sym (c.is_begun.ensures z b.limits by) ∙ c.if-is_begun.true) c.in_ok-push.ensures.items;
@@ -50,7 +52,8 @@ loop-place-preserved c = record {
 
 pub returns-else-is_begun-clause-defined : goal.returns-else-is_begun-clause-defined
 returns-else-is_begun-clause-defined c z b by =
-    let is : c.index-frames-place.result ≡ get_or c.args.frames.now c.loop-place.place c.index-frames-place.result = search rules in
+    let is : c.index-frames-place.result ≡ get_or c.args.frames.now c.loop-place.place c.index-frames-place.result =
+    search rules in
     first-stop z c.first_levels-levels.result (map gone_of c.args.frames.now) c.loop-place.out.items c.loop-place.place
     (gone_of c.index-frames-place.result) (c.loop-place.invariant.defined z b by)
     (gone-here c.args.frames.now c.loop-place.place c.index-frames-place.result c.loop-place-test.true is)

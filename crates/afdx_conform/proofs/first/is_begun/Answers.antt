@@ -9,4 +9,5 @@ returns-in-None c z a by = begun-none z (gone_of c.args.frame.now) (ap (λ (b : 
 
 pub returns-in-Some : goal.returns-in-Some
 returns-in-Some c z a by =
-    begun-some z (gone_of c.args.frame.now) c.args.limits.now c.in-Some.start a (ap (λ (b : Leeway). b.start) by ∙ c.in-Some.is)
+    begun-some z (gone_of c.args.frame.now) c.args.limits.now c.in-Some.start a (ap (λ (b : Leeway). b.start) by
+    ∙ c.in-Some.is)

@@ -19,12 +19,16 @@ returns-then-is_one_passed-clause-defined c z time j b closed sure s =
     let nothing = ap (λ (l : List Finding). told (time + reach z.by) l
     (marked_all c.args.arrivals.now c.args.judging.now.marks.items) j) c.new.ensures.items
     ∙ told-none (time + reach z.by) (marked_all c.args.arrivals.now c.args.judging.now.marks.items) j (sym s.marks) in
-    let whole = sym (close-kept z time c.args.closed (map gone_of c.args.frames.now) c.args.judging.now.held.items j closed s.states sure
+    let whole = sym (close-kept z time c.args.closed (map gone_of c.args.frames.now) c.args.judging.now.held.items j
+    closed s.states sure
     c.close.new.held.items any (c.close.ensures.left (map gone_of c.args.frames.now) time closed))
-    ∙ ap (λ (k : Judged). with_states (map (state_of (map gone_of c.args.frames.now)) c.close.new.held.items) k) (sym nothing) in
-    stands-after c.args.bounds.now.rates c.args.frames.now c.args.arrivals.now j (closed_to z time j) c.args.judging.now _
+    ∙ ap (λ (k : Judged). with_states (map (state_of (map gone_of c.args.frames.now)) c.close.new.held.items) k)
+    (sym nothing) in
+    stands-after c.args.bounds.now.rates c.args.frames.now c.args.arrivals.now j (closed_to z time j)
+    c.args.judging.now _
     c.new.result.items (time + reach z.by) s whole refl refl
-    (c.close.ensures.within c.args.bounds.now.rates (length c.args.frames.now) (length c.args.judging.now.marks.items) s.within)
+    (c.close.ensures.within c.args.bounds.now.rates (length c.args.frames.now) (length c.args.judging.now.marks.items)
+    s.within)
     refl
 
 pub returns-clause-defined : goal.returns-clause-defined

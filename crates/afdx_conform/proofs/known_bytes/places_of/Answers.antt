@@ -11,7 +11,8 @@ pub loop-place-preserved : goal.loop-place-preserved
 loop-place-preserved c =
     let lt = c.loop-place-test.true in
     let le : c.loop-place.place ≤ length c.args.arrivals.now = omega (arith, lt) in
-    let is : c.index-arrivals-place.result ≡ get_or c.args.arrivals.now c.loop-place.place c.index-arrivals-place.result = search rules in
+    let is : c.index-arrivals-place.result ≡ get_or c.args.arrivals.now c.loop-place.place
+    c.index-arrivals-place.result = search rules in
     let here = get_or c.args.arrivals.now c.loop-place.place c.index-arrivals-place.result in
     let same : here ≡ get_or c.args.arrivals.now c.loop-place.place here =
     ap (λ (a : Arrived). get_or c.args.arrivals.now c.loop-place.place a) is in

@@ -25,20 +25,25 @@ loop-state-init c = (
 pub loop-state-preserved : goal.loop-state-preserved
 loop-state-preserved c = (
   λ z ys last r j ns near must.
-      let moved : c.later-levels.result ≡ levels_then z (get_or c.args.held.now c.loop-state.state-index no-held).levels last
+      let moved : c.later-levels.result ≡ levels_then z (get_or c.args.held.now c.loop-state.state-index
+      no-held).levels last
       (arrival_of c.args.arrived.now) =
       c.later-levels.ensures.moved (link z) z.by r
       ∙ ap (λ (n : ℕ). later (link z) z.by n (get_or c.args.held.now c.loop-state.state-index no-held).levels) ns in
       let passes = subst (λ (k : ℕ). IsTrue (has_to_pass (link z) z.by k c.later-levels.result)) (sym j.charge)
-      (subst (λ (v : Levels). IsTrue (has_to_pass (link z) z.by (charge z (arrival_of c.args.arrived.now)) v)) (sym moved)
+      (subst (λ (v : Levels). IsTrue (has_to_pass (link z) z.by (charge z (arrival_of c.args.arrived.now)) v))
+      (sym moved)
       (must c.loop-state.state-index no-held c.loop-state-test.true)) in
       let taken = c.charged_with_room-levels.ensures.moved (link z) z.by r
-      (c.later-levels.ensures.near (link z) z.by r (near c.loop-state.state-index no-held c.loop-state-test.true)) passes
+      (c.later-levels.ensures.near (link z) z.by r (near c.loop-state.state-index no-held c.loop-state-test.true))
+      passes
       ∙ ap (λ (k : ℕ). charged (link z) z.by k c.later-levels.result) j.charge
       ∙ ap (λ (v : Levels). charged (link z) z.by (charge z (arrival_of c.args.arrived.now)) v) moved in
       ap (λ (l : List Held). map (state_of ys) l) c.in_ok-push.ensures.items
       ∙ map-append (state_of ys) c.loop-state.out.items _
-      ∙ ap (λ (l : List State). l ++ (state_with (drop (get_or c.args.held.now c.loop-state.state-index no-held).passed ys)
+      ∙ ap
+      (λ (l : List State). l
+      ++ (state_with (drop (get_or c.args.held.now c.loop-state.state-index no-held).passed ys)
       c.charged_with_room-levels.result (get_or c.args.held.now c.loop-state.state-index no-held).waiting ∷ []))
       (c.loop-state.invariant.0 z ys last r j ns near must)
       ∙ ap (λ (v : Levels). as_accepted z (arrival_of c.args.arrived.now)

@@ -17,6 +17,7 @@ invariant-loop-state l =
     l.ns ≡ l.arrived.time - last → All (λ h. AreNear l.rates h.levels) l.held →
     HaveToPass z last (arrival_of l.arrived) l.held →
     map (state_of ys) l.out.items
-    ≡ as_accepted z (arrival_of l.arrived) (aged z last (arrival_of l.arrived) (map (state_of ys) (take l.state-index l.held))))
+    ≡ as_accepted z (arrival_of l.arrived)
+    (aged z last (arrival_of l.arrived) (map (state_of ys) (take l.state-index l.held))))
     × ((link : Regulation) (by : Leeway) (frames count : ℕ) → AreRates link by l.rates
     → All (λ h. IsWithin l.rates frames count h) l.held → All (λ h. IsWithin l.rates frames count h) l.out.items)

@@ -16,11 +16,13 @@ pub returns-in-len1-clause-defined : goal.returns-in-len1-clause-defined
 returns-in-len1-clause-defined c z last b j ns opens =
     some-on c.led_one.result (λ h e. sym (led-alone (map gone_of c.args.frames.now)
     (λ s. states_at z (arrival_of c.args.arrived.now) (levels_then z s.levels last (arrival_of c.args.arrived.now)) s)
-    c.args.held.now (get_or c.args.held.now 0 no-held) (alone c.args.held.now no-held c.in-len1.len_at_least c.in-len1.len_below) ∙ e))
+    c.args.held.now (get_or c.args.held.now 0 no-held) (alone c.args.held.now no-held c.in-len1.len_at_least
+    c.in-len1.len_below) ∙ e))
     (c.led_one.ensures.defined z last b j ns opens)
 
 pub returns-in-len1-clause-within : goal.returns-in-len1-clause-within
 returns-in-len1-clause-within c link by count r all =
-    some-on c.led_one.result (λ h w. All-push (λ (k : Held). IsWithin c.args.bounds.now.rates (length c.args.frames.now) (count + 1) k)
+    some-on c.led_one.result
+    (λ h w. All-push (λ (k : Held). IsWithin c.args.bounds.now.rates (length c.args.frames.now) (count + 1) k)
     [] h (All-nil (λ (k : Held). IsWithin c.args.bounds.now.rates (length c.args.frames.now) (count + 1) k)) w)
     (c.led_one.ensures.within link by count r (all 0 no-held c.in-len1.len_at_least))

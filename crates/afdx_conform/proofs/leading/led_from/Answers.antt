@@ -14,7 +14,8 @@ use Rattle.afdx_conform.proofs.leading.led_from.Goals as goal
 pub lead_all-requires-clause-small : goal.lead_all-requires-clause-small
 lead_all-requires-clause-small c =
     All-same (λ (d : Case). IsSmall c.args.bounds.now.rates d.held) _ _ c.as_slice.ensures.value
-    (of-cases (λ h. IsSmall c.args.bounds.now.rates h) c.in_ok-cases.cases.items c.args.held.now c.in_ok-cases.ensures.held c.requires)
+    (of-cases (λ h. IsSmall c.args.bounds.now.rates h) c.in_ok-cases.cases.items c.args.held.now
+    c.in_ok-cases.ensures.held c.requires)
 
 pub returns-clause-defined : goal.returns-clause-defined
 returns-clause-defined c z last b j ns opens =
@@ -24,13 +25,16 @@ returns-clause-defined c z last b j ns opens =
     (ap (λ (l : List Case). map (λ d. state_of (map gone_of c.args.frames.now) d.held) l) c.as_slice.ensures.value
     ∙ held-states (map gone_of c.args.frames.now) c.in_ok-cases.cases.items
     ∙ ap (λ (l : List Held). map (state_of (map gone_of c.args.frames.now)) l) c.in_ok-cases.ensures.held))
-    (c.lead_all.ensures.defined z (arrival_of c.args.arrived.now) (map gone_of c.args.frames.now) last b.rates j.charge ns
-    (All-same (λ (d : Case). IsNext z (arrival_of c.args.arrived.now) (drop d.held.passed (map gone_of c.args.frames.now)) d.next) _ _
+    (c.lead_all.ensures.defined z (arrival_of c.args.arrived.now) (map gone_of c.args.frames.now) last b.rates
+    j.charge ns
+    (All-same (λ (d : Case). IsNext z (arrival_of c.args.arrived.now)
+    (drop d.held.passed (map gone_of c.args.frames.now)) d.next) _ _
     c.as_slice.ensures.value
     (c.in_ok-cases.ensures.next z (arrival_of c.args.arrived.now) b.limits refl refl opens)))
 
 pub returns-clause-within : goal.returns-clause-within
 returns-clause-within c link by count r all =
     c.lead_all.ensures.within link by (length c.args.frames.now) count r
-    (All-same (λ (d : Case). IsCaseWithin c.args.bounds.now.rates (length c.args.frames.now) count d) _ _ c.as_slice.ensures.value
+    (All-same (λ (d : Case). IsCaseWithin c.args.bounds.now.rates (length c.args.frames.now) count d) _ _
+    c.as_slice.ensures.value
     (c.in_ok-cases.ensures.within c.args.bounds.now.rates count all))

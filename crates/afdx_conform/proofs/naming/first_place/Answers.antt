@@ -33,10 +33,12 @@ returns-in-Some-clause-named c z a =
     let inv = c.loop-place.invariant in
     let k = here (may_fit c.args.limits.now c.args.frame.now) c.args.arrivals.now inv.0 c.args.places.now
     c.loop-place.place-index c.loop-place-test.true inv.1 in
-    let lt : (get_or c.args.places.now c.loop-place.place-index 0) < length c.args.marks.now = (let h = c.if-place-marks.false
+    let lt : (get_or c.args.places.now c.loop-place.place-index 0) < length c.args.marks.now =
+    (let h = c.if-place-marks.false
     in omega (arith, h)) in
     let there = c.index-arrivals-place.is in
-    from-here z (gone_of c.args.frame.now) c.args.arrivals.now c.args.marks.now (get_or c.args.places.now c.loop-place.place-index 0)
+    from-here z (gone_of c.args.frame.now) c.args.arrivals.now c.args.marks.now
+    (get_or c.args.places.now c.loop-place.place-index 0)
     c.index-arrivals-place.result no-mark c.in-Some.reason lt c.requires.marks there
     (sym (c.names_it.ensures z a) ∙ c.in-Some.is)
     (named-reached z c.args.limits.now c.args.frame.now a c.args.arrivals.now c.args.marks.now inv.0
@@ -49,9 +51,11 @@ loop-place-preserved c =
     let inv = c.loop-place.invariant in
     let k = here (may_fit c.args.limits.now c.args.frame.now) c.args.arrivals.now inv.0 c.args.places.now
     c.loop-place.place-index c.loop-place-test.true inv.1 in
-    let lt : (get_or c.args.places.now c.loop-place.place-index 0) < length c.args.marks.now = (let h = c.if-place-marks.false
+    let lt : (get_or c.args.places.now c.loop-place.place-index 0) < length c.args.marks.now =
+    (let h = c.if-place-marks.false
     in omega (arith, h)) in
-    let there : c.index-arrivals-place.result ≡ get_or c.args.arrivals.now (get_or c.args.places.now c.loop-place.place-index
+    let there : c.index-arrivals-place.result ≡ get_or c.args.arrivals.now
+    (get_or c.args.places.now c.loop-place.place-index
     0) c.index-arrivals-place.result = search rules in (
       (get_or c.args.places.now c.loop-place.place-index 0) + 1,
       k.behind,
@@ -68,7 +72,9 @@ loop-place-preserved c =
 pub returns-clause-named : goal.returns-clause-named
 returns-clause-named c z a =
     let inv = c.loop-place.invariant in
-    let past : length c.args.places.now ≤ c.loop-place.place-index = (let h = c.loop-place-test.false in omega (arith, h)) in
+    let past : length c.args.places.now ≤ c.loop-place.place-index =
+    (let h = c.loop-place-test.false in omega (arith, h)) in
     named-nowhere z c.args.limits.now c.args.frame.now a c.args.arrivals.now c.args.marks.now inv.0
-    (drop c.loop-place.place-index c.args.places.now) (drop_all c.loop-place.place-index c.args.places.now past) c.requires.marks
+    (drop c.loop-place.place-index c.args.places.now) (drop_all c.loop-place.place-index c.args.places.now past)
+    c.requires.marks
     inv.1 (inv.2 z a)

@@ -17,8 +17,10 @@ returns-in-Some-clause-finding c z a =
     named-finding z (gone_of c.args.frame.now) c.args.arrivals.now c.args.marks.now.items c.in-Some.place
     c.index-arrivals-place.result c.in-Some.reason
     (Strange c.args.frame.now.number
-    (strangeness z (marked_all c.args.arrivals.now c.args.marks.now.items) (gone_of c.args.frame.now))) lt c.requires.marks
-    (subst (λ (l : List Mark). IsNamedAt z (gone_of c.args.frame.now) (marked_all c.args.arrivals.now l) c.in-Some.place c.in-Some.reason)
+    (strangeness z (marked_all c.args.arrivals.now c.args.marks.now.items) (gone_of c.args.frame.now))) lt
+    c.requires.marks
+    (subst (λ (l : List Mark). IsNamedAt z (gone_of c.args.frame.now) (marked_all c.args.arrivals.now l)
+    c.in-Some.place c.in-Some.reason)
     c.as_slice.ensures.value (c.in-Some.ensures.named z a))
 
 pub returns-in-Some-clause-named : goal.returns-in-Some-clause-named
@@ -26,7 +28,8 @@ returns-in-Some-clause-named c z a =
     let lt : c.in-Some.place < length c.args.marks.now.items = search rules in
     named-marks z (gone_of c.args.frame.now) c.args.arrivals.now c.args.marks.now.items c.in-Some.place
     c.index-arrivals-place.result c.in-Some.reason lt c.requires.marks
-    (subst (λ (l : List Mark). IsNamedAt z (gone_of c.args.frame.now) (marked_all c.args.arrivals.now l) c.in-Some.place c.in-Some.reason)
+    (subst (λ (l : List Mark). IsNamedAt z (gone_of c.args.frame.now) (marked_all c.args.arrivals.now l)
+    c.in-Some.place c.in-Some.reason)
     c.as_slice.ensures.value (c.in-Some.ensures.named z a))
 
 pub first_place-requires-clause-places : goal.first_place-requires-clause-places

@@ -16,7 +16,8 @@ use Rattle.afdx_conform.proofs.naming.unexplained_all.Goals as goal
 
 pub loop-frame-init : goal.loop-frame-init
 loop-frame-init c = record {
-  same = λ z time j a e. ap (λ (l : List Finding). told time l (marked_all c.args.arrivals.now c.args.marks.now.items) j)
+  same = λ z time j a e. ap (λ (l : List Finding). told time l (marked_all c.args.arrivals.now c.args.marks.now.items)
+      j)
       c.requires.none
       ∙ told-none time (marked_all c.args.arrivals.now c.args.marks.now.items) j e
       ∙ sym (all-none z time j);
@@ -39,11 +40,14 @@ loop-frame-preserved c =
     c.as_slice-judged.ensures.value
     c.settle-gaps.ensures.settled in record {
       same = λ z time j a e.
-          let is : c.frame-item.result ≡ get_or c.args.frames.now c.loop-frame.frame-index c.frame-item.result = search rules in
-          ap (λ (l : List Finding). told time l (marked_all c.args.arrivals.now c.unexplained-finding.new.marks.items) j)
+          let is : c.frame-item.result ≡ get_or c.args.frames.now c.loop-frame.frame-index c.frame-item.result =
+          search rules in
+          ap (λ (l : List Finding). told time l (marked_all c.args.arrivals.now c.unexplained-finding.new.marks.items)
+          j)
           c.push_reserved.ensures.items
           ∙ told-unexplained z time c.loop-frame.found.items c.unexplained-finding.result
-          (marked_all c.args.arrivals.now c.loop-frame.marks.items) (marked_all c.args.arrivals.now c.unexplained-finding.new.marks.items)
+          (marked_all c.args.arrivals.now c.loop-frame.marks.items)
+          (marked_all c.args.arrivals.now c.unexplained-finding.new.marks.items)
           (gone_of c.frame-item.result) j
           (c.unexplained-finding.ensures.finding z a) (c.unexplained-finding.ensures.named z a)
           ∙ ap (λ (k : Judged). unexplained z time (gone_of c.frame-item.result) k) (inv.same z time j a e)
@@ -51,7 +55,8 @@ loop-frame-preserved c =
           (gone_of c.frame-item.result) j)
           ∙ ap (λ (l : List Gone). unexplained_all z time l j)
           (ap (λ (f : Frame). map gone_of (take c.loop-frame.frame-index c.args.frames.now) ++ (gone_of f ∷ [])) is
-          ∙ sym (ap (λ (l : List Frame). map gone_of l) (take_more c.args.frames.now c.loop-frame.frame-index c.frame-item.result
+          ∙ sym (ap (λ (l : List Frame). map gone_of l) (take_more c.args.frames.now c.loop-frame.frame-index
+          c.frame-item.result
           c.loop-frame-test.true)
           ∙ map-append gone_of (take c.loop-frame.frame-index c.args.frames.now)
           (get_or c.args.frames.now c.loop-frame.frame-index c.frame-item.result ∷ [])));

@@ -8,7 +8,8 @@ use Rattle.afdx_conform.proofs.naming.unexplained_all.Given as goal
 
 abbrev pub invariant-loop-frame : goal.invariant-loop-frame
 invariant-loop-frame l = record {
-  same : (z : Terms) (time : ℕ) (j : Judged) → AreLimits z l.limits → j.arrivals ≡ marked_all l.arrivals l.initial.marks.items
+  same : (z : Terms) (time : ℕ) (j : Judged) → AreLimits z l.limits
+      → j.arrivals ≡ marked_all l.arrivals l.initial.marks.items
       → told time l.found.items (marked_all l.arrivals l.marks.items) j
       ≡ unexplained_all z time (map gone_of (take l.frame-index l.frames)) j;
   size : length l.marks.items ≡ length l.initial.marks.items;

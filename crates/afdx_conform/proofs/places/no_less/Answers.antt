@@ -7,7 +7,8 @@ use Rattle.afdx_conform.proofs.places.no_less.Goals as goal
 
 pub returns : goal.returns
 returns c test arrivals h =
-    let point = IsPartitionPoint-from_clause (λ (y : ℕ). ltb y c.args.least) _ _ c.partition_point-count.ensures.partitioned
+    let point = IsPartitionPoint-from_clause (λ (y : ℕ). ltb y c.args.least) _ _
+    c.partition_point-count.ensures.partitioned
     (parted test arrivals c.args.places.now c.args.least h) (λ a r q k. search rules) in
     subst (λ (l : List ℕ). StandAt test c.args.least (drop c.args.least arrivals) l)
     (sym (take_rest c.args.places.now c.partition_point-count.result))

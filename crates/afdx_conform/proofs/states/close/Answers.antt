@@ -10,16 +10,20 @@ use Rattle.afdx_conform.proofs.states.close.Goals as goal
 pub returns-clause-left : goal.returns-clause-left
 returns-clause-left c ys time closed =
     closed-left ys time c.args.passed c.args.held.now.items _ closed
-    (filter_same _ (λ (h : Held). nat_le c.args.passed h.passed) _ (λ x b f' k. search rules) _ _ c.retain.ensures.filtered)
+    (filter_same _ (λ (h : Held). nat_le c.args.passed h.passed) _ (λ x b f' k. search rules) _ _
+    c.retain.ensures.filtered)
 
 pub returns-clause-kept : goal.returns-clause-kept
 returns-clause-kept c z ys before time closed h =
     kept-closed z ys before time (map (state_of ys) c.args.held.now.items) _
     (closed-left ys time c.args.passed c.args.held.now.items _ closed
-    (filter_same _ (λ (h : Held). nat_le c.args.passed h.passed) _ (λ x b f' k. search rules) _ _ c.retain.ensures.filtered)) h
+    (filter_same _ (λ (h : Held). nat_le c.args.passed h.passed) _ (λ x b f' k. search rules) _ _
+    c.retain.ensures.filtered)) h
 
 pub returns-clause-within : goal.returns-clause-within
 returns-clause-within c rates frames count all =
     All-same (λ (h : Held). IsWithin rates frames count h) _ _
-    (filter_same _ (λ (h : Held). nat_le c.args.passed h.passed) _ (λ x b f' k. search rules) _ _ c.retain.ensures.filtered)
-    (All-filter (λ (h : Held). nat_le c.args.passed h.passed) (λ (h : Held). IsWithin rates frames count h) c.args.held.now.items all)
+    (filter_same _ (λ (h : Held). nat_le c.args.passed h.passed) _ (λ x b f' k. search rules) _ _
+    c.retain.ensures.filtered)
+    (All-filter (λ (h : Held). nat_le c.args.passed h.passed) (λ (h : Held). IsWithin rates frames count h)
+    c.args.held.now.items all)

@@ -13,4 +13,5 @@ pub returns : goal.returns
 returns c = kept-if-not c.args.state c.args.held.now.items c.push.new.self.items (search rules)
     (c.in_ok-push.ensures.items
     ∙ ap (λ (l : List Held). l ++ (c.args.state ∷ []))
-    (filter_same _ (λ (h : Held). not (outdoes c.args.state h)) _ (λ x b f' k. search rules) _ _ c.retain.ensures.filtered))
+    (filter_same _ (λ (h : Held). not (outdoes c.args.state h)) _ (λ x b f' k. search rules) _ _
+    c.retain.ensures.filtered))

@@ -24,7 +24,8 @@ loop-case-init c = (
 pub returns-clause-defined : goal.returns-clause-defined
 returns-clause-defined c z x ys last r e g all =
     c.loop-case.invariant.0 z x ys last r e g all
-    ∙ ap (λ (l : List Case). led_by (λ s. states_at z x (levels_then z s.levels last x) s) (map (λ d. state_of ys d.held) l))
+    ∙ ap (λ (l : List Case). led_by (λ s. states_at z x (levels_then z s.levels last x) s)
+    (map (λ d. state_of ys d.held) l))
     (take_all c.loop-case.case-index c.args.cases.now (let h = c.loop-case-test.false in omega (arith, h)))
 
 abbrev no-case : Case
@@ -35,7 +36,8 @@ loop-case-preserved c = (
   λ z x ys last r e g all.
       let i : ℕ = c.loop-case.case-index in
       let so_far = c.loop-case.invariant.0 z x ys last r e g all in
-      let lead = c.lead-accepted.ensures.defined z x ys r e (all c.loop-case.case-index no-case c.loop-case-test.true) in
+      let lead = c.lead-accepted.ensures.defined z x ys r e (all c.loop-case.case-index no-case c.loop-case-test.true)
+      in
       let levels = c.later-levels.ensures.moved (link z) z.by r
       ∙ ap (λ (n : ℕ). later (link z) z.by n (get_or c.args.cases.now c.loop-case.case-index no-case).held.levels) g in
       pushed (state_of ys) c.loop-case.out.items c.push_some.new.out.items c.push_some-in-loop-case.new.out.items
@@ -46,7 +48,9 @@ loop-case-preserved c = (
       ∙ ap (λ (l : List State). led_by (λ s. states_at z x (levels_then z s.levels last x) s)
       (map (λ d. state_of ys d.held) (take c.loop-case.case-index c.args.cases.now)) ++ l)
       (sym lead
-      ∙ ap (λ (v : Levels). states_at z x v (state_of ys (get_or c.args.cases.now c.loop-case.case-index no-case).held)) levels)
+      ∙ ap
+      (λ (v : Levels). states_at z x v
+      (state_of ys (get_or c.args.cases.now c.loop-case.case-index no-case).held)) levels)
       ∙ sym (one-more (λ s. states_at z x (levels_then z s.levels last x) s) (λ d. state_of ys d.held) c.args.cases.now
       c.loop-case.case-index no-case c.loop-case-test.true),
   λ link by frames count r all.

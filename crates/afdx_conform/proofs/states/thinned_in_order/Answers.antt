@@ -33,19 +33,22 @@ pub returns-clause-enough : goal.returns-clause-enough
 returns-clause-enough c = (kept-of-all c.args.held.now (c.loop-state.done.items ++ c.loop-state.few.items)
     c.extend_from_slice.new.self.items c.loop-state.state-index (let h = c.loop-state-test.false in omega (arith, h))
     c.loop-state.invariant.0
-    (c.in_ok-extend_from_slice.ensures.items ∙ ap (λ (l : List Held). c.loop-state.done.items ++ l) c.as_slice.ensures.value)).enough
+    (c.in_ok-extend_from_slice.ensures.items ∙ ap (λ (l : List Held). c.loop-state.done.items ++ l)
+    c.as_slice.ensures.value)).enough
 
 pub returns-clause-front : goal.returns-clause-front
 returns-clause-front c = (kept-of-all c.args.held.now (c.loop-state.done.items ++ c.loop-state.few.items)
     c.extend_from_slice.new.self.items c.loop-state.state-index (let h = c.loop-state-test.false in omega (arith, h))
     c.loop-state.invariant.0
-    (c.in_ok-extend_from_slice.ensures.items ∙ ap (λ (l : List Held). c.loop-state.done.items ++ l) c.as_slice.ensures.value)).front
+    (c.in_ok-extend_from_slice.ensures.items ∙ ap (λ (l : List Held). c.loop-state.done.items ++ l)
+    c.as_slice.ensures.value)).front
 
 pub returns-clause-within : goal.returns-clause-within
 returns-clause-within c = (kept-of-all c.args.held.now (c.loop-state.done.items ++ c.loop-state.few.items)
     c.extend_from_slice.new.self.items c.loop-state.state-index (let h = c.loop-state-test.false in omega (arith, h))
     c.loop-state.invariant.0
-    (c.in_ok-extend_from_slice.ensures.items ∙ ap (λ (l : List Held). c.loop-state.done.items ++ l) c.as_slice.ensures.value)).within
+    (c.in_ok-extend_from_slice.ensures.items ∙ ap (λ (l : List Held). c.loop-state.done.items ++ l)
+    c.as_slice.ensures.value)).within
 
 pub returns-clause-defined : goal.returns-clause-defined
 returns-clause-defined c ys all = ((kept-of-all c.args.held.now (c.loop-state.done.items ++ c.loop-state.few.items)

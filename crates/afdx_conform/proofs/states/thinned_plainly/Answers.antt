@@ -18,7 +18,8 @@ loop-state-init c = (
   λ ys. subst (λ (l : List Held). AreEnough [] (map (state_of ys) l)) (sym c.new-out.ensures.items) (enough-none ys),
   subst (λ (l : List Held). AreFront l) (sym c.new-out.ensures.items) front-none,
   λ ys all. subst (λ (l : List Held). AreFew ys l []) (sym c.new-out.ensures.items) (few-none ys),
-  λ rates frames count all. subst (λ (l : List Held). All (λ h. IsWithin rates frames count h) l) (sym c.new-out.ensures.items)
+  λ rates frames count all. subst (λ (l : List Held). All (λ h. IsWithin rates frames count h) l)
+      (sym c.new-out.ensures.items)
       (All-nil (λ (h : Held). IsWithin rates frames count h)),
 )
 
@@ -29,10 +30,13 @@ loop-state-preserved c = (
   kept-front (get_or c.args.held.now c.loop-state.state-index no-held) c.loop-state.out.items c.keep.new.held.items
       c.loop-state.invariant.1 c.in_ok-keep.ensures,
   λ ys all. few-next ys c.args.held.now c.loop-state.out.items c.keep.new.held.items c.loop-state.state-index no-held
-      c.loop-state-test.true (all c.loop-state.state-index no-held c.loop-state-test.true) (c.loop-state.invariant.2 ys all)
+      c.loop-state-test.true (all c.loop-state.state-index no-held c.loop-state-test.true)
+      (c.loop-state.invariant.2 ys all)
       c.in_ok-keep.ensures,
-  λ rates frames count all. subst (λ (l : List Held). All (λ h. IsWithin rates frames count h) l) (sym c.in_ok-keep.ensures)
-      (kept-all (λ h. IsWithin rates frames count h) (get_or c.args.held.now c.loop-state.state-index no-held) c.loop-state.out.items
+  λ rates frames count all. subst (λ (l : List Held). All (λ h. IsWithin rates frames count h) l)
+      (sym c.in_ok-keep.ensures)
+      (kept-all (λ h. IsWithin rates frames count h) (get_or c.args.held.now c.loop-state.state-index no-held)
+      c.loop-state.out.items
       (c.loop-state.invariant.3 rates frames count all) (all c.loop-state.state-index no-held c.loop-state-test.true)),
 )
 

@@ -9,7 +9,8 @@ use Rattle.afdx_conform.specs.Testing.{may_go}
 use Rattle.afdx_conform.proofs.testing.may_go_once.Given as goal
 
 abbrev pub invariant-loop-state : goal.invariant-loop-state
-invariant-loop-state l = (z : Terms) (ys : List Gone) (last : ℕ) → AreRates (link z) z.by l.rates → IsCharged z l.arrived
+invariant-loop-state l = (z : Terms) (ys : List Gone) (last : ℕ) → AreRates (link z) z.by l.rates
+    → IsCharged z l.arrived
     → l.ns ≡ l.arrived.time - last
     → list_any (λ s. may_go z last (arrival_of l.arrived) s) (map (state_of ys) l.held)
     ≡ list_any (λ s. may_go z last (arrival_of l.arrived) s) (map (state_of ys) (drop l.state-index l.held))

@@ -13,7 +13,8 @@ returns-in-Wrong-Missing c =
     c.bytes_in-message.result.now c.bytes_in-others.result.now c.is_sealed_wrongly.result
     c.in-Wrong-Missing.is-0 c.in-Wrong-Missing.is-1 c.bytes_in-message.ensures c.bytes_in-others.ensures
     c.is_sealed_wrongly.ensures
-    ∙ swapped (whole c.other.inside.seal c.other.inside.message.value.items) (whole c.self.inside.seal c.self.inside.message.value.items))
+    ∙ swapped (whole c.other.inside.seal c.other.inside.message.value.items)
+    (whole c.self.inside.seal c.self.inside.message.value.items))
 
 pub returns-in-Missing-Wrong : goal.returns-in-Missing-Wrong
 returns-in-Missing-Wrong c =
@@ -29,6 +30,7 @@ returns-then-is_sealed_alike c =
     slice_eq-Decides Decides-eqb _ _ _ c.eq.ensures in
     rw (← c.self.view_is, ← c.other.view_is)
     (same_kind c.self.inside.seal c.other.inside.seal c.other.inside.seal
-    c.self.inside.message.value.items c.other.inside.message.value.items c.bytes_in-message.result.now c.bytes_in-others.result.now
+    c.self.inside.message.value.items c.other.inside.message.value.items c.bytes_in-message.result.now
+    c.bytes_in-others.result.now
     c.eq.result (c.is_sealed_alike.ensures.0 c.if-is_sealed_alike.true) refl
     c.bytes_in-message.ensures c.bytes_in-others.ensures same)

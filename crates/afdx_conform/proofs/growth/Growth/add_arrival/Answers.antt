@@ -22,12 +22,14 @@ returns-clause-after c z xs ys cut time over j m o f = (
 
 pub returns-clause-due : goal.returns-clause-due
 returns-clause-due c =
-    due-came c.args.self.now c.args.arrived c.push.new.self (c.args.self.now.came + 1) c.tell.new.self c.in-Ok.ensures.items
+    due-came c.args.self.now c.args.arrived c.push.new.self (c.args.self.now.came + 1) c.tell.new.self
+    c.in-Ok.ensures.items
     c.requires.sound.places
 
 pub returns-then-self-ge-MOST_HELD-clause-after : goal.returns-then-self-ge-MOST_HELD-clause-after
 returns-then-self-ge-MOST_HELD-clause-after c z xs ys cut time over j m o f =
-    absurd (not-many z xs ys cut time over c.args.arrived c.args.self.now c.args.self.now.arrivals 0 c.args.self.now.known m c.if-self.false
+    absurd (not-many z xs ys cut time over c.args.arrived c.args.self.now c.args.self.now.arrivals 0
+    c.args.self.now.known m c.if-self.false
     c.if-self-ge-MOST_HELD.true f)
 
 pub returns-then-self-ge-MOST_HELD-clause-due : goal.returns-then-self-ge-MOST_HELD-clause-due

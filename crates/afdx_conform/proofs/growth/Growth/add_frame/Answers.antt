@@ -25,7 +25,8 @@ returns-clause-due c =
 
 pub returns-then-self-ge-MOST_HELD-clause-after : goal.returns-then-self-ge-MOST_HELD-clause-after
 returns-then-self-ge-MOST_HELD-clause-after c z xs ys time over m until o f =
-    absurd (not-many-left z xs ys 0 time over c.args.frame c.args.self.now c.args.self.now.frames 0 m c.if-self.false refl
+    absurd (not-many-left z xs ys 0 time over c.args.frame c.args.self.now c.args.self.now.frames 0 m c.if-self.false
+    refl
     c.if-self-ge-MOST_HELD.true f)
 
 pub returns-then-self-ge-MOST_HELD-clause-due : goal.returns-then-self-ge-MOST_HELD-clause-due

@@ -27,16 +27,22 @@ returns-clause-after c = (
       let order = subst (λ (l : List Frame). AreFrames l) (sym c.as_slice.ensures.value)
       (frames-held h.past ys c.args.self.now.frames.items f.told.left h.kept.left) in
       let inside = subst (λ (l : List Frame). c.args.self.now.closed < length l) (sym c.as_slice.ensures.value) lt in
-      let there = at ∙ ap (λ (l : List Frame). get_or l c.args.self.now.closed c.index.result.now) (sym c.as_slice.ensures.value) in
-      let closed = closes c.as_slice.result.now c.args.self.now.closed c.closed_by-to.result c.index.result.now order inside there
-      c.closed_by-to.ensures.low c.closed_by-to.ensures.high (c.closed_by-to.ensures.closed order) c.closed_by-to.ensures.behind in
-      let passed = subst (λ (l : List Held). All (λ h. c.passed_by_all-passed.result ≤ h.passed) l) c.as_slice-2.ensures.value
+      let there = at ∙ ap (λ (l : List Frame). get_or l c.args.self.now.closed c.index.result.now)
+      (sym c.as_slice.ensures.value) in
+      let closed = closes c.as_slice.result.now c.args.self.now.closed c.closed_by-to.result c.index.result.now order
+      inside there
+      c.closed_by-to.ensures.low c.closed_by-to.ensures.high (c.closed_by-to.ensures.closed order)
+      c.closed_by-to.ensures.behind in
+      let passed = subst (λ (l : List Held). All (λ h. c.passed_by_all-passed.result ≤ h.passed) l)
+      c.as_slice-2.ensures.value
       c.passed_by_all-passed.ensures.all in
       let ge = c.if-passed-to.false in
-      let early = not-later c.args.moment (c.index.result.now.time + c.args.self.now.bounds.limits.reach) c.is_later.result
+      let early = not-later c.args.moment (c.index.result.now.time + c.args.self.now.bounds.limits.reach)
+      c.is_later.result
       c.is_later.ensures c.if-is_later.false in
       let apart = f.bounds.limits.reach in
-      after-quiet z xs ys cut over c.index.result.now c.args.self.now c.closed_by-to.result c.args.moment f c.if-self.false
+      after-quiet z xs ys cut over c.index.result.now c.args.self.now c.closed_by-to.result c.args.moment f
+      c.if-self.false
       c.requires.started next
       (subst (λ (l : List Frame). AreClosed c.index.result.now.time c.closed_by-to.result (map gone_of l))
       c.as_slice.ensures.value closed)
@@ -48,5 +54,6 @@ returns-clause-after c = (
 pub returns-clause-less : goal.returns-clause-less
 returns-clause-less c =
     let lt = c.upcoming.ensures.closing (c.if-not-is_closing.ensures.0 refl) in
-    let less = undecided-less c.args.self.now (Closed c.args.self.now c.closed_by-to.result) c.if-self.false (omega (arith, lt)) in
+    let less = undecided-less c.args.self.now (Closed c.args.self.now c.closed_by-to.result) c.if-self.false
+    (omega (arith, lt)) in
     omega (arith, less)

@@ -35,12 +35,14 @@ returns-in-Arrival-clause-decides c =
           let one = some-arrived c.args.self.now.arrivals.items (length c.args.self.now.judging.marks.items) lt in
           let h = f.sure sure in
           let first = next-held z xs ys cut over h.gone h.past c.args.self.now h.kept
-          ∙ arrives-at z (length c.args.self.now.judging.marks.items) c.args.self.now.closed c.args.self.now.arrivals.items
+          ∙ arrives-at z (length c.args.self.now.judging.marks.items) c.args.self.now.closed
+          c.args.self.now.arrivals.items
           c.args.self.now.frames.items one.0 c.args.self.now.bounds.limits.reach f.bounds.limits.reach lt one.1
           (λ g less at. c.upcoming.ensures.first one.0 g is less one.1 at) in
           let same = c.in_ok-start.ensures.same in
           let event = the-event (sym next ∙ first) in
-          let at = one.1 ∙ ap (λ (l : List Arrived). get_or l (length c.args.self.now.judging.marks.items) one.0) (sym same.arrivals)
+          let at = one.1 ∙ ap (λ (l : List Arrived). get_or l (length c.args.self.now.judging.marks.items) one.0)
+          (sym same.arrivals)
           ∙ ap (λ (l : List Mark). get_or c.start.new.self.arrivals.items (length l) one.0) (sym same.marks) in
           subst (λ (w : Event). Decides z xs ys cut over c.come.new.self w q.0 v.items) event
           (q.1 z xs ys cut over one.0 (same.is_unsure ∙ sure) at first
@@ -58,7 +60,8 @@ returns-in-Closing-clause-decides c =
           let one = some-frame c.args.self.now.frames.items c.args.self.now.closed lt in
           let h = f.sure sure in
           let first = next-held z xs ys cut over h.gone h.past c.args.self.now h.kept
-          ∙ closes-at z (length c.args.self.now.judging.marks.items) c.args.self.now.closed c.args.self.now.arrivals.items
+          ∙ closes-at z (length c.args.self.now.judging.marks.items) c.args.self.now.closed
+          c.args.self.now.arrivals.items
           c.args.self.now.frames.items one.0 c.args.self.now.bounds.limits.reach f.bounds.limits.reach lt one.1
           (λ a less at. c.upcoming.ensures.before a one.0 is less at one.1) in
           let same = c.in_ok-start.ensures.same in
@@ -66,7 +69,8 @@ returns-in-Closing-clause-decides c =
           let at = one.1 ∙ ap (λ (l : List Frame). get_or l c.args.self.now.closed one.0) (sym same.frames)
           ∙ ap (λ (n : ℕ). get_or c.start.new.self.frames.items n one.0) (sym same.closed) in
           subst (λ (w : Event). Decides z xs ys cut over c.close.new.self w None v.items) event
-          (q z xs ys cut over one.0 (same.is_unsure ∙ sure) at first (c.in_ok-start.ensures.ready z xs ys cut over f sure)),
+          (q z xs ys cut over one.0 (same.is_unsure ∙ sure) at first (c.in_ok-start.ensures.ready z xs ys cut over f
+          sure)),
     )) c.close.ensures.decides
 
 pub returns-then-self-clause-decides : goal.returns-then-self-clause-decides

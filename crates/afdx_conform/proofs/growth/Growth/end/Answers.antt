@@ -16,7 +16,8 @@ returns-clause-after c z xs ys time over until le o f =
     let held = c.as_slice.ensures.value in
     let frames = c.as_slice-2.ensures.value in
     let most = c.max-front.ensures in
-    after-end z xs ys time over c.args.self.now (omega (arith, until, le)) o f c.truncate.new.self c.known_states.new.held
+    after-end z xs ys time over c.args.self.now (omega (arith, until, le)) o f c.truncate.new.self
+    c.known_states.new.held
     c.front_of.result c.kept_until-kept.result _ c.known_states.ensures c.truncate.ensures.items
     (subst (λ (l : List Held). ((l ≡ []) × (c.front_of.result ≡ 0))
     ⊎ ((s : Held) × Contains l s × (s.passed ≡ c.front_of.result))) held c.front_of.ensures.among)
@@ -38,7 +39,8 @@ pub returns-clause-due : goal.returns-clause-due
 returns-clause-due c =
     let low = c.kept_until-kept.ensures.low in
     let most = c.max-front.ensures in
-    due-end c.args.self.now c.truncate.new.self c.known_states.new.held c.kept_until-kept.result _ c.truncate.ensures.items
+    due-end c.args.self.now c.truncate.new.self c.known_states.new.held c.kept_until-kept.result _
+    c.truncate.ensures.items
     (omega (arith, low, most))
 
 pub returns-clause-due_same : goal.returns-clause-due_same
@@ -46,7 +48,8 @@ returns-clause-due_same c z xs ys over until all f =
     let low = c.kept_until-kept.ensures.low in
     let most = c.max-front.ensures in
     let frames = c.as_slice-2.ensures.value in
-    due-then c.args.self.now c.truncate.new.self c.known_states.new.held c.kept_until-kept.result _ c.truncate.ensures.items
+    due-then c.args.self.now c.truncate.new.self c.known_states.new.held c.kept_until-kept.result _
+    c.truncate.ensures.items
     (omega (arith, low, most)) z xs ys over c.args.until c.if-self.false all f
     (λ g lt at. c.kept_until-kept.ensures.cut g
     (let size = ap (λ (l : List Frame). length l) frames in omega (arith, lt, size))
@@ -58,8 +61,10 @@ returns-clause-sound c =
     let most = c.max-front.ensures in
     let size = ap (λ (l : List Frame). length l) c.as_slice-2.ensures.value in
     let high = c.kept_until-kept.ensures.high in
-    sound-end c.args.self.now c.truncate.new.self c.known_states.new.held c.front_of.result c.kept_until-kept.result c.len.result
+    sound-end c.args.self.now c.truncate.new.self c.known_states.new.held c.front_of.result c.kept_until-kept.result
+    c.len.result
     c.known_states.ensures c.truncate.ensures.items
-    (subst (λ (l : List Held). All (λ h. h.passed ≤ c.front_of.result) l) c.as_slice.ensures.value c.front_of.ensures.greatest)
+    (subst (λ (l : List Held). All (λ h. h.passed ≤ c.front_of.result) l) c.as_slice.ensures.value
+    c.front_of.ensures.greatest)
     (omega (arith, low, most)) (omega (arith, low, most)) (omega (arith, high, size))
     (let n = c.len.ensures in let ok = c.args.self.now.frames.ok in omega (arith, n, ok)) c.requires

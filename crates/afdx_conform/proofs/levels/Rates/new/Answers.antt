@@ -9,7 +9,8 @@ invariant_of-result c =
     let longest = rule.in_range.longest in
     let jitter = rule.in_range.jitter in
     record {
-      in_range = in-range (rule.lmax + 20) rule.bag_ms rule.jitter_us by.drift by.slack by.asked (omega (arith, longest))
+      in_range = in-range (rule.lmax + 20) rule.bag_ms rule.jitter_us by.drift by.slack by.asked
+          (omega (arith, longest))
           (bag-low rule.bag_ms rule.in_range.bag) (bag-high rule.bag_ms rule.in_range.bag) jitter
           by.in_range.drift by.in_range.slack by.in_range.asked;
     }

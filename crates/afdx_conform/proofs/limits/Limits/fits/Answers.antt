@@ -20,7 +20,8 @@ pub returns-then-frame-self : goal.returns-then-frame-self
 returns-then-frame-self c z x a at of =
     let early = lt-leb (c.args.time + c.wire_time-wire.result) (c.args.frame.now.time + c.args.self.now.reach)
     c.if-frame-self.true in
-    sym (fits-is z x (gone_of c.args.frame.now) c.args.self.now c.args.time c.wire_time-wire.result c.args.bytes.now a at of
+    sym (fits-is z x (gone_of c.args.frame.now) c.args.self.now c.args.time c.wire_time-wire.result c.args.bytes.now a
+    at of
     (on_wire c.args.self.now c.wire_time-wire.result c.length.result (length c.args.bytes.now) c.length.ensures
     c.wire_time-wire.ensures)
     ∙ fits-early (bytes_eq c.args.bytes.now c.args.frame.now.bytes) _ _ early)
@@ -31,7 +32,8 @@ returns c z x a at of =
     sym c.is_same.ensures ∙ c.if-not-is_same.false in
     let stored = le-leb (c.args.time + c.wire_time-wire.result) (c.args.frame.now.time + c.args.self.now.reach)
     c.if-frame-self.false in
-    sym (fits-is z x (gone_of c.args.frame.now) c.args.self.now c.args.time c.wire_time-wire.result c.args.bytes.now a at of
+    sym (fits-is z x (gone_of c.args.frame.now) c.args.self.now c.args.time c.wire_time-wire.result c.args.bytes.now a
+    at of
     (on_wire c.args.self.now c.wire_time-wire.result c.length.result (length c.args.bytes.now) c.length.ensures
     c.wire_time-wire.ensures)
     ∙ fits-last _ _ _ same stored)

@@ -9,7 +9,8 @@ use Rattle.afdx_conform.proofs.PlacesLemmas.{kept-added, kept-none}
 use Rattle.afdx_conform.proofs.places.Places.add.Goals as goal
 
 pub returns-in-Some : goal.returns-in-Some
-returns-in-Some c = kept-added c.args.self.now (record c.args.self.now { by_key = c.get_mut.follows.lender c.push.new.self })
+returns-in-Some c = kept-added c.args.self.now
+    (record c.args.self.now { by_key = c.get_mut.follows.lender c.push.new.self })
     c.args.key.now c.push.new.self c.args.place
     (c.in_ok-push.ensures.items ∙ ap (λ (o : Option (Vec ℕ)). all_of o ++ (c.args.place ∷ [])) c.in-Some.ensures.value)
     ((c.get_mut.follows.holds c.push.new.self).3
@@ -18,13 +19,16 @@ returns-in-Some c = kept-added c.args.self.now (record c.args.self.now { by_key 
 pub returns : goal.returns
 returns c other =
     let copied = c.in_ok-copy.ensures.items in
-    let none = kept-none c.get_mut.result c.in_default.not-Some (λ o. option_copied_mut o) refl c.get_mut.ensures.value in
+    let none = kept-none c.get_mut.result c.in_default.not-Some (λ o. option_copied_mut o) refl
+    c.get_mut.ensures.value in
     let same : record c.args.self.now { by_key = c.get_mut.follows.lender-at-none } ≡ c.args.self.now =
     ap (λ m. record c.args.self.now { by_key = m }) c.get_mut.follows.holds-at-none in
     subst (λ (l : List ℕ). kept_at (record c.args.self.now { by_key = c.insert.new.self }) other
-    ≡ (if bytes_eq l other then kept_at c.args.self.now other ++ (c.args.place ∷ []) else kept_at c.args.self.now other)) copied
+    ≡ (if bytes_eq l other then kept_at c.args.self.now other ++ (c.args.place ∷ []) else kept_at c.args.self.now
+    other)) copied
     (subst (λ (old : Places). kept_at (record c.args.self.now { by_key = c.insert.new.self }) other
-    ≡ (if bytes_eq c.in_ok-copy.copy.items other then kept_at old other ++ (c.args.place ∷ []) else kept_at old other)) same
+    ≡ (if bytes_eq c.in_ok-copy.copy.items other then kept_at old other ++ (c.args.place ∷ [])
+    else kept_at old other)) same
     (kept-added (record c.args.self.now { by_key = c.get_mut.follows.lender-at-none })
     (record c.args.self.now { by_key = c.insert.new.self }) c.in_ok-copy.copy.items
     c.in_ok-places.places c.args.place

@@ -11,7 +11,8 @@ returns-then-has_to_pass-clause-defined c z x ys r e =
     sym (c.has_to_pass.ensures.defined (link z) z.by r ∙ ap (λ (k : ℕ). has_to_pass (link z) z.by k c.args.levels) e) ∙
     c.if-has_to_pass.true in
     if-true (has_to_pass (link z) z.by (charge z x) c.args.levels) []
-    (state_with (drop c.args.self.passed ys) (refused (link z) z.by (charge z x) c.args.levels) c.args.self.waiting ∷ []) must
+    (state_with (drop c.args.self.passed ys) (refused (link z) z.by (charge z x) c.args.levels) c.args.self.waiting
+    ∷ []) must
 
 pub returns-else-has_to_pass-clause-defined : goal.returns-else-has_to_pass-clause-defined
 returns-else-has_to_pass-clause-defined c z x ys r e =
@@ -21,5 +22,6 @@ returns-else-has_to_pass-clause-defined c z x ys r e =
     let levels = c.refused.ensures.moved (link z) z.by r
     ∙ ap (λ (k : ℕ). refused (link z) z.by k c.args.levels) e in
     if-false (has_to_pass (link z) z.by (charge z x) c.args.levels) []
-    (state_with (drop c.args.self.passed ys) (refused (link z) z.by (charge z x) c.args.levels) c.args.self.waiting ∷ []) must
+    (state_with (drop c.args.self.passed ys) (refused (link z) z.by (charge z x) c.args.levels) c.args.self.waiting
+    ∷ []) must
     ∙ ap (λ (l : Levels). state_with (drop c.args.self.passed ys) l c.args.self.waiting ∷ []) (sym levels)

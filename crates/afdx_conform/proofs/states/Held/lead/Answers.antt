@@ -13,7 +13,8 @@ unfolding states_at
 returns-clause-defined c z x ys r e h =
     ap (λ (l : List State). l ++ states_if_refused z x c.args.levels c.args.self.waiting (drop c.args.self.passed ys))
     (c.if_accepted.ensures.defined z x ys r e h)
-    ∙ ap (λ (l : List State). map (state_of ys) (option_to_list c.if_accepted.result) ++ l) (c.if_refused.ensures.defined z x ys r e)
+    ∙ ap (λ (l : List State). map (state_of ys) (option_to_list c.if_accepted.result) ++ l)
+    (c.if_refused.ensures.defined z x ys r e)
     ∙ sym (map-append (state_of ys) (option_to_list c.if_accepted.result) (option_to_list c.if_refused.result))
 
 pub returns-clause-within : goal.returns-clause-within

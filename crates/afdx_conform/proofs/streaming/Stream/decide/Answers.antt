@@ -21,7 +21,8 @@ returns-clause-ends c z xs ys j moment is due h =
     if-ok-on c.decide-found.result (λ v q. ends-next z xs ys j moment c.args.self.now h due _ q.0 v.items
     (q.1 z xs (uncut z ys) (Cut z xs ys j moment c.args.self.now h due) h.over
     (last-event z xs ys j moment c.args.self.now h due) (due-sure c.args.self.now.growth moment due)
-    (last-next z xs ys j moment c.args.self.now h due) (known-last z xs ys j moment c.args.self.now h due c.args.end is) h.is_after))
+    (last-next z xs ys j moment c.args.self.now h due) (known-last z xs ys j moment c.args.self.now h due c.args.end
+    is) h.is_after))
     c.decide-found.ensures.decides
 
 pub returns-clause-refused : goal.returns-clause-refused
@@ -33,7 +34,8 @@ returns-clause-refused_then c z xs ys j h =
     on-err c.decide-found.result (λ s. ending-same z xs ys j c.args.self.now _ h s) c.decide-found.ensures.refused
 
 pub returns-clause-due_then : goal.returns-clause-due_then
-returns-clause-due_then c = on-err c.decide-found.result (λ s. due-same c.args.self.now.growth _ s) c.decide-found.ensures.refused
+returns-clause-due_then c = on-err c.decide-found.result (λ s. due-same c.args.self.now.growth _ s)
+    c.decide-found.ensures.refused
 
 pub returns-clause-less : goal.returns-clause-less
 returns-clause-less c moment due = c.decide-found.ensures.less moment due
