@@ -58,7 +58,7 @@ MEMORY = {
     "crates/afdx_text/src/line.rt": {"room_wanted"},
 }
 # how many are still larger than they may be
-LARGE = {"clauses": 22, "values": 25, "bodies": 5, "lines of proofs": 1522}
+LARGE = {"clauses": 22, "values": 25, "bodies": 3, "lines of proofs": 1522}
 OF_TWO_LISTS = ["list came n", "list left n"]  # n is the fault of that list
 SCRIPTS = ["tests/**/*.py", "tests/**/*.sh", "tests/**/*.c", "examples/*.py"]
 SCRIPTS += ["bench/*", "bin/*", "bin/printing/*.py", "bin/lib/*.sh"]
