@@ -1,9 +1,6 @@
 //! A configuration of several switches.
 
-/// Two switches on a side, `fwd` and `aft`, that a cable joins: link 1 goes from a system at the
-/// first to one at the second, link 2 from one at the second to one there and to the first.
-pub fn two_switches() -> &'static str {
-    r#"[[switch]]
+const TWO_SWITCHES: &str = r#"[[switch]]
 name = "fwd"
 profile = 1
 buffer = 254
@@ -120,5 +117,10 @@ link = 2
 udp = 2000
 kind = "queuing"
 depth = 4
-"#
+"#;
+
+/// Two switches on a side, `fwd` and `aft`, that a cable joins: link 1 goes from a system at the
+/// first to one at the second, link 2 from one at the second to one there and to the first.
+pub fn two_switches() -> &'static str {
+    TWO_SWITCHES
 }

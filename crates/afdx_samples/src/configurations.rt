@@ -6,10 +6,7 @@ use arrayvec::ArrayString;
 use std::alloc::Global;
 use std::test::Fail;
 
-/// A high link from the first system to the third and a low one from the second, with a port there
-/// for each.
-pub fn base() -> &'static str {
-    r#"profile = 1
+const BASE: &str = r#"profile = 1
 buffer = 252
 
 [[system]]
@@ -74,7 +71,12 @@ link = 2
 udp = 2000
 kind = "queuing"
 depth = 4
-"#
+"#;
+
+/// A high link from the first system to the third and a low one from the second, with a port there
+/// for each.
+pub fn base() -> &'static str {
+    BASE
 }
 
 /// The tables of a text. Of all growths one alone may be refused: they are then read again.
