@@ -9,13 +9,9 @@ use Rattle.afdx_conform.specs.Findings.{Finding, is_far, is_late, is_early, devi
 use Rattle.afdx_conform.specs.declared.finding.Deviation.{Deviation}
 use Rattle.afdx_conform.specs.declared.finding.Deviation.TheVariants.{Stopped, Took, Other}
 use Rattle.afdx_conform.specs.declared.finding.Finding.TheVariants.{Early, Late}
-use Rattle.afdx_conform.specs.Limits.{AreLimits}
 use Rattle.afdx_conform.specs.Marks.{arrival_of}
 use Rattle.afdx_conform.specs.Streams.{Gone, Terms, fits, latency, wire_time}
 use Rattle.afdx_conform.specs.declared.arrived.Arrived.{Arrived}
-use Rattle.afdx_conform.specs.declared.limits.Limits.{Limits}
-
-module _ (z : Terms) (x : Arrival) (y : Gone) (l : Limits) (a : AreLimits z l) where
 
 -- ---- the order of the tests
 
