@@ -5,3 +5,4 @@ pub mod AskedSaid
 pub mod PlaceSaid
 pub mod Placed
 pub mod WordLaws
+pub mod PlacedLaws
