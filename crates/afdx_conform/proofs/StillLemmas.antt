@@ -1,7 +1,5 @@
 -- While no arrival is open none waits in a state.
 use Rattle.std.proofs.Common.{◌≡◌, ℕ, suc, ◌+◌, Bool, true, false, Option, List, [], ◌∷◌, ◌++◌, map, refl, sym, subst, arith}
-use Rattle.std.proofs.lemmas.Bool.{and_parts, eqb-true}
-use Rattle.std.proofs.lemmas.List.Elements.{All-from_recursion}
 use Rattle.std.specs.Prelude.{All, if◌then◌else◌, nat_eq, ◌&&◌, not, Some, None}
 use Rattle.std.specs.List.{AllByRecursion, list_all, filter}
 use Rattle.afdx_police.specs.Arrival.{Arrival}
