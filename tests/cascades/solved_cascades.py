@@ -2,7 +2,6 @@
 from __future__ import annotations
 
 import copy
-import itertools
 import random
 from collections.abc import Collection, Iterator
 
@@ -10,10 +9,11 @@ from cascade import cascade_text
 from cascade_least import solve_cascade_answer
 from cascade_rows import Changes, NO_LINK_1, NO_LINK_1_AFT, TWO, changed
 from first_fault import LATE_US, RANGES
+from judged import check_solution, solve
 from large_cascades import cable, switch_with
 from least import SOLVED
 from networks import unsolvable, with_any_keys
-from program import Answer, Program, answers, must
+from program import Program, answers, must
 import tables as made
 
 # the lines that a key's value less by one makes false, and where in them the link stands
@@ -23,7 +23,6 @@ LINES_OF = {
     SOLVED["skew"]: {"A7": 3, "B4": 3},
 }
 PICKED = 12  # rows whose values are made less one at a time
-KEEPS = [keep for count in range(5) for keep in itertools.combinations(SOLVED, count)]
 
 Place = tuple[str, int]  # a switch and a link
 
@@ -87,25 +86,16 @@ def must_be_below(found: dict, others: dict, why: str) -> None:
 # ---- what the program makes of them --------------------------------------------------------------
 
 
-def run(program: Program, text: bytes, keep: Collection[str], raise_only: bool) -> Answer:
-    """What `solve` answers."""
-    options = ["--keep", ",".join(keep)] if keep else []
-    options += ["--raise-only"] if raise_only else []
-    return program.run("solve", *options, "/dev/stdin", given=text)
-
-
 def check_solve(
     program: Program, text: bytes, keep: Collection[str] = (), raise_only: bool = False
 ) -> bytes | None:
     """`solve` answers what is computed here; the configuration that it writes, if it does, which
     `check` admits, and which is the same when it is solved again."""
     wanted = solve_cascade_answer(text, keep, raise_only)
-    answers(run(program, text, keep, raise_only), wanted.status, wanted.out, wanted.err)
+    answers(solve(program, text, keep, raise_only), wanted.status, wanted.out, wanted.err)
     if wanted.status != 0:
         return None
-    judged = program.run("check", "/dev/stdin", given=wanted.out)
-    must(judged.status == 0 and judged.out.endswith(b"ok\n"), "check doesn't admit what is written")
-    answers(run(program, wanted.out, keep, raise_only), 0, wanted.out, b"")
+    check_solution(program, wanted.out, keep, raise_only)
     return wanted.out
 
 

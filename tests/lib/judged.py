@@ -1,12 +1,14 @@
-"""What `check` says of values that are enough, and of each of them less by one."""
+"""What `solve` answers; what `check` says of values that are enough, and of each of them less by
+one."""
 from __future__ import annotations
 
 import random
+from typing import Collection
 
 import tables as made
 from first_fault import RANGES
 from least import SOLVED
-from program import Answer, Program, must
+from program import Answer, Program, answers, must
 
 # the lines that a key's values less by one make false
 LINES_OF = {
@@ -18,6 +20,22 @@ PICKED = 4  # links whose values are made less one at a time
 def checked(program: Program, tables: dict, *options: str) -> Answer:
     """What `check` answers of the tables."""
     return program.run("check", *options, "/dev/stdin", given=made.text_of(tables))
+
+
+def solve(program: Program, text: bytes, keep: Collection[str], raise_only: bool) -> Answer:
+    """What `solve` answers."""
+    options = ["--keep", ",".join(keep)] if keep else []
+    options += ["--raise-only"] if raise_only else []
+    return program.run("solve", *options, "/dev/stdin", given=text)
+
+
+def check_solution(
+    program: Program, text: bytes, keep: Collection[str], raise_only: bool
+) -> None:
+    """`check` admits what `solve` wrote, and it is the same when it is solved again."""
+    found = program.run("check", "/dev/stdin", given=text)
+    must(found.status == 0 and found.out.endswith(b"ok\n"), "check doesn't admit what is written")
+    answers(solve(program, text, keep, raise_only), 0, text, b"")
 
 
 def false_of(program: Program, tables: dict) -> list[list[str]]:

@@ -4,6 +4,7 @@ false, and the least jitters, buffer, latencies and skews with which it is admit
 """
 from __future__ import annotations
 
+import itertools
 from typing import Collection, Iterator, NamedTuple
 
 from first_fault import RANGES, config_fault, faults_of, is_whole
@@ -14,6 +15,7 @@ UNITS = 128_000_000  # an account's units in a byte, so that all sums are whole
 FIXED_JITTER, GREATEST_JITTER = 40_000, 500_000  # of a system's output, in ns
 # what --keep calls the keys that are solved, in the order in which they are
 SOLVED = {"jitter": "jitter_us", "buffer": "buffer", "latency": "latency_us", "skew": "skew_us"}
+KEEPS = [keep for count in range(5) for keep in itertools.combinations(SOLVED, count)]
 
 
 def key_line(word: str, value: object) -> bytes:

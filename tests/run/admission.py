@@ -23,7 +23,8 @@ sys.path.insert(0, os.path.join(os.path.dirname(os.path.abspath(__file__)), ".."
 import tables as made  # noqa: E402
 from first_fault import RANGES  # noqa: E402
 from judged import LINES_OF, check_all_less, checked  # noqa: E402
-from least import SOLVED, Solved, check_text, key_line, needs, solve_fault, solved  # noqa: E402
+from least import KEEPS, SOLVED, Solved, check_text, key_line, needs  # noqa: E402
+from least import solve_fault, solved  # noqa: E402
 from networks import network, unsolvable  # noqa: E402
 from program import Cases, Program, answers, main_of, must  # noqa: E402
 
@@ -107,8 +108,7 @@ def check_choices(program: Program, seed: int) -> None:
     reported; a kept key is that of the file, a raised one not less."""
     chance = random.Random(seed)
     tables = network(chance, 12, True)
-    keeps = [c for n in range(5) for c in itertools.combinations(SOLVED, n)]
-    for keep, raise_only in itertools.product(keeps, (False, True)):
+    for keep, raise_only in itertools.product(KEEPS, (False, True)):
         found = solved(tables, keep, raise_only)
         check_alike(program, found.tables)
         lines = check_text(found.tables, False).decode().splitlines()

@@ -36,13 +36,14 @@ from cascade_check import at_switch  # noqa: E402
 from cascade_least import solve_cascade_answer, solve_file_fault  # noqa: E402
 from cascade_least import solved_cascade, solved_text  # noqa: E402
 from cascade_rows import LEAST, ROWS, THREE_TEXT, TWO, TWO_TEXT, LeastRow, text_with  # noqa: E402
+from judged import solve  # noqa: E402
 from large_cascades import around_one, in_a_mesh, in_a_ring, in_a_row  # noqa: E402
+from least import KEEPS  # noqa: E402
 from made_cascades import made_cascade, mutated, spoiled  # noqa: E402
 from networks import BEYOND, network  # noqa: E402
 from program import Program, Wrong, answers, main_of_both, must, same_text  # noqa: E402
-from solved_cascades import KEEPS, LINES_OF, Vain, busy_ring, check_all_less  # noqa: E402
-from solved_cascades import check_solve, faulty, in_vain, must_be_below, run  # noqa: E402
-from solved_cascades import with_any, with_keys  # noqa: E402
+from solved_cascades import LINES_OF, Vain, busy_ring, check_all_less, check_solve  # noqa: E402
+from solved_cascades import faulty, in_vain, must_be_below, with_any, with_keys  # noqa: E402
 
 ONE = "only"  # the name of a switch that is alone
 
@@ -96,7 +97,7 @@ def check_least(program: Program, text: bytes) -> bool:
 def row_is_solved(program: Program, row: LeastRow) -> None:
     """The program writes and tells what is spelled out."""
     text = cascade_text(row.cascade)
-    found = run(program, text, row.keep, False)
+    found = solve(program, text, row.keep, False)
     must(row.told is None or found.err == row.told.encode(), f"{found.err!r} is told")
     must(not row.fault or found.out == f"{row.fault}\n".encode(), f"{found.out!r} is written")
     check_solve(program, text, row.keep)
@@ -132,7 +133,7 @@ def check_ring(program: Program, cascade: dict, line: str = "") -> None:
     if not line:
         must(check_least(program, text), "it can't be admitted")
     else:
-        found = run(program, text, (), False).out.decode()
+        found = solve(program, text, (), False).out.decode()
         must(check_solve(program, text) is None and found == f"{line}\n", f"it is {found!r}")
 
 
@@ -199,7 +200,7 @@ def check_faults(program: Program) -> None:
         fault = solve_file_fault(text, keep)
         must(fault.startswith(b"config "), f"{name} is no fault")
         for raise_only in (False, True):
-            answers(run(program, text, keep, raise_only), 1, b"", fault)
+            answers(solve(program, text, keep, raise_only), 1, b"", fault)
         if keep:
             must(check_solve(program, text) is not None, f"{name} is one where it is solved")
 
@@ -221,7 +222,7 @@ def all_beginnings(program: Program, text: bytes) -> None:
     """Every beginning of a file: its solution, or its fault."""
     for count in range(len(text)):
         wanted = solve_cascade_answer(text[:count])
-        answers(run(program, text[:count], (), False), wanted.status, wanted.out, wanted.err)
+        answers(solve(program, text[:count], (), False), wanted.status, wanted.out, wanted.err)
 
 
 # ---- one switch ----------------------------------------------------------------------------------
@@ -235,11 +236,11 @@ def of_file(text: bytes) -> bytes:
 def one_as_file(program: Program, tables: dict, keep: Collection[str], raise_only: bool) -> None:
     """A cascade of one switch has the values that a file of it has; its name stands in each line
     that is told, and in that of admission."""
-    found = run(program, made.text_of(tables), keep, raise_only)
+    found = solve(program, made.text_of(tables), keep, raise_only)
     out, err = found.out, found.err.replace(b" at ", b" at %s " % ONE.encode())
     out = of_file(out) if found.status == 0 else at_switch(out.decode(), ONE).encode()
     cascade = of_one({"port": [], **tables}, ONE)
-    answers(run(program, cascade_text(cascade), keep, raise_only), found.status, out, err)
+    answers(solve(program, cascade_text(cascade), keep, raise_only), found.status, out, err)
 
 
 def ones_as_file(program: Program, seed: int, count: int) -> None:

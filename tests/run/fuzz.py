@@ -51,12 +51,13 @@ import reading  # noqa: E402
 import wanted  # noqa: E402
 from compared_recordings import as_computed  # noqa: E402
 from conform_claims import Judge, judged_alike  # noqa: E402
+from least import KEEPS  # noqa: E402
 from made_cascades import made_cascade, mutated, three_of  # noqa: E402
 from made_recordings import made_data, pcap_of  # noqa: E402
 from program import Program, Wrong, must  # noqa: E402
 from reads import READS  # noqa: E402
 from recorded_claims import recorded_alike  # noqa: E402
-from solved_cascades import KEEPS, check_solve, with_any  # noqa: E402
+from solved_cascades import check_solve, with_any  # noqa: E402
 from tables import one_link_tables  # noqa: E402
 
 PROGRAM = os.path.join(made.TOP, "crates", "afdx", "out", "afdx")

@@ -23,24 +23,16 @@ from typing import Collection
 sys.dont_write_bytecode = True
 sys.path.insert(0, os.path.join(os.path.dirname(os.path.abspath(__file__)), "..", "lib"))
 import tables as made  # noqa: E402
-from judged import check_all_less  # noqa: E402
-from least import SOLVED, key_line, solve_answer  # noqa: E402
+from judged import check_all_less, check_solution, solve  # noqa: E402
+from least import KEEPS, SOLVED, key_line, solve_answer  # noqa: E402
 from networks import BEYOND, network, unsolvable, with_any_keys  # noqa: E402
-from program import Answer, Cases, Program, Wrong, answers, main_of, must  # noqa: E402
-from program import same_text  # noqa: E402
+from program import Cases, Program, Wrong, answers, main_of, must, same_text  # noqa: E402
 from tables import link_of, system_of, tables_of, text_of, tomllib  # noqa: E402
 
 NO_TABLES: dict[str, list] = {"system": [], "link": [], "port": []}
 
 
 # ---- what the program makes of them --------------------------------------------------------------
-
-
-def run(program: Program, text: bytes, keep: Collection[str], raise_only: bool) -> Answer:
-    """What `solve` answers."""
-    options = ["--keep", ",".join(keep)] if keep else []
-    options += ["--raise-only"] if raise_only else []
-    return program.run("solve", *options, "/dev/stdin", given=text)
 
 
 def spelled(tables: dict) -> bytes:
@@ -70,7 +62,7 @@ def check_solve(
     """`solve` answers what is computed here; the configuration that it writes, if it does, which
     `check` admits, and which is the same when it is solved again."""
     wanted = solve_answer(text, keep, raise_only)
-    found = run(program, text, keep, raise_only)
+    found = solve(program, text, keep, raise_only)
     errors = "".join(f"{line}\n" for line in wanted.errors).encode()
     if wanted.tables is None:
         answers(found, wanted.status, f"{wanted.line}\n".encode() if wanted.line else b"", errors)
@@ -78,9 +70,7 @@ def check_solve(
     answers(found, 0, None, errors)
     tables = NO_TABLES | tomllib.loads(found.out.decode())
     must(tables == wanted.tables, difference(wanted.tables, tables))
-    judged = program.run("check", "/dev/stdin", given=found.out)
-    must(judged.status == 0 and judged.out.endswith(b"ok\n"), "check doesn't admit what is written")
-    answers(run(program, found.out, keep, raise_only), 0, found.out, b"")
+    check_solution(program, found.out, keep, raise_only)
     return found.out
 
 
@@ -156,7 +146,7 @@ def check_guide(program: Program) -> None:
     must(values == wanted, f"jitters and latencies are {values}, wanted {wanted}")
     must(check_least(program, text_of(tables)), "it can't be admitted")
     for raise_only in (False, True):
-        told = run(program, text_of(tables), (), raise_only).err
+        told = solve(program, text_of(tables), (), raise_only).err
         same_text("standard error", b"vl 20 at 3: 111111 ns needed, 100 us asked\n", told)
 
 
@@ -181,8 +171,7 @@ def check_choices(program: Program, seed: int) -> None:
     chance = random.Random(seed)
     tables = network(chance, 12, True)
     least = tomllib.loads((check_solve(program, text_of(tables)) or b"").decode())
-    keeps = [c for n in range(5) for c in itertools.combinations(SOLVED, n)]
-    for keep, raise_only in itertools.product(keeps, (False, True)):
+    for keep, raise_only in itertools.product(KEEPS, (False, True)):
         check_solve(program, text_of(tables), keep, raise_only)
         check_solve(program, spelled(with_any_keys(chance, tables)), keep, raise_only)
         if least:
@@ -203,7 +192,7 @@ def check_none(program: Program, tables: dict, line: str) -> None:
     for value, raise_only in ((None, False), (1, True), (BEYOND[-1], True)):
         text = with_keys(tables, value)
         must(check_solve(program, text, (), raise_only) is None, "it can be admitted")
-    found = run(program, text_of(tables), (), False).out.decode()
+    found = solve(program, text_of(tables), (), False).out.decode()
     must(found.startswith(line.removesuffix("..")), f"{found!r} is told, wanted {line}")
 
 
@@ -217,7 +206,7 @@ def check_kept(program: Program) -> None:
         ("skew", 1000, 9, b"no A7 1\n"),
     ):
         changed = text.replace(key_line(word, old), key_line(word, new))
-        answers(run(program, changed, [word], False), 1, line, b"")
+        answers(solve(program, changed, [word], False), 1, line, b"")
         must(check_solve(program, changed, [word]) is None, f"{word} {new} kept is admitted")
         must(check_solve(program, changed) is not None, f"{word} {new} not kept isn't admitted")
 
@@ -251,7 +240,7 @@ def check_faults(program: Program) -> None:
         must(changed != text, f"{old!r} isn't there")
         for raise_only in (False, True):
             must(check_solve(program, changed, keep, raise_only) is None, f"{new!r} is no fault")
-            told = run(program, changed, keep, raise_only).err
+            told = solve(program, changed, keep, raise_only).err
             must(told.startswith(b"config "), f"{new!r}: {told!r} is told")
 
 

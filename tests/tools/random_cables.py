@@ -29,6 +29,7 @@ from cascade import loaded  # noqa: E402
 from cascade_check import Ways, cascade_false_lines, latency_sum  # noqa: E402
 from cascade_least import solved_cascade  # noqa: E402
 from least import SOLVED  # noqa: E402
+from program import Wrong, must  # noqa: E402
 
 TOOL = os.path.join(HERE, "..", "..", "tools", "afdx-icd")
 LATE = re.compile(r"afdx-icd: messages.csv line (\d+), [^:]+: within_us \d+: to (\w+) it can take "
@@ -37,16 +38,6 @@ LEFT_OUT = "afdx-icd: cables.csv: cables that no message needs are left out: "
 RATES = (10, 100, 1000)
 
 Pair = tuple[int, int]
-
-
-class Wrong(Exception):
-    """Something isn't as it must be."""
-
-
-def must(holds: bool, what: str) -> None:
-    """Ends a case where something doesn't hold."""
-    if not holds:
-        raise Wrong(what)
 
 
 class Tables(NamedTuple):

@@ -20,20 +20,15 @@ import sys
 import tempfile
 import tomllib
 
-TOOLS = os.path.join(os.path.dirname(os.path.abspath(__file__)), "..", "..", "tools")
+sys.dont_write_bytecode = True
+HERE = os.path.dirname(os.path.abspath(__file__))
+sys.path[:0] = [os.path.join(HERE, "..", "lib")]
+from program import Wrong, must  # noqa: E402
+
+TOOLS = os.path.join(HERE, "..", "..", "tools")
 PERIODS = ["1", "2", "4.5", "8", "10", "12,5", "20.0", "33.3", "50", "100", "200", "1000"]
 MARKS = ["", "", "_", "-"]
 NAMED = re.compile(r"links? ([0-9, ]+?)(?:, [a-z].*)?: (\w+) .+ to .+ \(.+\)")
-
-
-class Wrong(Exception):
-    """Something isn't as it must be."""
-
-
-def must(holds: bool, what: str) -> None:
-    """Ends a case where something doesn't hold."""
-    if not holds:
-        raise Wrong(what)
 
 
 def run(folder: str, *words: str) -> tuple[int, str]:
