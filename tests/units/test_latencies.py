@@ -89,7 +89,7 @@ class Latencies(unittest.TestCase):
         self.assertEqual(ends.tolist(), [[1, 0, 0], [1, 0, 1], [0, 0, 0]])
 
     def test_the_port_is_always_busy(self) -> None:
-        steps, queues = self.counting.queues()
+        steps, queues = self.counting.queues
         self.assertEqual(len(queues), 1)
         port = queues[0]
         self.assertEqual((port.port, port.side, port.left), (3, 0, 3))

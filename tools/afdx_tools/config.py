@@ -6,11 +6,11 @@ read by Python's parser, which knows TOML 1.0.
 """
 from __future__ import annotations
 
-import tomllib
 from dataclasses import dataclass, field, replace
 
 from afdx_tools.faults import Failed, Refused, shown
 from afdx_tools.solving import AS_WRITTEN, solve
+from afdx_tools.written import read_written
 
 MOST_PORTS = 32  # more than the ports of a switch
 
@@ -180,11 +180,11 @@ def tables_of(path: str) -> dict:
         config = file.read()
     solved = solve(config, ("--keep", AS_WRITTEN))
     if solved.text:
-        return tomllib.loads(solved.text)
+        return read_written(solved.text)
     if not solved.line.startswith("no "):
         raise Failed(solved.line, 1)
     try:
-        return tomllib.loads(config.decode("utf-8-sig"))
+        return read_written(config.decode("utf-8-sig"))
     except (ValueError, RecursionError) as error:
         text = f"{shown(path)} isn't admitted ({solved.line}); of such a network TOML 1.0 is read"
         raise Refused(f"{text}: {error}") from error

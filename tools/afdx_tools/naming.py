@@ -13,7 +13,6 @@ from typing import Any, Iterable, Iterator, TypeVar
 from afdx_tools.config import Cable, Config, Link, System
 from afdx_tools.faults import Refused, cut, shown
 from afdx_tools.outputs import whole
-from afdx_tools.spreadsheets.sheets import read_sheet
 from afdx_tools.tables import Row
 
 COLUMNS = dict.fromkeys(("called", "part", "name", "number", "udp"), True)  # the first names a row
@@ -88,6 +87,8 @@ def name_in(cell: str) -> str:
 
 def read_table(path: str) -> Naming:
     """Reads the table."""
+    from afdx_tools.spreadsheets.sheets import read_sheet
+
     if os.path.getsize(path) > MOST_BYTES:
         raise Refused(f"{shown(path)}: it has more than {MOST_BYTES:,} bytes")
     naming = Naming(path=shown(path))
@@ -152,6 +153,8 @@ ENDS = ("from", "to", "system", "switch")  # columns with names of systems and s
 def named_rows(value: Any, naming: Naming) -> Any:
     """The rows of a report with the names of the table: each about a link has its messages beside
     it."""
+    if not (naming.ends or naming.messages):
+        return value
     if isinstance(value, list):
         return [named_rows(each, naming) for each in value]
     if not isinstance(value, dict):

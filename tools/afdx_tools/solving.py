@@ -3,11 +3,11 @@ from __future__ import annotations
 
 import re
 import subprocess
-import tomllib
 from typing import Iterable, NamedTuple, Sequence
 
 from afdx_tools.faults import Failed, Refused, shown
 from afdx_tools.program import program, version
+from afdx_tools.written import read_written
 
 AS_WRITTEN = "jitter,buffer,latency,skew"  # the keys that `solve` finds; kept, all stay
 NEED = re.compile(r"vl (\d+) at (?:([A-Za-z0-9]+) )?(\d+): (\d+) ns needed, (\d+) us asked")
@@ -140,6 +140,6 @@ def read_admitted(path: str) -> dict:
     if written.line:
         raise Refused(f"{shown(path)}: {written.line}")
     try:
-        return tomllib.loads(written.text)
+        return read_written(written.text)
     except ValueError as error:
         raise Failed("solve wrote no configuration", 4) from error

@@ -1,10 +1,11 @@
 """Rows as text, CSV and JSON."""
 from __future__ import annotations
 
+import functools
 import json
 import math
 import re
-from typing import Sequence
+from typing import Iterator, Sequence
 
 from afdx_tools.columns import columns_of
 from afdx_tools.faults import shown
@@ -84,6 +85,8 @@ def in_us(amount: int) -> str:
 
 def cell(value: object) -> str:
     """A value as it stands in a table."""
+    if isinstance(value, int):
+        return str(value)
     if value is None:
         return "-"
     if isinstance(value, float):
@@ -103,29 +106,41 @@ def heads(rows: Sequence[Row]) -> list[str]:
     return list(rows[0]) if rows else []
 
 
+def by_column(rows: Sequence[Row]) -> Iterator[tuple[str, Sequence]]:
+    """The columns of a table: of each its name and its values."""
+    return zip(heads(rows), zip(*(row.values() for row in rows)))
+
+
+def even(name: str, values: Sequence) -> list[str]:
+    """A column with its name above it, all of one width; numbers stand to the right."""
+    cells = [name, *map(cell, values)]
+    width = max(map(len, cells))
+    is_number = all(value is None or isinstance(value, (int, float)) for value in values)
+    return [each.rjust(width) if is_number else each.ljust(width) for each in cells]
+
+
 def as_text(rows: Sequence[Row]) -> str:
-    """Rows as a table of even columns; numbers stand to the right."""
+    """Rows as a table of even columns."""
     if not rows:
         return "(none)\n"
-    table = [heads(rows)] + [[cell(value) for value in row.values()] for row in rows]
-    widths = [max(len(line[n]) for line in table) for n in range(len(table[0]))]
-    columns = zip(*(row.values() for row in rows))
-    is_number = [all(v is None or isinstance(v, (int, float)) for v in each) for each in columns]
-    lines = []
-    for line in table:
-        cells = (c.rjust(w) if n else c.ljust(w) for c, w, n in zip(line, widths, is_number))
-        lines.append("  ".join(cells).rstrip() + "\n")
-    return "".join(lines)
+    lines = zip(*(even(name, values) for name, values in by_column(rows)))
+    return "".join("  ".join(line).rstrip() + "\n" for line in lines)
 
 
 def plain(value: object) -> str:
-    """A value as it stands in a CSV file. A text that a spreadsheet would take for a formula gets
-    an apostrophe before it; one with a semicolon is quoted too. Shares are plain fractions."""
+    """A value as it stands in a CSV file. Shares are plain fractions."""
+    if isinstance(value, str):
+        return quoted(value)
     if value is None or value == {}:
         return ""
-    if not isinstance(value, (str, dict)):
-        return str(value)
-    text = FORMULA.sub(r"\1\2'", cell(value))
+    return quoted(cell(value)) if isinstance(value, dict) else str(value)
+
+
+@functools.lru_cache(maxsize=1 << 12)  # most texts of a report are names, which come often
+def quoted(value: str) -> str:
+    """A text as it stands in a CSV file. One that a spreadsheet would take for a formula gets an
+    apostrophe before it; one with a semicolon is quoted too."""
+    text = FORMULA.sub(r"\1\2'", shown(value))
     return f'"{text.replace(chr(34), 2 * chr(34))}"' if set(text) & set(',;"') else text
 
 

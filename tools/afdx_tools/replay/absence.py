@@ -13,6 +13,7 @@ from afdx_tools.replay.copies import (
     Offset,
     alone_of,
     clock_of,
+    copies_at_receivers,
     offsets_of,
     pairs_of,
     skews_at_inputs,
@@ -33,17 +34,20 @@ SEVERAL = "several"
 @dataclass
 class Copied:
     """What is known of the frames' copies: of each line the line of its other copy (0: none), the
-    lines of those that came alone, and the clocks of both sides."""
+    lines of those that came alone, the clocks of both sides, and which copies left the same port of
+    both switches, the one that is later in the list and the other."""
 
     other: np.ndarray
     alone: np.ndarray
     offsets: list[Offset]
+    at_receivers: tuple[np.ndarray, np.ndarray]
 
 
 def copied_of(counting: Counting, silences: Silences) -> Copied:
     """What is known of the copies of a run."""
     other = pairs_of(counting)
-    return Copied(other, alone_of(counting, other, silences), offsets_of(counting, other))
+    alone, offsets = alone_of(counting, other, silences), offsets_of(counting, other)
+    return Copied(other, alone, offsets, copies_at_receivers(counting, other))
 
 
 def number_of(counting: Counting, line: int) -> int | None:
@@ -166,8 +170,8 @@ def alone_by_side(counting: Counting, copied: Copied) -> dict[tuple[int, int], i
 def skew_rows(counting: Counting, copied: Copied) -> list[Row]:
     """A row for each link of which a frame was accepted on both sides."""
     inputs = skews_at_inputs(counting, copied.other)
-    receivers = skews_at_receivers(counting, copied.other)
-    twice = twice_by_link(counting, copied.other)
+    receivers = skews_at_receivers(counting, *copied.at_receivers)
+    twice = twice_by_link(counting, *copied.at_receivers)
     rows = []
     for vl, skew in inputs.items():
         there = receivers.get(vl)

@@ -193,10 +193,9 @@ def copies_at_receivers(counting: Counting, other: np.ndarray) -> tuple[np.ndarr
     return at[second[there]], at[place[there]]
 
 
-def skews_at_receivers(counting: Counting, other: np.ndarray) -> dict[int, Skew]:
-    """By how much a frame's copies left the two switches apart, over all output ports."""
+def skews_at_receivers(counting: Counting, mine: np.ndarray, its: np.ndarray) -> dict[int, Skew]:
+    """By how much these copies of a frame left the two switches apart, over all output ports."""
     events = counting.events
-    mine, its = copies_at_receivers(counting, other)
     apart = events.time[mine] - events.time[its]
     lines = events.line[np.where(apart >= 0, mine, its)]
     places = counting.links[mine]
@@ -204,10 +203,10 @@ def skews_at_receivers(counting: Counting, other: np.ndarray) -> dict[int, Skew]
     return greatest_by_link(counting, places, np.abs(apart), lines, table)
 
 
-def twice_by_link(counting: Counting, other: np.ndarray) -> dict[int, int]:
-    """Of each link the messages that a receiver read twice, one from each copy of the frame."""
+def twice_by_link(counting: Counting, mine: np.ndarray, its: np.ndarray) -> dict[int, int]:
+    """Of each link the messages that a receiver read twice, one from each of these copies of the
+    frame."""
     events = counting.events
-    mine, its = copies_at_receivers(counting, other)
     code = events.ends.names.index(DELIVERED)
     both = mine[(events.end[mine] == code) & (events.end[its] == code)]
     places, counts = np.unique(counting.links[both], return_counts=True)

@@ -7,6 +7,7 @@ list and 60 for each copy that left a port.
 """
 from __future__ import annotations
 
+import functools
 from dataclasses import dataclass
 
 import numpy as np
@@ -17,6 +18,7 @@ from afdx_tools.replay.listing import NO_LINK, Listing
 
 WIRE_EXTRA = 20  # bytes that a frame takes on the wire beside its own
 MOST_LINK = 65_536
+MOST_STEPS = 120  # of loads over time
 SHARES = (500, 990, 999)  # of a thousand: the percentiles 50, 99 and 99.9 of latencies
 
 
@@ -171,9 +173,10 @@ class Counting:
             paths.append(Path(link, port, key % 2, seen, worst, int(late[begin:end].sum())))
         return paths
 
-    def queues(self, most: int = 120) -> tuple[Steps, list[Queue]]:
+    @functools.cached_property
+    def queues(self) -> tuple[Steps, list[Queue]]:
         """Each output port of each side to which copies came, and the steps of its loads."""
-        steps = steps_of(self.first, max(self.last - 1, self.first), most)
+        steps = steps_of(self.first, max(self.last - 1, self.first), MOST_STEPS)
         keys = (self.events.port * 2 + self.sides).astype(np.uint16)
         order = np.argsort(keys, kind="stable")
         parts = np.split(order, np.flatnonzero(np.diff(keys[order])) + 1)

@@ -11,6 +11,8 @@ from typing import Iterator, Protocol
 
 import numpy as np
 
+from afdx_tools.replay.eights import POWERS, digits, windows
+
 SPACE, LINE_FEED, RETURN = 32, 10, 13
 EACH = 2 << 20  # bytes of text that are looked at together
 TRIM_THRESHOLD, MMAP_THRESHOLD = -1, -3  # options of mallopt
@@ -35,14 +37,22 @@ class Readable(Protocol):
 
 
 class Block:
-    """Whole lines of text: where each begins and ends, and the letter that it begins with."""
+    """Whole lines of text: where each begins and ends, and the letter that it begins with; of each
+    place of the text the `eights` from there on."""
 
     def __init__(self, text: bytes) -> None:
         self.text = text
         self.bytes = np.frombuffer(text + PADDING, np.uint8)
+        self.eights = windows(self.bytes)
         self.ends = np.flatnonzero(self.bytes == LINE_FEED)
         self.starts = np.concatenate((np.zeros(1, np.int64), self.ends[:-1] + 1))
         self.heads = self.bytes[self.starts]
+
+    def first(self, count: int) -> Block:
+        """At most so many of the lines."""
+        if len(self.ends) <= count:
+            return self
+        return Block(self.text[: self.ends[count - 1] + 1] if count > 0 else b"")
 
     def at(self, places: np.ndarray) -> np.ndarray:
         """The bytes at these places; zeros after the last one, for as far as numbers are read from
@@ -51,31 +61,20 @@ class Block:
 
     def numbers(self, begin: np.ndarray) -> tuple[np.ndarray, np.ndarray]:
         """The numbers whose digits begin there, and where each ends."""
-        values = np.zeros(len(begin), np.int64)
-        places = begin.copy()
-        left: np.ndarray | None = None  # all of them
-        while len(values):
-            digits = self.at(places if left is None else places[left]) - np.uint8(48)
-            more = digits < 10
-            if not more.all():
-                left = np.flatnonzero(more) if left is None else left[more]
-                digits = digits[more]
-            if left is None:
-                values = values * 10 + digits
-                places += 1
-            elif len(left):
-                values[left] = values[left] * 10 + digits
-                places[left] += 1
-            else:
-                break
-        return values, places
+        values, length = digits(self.eights[begin])
+        places = begin + length
+        left = np.flatnonzero(length == 8)  # where there may be more
+        while len(left):
+            more, length = digits(self.eights[places[left]])
+            values[left] = values[left] * POWERS[length] + more
+            places[left] += length
+            left = left[length == 8]
+        return values.view(np.int64), places
 
     def last_words(self, lines: np.ndarray) -> tuple[list[str], np.ndarray]:
         """The words that these lines end with, and for each line the place of its word among them.
         Words are told apart by their last eight bytes; the lines must have as many."""
-        ends = self.ends[lines]
-        shown = self.bytes[ends[:, None] + np.arange(-8, 0)]
-        keys = np.ascontiguousarray(shown).view(np.uint64)[:, 0]
+        keys = self.eights[self.ends[lines] - 8]
         _, first, places = np.unique(keys, return_index=True, return_inverse=True)
         found = [self.text[self.starts[n] : self.ends[n]].split(b" ")[-1] for n in lines[first]]
         return [word.decode("ascii", "replace") for word in found], places

@@ -8,7 +8,7 @@ import numpy as np
 
 from afdx_tools.config import MOST_PORTS
 from afdx_tools.lists import MOST_LINES
-from afdx_tools.replay.lines import LINE_FEED, RETURN, SPACE, Block, Readable, blocks_of
+from afdx_tools.replay.lines import RETURN, SPACE, Block, Readable, blocks_of
 from afdx_tools.replay.sites import Sites
 
 NO_LINK = -1  # stands for frames that name no link of the configuration
@@ -48,9 +48,9 @@ class Listing:
         if not is_recorded:
             source = Hashed(file, digest.update)
         for text in blocks_of(source):
-            taken = text if is_recorded else first_lines(text, most - lines)
-            if taken:
-                part = columns_of(Block(taken), sites)
+            block = Block(text) if is_recorded else Block(text).first(most - lines)
+            if len(block.ends):
+                part = columns_of(block, sites)
                 parts.append(part)
                 lines += len(part["time"])
                 report(lines)
@@ -81,14 +81,6 @@ class Hashed:
         part = self.file.read(most)
         self.update(part)
         return part
-
-
-def first_lines(text: bytes, count: int) -> bytes:
-    """At most so many of a text's lines."""
-    if text.count(b"\n") <= count:
-        return text
-    ends = np.flatnonzero(np.frombuffer(text, np.uint8) == LINE_FEED)
-    return text[: ends[count - 1] + 1] if count > 0 else b""
 
 
 def columns_of_none() -> dict[str, np.ndarray]:

@@ -5,7 +5,7 @@ import re
 import subprocess
 import tempfile
 from dataclasses import dataclass, field
-from typing import Sequence
+from typing import TYPE_CHECKING, Sequence
 
 import numpy as np
 
@@ -15,11 +15,13 @@ from afdx_tools.lists import MOST_LINES
 from afdx_tools.program import program
 from afdx_tools.progress import Progress
 from afdx_tools.recordings.options import is_recording
-from afdx_tools.recordings.taps import Found
 from afdx_tools.replay.checked import Checked, checked_of
 from afdx_tools.replay.events import OVER_RATE, Events
 from afdx_tools.replay.listing import Listing
 from afdx_tools.replay.sites import Sites
+
+if TYPE_CHECKING:
+    from afdx_tools.recordings.taps import Found
 
 ENDED = (0, 3)  # the input came to its end or has a fault: each over-rate frame has its line
 ANY_RULE = ("1", "64", "0")  # BAG, Lmax and jitter of a link, of which no fault of a list depends

@@ -5,6 +5,7 @@ from typing import Sequence
 
 import numpy as np
 
+from afdx_tools.replay.eights import count, until_space
 from afdx_tools.replay.lines import SPACE, Block
 
 UNKNOWN = -1  # the number of a switch that the configuration doesn't have
@@ -30,13 +31,26 @@ class Sites:
         one, and where the place ends."""
         if not self.names:
             return np.zeros(len(at), np.int16), at + 1
-        shown = block.at((at + 2)[:, None] + np.arange(LONGEST + 1))
-        spaces = shown == SPACE
-        length = np.argmax(spaces, axis=1)
-        is_name = spaces.any(axis=1) & (length > 0) & (block.at(at + 1) == SPACE)
-        inside = np.arange(LONGEST) < length[:, None]
-        letters = np.where(inside, shown[:, :LONGEST], np.uint8(0))
-        words = np.ascontiguousarray(letters).view(f"S{LONGEST}")[:, 0]
+        words, length = names_at(block, at + 2)
+        is_name = (length > 0) & (block.at(at + 1) == SPACE)
         place = np.minimum(np.searchsorted(self.sorted, words), len(self.names) - 1)
         is_known = is_name & (self.sorted[place] == words)
         return np.where(is_known, self.order[place], UNKNOWN), at + 2 + length
+
+
+def names_at(block: Block, at: np.ndarray) -> tuple[np.ndarray, np.ndarray]:
+    """The words that begin there and end with a space, and how long they are: 0 where one is longer
+    than a name."""
+    letters = np.zeros((len(at), LONGEST // 8), "<u8")
+    length = np.zeros(len(at), np.int64)
+    left = np.arange(len(at))
+    for part in range(LONGEST // 8):
+        eights = block.eights[at[left] + 8 * part]
+        inside = until_space(eights)
+        letters[left, part] = eights & inside
+        own = count(inside)
+        length[left] += own
+        left = left[own == 8]
+    is_cut = left[block.at(at[left] + LONGEST) != SPACE]
+    length[is_cut] = 0
+    return letters.view(f"S{LONGEST}")[:, 0], length

@@ -264,12 +264,10 @@ def area(
     loads: Sequence[float], most: float, base: float, height: float, place_x: Scale
 ) -> str:
     """Loads as a filled line above the base (or below, where the height is negative)."""
-    points = []
-    for step, load in enumerate(loads):
-        y = base - height * load / most
-        points += [f"{place_x(step):.1f} {y:.1f}", f"{place_x(step + 1):.1f} {y:.1f}"]
-    ends = f"{place_x(len(loads)):.1f} {base:.1f}z"
-    return f"M{place_x(0):.1f} {base:.1f}L" + "L".join(points) + f"L{ends}"
+    edges = [f"{place_x(step):.1f}" for step in range(len(loads) + 1)]
+    heights = [f"{base - height * load / most:.1f}" for load in loads]
+    points = [f"{x1} {y}L{x2} {y}" for x1, x2, y in zip(edges, edges[1:], heights)]
+    return "L".join([f"M{edges[0]} {base:.1f}", *points, f"{edges[-1]} {base:.1f}z"])
 
 
 def loads(found: Row, rows: Sequence[Row]) -> str:

@@ -164,7 +164,7 @@ def latency_rows(counting: Counting, checked: Checked) -> list[Row]:
 
 def port_rows(counting: Counting, checked: Checked) -> tuple[list[Row], Row]:
     """A row for each output port of each side that frames went to; the loads over time."""
-    steps, queues = counting.queues()
+    steps, queues = counting.queues
     rows = []
     for queue in queues:
         bound = checked.bounds.get(queue.port)

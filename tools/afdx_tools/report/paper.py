@@ -2,10 +2,11 @@
 most twenty sheets, as long as what is wrong finds room there: it stands there in any case."""
 from __future__ import annotations
 
+import heapq
 from typing import Collection, Mapping, NamedTuple, Sequence
 
 from afdx_tools.report.parts import heads_of, is_over, most_shown, share_of, words_in
-from afdx_tools.tables import Row, heads
+from afdx_tools.tables import Row, by_column
 
 # Pixels of the style sheet, 96 an inch, at its 7 pt, of a wide font: a sheet has 281 mm for tables
 WIDE, LETTER, APART, GAP = 1_060, 6.0, 5, 16
@@ -50,10 +51,9 @@ def is_wrong(row: Row) -> bool:
 def width_of(rows: Sequence[Row]) -> float:
     """How wide a table of these rows is."""
     width = LETTER * MARK
-    for name in heads(rows):
-        cells = [words_in(name, row[name]) for row in rows[:LOOKED_AT]]
-        longest = max(map(len, cells))
-        if any(isinstance(row[name], dict) for row in rows[:LOOKED_AT]):
+    for name, values in by_column(rows[:LOOKED_AT]):
+        longest = max(map(len, words_in(name, values)))
+        if any(isinstance(value, dict) for value in values):
             longest = min(longest, BROKEN)
         width += LETTER * max(longest, *map(len, heads_of(name).split())) + APART
     return width
@@ -62,7 +62,7 @@ def width_of(rows: Sequence[Row]) -> float:
 def needed(rows: Sequence[Row]) -> set[int]:
     """The places of the rows that stand on paper in any case: what is wrong, and the rows that are
     nearest to their latency, or the first ones."""
-    top = sorted(range(len(rows)), key=lambda n: (-share_of(rows[n]), n))[:LEAST_TOP]
+    top = heapq.nsmallest(LEAST_TOP, range(len(rows)), key=lambda n: (-share_of(rows[n]), n))
     return {*(n for n, row in enumerate(rows) if is_wrong(row)), *top}
 
 

@@ -6,13 +6,18 @@ from typing import Collection, Sequence
 
 from afdx_tools.known import findings
 from afdx_tools.report.where import Where, named_in
-from afdx_tools.tables import Row, cell, heads
+from afdx_tools.tables import Row, by_column, cell, heads
 
 MOST_ROWS = 10_000  # of a table on a page
 LONG = 60  # rows that don't find room in a box
 # what isn't counted, and so has no commas
 PLAIN = ("link", "port", "number", "line", "first_number", "came_in", "own_port", "interface")
 PLACES = ("came_in",)  # ports that the search field finds
+# columns that are empty where nothing is wrong, as those of findings are, and columns with what
+# the tables say beside them
+WRONG = ("late", "silent", "clock", "twice", "alone", "missing", "never")
+LIMITED = (("jitter_ns", "table_jitter_ns"), ("at_receivers_ns", "table_skew_ns"),
+           ("skew_ns", "table_skew_ns"))  # fmt: skip
 
 
 def is_plain(name: str) -> bool:
@@ -34,13 +39,13 @@ def kind_of(name: str, rows: Sequence[Row]) -> str:
 
 def is_over(row: Row) -> bool:
     """Is something in the row over what the tables say, or of no good at all?"""
-    pairs = (("jitter_ns", "table_jitter_ns"), ("at_receivers_ns", "table_skew_ns"),
-             ("skew_ns", "table_skew_ns"))  # fmt: skip
-    over = any((row.get(name) or 0) > row.get(table, 0) for name, table in pairs if table in row)
-    words = ("late", "silent", "clock", "twice", "alone", "missing", "never", *findings())
-    wrong = any(row.get(name) for name in words)
-    wrong |= row.get("reason") == "wrong-port"
-    return over or bool(wrong) or ("latency_ns" in row and row["share"] > 1)
+    for name in (*WRONG, *findings()):
+        if row.get(name):
+            return True
+    for name, table in LIMITED:
+        if table in row and (row.get(name) or 0) > row[table]:
+            return True
+    return row.get("reason") == "wrong-port" or ("latency_ns" in row and row["share"] > 1)
 
 
 # ---- which rows ----------------------------------------------------------------------------------
@@ -62,11 +67,11 @@ def share_of(row: Row) -> float:
 # ---- tables --------------------------------------------------------------------------------------
 
 
-def words_in(name: str, value: object) -> str:
-    """A value of a column as it stands on the page."""
-    if isinstance(value, int) and not is_plain(name):
-        return f"{value:,}"
-    return cell(value)
+def words_in(name: str, values: Sequence) -> list[str]:
+    """The values of a column as they stand on the page."""
+    if is_plain(name):
+        return list(map(cell, values))
+    return [f"{value:,}" if isinstance(value, int) else cell(value) for value in values]
 
 
 def heads_of(name: str) -> str:
@@ -74,26 +79,68 @@ def heads_of(name: str) -> str:
     return name.replace("_", " ")
 
 
-def body_row(row: Row, kinds: Sequence[str], styles: str, titles: dict[str, str]) -> str:
-    """A row of a table; its first cell is its head. A cell that names a frame has its title."""
-    parts = [f'<tr class="{styles}">' if styles else "<tr>"]
-    late = '<b class="late-row">LATE</b> ' if row.get("late") else ""
-    for number, ((name, value), kind) in enumerate(zip(row.items(), kinds)):
-        shown = words_in(name, value)
-        styled = f' class="{kind}"' if kind else ""
-        styled += f' title="{escape(titles[name])}"' if titles.get(name) else ""
-        if number == 0:
-            parts.append(f'<th scope="row"{styled}>{late}<span>{escape(shown)}</span></th>')
-        else:
-            parts.append(f"<td{styled}>{escape(shown)}</td>")
-    return "".join(parts) + "</tr>\n"
+def begun(rows: Sequence[Row], paper: Collection[int]) -> list[str]:
+    """How the rows begin: what styles each has."""
+    begins = []
+    for place, row in enumerate(rows):
+        styles = ("over", is_over(row)), ("screen", place not in paper)
+        styled = " ".join(style for style, is_so in styles if is_so)
+        begins.append(f'<tr class="{styled}">' if styled else "<tr>")
+    return begins
 
 
-def titles_of(row: Row, where: Where | None) -> dict[str, str]:
-    """Of each column that names a frame where that stands."""
-    if where is None or not where.is_recorded:
-        return {}
-    return {name: where.in_words(place) for name, place in named_in(row, where.is_pair)}
+def titled(rows: Sequence[Row], where: Where | None) -> dict[str, list[str]]:
+    """Of each column that names frames how its cells say where these stand."""
+    titles: dict[str, list[str]] = {}
+    if where is not None and where.is_recorded:
+        for number, row in enumerate(rows):
+            for name, place in named_in(row, where.is_pair):
+                if words := where.in_words(place):
+                    of_column = titles.setdefault(name, [""] * len(rows))
+                    of_column[number] = f' title="{escape(words)}"'
+    return titles
+
+
+def escaped(texts: Sequence[str]) -> list[str]:
+    """Texts as they stand in HTML; none of them has a line feed."""
+    return escape("\n".join(texts)).split("\n")
+
+
+def body_column(shown: Sequence[str], kind: str, titles: Sequence[str] = ()) -> list[str]:
+    """The cells of a column."""
+    styled = f' class="{kind}"' if kind else ""
+    if not titles:
+        return [f"<td{styled}>{words}</td>" for words in escaped(shown)]
+    return [f"<td{styled}{t}>{words}</td>" for t, words in zip(titles, escaped(shown))]
+
+
+def head_column(
+    rows: Sequence[Row], shown: Sequence[str], kind: str, titles: Sequence[str] = ()
+) -> list[str]:
+    """The cells of the first column, which are the heads of the rows."""
+    styled = f' class="{kind}"' if kind else ""
+    late = ['<b class="late-row">LATE</b> ' if row.get("late") else "" for row in rows]
+    return [
+        f'<th scope="row"{styled}{t}>{is_late}<span>{words}</span></th>'
+        for t, is_late, words in zip(titles or [""] * len(rows), late, escaped(shown))
+    ]
+
+
+def body_of(
+    rows: Sequence[Row], kinds: Sequence[str], paper: Collection[int], where: Where | None
+) -> str:
+    """The rows of a table. A cell that names a frame has a title that says where it stands."""
+    titles = titled(rows, where)
+    columns = [begun(rows, paper)]
+    for (name, values), kind in zip(by_column(rows), kinds):
+        shown, of_column = words_in(name, values), titles.get(name, ())
+        is_head = len(columns) == 1
+        columns.append(
+            head_column(rows, shown, kind, of_column)
+            if is_head
+            else body_column(shown, kind, of_column)
+        )
+    return "".join("".join(cells) + "</tr>\n" for cells in zip(*columns))
 
 
 def caption_of(all_rows: Sequence[Row], shown: int, paper: int, head: str, file: str) -> str:
@@ -125,12 +172,7 @@ def table(
         f'<th scope="col"{f" class={kind!r}" if kind else ""}>{escape(heads_of(name))}</th>'
         for name, kind in zip(heads(rows), kinds)
     )
-    parts = []
-    for place, row in enumerate(rows):
-        styles = ("over", is_over(row)), ("screen", place not in on_paper)
-        styled = " ".join(style for style, is_so in styles if is_so)
-        parts.append(body_row(row, kinds, styled, titles_of(row, where)))
-    body = "".join(parts)
+    body = body_of(rows, kinds, on_paper, where)
     return f"<table>{caption}<thead><tr>{names}</tr></thead><tbody>{body}</tbody></table>"
 
 

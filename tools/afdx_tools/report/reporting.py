@@ -16,7 +16,6 @@ from afdx_tools.outputs import write_folder
 from afdx_tools.program import program, version
 from afdx_tools.progress import Progress
 from afdx_tools.recordings.options import recording_options
-from afdx_tools.recordings.tapped import found_by
 from afdx_tools.replay.absence import (
     Copied,
     clock_rows,
@@ -99,7 +98,7 @@ def several_of(counting: Counting, checked: Checked, copied: Copied) -> Row:
     """The tables of several switches a side."""
     if counting.config.several is None:
         return {}
-    _, queues = counting.queues()
+    _, queues = counting.queues
     return {
         "ways": way_rows(counting, checked),
         "receivers": receiver_rows(counting, copied),
@@ -201,6 +200,8 @@ def source_of(args: argparse.Namespace, progress: Progress) -> Iterator[Source]:
         paths = [files.enter_context(at_hand(name)) for name in names]
         options, taps = recording_options(args), None
         if args.taps is not None:
+            from afdx_tools.recordings.tapped import found_by
+
             taps = found_by(args.taps, config, paths, names, progress)
             options += taps.words
         yield Source(config, paths, options, of_replay, taps)

@@ -6,7 +6,6 @@ import numpy as np
 
 from afdx_tools.replay.absence import Copied, number_of, side_of
 from afdx_tools.replay.checked import Checked
-from afdx_tools.replay.copies import copies_at_receivers
 from afdx_tools.replay.counting import Counting, Path
 from afdx_tools.replay.events import DELIVERED, NOT_YET, REDUNDANT, side_name
 from afdx_tools.replay.traffic import grouped
@@ -134,7 +133,7 @@ def read_row(counting: Counting, frames: np.ndarray, copies: np.ndarray, sent: i
 def skews_of(counting: Counting, copied: Copied) -> dict[int, Row]:
     """Of each link and receiver the greatest time between a frame's copies there, and which copy
     came later."""
-    mine, its = copies_at_receivers(counting, copied.other)
+    mine, its = copied.at_receivers
     times, lines = counting.events.time, counting.events.line
     apart = times[mine] - times[its]
     later = np.where(apart >= 0, lines[mine], lines[its])
